@@ -1,0 +1,2 @@
+//! Checks whether a value's calls spell one whole value.
+#![tactic(auto)]

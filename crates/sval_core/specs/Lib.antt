@@ -1,0 +1,7 @@
+pub mod Trees
+pub mod Spells
+pub mod Checker
+pub mod Real
+pub mod Law
+pub mod Emissions
+pub mod Laws

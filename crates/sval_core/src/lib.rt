@@ -1,0 +1,13 @@
+//! Streams and values, and which calls spell which value.
+//!
+//! A [`Value`] makes calls, and a [`Stream`] takes them. The law of both stands in `specs/Law.antt`; what a list of
+//! calls spells stands in `specs/Trees.antt` and `specs/Spells.antt`, and [`laws`] has what holds of it.
+#![tactic(auto)]
+
+pub mod laws;
+mod stream;
+mod value;
+
+pub use stream::Stream;
+pub use sval_label::{AnyCall, Call, Error, Lending, Lent, NoMemory, Result, refusal};
+pub use value::Value;

@@ -1,0 +1,10 @@
+use Rattle.std.proofs.Common.{rules, ◌∙◌, subst}
+use Rattle.sval_json.proofs.Pieces.{nothing_written, written_on, all_written, prefix_written}
+use Rattle.sval_json.proofs.sink.write_whole.Goals as goal
+
+pub loop-rest-preserved : goal.loop-rest-preserved
+loop-rest-preserved g c = record {
+  written = written_on c.in_ok-count.count c.loop-rest.invariant.written c.in_ok-count.ensures.within c.in_ok-count.ensures.taken;
+  faults = c.in_ok-count.ensures.steady.0 ∙ c.loop-rest.invariant.faults;
+  wants = c.in_ok-count.ensures.steady.1 ∙ c.loop-rest.invariant.wants;
+}

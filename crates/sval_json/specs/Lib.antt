@@ -1,0 +1,15 @@
+pub mod Escape
+pub mod Json
+pub mod Digits
+pub mod Number
+pub mod Shape
+pub mod Writer
+pub mod Steps
+pub mod Grammar
+pub mod Means
+pub mod Promises
+pub mod Fronts
+pub mod Sinks
+pub mod Taken
+pub mod Writing
+pub mod Laws

@@ -1,0 +1,56 @@
+//! Why JSON wasn't written.
+
+ghost use Rattle.std.specs.Prelude.{◌≡◌};
+
+use std::fmt;
+use std::marker::Model;
+
+/// The kinds of [`Error`].
+#[derive(Clone, Copy, Debug, PartialEq, Eq)]
+pub enum ErrorKind {
+    /// The value itself refused.
+    Generic,
+    /// The sink failed.
+    IO,
+    /// The sink had no memory.
+    NoMemory,
+}
+
+/// Why JSON wasn't written, or not whole.
+#[derive(Debug, Drop)]
+pub struct Error {
+    kind: ErrorKind,
+}
+
+impl Model for Error {
+    ghost use Rattle.sval_json.specs.declared.error.ErrorKind.{ErrorKind};
+
+    ghost Value = { ErrorKind };
+
+    ghost view = { λ error. error.kind };
+}
+
+impl Error {
+    pub(crate) fn new(kind: ErrorKind) -> Error
+        ensures { result ≡ kind }
+    {
+        Error { kind }
+    }
+
+    /// What kind of error this is.
+    pub fn kind(&self) -> ErrorKind
+        ensures { result ≡ self.now }
+    {
+        self.kind
+    }
+}
+
+impl fmt::Display for Error {
+    fn fmt<W: fmt::Write>(&self, f: &mut fmt::Formatter<W>) -> fmt::Result {
+        f.write_str(match self.kind {
+            ErrorKind::Generic => "an error occurred serializing a value to JSON",
+            ErrorKind::IO => "failed to write JSON",
+            ErrorKind::NoMemory => "cannot allocate for JSON",
+        })
+    }
+}

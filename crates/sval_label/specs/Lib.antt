@@ -1,0 +1,5 @@
+pub mod Texts
+pub mod Calls
+pub mod Tags
+pub mod Ranges
+pub mod Made

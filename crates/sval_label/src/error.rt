@@ -1,0 +1,36 @@
+//! The refusal that answers a call.
+
+use std::fmt;
+
+/// A refusal, which says nothing of its cause.
+///
+/// A stream that knows more keeps the cause itself, as the checker and the JSON writer do.
+#[derive(Clone, Copy, Debug, PartialEq, Eq)]
+pub struct Error {}
+
+impl Error {
+    /// The one refusal that there is.
+    pub fn new() -> Error {
+        Error {}
+    }
+}
+
+impl fmt::Display for Error {
+    fn fmt<W: fmt::Write>(&self, f: &mut fmt::Formatter<W>) -> fmt::Result {
+        f.write_str("failed to stream data")
+    }
+}
+
+/// What a call answers: nothing, or a refusal.
+pub type Result<T = (), E = Error> = std::result::Result<T, E>;
+
+/// Answers a refusal.
+///
+/// The Rust crate calls this `error`, which here would differ from the type in case alone.
+pub fn refusal<T>() -> Result<T> {
+    Err(Error::new())
+}
+
+/// Memory was wanting, in a call that can fail in no other way.
+#[derive(Clone, Copy, Debug, PartialEq, Eq)]
+pub struct NoMemory {}
