@@ -17,3 +17,5 @@ pub mod CompactText
 pub mod NumberTexts
 pub mod Meaning
 pub mod Pieces
+pub mod EscapedPieces
+pub mod Streamed

@@ -12,4 +12,5 @@ pub mod Fronts
 pub mod Sinks
 pub mod Taken
 pub mod Writing
+pub mod Targets
 pub mod Laws

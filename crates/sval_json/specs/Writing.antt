@@ -1,5 +1,6 @@
 -- The law of the JSON writer as a stream: it meets the steps.
 use Rattle.std.specs.Prelude.{◌≡◌, ℕ, Bool, false, true, List, Option, Some, None}
+use Rattle.std.specs.Borrow.{MutBor}
 use Rattle.sval_core.specs.Law.{Law, Standing, Rose}
 use Rattle.sval_json.specs.declared.sink.SinkError.{SinkError}
 use Rattle.sval_json.specs.declared.sink.SinkError.TheVariants.{Failed, NoMemory}
@@ -14,6 +15,10 @@ pub record Held : Type 0 where
   pub faults : ℕ
   pub wants : ℕ
   pub why : Option SinkError
+
+-- the sink that a reference holds
+abbrev pub held_by : {K : Type 0} → (K → Option (List ℕ)) → (K → ℕ) → (K → ℕ) → MutBor K → Option SinkError → Held
+held_by text faults wants sink why = record { name = sink.ghost_name; text = text sink.now; faults = faults sink.now; wants = wants sink.now; why = why }
 
 -- it took these bytes
 abbrev pub with_text : List ℕ → Held → Held
@@ -43,15 +48,10 @@ writer_law = record {
   stopped = λ view call left. Stopped view.held (step call view.state).written left.held;
 }
 
--- what the writer is: whether nothing stands yet in what was begun last, and the sink
-pub record Writing : Type 0 where
-  pub empty : Bool
-  pub held : Held
-
--- where it stands as a stream: outside keys, enums and tagged values
-abbrev pub standing_of : Writing → Standing View
-standing_of writer = record {
-  view = record { state = record { named = false; empty = writer.empty; quoted = true; handler = escapes }; held = writer.held };
-  faults = writer.held.faults;
-  wants = writer.held.wants;
+-- where the writer stands, outside keys, enums and tagged values: whether nothing stands yet in what was begun last, and the sink
+abbrev pub standing_of : Bool → Held → Standing View
+standing_of empty held = record {
+  view = record { state = record { named = false; empty = empty; quoted = true; handler = escapes }; held = held };
+  faults = held.faults;
+  wants = held.wants;
 }

@@ -1,7 +1,9 @@
 //! Why JSON wasn't written.
 
 ghost use Rattle.std.specs.Prelude.{◌≡◌};
+ghost use Rattle.sval_json.specs.Targets.{kind_of};
 
+use crate::sink::SinkError;
 use std::fmt;
 use std::marker::Model;
 
@@ -31,9 +33,15 @@ impl Model for Error {
 }
 
 impl Error {
-    pub(crate) fn new(kind: ErrorKind) -> Error
-        ensures { result ≡ kind }
+    /// What stopped a value: the sink, or else the value itself.
+    pub(crate) fn of(why: Option<SinkError>) -> Error
+        ensures { result ≡ kind_of why }
     {
+        let kind = match why {
+            None => ErrorKind::Generic,
+            Some(SinkError::Failed) => ErrorKind::IO,
+            Some(SinkError::NoMemory) => ErrorKind::NoMemory,
+        };
         Error { kind }
     }
 

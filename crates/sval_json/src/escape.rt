@@ -1,15 +1,17 @@
 //! How a text stands between quotes (RFC 8259, section 7).
 
-ghost use Rattle.std.specs.Prelude.{◌≡◌, ◌≢◌, ℕ, ◌<◌, ◌≤◌, ◌↔◌, [], ◌∷◌, IsTrue, OnOk, OnErr, length, take, slice_index, slice_index_or};
+ghost use Rattle.std.specs.Prelude.{◌≡◌, ℕ, ◌<◌, ◌≤◌, true, IsTrue, OnOk, OnErr, length, slice_index, take};
+ghost use Rattle.std.specs.Char.{digit_char};
+ghost use Rattle.std.specs.List.{AllPass};
 ghost use Rattle.sval_core.specs.Law.{Rose};
-ghost use Rattle.sval_json.specs.Escape.{escape, escaped};
+ghost use Rattle.sval_json.specs.Escape.{escape, escaped, is_escaped, is_plain};
 ghost use Rattle.sval_json.specs.Sinks.{appended, AppendsPrefix};
 
-use crate::sink::{Sink, SinkError, write_whole};
+use crate::sink::{Sink, SinkError, write_all};
 
 /// Whether a byte doesn't stand as it is between quotes.
 fn needs_escape(byte: u8) -> bool
-    ensures plain { result ≡ false → escape byte ≡ byte ∷ [] }
+    ensures { result ≡ is_escaped byte }
 {
     byte < b' ' || byte == b'"' || byte == b'\\'
 }
@@ -17,7 +19,8 @@ fn needs_escape(byte: u8) -> bool
 /// The place of the first byte that is escaped, or the length where there is none.
 fn first_escape(bytes: &[u8]) -> usize
     ensures within { result ≤ length bytes.now }
-    ensures plain { escaped (take result bytes.now) ≡ take result bytes.now }
+    ensures plain { AllPass is_plain (take result bytes.now) }
+    ensures found { result < length bytes.now → is_escaped (slice_index bytes.now result) ≡ true }
 {
     bytes
         .iter()
@@ -25,19 +28,68 @@ fn first_escape(bytes: &[u8]) -> usize
         .unwrap_or(bytes.len())
 }
 
-/// A byte's escape.
-enum Escape {
-    /// A backslash and a letter.
-    Short([u8; 2]),
-    /// A backslash, `u` and four hex digits in lower case.
-    Long([u8; 6]),
+/// A hex digit in lower case.
+fn hex_digit(digit: u8) -> u8
+    requires { digit < 16 }
+    ensures { result ≡ digit_char digit }
+{
+    if digit < 10 {
+        b'0' + digit
+    } else {
+        b'a' - 10 + digit
+    }
 }
 
-impl Escape {
-    fn as_slice(&self) -> &[u8] {
-        match self {
-            Escape::Short(bytes) => bytes,
-            Escape::Long(bytes) => bytes,
+/// Writes the escape of a byte that has one.
+fn write_escape<K: Sink>(sink: &mut K, byte: u8) -> Result<(), SinkError>
+    requires { is_escaped byte ≡ true }
+    ensures written { OnOk result (K.text sink.new ≡ appended (K.text sink.old) (escape byte)) }
+    ensures steady { OnOk result ((K.faults sink.new ≡ K.faults sink.old) × (K.wants sink.new ≡ K.wants sink.old)) }
+    ensures failed { result ≡ Err SinkError.Failed → Rose (K.faults sink.old) (K.faults sink.new) }
+    ensures no_memory { result ≡ Err SinkError.NoMemory → Rose (K.wants sink.old) (K.wants sink.new) }
+    ensures prefix { OnErr result (AppendsPrefix (K.text sink.old) (K.text sink.new) (escape byte)) }
+{
+    match byte {
+        0x08 => write_all(sink, b"\\b"),
+        b'\t' => write_all(sink, b"\\t"),
+        b'\n' => write_all(sink, b"\\n"),
+        0x0c => write_all(sink, b"\\f"),
+        b'\r' => write_all(sink, b"\\r"),
+        b'"' => write_all(sink, b"\\\""),
+        b'\\' => write_all(sink, b"\\\\"),
+        _ => write_all(
+            sink,
+            &[
+                b'\\',
+                b'u',
+                b'0',
+                b'0',
+                hex_digit(byte / 16),
+                hex_digit(byte % 16),
+            ],
+        ),
+    }
+}
+
+/// Writes a text as it stands between quotes: each run without an escape as one piece. After an error a prefix of it
+/// was taken.
+pub(crate) fn write_escaped<K: Sink>(sink: &mut K, bytes: &[u8]) -> Result<(), SinkError>
+    ensures written { OnOk result (K.text sink.new ≡ appended (K.text sink.old) (escaped bytes.now)) }
+    ensures steady { OnOk result ((K.faults sink.new ≡ K.faults sink.old) × (K.wants sink.new ≡ K.wants sink.old)) }
+    ensures failed { result ≡ Err SinkError.Failed → Rose (K.faults sink.old) (K.faults sink.new) }
+    ensures no_memory { result ≡ Err SinkError.NoMemory → Rose (K.wants sink.old) (K.wants sink.new) }
+    ensures prefix { OnErr result (AppendsPrefix (K.text sink.old) (K.text sink.new) (escaped bytes.now)) }
+{
+    let mut rest = bytes;
+    while !rest.is_empty() {
+        let run = first_escape(rest);
+        write_all(sink, &rest[..run])?;
+        if run < rest.len() {
+            write_escape(sink, rest[run])?;
+            rest = &rest[run + 1..];
+        } else {
+            rest = &rest[run..];
         }
     }
+    Ok(())
 }

@@ -4,8 +4,12 @@
 mod error;
 mod escape;
 pub mod laws;
+mod real;
 mod sink;
+mod to_io;
 mod writer;
 
 pub use error::{Error, ErrorKind};
-pub use sink::{Sink, SinkError, VecSink};
+pub use real::RealSink;
+pub use sink::{Sink, SinkError, VecSink, write_all};
+pub use to_io::stream_to_io_write;

@@ -55,8 +55,10 @@ pub trait Sink {
     }
 }
 
-/// Writes a piece whole. After an error a prefix of it was taken.
-pub(crate) fn write_whole<K: Sink>(sink: &mut K, piece: &[u8]) -> Result<(), SinkError>
+/// Writes a piece whole, by as many calls of [`Sink::write`] as it takes.
+///
+/// After an error a prefix of it was taken. An empty piece makes no call.
+pub fn write_all<K: Sink>(sink: &mut K, piece: &[u8]) -> Result<(), SinkError>
     ensures written { OnOk result (K.text sink.new ≡ appended (K.text sink.old) piece.now) }
     ensures steady { OnOk result ((K.faults sink.new ≡ K.faults sink.old) × (K.wants sink.new ≡ K.wants sink.old)) }
     ensures failed { result ≡ Err SinkError.Failed → Rose (K.faults sink.old) (K.faults sink.new) }

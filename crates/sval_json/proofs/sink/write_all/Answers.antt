@@ -1,6 +1,6 @@
 use Rattle.std.proofs.Common.{rules, ◌∙◌, subst}
 use Rattle.sval_json.proofs.Pieces.{nothing_written, written_on, all_written, prefix_written}
-use Rattle.sval_json.proofs.sink.write_whole.Goals as goal
+use Rattle.sval_json.proofs.sink.write_all.Goals as goal
 
 pub loop-rest-preserved : goal.loop-rest-preserved
 loop-rest-preserved g c = record {

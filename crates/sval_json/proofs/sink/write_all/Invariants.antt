@@ -1,6 +1,6 @@
 use Rattle.std.proofs.Common.{◌≡◌, length}
 use Rattle.sval_json.proofs.Pieces.{IsPartlyWritten}
-use Rattle.sval_json.proofs.sink.write_whole.Given as goal
+use Rattle.sval_json.proofs.sink.write_all.Given as goal
 
 abbrev pub invariant-loop-rest : goal.invariant-loop-rest
 invariant-loop-rest g l = record {

@@ -1,0 +1,155 @@
+-- What is known of a sink after the writer took some calls.
+use Rattle.std.specs.Prelude.{◌≡◌, ℕ, ◌+◌, ◌≤◌, Bool, true, false, List, [], ◌∷◌, ◌++◌, Option, Some, None, length, refl}
+use Rattle.std.proofs.Common.{sym, ap, ◌∙◌, subst, arith, inl, inr, append-nil}
+use Rattle.std.proofs.lemmas.List.{take_all}
+use Rattle.sval_label.specs.Calls.{Call}
+use Rattle.sval_core.specs.Law.{Standing, Emission, Ran, Streams, StoppedIn, Stops, Rose}
+use Rattle.sval_json.specs.declared.sink.SinkError.{SinkError}
+use Rattle.sval_json.specs.declared.sink.SinkError.TheVariants.{Failed, NoMemory}
+use Rattle.sval_json.specs.Number.{Refusal}
+use Rattle.sval_json.specs.Writer.{State, start, escapes, Outcome, Action, continue}
+use Rattle.sval_json.specs.Steps.{step, steps, written}
+use Rattle.sval_json.specs.Sinks.{appended, AppendsPrefix}
+use Rattle.sval_json.specs.Writing.{Held, with_text, IsWhy, Stopped, View, writer_law, standing_of}
+use Rattle.sval_json.specs.declared.error.ErrorKind.TheVariants.{Generic, IO}
+use Rattle.sval_json.specs.declared.error.ErrorKind.TheVariants as kind
+use Rattle.sval_json.specs.Targets.{kind_of, IsWritten}
+use Rattle.sval_json.proofs.Pieces.{appended-appended, appended-nothing}
+use Rattle.sval_json.proofs.EscapedPieces.{prefix_within}
+
+-- all calls were taken
+pub record RanAs (old : View) (calls : List Call) (new : View) : Type 0 where
+  pub refusal : (steps calls old.state).refusal ≡ None
+  pub held : new.held ≡ with_text (steps calls old.state).written old.held
+
+with_nothing : (held : Held) → held ≡ with_text [] held
+with_nothing held = ap (λ (t : Option (List ℕ)). let h : Held = record held { text = t } in h) (sym (appended-nothing held.text))
+
+with_both : (held : Held) (a b : List ℕ) → with_text b (with_text a held) ≡ with_text (a ++ b) held
+with_both held a b = ap (λ (t : Option (List ℕ)). let h : Held = record held { text = t } in h) (appended-appended held.text a b)
+
+continue-taken : (o : Option Refusal) (done : Outcome) (next : Action) → o ≡ None
+    → ((continue o done next).refusal ≡ (next done.state).refusal) × ((continue o done next).written ≡ done.written ++ (next done.state).written)
+continue-taken None done next e = (refl, refl)
+continue-taken (Some why) done next e = cc e
+
+pub ran_as : (calls : List Call) (old new : View) → Ran writer_law old calls new → RanAs old calls new
+ran_as [] old new e = record { refusal = refl; held = ap (λ v. v.held) e ∙ with_nothing old.held }
+ran_as (call ∷ calls) old new r =
+    let mid : View = record { state = (step call old.state).state; held = with_text (step call old.state).written old.held } in
+    let rest = ran_as calls mid new r.1 in
+    let on = continue-taken (step call old.state).refusal (step call old.state) (steps calls) r.0 in
+    record {
+      refusal = on.0 ∙ rest.refusal;
+      held = rest.held ∙ with_both old.held (step call old.state).written (steps calls mid.state).written ∙ ap (λ w. with_text w old.held) (sym on.1);
+    }
+
+-- all calls were taken and the value refused, or the sink took a prefix
+pub data Ending (old : View) (calls : List Call) (refuses : Bool) (new : View) : Type 0 where
+  refused : refuses ≡ true → new.held.why ≡ old.held.why → RanAs old calls new → Ending old calls refuses new
+  failed : Stopped old.held (steps calls old.state).written new.held → Ending old calls refuses new
+
+prefix_then : {told left : Option (List ℕ)} (o : Option Refusal) (done : Outcome) (next : Action) → AppendsPrefix told left done.written → AppendsPrefix told left (continue o done next).written
+prefix_then (Some why) done next p = p
+prefix_then {told} None done next p = prefix_within [] done.written (next done.state).written (sym (appended-nothing told)) refl p
+
+prefix_later : {told mid left : Option (List ℕ)} (o : Option Refusal) (done : Outcome) (next : Action) → o ≡ None → mid ≡ appended told done.written → AppendsPrefix mid left (next done.state).written
+    → AppendsPrefix told left (continue o done next).written
+prefix_later (Some why) done next e m p = cc e
+prefix_later None done next e m p = prefix_within done.written (next done.state).written [] m (ap (λ w. done.written ++ w) (sym (append-nil (next done.state).written))) p
+
+same_counts : (old new : Held) (why : Option SinkError) (bytes : List ℕ) → IsWhy why (with_text bytes old) new → IsWhy why old new
+same_counts old new None bytes w = w
+same_counts old new (Some Failed) bytes w = w
+same_counts old new (Some NoMemory) bytes w = w
+
+pub ending_of : (old new : Standing View) (calls : List Call) (refuses : Bool) (view : View) → StoppedIn writer_law old new view calls refuses → Ending view calls refuses new.view
+ending_of old new [] refuses view (r, e) = refused r (ap (λ v. v.held.why) e) (ran_as [] view new.view e)
+ending_of old new (call ∷ calls) refuses view (inl (cause, stop)) = failed (record {
+  why = stop.why;
+  text = prefix_then (step call view.state).refusal (step call view.state) (steps calls) stop.text;
+  name = stop.name;
+})
+ending_of old new (call ∷ calls) refuses view (inr (accepted, rest)) =
+    let mid : View = record { state = (step call view.state).state; held = with_text (step call view.state).written view.held } in
+    later (ending_of old new calls refuses mid rest)
+  where
+    later : Ending (record { state = (step call view.state).state; held = with_text (step call view.state).written view.held }) calls refuses new.view → Ending view (call ∷ calls) refuses new.view
+    later (refused r w ran) =
+        let on = continue-taken (step call view.state).refusal (step call view.state) (steps calls) accepted in
+        refused r w (record {
+          refusal = on.0 ∙ ran.refusal;
+          held = ran.held ∙ with_both view.held (step call view.state).written (steps calls (step call view.state).state).written ∙ ap (λ w. with_text w view.held) (sym on.1);
+        })
+    later (failed stop) = failed (record {
+      why = same_counts view.held new.view.held new.view.held.why (step call view.state).written stop.why;
+      text = prefix_later (step call view.state).refusal (step call view.state) (steps calls) accepted refl stop.text;
+      name = stop.name;
+    })
+
+-- ---- from where a writer begins
+
+-- after all calls were taken the same sink is held, its counts are as they were, and the text grew by what the steps write
+pub record IsAfter (calls : List Call) (old new : Held) : Type 0 where
+  pub written : IsWritten calls old.text new.text
+  pub name : new.name ≡ old.name
+  pub faults : new.faults ≡ old.faults
+  pub wants : new.wants ≡ old.wants
+  pub why : new.why ≡ old.why
+
+after_all : (calls : List Call) (old : Held) (new : View) → RanAs (record { state = start; held = old }) calls new → IsAfter calls old new.held
+after_all calls old new ran = record {
+  written = record { refusal = ran.refusal; text = ap (λ h. h.text) ran.held };
+  name = ap (λ h. h.name) ran.held;
+  faults = ap (λ h. h.faults) ran.held;
+  wants = ap (λ h. h.wants) ran.held;
+  why = ap (λ h. h.why) ran.held;
+}
+
+pub after_streams : {e : Emission} (empty : Bool) (old new : Held) → Streams writer_law (standing_of true old) e (standing_of empty new) → IsAfter e.calls old new
+after_streams {e} empty old new s = after_all e.calls old (standing_of empty new).view (ran_as e.calls (standing_of true old).view (standing_of empty new).view s.ran)
+
+-- after a refusal the same sink is held, and the cause is the sink's, or else the value's after all its calls
+pub record HasStopped (e : Emission) (old new : Held) : Type 0 where
+  pub name : new.name ≡ old.name
+  pub generic : kind_of new.why ≡ Generic → (e.refuses ≡ true) × IsWritten e.calls old.text new.text
+  pub io : kind_of new.why ≡ IO → Rose old.faults new.faults
+  pub no_memory : kind_of new.why ≡ kind.NoMemory → Rose old.wants new.wants
+  pub prefix : AppendsPrefix old.text new.text (written e.calls).written
+
+whole_prefix : {old new : Option (List ℕ)} (bytes : List ℕ) → new ≡ appended old bytes → AppendsPrefix old new bytes
+whole_prefix {old} bytes e = record { count = length bytes; within = omega arith; text = e ∙ ap (appended old) (sym (take_all (length bytes) bytes (omega arith))) }
+
+stopped_why : (why : Option SinkError) (old new : Held) → IsWhy why old new → (kind_of why ≡ Generic → ⊥) × (kind_of why ≡ IO → Rose old.faults new.faults) × (kind_of why ≡ kind.NoMemory → Rose old.wants new.wants)
+stopped_why None old new w = absurd w
+stopped_why (Some Failed) old new w = (λ e. cc e, λ e. w, λ e. cc e)
+stopped_why (Some NoMemory) old new w = (λ e. cc e, λ e. cc e, λ e. w)
+
+no_why : (why : Option SinkError) → why ≡ None → (kind_of why ≡ IO → ⊥) × (kind_of why ≡ kind.NoMemory → ⊥)
+no_why None e = (λ f. cc f, λ f. cc f)
+no_why (Some why) e = cc e
+
+has_stopped : (e : Emission) (old : Held) (new : View) → old.why ≡ None → Ending (record { state = start; held = old }) e.calls e.refuses new → HasStopped e old new.held
+has_stopped e old new none (refused r w ran) =
+    let after = after_all e.calls old new ran in
+    let never = no_why new.held.why (w ∙ none) in
+    record {
+      name = after.name;
+      generic = λ _. (r, after.written);
+      io = λ f. absurd (never.0 f);
+      no_memory = λ f. absurd (never.1 f);
+      prefix = whole_prefix (written e.calls).written after.written.text;
+    }
+has_stopped e old new none (failed stop) =
+    let cause = stopped_why new.held.why old new.held stop.why in
+    record {
+      name = stop.name;
+      generic = λ f. absurd (cause.0 f);
+      io = cause.1;
+      no_memory = cause.2;
+      prefix = stop.text;
+    }
+
+pub after_stops : {e : Emission} (empty : Bool) (old new : Held) → old.why ≡ None → Stops writer_law (standing_of true old) e (standing_of empty new) → HasStopped e old new
+after_stops {e} empty old new none s =
+    has_stopped e old (standing_of empty new).view none (ending_of (standing_of true old) (standing_of empty new) e.calls e.refuses (standing_of true old).view s.stopped)

@@ -1,0 +1,32 @@
+use Rattle.std.proofs.Common.{rules, refl, ◌≡◌}
+use Rattle.sval_json.specs.declared.error.ErrorKind.TheVariants as kind
+use Rattle.sval_json.specs.Targets.{kind_of}
+use Rattle.sval_json.proofs.Streamed.{after_streams, after_stops}
+use Rattle.sval_json.proofs.to_io.stream_to_io_write.Goals as goal
+
+pub returns-in-Ok-clause-written : goal.returns-in-Ok-clause-written
+returns-in-Ok-clause-written g c = let after = after_streams _ _ _ c.in-Ok.ensures.ok in search rules
+
+pub returns-in-Ok-clause-steady : goal.returns-in-Ok-clause-steady
+returns-in-Ok-clause-steady g c = let after = after_streams _ _ _ c.in-Ok.ensures.ok in search rules
+
+pub returns-in-Err-clause-generic : goal.returns-in-Err-clause-generic
+returns-in-Err-clause-generic g c = λ e.
+    let after = after_stops _ _ _ refl c.in-Err.ensures.err in
+    let is : kind_of c.stream-streamed.new.stream.why ≡ kind.Generic = cc in
+    let refused = after.generic is in search rules
+
+pub returns-in-Err-clause-io : goal.returns-in-Err-clause-io
+returns-in-Err-clause-io g c = λ e.
+    let after = after_stops _ _ _ refl c.in-Err.ensures.err in
+    let is : kind_of c.stream-streamed.new.stream.why ≡ kind.IO = cc in
+    let rose = after.io is in search rules
+
+pub returns-in-Err-clause-no_memory : goal.returns-in-Err-clause-no_memory
+returns-in-Err-clause-no_memory g c = λ e.
+    let after = after_stops _ _ _ refl c.in-Err.ensures.err in
+    let is : kind_of c.stream-streamed.new.stream.why ≡ kind.NoMemory = cc in
+    let rose = after.no_memory is in search rules
+
+pub returns-in-Err-clause-prefix : goal.returns-in-Err-clause-prefix
+returns-in-Err-clause-prefix g c = let after = after_stops _ _ _ refl c.in-Err.ensures.err in search rules

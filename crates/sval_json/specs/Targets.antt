@@ -1,0 +1,20 @@
+-- What streaming a value to JSON leaves of a sink.
+use Rattle.std.specs.Prelude.{◌≡◌, ℕ, List, Option, Some, None}
+use Rattle.sval_label.specs.Calls.{Call}
+use Rattle.sval_json.specs.declared.sink.SinkError.{SinkError}
+use Rattle.sval_json.specs.declared.sink.SinkError.TheVariants.{Failed, NoMemory}
+use Rattle.sval_json.specs.declared.error.ErrorKind.{ErrorKind}
+use Rattle.sval_json.specs.declared.error.ErrorKind.TheVariants as kind
+use Rattle.sval_json.specs.Sinks.{appended}
+use Rattle.sval_json.specs.Steps.{written}
+
+-- what stops a value: the sink, or else the value itself
+abbrev pub kind_of : Option SinkError → ErrorKind
+kind_of None = kind.Generic
+kind_of (Some Failed) = kind.IO
+kind_of (Some NoMemory) = kind.NoMemory
+
+-- no step refuses a call, and the text that is told grew by exactly what the steps write
+pub record IsWritten (calls : List Call) (old new : Option (List ℕ)) : Type 0 where
+  pub refusal : (written calls).refusal ≡ None
+  pub text : new ≡ appended old (written calls).written

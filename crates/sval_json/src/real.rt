@@ -1,0 +1,93 @@
+//! The sink over std's writers: the trusted edge.
+
+ghost use Rattle.std.specs.Prelude.{◌≡◌, ℕ, ◌+◌, ◌-◌, ◌^◌, None, min};
+
+use crate::sink::{Sink, SinkError};
+use std::io;
+use std::io::Write;
+use std::marker::Model;
+
+/// How often in a row an interrupted call is made again.
+const RETRIES: u32 = 1000;
+
+/// A sink over one of std's writers. It tells no text, and each error of the writer is one fault.
+///
+/// An interrupted call is made again, at most 1,000 times in a row. A writer that takes nothing of a piece that isn't
+/// empty has failed.
+#[derive(Drop)]
+pub struct RealSink<W> {
+    writer: W,
+    faults: u64,
+    last_error: Option<io::ErrorKind>,
+}
+
+impl<W> Model for RealSink<W> {
+    ghost Value = { ℕ };
+
+    ghost view = { λ sink. sink.faults };
+}
+
+impl<W> RealSink<W> {
+    /// A sink over this writer, with no fault.
+    pub fn new(writer: W) -> Self
+        ensures { result ≡ 0 }
+    {
+        RealSink {
+            writer,
+            faults: 0,
+            last_error: None,
+        }
+    }
+
+    /// What kind of error the last fault was, if there was one.
+    pub fn last_error(&self) -> Option<io::ErrorKind> {
+        self.last_error
+    }
+
+    /// Counts a fault.
+    fn fault(&mut self, kind: io::ErrorKind) -> SinkError
+        ensures failed { result ≡ SinkError.Failed }
+        ensures counted { self.new ≡ min (self.old + 1) (2 ^ 64 - 1) }
+    {
+        self.last_error = Some(kind);
+        self.faults = self.faults.saturating_add(1);
+        SinkError::Failed
+    }
+}
+
+impl<W: Write> Sink for RealSink<W> {
+    ghost text = { λ _. None };
+
+    ghost faults = { λ sink. sink };
+
+    ghost wants = { λ _. 0 };
+
+    fn write(&mut self, piece: &[u8]) -> Result<usize, SinkError> {
+        for _ in 0..RETRIES {
+            match self.writer.write(piece) {
+                Ok(0) if !piece.is_empty() => return Err(self.fault(io::ErrorKind::WriteZero)),
+                Ok(count) => return Ok(count),
+                Err(error) => {
+                    if error.kind() != io::ErrorKind::Interrupted {
+                        return Err(self.fault(error.kind()));
+                    }
+                }
+            }
+        }
+        Err(self.fault(io::ErrorKind::Interrupted))
+    }
+
+    fn flush(&mut self) -> Result<(), SinkError> {
+        for _ in 0..RETRIES {
+            match self.writer.flush() {
+                Ok(()) => return Ok(()),
+                Err(error) => {
+                    if error.kind() != io::ErrorKind::Interrupted {
+                        return Err(self.fault(error.kind()));
+                    }
+                }
+            }
+        }
+        Err(self.fault(io::ErrorKind::Interrupted))
+    }
+}
