@@ -1,8 +1,10 @@
 -- What is known of a sink after the writer took some calls.
-use Rattle.std.specs.Prelude.{◌≡◌, ℕ, ◌+◌, ◌≤◌, Bool, true, false, List, [], ◌∷◌, ◌++◌, Option, Some, None, length, refl}
+use Rattle.std.specs.Prelude.{◌≡◌, ℕ, ◌+◌, ◌≤◌, Bool, true, false, List, [], ◌∷◌, ◌++◌, Option, Some, None, Result, Ok, Err, length, refl}
 use Rattle.std.proofs.Common.{sym, ap, ◌∙◌, subst, arith, inl, inr, append-nil}
 use Rattle.std.proofs.lemmas.List.{take_all}
 use Rattle.sval_label.specs.Calls.{Call}
+use Rattle.sval_core.specs.Trees.{Tree}
+use Rattle.sval_core.specs.Spells.{Spells}
 use Rattle.sval_core.specs.Law.{Standing, Emission, Ran, Streams, StoppedIn, Stops, Rose}
 use Rattle.sval_json.specs.declared.sink.SinkError.{SinkError}
 use Rattle.sval_json.specs.declared.sink.SinkError.TheVariants.{Failed, NoMemory}
@@ -13,7 +15,11 @@ use Rattle.sval_json.specs.Sinks.{appended, AppendsPrefix}
 use Rattle.sval_json.specs.Writing.{Held, with_text, IsWhy, Stopped, View, writer_law, standing_of}
 use Rattle.sval_json.specs.declared.error.ErrorKind.TheVariants.{Generic, IO}
 use Rattle.sval_json.specs.declared.error.ErrorKind.TheVariants as kind
-use Rattle.sval_json.specs.Targets.{kind_of, IsWritten}
+use Rattle.sval_json.specs.Json.{Json, compact}
+use Rattle.sval_json.specs.Shape.{json_of}
+use Rattle.sval_json.specs.Laws.{IsWrittenAs}
+use Rattle.sval_json.specs.Targets.{kind_of, IsWritten, WritesTree}
+use Rattle.sval_json.proofs.WritingPlain.{spelling_written}
 use Rattle.sval_json.proofs.Pieces.{appended-appended, appended-nothing}
 use Rattle.sval_json.proofs.EscapedPieces.{prefix_within}
 
@@ -153,3 +159,18 @@ has_stopped e old new none (failed stop) =
 pub after_stops : {e : Emission} (empty : Bool) (old new : Held) → old.why ≡ None → Stops writer_law (standing_of true old) e (standing_of empty new) → HasStopped e old new
 after_stops {e} empty old new none s =
     has_stopped e old (standing_of empty new).view none (ending_of (standing_of true old) (standing_of empty new) e.calls e.refuses (standing_of true old).view s.stopped)
+
+-- ---- where the calls spell a tree
+
+written_tree : {told left : Option (List ℕ)} {calls : List Call} (tree : Tree) (found : Result Json Refusal) → json_of tree ≡ found → IsWrittenAs found (written calls) → IsWritten calls told left → WritesTree tree told left
+written_tree {told} tree (Ok json) is w done = record { json = json; shape = is; text = done.text ∙ ap (appended told) w.0 }
+written_tree tree (Err why) is w done = let e = w in let f = done.refusal in cc
+
+pub writes_tree : {told left : Option (List ℕ)} (calls : List Call) (tree : Tree) → Spells calls tree → IsWritten calls told left → WritesTree tree told left
+writes_tree calls tree s done = written_tree tree (json_of tree) refl (spelling_written calls tree s) done
+
+pub tree_prefix : {told left : Option (List ℕ)} (calls : List Call) (tree : Tree) (json : Json) → Spells calls tree → json_of tree ≡ Ok json → AppendsPrefix told left (written calls).written
+    → AppendsPrefix told left (compact json)
+tree_prefix {told} {left} calls tree json s is p =
+    let w = subst (λ found. IsWrittenAs found (written calls)) is (spelling_written calls tree s) in
+    subst (AppendsPrefix told left) w.0 p

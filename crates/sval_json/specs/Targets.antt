@@ -1,10 +1,13 @@
 -- What streaming a value to JSON leaves of a sink.
-use Rattle.std.specs.Prelude.{◌≡◌, ℕ, List, Option, Some, None}
+use Rattle.std.specs.Prelude.{◌≡◌, ℕ, List, Option, Some, None, Result, Ok}
 use Rattle.sval_label.specs.Calls.{Call}
 use Rattle.sval_json.specs.declared.sink.SinkError.{SinkError}
 use Rattle.sval_json.specs.declared.sink.SinkError.TheVariants.{Failed, NoMemory}
 use Rattle.sval_json.specs.declared.error.ErrorKind.{ErrorKind}
 use Rattle.sval_json.specs.declared.error.ErrorKind.TheVariants as kind
+use Rattle.sval_core.specs.Trees.{Tree}
+use Rattle.sval_json.specs.Json.{Json, compact}
+use Rattle.sval_json.specs.Shape.{json_of}
 use Rattle.sval_json.specs.Sinks.{appended}
 use Rattle.sval_json.specs.Steps.{written}
 
@@ -18,3 +21,9 @@ kind_of (Some NoMemory) = kind.NoMemory
 pub record IsWritten (calls : List Call) (old new : Option (List ℕ)) : Type 0 where
   pub refusal : (written calls).refusal ≡ None
   pub text : new ≡ appended old (written calls).written
+
+-- the tree has a JSON shape, and the text that is told grew by exactly the text of that
+pub record WritesTree (tree : Tree) (old new : Option (List ℕ)) : Type 0 where
+  pub json : Json
+  pub shape : json_of tree ≡ Ok json
+  pub text : new ≡ appended old (compact json)

@@ -2,9 +2,13 @@
 
 ghost use Rattle.std.specs.Prelude.{◌≡◌, None, true, false, OnOk, OnErr};
 ghost use Rattle.sval_core.specs.Law.{Rose};
+ghost use Rattle.sval_core.specs.Spells.{Spells};
+ghost use Rattle.sval_core.specs.Trees.{Tree};
+ghost use Rattle.sval_json.specs.Json.{Json, compact};
+ghost use Rattle.sval_json.specs.Shape.{json_of};
 ghost use Rattle.sval_json.specs.Sinks.{AppendsPrefix};
 ghost use Rattle.sval_json.specs.Steps.{written};
-ghost use Rattle.sval_json.specs.Targets.{IsWritten};
+ghost use Rattle.sval_json.specs.Targets.{IsWritten, WritesTree};
 
 use crate::error::{Error, ErrorKind};
 use crate::sink::Sink;
@@ -14,7 +18,7 @@ use sval_core::{Lent, Value};
 /// Streams a value to a sink as JSON, without white space.
 ///
 /// On `Ok` it appended what the steps of `specs/Steps.antt` write for the value's calls. Where these calls spell a tree,
-/// that is the text of the tree's JSON (`spellings_are_written` of [`laws`](crate::laws)).
+/// that is the text of the tree's JSON, however the calls cut its texts.
 ///
 /// [`ErrorKind::Generic`] comes where the value itself refuses, after all that its calls write.
 /// [`ErrorKind::IO`] comes only where the sink's count of faults rose, and [`ErrorKind::NoMemory`] only where its count of
@@ -30,6 +34,7 @@ pub fn stream_to_io_write<'v, K: Sink, V: Value<'v, Lent<'v>>>(
     v: &'v V,
 ) -> Result<(), Error>
     ensures written { OnOk result (IsWritten (V.emission v.now).calls (K.text out.old) (K.text out.new)) }
+    ensures tree { OnOk result ((tree : Tree) → Spells (V.emission v.now).calls tree → WritesTree tree (K.text out.old) (K.text out.new)) }
     ensures willing { OnOk result ((V.emission v.now).refuses ≡ false) }
     ensures steady { OnOk result ((K.faults out.new ≡ K.faults out.old) × (K.wants out.new ≡ K.wants out.old)) }
 
@@ -37,6 +42,7 @@ pub fn stream_to_io_write<'v, K: Sink, V: Value<'v, Lent<'v>>>(
     ensures io { result ≡ Err ErrorKind.IO → Rose (K.faults out.old) (K.faults out.new) }
     ensures no_memory { result ≡ Err ErrorKind.NoMemory → Rose (K.wants out.old) (K.wants out.new) }
     ensures prefix { OnErr result (AppendsPrefix (K.text out.old) (K.text out.new) (written (V.emission v.now).calls).written) }
+    ensures tree_prefix { OnErr result ((tree : Tree) (json : Json) → Spells (V.emission v.now).calls tree → json_of tree ≡ Ok json → AppendsPrefix (K.text out.old) (K.text out.new) (compact json)) }
 {
     let mut writer = Writer {
         sink: out,

@@ -1,0 +1,4 @@
+pub mod Sources
+pub mod Reading
+pub mod Verdict
+pub mod Laws

@@ -1,7 +1,7 @@
 use Rattle.std.proofs.Common.{rules, refl, ◌≡◌}
 use Rattle.sval_json.specs.declared.error.ErrorKind.TheVariants as kind
 use Rattle.sval_json.specs.Targets.{kind_of}
-use Rattle.sval_json.proofs.Streamed.{after_streams, after_stops}
+use Rattle.sval_json.proofs.Streamed.{after_streams, after_stops, writes_tree, tree_prefix}
 use Rattle.sval_json.proofs.to_io.stream_to_io_write.Goals as goal
 
 pub returns-in-Ok-clause-written : goal.returns-in-Ok-clause-written
@@ -30,3 +30,13 @@ returns-in-Err-clause-no_memory g c = λ e.
 
 pub returns-in-Err-clause-prefix : goal.returns-in-Err-clause-prefix
 returns-in-Err-clause-prefix g c = let after = after_stops _ _ _ refl c.in-Err.ensures.err in search rules
+
+pub returns-in-Ok-clause-tree : goal.returns-in-Ok-clause-tree
+returns-in-Ok-clause-tree g c = λ tree spells.
+    let after = after_streams _ _ _ c.in-Ok.ensures.ok in
+    let whole = writes_tree (g.V.Value.emission c.args.v.now).calls tree spells after.written in search rules
+
+pub returns-in-Err-clause-tree_prefix : goal.returns-in-Err-clause-tree_prefix
+returns-in-Err-clause-tree_prefix g c = λ tree json spells is.
+    let after = after_stops _ _ _ refl c.in-Err.ensures.err in
+    let prefix = tree_prefix (g.V.Value.emission c.args.v.now).calls tree json spells is after.prefix in search rules

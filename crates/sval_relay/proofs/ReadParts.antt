@@ -1,0 +1,66 @@
+-- An input that is read part by part.
+use Rattle.std.specs.Prelude.{◌≡◌, ℕ, zero, suc, ◌∷◌, ◌+◌, ◌-◌, ◌^◌, ◌<◌, ◌≤◌, List, [], ◌++◌, take, drop, length, Option, Some, None, IfSome, refl, ⊤}
+use Rattle.std.proofs.Common.{sym, ap, ◌∙◌, subst, arith, append_assoc}
+use Rattle.std.proofs.lemmas.List.{length-drop, length-take-le, length-append, drop-drop, take-append-le, take_all}
+use Rattle.std.proofs.Math.Seq.{take-add, take-append-add, take-append_seam}
+use Rattle.sval_relay.specs.Sources.{TakesFirst, Gives}
+use Rattle.sval_relay.specs.Reading.{IsLong}
+
+-- some first bytes were read, and the others are left
+pub record IsRead (all : List ℕ) (new : Option (List ℕ)) (bytes : List ℕ) : Type 0 where
+  pub there : length bytes ≤ length all
+  pub taken : bytes ≡ take (length bytes) all
+  pub left : new ≡ Some (drop (length bytes) all)
+
+abbrev pub IsPartlyRead : Option (List ℕ) → Option (List ℕ) → List ℕ → Type 0
+IsPartlyRead old new bytes = IfSome old (λ all. IsRead all new bytes)
+
+-- what one part more leaves
+pub read_on : (old mid new : Option (List ℕ)) (xs b : List ℕ) (n : ℕ) → IsPartlyRead old mid xs → Gives mid new n b → IsPartlyRead old new (xs ++ take n b)
+read_on None mid new xs b n p g = tt
+read_on (Some all) mid new xs b n p g =
+    let k = length xs in
+    let t : TakesFirst (drop (length xs) all) new n b = subst (λ m. Gives m new n b) p.left g in
+    let room : k + n ≤ length all = omega (arith, t.there, length-drop k all, p.there) in
+    let part : take n b ≡ take n (drop k all) = t.taken in
+    let size : length (take n b) ≡ n = ap length part ∙ length-take-le n (drop k all) t.there in
+    let total : length (xs ++ take n b) ≡ k + n = length-append xs (take n b) ∙ ap (λ m. k + m) size in
+    record {
+      there = rw total room;
+      taken = ap (λ x. x ++ take n b) p.taken ∙ ap (λ y. take k all ++ y) part ∙ sym (take-add k n all) ∙ ap (λ m. take m all) (sym total);
+      left = t.left ∙ ap (λ x. Some x) (drop-drop n k all ∙ ap (λ m. drop m all) (sym total));
+    }
+
+-- a byte more than the limit was taken
+pub read_long : (old mid new : Option (List ℕ)) (xs b : List ℕ) (n : ℕ) → IsPartlyRead old mid xs → length xs ≡ 2 ^ 24 → Gives mid new n b → n ≡ 1 → IsLong old new
+read_long None mid new xs b n p e g one = tt
+read_long (Some all) mid new xs b n p e g one =
+    let t : TakesFirst (drop (length xs) all) new n b = subst (λ m. Gives m new n b) p.left g in
+    let room : length xs + n ≤ length all = omega (arith, t.there, length-drop (length xs) all, p.there) in
+    let place : length xs + n ≡ 2 ^ 24 + 1 = omega arith in
+    record {
+      long = omega (arith, room, place);
+      left = t.left ∙ ap (λ x. Some x) (drop-drop n (length xs) all ∙ ap (λ m. drop m all) place);
+    }
+
+take_take : (i j : ℕ) (xs : List ℕ) → i ≤ j → take i (take j xs) ≡ take i xs
+take_take zero j xs h = refl
+take_take (suc i) zero xs h = absurd (omega arith)
+take_take (suc i) (suc j) [] h = refl
+take_take (suc i) (suc j) (x ∷ xs) h = ap (λ r. x ∷ r) (take_take i j xs (omega arith))
+
+-- a buffer at the end of a vector, filled and then cut
+pub filled : (xs d b post rest : List ℕ) (s n len : ℕ) → take s d ≡ xs → length xs ≡ s → n ≤ length b → s + n ≤ len
+    → take (s + n) (take len ((take s d ++ (b ++ post)) ++ rest)) ≡ xs ++ take n b
+filled xs d b post rest s n len e size h room =
+    take_take (s + n) len _ room
+    ∙ ap (λ x. take (s + n) ((x ++ (b ++ post)) ++ rest)) e
+    ∙ ap (λ x. take (s + n) x) (append_assoc xs (b ++ post) rest)
+    ∙ ap (λ m. take (m + n) (xs ++ ((b ++ post) ++ rest))) (sym size)
+    ∙ take-append-add xs ((b ++ post) ++ rest) n
+    ∙ ap (λ x. xs ++ x) (ap (take n) (append_assoc b post rest) ∙ take-append-le n b (post ++ rest) h)
+
+-- a vector that was made longer begins with what it held
+pub begins : (xs more : List ℕ) (s r : ℕ) → length xs ≡ s → take s (take (s + r) xs ++ more) ≡ xs
+begins xs more s r e =
+    ap (λ x. take s (x ++ more)) (take_all (s + r) xs (omega arith)) ∙ ap (λ m. take m (xs ++ more)) (sym e) ∙ take-append_seam xs more

@@ -1,0 +1,8 @@
+-- The laws of verdicts, as facts.
+use Rattle.std.specs.Prelude.{◌≡◌, ℕ, List}
+use Rattle.sval_relay.specs.declared.relay.Way.{Way}
+use Rattle.sval_relay.specs.Verdict.{Verdict, verdict}
+
+-- each script has one verdict in each way, and no second one
+abbrev pub OneVerdict : Type 0
+OneVerdict = (script : List ℕ) (way : Way) → (answer : Verdict) × verdict script way answer × ((other : Verdict) → verdict script way other → answer ≡ other)
