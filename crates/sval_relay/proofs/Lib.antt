@@ -1,2 +1,3 @@
 pub mod ReadParts
 pub mod OneVerdict
+pub mod Served

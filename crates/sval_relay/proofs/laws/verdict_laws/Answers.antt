@@ -1,5 +1,5 @@
 use Rattle.sval_relay.proofs.laws.verdict_laws.Goals as goal
 use Rattle.sval_relay.proofs.OneVerdict.{one_verdict}
 
-pub returns-clause-one_verdict : goal.returns-clause-one_verdict
-returns-clause-one_verdict c = one_verdict
+pub returns : goal.returns
+returns c = record { one_verdict = one_verdict }

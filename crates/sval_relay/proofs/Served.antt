@@ -1,0 +1,103 @@
+-- From what reading, checking and writing a script answered to the script's verdict.
+use Rattle.std.specs.Prelude.{◌≡◌, ℕ, ◌+◌, ◌-◌, ◌*◌, ◌<◌, ◌≤◌, ◌^◌, ◌⊎◌, min, Bool, true, false, ◌==◌, cond, List, [], ◌∷◌, ◌++◌, length, take, Option, Some, None, option_map, Result, Ok, Err, refl}
+use Rattle.std.specs.List.{slice_split, onto_first}
+use Rattle.std.proofs.Common.{sym, ap, ◌∙◌, subst, arith, inl, inr, append-nil}
+use Rattle.std.proofs.lemmas.List.{take_all}
+use Rattle.sval_label.specs.Calls.{Call}
+use Rattle.sval_core.specs.Trees.{Tree}
+use Rattle.sval_core.specs.Spells.{Spells, IsViable}
+use Rattle.sval_json.specs.Json.{Json, compact}
+use Rattle.sval_json.specs.Number.{Refusal, InvalidKey, InvalidNumber}
+use Rattle.sval_json.specs.Shape.{json_of}
+use Rattle.sval_json.specs.Sinks.{appended, AppendsPrefix}
+use Rattle.sval_json.specs.Targets.{WritesTree}
+use Rattle.sval_script.specs.Lines.{Lines, Good, Bad, lines, cut_at, line_of, with_call, at_end, lines_from}
+use Rattle.sval_relay.specs.declared.relay.Way.{Way}
+use Rattle.sval_relay.specs.declared.relay.Way.TheVariants.{Direct}
+use Rattle.sval_relay.specs.Verdict.{Verdict, BadLine, BadCall, Unfinished, Key, Number, Text, json_verdict, IsOfCalls, bad_call, unfinished, whole, IsOfLines, verdict}
+use Rattle.sval_relay.specs.Serving.{WritesText, Grows, MayLeave}
+use Rattle.sval_relay.proofs.OneVerdict.{one_of_lines}
+
+-- ---- the verdict of each answer
+
+pub verdict_bad_line : (script : List ℕ) (way : Way) (n : ℕ) → lines script ≡ Bad n → verdict script way (BadLine n)
+verdict_bad_line script way n e = subst (λ found. IsOfLines found way (BadLine n)) (sym e) refl
+
+pub verdict_of_calls : (script : List ℕ) (way : Way) (calls : List Call) (answer : Verdict) → lines script ≡ Good calls → IsOfCalls calls way answer → verdict script way answer
+verdict_of_calls script way calls answer e v = subst (λ found. IsOfLines found way answer) (sym e) v
+
+pub verdict_unfinished : (script : List ℕ) (way : Way) (calls : List Call) → lines script ≡ Good calls → IsViable calls → ((tree : Tree) → Spells calls tree → ⊥) → verdict script way Unfinished
+verdict_unfinished script way calls e viable none = verdict_of_calls script way calls Unfinished e (unfinished viable none)
+
+pub verdict_tree : (script : List ℕ) (calls : List Call) (tree : Tree) → lines script ≡ Good calls → Spells calls tree → verdict script Direct (json_verdict (json_of tree))
+verdict_tree script calls tree e spells = verdict_of_calls script Direct calls (json_verdict (json_of tree)) e (whole {way = Direct} tree spells)
+
+pub verdict_text : (script : List ℕ) (calls : List Call) (tree : Tree) (json : Json) → lines script ≡ Good calls → Spells calls tree → json_of tree ≡ Ok json → verdict script Direct (Text (compact json))
+verdict_text script calls tree json e spells is = subst (λ found. verdict script Direct (json_verdict found)) is (verdict_tree script calls tree e spells)
+
+-- ---- what holds of the verdict found holds of each
+
+pub of_each : (script : List ℕ) (way : Way) (found : Verdict) (P : Verdict → Type 0) → verdict script way found → P found → (answer : Verdict) → verdict script way answer → P answer
+of_each script way found P v p answer w = subst P (one_of_lines (lines script) way found answer v w) p
+
+-- ---- what is left of the sink
+
+nothing_more : (told : Option (List ℕ)) → told ≡ appended told []
+nothing_more None = refl
+nothing_more (Some text) = ap Some (sym (append-nil text))
+
+pub no_prefix : (told : Option (List ℕ)) (bytes : List ℕ) → AppendsPrefix told told bytes
+no_prefix told bytes = record { count = 0; within = omega arith; text = nothing_more told }
+
+pub leaves_all : (answer : Verdict) (told : Option (List ℕ)) → MayLeave answer told told
+leaves_all (BadLine n) told = refl
+leaves_all (BadCall n) told = refl
+leaves_all Unfinished told = refl
+leaves_all Key told = ([], nothing_more told)
+leaves_all Number told = ([], nothing_more told)
+leaves_all (Text text) told = no_prefix told text
+
+pub grows_prefix : {old new : Option (List ℕ)} {bytes : List ℕ} → AppendsPrefix old new bytes → Grows old new
+grows_prefix {bytes = bytes} p = (take p.count bytes, p.text)
+
+-- of a tree's text a prefix was written
+pub leaves_tree : {old new : Option (List ℕ)} {bytes : List ℕ} (tree : Tree) → ((json : Json) → json_of tree ≡ Ok json → AppendsPrefix old new (compact json)) → AppendsPrefix old new bytes
+    → MayLeave (json_verdict (json_of tree)) old new
+leaves_tree {old} {new} {bytes} tree f p = by_shape (json_of tree) refl
+  where
+    by_shape : (found : Result Json Refusal) → json_of tree ≡ found → MayLeave (json_verdict found) old new
+    by_shape (Ok json) is = f json is
+    by_shape (Err InvalidKey) is = grows_prefix p
+    by_shape (Err InvalidNumber) is = grows_prefix p
+
+pub whole_text : {old new : Option (List ℕ)} (bytes : List ℕ) → new ≡ appended old bytes → AppendsPrefix old new bytes
+whole_text {old} bytes e = record { count = length bytes; within = omega arith; text = e ∙ ap (appended old) (sym (take_all (length bytes) bytes (omega arith))) }
+
+-- ---- a script has at most as many calls as bytes
+
+cut-short : (byte : ℕ) (bytes : List ℕ) → length (cut_at byte bytes) ≤ length bytes + 1
+cut-short byte [] = omega arith
+cut-short byte (x ∷ xs) = by_test (x == byte) (cut_at byte xs) (cut-short byte xs)
+  where
+    by_test : (b : Bool) (parts : List (List ℕ)) → length parts ≤ length xs + 1 → length (cond b ([] ∷ parts) (onto_first x parts)) ≤ length (x ∷ xs) + 1
+    by_test true parts h = omega arith
+    by_test false [] h = omega arith
+    by_test false (part ∷ parts) h = omega arith
+
+fewer : (n : ℕ) (o : Option Call) (after : Lines) (calls : List Call) → with_call n o after ≡ Good calls → (rest : List Call) × (after ≡ Good rest) × (length calls ≡ length rest + 1)
+fewer n None after calls e = cc e
+fewer n (Some call) (Bad m) calls e = cc e
+fewer n (Some call) (Good rest) calls e = let same : calls ≡ call ∷ rest = cc in (rest, refl, ap length same ∙ omega arith)
+
+calls-short : (n : ℕ) (parts : List (List ℕ)) (calls : List Call) → lines_from n parts ≡ Good calls → length calls ≤ length parts - 1
+calls-short n [] calls e = let same : calls ≡ [] = cc in rw same (omega arith)
+calls-short n ([] ∷ []) calls e = let same : calls ≡ [] = cc in rw same (omega arith)
+calls-short n ((byte ∷ rest) ∷ []) calls e = cc e
+calls-short n (line ∷ next ∷ more) calls e =
+    let f = fewer n (line_of line) (lines_from (n + 1) (next ∷ more)) calls e in
+    let g = calls-short (n + 1) (next ∷ more) f.0 f.1 in
+    omega (arith, f.2, g)
+
+pub lines-short : (script : List ℕ) (calls : List Call) → lines script ≡ Good calls → length calls ≤ length script
+unfolding lines
+lines-short script calls e = omega (arith, calls-short 1 (cut_at 10 script) calls e, cut-short 10 script)
