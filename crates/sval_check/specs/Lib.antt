@@ -1,0 +1,4 @@
+pub mod Stacks
+pub mod States
+pub mod Checking
+pub mod Checks

@@ -1,2 +1,48 @@
 //! Checks whether a value's calls spell one whole value.
+//!
+//! [`check`] streams a value into a machine with a stack, which takes the calls that can still be completed and no
+//! others. Its words stand in `specs/Checks.antt`.
 #![tactic(auto)]
+
+ghost use Rattle.std.specs.Prelude.{◌≡◌, ℕ, Err, OnOk};
+ghost use Rattle.sval_check.specs.Checks.{IsOneValue, IsFirstBad, OnlyRefuses, IsUnfinished};
+
+mod checker;
+mod error;
+mod stack;
+
+use crate::checker::Checker;
+pub use error::CheckError;
+use std::alloc::Global;
+use sval_core::{Lent, Value};
+
+/// Checks that a value's calls spell one whole value, and that the value itself doesn't refuse.
+///
+/// The value is streamed once. What has begun and has no end yet is kept in memory of `alloc`, so a deep value needs no
+/// deep stack of calls.
+///
+/// - [`CheckError::BadCall`] comes where no value goes on with one of its calls, and names the first such call.
+/// - [`CheckError::Refused`] comes where all calls can be completed, and the value refuses after them.
+/// - [`CheckError::Unfinished`] comes where all calls can be completed, the value doesn't refuse, and the calls are not
+///   one whole value.
+/// - [`CheckError::NoMemory`] comes where memory was wanting.
+///
+/// ```
+/// match check(alloc, &value) {
+///     Ok(()) => println!(rt; "one whole value")?,
+///     Err(CheckError::BadCall { at }) => println!(rt; "call {at} goes on with no value")?,
+///     Err(_) => println!(rt; "no whole value")?,
+/// }
+/// ```
+pub fn check<'v, V: Value<'v, Lent<'v>>>(alloc: Global, value: &'v V) -> Result<(), CheckError>
+    ensures ok { OnOk result (IsOneValue (V.emission value.now)) }
+    ensures bad_call { (at : ℕ) → result ≡ Err (CheckError.BadCall at) → IsFirstBad (V.emission value.now).calls at }
+    ensures refused { result ≡ Err CheckError.Refused → OnlyRefuses (V.emission value.now) }
+    ensures unfinished { result ≡ Err CheckError.Unfinished → IsUnfinished (V.emission value.now) }
+{
+    let mut checker = Checker::new(alloc);
+    match value.stream(&mut checker) {
+        Ok(()) => checker.finish(),
+        Err(_) => Err(checker.cause()),
+    }
+}

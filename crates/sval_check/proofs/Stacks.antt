@@ -1,0 +1,23 @@
+-- A list read from its end.
+use Rattle.std.specs.Prelude.{◌≡◌, ℕ, ◌-◌, ◌<◌, List, [], ◌∷◌, ◌++◌, length, reverse, slice_set}
+use Rattle.std.proofs.Common.{sym, ap, ◌∙◌, arith, length-append}
+use Rattle.std.proofs.Math.Seq.{set-append_seam}
+use Rattle.std.proofs.lemmas.List.{reverse-append, reverse-reverse}
+
+ends_in : {A : Type 0} (items : List A) (top : A) (rest : List A) → reverse items ≡ top ∷ rest → items ≡ reverse rest ++ (top ∷ [])
+ends_in items top rest e = sym (reverse-reverse items) ∙ ap (λ xs. reverse xs) e ∙ reverse-append (top ∷ []) rest
+
+set_at_end : {A : Type 0} (front : List A) (top x : A) → slice_set (front ++ (top ∷ [])) (length (front ++ (top ∷ [])) - 1) x ≡ front ++ (x ∷ [])
+set_at_end front top x =
+    let e : length (front ++ (top ∷ [])) - 1 ≡ length front = omega (arith, length-append front (top ∷ [])) in
+    ap (λ n. slice_set (front ++ (top ∷ [])) n x) e ∙ set-append_seam front top [] x
+
+-- the innermost is the last of the items
+pub replaced : {A : Type 0} (items : List A) (n : ℕ) (top : A) (rest : List A) (x : A) → length items ≡ n → reverse items ≡ top ∷ rest → reverse (slice_set items (n - 1) x) ≡ x ∷ rest
+replaced items n top rest x size e =
+    let is = ends_in items top rest e in
+    ap (λ m. reverse (slice_set items (m - 1) x)) (sym size) ∙ ap (λ xs. reverse (slice_set xs (length xs - 1) x)) is ∙ ap (λ xs. reverse xs) (set_at_end (reverse rest) top x)
+    ∙ reverse-append (reverse rest) (x ∷ []) ∙ ap (λ xs. x ∷ xs) (reverse-reverse rest)
+
+pub is_there : {A : Type 0} (items : List A) (n : ℕ) (top : A) (rest : List A) → length items ≡ n → reverse items ≡ top ∷ rest → 0 < n
+is_there items n top rest size e = omega (arith, size, length-append (reverse rest) (top ∷ []), ap (λ xs. length xs) (ends_in items top rest e))

@@ -1,0 +1,32 @@
+-- What is said of a value that was checked.
+use Rattle.std.specs.Prelude.{◌≡◌, ℕ, ◌+◌, ◌-◌, ◌^◌, min, true, false, List, [], ◌∷◌, ◌++◌, length}
+use Rattle.sval_label.specs.Calls.{Call}
+use Rattle.sval_core.specs.Trees.{Tree}
+use Rattle.sval_core.specs.Spells.{Spells, IsViable}
+use Rattle.sval_core.specs.Law.{Emission}
+
+-- the value doesn't refuse, and its calls spell a tree
+pub record IsOneValue (e : Emission) : Type 0 where
+  pub willing : e.refuses ≡ false
+  pub spells : (tree : Tree) × Spells e.calls tree
+
+-- the calls before this one can be completed, and with it they cannot; its number is counted from 1 and stops at the greatest u64
+pub record IsFirstBad (calls : List Call) (at : ℕ) : Type 0 where
+  pub front : List Call
+  pub call : Call
+  pub rest : List Call
+  pub whole : calls ≡ front ++ (call ∷ rest)
+  pub before : IsViable front
+  pub bad : IsViable (front ++ (call ∷ [])) → ⊥
+  pub number : at ≡ min (length front + 1) (2 ^ 64 - 1)
+
+-- all calls can be completed, and the value refuses
+pub record OnlyRefuses (e : Emission) : Type 0 where
+  pub viable : IsViable e.calls
+  pub refuses : e.refuses ≡ true
+
+-- all calls can be completed, the value doesn't refuse, and the calls spell no tree
+pub record IsUnfinished (e : Emission) : Type 0 where
+  pub viable : IsViable e.calls
+  pub willing : e.refuses ≡ false
+  pub no_tree : (tree : Tree) → Spells e.calls tree → ⊥
