@@ -7,7 +7,7 @@ use Rattle.sval_label.specs.declared.call.AnyCall.{AnyCall}
 use Rattle.sval_label.specs.declared.call.AnyCall.TheVariants as made
 use Rattle.sval_label.specs.Made.{lent_call}
 use Rattle.sval_label.specs.Calls as call
-use Rattle.sval_label.specs.Calls.{Call, Slot, IntType}
+use Rattle.sval_label.specs.Calls.{Call, IntType}
 use Rattle.sval_core.specs.Trees.{Kind, Tree, Parts, next_kind}
 use Rattle.sval_core.specs.Spells.{IsSize, new_entries, plain_call}
 use Rattle.sval_core.specs.Checker as machine

@@ -1,6 +1,6 @@
 -- The law of the checker as a stream: it takes a call where the machine does.
 use Rattle.std.specs.Prelude.{◌≡◌, ℕ, ◌+◌, ◌-◌, ◌^◌, min, Bool, true, List, [], ◌∷◌, map, Option, Some, None, Result, Ok, Err, ⊤}
-use Rattle.sval_label.specs.Calls.{Call, Head}
+use Rattle.sval_label.specs.Calls.{Call}
 use Rattle.sval_core.specs.Trees.{Kind}
 use Rattle.sval_label.specs.Calls as call
 use Rattle.sval_core.specs.Law.{Law, Standing, Rose}

@@ -1,6 +1,6 @@
 //! The machine that takes the calls which can still be completed.
 
-ghost use Rattle.std.specs.Prelude.{◌≡◌, ℕ, ◌+◌, ◌-◌, ◌^◌, ◌↔◌, min, Option, Some, [], ◌∷◌, IsTrue, IfOk, IfErr, OnOk, OnErr, true, false, None};
+ghost use Rattle.std.specs.Prelude.{◌≡◌, ℕ, ◌↔◌, Option, Some, [], ◌∷◌, IsTrue, IfOk, IfErr, OnOk, OnErr, true, false, None};
 ghost use Rattle.sval_label.specs.Calls.{TextFragment, TextEnd, PartBegin, PartEnd, End, Seq, Item};
 ghost use Rattle.sval_label.specs.Made.{lent_call};
 ghost use Rattle.sval_core.specs.Spells.{IsSize};
@@ -25,6 +25,8 @@ pub(crate) enum Why {
 }
 
 /// A stream that takes the calls which can still be completed, and no others.
+///
+/// A size counts down to what is still to come, so that none is too great to be kept.
 #[derive(Drop)]
 pub(crate) struct Checker {
     /// A whole value stands directly in the innermost frame.
@@ -82,7 +84,7 @@ impl Checker {
         }
     }
 
-    /// What the calls taken are, where each of them was.
+    /// Whether the calls are one whole value, where all of them were taken.
     pub(crate) fn finish(&self) -> Result<(), CheckError>
         ensures { result ≡ finish_of self.now }
     {
@@ -92,7 +94,7 @@ impl Checker {
         }
     }
 
-    /// Why not all calls were taken, or else that the value itself refused.
+    /// Why a call was refused, or that the value itself refused where none was.
     pub(crate) fn cause(&self) -> CheckError
         ensures { result ≡ cause_of self.now }
     {

@@ -10,6 +10,8 @@ ghost use Rattle.sval_check.specs.Checks.{IsOneValue, IsFirstBad, OnlyRefuses, I
 mod checker;
 mod error;
 mod stack;
+#[cfg(test)]
+mod tests;
 
 use crate::checker::Checker;
 pub use error::CheckError;
