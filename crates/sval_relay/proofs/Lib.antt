@@ -1,3 +1,11 @@
-pub mod ReadParts
+pub mod FieldNumbers
+pub mod FieldTexts
+pub mod LineCuts
+pub mod LineForms
 pub mod OneVerdict
+pub mod ReadParts
+pub mod ScriptLines
+pub mod ScriptStreams
+pub mod ScriptTexts
 pub mod Served
+pub mod StatusLemmas

@@ -2,11 +2,14 @@
 use Rattle.std.specs.Prelude.{◌≡◌, ℕ, ◌+◌, ◌-◌, ◌*◌, ◌<◌, ◌≤◌, ◌^◌, ◌⊎◌, min, Bool, true, false, ◌==◌, cond, List, [], ◌∷◌, ◌++◌, length, take, Option, Some, None, option_map, Result, Ok, Err, refl}
 use Rattle.std.specs.List.{slice_split, onto_first}
 use Rattle.std.proofs.Common.{sym, ap, ◌∙◌, subst, arith, inl, inr, append-nil}
-use Rattle.std.proofs.lemmas.List.{take_all}
+use Rattle.std.proofs.lemmas.List.{take_all, length-append}
 use Rattle.sval_label.specs.Calls.{Call}
 use Rattle.sval_core.specs.Trees.{Tree}
 use Rattle.sval_core.specs.Spells.{Spells, IsViable}
+use Rattle.sval_core.specs.Law.{Emission}
+use Rattle.sval_check.specs.Checks.{IsOneValue, IsFirstBad, IsUnfinished}
 use Rattle.sval_json.specs.Json.{Json, compact}
+use Rattle.sval_json.specs.Steps.{written}
 use Rattle.sval_json.specs.Number.{Refusal, InvalidKey, InvalidNumber}
 use Rattle.sval_json.specs.Shape.{json_of}
 use Rattle.sval_json.specs.Sinks.{appended, AppendsPrefix}
@@ -15,7 +18,9 @@ use Rattle.sval_script.specs.Lines.{Lines, Good, Bad, lines, cut_at, line_of, wi
 use Rattle.sval_relay.specs.declared.relay.Way.{Way}
 use Rattle.sval_relay.specs.declared.relay.Way.TheVariants.{Direct}
 use Rattle.sval_relay.specs.Verdict.{Verdict, BadLine, BadCall, Unfinished, Key, Number, Text, json_verdict, IsOfCalls, bad_call, unfinished, whole, IsOfLines, verdict}
-use Rattle.sval_relay.specs.Serving.{WritesText, Grows, MayLeave}
+use Rattle.sval_relay.specs.declared.relay.RelayError.{RelayError}
+use Rattle.sval_relay.specs.declared.relay.RelayError.TheVariants.{NoMemory}
+use Rattle.sval_relay.specs.Serving.{WritesText, Grows, MayLeave, IsAnswerTo}
 use Rattle.sval_relay.proofs.OneVerdict.{one_of_lines}
 
 -- ---- the verdict of each answer
@@ -42,7 +47,7 @@ of_each script way found P v p answer w = subst P (one_of_lines (lines script) w
 
 -- ---- what is left of the sink
 
-nothing_more : (told : Option (List ℕ)) → told ≡ appended told []
+pub nothing_more : (told : Option (List ℕ)) → told ≡ appended told []
 nothing_more None = refl
 nothing_more (Some text) = ap Some (sym (append-nil text))
 
@@ -101,3 +106,44 @@ calls-short n (line ∷ next ∷ more) calls e =
 pub lines-short : (script : List ℕ) (calls : List Call) → lines script ≡ Good calls → length calls ≤ length script
 unfolding lines
 lines-short script calls e = omega (arith, calls-short 1 (cut_at 10 script) calls e, cut-short 10 script)
+
+-- ---- what each answer of the parts says of the script
+
+only_direct : (way : Way) → Direct ≡ way
+only_direct Direct = refl
+
+as_way : (way : Way) (P : Way → Type 0) → P Direct → P way
+as_way way P p = subst P (only_direct way) p
+
+pub first_bad : (script : List ℕ) (way : Way) (calls : List Call) (at : ℕ) → length script < 2 ^ 64 → lines script ≡ Good calls → IsFirstBad calls at → verdict script way (BadCall at)
+first_bad script way calls at small e bad =
+    let size : length calls ≡ length bad.front + (length bad.rest + 1) = ap length bad.whole ∙ length-append bad.front (bad.call ∷ bad.rest) ∙ omega arith in
+    let number : at ≡ length bad.front + 1 = omega (arith, bad.number, lines-short script calls e) in
+    verdict_of_calls script way calls (BadCall at) e (subst (λ n. IsOfCalls calls way (BadCall n)) (sym number) (bad_call bad.front bad.call bad.rest bad.whole bad.before bad.bad))
+
+pub not_finished : (script : List ℕ) (way : Way) (e : Emission) → lines script ≡ Good e.calls → IsUnfinished e → verdict script way Unfinished
+not_finished script way e is u = verdict_unfinished script way e.calls is u.viable u.no_tree
+
+pub one_text : {old new : Option (List ℕ)} (script : List ℕ) (way : Way) (e : Emission) → lines script ≡ Good e.calls → IsOneValue e → ((tree : Tree) → Spells e.calls tree → WritesTree tree old new)
+    → WritesText script way old new
+one_text {old} {new} script way e is one writes =
+    let (tree, spells) = one.spells in
+    let done = writes tree spells in
+    as_way way (λ w. WritesText script w old new) (record { text = compact done.json; is = verdict_text script e.calls tree done.json is spells done.shape; written = done.text })
+
+pub part_of_text : {old new : Option (List ℕ)} (script : List ℕ) (way : Way) (e : Emission) → lines script ≡ Good e.calls → IsOneValue e → AppendsPrefix old new (written e.calls).written
+    → ((tree : Tree) (json : Json) → Spells e.calls tree → json_of tree ≡ Ok json → AppendsPrefix old new (compact json)) → (answer : Verdict) → verdict script way answer → MayLeave answer old new
+part_of_text {old} {new} script way e is one prefix of_tree =
+    let (tree, spells) = one.spells in
+    of_each script way (json_verdict (json_of tree)) (λ answer. MayLeave answer old new) (as_way way (λ w. verdict script w (json_verdict (json_of tree))) (verdict_tree script e.calls tree is spells))
+    (leaves_tree tree (λ json f. of_tree tree json spells f) prefix)
+
+pub all_of_text : {script : List ℕ} {way : Way} {old new : Option (List ℕ)} → WritesText script way old new → (answer : Verdict) → verdict script way answer → MayLeave answer old new
+all_of_text {script} {way} {old} {new} w = of_each script way (Text w.text) (λ answer. MayLeave answer old new) w.is (whole_text w.text w.written)
+
+pub due : (script : List ℕ) (way : Way) (found : Verdict) (result : Result (Unit {0}) RelayError) → verdict script way found → IsAnswerTo found result
+    → (answer : Verdict) → verdict script way answer → IsAnswerTo answer result ⊎ (result ≡ Err NoMemory)
+due script way found result v p = of_each script way found (λ answer. IsAnswerTo answer result ⊎ (result ≡ Err NoMemory)) v (inl p)
+
+pub grown : {script : List ℕ} {way : Way} {old new : Option (List ℕ)} → WritesText script way old new → Grows old new
+grown w = (w.text, w.written)

@@ -2,4 +2,9 @@ pub mod Sources
 pub mod Reading
 pub mod Verdict
 pub mod Serving
+pub mod Running
+pub mod Failing
+pub mod LineCalls
+pub mod LineFields
+pub mod LineWords
 pub mod Laws

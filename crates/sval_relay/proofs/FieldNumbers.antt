@@ -1,0 +1,63 @@
+-- Decimals, as `parse` reads them.
+use Rattle.std.specs.Prelude.{◌≡◌, ℕ, ◌^◌, ◌<◌, nat_lt, true, List, [], ◌∷◌, length, Option, Some, None, option_and_then, Result, Ok, Err, refl}
+use Rattle.std.specs.List.{list_all}
+use Rattle.std.specs.Int.{is_in_range}
+use Rattle.std.specs.Char.{is_ascii_digit}
+use Rattle.std.specs.Str.{all_ascii_digits, IsUtf8}
+use Rattle.std.specs.Str.Parse.{digits_value, ParsesUnsigned}
+use Rattle.std.specs.Result.{OkIff, MatchResult, result_ok}
+use Rattle.std.specs.Borrow.{Bor}
+use Rattle.std.proofs.Common.{arith, ap, ◌∙◌, inl, inr}
+use Rattle.std.proofs.lemmas.Bool.{and_parts, lt-ltb, le-ltb, cases_lt}
+use Rattle.std.proofs.lemmas.Bool.Decides.{nat_tests}
+use Rattle.std.proofs.lemmas.Str.{IsUtf8-from_ascii}
+use Rattle.std.proofs.lemmas.Str.Parse.{IsNumeralModel, numerals_by_value, tells_all_ascii_digits, parse_digits}
+use Rattle.std.proofs.lemmas.Fmt.{IsAscii-from_digits}
+use Rattle.sval_label.specs.Texts.{is_decimal}
+use Rattle.sval_script.specs.Lines.{keep, natural}
+
+pub digits_are_all : (bytes : List ℕ) → list_all is_ascii_digit bytes ≡ all_ascii_digits bytes
+digits_are_all [] = refl
+digits_are_all (byte ∷ bytes) = rw (digits_are_all bytes) refl
+
+digit-above : (digit : ℕ) → is_in_range 49 57 digit ≡ true → is_ascii_digit digit ≡ true
+digit-above digit h = grind (arith, nat_tests)
+
+-- a decimal is digits, and at least one
+pub decimal-digits : (field : List ℕ) → is_decimal field ≡ true → (all_ascii_digits field ≡ true) × (0 < length field)
+decimal-digits [] h = cc h
+decimal-digits (digit ∷ []) h = (rw h refl, omega arith)
+decimal-digits (digit ∷ next ∷ digits) h =
+    let (a, b) = and_parts (is_in_range 49 57 digit) (all_ascii_digits (next ∷ digits)) h in
+    (rw (digit-above digit a) b, omega arith)
+
+own : IsNumeralModel (λ ds. all_ascii_digits ds ≡ true) (digits_value 10)
+own = numerals_by_value (λ ds. all_ascii_digits ds ≡ true) tells_all_ascii_digits
+
+pub decimal_is_utf8 : (field : List ℕ) → is_decimal field ≡ true → IsUtf8 field
+decimal_is_utf8 field h = IsUtf8-from_ascii field (IsAscii-from_digits field (own.to field (decimal-digits field h).0))
+
+-- the number, if it fits 64 bits
+abbrev pub natural_64 : List ℕ → Option ℕ
+natural_64 field = option_and_then (keep (λ n. nat_lt n (2 ^ 64))) (natural field)
+
+pub parsed : {E : Type 0} (field : List ℕ) (r : Result ℕ E) → is_decimal field ≡ true → ParsesUnsigned 64 10 field r → result_ok r ≡ natural_64 field
+parsed field r h p =
+    let (digits, some) = decimal-digits field h in
+    rw h (by_size r (parse_digits own 64 field r p digits))
+  where
+    by_size : {E : Type 0} (r : Result ℕ E) → OkIff r ((0 < length field) × (digits_value 10 field < 2 ^ 64)) (digits_value 10 field)
+        → result_ok r ≡ keep (λ n. nat_lt n (2 ^ 64)) (digits_value 10 field)
+    by_size (Ok n) (fits, is) = rw (lt-ltb (digits_value 10 field) (2 ^ 64) fits.1) (ap Some is)
+    by_size (Err e) never = elim (cases_lt (digits_value 10 field) (2 ^ 64)) [ inl fits ↦ absurd (never ((decimal-digits field h).1, fits)) | inr above ↦ rw (le-ltb (digits_value 10 field) (2 ^ 64) above) refl ]
+
+-- what `from_utf8` answered, as an option
+pub utf8_read : {E : Type 0} (Q : Type 0) (P : E → Type 0) (field : List ℕ) (r : Result (Bor (List ℕ)) E) → IsUtf8 field → None ≡ result_ok r
+    → MatchResult r (λ s. (s.now ≡ field) × Q) (λ e. (IsUtf8 field → ⊥) × P e) → ⊥
+utf8_read Q P field (Ok s) text none cases = cc none
+utf8_read Q P field (Err e) text none cases = cases.0 text
+
+pub utf8_text : {E : Type 0} (Q : Type 0) (P : E → Type 0) (field : List ℕ) (read : Bor (List ℕ)) (r : Result (Bor (List ℕ)) E) → Some read ≡ result_ok r
+    → MatchResult r (λ s. (s.now ≡ field) × Q) P → read.now ≡ field
+utf8_text Q P field read (Ok s) some cases = let same : read ≡ s = cc some in ap (λ (t : Bor (List ℕ)). t.now) same ∙ cases.0
+utf8_text Q P field read (Err e) some cases = cc some
