@@ -6,7 +6,8 @@ use Rattle.std.proofs.lemmas.Bool.{and_parts}
 use Rattle.std.proofs.lemmas.Bool.Decides.{nat_tests}
 use Rattle.std.proofs.lemmas.List.{take-append-drop, length-append, take-append-le, take_rest, drop_more, take_all, nil_from_length}
 use Rattle.std.proofs.lemmas.List.Sums.{list_all-from_AllPass}
-use Rattle.std.proofs.Math.Seq.{take-append-add}
+use Rattle.std.proofs.lemmas.List.Elements.{All-append}
+use Rattle.std.proofs.Math.Seq.{take-append-add, take-add}
 use Rattle.sval_json.specs.Escape.{short_escape, escape_text, escape, escaped, is_escaped, is_plain}
 use Rattle.sval_json.specs.Sinks.{appended, AppendsPrefix}
 use Rattle.sval_json.proofs.Pieces.{appended-appended, appended-nothing}
@@ -32,6 +33,13 @@ all_plain (x ∷ xs) h =
 
 pub escaped-plain : (xs : List ℕ) → AllPass is_plain xs → escaped xs ≡ xs
 escaped-plain xs h = all_plain xs (list_all-from_AllPass is_plain xs h)
+
+-- what is plain in two parts is plain
+pub plain_joins : (bytes rest : List ℕ) (start n : ℕ) → rest ≡ drop start bytes → AllPass is_plain (take start bytes) → AllPass is_plain (take n rest) → AllPass is_plain (take (start + n) bytes)
+plain_joins bytes rest start n e p q =
+    let both : AllPass is_plain (take start bytes ++ take n rest) = All-append (λ x. is_plain x ≡ true) (take start bytes) (take n rest) p q in
+    let whole : take start bytes ++ take n rest ≡ take (start + n) bytes = ap (λ r. take start bytes ++ take n r) e ∙ sym (take-add start n bytes) in
+    subst (AllPass is_plain) whole both
 
 -- a prefix of what comes after some bytes, with these bytes, is a prefix of the whole
 pub prefix_within : {old mid new : Option (List ℕ)} {whole : List ℕ} (xs ys zs : List ℕ) → mid ≡ appended old xs → whole ≡ xs ++ (ys ++ zs) → AppendsPrefix mid new ys → AppendsPrefix old new whole

@@ -1,6 +1,6 @@
 //! How a text stands between quotes (RFC 8259, section 7).
 
-ghost use Rattle.std.specs.Prelude.{◌≡◌, ℕ, ◌<◌, ◌≤◌, true, IsTrue, OnOk, OnErr, length, slice_index, take};
+ghost use Rattle.std.specs.Prelude.{◌≡◌, ℕ, ◌<◌, ◌≤◌, true, false, IsTrue, OnOk, OnErr, length, slice_index, take};
 ghost use Rattle.std.specs.Char.{digit_char};
 ghost use Rattle.std.specs.List.{AllPass};
 ghost use Rattle.sval_core.specs.Law.{Rose};
@@ -16,8 +16,22 @@ fn needs_escape(byte: u8) -> bool
     byte < b' ' || byte == b'"' || byte == b'\\'
 }
 
-/// The place of the first byte that is escaped, or the length where there is none.
-fn first_escape(bytes: &[u8]) -> usize
+/// How many bytes are tested together.
+const BLOCK: usize = 32;
+
+/// Whether a byte of the block is escaped. Each byte is looked at, so many are tested at once.
+fn any_escape(block: &[u8; BLOCK]) -> bool
+    ensures plain { result ≡ false → AllPass is_plain block.now }
+{
+    let mut found = false;
+    for byte in block {
+        found |= needs_escape(*byte);
+    }
+    found
+}
+
+/// How many bytes come before the first that is escaped, looked at one by one.
+fn plain_bytes(bytes: &[u8]) -> usize
     ensures within { result ≤ length bytes.now }
     ensures plain { AllPass is_plain (take result bytes.now) }
     ensures found { result < length bytes.now → is_escaped (slice_index bytes.now result) ≡ true }
@@ -26,6 +40,24 @@ fn first_escape(bytes: &[u8]) -> usize
         .iter()
         .position(|byte| needs_escape(*byte))
         .unwrap_or(bytes.len())
+}
+
+/// The place of the first byte that is escaped, or the length where there is none: block by block, and then byte by byte.
+fn first_escape(bytes: &[u8]) -> usize
+    ensures within { result ≤ length bytes.now }
+    ensures plain { AllPass is_plain (take result bytes.now) }
+    ensures found { result < length bytes.now → is_escaped (slice_index bytes.now result) ≡ true }
+{
+    let mut start = 0;
+    let mut rest = bytes;
+    while let Some((block, after)) = rest.split_first_chunk::<BLOCK>() {
+        if any_escape(block) {
+            break;
+        }
+        start += BLOCK;
+        rest = after;
+    }
+    start + plain_bytes(rest)
 }
 
 /// A hex digit in lower case.
