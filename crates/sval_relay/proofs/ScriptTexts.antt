@@ -42,3 +42,8 @@ calls-more texts text (first ∷ lines) line h e =
     let n = text_len first in
     let within : n ≤ length texts = h.0 in
     rw (take-append-le n texts text within, drop-append-le n texts text within) (ap (λ calls. call_with (take n texts) first ∷ calls) (calls-more (drop n texts) text lines line h.2 e))
+
+-- each line has one call
+pub calls_of-length : (texts : List ℕ) (lines : List Line) → length (calls_of texts lines) ≡ length lines
+calls_of-length texts [] = refl
+calls_of-length texts (line ∷ lines) = let rest = calls_of-length (drop (text_len line) texts) lines in omega arith

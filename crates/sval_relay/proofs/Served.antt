@@ -20,6 +20,10 @@ use Rattle.sval_relay.specs.declared.relay.Way.TheVariants.{Direct}
 use Rattle.sval_relay.specs.Verdict.{Verdict, BadLine, BadCall, Unfinished, Key, Number, Text, json_verdict, IsOfCalls, bad_call, unfinished, whole, IsOfLines, verdict}
 use Rattle.sval_relay.specs.declared.relay.RelayError.{RelayError}
 use Rattle.sval_relay.specs.declared.relay.RelayError.TheVariants.{NoMemory}
+use Rattle.sval_relay.specs.declared.relay.RelayError.TheVariants as answer
+use Rattle.sval_relay.specs.declared.script.ScriptError.{ScriptError}
+use Rattle.sval_relay.specs.declared.script.ScriptError.TheVariants as reading
+use Rattle.sval_relay.specs.Answers.{AnswersScript, of_script}
 use Rattle.sval_relay.specs.Serving.{WritesText, Grows, MayLeave, IsAnswerTo}
 use Rattle.sval_relay.proofs.OneVerdict.{one_of_lines}
 
@@ -78,35 +82,6 @@ leaves_tree {old} {new} {bytes} tree f p = by_shape (json_of tree) refl
 pub whole_text : {old new : Option (List ℕ)} (bytes : List ℕ) → new ≡ appended old bytes → AppendsPrefix old new bytes
 whole_text {old} bytes e = record { count = length bytes; within = omega arith; text = e ∙ ap (appended old) (sym (take_all (length bytes) bytes (omega arith))) }
 
--- ---- a script has at most as many calls as bytes
-
-cut-short : (byte : ℕ) (bytes : List ℕ) → length (cut_at byte bytes) ≤ length bytes + 1
-cut-short byte [] = omega arith
-cut-short byte (x ∷ xs) = by_test (x == byte) (cut_at byte xs) (cut-short byte xs)
-  where
-    by_test : (b : Bool) (parts : List (List ℕ)) → length parts ≤ length xs + 1 → length (cond b ([] ∷ parts) (onto_first x parts)) ≤ length (x ∷ xs) + 1
-    by_test true parts h = omega arith
-    by_test false [] h = omega arith
-    by_test false (part ∷ parts) h = omega arith
-
-fewer : (n : ℕ) (o : Option Call) (after : Lines) (calls : List Call) → with_call n o after ≡ Good calls → (rest : List Call) × (after ≡ Good rest) × (length calls ≡ length rest + 1)
-fewer n None after calls e = cc e
-fewer n (Some call) (Bad m) calls e = cc e
-fewer n (Some call) (Good rest) calls e = let same : calls ≡ call ∷ rest = cc in (rest, refl, ap length same ∙ omega arith)
-
-calls-short : (n : ℕ) (parts : List (List ℕ)) (calls : List Call) → lines_from n parts ≡ Good calls → length calls ≤ length parts - 1
-calls-short n [] calls e = let same : calls ≡ [] = cc in rw same (omega arith)
-calls-short n ([] ∷ []) calls e = let same : calls ≡ [] = cc in rw same (omega arith)
-calls-short n ((byte ∷ rest) ∷ []) calls e = cc e
-calls-short n (line ∷ next ∷ more) calls e =
-    let f = fewer n (line_of line) (lines_from (n + 1) (next ∷ more)) calls e in
-    let g = calls-short (n + 1) (next ∷ more) f.0 f.1 in
-    omega (arith, f.2, g)
-
-pub lines-short : (script : List ℕ) (calls : List Call) → lines script ≡ Good calls → length calls ≤ length script
-unfolding lines
-lines-short script calls e = omega (arith, calls-short 1 (cut_at 10 script) calls e, cut-short 10 script)
-
 -- ---- what each answer of the parts says of the script
 
 only_direct : (way : Way) → Direct ≡ way
@@ -115,10 +90,10 @@ only_direct Direct = refl
 as_way : (way : Way) (P : Way → Type 0) → P Direct → P way
 as_way way P p = subst P (only_direct way) p
 
-pub first_bad : (script : List ℕ) (way : Way) (calls : List Call) (at : ℕ) → length script < 2 ^ 64 → lines script ≡ Good calls → IsFirstBad calls at → verdict script way (BadCall at)
+pub first_bad : (script : List ℕ) (way : Way) (calls : List Call) (at : ℕ) → length calls < 2 ^ 64 → lines script ≡ Good calls → IsFirstBad calls at → verdict script way (BadCall at)
 first_bad script way calls at small e bad =
     let size : length calls ≡ length bad.front + (length bad.rest + 1) = ap length bad.whole ∙ length-append bad.front (bad.call ∷ bad.rest) ∙ omega arith in
-    let number : at ≡ length bad.front + 1 = omega (arith, bad.number, lines-short script calls e) in
+    let number : at ≡ length bad.front + 1 = omega (arith, bad.number) in
     verdict_of_calls script way calls (BadCall at) e (subst (λ n. IsOfCalls calls way (BadCall n)) (sym number) (bad_call bad.front bad.call bad.rest bad.whole bad.before bad.bad))
 
 pub not_finished : (script : List ℕ) (way : Way) (e : Emission) → lines script ≡ Good e.calls → IsUnfinished e → verdict script way Unfinished
@@ -147,3 +122,90 @@ due script way found result v p = of_each script way found (λ answer. IsAnswerT
 
 pub grown : {script : List ℕ} {way : Way} {old new : Option (List ℕ)} → WritesText script way old new → Grows old new
 grown w = (w.text, w.written)
+
+-- ---- the ways out of serving a script
+
+pub answers_bad_line : (script : List ℕ) (way : Way) (write_fault : Type 0) (told : Option (List ℕ)) (n : ℕ) → verdict script way (BadLine n) → AnswersScript script way write_fault told told (Err (answer.BadLine n))
+answers_bad_line script way write_fault told n v = record {
+  done = λ f. cc f;
+  bad_line = λ m f. let same : n ≡ m = cc f in subst (λ k. verdict script way (BadLine k)) same v;
+  bad_call = λ m f. cc f;
+  unfinished = λ f. cc f;
+  write = λ f. cc f;
+  comes = λ a is quiet. due script way (BadLine n) _ v refl a is;
+  leaves = λ a is. leaves_all a told;
+  grows = ([], nothing_more told);
+}
+
+pub answers_bad_call : (script : List ℕ) (way : Way) (write_fault : Type 0) (told : Option (List ℕ)) (n : ℕ) → verdict script way (BadCall n) → AnswersScript script way write_fault told told (Err (answer.BadCall n))
+answers_bad_call script way write_fault told n v = record {
+  done = λ f. cc f;
+  bad_line = λ m f. cc f;
+  bad_call = λ m f. let same : n ≡ m = cc f in subst (λ k. verdict script way (BadCall k)) same v;
+  unfinished = λ f. cc f;
+  write = λ f. cc f;
+  comes = λ a is quiet. due script way (BadCall n) _ v refl a is;
+  leaves = λ a is. leaves_all a told;
+  grows = ([], nothing_more told);
+}
+
+pub answers_unfinished : (script : List ℕ) (way : Way) (write_fault : Type 0) (told : Option (List ℕ)) → verdict script way Unfinished → AnswersScript script way write_fault told told (Err answer.Unfinished)
+answers_unfinished script way write_fault told v = record {
+  done = λ f. cc f;
+  bad_line = λ m f. cc f;
+  bad_call = λ m f. cc f;
+  unfinished = λ f. v;
+  write = λ f. cc f;
+  comes = λ a is quiet. due script way Unfinished _ v refl a is;
+  leaves = λ a is. leaves_all a told;
+  grows = ([], nothing_more told);
+}
+
+pub answers_no_memory : (script : List ℕ) (way : Way) (write_fault : Type 0) (told : Option (List ℕ)) → AnswersScript script way write_fault told told (Err answer.NoMemory)
+answers_no_memory script way write_fault told = record {
+  done = λ f. cc f;
+  bad_line = λ m f. cc f;
+  bad_call = λ m f. cc f;
+  unfinished = λ f. cc f;
+  write = λ f. cc f;
+  comes = λ a is quiet. inr refl;
+  leaves = λ a is. leaves_all a told;
+  grows = ([], nothing_more told);
+}
+
+pub answers_text : {script : List ℕ} {way : Way} (write_fault : Type 0) {old new : Option (List ℕ)} → WritesText script way old new → AnswersScript script way write_fault old new (Ok tt)
+answers_text {script} {way} write_fault w = record {
+  done = λ f. w;
+  bad_line = λ m f. cc f;
+  bad_call = λ m f. cc f;
+  unfinished = λ f. cc f;
+  write = λ f. cc f;
+  comes = λ a is quiet. due script way (Text w.text) _ w.is refl a is;
+  leaves = all_of_text w;
+  grows = (w.text, w.written);
+}
+
+-- the sink took a prefix and then refused
+pub answers_partly : (script : List ℕ) (way : Way) (write_fault : Type 0) (old new : Option (List ℕ)) (e : RelayError) → (e ≡ answer.Write) ⊎ (e ≡ NoMemory)
+    → (◌≡◌ {A = Result (Unit {0}) RelayError} (Err e) (Err answer.Write) → write_fault) → ((a : Verdict) → verdict script way a → MayLeave a old new) → Grows old new
+    → AnswersScript script way write_fault old new (Err e)
+answers_partly script way write_fault old new e only write leaves grows = record {
+  done = λ f. cc f;
+  bad_line = λ m f. by_only only (λ w. let g = f in cc (g, w)) (λ w. let g = f in cc (g, w));
+  bad_call = λ m f. by_only only (λ w. let g = f in cc (g, w)) (λ w. let g = f in cc (g, w));
+  unfinished = λ f. by_only only (λ w. let g = f in cc (g, w)) (λ w. let g = f in cc (g, w));
+  write = write;
+  comes = λ a is quiet. by_only only (λ w. absurd (quiet (write (ap Err w)))) (λ w. inr (ap Err w));
+  leaves = leaves;
+  grows = grows;
+}
+  where
+    by_only : {A : Type 0} → (e ≡ answer.Write) ⊎ (e ≡ NoMemory) → (e ≡ answer.Write → A) → (e ≡ NoMemory → A) → A
+    by_only (inl w) f g = f w
+    by_only (inr w) f g = g w
+
+-- the same for a script that is read first: the record's facts are clauses
+pub of_reading : (e : ScriptError) (script : List ℕ) (way : Way) (write_fault : Type 0) (told : Option (List ℕ)) → ((n : ℕ) → ◌≡◌ {A = Result (List Call) ScriptError} (Err e) (Err (reading.BadLine n)) → lines script ≡ Bad n)
+    → AnswersScript script way write_fault told told (Err (of_script e))
+of_reading (reading.BadLine n) script way write_fault told bad = answers_bad_line script way write_fault told n (verdict_bad_line script way n (bad n refl))
+of_reading reading.NoMemory script way write_fault told bad = answers_no_memory script way write_fault told

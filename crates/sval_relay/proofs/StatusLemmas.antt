@@ -11,6 +11,7 @@ use Rattle.sval_relay.specs.declared.relay.RelayError.TheVariants.{Write}
 use Rattle.sval_relay.specs.declared.relay.RelayError.TheVariants as relaying
 use Rattle.sval_relay.specs.Verdict.{Verdict, BadLine, BadCall, Unfinished, Key, Number, Text, verdict}
 use Rattle.sval_relay.specs.Serving.{WritesText, Grows, MayLeave, IsAnswerTo}
+use Rattle.sval_relay.specs.Answers.{AnswersScript}
 use Rattle.sval_relay.specs.Reading.{IsWhole, IsLong}
 use Rattle.sval_relay.specs.Running.{OnScript, IsShort, is_status, is_read, IsStatusOf, Serves}
 use Rattle.sval_relay.specs.Failing.{status_of_failure, of_reading, of_relaying, of_sink}
@@ -212,27 +213,20 @@ answered_or : (answer : Verdict) (e : RelayError) → IsAnswerTo answer (Err e) 
 answered_or answer e (inl h) = inl (answered answer e h)
 answered_or answer e (inr h) = inr (ap status_at (same_error e relaying.NoMemory h))
 
-pub relay_failed : (script : List ℕ) (way : Way) (write_fault : Type 0) (old new : Option (List ℕ)) (e : RelayError)
-    → ((n : ℕ) → ◌≡◌ {A = Result (Unit {0}) RelayError} (Err e) (Err (relaying.BadLine n)) → verdict script way (BadLine n))
-    → ((n : ℕ) → ◌≡◌ {A = Result (Unit {0}) RelayError} (Err e) (Err (relaying.BadCall n)) → verdict script way (BadCall n))
-    → (◌≡◌ {A = Result (Unit {0}) RelayError} (Err e) (Err relaying.Unfinished) → verdict script way Unfinished)
-    → (◌≡◌ {A = Result (Unit {0}) RelayError} (Err e) (Err Write) → write_fault)
-    → ((answer : Verdict) → verdict script way answer → (write_fault → ⊥) → IsAnswerTo answer (Err e) ⊎ (◌≡◌ {A = Result (Unit {0}) RelayError} (Err e) (Err relaying.NoMemory)))
-    → ((answer : Verdict) → verdict script way answer → MayLeave answer old new) → Grows old new
-    → IsServed script way write_fault old new (status_of_failure (of_relaying e))
-relay_failed script way write_fault old new e bad_line bad_call unfinished write comes leaves grows = record {
+pub answer_failed : (script : List ℕ) (way : Way) (write_fault : Type 0) (old new : Option (List ℕ)) (e : RelayError) → AnswersScript script way write_fault old new (Err e) → IsServed script way write_fault old new (status_of_failure (of_relaying e))
+answer_failed script way write_fault old new e a = record {
   known = is_known e;
   not2 = (never_at e).1;
   not9 = (never_at e).2;
   not11 = (never_at e).3;
   done = λ h. absurd ((never_at e).0 h);
-  bad_line = λ h. let a = at_3 e h in (a.0, bad_line a.0 (ap Err a.1));
-  bad_call = λ h. let a = at_4 e h in (a.0, bad_call a.0 (ap Err a.1));
-  unfinished = λ h. unfinished (ap Err (at_5 e h));
-  write = λ h. write (ap Err (at_8 e h));
-  comes = λ quiet answer v. answered_or answer e (comes answer v quiet);
-  leaves = leaves;
-  grows = grows;
+  bad_line = λ h. let f = at_3 e h in (f.0, a.bad_line f.0 (ap Err f.1));
+  bad_call = λ h. let f = at_4 e h in (f.0, a.bad_call f.0 (ap Err f.1));
+  unfinished = λ h. a.unfinished (ap Err (at_5 e h));
+  write = λ h. a.write (ap Err (at_8 e h));
+  comes = λ quiet due v. answered_or due e (a.comes due v quiet);
+  leaves = a.leaves;
+  grows = a.grows;
 }
 
 -- ---- the text was written

@@ -2,6 +2,7 @@ pub mod Sources
 pub mod Reading
 pub mod Verdict
 pub mod Serving
+pub mod Answers
 pub mod Running
 pub mod Failing
 pub mod LineCalls

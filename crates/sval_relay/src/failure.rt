@@ -1,10 +1,12 @@
 //! Why the program failed.
 
 ghost use Rattle.std.specs.Prelude.{◌≡◌};
+ghost use Rattle.sval_relay.specs.Answers.{of_script};
 ghost use Rattle.sval_relay.specs.Failing.{status_of_failure, of_reading, of_relaying, of_sink};
 
 use crate::reading::ReadError;
 use crate::relay::RelayError;
+use crate::script::ScriptError;
 use itoa::Buffer;
 use sval_json::{Sink, SinkError, write_all};
 
@@ -38,6 +40,14 @@ impl From<ReadError> for Failure {
             ReadError::TooLong => Failure::TooLong,
             ReadError::NoMemory => Failure::NoMemory,
         }
+    }
+}
+
+impl From<ScriptError> for Failure {
+    ghost from_gives = { λ error failure. failure ≡ of_relaying (of_script error) };
+
+    fn from(error: ScriptError) -> Failure {
+        Failure::from(RelayError::from(error))
     }
 }
 

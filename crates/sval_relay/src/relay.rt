@@ -1,14 +1,24 @@
 //! A script's JSON.
 
-ghost use Rattle.std.specs.Prelude.{◌≡◌, ℕ, ◌⊎◌, true, IfErr, OnOk};
+ghost use Rattle.std.specs.Prelude.{◌≡◌, ℕ, ◌<◌, ◌^◌, ◌⊎◌, true, false, List, length, IfErr, OnOk, OnErr};
 ghost use Rattle.sval_core.specs.Law.{Rose};
+ghost use Rattle.sval_core.specs.Spells.{Spells};
+ghost use Rattle.sval_core.specs.Trees.{Tree};
+ghost use Rattle.sval_json.specs.Json.{Json, compact};
+ghost use Rattle.sval_json.specs.Shape.{json_of};
+ghost use Rattle.sval_json.specs.Sinks.{AppendsPrefix};
+ghost use Rattle.sval_json.specs.Steps.{written};
+ghost use Rattle.sval_json.specs.Targets.{WritesTree};
+ghost use Rattle.sval_script.specs.Lines.{lines, Good};
+ghost use Rattle.sval_relay.specs.Answers.{AnswersScript};
+ghost use Rattle.sval_relay.specs.Serving.{WritesText, Grows, MayLeave, IsAnswerTo, is_of_script};
 ghost use Rattle.sval_relay.specs.Verdict.{Verdict, verdict};
 ghost use Rattle.sval_relay.specs.Verdict as found;
-ghost use Rattle.sval_relay.specs.Serving.{WritesText, Grows, MayLeave, IsAnswerTo, is_of_script};
 
 use crate::script::{Script, ScriptError};
 use std::alloc::Global;
 use sval_check::{CheckError, check};
+use sval_core::{Lent, Value};
 use sval_json::{ErrorKind, Sink, stream_to_io_write};
 
 /// The ways to serve a script.
@@ -39,6 +49,19 @@ pub enum RelayError {
     NoMemory,
 }
 
+impl From<ScriptError> for RelayError {
+    ghost use Rattle.sval_relay.specs.Answers.{of_script};
+
+    ghost from_gives = { λ error answer. answer ≡ of_script error };
+
+    fn from(error: ScriptError) -> RelayError {
+        match error {
+            ScriptError::BadLine { line } => RelayError::BadLine { line },
+            ScriptError::NoMemory => RelayError::NoMemory,
+        }
+    }
+}
+
 /// Serves one script that stands in memory: reads its lines, checks their calls, and writes the JSON of the one value that
 /// they spell.
 ///
@@ -66,25 +89,55 @@ pub fn relay<K: Sink>(alloc: Global, script: &[u8], way: Way, out: &mut K) -> Re
     ensures leaves { (answer : Verdict) → verdict script.now way answer → MayLeave answer (K.text out.old) (K.text out.new) }
     ensures grows { Grows (K.text out.old) (K.text out.new) }
 {
-    let script = match Script::read(alloc, script) {
-        Ok(script) => script,
-        Err(ScriptError::BadLine { line }) => return Err(RelayError::BadLine { line }),
-        Err(ScriptError::NoMemory) => return Err(RelayError::NoMemory),
-    };
-    match check(alloc, &script) {
+    let script = Script::read(alloc, script)?;
+    serve_script(alloc, &script, way, out)?;
+    Ok(())
+}
+
+/// Serves a script that was read. The clauses hold of all bytes whose lines are its calls.
+pub(crate) fn serve_script<K: Sink>(
+    alloc: Global,
+    script: &Script,
+    way: Way,
+    out: &mut K,
+) -> Result<(), RelayError>
+    requires few { length script.now < 2 ^ 64 }
+    ensures serves { (bytes : List ℕ) → lines bytes ≡ Good script.now → AnswersScript bytes way (Rose (K.faults out.old) (K.faults out.new)) (K.text out.old) (K.text out.new) result }
+    ensures steady { OnOk result (K.faults out.new ≡ K.faults out.old) }
+    ensures untouched { IfErr result (λ error. is_of_script error ≡ true → out.new ≡ out.old) }
+{
+    match check(alloc, script) {
         Ok(()) => {}
         Err(CheckError::BadCall { at }) => return Err(RelayError::BadCall { line: at }),
         Err(CheckError::Unfinished) => return Err(RelayError::Unfinished),
         Err(CheckError::NoMemory) => return Err(RelayError::NoMemory),
         Err(CheckError::Refused) => unreachable!("a script doesn't refuse"),
     }
-    let Way::Direct = way;
-    match stream_to_io_write(out, &script) {
+    match way {
+        Way::Direct => write_json(out, script)?,
+    }
+    Ok(())
+}
+
+/// Writes the JSON of a value that doesn't refuse.
+fn write_json<'v, K: Sink, V: Value<'v, Lent<'v>>>(
+    out: &mut K,
+    value: &'v V,
+) -> Result<(), RelayError>
+    requires { (V.emission value.now).refuses ≡ false }
+    ensures tree { OnOk result ((tree : Tree) → Spells (V.emission value.now).calls tree → WritesTree tree (K.text out.old) (K.text out.new)) }
+    ensures steady { OnOk result (K.faults out.new ≡ K.faults out.old) }
+    ensures write { result ≡ Err RelayError.Write → Rose (K.faults out.old) (K.faults out.new) }
+    ensures only { IfErr result (λ error. (error ≡ RelayError.Write) ⊎ (error ≡ RelayError.NoMemory)) }
+    ensures prefix { OnErr result (AppendsPrefix (K.text out.old) (K.text out.new) (written (V.emission value.now).calls).written) }
+    ensures tree_prefix { OnErr result ((tree : Tree) (json : Json) → Spells (V.emission value.now).calls tree → json_of tree ≡ Ok json → AppendsPrefix (K.text out.old) (K.text out.new) (compact json)) }
+{
+    match stream_to_io_write(out, value) {
         Ok(()) => Ok(()),
         Err(error) => match error.kind() {
             ErrorKind::IO => Err(RelayError::Write),
             ErrorKind::NoMemory => Err(RelayError::NoMemory),
-            ErrorKind::Generic => unreachable!("a script doesn't refuse"),
+            ErrorKind::Generic => unreachable!("the value doesn't refuse"),
         },
     }
 }

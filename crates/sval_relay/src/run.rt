@@ -9,7 +9,8 @@ ghost use Rattle.sval_relay.specs.Verdict.{Verdict, verdict, BadLine, BadCall, U
 
 use crate::failure::Failure;
 use crate::reading::read_all;
-use crate::relay::{Way, relay};
+use crate::relay::{Way, serve_script};
+use crate::script::Script;
 use crate::source::Source;
 use std::alloc::Global;
 use sval_json::Sink;
@@ -39,8 +40,11 @@ fn serve<I: Source, K: Sink>(
     let Some(way) = way(words) else {
         return Err(Failure::Usage);
     };
-    let script = read_all(alloc, input)?;
-    relay(alloc, script.as_slice(), way, out)?;
+    let bytes = read_all(alloc, input)?;
+    let script = Script::read(alloc, bytes.as_slice())?;
+    // The script keeps its texts, so the input's memory is free from here on.
+    drop(bytes);
+    serve_script(alloc, &script, way, out)?;
     out.flush()?;
     Ok(())
 }

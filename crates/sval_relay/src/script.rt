@@ -1,6 +1,6 @@
 //! Scripts of calls.
 
-ghost use Rattle.std.specs.Prelude.{◌≡◌, ℕ, false, IfOk};
+ghost use Rattle.std.specs.Prelude.{◌≡◌, ℕ, ◌<◌, ◌^◌, false, IfOk, length};
 ghost use Rattle.sval_script.specs.Lines.{Good, Bad};
 ghost use Rattle.sval_script.specs.Lines as spec;
 ghost use Rattle.sval_relay.specs.declared.script.ScriptError.TheVariants as error;
@@ -55,6 +55,7 @@ impl Script {
     /// Reads a script whole.
     pub(crate) fn read(alloc: Global, bytes: &[u8]) -> Result<Script, ScriptError>
         ensures ok { IfOk result (λ script. spec.lines bytes.now ≡ Good script) }
+        ensures few { IfOk result (λ script. length script < 2 ^ 64) }
         ensures bad_line { (n : ℕ) → result ≡ Err (ScriptError.BadLine n) → spec.lines bytes.now ≡ Bad n }
     {
         let mut texts = Vec::new(alloc);

@@ -1,7 +1,7 @@
-use Rattle.std.proofs.Common.{◌≡◌, ◌+◌, ◌<◌, length, Err, ap, rules, arith}
+use Rattle.std.proofs.Common.{◌≡◌, ◌+◌, ◌<◌, length, Err, ap, rules, arith, string_bytes}
 use Rattle.std.proofs.lemmas.List.{take_rest}
 use Rattle.sval_relay.proofs.ScriptLines.{read-start, read-step, read-bad, read-cut}
-use Rattle.sval_relay.proofs.ScriptTexts.{holds_utf8}
+use Rattle.sval_relay.proofs.ScriptTexts.{holds_utf8, calls_of-length}
 use Rattle.sval_relay.proofs.script.Script.read.Goals as goal
 
 pub loop-end-init : goal.loop-end-init
@@ -27,3 +27,6 @@ returns-then-not-is_empty-clause-bad_line c n e =
 
 pub from_utf8_unchecked-texts-requires : goal.from_utf8_unchecked-texts-requires
 from_utf8_unchecked-texts-requires c = holds_utf8 _ _ c.loop-end.invariant.holds
+
+pub returns-clause-few : goal.returns-clause-few
+returns-clause-few c = let count = calls_of-length (string_bytes c.from_utf8_unchecked-texts.result) c.loop-end.lines.items in omega (arith, count, c.loop-end.lines.ok, c.loop-end.lines.small)

@@ -1,0 +1,27 @@
+use Rattle.std.proofs.Common.{refl, ap, Err, subst}
+use Rattle.std.proofs.lemmas.Result.{err_from_is_err_and}
+use Rattle.sval_relay.specs.Answers.{AnswersScript}
+use Rattle.sval_relay.specs.declared.relay.RelayError.TheVariants as answer
+use Rattle.sval_relay.proofs.Served.{first_bad, not_finished, one_text, part_of_text, grows_prefix, answers_bad_call, answers_unfinished, answers_text, answers_partly}
+use Rattle.sval_relay.proofs.relay.serve_script.Goals as goal
+
+pub returns-in-Err-BadCall-clause-serves : goal.returns-in-Err-BadCall-clause-serves
+returns-in-Err-BadCall-clause-serves g c = λ bytes is.
+    let bad = c.in-Err-BadCall.ensures.bad_call c.in-Err-BadCall.at (ap Err c.in-Err-BadCall.field-0-is) in
+    let found = first_bad bytes c.args.way c.args.script.now c.in-Err-BadCall.at c.requires.few is bad in
+    rw c.in-Err-BadCall.at-is (answers_bad_call bytes c.args.way _ _ c.in-Err-BadCall.at found)
+
+pub returns-in-Err-Unfinished-clause-serves : goal.returns-in-Err-Unfinished-clause-serves
+returns-in-Err-Unfinished-clause-serves g c = λ bytes is.
+    answers_unfinished bytes c.args.way _ _ (not_finished bytes c.args.way (record { calls = c.args.script.now; refuses = _ }) is (c.in-Err-Unfinished.ensures.unfinished (ap Err c.in-Err-Unfinished.field-0-is)))
+
+pub returns-in_err-write_json-clause-serves : goal.returns-in_err-write_json-clause-serves
+returns-in_err-write_json-clause-serves g c = λ bytes is.
+    let p = err_from_is_err_and c.from_residual.result c.from_residual.ensures.1 in
+    rw (p.1, p.2) (answers_partly bytes c.args.way _ _ _ c.in_err-write_json.field-0.0 c.in_err-write_json.ensures.only c.in_err-write_json.ensures.write
+    (part_of_text bytes c.args.way (record { calls = c.args.script.now; refuses = _ }) is c.in-Ok.ensures.ok c.in_err-write_json.ensures.prefix c.in_err-write_json.ensures.tree_prefix)
+    (grows_prefix c.in_err-write_json.ensures.prefix))
+
+pub returns-clause-serves : goal.returns-clause-serves
+returns-clause-serves g c = λ bytes is.
+    answers_text _ (one_text bytes c.args.way (record { calls = c.args.script.now; refuses = _ }) is c.in-Ok.ensures.ok c.in_ok-write_json.ensures.tree)
