@@ -9,3 +9,4 @@ pub mod ScriptStreams
 pub mod ScriptTexts
 pub mod Served
 pub mod StatusLemmas
+mod WorkedScripts

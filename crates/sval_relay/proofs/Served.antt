@@ -17,7 +17,7 @@ use Rattle.sval_json.specs.Targets.{WritesTree}
 use Rattle.sval_script.specs.Lines.{Lines, Good, Bad, lines, cut_at, line_of, with_call, at_end, lines_from}
 use Rattle.sval_relay.specs.declared.relay.Way.{Way}
 use Rattle.sval_relay.specs.declared.relay.Way.TheVariants.{Direct}
-use Rattle.sval_relay.specs.Verdict.{Verdict, BadLine, BadCall, Unfinished, Key, Number, Text, json_verdict, IsOfCalls, bad_call, unfinished, whole, IsOfLines, verdict}
+use Rattle.sval_relay.specs.Verdict.{Verdict, BadLine, BadCall, Unfinished, Key, Number, Text, json_verdict, tree_verdict, IsOfCalls, bad_call, unfinished, whole, IsOfLines, verdict}
 use Rattle.sval_relay.specs.declared.relay.RelayError.{RelayError}
 use Rattle.sval_relay.specs.declared.relay.RelayError.TheVariants.{NoMemory}
 use Rattle.sval_relay.specs.declared.relay.RelayError.TheVariants as answer
@@ -38,11 +38,15 @@ verdict_of_calls script way calls answer e v = subst (λ found. IsOfLines found 
 pub verdict_unfinished : (script : List ℕ) (way : Way) (calls : List Call) → lines script ≡ Good calls → IsViable calls → ((tree : Tree) → Spells calls tree → ⊥) → verdict script way Unfinished
 verdict_unfinished script way calls e viable none = verdict_of_calls script way calls Unfinished e (unfinished viable none)
 
-pub verdict_tree : (script : List ℕ) (calls : List Call) (tree : Tree) → lines script ≡ Good calls → Spells calls tree → verdict script Direct (json_verdict (json_of tree))
-verdict_tree script calls tree e spells = verdict_of_calls script Direct calls (json_verdict (json_of tree)) e (whole {way = Direct} tree spells)
+-- each way of JSON gives a tree's JSON
+any_way : (way : Way) (tree : Tree) → tree_verdict way tree ≡ json_verdict (json_of tree)
+any_way Direct tree = refl
 
-pub verdict_text : (script : List ℕ) (calls : List Call) (tree : Tree) (json : Json) → lines script ≡ Good calls → Spells calls tree → json_of tree ≡ Ok json → verdict script Direct (Text (compact json))
-verdict_text script calls tree json e spells is = subst (λ found. verdict script Direct (json_verdict found)) is (verdict_tree script calls tree e spells)
+pub verdict_tree : (script : List ℕ) (way : Way) (calls : List Call) (tree : Tree) → lines script ≡ Good calls → Spells calls tree → verdict script way (json_verdict (json_of tree))
+verdict_tree script way calls tree e spells = subst (verdict script way) (any_way way tree) (verdict_of_calls script way calls (tree_verdict way tree) e (whole {way = way} tree spells))
+
+pub verdict_text : (script : List ℕ) (way : Way) (calls : List Call) (tree : Tree) (json : Json) → lines script ≡ Good calls → Spells calls tree → json_of tree ≡ Ok json → verdict script way (Text (compact json))
+verdict_text script way calls tree json e spells is = subst (λ found. verdict script way (json_verdict found)) is (verdict_tree script way calls tree e spells)
 
 -- ---- what holds of the verdict found holds of each
 
@@ -84,12 +88,6 @@ whole_text {old} bytes e = record { count = length bytes; within = omega arith; 
 
 -- ---- what each answer of the parts says of the script
 
-only_direct : (way : Way) → Direct ≡ way
-only_direct Direct = refl
-
-as_way : (way : Way) (P : Way → Type 0) → P Direct → P way
-as_way way P p = subst P (only_direct way) p
-
 pub first_bad : (script : List ℕ) (way : Way) (calls : List Call) (at : ℕ) → length calls < 2 ^ 64 → lines script ≡ Good calls → IsFirstBad calls at → verdict script way (BadCall at)
 first_bad script way calls at small e bad =
     let size : length calls ≡ length bad.front + (length bad.rest + 1) = ap length bad.whole ∙ length-append bad.front (bad.call ∷ bad.rest) ∙ omega arith in
@@ -99,19 +97,15 @@ first_bad script way calls at small e bad =
 pub not_finished : (script : List ℕ) (way : Way) (e : Emission) → lines script ≡ Good e.calls → IsUnfinished e → verdict script way Unfinished
 not_finished script way e is u = verdict_unfinished script way e.calls is u.viable u.no_tree
 
-pub one_text : {old new : Option (List ℕ)} (script : List ℕ) (way : Way) (e : Emission) → lines script ≡ Good e.calls → IsOneValue e → ((tree : Tree) → Spells e.calls tree → WritesTree tree old new)
-    → WritesText script way old new
-one_text {old} {new} script way e is one writes =
-    let (tree, spells) = one.spells in
-    let done = writes tree spells in
-    as_way way (λ w. WritesText script w old new) (record { text = compact done.json; is = verdict_text script e.calls tree done.json is spells done.shape; written = done.text })
+-- the text of the tree was written
+pub one_text : {old new : Option (List ℕ)} (script : List ℕ) (way : Way) (calls : List Call) (tree : Tree) → lines script ≡ Good calls → Spells calls tree → WritesTree tree old new → WritesText script way old new
+one_text script way calls tree is spells done = record { text = compact done.json; is = verdict_text script way calls tree done.json is spells done.shape; written = done.text }
 
-pub part_of_text : {old new : Option (List ℕ)} (script : List ℕ) (way : Way) (e : Emission) → lines script ≡ Good e.calls → IsOneValue e → AppendsPrefix old new (written e.calls).written
-    → ((tree : Tree) (json : Json) → Spells e.calls tree → json_of tree ≡ Ok json → AppendsPrefix old new (compact json)) → (answer : Verdict) → verdict script way answer → MayLeave answer old new
-part_of_text {old} {new} script way e is one prefix of_tree =
-    let (tree, spells) = one.spells in
-    of_each script way (json_verdict (json_of tree)) (λ answer. MayLeave answer old new) (as_way way (λ w. verdict script w (json_verdict (json_of tree))) (verdict_tree script e.calls tree is spells))
-    (leaves_tree tree (λ json f. of_tree tree json spells f) prefix)
+-- a prefix of it was
+pub part_of_text : {old new : Option (List ℕ)} {bytes : List ℕ} (script : List ℕ) (way : Way) (calls : List Call) (tree : Tree) → lines script ≡ Good calls → Spells calls tree → AppendsPrefix old new bytes
+    → ((json : Json) → json_of tree ≡ Ok json → AppendsPrefix old new (compact json)) → (answer : Verdict) → verdict script way answer → MayLeave answer old new
+part_of_text {old} {new} script way calls tree is spells prefix of_tree =
+    of_each script way (json_verdict (json_of tree)) (λ answer. MayLeave answer old new) (verdict_tree script way calls tree is spells) (leaves_tree tree of_tree prefix)
 
 pub all_of_text : {script : List ℕ} {way : Way} {old new : Option (List ℕ)} → WritesText script way old new → (answer : Verdict) → verdict script way answer → MayLeave answer old new
 all_of_text {script} {way} {old} {new} w = of_each script way (Text w.text) (λ answer. MayLeave answer old new) w.is (whole_text w.text w.written)

@@ -25,6 +25,9 @@ const NO_WORDS: u8 = 17;
 /// The status where memory is wanting.
 const NO_MEMORY: u8 = 10;
 
+/// How many bytes of output are held back at most.
+const BUFFER: usize = 1 << 16;
+
 /// The status where the system gave an error before the program ran.
 fn status_of(error: &io::Error) -> u8 {
     match error.kind() {
@@ -41,7 +44,7 @@ fn try_main(rt: &HostRuntime) -> io::Result<u8> {
         words.push(word)?;
     }
     let mut input = RealSource::new(rt.stdin());
-    let mut out = RealSink::new(BufWriter::new(alloc, rt.stdout())?);
+    let mut out = RealSink::new(BufWriter::with_capacity(alloc, BUFFER, rt.stdout())?);
     let mut diag = RealSink::new(rt.stderr());
     Ok(run(alloc, words.as_slice(), &mut input, &mut out, &mut diag))
 }

@@ -1,0 +1,25 @@
+-- Scripts and the JSON that they give, as they compute.
+use Rattle.std.specs.Prelude.{◌≡◌, ℕ, ◌+◌, negsuc, List, [], ◌∷◌, ◌++◌, Some, None, codes, refl, true, false}
+use Rattle.std.specs.Str.{is_utf8, chars}
+use Rattle.std.specs.Char.{encode_utf8}
+use Rattle.std.specs.Fmt.{digits}
+use Rattle.hex.specs.Hex.{decode_pairs}
+use Rattle.sval_label.specs.Calls.{Call, Int, I64, TextBegin, TextFragment, TextEnd, Begin, End, PartBegin, PartEnd, Seq, Item}
+use Rattle.sval_json.specs.Steps.{written}
+use Rattle.sval_script.specs.Lines.{Good, lines, line_of, forms}
+
+sequence_calls : List Call
+sequence_calls = Begin Seq (Some 2) ∷ PartBegin Item ∷ Int I64 (negsuc 6) ∷ PartEnd Item
+    ∷ PartBegin Item ∷ TextBegin None ∷ TextFragment true (codes "a") ∷ TextFragment false (10 ∷ codes "b") ∷ TextEnd ∷ PartEnd Item ∷ End Seq ∷ []
+
+abbrev sequence_script : List ℕ
+sequence_script = codes "seq_begin 2\nseq_value_begin\ni64 -7\nseq_value_end\nseq_value_begin\ntext_begin -\ntext_fragment =61\ntext_fragment_computed =0a62\ntext_end\nseq_value_end\nseq_end\n"
+
+sequence_lines : lines sequence_script ≡ Good sequence_calls
+unfolding lines line_of forms decode_pairs is_utf8 chars encode_utf8 sequence_calls
+sequence_lines = refl
+
+-- the stored run of the program: its text is the one that the steps write
+sequence_text : (written sequence_calls).written ≡ codes "[-7,\"a\\nb\"]"
+unfolding sequence_calls digits
+sequence_text = refl
