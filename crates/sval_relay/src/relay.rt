@@ -88,3 +88,6 @@ pub fn relay<K: Sink>(alloc: Global, script: &[u8], way: Way, out: &mut K) -> Re
         },
     }
 }
+
+#[cfg(test)]
+mod tests;

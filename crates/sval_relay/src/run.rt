@@ -109,3 +109,6 @@ pub fn run<I: Source, K: Sink, D: Sink>(
         }
     }
 }
+
+#[cfg(test)]
+mod tests;
