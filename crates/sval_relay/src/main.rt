@@ -2,6 +2,8 @@
 #![tactic(auto)]
 
 mod failure;
+#[cfg(test)]
+mod fakes;
 mod field;
 pub mod laws;
 mod line;

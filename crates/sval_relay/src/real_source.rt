@@ -61,3 +61,6 @@ impl<R: Read> Source for RealSource<R> {
         Err(self.fault())
     }
 }
+
+#[cfg(test)]
+mod tests;

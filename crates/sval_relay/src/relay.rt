@@ -141,3 +141,6 @@ fn write_json<'v, K: Sink, V: Value<'v, Lent<'v>>>(
         },
     }
 }
+
+#[cfg(test)]
+mod tests;

@@ -113,3 +113,6 @@ pub fn run<I: Source, K: Sink, D: Sink>(
         }
     }
 }
+
+#[cfg(test)]
+mod tests;

@@ -68,3 +68,6 @@ impl<'a> Source for MemSource<'a> {
         Ok(count)
     }
 }
+
+#[cfg(test)]
+mod tests;

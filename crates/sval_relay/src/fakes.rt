@@ -1,0 +1,136 @@
+//! Devices for tests, which give and take little at a time, and fail where they are told to.
+
+ghost use Rattle.std.specs.Prelude.{◌≡◌, ◌+◌, ◌-◌, ◌^◌, None, Some, min};
+
+use crate::source::{Source, SourceError};
+use std::alloc::Global;
+use sval_json::{Sink, SinkError};
+
+/// Gives these bytes, at most `chunk` a call, and fails at one call, counted from 1.
+#[derive(Drop)]
+pub(crate) struct FaultySource<'a> {
+    bytes: &'a [u8],
+    chunk: usize,
+    failing: u64,
+    /// How many calls there were.
+    pub(crate) calls: u64,
+    faults: u64,
+}
+
+impl<'a> FaultySource<'a> {
+    /// A source that never fails where `failing` is 0.
+    pub(crate) fn new(bytes: &'a [u8], chunk: usize, failing: u64) -> Self {
+        FaultySource {
+            bytes,
+            chunk,
+            failing,
+            calls: 0,
+            faults: 0,
+        }
+    }
+}
+
+impl<'a> Source for FaultySource<'a> {
+    ghost left = { λ _. None };
+
+    ghost faults = { λ source. source.faults };
+
+    fn read(&mut self, buffer: &mut [u8]) -> Result<usize, SourceError> {
+        self.calls = self.calls.saturating_add(1);
+        if self.calls == self.failing {
+            self.faults = self.faults.saturating_add(1);
+            return Err(SourceError::Failed);
+        }
+        let count = buffer.len().min(self.bytes.len()).min(self.chunk);
+        let (given, left) = self.bytes.split_at(count);
+        buffer[..count].copy_from_slice(given);
+        self.bytes = left;
+        Ok(count)
+    }
+}
+
+/// Gives line feeds.
+#[derive(Drop)]
+pub(crate) struct LineFeeds {
+    /// How many it has left.
+    pub(crate) left: usize,
+}
+
+impl Source for LineFeeds {
+    ghost left = { λ _. None };
+
+    ghost faults = { λ _. 0 };
+
+    fn read(&mut self, buffer: &mut [u8]) -> Result<usize, SourceError> {
+        let count = buffer.len().min(self.left);
+        buffer[..count].fill(b'\n');
+        self.left -= count;
+        Ok(count)
+    }
+}
+
+/// Takes one byte a call, and fails at one call, counted from 1, or at each flush.
+#[derive(Drop)]
+pub(crate) struct FaultySink {
+    /// The bytes that it took.
+    pub(crate) taken: Vec<u8>,
+    failing: u64,
+    flushes: bool,
+    calls: u64,
+    faults: u64,
+    wants: u64,
+}
+
+impl FaultySink {
+    /// A sink that never fails at a write where `failing` is 0, and fails at each flush unless it `flushes`.
+    pub(crate) fn new(alloc: Global, failing: u64, flushes: bool) -> Self {
+        FaultySink {
+            taken: Vec::new(alloc),
+            failing,
+            flushes,
+            calls: 0,
+            faults: 0,
+            wants: 0,
+        }
+    }
+
+    fn fault(&mut self) -> SinkError
+        ensures failed { result ≡ SinkError.Failed }
+        ensures counted { self.new ≡ record self.old { faults = min (self.old.faults + 1) (2 ^ 64 - 1) } }
+    {
+        self.faults = self.faults.saturating_add(1);
+        SinkError::Failed
+    }
+}
+
+impl Sink for FaultySink {
+    ghost text = { λ sink. Some sink.taken.items };
+
+    ghost faults = { λ sink. sink.faults };
+
+    ghost wants = { λ sink. sink.wants };
+
+    fn write(&mut self, piece: &[u8]) -> Result<usize, SinkError> {
+        let Some(byte) = piece.first() else {
+            return Ok(0);
+        };
+        self.calls = self.calls.saturating_add(1);
+        if self.calls == self.failing {
+            return Err(self.fault());
+        }
+        match self.taken.push(*byte) {
+            Ok(()) => Ok(1),
+            Err(_) => {
+                self.wants = self.wants.saturating_add(1);
+                Err(SinkError::NoMemory)
+            }
+        }
+    }
+
+    fn flush(&mut self) -> Result<(), SinkError> {
+        if self.flushes {
+            return Ok(());
+        }
+        Err(self.fault())
+    }
+}

@@ -1,0 +1,58 @@
+//! What serving one script answers and writes.
+
+use super::{RelayError, Way, relay};
+use crate::fakes::FaultySink;
+use std::test::Fail;
+use sval_json::VecSink;
+
+#[test]
+fn answers(rt: HostRuntime) -> Result<(), Fail> {
+    let alloc = rt.alloc();
+    let table: [(&'static str, Result<(), RelayError>, &'static str); 7] = [
+        ("nul\n", Err(RelayError::BadLine { line: 1 }), ""),
+        ("null\nnull\n", Err(RelayError::BadCall { line: 2 }), ""),
+        (
+            "null\nnull\nnul\n",
+            Err(RelayError::BadLine { line: 3 }),
+            "",
+        ),
+        ("", Err(RelayError::Unfinished), ""),
+        ("seq_begin -\n", Err(RelayError::Unfinished), ""),
+        ("null\n", Ok(()), "null"),
+        (
+            "seq_begin -\nseq_value_begin\ntext_begin 1\ntext_fragment =61\ntext_end\nseq_value_end\nseq_end\n",
+            Ok(()),
+            "[\"a\"]",
+        ),
+    ];
+    for (script, wanted, text) in table {
+        let mut out = VecSink::new(alloc);
+        assert_eq!(rt;
+            relay(alloc, script.as_bytes(), Way::Direct, &mut out),
+            wanted,
+            "at {script:?}"
+        );
+        assert_eq!(rt; out.as_slice(), text.as_bytes(), "at {script:?}");
+    }
+    Ok(())
+}
+
+#[test]
+fn appends(rt: HostRuntime) -> Result<(), Fail> {
+    let alloc = rt.alloc();
+    let mut out = VecSink::new(alloc);
+    relay(alloc, b"bool true\n", Way::Direct, &mut out)?;
+    relay(alloc, b"i64 -9\n", Way::Direct, &mut out)?;
+    assert_eq!(rt; out.as_slice(), b"true-9".as_slice());
+    Ok(())
+}
+
+#[test]
+fn a_write_that_fails(rt: HostRuntime) -> Result<(), Fail> {
+    let alloc = rt.alloc();
+    let mut out = FaultySink::new(alloc, 3, true);
+    let answer = relay(alloc, b"bool true\n", Way::Direct, &mut out);
+    assert_eq!(rt; answer, Err(RelayError::Write));
+    assert_eq!(rt; out.taken.as_slice(), b"tr".as_slice());
+    Ok(())
+}
