@@ -20,8 +20,8 @@ returns-in_err-write_json-clause-serves g c = λ bytes is.
     let p = err_from_is_err_and c.from_residual.result c.from_residual.ensures.1 in
     let (tree, spells) = c.in-Ok.ensures.ok.spells in
     rw (p.1, p.2) (answers_partly bytes c.args.way _ _ _ c.in_err-write_json.field-0.0 c.in_err-write_json.ensures.only c.in_err-write_json.ensures.write
-        (part_of_text bytes c.args.way c.args.script.now tree is spells c.in_err-write_json.ensures.prefix (λ json. c.in_err-write_json.ensures.tree_prefix tree json spells))
-        (grows_prefix c.in_err-write_json.ensures.prefix))
+    (part_of_text bytes c.args.way c.args.script.now tree is spells c.in_err-write_json.ensures.prefix (λ json. c.in_err-write_json.ensures.tree_prefix tree json spells))
+    (grows_prefix c.in_err-write_json.ensures.prefix))
 
 pub returns-clause-serves : goal.returns-clause-serves
 returns-clause-serves g c = λ bytes is.
