@@ -5,3 +5,4 @@ pub mod Real
 pub mod Law
 pub mod Emissions
 pub mod Laws
+pub mod Lenient

@@ -6,6 +6,8 @@
 
 pub mod laws;
 mod stream;
+#[cfg(test)]
+mod tests;
 mod value;
 
 pub use stream::Stream;

@@ -13,6 +13,7 @@ use Rattle.sval_json.specs.Writer.{State, start, escapes, Outcome, Action, conti
 use Rattle.sval_json.specs.Steps.{step, steps, written}
 use Rattle.sval_json.specs.Sinks.{appended, AppendsPrefix}
 use Rattle.sval_json.specs.Writing.{Held, with_text, IsWhy, Stopped, View, writer_law, standing_of}
+use Rattle.sval_json.specs.declared.error.ErrorKind.{ErrorKind}
 use Rattle.sval_json.specs.declared.error.ErrorKind.TheVariants.{Generic, IO}
 use Rattle.sval_json.specs.declared.error.ErrorKind.TheVariants as kind
 use Rattle.sval_json.specs.Json.{Json, compact}
@@ -159,6 +160,15 @@ has_stopped e old new none (failed stop) =
 pub after_stops : {e : Emission} (empty : Bool) (old new : Held) → old.why ≡ None → Stops writer_law (standing_of true old) e (standing_of empty new) → HasStopped e old new
 after_stops {e} empty old new none s =
     has_stopped e old (standing_of empty new).view none (ending_of (standing_of true old) (standing_of empty new) e.calls e.refuses (standing_of true old).view s.stopped)
+
+-- where neither count rose, only the value itself is left as a cause
+pub is_generic : {e : Emission} {old new : Held} → HasStopped e old new → (Rose old.faults new.faults → ⊥) → (Rose old.wants new.wants → ⊥) → kind_of new.why ≡ Generic
+is_generic {new = new} after steady fed = by_kind (kind_of new.why) refl
+  where
+    by_kind : (k : ErrorKind) → kind_of new.why ≡ k → k ≡ Generic
+    by_kind Generic e = refl
+    by_kind IO e = absurd (steady (after.io e))
+    by_kind kind.NoMemory e = absurd (fed (after.no_memory e))
 
 -- ---- where the calls spell a tree
 

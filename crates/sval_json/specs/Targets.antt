@@ -1,5 +1,5 @@
 -- What streaming a value to JSON leaves of a sink.
-use Rattle.std.specs.Prelude.{◌≡◌, ℕ, List, Option, Some, None, Result, Ok}
+use Rattle.std.specs.Prelude.{◌≡◌, ℕ, List, Option, Some, None, Result, Ok, codes}
 use Rattle.sval_label.specs.Calls.{Call}
 use Rattle.sval_json.specs.declared.sink.SinkError.{SinkError}
 use Rattle.sval_json.specs.declared.sink.SinkError.TheVariants.{Failed, NoMemory}
@@ -16,6 +16,12 @@ abbrev pub kind_of : Option SinkError → ErrorKind
 kind_of None = kind.Generic
 kind_of (Some Failed) = kind.IO
 kind_of (Some NoMemory) = kind.NoMemory
+
+-- what an error says
+abbrev pub error_text : ErrorKind → List ℕ
+error_text kind.Generic = codes "an error occurred serializing a value to JSON"
+error_text kind.IO = codes "failed to write JSON"
+error_text kind.NoMemory = codes "cannot allocate for JSON"
 
 -- no step refuses a call, and the text that is told grew by exactly what the steps write
 pub record IsWritten (calls : List Call) (old new : Option (List ℕ)) : Type 0 where

@@ -54,6 +54,11 @@ impl Error {
 }
 
 impl fmt::Display for Error {
+    ghost use Rattle.std.specs.Prelude.{Some};
+    ghost use Rattle.sval_json.specs.Targets.{error_text};
+
+    ghost output = { λ kind. Some (error_text kind) };
+
     fn fmt<W: fmt::Write>(&self, f: &mut fmt::Formatter<W>) -> fmt::Result {
         f.write_str(match self.kind {
             ErrorKind::Generic => "an error occurred serializing a value to JSON",

@@ -6,6 +6,8 @@ mod escape;
 pub mod laws;
 mod real;
 mod sink;
+#[cfg(test)]
+mod tests;
 mod to_io;
 mod writer;
 

@@ -1,6 +1,7 @@
 //! The sink over std's writers: the trusted edge.
 
-ghost use Rattle.std.specs.Prelude.{◌≡◌, ℕ, ◌+◌, ◌-◌, ◌^◌, None, min};
+ghost use Rattle.std.specs.Prelude.{◌≡◌, ◌+◌, ◌-◌, ◌^◌, None, min};
+ghost use Rattle.sval_json.specs.Faults.{Faults};
 
 use crate::sink::{Sink, SinkError};
 use std::io;
@@ -22,15 +23,15 @@ pub struct RealSink<W> {
 }
 
 impl<W> Model for RealSink<W> {
-    ghost Value = { ℕ };
+    ghost Value = { Faults };
 
-    ghost view = { λ sink. sink.faults };
+    ghost view = { λ sink. record { faults = sink.faults; last_error = sink.last_error } };
 }
 
 impl<W> RealSink<W> {
     /// A sink over this writer, with no fault.
     pub fn new(writer: W) -> Self
-        ensures { result ≡ 0 }
+        ensures { result ≡ record { faults = 0; last_error = None } }
     {
         RealSink {
             writer,
@@ -40,14 +41,16 @@ impl<W> RealSink<W> {
     }
 
     /// What kind of error the last fault was, if there was one.
-    pub fn last_error(&self) -> Option<io::ErrorKind> {
+    pub fn last_error(&self) -> Option<io::ErrorKind>
+        ensures { result ≡ self.now.last_error }
+    {
         self.last_error
     }
 
     /// Counts a fault.
     fn fault(&mut self, kind: io::ErrorKind) -> SinkError
         ensures failed { result ≡ SinkError.Failed }
-        ensures counted { self.new ≡ min (self.old + 1) (2 ^ 64 - 1) }
+        ensures counted { self.new ≡ record { faults = min (self.old.faults + 1) (2 ^ 64 - 1); last_error = Some kind } }
     {
         self.last_error = Some(kind);
         self.faults = self.faults.saturating_add(1);
@@ -58,7 +61,7 @@ impl<W> RealSink<W> {
 impl<W: Write> Sink for RealSink<W> {
     ghost text = { λ _. None };
 
-    ghost faults = { λ sink. sink };
+    ghost faults = { λ sink. sink.faults };
 
     ghost wants = { λ _. 0 };
 

@@ -20,7 +20,8 @@ use sval_core::{Lent, Value};
 /// On `Ok` it appended what the steps of `specs/Steps.antt` write for the value's calls. Where these calls spell a tree,
 /// that is the text of the tree's JSON, however the calls cut its texts.
 ///
-/// [`ErrorKind::Generic`] comes where the value itself refuses, after all that its calls write.
+/// [`ErrorKind::Generic`] comes where the value itself refuses, after all that its calls write, and it always comes there
+/// unless a count of the sink rose.
 /// [`ErrorKind::IO`] comes only where the sink's count of faults rose, and [`ErrorKind::NoMemory`] only where its count of
 /// wants did; the sink then took a prefix. This call takes no memory itself.
 ///
@@ -38,6 +39,7 @@ pub fn stream_to_io_write<'v, K: Sink, V: Value<'v, Lent<'v>>>(
     ensures willing { OnOk result ((V.emission v.now).refuses ≡ false) }
     ensures steady { OnOk result ((K.faults out.new ≡ K.faults out.old) × (K.wants out.new ≡ K.wants out.old)) }
 
+    ensures generic_comes { (V.emission v.now).refuses ≡ true → (written (V.emission v.now).calls).refusal ≡ None → (Rose (K.faults out.old) (K.faults out.new) → ⊥) → (Rose (K.wants out.old) (K.wants out.new) → ⊥) → result ≡ Err ErrorKind.Generic }
     ensures generic { result ≡ Err ErrorKind.Generic → ((V.emission v.now).refuses ≡ true) × IsWritten (V.emission v.now).calls (K.text out.old) (K.text out.new) }
     ensures io { result ≡ Err ErrorKind.IO → Rose (K.faults out.old) (K.faults out.new) }
     ensures no_memory { result ≡ Err ErrorKind.NoMemory → Rose (K.wants out.old) (K.wants out.new) }

@@ -1,5 +1,7 @@
 //! The refusal that answers a call.
 
+ghost use Rattle.std.specs.Prelude.{◌≡◌};
+
 use std::fmt;
 
 /// A refusal, which says nothing of its cause.
@@ -10,12 +12,18 @@ pub struct Error {}
 
 impl Error {
     /// The one refusal that there is.
-    pub fn new() -> Error {
+    pub fn new() -> Error
+        ensures { result ≡ record {} }
+    {
         Error {}
     }
 }
 
 impl fmt::Display for Error {
+    ghost use Rattle.std.specs.Prelude.{Some, codes};
+
+    ghost output = { λ _. Some (codes "failed to stream data") };
+
     fn fmt<W: fmt::Write>(&self, f: &mut fmt::Formatter<W>) -> fmt::Result {
         f.write_str("failed to stream data")
     }
@@ -27,7 +35,9 @@ pub type Result<T = (), E = Error> = std::result::Result<T, E>;
 /// Answers a refusal.
 ///
 /// The Rust crate calls this `error`, which here would differ from the type in case alone.
-pub fn refusal<T>() -> Result<T> {
+pub fn refusal<T>() -> Result<T>
+    ensures { result ≡ Err (record {}) }
+{
     Err(Error::new())
 }
 

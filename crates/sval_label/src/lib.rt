@@ -6,6 +6,8 @@
 
 mod call;
 mod error;
+#[cfg(test)]
+mod tests;
 
 pub use call::{AnyCall, Call, Lending, Lent};
 pub use error::{Error, NoMemory, Result, refusal};

@@ -1,7 +1,7 @@
 use Rattle.std.proofs.Common.{rules, refl, ◌≡◌}
 use Rattle.sval_json.specs.declared.error.ErrorKind.TheVariants as kind
 use Rattle.sval_json.specs.Targets.{kind_of}
-use Rattle.sval_json.proofs.Streamed.{after_streams, after_stops, writes_tree, tree_prefix}
+use Rattle.sval_json.proofs.Streamed.{after_streams, after_stops, is_generic, writes_tree, tree_prefix}
 use Rattle.sval_json.proofs.to_io.stream_to_io_write.Goals as goal
 
 pub returns-in-Ok-clause-written : goal.returns-in-Ok-clause-written
@@ -9,6 +9,14 @@ returns-in-Ok-clause-written g c = let after = after_streams _ _ _ c.in-Ok.ensur
 
 pub returns-in-Ok-clause-steady : goal.returns-in-Ok-clause-steady
 returns-in-Ok-clause-steady g c = let after = after_streams _ _ _ c.in-Ok.ensures.ok in search rules
+
+pub returns-in-Ok-clause-generic_comes : goal.returns-in-Ok-clause-generic_comes
+returns-in-Ok-clause-generic_comes g c = λ refuses _ _ _. let willing = c.in-Ok.ensures.ok.willing in cc
+
+pub returns-in-Err-clause-generic_comes : goal.returns-in-Err-clause-generic_comes
+returns-in-Err-clause-generic_comes g c = λ refuses _ steady fed.
+    let after = after_stops _ _ _ refl c.in-Err.ensures.err in
+    let is : kind_of c.stream-streamed.new.stream.why ≡ kind.Generic = is_generic after (search rules) (search rules) in cc
 
 pub returns-in-Err-clause-generic : goal.returns-in-Err-clause-generic
 returns-in-Err-clause-generic g c = λ e.

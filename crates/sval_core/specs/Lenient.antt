@@ -1,0 +1,9 @@
+-- A law for tests: each call is accepted, and refused only where memory is wanting.
+use Rattle.std.specs.Prelude.{ℕ, ⊤}
+use Rattle.sval_core.specs.Law.{Law, Standing}
+
+abbrev pub lenient : Law (Unit {0})
+lenient = record { accepts = λ _ _. ⊤; after = λ view _. view; stopped = λ _ _ _. ⊤ }
+
+abbrev pub with_wants : ℕ → Standing (Unit {0})
+with_wants wants = record { view = tt; faults = 0; wants = wants }

@@ -1,0 +1,150 @@
+//! Sinks that take little, or stop.
+
+ghost use Rattle.std.specs.Prelude.{◌+◌, Some};
+
+use super::willing;
+use crate::{ErrorKind, Sink, SinkError, VecSink, stream_to_io_write, write_all};
+use std::alloc::Global;
+use std::test::Fail;
+use sval_core::Call;
+
+/// A sink in memory that counts its calls, and may take one byte a call, or stop at a call.
+#[derive(Drop)]
+struct Balky {
+    taken: VecSink,
+    calls: usize,
+    /// Takes one byte a call.
+    trickles: bool,
+    /// Answers an error at the call of this number.
+    stops: Option<(usize, SinkError)>,
+    faults: u64,
+    wants: u64,
+}
+
+impl Balky {
+    /// A sink that takes all that it is given.
+    fn new(alloc: Global) -> Balky {
+        Balky {
+            taken: VecSink::new(alloc),
+            calls: 0,
+            trickles: false,
+            stops: None,
+            faults: 0,
+            wants: 0,
+        }
+    }
+
+    /// A sink that takes one byte a call, and stops at the call of this number.
+    fn trickling(alloc: Global, stops: Option<(usize, SinkError)>) -> Balky {
+        let mut sink = Balky::new(alloc);
+        sink.trickles = true;
+        sink.stops = stops;
+        sink
+    }
+}
+
+impl Sink for Balky {
+    ghost text = { λ sink. Some sink.taken.bytes };
+
+    ghost faults = { λ sink. sink.faults };
+
+    ghost wants = { λ sink. sink.taken.wants + sink.wants };
+
+    fn write(&mut self, piece: &[u8]) -> Result<usize, SinkError> {
+        self.calls = self.calls.saturating_add(1);
+        match self.stops {
+            Some((at, SinkError::Failed)) if at == self.calls => {
+                self.faults = self.faults.saturating_add(1);
+                return Err(SinkError::Failed);
+            }
+            Some((at, SinkError::NoMemory)) if at == self.calls => {
+                self.wants = self.wants.saturating_add(1);
+                return Err(SinkError::NoMemory);
+            }
+            _ => {}
+        }
+        if self.trickles && !piece.is_empty() {
+            self.taken.write(&piece[..1])
+        } else {
+            self.taken.write(piece)
+        }
+    }
+}
+
+/// A text with escapes, a number and a truth value in a sequence.
+const CALLS: &[Call<'static, 'static>] = &[
+    Call::SeqBegin(None),
+    Call::SeqValueBegin,
+    Call::TextBegin(None),
+    Call::TextFragment("a\"\u{01}b"),
+    Call::TextEnd,
+    Call::SeqValueEnd,
+    Call::SeqValueBegin,
+    Call::I64(-12),
+    Call::SeqValueEnd,
+    Call::SeqValueBegin,
+    Call::Bool(true),
+    Call::SeqValueEnd,
+    Call::SeqEnd,
+];
+
+/// The JSON of these.
+const JSON: &[u8] = b"[\"a\\\"\\u0001b\",-12,true]";
+
+#[test]
+fn writes_the_rest_of_each_piece(rt: HostRuntime) -> Result<(), Fail> {
+    let mut sink = Balky::trickling(rt.alloc(), None);
+    stream_to_io_write(&mut sink, &willing(CALLS))?;
+    assert_eq!(rt; sink.taken.as_slice(), JSON);
+    assert_eq!(rt; sink.calls, JSON.len());
+    Ok(())
+}
+
+#[test]
+fn stops_where_a_sink_stops(rt: HostRuntime) {
+    let kinds = [
+        (SinkError::Failed, ErrorKind::IO),
+        (SinkError::NoMemory, ErrorKind::NoMemory),
+    ];
+    for (stop, kind) in kinds {
+        for taken in 0..JSON.len() {
+            let at = taken + 1;
+            let mut sink = Balky::trickling(rt.alloc(), Some((at, stop)));
+            let answer = stream_to_io_write(&mut sink, &willing(CALLS));
+            assert_eq!(rt;
+                answer.map_err(|error| error.kind()),
+                Err(kind),
+                "call {at}"
+            );
+            assert_eq!(rt; sink.taken.as_slice(), &JSON[..taken], "call {at}");
+            assert_eq!(rt; sink.calls, at, "call {at}");
+        }
+    }
+}
+
+#[test]
+fn writes_a_run_as_one_piece(rt: HostRuntime) -> Result<(), Fail> {
+    let run = "abcdefghijklmnopqrstuvwxyzABCDEFGHIJKLMNOPQRSTUVWXYZabcdefghijklmno";
+    assert_eq!(rt; run.len(), 67);
+    let calls = [
+        Call::TextBegin(Some(67)),
+        Call::TextFragment(run),
+        Call::TextEnd,
+    ];
+    let mut sink = Balky::new(rt.alloc());
+    stream_to_io_write(&mut sink, &willing(&calls))?;
+    assert_eq!(rt; sink.calls, 3);
+    assert_eq!(rt; sink.taken.as_slice().len(), 69);
+    Ok(())
+}
+
+#[test]
+fn writes_a_piece_whole(rt: HostRuntime) {
+    let mut sink = Balky::trickling(rt.alloc(), None);
+    assert_eq!(rt; write_all(&mut sink, b""), Ok(()));
+    assert_eq!(rt; sink.calls, 0);
+    assert_eq!(rt; write_all(&mut sink, b"abc"), Ok(()));
+    assert_eq!(rt; sink.calls, 3);
+    assert_eq!(rt; sink.flush(), Ok(()));
+    assert_eq!(rt; sink.taken.into_vec().as_slice(), b"abc".as_slice());
+}
