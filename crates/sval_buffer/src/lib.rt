@@ -1,0 +1,4 @@
+//! Fragment buffers and captured values.
+#![tactic(auto)]
+
+pub mod laws;
