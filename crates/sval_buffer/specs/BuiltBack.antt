@@ -1,11 +1,11 @@
 -- The flat list of a forest, with the places of its containers without an end, tells that forest.
-use Rattle.std.specs.Prelude.{◌≡◌, ℕ, suc, ◌+◌, ◌-◌, ◌≤◌, ◌<◌, ◌==◌, nat_lt, Bool, true, false, List, [], ◌∷◌, ◌++◌, length, refl}
+use Rattle.std.specs.Prelude.{◌≡◌, ℕ, suc, ◌+◌, ◌-◌, ◌≤◌, ◌<◌, ◌==◌, nat_lt, true, false, List, [], ◌∷◌, ◌++◌, length, refl}
 use Rattle.std.proofs.Common.{sym, ap, ◌∙◌, arith, length-append}
 use Rattle.std.proofs.lemmas.Bool.Decides.{nat_tests}
 use mathlib.Core.List.{append_assoc, append-nil}
 use Rattle.sval_label.specs.Calls.{Call}
 use Rattle.sval_buffer.specs.Forest.{Node, Single, Text, Binary, Container, Nodes, none, ◌and◌, Open, Forest}
-use Rattle.sval_buffer.specs.Flat.{Kind, One, Words, Bytes, Holder, Part, part, flat_node, flat_row, flat_spine, flat}
+use Rattle.sval_buffer.specs.Flat.{One, Words, Bytes, Holder, Part, part, flat_node, flat_row, flat_spine, flat}
 use Rattle.sval_buffer.specs.Built.{open_places, Built, row_onto, front_of, after, with_part, with_holder, is_open_at, beyond, built, forest_of}
 
 -- ---- rows as lists
