@@ -6,3 +6,6 @@ pub mod Laws
 pub mod Built
 pub mod BuiltBack
 pub mod Codes
+pub mod Holders
+pub mod Captured
+pub mod Texts

@@ -1,4 +1,9 @@
 //! Fragment buffers and captured values.
 #![tactic(auto)]
 
+mod error;
 pub mod laws;
+mod text_buf;
+
+pub use error::{Error, ErrorKind, Word};
+pub use text_buf::TextBuf;
