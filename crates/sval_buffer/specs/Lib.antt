@@ -9,3 +9,5 @@ pub mod Codes
 pub mod Holders
 pub mod Captured
 pub mod Texts
+pub mod Seen
+pub mod Emitted

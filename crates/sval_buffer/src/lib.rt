@@ -3,6 +3,7 @@
 
 mod error;
 pub mod laws;
+mod part;
 mod text_buf;
 
 pub use error::{Error, ErrorKind, Word};

@@ -1,12 +1,12 @@
 //! Texts that come in fragments.
 
 ghost use Rattle.std.specs.Prelude.{◌≡◌, true, false, length, [], ◌∷◌, Some, None, IsOk, OnOk, OnErr, IfOk, IfErr, ◌++◌, option_map, if◌then◌else◌};
-ghost use Rattle.sval_label.specs.Calls.{TextBegin, TextFragment, TextEnd};
 
 ghost use Rattle.sval_buffer.specs.Pushes.{pushed};
 ghost use Rattle.std.specs.String.{string_bytes};
 ghost use Rattle.sval_buffer.specs.Forest.{no_bytes};
 ghost use Rattle.sval_buffer.specs.Captured.{IsNoAlloc};
+ghost use Rattle.sval_buffer.specs.Emitted.{text_emission};
 
 use crate::error::{Error, ErrorKind, Word};
 use std::alloc::{AllocError, Global};
@@ -132,6 +132,30 @@ impl<'sval> TextBuf<'sval> {
             Held::Borrowed(text) => text,
             Held::Owned(text) => text.as_str(),
         }
+    }
+}
+
+impl<'v, 'sval> Value<'v, Lent<'v>> for TextBuf<'sval> {
+    ghost emission = { λ text. text_emission (record { borrowed = true; bytes = text.bytes }) };
+
+    fn stream<S: Stream<Lent<'v>>>(&'v self, stream: &mut S) -> Result {
+        let text = self.as_str();
+        stream.text_begin(Some(text.len()))?;
+        stream.text_fragment(text)?;
+        stream.text_end()
+    }
+}
+
+impl<'sval> ValueRef<Lent<'sval>> for TextBuf<'sval> {
+    ghost ref_emission = { text_emission };
+
+    fn stream_ref<S: Stream<Lent<'sval>>>(&self, stream: &mut S) -> Result {
+        stream.text_begin(Some(self.as_str().len()))?;
+        match &self.held {
+            Held::Borrowed(text) => stream.text_fragment(text)?,
+            Held::Owned(text) => stream.text_fragment_computed(text.as_str())?,
+        }
+        stream.text_end()
     }
 }
 
