@@ -30,7 +30,7 @@ onto-listed first (nodes and node) rest = onto-listed first nodes (node ∷ rest
 row-listed : (nodes : Nodes) → row_onto none (listed nodes []) ≡ nodes
 row-listed nodes = onto-listed none nodes [] ∙ joined-none nodes
 
-some_parts : (node : Node) → 0 < length (flat_node node)
+pub some_parts : (node : Node) → 0 < length (flat_node node)
 some_parts (Single call) = omega arith
 some_parts (Text held) = omega arith
 some_parts (Binary held) = omega arith

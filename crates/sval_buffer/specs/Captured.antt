@@ -1,5 +1,5 @@
 -- The law of a buffer for values as a stream: it takes a call where its forest does.
-use Rattle.std.specs.Prelude.{◌≡◌, ℕ, ◌+◌, ◌^◌, ◌-◌, min, Option, Some, None, ⊤}
+use Rattle.std.specs.Prelude.{◌≡◌, ℕ, ◌+◌, ◌^◌, ◌-◌, min, Option, Some, None, Result, Ok, Err, ⊤}
 use Rattle.sval_label.specs.Calls.{Call}
 use Rattle.sval_core.specs.Law.{Law, Standing, Rose}
 use Rattle.sval_buffer.specs.Forest.{Forest, Answer, Taken, Refused, Refusal, Unbalanced, OutsideText, OutsideBinary, empty_forest, take}
@@ -67,3 +67,8 @@ capture_law = record {
 
 abbrev pub standing_of : Capture → Standing Capture
 standing_of capture = record { view = capture; faults = 0; wants = capture.wants }
+
+-- what an operation leaves, where this is what the forest answers
+abbrev pub CapturesBy : Answer → Forest → Result (Unit {0}) ErrorKind → Forest → Type 0
+CapturesBy answer old (Ok _) new = answer ≡ Taken new
+CapturesBy answer old (Err why) new = (new ≡ old) × IsCause answer why

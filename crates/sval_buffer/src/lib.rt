@@ -4,6 +4,7 @@
 mod error;
 pub mod laws;
 mod part;
+mod parts;
 mod text_buf;
 
 pub use error::{Error, ErrorKind, Word};

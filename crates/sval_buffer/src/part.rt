@@ -16,6 +16,17 @@ pub(crate) enum Single {
     I64(i64),
 }
 
+impl Single {
+    /// What it is called.
+    pub(crate) fn word(self) -> Word {
+        match self {
+            Single::Null => Word::Null,
+            Single::Bool(_) => Word::Boolean,
+            Single::I64(_) => Word::Integer,
+        }
+    }
+}
+
 /// The begin of a container, which is all that has a begin and an end but a text.
 #[derive(Clone, Copy)]
 pub(crate) enum Begin {
