@@ -70,7 +70,7 @@ with_holds (kind.Text held) parts = kind.Text held
 with_holds (kind.Container begin holds) parts = kind.Container begin parts
 
 -- a part that takes the fragment refuses it for want of memory alone
-abbrev IsCauseBy : Option flat.Kind → ErrorKind → Type 0
+abbrev pub IsCauseBy : Option flat.Kind → ErrorKind → Type 0
 IsCauseBy None why = why ≡ error_of OutsideText
 IsCauseBy (Some next) why = IsNoAlloc why
 
