@@ -11,3 +11,5 @@ pub mod Captured
 pub mod Texts
 pub mod Seen
 pub mod Emitted
+pub mod CaptureCodes
+pub mod Collects

@@ -1,6 +1,7 @@
 //! The parts of a captured value, in a flat list.
 
 ghost use Rattle.std.specs.Prelude.{◌≡◌, true, false, is_ok, if◌then◌else◌, [], ◌∷◌, ◌++◌};
+ghost use Rattle.sval_label.specs.Made.{lent_call};
 ghost use Rattle.sval_buffer.specs.Forest as forest;
 ghost use Rattle.sval_buffer.specs.Forest.{Taken, add, with_flag, begun, close, row_or, push_last_text, newest_row, empty_forest, no_bytes};
 ghost use Rattle.sval_buffer.specs.Captured.{CapturesBy};
@@ -11,7 +12,7 @@ use crate::part::{Begin, Kind, Part, Piece, Single};
 use crate::text_buf::TextBuf;
 use std::alloc::Global;
 use std::marker::Model;
-use sval_core::NoMemory;
+use sval_core::{Call, NoMemory};
 
 /// The parts of a captured value, seen as the forest that they are.
 #[derive(Drop)]
@@ -130,6 +131,28 @@ impl<'sval> Parts<'sval> {
             return Err(ErrorKind::NoAlloc { method: Word::Sequence });
         }
         Ok(())
+    }
+
+    /// Takes a call.
+    #[tactic(auto, unfolding(crate::specs::Forest::take))]
+    pub(crate) fn capture(&mut self, alloc: Global, call: Call<'sval, '_>) -> Result<(), ErrorKind>
+        ensures { CapturesBy (forest.take self.old (lent_call call.entry)) self.old result self.new }
+    {
+        match call {
+            Call::Null => self.single(Single::Null),
+            Call::Bool(value) => self.single(Single::Bool(value)),
+            Call::I64(value) => self.single(Single::I64(value)),
+            Call::TextBegin(_) => self.text_begin(alloc),
+            Call::TextFragment(text) => self.push(Piece::Borrowed(text)),
+            Call::TextFragmentComputed(text) => self.push(Piece::Computed(text)),
+            Call::TextEnd => {
+                self.text_end();
+                Ok(())
+            }
+            Call::SeqBegin(size) => self.begin(Begin::Seq(size)),
+            Call::SeqValueBegin => self.begin(Begin::SeqValue),
+            Call::SeqValueEnd | Call::SeqEnd => self.end(),
+        }
     }
 
     /// Ends the newest container without an end.
