@@ -13,3 +13,4 @@ pub mod Seen
 pub mod Emitted
 pub mod CaptureCodes
 pub mod Collects
+pub mod Nesting
