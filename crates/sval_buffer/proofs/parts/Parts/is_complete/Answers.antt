@@ -1,0 +1,24 @@
+use Rattle.std.proofs.Common.{◌≡◌, ◌<◌, length, sym, ap, ◌∙◌, true, false, arith, vec_len}
+use Rattle.std.proofs.lemmas.Bool.Decides.{nat_tests}
+use Rattle.sval_buffer.proofs.Steps.{Is, none_complete, open_incomplete, complete_is}
+use Rattle.sval_buffer.proofs.parts.Parts.is_complete.Goals as goal
+use Rattle.sval_buffer.proofs.parts.Parts.is_complete.Goals.{then-is_empty-via-then-is_empty, then-is_empty-via-else-is_empty+then-not-is_empty}
+
+pub returns-then-is_empty : goal.returns-then-is_empty
+returns-then-is_empty c =
+    let is : Is c.self.inside.parts.items c.self.inside.places.items c.self.inside.in_fragments c.args.self.now = record { view = c.self.view_is; invariant = c.self.invariant } in
+    let n : length c.self.inside.parts.items ≡ vec_len c.self.inside.parts = sym c.self.inside.parts.ok.0 in
+    let m : length c.self.inside.places.items ≡ vec_len c.self.inside.places = sym c.self.inside.places.ok.0 in
+    elim c.then-is_empty.branch [
+      | then-is_empty-via-then-is_empty w ↦ let z : length c.self.inside.parts.items ≡ 0 = grind (arith, nat_tests, w.if-is_empty.true) in sym (none_complete is z)
+      | then-is_empty-via-else-is_empty+then-not-is_empty w ↦ let z : 0 < length c.self.inside.places.items = grind (arith, nat_tests, w.if-not-is_empty.true) in sym (open_incomplete is z)
+    ]
+
+pub returns : goal.returns
+returns c =
+    let is : Is c.self.inside.parts.items c.self.inside.places.items c.self.inside.in_fragments c.args.self.now = record { view = c.self.view_is; invariant = c.self.invariant } in
+    let n : length c.self.inside.parts.items ≡ vec_len c.self.inside.parts = sym c.self.inside.parts.ok.0 in
+    let m : length c.self.inside.places.items ≡ vec_len c.self.inside.places = sym c.self.inside.places.ok.0 in
+    let some : 0 < length c.self.inside.parts.items = grind (arith, nat_tests, c.if-is_empty.ensures) in
+    let z : length c.self.inside.places.items ≡ 0 = grind (arith, nat_tests, c.if-not-is_empty.ensures) in
+    complete_is is some z

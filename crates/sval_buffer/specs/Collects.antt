@@ -1,0 +1,44 @@
+-- What capturing a value answers.
+use Rattle.std.specs.Prelude.{◌≡◌, ℕ, true, false, [], Option, Some, None, Result, Ok, Err, ⊤}
+use Rattle.sval_core.specs.Trees.{Tree}
+use Rattle.sval_core.specs.Spells.{Spells}
+use Rattle.sval_core.specs.Law.{Emission}
+use Rattle.sval_buffer.specs.Forest.{Forest, Holds, RefusedAt, Unbalanced, OutsideText, OutsideBinary, forest, replayed, is_complete}
+use Rattle.sval_buffer.specs.declared.error.Word.TheVariants as word
+use Rattle.sval_buffer.specs.declared.error.ErrorKind.{ErrorKind}
+use Rattle.sval_buffer.specs.declared.error.ErrorKind.TheVariants as error
+use Rattle.sval_buffer.specs.Captured.{Capture, IsNoAlloc}
+
+-- all calls were taken, and none was refused; and the value doesn't refuse
+pub record IsCaptured (e : Emission) (buffer : Capture) : Type 0 where
+  pub willing : e.refuses ≡ false
+  pub taken : forest e.calls ≡ Holds buffer.forest
+  pub no_refusal : buffer.refusal ≡ None
+
+-- one of the calls is refused so, or none is and the value refuses, or memory was wanting
+abbrev pub IsCollectCause : Emission → ErrorKind → Type 0
+IsCollectCause e (error.OutsideContainer word.Text) = (at : ℕ) × (forest e.calls ≡ RefusedAt at OutsideText)
+IsCollectCause e (error.OutsideContainer word.Binary) = (at : ℕ) × (forest e.calls ≡ RefusedAt at OutsideBinary)
+IsCollectCause e (error.InvalidValue word.Unbalanced) = (at : ℕ) × (forest e.calls ≡ RefusedAt at Unbalanced)
+IsCollectCause e (error.InvalidValue word.FailedToStream) = (e.refuses ≡ true) × ((f : Forest) × (forest e.calls ≡ Holds f))
+IsCollectCause e (error.NoAlloc method) = ⊤
+IsCollectCause e _ = ⊥
+
+-- the replay spells the tree, no container is without its end, and the buffer is complete
+pub record SpellsAgain (f : Forest) (tree : Tree) : Type 0 where
+  pub spells : Spells (replayed f) tree
+  pub no_spine : f.spine ≡ []
+  pub complete : is_complete f.nodes f.spine f.in_fragments ≡ true
+
+-- where the value's calls spell a tree, the replay spells it too
+abbrev pub KeepsTree : Emission → Forest → Type 0
+KeepsTree e f = (tree : Tree) → Spells e.calls tree → SpellsAgain f tree
+
+abbrev pub IsOkOrNoAlloc : {T : Type 0} → Result T ErrorKind → Type 0
+IsOkOrNoAlloc (Ok _) = ⊤
+IsOkOrNoAlloc (Err why) = IsNoAlloc why
+
+-- the last refusal, or else that the value itself failed
+abbrev pub cause_by : Option ErrorKind → ErrorKind
+cause_by (Some why) = why
+cause_by None = error.InvalidValue word.FailedToStream

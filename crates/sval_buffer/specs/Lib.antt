@@ -1,0 +1,16 @@
+pub mod Pushes
+pub mod Forest
+pub mod Flat
+pub mod Replay
+pub mod Laws
+pub mod Built
+pub mod BuiltBack
+pub mod Codes
+pub mod Holders
+pub mod Captured
+pub mod Texts
+pub mod Seen
+pub mod Emitted
+pub mod CaptureCodes
+pub mod Collects
+pub mod Nesting

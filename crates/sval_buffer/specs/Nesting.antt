@@ -1,0 +1,89 @@
+-- What replay keeps at each part: the place of the newest container that goes on, from which the places of those around it follow.
+use Rattle.std.specs.Prelude.{◌≡◌, ℕ, ◌+◌, ◌≤◌, ◌<◌, ◌==◌, nat_le, Bool, true, false, if◌then◌else◌, List, [], ◌∷◌, map, Option, Some, None, slice_get, ⊤}
+use Rattle.sval_label.specs.Calls.{Call}
+use Rattle.sval_buffer.specs.Forest.{end_of}
+use Rattle.sval_buffer.specs.Flat as flat
+use Rattle.sval_buffer.specs.Replay.{Pending}
+use Rattle.sval_buffer.specs.declared.part.Part.{Part}
+use Rattle.sval_buffer.specs.Seen.{kind_of, holds_of, stored, holder}
+
+-- a container that was begun and has no end yet, with its place
+pub record Going : Type 0 where
+  pub place : ℕ
+  pub pending : Pending
+
+abbrev pub pendings : List Going → List Pending
+pendings gs = map (λ g. g.pending) gs
+
+-- those that go on at the part at place i
+abbrev pub still : ℕ → List Going → List Going
+still i [] = []
+still i (newest ∷ older) = if nat_le newest.pending.stop i then still i older else newest ∷ older
+
+-- with the container that the part at place i is, if it is one
+abbrev pub opens : ℕ → ℕ → flat.Kind → List Going → List Going
+opens i holds (flat.One call) gs = gs
+opens i holds (flat.Words held) gs = gs
+opens i holds (flat.Bytes held) gs = gs
+opens i holds (flat.Holder begin) gs = record { place = i; pending = record { stop = i + 1 + holds; end = end_of begin } } ∷ gs
+
+abbrev pub top : List Going → Option ℕ
+top [] = None
+top (newest ∷ older) = Some newest.place
+
+-- the place of the container that holds a part in replay: none, where that container has no end
+abbrev pub outer_at : ℕ → Option flat.Part → Option ℕ
+outer_at place None = None
+outer_at place (Some p) = if p.holds == 0 then None else Some place
+
+abbrev pub outer_of : List flat.Part → Option ℕ → Option ℕ
+outer_of whole None = None
+outer_of whole (Some place) = outer_at place (slice_get whole place)
+
+abbrev pub IsBelow : Option ℕ → ℕ → Type 0
+IsBelow None limit = ⊤
+IsBelow (Some place) limit = place < limit
+
+-- the newest container that goes on is this part, at this place
+pub record Link (parts : List Part) (going : Option ℕ) (newest : Going) : Type 0 where
+  pub part : Part
+  pub at : going ≡ Some newest.place
+  pub found : slice_get parts newest.place ≡ Some part
+  pub begin : Call
+  pub kind : kind_of part.kind ≡ flat.Holder begin
+  pub pending : newest.pending ≡ record { stop = newest.place + 1 + holds_of part.kind; end = end_of begin }
+  pub below : IsBelow (outer_of (map stored parts) part.holder) newest.place
+
+-- the containers that go on, by the place of the newest
+abbrev pub Linked : List Part → Option ℕ → List Going → Type 0
+Linked parts going [] = going ≡ None
+Linked parts going (newest ∷ older) = (link : Link parts going newest) × Linked parts (outer_of (map stored parts) link.part.holder) older
+
+abbrev pub IsLinked : List Part → Option ℕ → Type 0
+IsLinked parts going = (gs : List Going) × Linked parts going gs
+
+abbrev pub AllStop : ℕ → List Going → Type 0
+AllStop i [] = ⊤
+AllStop i (newest ∷ older) = (newest.pending.stop ≤ i) × AllStop i older
+
+-- each part from place i on is held by the newest container that goes on there
+abbrev pub Nested : List flat.Part → ℕ → List Going → List flat.Part → List (Option ℕ) → Type 0
+Nested whole i gs [] hs = AllStop i gs
+Nested whole i gs (p ∷ parts) [] = ⊥
+Nested whole i gs (p ∷ parts) (h ∷ hs) = (outer_of whole h ≡ top (still i gs)) × Nested whole (i + 1) (opens i p.holds p.kind (still i gs)) parts hs
+
+abbrev pub IsNested : List Part → Type 0
+IsNested parts = Nested (map stored parts) 0 [] (map stored parts) (map holder parts)
+
+-- what ends a part that is a container
+abbrev pub end_calls : flat.Kind → List Call
+end_calls (flat.One call) = []
+end_calls (flat.Words held) = []
+end_calls (flat.Bytes held) = []
+end_calls (flat.Holder begin) = end_of begin ∷ []
+
+abbrev pub is_holder : flat.Kind → Bool
+is_holder (flat.One call) = false
+is_holder (flat.Words held) = false
+is_holder (flat.Bytes held) = false
+is_holder (flat.Holder begin) = true

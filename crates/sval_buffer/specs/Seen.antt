@@ -1,0 +1,78 @@
+-- What the parts of the program are.
+use Rattle.std.specs.Prelude.{◌≡◌, ℕ, Bool, true, false, List, map, Option, Some, None}
+use Rattle.sval_label.specs.Calls as call
+use Rattle.sval_label.specs.Calls.{Call}
+use Rattle.sval_buffer.specs.Pushes.{Fragment}
+use Rattle.sval_buffer.specs.Forest.{Forest, OutsideText}
+use Rattle.sval_buffer.specs.Flat as flat
+use Rattle.sval_buffer.specs.Built.{open_places, forest_of}
+use Rattle.sval_buffer.specs.Holders.{holders}
+use Rattle.sval_buffer.specs.declared.part.Single.{Single}
+use Rattle.sval_buffer.specs.declared.part.Single.TheVariants.{Null, Bool as Truth, I64}
+use Rattle.sval_buffer.specs.declared.part.Begin.{Begin}
+use Rattle.sval_buffer.specs.declared.part.Begin.TheVariants.{Seq, SeqValue}
+use Rattle.sval_buffer.specs.declared.part.Kind.{Kind}
+use Rattle.sval_buffer.specs.declared.part.Kind.TheVariants as kind
+use Rattle.sval_buffer.specs.declared.part.Part.{Part}
+use Rattle.sval_buffer.specs.declared.part.Piece.{Piece}
+use Rattle.sval_buffer.specs.declared.part.Piece.TheVariants.{Borrowed, Computed}
+use Rattle.sval_buffer.specs.declared.error.ErrorKind.{ErrorKind}
+use Rattle.sval_buffer.specs.Captured.{IsNoAlloc, error_of}
+
+abbrev pub single_call : Single → Call
+single_call Null = call.Null
+single_call (Truth b) = call.Truth b
+single_call (I64 n) = call.Int call.I64 n
+
+abbrev pub begin_call : Begin → Call
+begin_call (Seq size) = call.Begin call.Seq size
+begin_call SeqValue = call.PartBegin call.Item
+
+abbrev pub kind_of : Kind → flat.Kind
+kind_of (kind.Single single) = flat.One (single_call single)
+kind_of (kind.Text held) = flat.Words held
+kind_of (kind.Container begin holds) = flat.Holder (begin_call begin)
+
+abbrev pub holds_of : Kind → ℕ
+holds_of (kind.Single single) = 0
+holds_of (kind.Text held) = 0
+holds_of (kind.Container begin holds) = holds
+
+abbrev pub stored : Part → flat.Part
+stored p = flat.part (kind_of p.kind) (holds_of p.kind)
+
+abbrev pub holder : Part → Option ℕ
+holder p = p.holder
+
+-- the parts, the places of the containers without an end, and the place of what holds each part are the forest's
+pub record Tells (parts : List Part) (places : List ℕ) (f : Forest) : Type 0 where
+  pub parts_are : map stored parts ≡ flat.flat f
+  pub places_are : places ≡ open_places f.nodes f.spine
+  pub holders_are : map holder parts ≡ holders f
+
+abbrev pub told : List Part → List ℕ → Bool → Forest
+told parts places within = forest_of (map stored parts) places within
+
+-- a fragment was pushed into the part, which takes it
+pub record Pushed (old : Part) (fragment : Fragment) (new : Part) : Type 0 where
+  pub kind : flat.push_part fragment (kind_of old.kind) ≡ Some (kind_of new.kind)
+  pub holds : holds_of new.kind ≡ holds_of old.kind
+  pub holder : new.holder ≡ old.holder
+
+abbrev pub piece_of : Piece → Fragment
+piece_of (Borrowed text) = record { borrowed = true; bytes = text.now }
+piece_of (Computed text) = record { borrowed = false; bytes = text.now }
+
+-- a container that holds this many parts
+abbrev pub with_holds : Kind → ℕ → Kind
+with_holds (kind.Single single) parts = kind.Single single
+with_holds (kind.Text held) parts = kind.Text held
+with_holds (kind.Container begin holds) parts = kind.Container begin parts
+
+-- a part that takes the fragment refuses it for want of memory alone
+abbrev pub IsCauseBy : Option flat.Kind → ErrorKind → Type 0
+IsCauseBy None why = why ≡ error_of OutsideText
+IsCauseBy (Some next) why = IsNoAlloc why
+
+abbrev pub IsPushCause : Part → Fragment → ErrorKind → Type 0
+IsPushCause old fragment why = IsCauseBy (flat.push_part fragment (kind_of old.kind)) why

@@ -1,0 +1,13 @@
+//! Fragment buffers and captured values.
+#![tactic(auto)]
+
+mod error;
+pub mod laws;
+mod part;
+mod parts;
+mod text_buf;
+mod value_buf;
+
+pub use error::{Error, ErrorKind, Word};
+pub use text_buf::TextBuf;
+pub use value_buf::ValueBuf;

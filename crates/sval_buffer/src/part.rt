@@ -1,0 +1,99 @@
+//! The parts of a captured value.
+
+ghost use Rattle.std.specs.Prelude.{◌≡◌, OnOk, IfErr, is_ok, if◌then◌else◌};
+ghost use Rattle.sval_buffer.specs.Pushes.{pushed};
+ghost use Rattle.sval_buffer.specs.Seen.{Pushed, piece_of, with_holds, IsPushCause};
+
+use crate::error::{ErrorKind, Word};
+use crate::text_buf::TextBuf;
+use sval_core::NoMemory;
+
+/// A call that is complete by itself.
+#[derive(Clone, Copy)]
+pub(crate) enum Single {
+    Null,
+    Bool(bool),
+    I64(i64),
+}
+
+impl Single {
+    /// What it is called.
+    pub(crate) fn word(self) -> Word {
+        match self {
+            Single::Null => Word::Null,
+            Single::Bool(_) => Word::Boolean,
+            Single::I64(_) => Word::Integer,
+        }
+    }
+}
+
+/// The begin of a container, which is all that has a begin and an end but a text.
+#[derive(Clone, Copy)]
+pub(crate) enum Begin {
+    Seq(Option<usize>),
+    SeqValue,
+}
+
+/// What a part is.
+#[derive(Drop)]
+pub(crate) enum Kind<'sval> {
+    Single(Single),
+    Text(TextBuf<'sval>),
+    /// A container, and the number of parts after it that it holds: none, as long as it has no end.
+    Container { begin: Begin, holds: usize },
+}
+
+/// A fragment of a text.
+#[derive(Clone, Copy)]
+pub(crate) enum Piece<'sval, 'c> {
+    Borrowed(&'sval str),
+    Computed(&'c str),
+}
+
+/// A part of a captured value.
+#[derive(Drop)]
+pub(crate) struct Part<'sval> {
+    pub(crate) kind: Kind<'sval>,
+    /// The place of the container that holds this part, if one does.
+    pub(crate) holder: Option<usize>,
+}
+
+impl<'sval> Part<'sval> {
+    /// Pushes a fragment into a text.
+    pub(crate) fn push(&mut self, piece: Piece<'sval, '_>) -> Result<(), ErrorKind>
+        ensures ok { OnOk result (Pushed self.old (piece_of piece.entry) self.new) }
+        ensures err { IfErr result (λ why. self.new ≡ self.old) }
+        ensures why { IfErr result (λ why. IsPushCause self.old (piece_of piece.entry) why) }
+    {
+        match &mut self.kind {
+            Kind::Text(text) => match push_piece(text, piece) {
+                Ok(()) => Ok(()),
+                Err(_) => Err(ErrorKind::NoAlloc { method: Word::Text }),
+            },
+            _ => Err(ErrorKind::OutsideContainer { method: Word::Text }),
+        }
+    }
+
+    /// Sets the number of parts after this container that it holds.
+    pub(crate) fn close(&mut self, parts: usize)
+        ensures { self.new ≡ record self.old { kind = with_holds self.old.kind parts } }
+    {
+        if let Kind::Container { holds, .. } = &mut self.kind {
+            *holds = parts;
+        }
+    }
+}
+
+/// Pushes a fragment into a text.
+fn push_piece<'sval>(text: &mut TextBuf<'sval>, piece: Piece<'sval, '_>) -> Result<(), NoMemory>
+    ensures { text.new ≡ (if is_ok result then pushed text.old (piece_of piece.entry) else text.old) }
+{
+    let pushed = match piece {
+        Piece::Borrowed(fragment) => text.push_fragment(fragment),
+        Piece::Computed(fragment) => text.push_fragment_computed(fragment),
+    };
+    match pushed {
+        Ok(()) => Ok(()),
+        Err(_) => Err(NoMemory {}),
+    }
+}

@@ -1,0 +1,181 @@
+//! The parts of a captured value, in a flat list.
+
+ghost use Rattle.std.specs.Prelude.{◌≡◌, true, false, is_ok, if◌then◌else◌, [], ◌∷◌, ◌++◌};
+ghost use Rattle.sval_label.specs.Made.{lent_call};
+ghost use Rattle.sval_buffer.specs.Forest as forest;
+ghost use Rattle.sval_buffer.specs.Forest.{Taken, add, with_flag, begun, close, row_or, push_last_text, newest_row, empty_forest, no_bytes};
+ghost use Rattle.sval_buffer.specs.Captured.{CapturesBy};
+ghost use Rattle.sval_buffer.specs.Seen.{single_call, begin_call, piece_of};
+
+use crate::error::{ErrorKind, Word};
+use crate::part::{Begin, Kind, Part, Piece, Single};
+use crate::text_buf::TextBuf;
+use std::alloc::Global;
+use std::marker::Model;
+use sval_core::{Call, NoMemory};
+
+/// The parts of a captured value, seen as the forest that they are.
+#[derive(Drop)]
+pub(crate) struct Parts<'sval> {
+    parts: Vec<Part<'sval>>,
+    /// The places of the containers without an end, the oldest first.
+    places: Vec<usize>,
+    /// A text has begun, and none has ended since.
+    in_fragments: bool,
+}
+
+impl<'sval> Model for Parts<'sval> {
+    ghost use Rattle.sval_buffer.specs.Forest.{Forest};
+    ghost use Rattle.sval_buffer.specs.Codes.{forest_code};
+    ghost use Rattle.sval_buffer.specs.Seen.{told, Tells};
+
+    ghost Value = { Forest };
+
+    ghost coded = { forest_code };
+
+    ghost view = { λ p. told p.parts.items p.places.items p.in_fragments };
+
+    ghost invariant = { λ p. Tells p.parts.items p.places.items (told p.parts.items p.places.items p.in_fragments) };
+}
+
+impl<'sval> Parts<'sval> {
+    /// No parts, which take no memory yet.
+    pub(crate) fn new(alloc: Global) -> Self
+        ensures { result ≡ empty_forest }
+    {
+        Parts {
+            parts: Vec::new(alloc),
+            places: Vec::new(alloc),
+            in_fragments: false,
+        }
+    }
+
+    /// Forgets all parts.
+    pub(crate) fn clear(&mut self)
+        ensures { self.new ≡ empty_forest }
+    {
+        self.parts.clear();
+        self.places.clear();
+        self.in_fragments = false;
+    }
+
+    /// There is a part, and each container and each text has its end.
+    pub(crate) fn is_complete(&self) -> bool
+        ensures { result ≡ forest.is_complete self.now.nodes self.now.spine self.now.in_fragments }
+    {
+        if self.parts.is_empty() || !self.places.is_empty() {
+            return false;
+        }
+        !self.in_fragments
+    }
+
+    /// Adds a call that is complete by itself.
+    pub(crate) fn single(&mut self, single: Single) -> Result<(), ErrorKind>
+        ensures { CapturesBy (Taken (add (forest.Single (single_call single)) self.old)) self.old result self.new }
+    {
+        let part = Part {
+            kind: Kind::Single(single),
+            holder: self.places.last().copied(),
+        };
+        if push_part(&mut self.parts, part).is_err() {
+            return Err(ErrorKind::NoAlloc { method: single.word() });
+        }
+        Ok(())
+    }
+
+    /// Begins a text.
+    pub(crate) fn text_begin(&mut self, alloc: Global) -> Result<(), ErrorKind>
+        ensures { CapturesBy (Taken (with_flag true (add (forest.Text no_bytes) self.old))) self.old result self.new }
+    {
+        let part = Part {
+            kind: Kind::Text(TextBuf::new(alloc)),
+            holder: self.places.last().copied(),
+        };
+        if push_part(&mut self.parts, part).is_err() {
+            return Err(ErrorKind::NoAlloc { method: Word::Text });
+        }
+        self.in_fragments = true;
+        Ok(())
+    }
+
+    /// Ends a text.
+    pub(crate) fn text_end(&mut self)
+        ensures { self.new ≡ with_flag false self.old }
+    {
+        self.in_fragments = false;
+    }
+
+    /// Pushes a fragment into the last part.
+    pub(crate) fn push(&mut self, piece: Piece<'sval, '_>) -> Result<(), ErrorKind>
+        ensures { CapturesBy (row_or forest.OutsideText self.old (push_last_text (piece_of piece.entry) (newest_row self.old.nodes self.old.spine))) self.old result self.new }
+    {
+        match self.parts.last_mut() {
+            Some(part) => part.push(piece),
+            None => Err(ErrorKind::OutsideContainer { method: Word::Text }),
+        }
+    }
+
+    /// Begins a container. There is memory for its place before its part is kept.
+    pub(crate) fn begin(&mut self, begin: Begin) -> Result<(), ErrorKind>
+        ensures { CapturesBy (Taken (begun (begin_call begin) self.old)) self.old result self.new }
+    {
+        let part = Part {
+            kind: Kind::Container { begin, holds: 0 },
+            holder: self.places.last().copied(),
+        };
+        let place = self.parts.len();
+        if self.places.reserve(1).is_err() || push_part(&mut self.parts, part).is_err() {
+            return Err(ErrorKind::NoAlloc { method: Word::Sequence });
+        }
+        if self.places.push(place).is_err() {
+            return Err(ErrorKind::NoAlloc { method: Word::Sequence });
+        }
+        Ok(())
+    }
+
+    /// Takes a call.
+    #[tactic(auto, unfolding(crate::specs::Forest::take))]
+    pub(crate) fn capture(&mut self, alloc: Global, call: Call<'sval, '_>) -> Result<(), ErrorKind>
+        ensures { CapturesBy (forest.take self.old (lent_call call.entry)) self.old result self.new }
+    {
+        match call {
+            Call::Null => self.single(Single::Null),
+            Call::Bool(value) => self.single(Single::Bool(value)),
+            Call::I64(value) => self.single(Single::I64(value)),
+            Call::TextBegin(_) => self.text_begin(alloc),
+            Call::TextFragment(text) => self.push(Piece::Borrowed(text)),
+            Call::TextFragmentComputed(text) => self.push(Piece::Computed(text)),
+            Call::TextEnd => {
+                self.text_end();
+                Ok(())
+            }
+            Call::SeqBegin(size) => self.begin(Begin::Seq(size)),
+            Call::SeqValueBegin => self.begin(Begin::SeqValue),
+            Call::SeqValueEnd | Call::SeqEnd => self.end(),
+        }
+    }
+
+    /// Ends the newest container without an end.
+    pub(crate) fn end(&mut self) -> Result<(), ErrorKind>
+        ensures { CapturesBy (close self.old.nodes self.old.spine self.old.in_fragments) self.old result self.new }
+    {
+        match self.places.pop() {
+            Some(place) => {
+                let holds = self.parts.len() - place - 1;
+                self.parts[place].close(holds);
+                Ok(())
+            }
+            None => Err(ErrorKind::InvalidValue { reason: Word::Unbalanced }),
+        }
+    }
+}
+
+/// Adds a part at the end.
+fn push_part<'sval>(parts: &mut Vec<Part<'sval>>, part: Part<'sval>) -> Result<(), NoMemory>
+    ensures { parts.new.items ≡ (if is_ok result then parts.old.items ++ part.entry ∷ [] else parts.old.items) }
+{
+    match parts.push(part) {
+        Ok(()) => Ok(()),
+        Err(_) => Err(NoMemory {}),
+    }
+}

@@ -1,0 +1,163 @@
+//! Captured values.
+
+ghost use Rattle.std.specs.Prelude.{◌≡◌, false, Some, OnOk, OnErr, IfOk, IfErr};
+ghost use Rattle.sval_label.specs.Made.{lent_call};
+ghost use Rattle.sval_core.specs.Trees.{Tree};
+ghost use Rattle.sval_core.specs.Spells.{Spells};
+ghost use Rattle.sval_core.specs.Law.{Takes, Refuses};
+ghost use Rattle.sval_buffer.specs.Forest as forest;
+ghost use Rattle.sval_buffer.specs.Captured.{Capture, no_calls, wants_after, capture_law, standing_of};
+ghost use Rattle.sval_buffer.specs.Collects.{IsCaptured, KeepsTree, IsCollectCause, IsOkOrNoAlloc, cause_by};
+
+use crate::error::{Error, ErrorKind, Word};
+use crate::parts::Parts;
+use std::alloc::Global;
+use std::marker::Model;
+use sval_core::{Call, Lent, Stream, Value};
+
+/// A captured value: the calls that were taken, from which they can be made again.
+///
+/// As a stream it takes the calls of any value. Texts that are lent for `'sval` are kept by reference, and a call takes
+/// no memory but for its part. An end ends the newest container that has none, whichever it is, and its name isn't
+/// looked at.
+///
+/// - [`ErrorKind::OutsideContainer`] answers a fragment where the last part isn't a text.
+/// - [`ErrorKind::InvalidValue`] with [`Word::Unbalanced`] answers an end where no container is without its end.
+/// - [`ErrorKind::NoAlloc`] answers a call for which there was no memory.
+///
+/// After any refusal the buffer holds what it held before.
+///
+/// ```
+/// let mut buffer = ValueBuf::new(alloc);
+/// buffer.seq_begin(Some(1))?;
+/// buffer.seq_value_begin()?;
+/// buffer.null()?;
+/// buffer.seq_value_end()?;
+/// buffer.seq_end()?;
+/// assert!(rt; buffer.is_complete());
+/// stream.value(&buffer)?;
+/// ```
+#[derive(Drop)]
+pub struct ValueBuf<'sval> {
+    parts: Parts<'sval>,
+    /// Why the last refused call was refused.
+    refusal: Option<ErrorKind>,
+    /// How often memory was wanting.
+    wants: u64,
+    alloc: Global,
+}
+
+impl<'sval> Model for ValueBuf<'sval> {
+    ghost use Rattle.sval_buffer.specs.Captured.{Capture};
+    ghost use Rattle.sval_buffer.specs.CaptureCodes.{capture_code};
+
+    ghost Value = { Capture };
+
+    ghost coded = { capture_code };
+
+    ghost view = { λ b. record { forest = b.parts; refusal = b.refusal; wants = b.wants } };
+}
+
+impl<'sval> ValueBuf<'sval> {
+    /// A buffer that has taken no call, and takes no memory yet.
+    pub fn new(alloc: Global) -> Self
+        ensures { result ≡ no_calls 0 }
+    {
+        ValueBuf {
+            parts: Parts::new(alloc),
+            refusal: None,
+            wants: 0,
+            alloc,
+        }
+    }
+
+    /// Captures a value.
+    ///
+    /// - [`ErrorKind::OutsideContainer`] and [`ErrorKind::InvalidValue`] with [`Word::Unbalanced`] come where one of its
+    ///   calls is refused so.
+    /// - [`ErrorKind::InvalidValue`] with [`Word::FailedToStream`] comes where none is, and the value itself refuses.
+    /// - [`ErrorKind::NoAlloc`] comes where memory was wanting.
+    ///
+    /// ```
+    /// let buffer = ValueBuf::collect(alloc, &value)?;
+    /// stream.value(&buffer)?;
+    /// ```
+    pub fn collect<V: Value<'sval, Lent<'sval>>>(alloc: Global, v: &'sval V) -> Result<Self, Error>
+        ensures ok { IfOk result (λ buffer. IsCaptured (V.emission v.now) buffer) }
+        ensures err { IfErr result (λ why. IsCollectCause (V.emission v.now) why) }
+        ensures keeps_the_tree { IfOk result (λ buffer. KeepsTree (V.emission v.now) buffer.forest) }
+        ensures complete { (tree : Tree) → (V.emission v.now).refuses ≡ false → Spells (V.emission v.now).calls tree → IsOkOrNoAlloc result }
+    {
+        let mut buffer: ValueBuf<'sval> = ValueBuf::new(alloc);
+        match v.stream(&mut buffer) {
+            Ok(()) => Ok(buffer),
+            Err(_) => Err(buffer.cause()),
+        }
+    }
+
+    /// There is a part, each container has its end, and no text has begun without one ending since.
+    pub fn is_complete(&self) -> bool
+        ensures { result ≡ forest.is_complete self.now.forest.nodes self.now.forest.spine self.now.forest.in_fragments }
+    {
+        self.parts.is_complete()
+    }
+
+    /// Forgets all calls, and the last refusal.
+    pub fn clear(&mut self)
+        ensures { self.new ≡ no_calls self.old.wants }
+    {
+        self.parts.clear();
+        self.refusal = None;
+    }
+
+    /// Why the last refused call was refused, if one was since the buffer was new or cleared.
+    pub fn into_err(self) -> Option<Error>
+        ensures { result ≡ self.entry.refusal }
+    {
+        match self.refusal {
+            Some(kind) => Some(Error::new(kind)),
+            None => None,
+        }
+    }
+
+    /// Why a value wasn't captured: a refused call, or else the value itself.
+    fn cause(self) -> Error
+        ensures { result ≡ cause_by self.entry.refusal }
+    {
+        match self.refusal {
+            Some(kind) => Error::new(kind),
+            None => Error::new(ErrorKind::InvalidValue { reason: Word::FailedToStream }),
+        }
+    }
+
+    /// Keeps why a call was refused.
+    fn keep(&mut self, why: ErrorKind)
+        ensures { self.new ≡ record self.old { refusal = Some why; wants = wants_after why self.old.wants } }
+    {
+        if let ErrorKind::NoAlloc { .. } = why {
+            self.wants = self.wants.saturating_add(1);
+        }
+        self.refusal = Some(why);
+    }
+}
+
+impl<'sval> Stream<Lent<'sval>> for ValueBuf<'sval> {
+    ghost View = { Capture };
+
+    ghost law = { capture_law };
+
+    ghost standing = { standing_of };
+
+    fn take(&mut self, call: Call<'sval, '_>) -> sval_core::Result
+        ensures ok { OnOk result (Takes capture_law (standing_of self.old) (lent_call call.entry) (standing_of self.new)) }
+        ensures err { OnErr result (Refuses capture_law (standing_of self.old) (lent_call call.entry) (standing_of self.new)) }
+    {
+        match self.parts.capture(self.alloc, call) {
+            Ok(()) => Ok(()),
+            Err(why) => {
+                self.keep(why);
+                Err(sval_core::Error::new())
+            }
+        }
+    }
+}
