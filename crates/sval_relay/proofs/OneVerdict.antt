@@ -11,6 +11,7 @@ use Rattle.sval_core.proofs.Determined.{runs_determined}
 use Rattle.sval_core.proofs.Decided.{Ran, Stopped, scanned}
 use Rattle.sval_script.specs.Lines.{Lines, Good, Bad, lines}
 use Rattle.sval_relay.specs.declared.relay.Way.{Way}
+use Rattle.sval_relay.specs.declared.relay.Way.TheVariants.{Direct, Buffered}
 use Rattle.sval_relay.specs.Verdict.{Verdict, BadLine, BadCall, Unfinished, tree_verdict, IsOfCalls, bad_call, unfinished, whole, IsOfLines, verdict}
 
 -- ---- there is one
@@ -90,3 +91,17 @@ one_of_lines (Good calls) way answer other i j = one_of_calls i j
 pub one_verdict : (script : List ℕ) (way : Way) → (answer : Verdict) × verdict script way answer × ((other : Verdict) → verdict script way other → answer ≡ other)
 one_verdict script way =
     let found = some_verdict (lines script) way in (found.0, found.1, λ other v. one_of_lines (lines script) way found.0 other found.1 v)
+
+-- ---- the two ways of JSON
+
+as_direct : {calls : List Call} {answer : Verdict} → IsOfCalls calls Buffered answer → IsOfCalls calls Direct answer
+as_direct (bad_call front call rest e v n) = bad_call front call rest e v n
+as_direct (unfinished w u) = unfinished w u
+as_direct (whole tree s) = whole {way = Direct} tree s
+
+lines_as_direct : (found : Lines) (answer : Verdict) → IsOfLines found Buffered answer → IsOfLines found Direct answer
+lines_as_direct (Bad n) answer e = e
+lines_as_direct (Good calls) answer i = as_direct i
+
+pub json_ways_agree : (script : List ℕ) (direct buffered : Verdict) → verdict script Direct direct → verdict script Buffered buffered → direct ≡ buffered
+json_ways_agree script direct buffered v w = one_of_lines (lines script) Direct direct buffered v (lines_as_direct (lines script) buffered w)

@@ -16,7 +16,7 @@ use Rattle.sval_json.specs.Sinks.{appended, AppendsPrefix}
 use Rattle.sval_json.specs.Targets.{WritesTree}
 use Rattle.sval_script.specs.Lines.{Lines, Good, Bad, lines, cut_at, line_of, with_call, at_end, lines_from}
 use Rattle.sval_relay.specs.declared.relay.Way.{Way}
-use Rattle.sval_relay.specs.declared.relay.Way.TheVariants.{Direct}
+use Rattle.sval_relay.specs.declared.relay.Way.TheVariants.{Direct, Buffered}
 use Rattle.sval_relay.specs.Verdict.{Verdict, BadLine, BadCall, Unfinished, Key, Number, Text, json_verdict, tree_verdict, IsOfCalls, bad_call, unfinished, whole, IsOfLines, verdict}
 use Rattle.sval_relay.specs.declared.relay.RelayError.{RelayError}
 use Rattle.sval_relay.specs.declared.relay.RelayError.TheVariants.{NoMemory}
@@ -41,6 +41,7 @@ verdict_unfinished script way calls e viable none = verdict_of_calls script way 
 -- each way of JSON gives a tree's JSON
 any_way : (way : Way) (tree : Tree) → tree_verdict way tree ≡ json_verdict (json_of tree)
 any_way Direct tree = refl
+any_way Buffered tree = refl
 
 pub verdict_tree : (script : List ℕ) (way : Way) (calls : List Call) (tree : Tree) → lines script ≡ Good calls → Spells calls tree → verdict script way (json_verdict (json_of tree))
 verdict_tree script way calls tree e spells = subst (verdict script way) (any_way way tree) (verdict_of_calls script way calls (tree_verdict way tree) e (whole {way = way} tree spells))

@@ -1,8 +1,13 @@
 -- The laws of verdicts, as facts.
 use Rattle.std.specs.Prelude.{◌≡◌, ℕ, List}
 use Rattle.sval_relay.specs.declared.relay.Way.{Way}
+use Rattle.sval_relay.specs.declared.relay.Way.TheVariants.{Direct, Buffered}
 use Rattle.sval_relay.specs.Verdict.{Verdict, verdict}
 
 -- each script has one verdict in each way, and no second one
 abbrev pub OneVerdict : Type 0
 OneVerdict = (script : List ℕ) (way : Way) → (answer : Verdict) × verdict script way answer × ((other : Verdict) → verdict script way other → answer ≡ other)
+
+-- the two ways of JSON have the same verdict
+abbrev pub BothJsonWaysAgree : Type 0
+BothJsonWaysAgree = (script : List ℕ) (direct buffered : Verdict) → verdict script Direct direct → verdict script Buffered buffered → direct ≡ buffered

@@ -8,7 +8,7 @@ use Rattle.sval_json.specs.Number.{Refusal, InvalidKey, InvalidNumber}
 use Rattle.sval_json.specs.Shape.{json_of}
 use Rattle.sval_script.specs.Lines.{Lines, Good, Bad, lines}
 use Rattle.sval_relay.specs.declared.relay.Way.{Way}
-use Rattle.sval_relay.specs.declared.relay.Way.TheVariants.{Direct}
+use Rattle.sval_relay.specs.declared.relay.Way.TheVariants.{Direct, Buffered}
 
 -- the first bad line, or the first call that no value goes on with, each counted from 1; calls that are no whole value; a map's key
 -- that is no text; a number that is none; or the text
@@ -28,6 +28,7 @@ json_verdict (Err InvalidNumber) = Number
 -- what a whole tree gives
 abbrev pub tree_verdict : Way → Tree → Verdict
 tree_verdict Direct tree = json_verdict (json_of tree)
+tree_verdict Buffered tree = json_verdict (json_of tree)
 
 -- what a list of calls gives
 pub data IsOfCalls : List Call → Way → Verdict → Type 0 where

@@ -1,6 +1,8 @@
 //! A script's JSON.
 
-ghost use Rattle.std.specs.Prelude.{◌≡◌, ℕ, ◌<◌, ◌^◌, ◌⊎◌, true, false, List, length, IfErr, OnOk, OnErr};
+ghost use Rattle.std.specs.Prelude.{◌≡◌, ℕ, ◌<◌, ◌^◌, ◌⊎◌, true, false, List, length, IfOk, IfErr, OnOk, OnErr};
+ghost use Rattle.sval_buffer.specs.Collects.{KeepsTree};
+ghost use Rattle.sval_check.specs.Checks.{IsOneValue};
 ghost use Rattle.sval_core.specs.Law.{Rose};
 ghost use Rattle.sval_core.specs.Spells.{Spells};
 ghost use Rattle.sval_core.specs.Trees.{Tree};
@@ -17,6 +19,7 @@ ghost use Rattle.sval_relay.specs.Verdict as found;
 
 use crate::script::{Script, ScriptError};
 use std::alloc::Global;
+use sval_buffer::ValueBuf;
 use sval_check::{CheckError, check};
 use sval_core::{Lent, Value};
 use sval_json::{ErrorKind, Sink, stream_to_io_write};
@@ -26,6 +29,8 @@ use sval_json::{ErrorKind, Sink, stream_to_io_write};
 pub enum Way {
     /// Its JSON, written at once.
     Direct,
+    /// The same JSON, written from the value as it was captured.
+    Buffered,
 }
 
 /// Why a script wasn't served, or not whole.
@@ -115,8 +120,30 @@ pub(crate) fn serve_script<K: Sink>(
     }
     match way {
         Way::Direct => write_json(out, script)?,
+        Way::Buffered => {
+            let captured = capture(alloc, script)?;
+            write_json(out, &captured)?;
+        }
     }
     Ok(())
+}
+
+/// Captures a value that doesn't refuse and whose calls spell a tree.
+fn capture<'v, V: Value<'v, Lent<'v>>>(
+    alloc: Global,
+    value: &'v V,
+) -> Result<ValueBuf<'v>, RelayError>
+    requires { IsOneValue (V.emission value.now) }
+    ensures keeps_the_tree { IfOk result (λ captured. KeepsTree (V.emission value.now) captured.forest) }
+    ensures only { IfErr result (λ error. error ≡ RelayError.NoMemory) }
+{
+    match ValueBuf::collect(alloc, value) {
+        Ok(captured) => Ok(captured),
+        Err(error) => match error.kind() {
+            sval_buffer::ErrorKind::NoAlloc { .. } => Err(RelayError::NoMemory),
+            _ => unreachable!("a value that spells a tree is captured"),
+        },
+    }
 }
 
 /// Writes the JSON of a value that doesn't refuse.

@@ -21,6 +21,7 @@ fn way(words: &[String]) -> Option<Way>
 {
     match words {
         [word] if word.as_str() == "direct" => Some(Way::Direct),
+        [word] if word.as_str() == "buffered" => Some(Way::Buffered),
         _ => None,
     }
 }
@@ -51,8 +52,9 @@ fn serve<I: Source, K: Sink>(
 
 /// Runs the program on its words, its devices and an allocator, and answers its status.
 ///
-/// The words are those after the program's name. For `direct` it reads the input to its end, at most 16,777,216 bytes and
-/// one more to see that there are too many, and writes the JSON of the one value that its script's calls spell. Where the
+/// The words are those after the program's name. For `direct` and `buffered` it reads the input to its end, at most
+/// 16,777,216 bytes and one more to see that there are too many, and writes the JSON of the one value that its script's
+/// calls spell, for `buffered` after the value was captured. Where the
 /// status isn't 0, it writes one line to `diag` that says why; what `diag` answers changes nothing.
 ///
 /// | status | comes |
