@@ -5,6 +5,7 @@ mod error;
 pub mod laws;
 mod part;
 mod parts;
+mod one_pass;
 mod text_buf;
 mod value_buf;
 
