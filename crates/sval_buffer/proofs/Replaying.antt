@@ -1,17 +1,19 @@
 -- What replay has made at each part.
-use Rattle.std.specs.Prelude.{◌≡◌, ℕ, zero, suc, ◌+◌, ◌-◌, ◌≤◌, ◌<◌, ◌==◌, nat_le, Bool, true, false, if◌then◌else◌, List, [], ◌∷◌, ◌++◌, length, map, drop, get_or, Option, Some, None, Result, Ok, Err, OnErr, refl, slice_get, ⊤}
+use Rattle.std.specs.Prelude.{◌≡◌, ℕ, zero, suc, ◌+◌, ◌-◌, ◌≤◌, ◌<◌, nat_le, Bool, true, false, if◌then◌else◌, List, [], ◌∷◌, ◌++◌, length, map, drop, get_or, Option, Some, None, Result, Ok, Err, OnOk, OnErr, refl, slice_get, ⊤}
 use Rattle.std.proofs.Common.{sym, ap, ◌∙◌, subst, arith, append_assoc, append-nil, add-one}
 use Rattle.std.proofs.Math.Seq.{drop-cons}
 use Rattle.std.proofs.lemmas.Bool.Decides.{nat_tests}
-use Rattle.sval_label.specs.Calls.{Call}
-use Rattle.sval_core.specs.Law.{Law, Standing, Emission, Streams, Stops, then_emits}
-use Rattle.sval_core.specs.Emissions.{streams_then, stops_first, stops_later}
-use Rattle.sval_buffer.specs.Forest.{end_of}
+use Rattle.std.proofs.lemmas.List.{length-map}
+use Rattle.sval_buffer.proofs.Replay.{pass-flat}
+use Rattle.sval_label.specs.Calls.{Call, Null}
+use Rattle.sval_core.specs.Law.{Law, Standing, Takes, Refuses, Streams, Stops, emits, then_emits}
+use Rattle.sval_core.specs.Emissions.{streams_one, stops_one, streams_then, stops_first, stops_later}
+use Rattle.sval_buffer.specs.Forest.{Forest, null_for_none, replayed}
 use Rattle.sval_buffer.specs.Flat as flat
 use Rattle.sval_buffer.specs.Replay.{Pending, ended, going, all_ends, head_calls, opened, pass}
 use Rattle.sval_buffer.specs.Emitted.{says}
 use Rattle.sval_buffer.specs.declared.part.Part.{Part}
-use Rattle.sval_buffer.specs.Seen.{kind_of, holds_of, stored, holder}
+use Rattle.sval_buffer.specs.Seen.{kind_of, holds_of, stored, holder, Tells}
 use Rattle.sval_buffer.specs.Nesting.{Going, pendings, still, opens, top, outer_of, IsBelow, Link, Linked, Nested, AllStop, IsNested, end_calls, is_holder}
 
 -- ---- one list of calls after another
@@ -334,3 +336,43 @@ newest_opened i kind at b e h = ap (λ (t : Bool). if t then Some i else at) (sy
 pub newest_kept : (i : ℕ) (kind : flat.Kind) (at : Option ℕ) (b : Bool) → b ≡ is_holder kind → b ≡ false → newest_after i kind at ≡ at
 unfolding newest_after
 newest_kept i kind at b e h = ap (λ (t : Bool). if t then Some i else at) (sym e ∙ h)
+
+-- ---- the replay of a forest
+
+some_first : (k : flat.Kind) (rest : List Call) → null_for_none (head_calls k ++ rest) ≡ head_calls k ++ rest
+some_first (flat.One call) rest = refl
+some_first (flat.Words held) rest = refl
+some_first (flat.Bytes held) rest = refl
+some_first (flat.Holder begin) rest = refl
+
+some_passed : (parts : List flat.Part) → 0 < length parts → null_for_none (pass 0 [] parts) ≡ pass 0 [] parts
+unfolding pass
+some_passed [] h = absurd (omega arith)
+some_passed (p ∷ parts) h = some_first p.kind (pass 1 (opened 0 p.holds p.kind []) parts)
+
+none_passed : (parts : List flat.Part) → length parts ≡ 0 → null_for_none (pass 0 [] parts) ≡ Null ∷ []
+unfolding pass
+none_passed [] h = refl
+none_passed (p ∷ parts) h = absurd (omega arith)
+
+passed_all : (parts : List Part) (places : List ℕ) (f : Forest) → Tells parts places f → null_for_none (pass 0 [] (map stored parts)) ≡ replayed f
+passed_all parts places f t = ap (λ xs. null_for_none (pass 0 [] xs)) t.parts_are ∙ ap null_for_none (pass-flat f)
+
+pub replay_none : (parts : List Part) (places : List ℕ) (f : Forest) → Tells parts places f → length parts ≡ 0 → Null ∷ [] ≡ replayed f
+replay_none parts places f t h = sym (none_passed (map stored parts) (length-map parts stored ∙ h)) ∙ passed_all parts places f t
+
+pub replay_some : (parts : List Part) (places : List ℕ) (f : Forest) → Tells parts places f → 0 < length parts → pass 0 [] (map stored parts) ≡ replayed f
+replay_some parts places f t h =
+    let size = length-map parts stored in
+    sym (some_passed (map stored parts) (omega arith)) ∙ passed_all parts places f t
+
+-- the one call of no value
+pub null_streams : {V : Type 0} (law : Law V) (old new : Standing V) {E : Type 0} (r : Result (Unit {0}) E) (f : Forest) → Null ∷ [] ≡ replayed f → OnOk r (Takes law old Null new) → OnOk r (Streams law old (says (replayed f)) new)
+unfolding emits
+null_streams law old new (Ok done) f e t = subst (λ calls. Streams law old (says calls) new) e (streams_one t)
+null_streams law old new (Err why) f e t = tt
+
+pub null_stops : {V : Type 0} (law : Law V) (old new : Standing V) {E : Type 0} (r : Result (Unit {0}) E) (f : Forest) → Null ∷ [] ≡ replayed f → OnErr r (Refuses law old Null new) → OnErr r (Stops law old (says (replayed f)) new)
+unfolding emits
+null_stops law old new (Ok done) f e t = tt
+null_stops law old new (Err why) f e t = subst (λ calls. Stops law old (says calls) new) e (stops_one t)

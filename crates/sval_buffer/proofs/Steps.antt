@@ -1,9 +1,9 @@
 -- Each step of a forest on the parts of the program.
-use Rattle.std.specs.Prelude.{◌≡◌, ℕ, suc, ◌+◌, ◌-◌, ◌<◌, ◌≤◌, zero, Bool, true, false, List, [], ◌∷◌, ◌++◌, length, map, Option, Some, None, option_map, Result, Ok, Err, OnOk, IfErr, is_ok, if◌then◌else◌, not, refl, slice_set, slice_get, slice_index_or}
+use Rattle.std.specs.Prelude.{◌≡◌, ℕ, suc, ◌+◌, ◌-◌, ◌<◌, zero, Bool, true, false, List, [], ◌∷◌, ◌++◌, length, map, Option, Some, None, option_map, Result, Ok, Err, OnOk, IfErr, is_ok, if◌then◌else◌, not, refl, slice_set, slice_get, slice_index_or}
 use Rattle.std.proofs.Common.{sym, ap, ◌∙◌, subst, arith, length-append}
 use Rattle.std.proofs.lemmas.List.{map-append, length-map}
 use Rattle.std.proofs.Math.Seq.{set-append_seam}
-use mathlib.Core.List.{append_assoc, append-nil}
+use mathlib.Core.List.{append_assoc}
 use Rattle.sval_label.specs.Calls.{Call}
 use Rattle.sval_buffer.specs.Pushes.{Fragment, pushed}
 use Rattle.sval_buffer.specs.Forest.{Node, Single, Text, Binary, Container, Nodes, none, ◌and◌, Open, Forest, empty_forest, newest_row, with_row, with_flag, add, begun, close, push_text, push_last_text, Answer, Taken, Refused, OutsideText, row_or, is_complete}
@@ -93,7 +93,7 @@ pub record Is (parts : List Part) (places : List ℕ) (within : Bool) (f : Fores
 pub is_told : (parts : List Part) (places : List ℕ) (within : Bool) (f : Forest) → Tells parts places f → within ≡ f.in_fragments → Is parts places within f
 is_told parts places within f t e = record { view = told_is parts places within f t e; invariant = tells_view parts places within f t e }
 
-tells_it : {parts : List Part} {places : List ℕ} {within : Bool} {f : Forest} → Is parts places within f → Tells parts places f
+pub tells_it : {parts : List Part} {places : List ℕ} {within : Bool} {f : Forest} → Is parts places within f → Tells parts places f
 tells_it {parts} {places} {within} {f} is = subst (Tells parts places) is.view is.invariant
 
 within_it : {parts : List Part} {places : List ℕ} {within : Bool} {f : Forest} → Is parts places within f → within ≡ f.in_fragments

@@ -1,11 +1,7 @@
-use Rattle.std.proofs.Common.{◌≡◌, ℕ, ◌-◌, ◌*◌, ◌<◌, ◌≤◌, length, List, map, Option, Some, sym, ap, subst, arith, rules}
-use Rattle.sval_core.specs.Law.{Streams, Stops}
-use Rattle.sval_buffer.specs.Replay.{ended}
-use Rattle.sval_buffer.specs.Emitted.{says}
-use Rattle.sval_buffer.specs.declared.part.Part.{Part}
-use Rattle.sval_buffer.specs.Seen.{stored, holds_of}
-use Rattle.sval_buffer.specs.Nesting.{Going, pendings, still, outer_of, IsBelow, Linked}
-use Rattle.sval_buffer.proofs.Replaying.{IsWalked, linked_within, walk-start, walk-none, walk-goes_on, walk-step, walk-stop, walk-below, on_err, nearer}
+use Rattle.std.proofs.Common.{◌-◌, ◌<◌, ◌≤◌, sym, subst, arith, rules}
+use Rattle.sval_buffer.specs.Seen.{holds_of}
+use Rattle.sval_buffer.specs.Nesting.{still, IsBelow, Linked}
+use Rattle.sval_buffer.proofs.Replaying.{IsWalked, linked_within, walk-none, walk-goes_on, walk-step, walk-stop, walk-below, on_err, nearer}
 use Rattle.sval_buffer.proofs.one_pass.end_before.Goals as goal
 
 pub bounds-parts-at : goal.bounds-parts-at

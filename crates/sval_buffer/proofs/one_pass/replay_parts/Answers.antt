@@ -1,4 +1,4 @@
-use Rattle.std.proofs.Common.{◌≡◌, ◌+◌, ◌<◌, ◌≤◌, length, sym, ap, ◌∙◌, subst, arith, Option, ℕ}
+use Rattle.std.proofs.Common.{◌≡◌, ◌+◌, ◌<◌, ◌≤◌, length, sym, ◌∙◌, subst, arith, Option, ℕ}
 use Rattle.sval_buffer.specs.Seen.{kind_of}
 use Rattle.sval_buffer.proofs.Replaying.{IsReplayed, replay-step, replay-stop_ends, replay-stop_head, replay-stop_last, replay-end, newest_opened, newest_kept, on_err}
 use Rattle.sval_buffer.proofs.one_pass.replay_parts.Goals as goal
