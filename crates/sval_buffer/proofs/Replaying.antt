@@ -114,9 +114,10 @@ module _ {V : Type 0} {law : Law V} {old now : Standing V} {parts : List Part} {
       ap (λ (x : Pending). x.stop) n.link.pending ∙ ap (λ k. k + 1 + holds_of n.link.part.kind) n.place_is ∙ ap (λ (x : Part). at + 1 + holds_of x.kind) (newest_part parts at w.rest w.linked p same) in
       let e : nat_le n.newest.pending.stop place ≡ false = grind (arith, nat_tests) in
       let none_ends : ended place (pendings w.rest) ≡ [] = ap (λ gs. ended place (pendings gs)) n.rest_is ∙ rw e refl in
-      let all_go : still place w.rest ≡ w.rest = ap (still place) n.rest_is ∙ rw e (sym n.rest_is) in
-      (subst (λ calls. Streams law old (says calls) now) (sym (w.ended_is ∙ ap (λ calls. w.done ++ calls) none_ends ∙ append-nil w.done)) w.streams,
-      subst (Linked parts (Some at)) (sym (w.still_is ∙ all_go)) w.linked)
+      let all_go : still place w.rest ≡ w.rest = ap (still place) n.rest_is ∙ rw e (sym n.rest_is) in (
+        subst (λ calls. Streams law old (says calls) now) (sym (w.ended_is ∙ ap (λ calls. w.done ++ calls) none_ends ∙ append-nil w.done)) w.streams,
+        subst (Linked parts (Some at)) (sym (w.still_is ∙ all_go)) w.linked,
+      )
 
   module _ (at : ℕ) (p : Part) (w : IsWalked law old now parts place (Some at) gs) (same : p ≡ get_or parts at p) (h : holds_of p.kind < place - at) where
     abbrev n : Newest parts at w.rest
@@ -266,9 +267,10 @@ module _ {V : Type 0} {law : Law V} {old now : Standing V} {parts : List Part} {
       go (flat.One call) e = l
       go (flat.Words held) e = l
       go (flat.Bytes held) e = l
-      go (flat.Holder begin) e =
-          (record { part = p; at = refl; found = found; begin = begin; kind = e; pending = refl; below = below },
-          subst (λ o. Linked parts o (still i r.gs)) (linked_top parts next (still i r.gs) l ∙ sym here.0) l)
+      go (flat.Holder begin) e = (
+        record { part = p; at = refl; found = found; begin = begin; kind = e; pending = refl; below = below },
+        subst (λ o. Linked parts o (still i r.gs)) (linked_top parts next (still i r.gs) l ∙ sym here.0) l,
+      )
 
   before_after : Before (i + 1) gs'
   before_after = go (kind_of p.kind)

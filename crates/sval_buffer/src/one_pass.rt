@@ -13,7 +13,10 @@ use sval_core::{Lent, Result, Stream};
 /// Makes the calls of all parts.
 ///
 /// It keeps the place of the newest container that goes on. Those around it follow from the holders of the parts.
-pub(crate) fn replay_parts<'sval, S: Stream<Lent<'sval>>>(parts: &[Part<'sval>], stream: &mut S) -> Result
+pub(crate) fn replay_parts<'sval, S: Stream<Lent<'sval>>>(
+    parts: &[Part<'sval>],
+    stream: &mut S,
+) -> Result
     requires { IsNested parts.now }
     ensures ok { OnOk result (Streams S.law (S.standing stream.old) (says (pass 0 [] (map stored parts.now))) (S.standing stream.new)) }
     ensures err { OnErr result (Stops S.law (S.standing stream.old) (says (pass 0 [] (map stored parts.now))) (S.standing stream.new)) }
@@ -31,7 +34,12 @@ pub(crate) fn replay_parts<'sval, S: Stream<Lent<'sval>>>(parts: &[Part<'sval>],
 }
 
 /// Makes the ends of the containers that don't go on at a place, from the newest outwards. Gives the newest of the others.
-fn end_before<'sval, S: Stream<Lent<'sval>>>(parts: &[Part<'sval>], going: Option<usize>, place: usize, stream: &mut S) -> Result<Option<usize>>
+fn end_before<'sval, S: Stream<Lent<'sval>>>(
+    parts: &[Part<'sval>],
+    going: Option<usize>,
+    place: usize,
+    stream: &mut S,
+) -> Result<Option<usize>>
     requires { IsLinked parts.now going }
     ensures ok { (gs : List Going) → Linked parts.now going gs → OnOk result (Streams S.law (S.standing stream.old) (says (ended place (pendings gs))) (S.standing stream.new)) }
     ensures going { (gs : List Going) → Linked parts.now going gs → IfOk result (λ next. Linked parts.now next (still place gs)) }

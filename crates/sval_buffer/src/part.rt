@@ -142,8 +142,14 @@ impl<'sval> Part<'sval> {
         ensures err { OnErr result (Stops S.law (S.standing stream.old) (says (end_calls (kind_of self.now.kind))) (S.standing stream.new)) }
     {
         match &self.kind {
-            Kind::Container { begin: Begin::Seq(_), .. } => stream.seq_end(),
-            Kind::Container { begin: Begin::SeqValue, .. } => stream.seq_value_end(),
+            Kind::Container {
+                begin: Begin::Seq(_),
+                ..
+            } => stream.seq_end(),
+            Kind::Container {
+                begin: Begin::SeqValue,
+                ..
+            } => stream.seq_value_end(),
             Kind::Single(_) | Kind::Text(_) => Ok(()),
         }
     }

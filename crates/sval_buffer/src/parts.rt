@@ -81,7 +81,9 @@ impl<'sval> Parts<'sval> {
             holder: self.places.last().copied(),
         };
         if push_part(&mut self.parts, part).is_err() {
-            return Err(ErrorKind::NoAlloc { method: single.word() });
+            return Err(ErrorKind::NoAlloc {
+                method: single.word(),
+            });
         }
         Ok(())
     }
@@ -128,10 +130,14 @@ impl<'sval> Parts<'sval> {
         };
         let place = self.parts.len();
         if self.places.reserve(1).is_err() || push_part(&mut self.parts, part).is_err() {
-            return Err(ErrorKind::NoAlloc { method: Word::Sequence });
+            return Err(ErrorKind::NoAlloc {
+                method: Word::Sequence,
+            });
         }
         if self.places.push(place).is_err() {
-            return Err(ErrorKind::NoAlloc { method: Word::Sequence });
+            return Err(ErrorKind::NoAlloc {
+                method: Word::Sequence,
+            });
         }
         Ok(())
     }
@@ -179,7 +185,9 @@ impl<'sval> Parts<'sval> {
                 self.parts[place].close(holds);
                 Ok(())
             }
-            None => Err(ErrorKind::InvalidValue { reason: Word::Unbalanced }),
+            None => Err(ErrorKind::InvalidValue {
+                reason: Word::Unbalanced,
+            }),
         }
     }
 }

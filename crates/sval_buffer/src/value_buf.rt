@@ -128,7 +128,9 @@ impl<'sval> ValueBuf<'sval> {
     {
         match self.refusal {
             Some(kind) => Error::new(kind),
-            None => Error::new(ErrorKind::InvalidValue { reason: Word::FailedToStream }),
+            None => Error::new(ErrorKind::InvalidValue {
+                reason: Word::FailedToStream,
+            }),
         }
     }
 
