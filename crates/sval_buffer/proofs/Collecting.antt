@@ -1,16 +1,16 @@
 -- Which calls a buffer took, and where it stopped.
-use Rattle.std.specs.Prelude.{◌≡◌, ℕ, ◌+◌, ◌-◌, ◌^◌, ◌≤◌, min, ◌⊎◌, Bool, true, false, List, [], ◌∷◌, Option, Some, None, Result, Ok, Err, ⊤, refl}
+use Rattle.std.specs.Prelude.{◌≡◌, ℕ, ◌+◌, ◌-◌, ◌^◌, ◌≤◌, min, ◌⊎◌, Bool, true, false, List, [], ◌∷◌, Option, Some, None, refl}
 use Rattle.std.proofs.Common.{sym, ap, ◌∙◌, subst, arith, inl, inr}
 use Rattle.sval_label.specs.Calls.{Call}
 use Rattle.sval_core.specs.Trees.{Tree}
 use Rattle.sval_core.specs.Spells.{Spells}
-use Rattle.sval_core.specs.Law.{Standing, Emission, Takes, Refuses, HasCause, Rose, Ran, Streams, StoppedIn, Stops}
-use Rattle.sval_buffer.specs.Forest.{Forest, Answer, Taken, Refused, Refusal, Unbalanced, OutsideText, OutsideBinary, Captured, Holds, RefusedAt, empty_forest, take, forest, forest_from}
+use Rattle.sval_core.specs.Law.{Standing, Emission, Takes, Refuses, Rose, Ran, Streams, StoppedIn, Stops}
+use Rattle.sval_buffer.specs.Forest.{Forest, Answer, Taken, Refused, Refusal, Unbalanced, OutsideText, OutsideBinary, Captured, Holds, RefusedAt, take, forest, forest_from}
 use Rattle.sval_buffer.specs.declared.error.Word.TheVariants as word
 use Rattle.sval_buffer.specs.declared.error.ErrorKind.{ErrorKind}
 use Rattle.sval_buffer.specs.declared.error.ErrorKind.TheVariants as error
-use Rattle.sval_buffer.specs.Captured.{Capture, no_calls, error_of, IsNoAlloc, IsTaken, forest_by, IsCause, one_more, wants_after, IsLeft, capture_law, standing_of}
-use Rattle.sval_buffer.specs.Collects.{IsCaptured, IsCollectCause, SpellsAgain, KeepsTree, IsOkOrNoAlloc, cause_by}
+use Rattle.sval_buffer.specs.Captured.{Capture, no_calls, error_of, IsNoAlloc, IsTaken, forest_by, IsCause, wants_after, capture_law, standing_of}
+use Rattle.sval_buffer.specs.Collects.{IsCaptured, IsCollectCause, SpellsAgain, KeepsTree, cause_by}
 use Rattle.sval_buffer.proofs.SameTree.{capture_keeps}
 
 -- ---- one call

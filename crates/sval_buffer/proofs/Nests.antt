@@ -10,8 +10,8 @@ use Rattle.sval_buffer.specs.BuiltBack.{some_parts}
 use Rattle.sval_buffer.specs.Flat.{flat_node, flat_row, flat_spine}
 use Rattle.sval_buffer.specs.Holders.{holders, holders_node, holders_row, holders_spine, newest_place}
 use Rattle.sval_buffer.specs.declared.part.Part.{Part}
-use Rattle.sval_buffer.specs.Seen.{stored, holder, Tells}
-use Rattle.sval_buffer.specs.Nesting.{Going, still, opens, top, outer_at, outer_of, Nested, AllStop, IsNested}
+use Rattle.sval_buffer.specs.Seen.{stored, Tells}
+use Rattle.sval_buffer.specs.Nesting.{Going, still, opens, top, outer_at, outer_of, Nested, IsNested}
 
 -- ---- places in the whole list
 

@@ -1,9 +1,9 @@
 -- Each step of a forest on the parts of the program.
-use Rattle.std.specs.Prelude.{◌≡◌, ℕ, suc, ◌+◌, ◌-◌, ◌<◌, ◌≤◌, zero, Bool, true, false, List, [], ◌∷◌, ◌++◌, length, map, Option, Some, None, option_map, Result, Ok, Err, OnOk, IfErr, is_ok, if◌then◌else◌, not, refl, slice_set, slice_get, slice_index_or}
+use Rattle.std.specs.Prelude.{◌≡◌, ℕ, suc, ◌+◌, ◌-◌, ◌<◌, zero, Bool, true, false, List, [], ◌∷◌, ◌++◌, length, map, Option, Some, None, option_map, Result, Ok, Err, OnOk, IfErr, is_ok, if◌then◌else◌, not, refl, slice_set, slice_get, slice_index_or}
 use Rattle.std.proofs.Common.{sym, ap, ◌∙◌, subst, arith, length-append}
 use Rattle.std.proofs.lemmas.List.{map-append, length-map}
 use Rattle.std.proofs.Math.Seq.{set-append_seam}
-use mathlib.Core.List.{append_assoc, append-nil}
+use mathlib.Core.List.{append_assoc}
 use Rattle.sval_label.specs.Calls.{Call}
 use Rattle.sval_buffer.specs.Pushes.{Fragment, pushed}
 use Rattle.sval_buffer.specs.Forest.{Node, Single, Text, Binary, Container, Nodes, none, ◌and◌, Open, Forest, empty_forest, newest_row, with_row, with_flag, add, begun, close, push_text, push_last_text, Answer, Taken, Refused, OutsideText, row_or, is_complete}
@@ -93,7 +93,7 @@ pub record Is (parts : List Part) (places : List ℕ) (within : Bool) (f : Fores
 pub is_told : (parts : List Part) (places : List ℕ) (within : Bool) (f : Forest) → Tells parts places f → within ≡ f.in_fragments → Is parts places within f
 is_told parts places within f t e = record { view = told_is parts places within f t e; invariant = tells_view parts places within f t e }
 
-tells_it : {parts : List Part} {places : List ℕ} {within : Bool} {f : Forest} → Is parts places within f → Tells parts places f
+pub tells_it : {parts : List Part} {places : List ℕ} {within : Bool} {f : Forest} → Is parts places within f → Tells parts places f
 tells_it {parts} {places} {within} {f} is = subst (Tells parts places) is.view is.invariant
 
 within_it : {parts : List Part} {places : List ℕ} {within : Bool} {f : Forest} → Is parts places within f → within ≡ f.in_fragments
@@ -286,9 +286,9 @@ module _ {parts : List Part} {places : List ℕ} {within : Bool} {f : Forest} (r
       let node = Container n.newest.begin n.newest.nodes in
       let before : Forest = record { nodes = f.nodes; spine = n.older; in_fragments = f.in_fragments } in
       let t : Tells (slice_set parts place p) rest (add node before) = record {
-      parts_are = closed_parts;
-      places_are = n.places_are ∙ sym (open-add node before);
-      holders_are = closed_holders ∙ ap (holders_spine f.nodes) n.spine_is ∙ sym (holders-closed f.nodes n.newest n.older f.in_fragments);
+        parts_are = closed_parts;
+        places_are = n.places_are ∙ sym (open-add node before);
+        holders_are = closed_holders ∙ ap (holders_spine f.nodes) n.spine_is ∙ sym (holders-closed f.nodes n.newest n.older f.in_fragments);
       } in
       is_told (slice_set parts place p) rest within (add node before) t (within_it is ∙ sym (within-row (newest_row f.nodes n.older and node) f.nodes n.older f.in_fragments))
 
@@ -442,10 +442,10 @@ module _ {parts : List Part} {places : List ℕ} {within : Bool} {f : Forest} (f
       let o = push_taken (kind_of next.kind) p.kind in
       let g = with_row o.row f.nodes f.spine f.in_fragments in
       let t : Tells (ends.front ++ (next ∷ [])) places g = record {
-      parts_are = map-append stored ends.front (next ∷ []) ∙ ap (λ holds. map stored ends.front ++ (flat.part (kind_of next.kind) holds ∷ [])) p.holds ∙ sym o.flat_is;
-      places_are = (tells_it is).places_are ∙ sym (open-push fragment f.nodes f.spine f.in_fragments o.row o.row_is);
-      holders_are = map-append holder ends.front (next ∷ []) ∙ ap (λ h. map holder ends.front ++ (h ∷ [])) p.holder ∙ sym (map-append holder ends.front (last ∷ [])) ∙ ap (map holder) (sym ends.parts_are)
-          ∙ (tells_it is).holders_are ∙ sym (holders-push fragment f.nodes f.spine f.in_fragments o.row o.row_is);
+        parts_are = map-append stored ends.front (next ∷ []) ∙ ap (λ holds. map stored ends.front ++ (flat.part (kind_of next.kind) holds ∷ [])) p.holds ∙ sym o.flat_is;
+        places_are = (tells_it is).places_are ∙ sym (open-push fragment f.nodes f.spine f.in_fragments o.row o.row_is);
+        holders_are = map-append holder ends.front (next ∷ []) ∙ ap (λ h. map holder ends.front ++ (h ∷ [])) p.holder ∙ sym (map-append holder ends.front (last ∷ [])) ∙ ap (map holder) (sym ends.parts_are)
+            ∙ (tells_it is).holders_are ∙ sym (holders-push fragment f.nodes f.spine f.in_fragments o.row o.row_is);
       } in
       is_told (ends.front ++ (next ∷ [])) places within g t (within_it is ∙ sym (within-row o.row f.nodes f.spine f.in_fragments))
 
@@ -486,9 +486,12 @@ pushes_by {parts} {places} {within} {f} fragment last next (Err why) is ends ok 
     record {
       next = f;
       is = subst (λ ps. Is ps places within f) whole is;
-      answers = (refl, cause_of (flat.push_part fragment (kind_of last.kind)) (row_or OutsideText f (push_last_text fragment (newest_row f.nodes f.spine))) why cause
-      (push_refused fragment last is ends)
-      (λ kind some. let o = push_taken fragment last is ends kind some in (with_row o.row f.nodes f.spine f.in_fragments, ap (row_or OutsideText f) o.row_is)));
+      answers = (
+        refl,
+        cause_of (flat.push_part fragment (kind_of last.kind)) (row_or OutsideText f (push_last_text fragment (newest_row f.nodes f.spine))) why cause
+            (push_refused fragment last is ends)
+            (λ kind some. let o = push_taken fragment last is ends kind some in (with_row o.row f.nodes f.spine f.in_fragments, ap (row_or OutsideText f) o.row_is)),
+      );
     }
 
 pub pushes_nothing : {parts : List Part} {places : List ℕ} {within : Bool} {f : Forest} (fragment : Fragment) → Is parts places within f → length parts ≡ 0

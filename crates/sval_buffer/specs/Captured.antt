@@ -1,9 +1,8 @@
 -- The law of a buffer for values as a stream: it takes a call where its forest does.
 use Rattle.std.specs.Prelude.{◌≡◌, ℕ, ◌+◌, ◌^◌, ◌-◌, min, Option, Some, None, Result, Ok, Err, ⊤}
 use Rattle.sval_label.specs.Calls.{Call}
-use Rattle.sval_core.specs.Law.{Law, Standing, Rose}
+use Rattle.sval_core.specs.Law.{Law, Standing}
 use Rattle.sval_buffer.specs.Forest.{Forest, Answer, Taken, Refused, Refusal, Unbalanced, OutsideText, OutsideBinary, empty_forest, take}
-use Rattle.sval_buffer.specs.declared.error.Word.{Word}
 use Rattle.sval_buffer.specs.declared.error.Word.TheVariants as word
 use Rattle.sval_buffer.specs.declared.error.ErrorKind.{ErrorKind}
 use Rattle.sval_buffer.specs.declared.error.ErrorKind.TheVariants as error

@@ -1,7 +1,7 @@
 -- Which container holds each part of the flat list of a forest: its place, or none.
 use Rattle.std.specs.Prelude.{ℕ, ◌+◌, List, [], ◌∷◌, ◌++◌, length, Option, Some, None}
 use Rattle.sval_buffer.specs.Forest.{Node, Single, Text, Binary, Container, Nodes, none, ◌and◌, Open, Forest}
-use Rattle.sval_buffer.specs.Flat.{flat_node, flat_row, flat_spine}
+use Rattle.sval_buffer.specs.Flat.{flat_row, flat_spine}
 
 -- of the parts from one place on, where this container holds the first of them
 abbrev mutual

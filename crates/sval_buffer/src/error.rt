@@ -107,9 +107,15 @@ impl Error {
 impl fmt::Display for Error {
     fn fmt<W: fmt::Write>(&self, f: &mut fmt::Formatter<W>) -> fmt::Result {
         match self.kind {
-            ErrorKind::Unsupported { actual, expected } => write!(f, "unexpected {actual}, expected {expected}"),
+            ErrorKind::Unsupported { actual, expected } => write!(
+                f,
+                "unexpected {actual}, expected {expected}"
+            ),
             ErrorKind::InvalidValue { reason } => write!(f, "the value is invalid: {reason}"),
-            ErrorKind::OutsideContainer { method } => write!(f, "expected a fragment while buffering {method}"),
+            ErrorKind::OutsideContainer { method } => write!(
+                f,
+                "expected a fragment while buffering {method}"
+            ),
             ErrorKind::NoAlloc { method } => write!(f, "cannot allocate for {method}"),
         }
     }

@@ -3,8 +3,11 @@
 
 mod error;
 pub mod laws;
+mod one_pass;
 mod part;
 mod parts;
+#[cfg(test)]
+mod tests;
 mod text_buf;
 mod value_buf;
 

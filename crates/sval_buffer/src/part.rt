@@ -1,12 +1,17 @@
 //! The parts of a captured value.
 
-ghost use Rattle.std.specs.Prelude.{◌≡◌, OnOk, IfErr, is_ok, if◌then◌else◌};
+ghost use Rattle.std.specs.Prelude.{◌≡◌, [], ◌∷◌, OnOk, OnErr, IfErr, is_ok, if◌then◌else◌};
 ghost use Rattle.sval_buffer.specs.Pushes.{pushed};
-ghost use Rattle.sval_buffer.specs.Seen.{Pushed, piece_of, with_holds, IsPushCause};
+ghost use Rattle.sval_core.specs.Law.{Streams, Stops};
+ghost use Rattle.sval_buffer.specs.Replay.{head_calls};
+ghost use Rattle.sval_buffer.specs.Emitted.{says};
+ghost use Rattle.sval_buffer.specs.Nesting.{end_calls, is_holder};
+ghost use Rattle.sval_buffer.specs.Seen.{Pushed, piece_of, with_holds, IsPushCause, kind_of, holds_of, single_call, begin_call};
 
 use crate::error::{ErrorKind, Word};
 use crate::text_buf::TextBuf;
-use sval_core::NoMemory;
+use sval_core::{Lending, Lent, NoMemory, Stream};
+use sval_ref::ValueRef;
 
 /// A call that is complete by itself.
 #[derive(Clone, Copy)]
@@ -25,6 +30,18 @@ impl Single {
             Single::I64(_) => Word::Integer,
         }
     }
+
+    /// Makes the call.
+    fn stream<L: Lending, S: Stream<L>>(self, stream: &mut S) -> sval_core::Result
+        ensures ok { OnOk result (Streams S.law (S.standing stream.old) (says (single_call self ∷ [])) (S.standing stream.new)) }
+        ensures err { OnErr result (Stops S.law (S.standing stream.old) (says (single_call self ∷ [])) (S.standing stream.new)) }
+    {
+        match self {
+            Single::Null => stream.null(),
+            Single::Bool(value) => stream.bool(value),
+            Single::I64(value) => stream.i64(value),
+        }
+    }
 }
 
 /// The begin of a container, which is all that has a begin and an end but a text.
@@ -32,6 +49,19 @@ impl Single {
 pub(crate) enum Begin {
     Seq(Option<usize>),
     SeqValue,
+}
+
+impl Begin {
+    /// Makes the begin.
+    fn stream<L: Lending, S: Stream<L>>(self, stream: &mut S) -> sval_core::Result
+        ensures ok { OnOk result (Streams S.law (S.standing stream.old) (says (begin_call self ∷ [])) (S.standing stream.new)) }
+        ensures err { OnErr result (Stops S.law (S.standing stream.old) (says (begin_call self ∷ [])) (S.standing stream.new)) }
+    {
+        match self {
+            Begin::Seq(size) => stream.seq_begin(size),
+            Begin::SeqValue => stream.seq_value_begin(),
+        }
+    }
 }
 
 /// What a part is.
@@ -71,6 +101,56 @@ impl<'sval> Part<'sval> {
                 Err(_) => Err(ErrorKind::NoAlloc { method: Word::Text }),
             },
             _ => Err(ErrorKind::OutsideContainer { method: Word::Text }),
+        }
+    }
+
+    /// The number of parts after it that it holds.
+    pub(crate) fn holds(&self) -> usize
+        ensures { result ≡ holds_of self.now.kind }
+    {
+        match &self.kind {
+            Kind::Container { holds, .. } => *holds,
+            Kind::Single(_) | Kind::Text(_) => 0,
+        }
+    }
+
+    /// This is a container.
+    pub(crate) fn is_container(&self) -> bool
+        ensures { result ≡ is_holder (kind_of self.now.kind) }
+    {
+        match &self.kind {
+            Kind::Container { .. } => true,
+            Kind::Single(_) | Kind::Text(_) => false,
+        }
+    }
+
+    /// Makes the calls of this part, of a container its begin.
+    pub(crate) fn stream_head<S: Stream<Lent<'sval>>>(&self, stream: &mut S) -> sval_core::Result
+        ensures ok { OnOk result (Streams S.law (S.standing stream.old) (says (head_calls (kind_of self.now.kind))) (S.standing stream.new)) }
+        ensures err { OnErr result (Stops S.law (S.standing stream.old) (says (head_calls (kind_of self.now.kind))) (S.standing stream.new)) }
+    {
+        match &self.kind {
+            Kind::Single(single) => single.stream(stream),
+            Kind::Text(text) => text.stream_ref(stream),
+            Kind::Container { begin, .. } => begin.stream(stream),
+        }
+    }
+
+    /// Makes the end of this part, if it is a container.
+    pub(crate) fn stream_end<S: Stream<Lent<'sval>>>(&self, stream: &mut S) -> sval_core::Result
+        ensures ok { OnOk result (Streams S.law (S.standing stream.old) (says (end_calls (kind_of self.now.kind))) (S.standing stream.new)) }
+        ensures err { OnErr result (Stops S.law (S.standing stream.old) (says (end_calls (kind_of self.now.kind))) (S.standing stream.new)) }
+    {
+        match &self.kind {
+            Kind::Container {
+                begin: Begin::Seq(_),
+                ..
+            } => stream.seq_end(),
+            Kind::Container {
+                begin: Begin::SeqValue,
+                ..
+            } => stream.seq_value_end(),
+            Kind::Single(_) | Kind::Text(_) => Ok(()),
         }
     }
 

@@ -1,18 +1,21 @@
 //! The parts of a captured value, in a flat list.
 
-ghost use Rattle.std.specs.Prelude.{◌≡◌, true, false, is_ok, if◌then◌else◌, [], ◌∷◌, ◌++◌};
+ghost use Rattle.std.specs.Prelude.{◌≡◌, true, false, OnOk, OnErr, is_ok, if◌then◌else◌, [], ◌∷◌, ◌++◌};
 ghost use Rattle.sval_label.specs.Made.{lent_call};
+ghost use Rattle.sval_core.specs.Law.{Streams, Stops};
+ghost use Rattle.sval_buffer.specs.Emitted.{says};
 ghost use Rattle.sval_buffer.specs.Forest as forest;
 ghost use Rattle.sval_buffer.specs.Forest.{Taken, add, with_flag, begun, close, row_or, push_last_text, newest_row, empty_forest, no_bytes};
 ghost use Rattle.sval_buffer.specs.Captured.{CapturesBy};
 ghost use Rattle.sval_buffer.specs.Seen.{single_call, begin_call, piece_of};
 
 use crate::error::{ErrorKind, Word};
+use crate::one_pass::replay_parts;
 use crate::part::{Begin, Kind, Part, Piece, Single};
 use crate::text_buf::TextBuf;
 use std::alloc::Global;
 use std::marker::Model;
-use sval_core::{Call, NoMemory};
+use sval_core::{Call, Lent, NoMemory, Stream};
 
 /// The parts of a captured value, seen as the forest that they are.
 #[derive(Drop)]
@@ -78,7 +81,9 @@ impl<'sval> Parts<'sval> {
             holder: self.places.last().copied(),
         };
         if push_part(&mut self.parts, part).is_err() {
-            return Err(ErrorKind::NoAlloc { method: single.word() });
+            return Err(ErrorKind::NoAlloc {
+                method: single.word(),
+            });
         }
         Ok(())
     }
@@ -125,12 +130,27 @@ impl<'sval> Parts<'sval> {
         };
         let place = self.parts.len();
         if self.places.reserve(1).is_err() || push_part(&mut self.parts, part).is_err() {
-            return Err(ErrorKind::NoAlloc { method: Word::Sequence });
+            return Err(ErrorKind::NoAlloc {
+                method: Word::Sequence,
+            });
         }
         if self.places.push(place).is_err() {
-            return Err(ErrorKind::NoAlloc { method: Word::Sequence });
+            return Err(ErrorKind::NoAlloc {
+                method: Word::Sequence,
+            });
         }
         Ok(())
+    }
+
+    /// Makes the calls again, or that of no value where there is no part.
+    pub(crate) fn replay<S: Stream<Lent<'sval>>>(&self, stream: &mut S) -> sval_core::Result
+        ensures ok { OnOk result (Streams S.law (S.standing stream.old) (says (forest.replayed self.now)) (S.standing stream.new)) }
+        ensures err { OnErr result (Stops S.law (S.standing stream.old) (says (forest.replayed self.now)) (S.standing stream.new)) }
+    {
+        if self.parts.is_empty() {
+            return stream.null();
+        }
+        replay_parts(self.parts.as_slice(), stream)
     }
 
     /// Takes a call.
@@ -165,7 +185,9 @@ impl<'sval> Parts<'sval> {
                 self.parts[place].close(holds);
                 Ok(())
             }
-            None => Err(ErrorKind::InvalidValue { reason: Word::Unbalanced }),
+            None => Err(ErrorKind::InvalidValue {
+                reason: Word::Unbalanced,
+            }),
         }
     }
 }

@@ -1,7 +1,6 @@
 //! Texts that come in fragments.
 
 ghost use Rattle.std.specs.Prelude.{◌≡◌, true, false, length, [], ◌∷◌, Some, None, IsOk, OnOk, OnErr, IfOk, IfErr, ◌++◌, option_map, if◌then◌else◌};
-
 ghost use Rattle.sval_buffer.specs.Pushes.{pushed};
 ghost use Rattle.std.specs.String.{string_bytes};
 ghost use Rattle.sval_buffer.specs.Forest.{no_bytes};

@@ -7,6 +7,7 @@ ghost use Rattle.sval_core.specs.Spells.{Spells};
 ghost use Rattle.sval_core.specs.Law.{Takes, Refuses};
 ghost use Rattle.sval_buffer.specs.Forest as forest;
 ghost use Rattle.sval_buffer.specs.Captured.{Capture, no_calls, wants_after, capture_law, standing_of};
+ghost use Rattle.sval_buffer.specs.Emitted.{says};
 ghost use Rattle.sval_buffer.specs.Collects.{IsCaptured, KeepsTree, IsCollectCause, IsOkOrNoAlloc, cause_by};
 
 use crate::error::{Error, ErrorKind, Word};
@@ -14,6 +15,7 @@ use crate::parts::Parts;
 use std::alloc::Global;
 use std::marker::Model;
 use sval_core::{Call, Lent, Stream, Value};
+use sval_ref::ValueRef;
 
 /// A captured value: the calls that were taken, from which they can be made again.
 ///
@@ -126,7 +128,9 @@ impl<'sval> ValueBuf<'sval> {
     {
         match self.refusal {
             Some(kind) => Error::new(kind),
-            None => Error::new(ErrorKind::InvalidValue { reason: Word::FailedToStream }),
+            None => Error::new(ErrorKind::InvalidValue {
+                reason: Word::FailedToStream,
+            }),
         }
     }
 
@@ -159,5 +163,22 @@ impl<'sval> Stream<Lent<'sval>> for ValueBuf<'sval> {
                 Err(sval_core::Error::new())
             }
         }
+    }
+}
+
+impl<'v, 'sval> Value<'v, Lent<'v>> for ValueBuf<'sval> {
+    ghost emission = { λ buffer. says (forest.replayed buffer.forest) };
+
+    fn stream<S: Stream<Lent<'v>>>(&'v self, stream: &mut S) -> sval_core::Result {
+        let shorter: &'v ValueBuf<'v> = self;
+        shorter.parts.replay(stream)
+    }
+}
+
+impl<'sval> ValueRef<Lent<'sval>> for ValueBuf<'sval> {
+    ghost ref_emission = { λ buffer. says (forest.replayed buffer.forest) };
+
+    fn stream_ref<S: Stream<Lent<'sval>>>(&self, stream: &mut S) -> sval_core::Result {
+        self.parts.replay(stream)
     }
 }

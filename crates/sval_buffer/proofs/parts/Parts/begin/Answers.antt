@@ -1,9 +1,8 @@
 use Rattle.std.specs.Prelude.{slice_get}
-use Rattle.std.proofs.Common.{◌≡◌, ℕ, ◌-◌, ◌<◌, ◌≤◌, List, [], ◌∷◌, ◌++◌, length, refl, ap, ◌∙◌, sym, true, false, arith, vec_len}
+use Rattle.std.proofs.Common.{◌≡◌, ℕ, ◌-◌, List, [], ◌∷◌, ◌++◌, length, refl, ap, ◌∙◌, sym}
 use Rattle.sval_buffer.specs.Forest.{Taken}
-use Rattle.sval_buffer.specs.Forest as forest
-use Rattle.sval_buffer.specs.Seen.{single_call, begin_call}
-use Rattle.sval_buffer.proofs.Steps.{Is, is_added, is_begun, is_flagged, was_pushed, newest_is, none_newest, place_within, is_closed, closes, none_complete, open_incomplete, complete_is}
+use Rattle.sval_buffer.specs.Seen.{begin_call}
+use Rattle.sval_buffer.proofs.Steps.{Is, is_begun, was_pushed}
 use Rattle.sval_buffer.proofs.parts.Parts.begin.Goals as goal
 
 pub invariant_of-self-2 : goal.invariant_of-self-2

@@ -1,10 +1,9 @@
 use Rattle.std.specs.Prelude.{slice_index_or}
-use Rattle.std.proofs.Common.{◌≡◌, ℕ, ◌-◌, ◌<◌, ◌≤◌, List, [], ◌∷◌, ◌++◌, length, refl, ap, ◌∙◌, sym, true, false, arith, vec_len}
+use Rattle.std.proofs.Common.{◌≡◌, ℕ, ◌-◌, ◌<◌, length, ap, ◌∙◌, sym, arith, vec_len}
 use Rattle.sval_buffer.specs.Forest.{Taken}
-use Rattle.sval_buffer.specs.Forest as forest
 use Rattle.sval_buffer.specs.Seen.{with_holds}
 use Rattle.sval_buffer.specs.declared.part.Part.{Part}
-use Rattle.sval_buffer.proofs.Steps.{Is, is_added, is_begun, is_flagged, was_pushed, newest_is, none_newest, place_within, is_closed, closes, none_complete, open_incomplete, complete_is}
+use Rattle.sval_buffer.proofs.Steps.{Is, place_within, is_closed, closes}
 use Rattle.sval_buffer.proofs.parts.Parts.end.Goals as goal
 
 pub overflow_sub-holds : goal.overflow_sub-holds

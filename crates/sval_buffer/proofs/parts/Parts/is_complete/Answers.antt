@@ -1,4 +1,4 @@
-use Rattle.std.proofs.Common.{◌≡◌, ◌<◌, length, sym, ap, ◌∙◌, true, false, arith, vec_len}
+use Rattle.std.proofs.Common.{◌≡◌, ◌<◌, length, sym, arith, vec_len}
 use Rattle.std.proofs.lemmas.Bool.Decides.{nat_tests}
 use Rattle.sval_buffer.proofs.Steps.{Is, none_complete, open_incomplete, complete_is}
 use Rattle.sval_buffer.proofs.parts.Parts.is_complete.Goals as goal

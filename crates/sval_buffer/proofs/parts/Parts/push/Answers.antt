@@ -14,14 +14,14 @@ pushes c =
     let n : vec_len c.self.inside.parts ≡ length items = c.self.inside.parts.ok.0 in
     elim c.match-last_mut.branch [
       | in-Some w ↦
-        let last = w.in-Some.part.now in
-        let some : 0 < length items = omega (arith, w.in-Some.ensures.variant.0 refl) in
-        let ends : EndsIn items last = ends_in items last some (w.in-Some.ensures.value ∙ ap (λ k. slice_index_or items (k - 1) last) n) in
-        let whole = ap (λ k. slice_set items (k - 1) w.push.new.self) n ∙ set-last items ends.front last w.push.new.self ends.parts_are in
-        rw (w.result-is, w.self-inside-is, whole) (pushes_by (piece_of c.args.piece) last w.push.new.self w.push.result is ends w.push.ensures.ok w.push.ensures.err w.push.ensures.why)
+          let last = w.in-Some.part.now in
+          let some : 0 < length items = omega (arith, w.in-Some.ensures.variant.0 refl) in
+          let ends : EndsIn items last = ends_in items last some (w.in-Some.ensures.value ∙ ap (λ k. slice_index_or items (k - 1) last) n) in
+          let whole = ap (λ k. slice_set items (k - 1) w.push.new.self) n ∙ set-last items ends.front last w.push.new.self ends.parts_are in
+          rw (w.result-is, w.self-inside-is, whole) (pushes_by (piece_of c.args.piece) last w.push.new.self w.push.result is ends w.push.ensures.ok w.push.ensures.err w.push.ensures.why)
       | in-None w ↦
-        let z : length items ≡ 0 = omega (arith, w.in-None.ensures.item) in
-        rw (w.result-is, w.self-inside-is) (pushes_nothing (piece_of c.args.piece) is z)
+          let z : length items ≡ 0 = omega (arith, w.in-None.ensures.item) in
+          rw (w.result-is, w.self-inside-is) (pushes_nothing (piece_of c.args.piece) is z)
     ]
 
 pub invariant_of-self : goal.invariant_of-self

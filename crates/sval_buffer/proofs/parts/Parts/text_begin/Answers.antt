@@ -1,11 +1,10 @@
 use Rattle.std.specs.Prelude.{slice_get}
-use Rattle.std.proofs.Common.{◌≡◌, ℕ, ◌-◌, List, [], ◌∷◌, ◌++◌, length, refl, ap, ◌∙◌, sym, true}
+use Rattle.std.proofs.Common.{ℕ, ◌-◌, List, [], ◌∷◌, length, refl, ap, ◌∙◌, sym, true}
 use Rattle.sval_buffer.specs.Forest.{Taken}
 use Rattle.sval_buffer.specs.Forest as forest
 use Rattle.sval_buffer.specs.Pushes.{Fragment}
 use Rattle.sval_buffer.specs.Flat.{Words, part}
-use Rattle.sval_buffer.specs.Seen.{single_call, begin_call}
-use Rattle.sval_buffer.proofs.Steps.{Is, is_added, is_begun, is_flagged, was_pushed}
+use Rattle.sval_buffer.proofs.Steps.{Is, is_added, is_flagged, was_pushed}
 use Rattle.sval_buffer.proofs.parts.Parts.text_begin.Goals as goal
 
 pub invariant_of-self-2 : goal.invariant_of-self-2

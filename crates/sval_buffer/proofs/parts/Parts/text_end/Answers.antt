@@ -1,6 +1,5 @@
 use Rattle.std.proofs.Common.{false}
-use Rattle.sval_buffer.specs.Forest.{Forest}
-use Rattle.sval_buffer.proofs.Steps.{Is, is_flagged}
+use Rattle.sval_buffer.proofs.Steps.{is_flagged}
 use Rattle.sval_buffer.proofs.parts.Parts.text_end.Goals as goal
 
 pub invariant_of-self : goal.invariant_of-self

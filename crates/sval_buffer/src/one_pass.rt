@@ -1,0 +1,68 @@
+//! Replay of a flat list of parts, in one pass without memory.
+
+ghost use Rattle.std.specs.Prelude.{◌≡◌, List, [], map, OnOk, OnErr, IfOk};
+ghost use Rattle.sval_core.specs.Law.{Streams, Stops};
+ghost use Rattle.sval_buffer.specs.Replay.{ended, pass};
+ghost use Rattle.sval_buffer.specs.Emitted.{says};
+ghost use Rattle.sval_buffer.specs.Seen.{stored};
+ghost use Rattle.sval_buffer.specs.Nesting.{Going, pendings, still, outer_of, Linked, IsLinked, IsNested};
+
+use crate::part::Part;
+use sval_core::{Lent, Result, Stream};
+
+/// Makes the calls of all parts.
+///
+/// It keeps the place of the newest container that goes on. Those around it follow from the holders of the parts.
+pub(crate) fn replay_parts<'sval, S: Stream<Lent<'sval>>>(
+    parts: &[Part<'sval>],
+    stream: &mut S,
+) -> Result
+    requires { IsNested parts.now }
+    ensures ok { OnOk result (Streams S.law (S.standing stream.old) (says (pass 0 [] (map stored parts.now))) (S.standing stream.new)) }
+    ensures err { OnErr result (Stops S.law (S.standing stream.old) (says (pass 0 [] (map stored parts.now))) (S.standing stream.new)) }
+{
+    let mut going = None;
+    for (place, part) in parts.iter().enumerate() {
+        going = end_before(parts, going, place, stream)?;
+        part.stream_head(stream)?;
+        if part.is_container() {
+            going = Some(place);
+        }
+    }
+    end_before(parts, going, parts.len(), stream)?;
+    Ok(())
+}
+
+/// Makes the ends of the containers that don't go on at a place, from the newest outwards. Gives the newest of the others.
+fn end_before<'sval, S: Stream<Lent<'sval>>>(
+    parts: &[Part<'sval>],
+    going: Option<usize>,
+    place: usize,
+    stream: &mut S,
+) -> Result<Option<usize>>
+    requires { IsLinked parts.now going }
+    ensures ok { (gs : List Going) → Linked parts.now going gs → OnOk result (Streams S.law (S.standing stream.old) (says (ended place (pendings gs))) (S.standing stream.new)) }
+    ensures going { (gs : List Going) → Linked parts.now going gs → IfOk result (λ next. Linked parts.now next (still place gs)) }
+    ensures err { (gs : List Going) → Linked parts.now going gs → OnErr result (Stops S.law (S.standing stream.old) (says (ended place (pendings gs))) (S.standing stream.new)) }
+{
+    let mut newest = going;
+    while let Some(at) = newest {
+        let part = &parts[at];
+        if part.holds() >= place.saturating_sub(at) {
+            return Ok(newest);
+        }
+        part.stream_end(stream)?;
+        newest = outer(parts, part.holder);
+    }
+    Ok(newest)
+}
+
+/// The place of the container that holds a part in replay: none where that one has no end, since then it holds no part.
+fn outer(parts: &[Part<'_>], holder: Option<usize>) -> Option<usize>
+    ensures { result ≡ outer_of (map stored parts.now) holder }
+{
+    match parts.get(holder?) {
+        Some(part) if part.holds() != 0 => holder,
+        _ => None,
+    }
+}

@@ -1,0 +1,273 @@
+//! What buffers hold, and what they make of it.
+
+ghost use Rattle.std.specs.Prelude.{[], true, ⊤};
+
+use crate::{Error, ErrorKind, TextBuf, ValueBuf, Word};
+use std::alloc::{AllocError, Global};
+use std::fmt::Write;
+use sval_core::{Call, Lent, Stream, Value};
+use sval_ref::{ValueRef, stream_ref};
+
+/// Writes each call that it takes.
+#[derive(Drop)]
+struct Written {
+    text: String,
+    wants: u64,
+}
+
+impl<'sval> Stream<Lent<'sval>> for Written {
+    ghost View = { Unit {0} };
+
+    ghost law = { record { accepts = λ _ _. ⊤; after = λ view _. view; stopped = λ _ _ _. ⊤ } };
+
+    ghost standing = { λ written. record { view = tt; faults = 0; wants = written.wants } };
+
+    fn take(&mut self, call: Call<'sval, '_>) -> sval_core::Result {
+        if write!(self.text, "{call:?} ").is_err() {
+            self.wants = self.wants.saturating_add(1);
+            return Err(sval_core::Error::new());
+        }
+        Ok(())
+    }
+}
+
+/// Refuses, and makes no call.
+#[derive(Drop)]
+struct Refusing {}
+
+impl<'v> Value<'v, Lent<'v>> for Refusing {
+    ghost emission = { λ _. record { calls = []; refuses = true } };
+
+    fn stream<S: Stream<Lent<'v>>>(&'v self, _stream: &mut S) -> sval_core::Result {
+        Err(sval_core::Error::new())
+    }
+}
+
+/// The calls of a value, in a row.
+fn calls_of<'v, V: Value<'v, Lent<'v>>>(alloc: Global, value: &'v V) -> Result<String, AllocError> {
+    let mut written = Written {
+        text: String::new(alloc),
+        wants: 0,
+    };
+    match written.value(value) {
+        Ok(()) => Ok(written.text),
+        Err(_) => Err(AllocError),
+    }
+}
+
+/// The calls of a value by `stream_ref`, in a row.
+fn calls_of_ref<'sval, V: ValueRef<Lent<'sval>>>(
+    alloc: Global,
+    value: &V,
+) -> Result<String, AllocError> {
+    let mut written = Written {
+        text: String::new(alloc),
+        wants: 0,
+    };
+    match stream_ref(&mut written, value) {
+        Ok(()) => Ok(written.text),
+        Err(_) => Err(AllocError),
+    }
+}
+
+/// A buffer after these calls, refused ones among them.
+fn buffer_of<'sval>(alloc: Global, calls: &[Call<'sval, 'sval>]) -> ValueBuf<'sval> {
+    let mut buffer: ValueBuf<'sval> = ValueBuf::new(alloc);
+    for call in calls {
+        let _answer = buffer.take(*call);
+    }
+    buffer
+}
+
+/// Why a text was refused where it was.
+fn kind_of(error: Option<Error>) -> Option<ErrorKind> {
+    match error {
+        Some(error) => Some(*error.kind()),
+        None => None,
+    }
+}
+
+#[test]
+fn captures_calls(rt: HostRuntime) -> Result<(), AllocError> {
+    let unbalanced = Some(ErrorKind::InvalidValue {
+        reason: Word::Unbalanced,
+    });
+    let outside = Some(ErrorKind::OutsideContainer { method: Word::Text });
+    let table: [(
+        &'static [Call<'static, 'static>],
+        Option<ErrorKind>,
+        bool,
+        &'static str,
+    ); 9] = [
+        (&[], None, false, "Null "),
+        (&[Call::SeqEnd], unbalanced, false, "Null "),
+        (&[Call::TextFragment("a")], outside, false, "Null "),
+        (
+            &[Call::SeqBegin(None), Call::Null],
+            None,
+            false,
+            "SeqBegin(None) SeqEnd Null ",
+        ),
+        (
+            &[Call::SeqBegin(None), Call::SeqValueBegin, Call::Bool(true)],
+            None,
+            false,
+            "SeqBegin(None) SeqEnd SeqValueBegin SeqValueEnd Bool(true) ",
+        ),
+        (
+            &[
+                Call::TextBegin(None),
+                Call::TextFragment("a"),
+                Call::TextEnd,
+                Call::TextFragment("b"),
+            ],
+            None,
+            true,
+            "TextBegin(Some(2)) TextFragmentComputed(\"ab\") TextEnd ",
+        ),
+        (
+            &[Call::TextBegin(None), Call::Null, Call::TextFragment("a")],
+            outside,
+            false,
+            "TextBegin(Some(0)) TextFragment(\"\") TextEnd Null ",
+        ),
+        (
+            &[
+                Call::SeqBegin(Some(2)),
+                Call::SeqValueBegin,
+                Call::SeqBegin(Some(0)),
+                Call::SeqEnd,
+                Call::SeqValueEnd,
+                Call::SeqValueBegin,
+                Call::TextBegin(Some(1)),
+                Call::TextFragment("a"),
+                Call::TextEnd,
+                Call::SeqValueEnd,
+                Call::SeqEnd,
+            ],
+            None,
+            true,
+            "SeqBegin(Some(2)) SeqValueBegin SeqBegin(Some(0)) SeqEnd SeqValueEnd SeqValueBegin TextBegin(Some(1)) TextFragment(\"a\") TextEnd SeqValueEnd SeqEnd ",
+        ),
+        (
+            &[
+                Call::SeqBegin(None),
+                Call::SeqValueBegin,
+                Call::I64(-7),
+                Call::SeqValueEnd,
+                Call::SeqEnd,
+                Call::SeqEnd,
+            ],
+            unbalanced,
+            true,
+            "SeqBegin(None) SeqValueBegin I64(-7) SeqValueEnd SeqEnd ",
+        ),
+    ];
+    for (calls, refusal, complete, replay) in table {
+        let buffer = buffer_of(rt.alloc(), calls);
+        assert_eq!(rt; buffer.is_complete(), complete, "{replay}");
+        assert_eq!(rt; calls_of(rt.alloc(), &buffer)?.as_str(), replay);
+        assert_eq!(rt; calls_of_ref(rt.alloc(), &buffer)?.as_str(), replay);
+        assert_eq!(rt; kind_of(buffer.into_err()), refusal, "{replay}");
+    }
+    Ok(())
+}
+
+#[test]
+fn collects_values(rt: HostRuntime) -> Result<(), AllocError> {
+    let calls = [
+        Call::SeqBegin(None),
+        Call::SeqValueBegin,
+        Call::Null,
+        Call::SeqValueEnd,
+        Call::SeqEnd,
+    ];
+    let mut buffer = buffer_of(rt.alloc(), &calls);
+    match ValueBuf::collect(rt.alloc(), &buffer) {
+        Ok(again) => {
+            assert!(rt; again.is_complete());
+            assert_eq!(rt;
+                calls_of(rt.alloc(), &again)?.as_str(),
+                calls_of(rt.alloc(), &buffer)?.as_str()
+            );
+        }
+        Err(error) => assert!(rt; false, "{error}"),
+    }
+    buffer.clear();
+    assert_eq!(rt; calls_of(rt.alloc(), &buffer)?.as_str(), "Null ");
+
+    let refusing = Refusing {};
+    match ValueBuf::collect(rt.alloc(), &refusing) {
+        Ok(_) => assert!(rt; false),
+        Err(error) => {
+            let text = format!(in rt.alloc(); "{error}")?;
+            assert_eq!(rt;
+                text.as_str(),
+                "the value is invalid: the value itself failed to stream"
+            );
+        }
+    }
+    Ok(())
+}
+
+#[test]
+fn joins_fragments(rt: HostRuntime) -> Result<(), AllocError> {
+    let mut text = TextBuf::new(rt.alloc());
+    assert_eq!(rt; text.as_borrowed_str(), Some(""));
+    assert!(rt; text.push_fragment("abc").is_ok());
+    assert_eq!(rt; text.as_borrowed_str(), Some("abc"));
+    assert!(rt; text.push_fragment("def").is_ok());
+    assert_eq!(rt; text.as_borrowed_str(), None);
+    assert_eq!(rt; text.as_str(), "abcdef");
+    assert_eq!(rt;
+        calls_of(rt.alloc(), &text)?.as_str(),
+        "TextBegin(Some(6)) TextFragment(\"abcdef\") TextEnd "
+    );
+    assert_eq!(rt;
+        calls_of_ref(rt.alloc(), &text)?.as_str(),
+        "TextBegin(Some(6)) TextFragmentComputed(\"abcdef\") TextEnd "
+    );
+
+    text.clear();
+    assert!(rt; text.push_fragment_computed("").is_ok());
+    assert_eq!(rt; text.as_borrowed_str(), None);
+    assert!(rt; text.push_fragment("abc").is_ok());
+    assert_eq!(rt; text.as_borrowed_str(), Some("abc"));
+    Ok(())
+}
+
+#[test]
+fn says_what_went_wrong(rt: HostRuntime) -> Result<(), AllocError> {
+    let table = [
+        (
+            ErrorKind::Unsupported {
+                actual: Word::Null,
+                expected: Word::Text,
+            },
+            "unexpected null, expected text",
+        ),
+        (
+            ErrorKind::InvalidValue {
+                reason: Word::Unbalanced,
+            },
+            "the value is invalid: unbalanced calls to `begin` and `end`",
+        ),
+        (
+            ErrorKind::OutsideContainer {
+                method: Word::Binary,
+            },
+            "expected a fragment while buffering binary",
+        ),
+        (
+            ErrorKind::NoAlloc {
+                method: Word::Sequence,
+            },
+            "cannot allocate for sequence",
+        ),
+    ];
+    for (kind, want) in table {
+        let text = format!(in rt.alloc(); "{}", Error::new(kind))?;
+        assert_eq!(rt; text.as_str(), want);
+    }
+    Ok(())
+}
