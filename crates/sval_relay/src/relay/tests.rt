@@ -26,13 +26,12 @@ fn answers(rt: HostRuntime) -> Result<(), Fail> {
         ),
     ];
     for (script, wanted, text) in table {
-        let mut out = VecSink::new(alloc);
-        assert_eq!(rt;
-            relay(alloc, script.as_bytes(), Way::Direct, &mut out),
-            wanted,
-            "at {script:?}"
-        );
-        assert_eq!(rt; out.as_slice(), text.as_bytes(), "at {script:?}");
+        for way in [Way::Direct, Way::Buffered] {
+            let mut out = VecSink::new(alloc);
+            let answer = relay(alloc, script.as_bytes(), way, &mut out);
+            assert_eq!(rt; answer, wanted, "{way:?} at {script:?}");
+            assert_eq!(rt; out.as_slice(), text.as_bytes(), "{way:?} at {script:?}");
+        }
     }
     Ok(())
 }
@@ -42,7 +41,7 @@ fn appends(rt: HostRuntime) -> Result<(), Fail> {
     let alloc = rt.alloc();
     let mut out = VecSink::new(alloc);
     relay(alloc, b"bool true\n", Way::Direct, &mut out)?;
-    relay(alloc, b"i64 -9\n", Way::Direct, &mut out)?;
+    relay(alloc, b"i64 -9\n", Way::Buffered, &mut out)?;
     assert_eq!(rt; out.as_slice(), b"true-9".as_slice());
     Ok(())
 }

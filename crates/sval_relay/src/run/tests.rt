@@ -23,26 +23,26 @@ struct Ran {
     diag: Vec<u8>,
 }
 
-/// The words `direct`.
-fn direct(alloc: Global) -> Result<[String; 1], AllocError> {
-    Ok([String::from_str(alloc, "direct")?])
-}
+/// The words of the ways that write JSON.
+const WAYS: [&'static str; 2] = ["direct", "buffered"];
 
-/// Runs `direct` on a source and a sink, and answers the status and what was said.
+/// Runs a way on a source and a sink, and answers the status and what was said.
 fn run_on<I: Source, K: Sink>(
     alloc: Global,
+    way: &str,
     input: &mut I,
     out: &mut K,
 ) -> Result<(u8, Vec<u8>), AllocError> {
     let mut diag = VecSink::new(alloc);
-    let status = run(alloc, &direct(alloc)?, input, out, &mut diag);
+    let words = [String::from_str(alloc, way)?];
+    let status = run(alloc, &words, input, out, &mut diag);
     Ok((status, diag.into_vec()))
 }
 
-/// Runs `direct` on a script, in memory.
-fn run_script(alloc: Global, script: &[u8]) -> Result<Ran, AllocError> {
+/// Runs a way on a script, in memory.
+fn run_script(alloc: Global, way: &str, script: &[u8]) -> Result<Ran, AllocError> {
     let mut out = VecSink::new(alloc);
-    let (status, diag) = run_on(alloc, &mut MemSource::new(script), &mut out)?;
+    let (status, diag) = run_on(alloc, way, &mut MemSource::new(script), &mut out)?;
     Ok(Ran {
         status,
         out: out.into_vec(),
@@ -63,7 +63,7 @@ enum Wanted {
     Unfinished,
 }
 
-/// Runs each script, and compares the status and all that is written.
+/// Runs each script in each way, and compares the status and all that is written.
 fn try_rows(rt: &impl Abort, alloc: Global, rows: &[(&'static str, Wanted)]) -> Result<(), Fail> {
     for (script, wanted) in rows {
         let (status, out, diag) = match *wanted {
@@ -84,10 +84,12 @@ fn try_rows(rt: &impl Abort, alloc: Global, rows: &[(&'static str, Wanted)]) -> 
                 )
             }
         };
-        let ran = run_script(alloc, script.as_bytes())?;
-        assert_eq!(rt; ran.status, status, "at {script:?}");
-        assert_eq!(rt; ran.out.as_slice(), out.as_bytes(), "at {script:?}");
-        assert_eq!(rt; ran.diag.as_slice(), diag.as_bytes(), "at {script:?}");
+        for way in WAYS {
+            let ran = run_script(alloc, way, script.as_bytes())?;
+            assert_eq!(rt; ran.status, status, "{way} at {script:?}");
+            assert_eq!(rt; ran.out.as_slice(), out.as_bytes(), "{way} at {script:?}");
+            assert_eq!(rt; ran.diag.as_slice(), diag.as_bytes(), "{way} at {script:?}");
+        }
     }
     Ok(())
 }

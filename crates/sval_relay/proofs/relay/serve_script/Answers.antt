@@ -15,15 +15,32 @@ pub returns-in-Err-Unfinished-clause-serves : goal.returns-in-Err-Unfinished-cla
 returns-in-Err-Unfinished-clause-serves g c = λ bytes is.
     answers_unfinished bytes c.args.way _ _ (not_finished bytes c.args.way (record { calls = c.args.script.now; refuses = _ }) is (c.in-Err-Unfinished.ensures.unfinished (ap Err c.in-Err-Unfinished.field-0-is)))
 
-pub returns-in_err-write_json-clause-serves : goal.returns-in_err-write_json-clause-serves
-returns-in_err-write_json-clause-serves g c = λ bytes is.
+pub returns-in_err-write_json-in-Direct-clause-serves : goal.returns-in_err-write_json-in-Direct-clause-serves
+returns-in_err-write_json-in-Direct-clause-serves g c = λ bytes is.
+    let failed = c.in_err-write_json-in-Direct in
     let p = err_from_is_err_and c.from_residual.result c.from_residual.ensures.1 in
     let (tree, spells) = c.in-Ok.ensures.ok.spells in
-    rw (p.1, p.2) (answers_partly bytes c.args.way _ _ _ c.in_err-write_json.field-0.0 c.in_err-write_json.ensures.only c.in_err-write_json.ensures.write
-    (part_of_text bytes c.args.way c.args.script.now tree is spells c.in_err-write_json.ensures.prefix (λ json. c.in_err-write_json.ensures.tree_prefix tree json spells))
-    (grows_prefix c.in_err-write_json.ensures.prefix))
+    rw (p.1, p.2) (answers_partly bytes c.args.way _ _ _ failed.field-0.0 failed.ensures.only failed.ensures.write
+    (part_of_text bytes c.args.way c.args.script.now tree is spells failed.ensures.prefix (λ json. failed.ensures.tree_prefix tree json spells))
+    (grows_prefix failed.ensures.prefix))
 
-pub returns-clause-serves : goal.returns-clause-serves
-returns-clause-serves g c = λ bytes is.
+pub returns-in_ok-write_json-in-Direct-clause-serves : goal.returns-in_ok-write_json-in-Direct-clause-serves
+returns-in_ok-write_json-in-Direct-clause-serves g c = λ bytes is.
     let (tree, spells) = c.in-Ok.ensures.ok.spells in
-    answers_text _ (one_text bytes c.args.way c.args.script.now tree is spells (c.in_ok-write_json.ensures.tree tree spells))
+    answers_text _ (one_text bytes c.args.way c.args.script.now tree is spells (c.in_ok-write_json-in-Direct.ensures.tree tree spells))
+
+pub returns-in_err-write_json-in-Buffered-clause-serves : goal.returns-in_err-write_json-in-Buffered-clause-serves
+returns-in_err-write_json-in-Buffered-clause-serves g c = λ bytes is.
+    let failed = c.in_err-write_json-in-Buffered in
+    let p = err_from_is_err_and c.from_residual-in_err-write_json-in-Buffered.result c.from_residual-in_err-write_json-in-Buffered.ensures.1 in
+    let (tree, spells) = c.in-Ok.ensures.ok.spells in
+    let again = (c.in_ok-captured-in-Buffered.ensures.keeps_the_tree tree spells).spells in
+    rw (p.1, p.2) (answers_partly bytes c.args.way _ _ _ failed.field-0.0 failed.ensures.only failed.ensures.write
+    (part_of_text bytes c.args.way c.args.script.now tree is spells failed.ensures.prefix (λ json. failed.ensures.tree_prefix tree json again))
+    (grows_prefix failed.ensures.prefix))
+
+pub returns-in_ok-write_json-in-Buffered-clause-serves : goal.returns-in_ok-write_json-in-Buffered-clause-serves
+returns-in_ok-write_json-in-Buffered-clause-serves g c = λ bytes is.
+    let (tree, spells) = c.in-Ok.ensures.ok.spells in
+    let again = (c.in_ok-captured-in-Buffered.ensures.keeps_the_tree tree spells).spells in
+    answers_text _ (one_text bytes c.args.way c.args.script.now tree is spells (c.in_ok-write_json-in-Buffered.ensures.tree tree again))

@@ -1,6 +1,6 @@
 //! Devices that give and take little at a time, or fail.
 
-use super::run_on;
+use super::{WAYS, run_on};
 use crate::fakes::{FaultySink, FaultySource};
 use std::test::Fail;
 use sval_json::VecSink;
@@ -16,13 +16,15 @@ const JSON: &[u8] = b"[-7,\"a\\nb\"]";
 #[test]
 fn short_reads(rt: HostRuntime) -> Result<(), Fail> {
     let alloc = rt.alloc();
-    for chunk in 1..9 {
-        let mut input = FaultySource::new(SCRIPT, chunk, 0);
-        let mut out = VecSink::new(alloc);
-        let (status, diag) = run_on(alloc, &mut input, &mut out)?;
-        assert_eq!(rt; status, 0, "at {chunk}");
-        assert_eq!(rt; out.as_slice(), JSON, "at {chunk}");
-        assert!(rt; diag.is_empty(), "at {chunk}");
+    for way in WAYS {
+        for chunk in 1..9 {
+            let mut input = FaultySource::new(SCRIPT, chunk, 0);
+            let mut out = VecSink::new(alloc);
+            let (status, diag) = run_on(alloc, way, &mut input, &mut out)?;
+            assert_eq!(rt; status, 0, "{way} at {chunk}");
+            assert_eq!(rt; out.as_slice(), JSON, "{way} at {chunk}");
+            assert!(rt; diag.is_empty(), "{way} at {chunk}");
+        }
     }
     Ok(())
 }
@@ -31,14 +33,16 @@ fn short_reads(rt: HostRuntime) -> Result<(), Fail> {
 fn reads_that_fail(rt: HostRuntime) -> Result<(), Fail> {
     let alloc = rt.alloc();
     // The script has 156 bytes: the 23rd call gives the last ones, and the 24th sees the end.
-    for failing in 1..25 {
-        let mut input = FaultySource::new(SCRIPT, 7, failing);
-        let mut out = VecSink::new(alloc);
-        let (status, diag) = run_on(alloc, &mut input, &mut out)?;
-        assert_eq!(rt; status, 9, "at {failing}");
-        assert_eq!(rt; input.calls, failing);
-        assert!(rt; out.as_slice().is_empty(), "at {failing}");
-        assert_eq!(rt; diag.as_slice(), b"read fault\n".as_slice(), "at {failing}");
+    for way in WAYS {
+        for failing in 1..25 {
+            let mut input = FaultySource::new(SCRIPT, 7, failing);
+            let mut out = VecSink::new(alloc);
+            let (status, diag) = run_on(alloc, way, &mut input, &mut out)?;
+            assert_eq!(rt; status, 9, "{way} at {failing}");
+            assert_eq!(rt; input.calls, failing);
+            assert!(rt; out.as_slice().is_empty(), "{way} at {failing}");
+            assert_eq!(rt; diag.as_slice(), b"read fault\n".as_slice(), "{way} at {failing}");
+        }
     }
     Ok(())
 }
@@ -46,27 +50,27 @@ fn reads_that_fail(rt: HostRuntime) -> Result<(), Fail> {
 #[test]
 fn one_byte_at_a_time(rt: HostRuntime) -> Result<(), Fail> {
     let alloc = rt.alloc();
-    let mut out = FaultySink::new(alloc, 0, true);
-    let (status, diag) = run_on(alloc, &mut FaultySource::new(SCRIPT, 1, 0), &mut out)?;
-    assert_eq!(rt; status, 0);
-    assert_eq!(rt; out.taken.as_slice(), JSON);
-    assert!(rt; diag.is_empty());
+    for way in WAYS {
+        let mut out = FaultySink::new(alloc, 0, true);
+        let (status, diag) = run_on(alloc, way, &mut FaultySource::new(SCRIPT, 1, 0), &mut out)?;
+        assert_eq!(rt; status, 0, "{way}");
+        assert_eq!(rt; out.taken.as_slice(), JSON, "{way}");
+        assert!(rt; diag.is_empty(), "{way}");
+    }
     Ok(())
 }
 
 #[test]
 fn writes_that_fail(rt: HostRuntime) -> Result<(), Fail> {
     let alloc = rt.alloc();
-    for taken in 0..JSON.len() {
-        let mut out = FaultySink::new(alloc, taken as u64 + 1, true);
-        let (status, diag) = run_on(alloc, &mut FaultySource::new(SCRIPT, 7, 0), &mut out)?;
-        assert_eq!(rt; status, 8, "after {taken}");
-        assert_eq!(rt; out.taken.as_slice(), &JSON[..taken]);
-        assert_eq!(rt;
-            diag.as_slice(),
-            b"write fault\n".as_slice(),
-            "after {taken}"
-        );
+    for way in WAYS {
+        for taken in 0..JSON.len() {
+            let mut out = FaultySink::new(alloc, taken as u64 + 1, true);
+            let (status, diag) = run_on(alloc, way, &mut FaultySource::new(SCRIPT, 7, 0), &mut out)?;
+            assert_eq!(rt; status, 8, "{way} after {taken}");
+            assert_eq!(rt; out.taken.as_slice(), &JSON[..taken]);
+            assert_eq!(rt; diag.as_slice(), b"write fault\n".as_slice(), "{way} after {taken}");
+        }
     }
     Ok(())
 }
@@ -74,10 +78,12 @@ fn writes_that_fail(rt: HostRuntime) -> Result<(), Fail> {
 #[test]
 fn a_flush_that_fails(rt: HostRuntime) -> Result<(), Fail> {
     let alloc = rt.alloc();
-    let mut out = FaultySink::new(alloc, 0, false);
-    let (status, diag) = run_on(alloc, &mut FaultySource::new(SCRIPT, 7, 0), &mut out)?;
-    assert_eq!(rt; status, 8);
-    assert_eq!(rt; out.taken.as_slice(), JSON);
-    assert_eq!(rt; diag.as_slice(), b"write fault\n".as_slice());
+    for way in WAYS {
+        let mut out = FaultySink::new(alloc, 0, false);
+        let (status, diag) = run_on(alloc, way, &mut FaultySource::new(SCRIPT, 7, 0), &mut out)?;
+        assert_eq!(rt; status, 8, "{way}");
+        assert_eq!(rt; out.taken.as_slice(), JSON, "{way}");
+        assert_eq!(rt; diag.as_slice(), b"write fault\n".as_slice(), "{way}");
+    }
     Ok(())
 }

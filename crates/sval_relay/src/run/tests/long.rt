@@ -1,6 +1,6 @@
 //! Long and deep scripts.
 
-use super::{Ran, run_on, run_script};
+use super::{Ran, WAYS, run_on, run_script};
 use crate::fakes::LineFeeds;
 use std::alloc::{AllocError, Global};
 use std::test::Fail;
@@ -33,9 +33,12 @@ fn is_text(ran: &Ran, letters: usize) -> bool {
 fn long_texts(rt: HostRuntime) -> Result<(), Fail> {
     let alloc = rt.alloc();
     for (fragments, letters) in [(1, 1 << 20), (1024, 1024)] {
-        let ran = run_script(alloc, &text_script(alloc, fragments, letters)?)?;
-        assert_eq!(rt; ran.status, 0);
-        assert!(rt; is_text(&ran, 1 << 20));
+        let script = text_script(alloc, fragments, letters)?;
+        for way in WAYS {
+            let ran = run_script(alloc, way, &script)?;
+            assert_eq!(rt; ran.status, 0, "{way}");
+            assert!(rt; is_text(&ran, 1 << 20), "{way}");
+        }
     }
     Ok(())
 }
@@ -55,7 +58,7 @@ fn limit(rt: HostRuntime) -> Result<(), Fail> {
     for (count, left, wanted, text) in table {
         let mut input = LineFeeds { left: count };
         let mut out = VecSink::new(alloc);
-        let (status, diag) = run_on(alloc, &mut input, &mut out)?;
+        let (status, diag) = run_on(alloc, "direct", &mut input, &mut out)?;
         assert_eq!(rt; status, wanted, "at {count}");
         assert_eq!(rt; input.left, left, "at {count}");
         assert!(rt; out.as_slice().is_empty(), "at {count}");
@@ -76,10 +79,12 @@ fn deep_nesting(rt: HostRuntime) -> Result<(), Fail> {
     for _ in 0..depth {
         script.extend_from_slice(b"seq_value_end\nseq_end\n")?;
     }
-    let ran = run_script(alloc, &script)?;
-    assert_eq!(rt; ran.status, 0);
-    assert_eq!(rt; ran.out.len(), 2 * depth + 4);
-    assert!(rt; ran.out.iter().take(depth).all(|byte| *byte == b'['));
-    assert!(rt; ran.out.iter().rev().take(depth).all(|byte| *byte == b']'));
+    for way in WAYS {
+        let ran = run_script(alloc, way, &script)?;
+        assert_eq!(rt; ran.status, 0, "{way}");
+        assert_eq!(rt; ran.out.len(), 2 * depth + 4, "{way}");
+        assert!(rt; ran.out.iter().take(depth).all(|byte| *byte == b'['), "{way}");
+        assert!(rt; ran.out.iter().rev().take(depth).all(|byte| *byte == b']'), "{way}");
+    }
     Ok(())
 }

@@ -18,7 +18,7 @@ fn owned(alloc: Global, texts: &[&str]) -> Result<Vec<String>, AllocError> {
 #[test]
 fn no_form(rt: HostRuntime) -> Result<(), Fail> {
     let alloc = rt.alloc();
-    let table: [&'static [&'static str]; 10] = [
+    let table: [&'static [&'static str]; 13] = [
         &[],
         &[""],
         &["Direct"],
@@ -27,6 +27,9 @@ fn no_form(rt: HostRuntime) -> Result<(), Fail> {
         &["directs"],
         &["direct", "direct"],
         &["direct", ""],
+        &["Buffered"],
+        &["buffer"],
+        &["buffered", "direct"],
         &["--help"],
         &["--version"],
     ];
@@ -51,13 +54,15 @@ fn no_form(rt: HostRuntime) -> Result<(), Fail> {
 #[test]
 fn diag_fails(rt: HostRuntime) -> Result<(), Fail> {
     let alloc = rt.alloc();
-    let table: [(&'static [&'static str], &'static str, u8); 6] = [
+    let table: [(&'static [&'static str], &'static str, u8); 8] = [
         (&[], "null\n", 2),
         (&["direct"], "null\n", 0),
         (&["direct"], "nil\n", 3),
         (&["direct"], "seq_end\n", 4),
         (&["direct"], "", 5),
         (&["direct"], "null", 3),
+        (&["buffered"], "null\n", 0),
+        (&["buffered"], "seq_end\n", 4),
     ];
     for (texts, script, wanted) in table {
         let words = owned(alloc, texts)?;
