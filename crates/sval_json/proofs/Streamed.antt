@@ -1,5 +1,5 @@
 -- What is known of a sink after the writer took some calls.
-use Rattle.std.specs.Prelude.{◌≡◌, ℕ, ◌+◌, ◌≤◌, Bool, true, false, List, [], ◌∷◌, ◌++◌, Option, Some, None, Result, Ok, Err, length, refl}
+use Rattle.std.specs.Prelude.{◌≡◌, ℕ, Bool, true, List, [], ◌∷◌, ◌++◌, Option, Some, None, Result, Ok, Err, length, refl}
 use Rattle.std.proofs.Common.{sym, ap, ◌∙◌, subst, arith, inl, inr, append-nil}
 use Rattle.std.proofs.lemmas.List.{take_all}
 use Rattle.sval_label.specs.Calls.{Call}
@@ -9,7 +9,7 @@ use Rattle.sval_core.specs.Law.{Standing, Emission, Ran, Streams, StoppedIn, Sto
 use Rattle.sval_json.specs.declared.sink.SinkError.{SinkError}
 use Rattle.sval_json.specs.declared.sink.SinkError.TheVariants.{Failed, NoMemory}
 use Rattle.sval_json.specs.Number.{Refusal}
-use Rattle.sval_json.specs.Writer.{State, start, escapes, Outcome, Action, continue}
+use Rattle.sval_json.specs.Writer.{start, Outcome, Action, continue}
 use Rattle.sval_json.specs.Steps.{step, steps, written}
 use Rattle.sval_json.specs.Sinks.{appended, AppendsPrefix}
 use Rattle.sval_json.specs.Writing.{Held, with_text, IsWhy, Stopped, View, writer_law, standing_of}

@@ -11,7 +11,7 @@ pub mod Promises
 pub mod Fronts
 pub mod Sinks
 pub mod Taken
-pub mod Faults
+pub mod OverWriter
 pub mod Writing
 pub mod Targets
 pub mod Laws

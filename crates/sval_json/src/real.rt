@@ -1,7 +1,9 @@
 //! The sink over std's writers: the trusted edge.
 
-ghost use Rattle.std.specs.Prelude.{◌≡◌, ◌+◌, ◌-◌, ◌^◌, None, min};
-ghost use Rattle.sval_json.specs.Faults.{Faults};
+ghost use Rattle.std.specs.Prelude.{◌≡◌, ◌+◌, ◌-◌, ◌^◌, ◌<◌, ◌≤◌, None, IfOk, OnOk, min, length};
+ghost use Rattle.std.specs.Io.KnownBytes.{Keeps, WriteAppends};
+ghost use Rattle.sval_core.specs.Law.{Rose};
+ghost use Rattle.sval_json.specs.OverWriter.{OverWriter};
 
 use crate::sink::{Sink, SinkError};
 use std::io;
@@ -14,7 +16,7 @@ const RETRIES: u32 = 1000;
 /// A sink over one of std's writers. It tells no text, and each error of the writer is one fault.
 ///
 /// An interrupted call is made again, at most 1,000 times in a row. A writer that takes nothing of a piece that isn't
-/// empty has failed.
+/// empty has failed. Where the writer tells what it holds, that grows by the bytes that a call answers, and by no others.
 #[derive(Drop)]
 pub struct RealSink<W> {
     writer: W,
@@ -23,15 +25,15 @@ pub struct RealSink<W> {
 }
 
 impl<W> Model for RealSink<W> {
-    ghost Value = { Faults };
+    ghost Value = { OverWriter W };
 
-    ghost view = { λ sink. record { faults = sink.faults; last_error = sink.last_error } };
+    ghost view = { λ sink. record { writer = sink.writer; faults = sink.faults; last_error = sink.last_error } };
 }
 
 impl<W> RealSink<W> {
     /// A sink over this writer, with no fault.
     pub fn new(writer: W) -> Self
-        ensures { result ≡ record { faults = 0; last_error = None } }
+        ensures { result ≡ record { writer = writer; faults = 0; last_error = None } }
     {
         RealSink {
             writer,
@@ -50,7 +52,7 @@ impl<W> RealSink<W> {
     /// Counts a fault.
     fn fault(&mut self, kind: io::ErrorKind) -> SinkError
         ensures failed { result ≡ SinkError.Failed }
-        ensures counted { self.new ≡ record { faults = min (self.old.faults + 1) (2 ^ 64 - 1); last_error = Some kind } }
+        ensures counted { self.new ≡ record self.old { faults = min (self.old.faults + 1) (2 ^ 64 - 1); last_error = Some kind } }
     {
         self.last_error = Some(kind);
         self.faults = self.faults.saturating_add(1);
@@ -65,7 +67,14 @@ impl<W: Write> Sink for RealSink<W> {
 
     ghost wants = { λ _. 0 };
 
-    fn write(&mut self, piece: &[u8]) -> Result<usize, SinkError> {
+    fn write(&mut self, piece: &[u8]) -> Result<usize, SinkError>
+        ensures within { IfOk result (λ count. count ≤ length piece.now) }
+        ensures progress { IfOk result (λ count. 0 < length piece.now → 0 < count) }
+        ensures steady { OnOk result (self.new.faults ≡ self.old.faults) }
+        ensures failed { result ≡ Err SinkError.Failed → Rose self.old.faults self.new.faults }
+        ensures no_memory { result ≡ Err SinkError.NoMemory → ⊥ }
+        ensures passed_on { WriteAppends (W.contents self.old.writer) (W.contents self.new.writer) result piece.now }
+    {
         for _ in 0..RETRIES {
             match self.writer.write(piece) {
                 Ok(0) if !piece.is_empty() => return Err(self.fault(io::ErrorKind::WriteZero)),
@@ -80,7 +89,12 @@ impl<W: Write> Sink for RealSink<W> {
         Err(self.fault(io::ErrorKind::Interrupted))
     }
 
-    fn flush(&mut self) -> Result<(), SinkError> {
+    fn flush(&mut self) -> Result<(), SinkError>
+        ensures steady { OnOk result (self.new.faults ≡ self.old.faults) }
+        ensures failed { result ≡ Err SinkError.Failed → Rose self.old.faults self.new.faults }
+        ensures no_memory { result ≡ Err SinkError.NoMemory → ⊥ }
+        ensures passed_on { Keeps (W.contents self.old.writer) (W.contents self.new.writer) }
+    {
         for _ in 0..RETRIES {
             match self.writer.flush() {
                 Ok(()) => return Ok(()),

@@ -1,5 +1,5 @@
 use Rattle.std.proofs.Common.{rules, ◌+◌, ◌∙◌}
-use Rattle.sval_json.proofs.EscapedPieces.{after_run, after_escape, from_place, stops_in_run, stops_in_escape, all_escaped}
+use Rattle.sval_json.proofs.EscapedPieces.{after_run, after_escape, from_place, stops_in_run, stops_in_escape}
 use Rattle.sval_json.proofs.escape.write_escaped.Goals as goal
 
 pub returns-in_err-write_all-clause-prefix : goal.returns-in_err-write_all-clause-prefix

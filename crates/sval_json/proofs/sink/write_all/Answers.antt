@@ -1,5 +1,5 @@
-use Rattle.std.proofs.Common.{rules, ◌∙◌, subst}
-use Rattle.sval_json.proofs.Pieces.{nothing_written, written_on, all_written, prefix_written}
+use Rattle.std.proofs.Common.{◌∙◌}
+use Rattle.sval_json.proofs.Pieces.{written_on}
 use Rattle.sval_json.proofs.sink.write_all.Goals as goal
 
 pub loop-rest-preserved : goal.loop-rest-preserved
