@@ -14,9 +14,12 @@ mod run;
 mod script;
 mod source;
 
+ghost use Rattle.std.specs.Prelude.{◌≡◌, ◌≢◌};
+ghost use Rattle.std.specs.IoError.{error_kind};
+
 use crate::real_source::RealSource;
 use crate::run::run;
-use std::io::BufWriter;
+use std::io::{BufWriter, ErrorKind};
 use std::process::ExitCode;
 use std::{env, io};
 use sval_json::RealSink;
@@ -31,9 +34,12 @@ const NO_MEMORY: u8 = 10;
 const BUFFER: usize = 1 << 16;
 
 /// The status where the system gave an error before the program ran.
-fn status_of(error: &io::Error) -> u8 {
+fn status_of(error: &io::Error) -> u8
+    ensures no_memory { error_kind error.now ≡ ErrorKind.OutOfMemory → result ≡ NO_MEMORY }
+    ensures no_words { error_kind error.now ≢ ErrorKind.OutOfMemory → result ≡ NO_WORDS }
+{
     match error.kind() {
-        io::ErrorKind::OutOfMemory => NO_MEMORY,
+        ErrorKind::OutOfMemory => NO_MEMORY,
         _ => NO_WORDS,
     }
 }
