@@ -392,12 +392,15 @@ pub record EndsIn (parts : List Part) (last : Part) : Type 0 where
   pub front : List Part
   pub parts_are : parts ≡ front ++ (last ∷ [])
 
+one_more : (xs : List Part) (x : Part) → EndsIn xs x → (y : Part) → EndsIn (y ∷ xs) x
+one_more xs x e y = record { front = y ∷ e.front; parts_are = ap (λ ys. y ∷ ys) e.parts_are }
+
 pub ends_in : (parts : List Part) (last : Part) → 0 < length parts → last ≡ slice_index_or parts (length parts - 1) last → EndsIn parts last
 ends_in [] last h e = absurd (omega arith)
 ends_in (x ∷ []) last h e = record { front = []; parts_are = ap (λ y. y ∷ []) (sym e) }
 ends_in (x ∷ next ∷ parts) last h e =
     let i : length (x ∷ next ∷ parts) - 1 ≡ suc (length (next ∷ parts) - 1) = omega arith in
-    let rest = ends_in (next ∷ parts) last (omega arith) (rw i at e) in record { front = x ∷ rest.front; parts_are = ap (λ ys. x ∷ ys) rest.parts_are }
+    one_more (next ∷ parts) last (ends_in (next ∷ parts) last (omega arith) (rw i at e)) x
 
 pub set-last : (parts front : List Part) (last next : Part) → parts ≡ front ++ (last ∷ []) → slice_set parts (length parts - 1) next ≡ front ++ (next ∷ [])
 set-last parts front last next e =

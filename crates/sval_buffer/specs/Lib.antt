@@ -14,3 +14,4 @@ pub mod Emitted
 pub mod CaptureCodes
 pub mod Collects
 pub mod Nesting
+pub mod Tests

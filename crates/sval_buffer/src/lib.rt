@@ -1,4 +1,7 @@
-//! Fragment buffers and captured values.
+//! Texts that come in fragments, and captured values.
+//!
+//! A [`TextBuf`] joins the fragments of a text, and a [`ValueBuf`] captures the calls of a value and makes them again.
+//! What they hold stands in `specs/Pushes.antt` and `specs/Forest.antt`, and [`laws`] has what holds of it.
 #![tactic(auto)]
 
 mod error;

@@ -1,6 +1,9 @@
 //! What buffers hold, and what they make of it.
 
-ghost use Rattle.std.specs.Prelude.{[], true, ⊤};
+ghost use Rattle.std.specs.Prelude.{[], true, OnOk, OnErr};
+ghost use Rattle.sval_label.specs.Made.{lent_call};
+ghost use Rattle.sval_core.specs.Law.{Takes, Refuses};
+ghost use Rattle.sval_buffer.specs.Tests.{takes_all, wanting};
 
 use crate::{Error, ErrorKind, TextBuf, ValueBuf, Word};
 use std::alloc::{AllocError, Global};
@@ -18,11 +21,14 @@ struct Written {
 impl<'sval> Stream<Lent<'sval>> for Written {
     ghost View = { Unit {0} };
 
-    ghost law = { record { accepts = λ _ _. ⊤; after = λ view _. view; stopped = λ _ _ _. ⊤ } };
+    ghost law = { takes_all };
 
-    ghost standing = { λ written. record { view = tt; faults = 0; wants = written.wants } };
+    ghost standing = { λ written. wanting written.wants };
 
-    fn take(&mut self, call: Call<'sval, '_>) -> sval_core::Result {
+    fn take(&mut self, call: Call<'sval, '_>) -> sval_core::Result
+        ensures ok { OnOk result (Takes takes_all (wanting self.old.wants) (lent_call call.entry) (wanting self.new.wants)) }
+        ensures err { OnErr result (Refuses takes_all (wanting self.old.wants) (lent_call call.entry) (wanting self.new.wants)) }
+    {
         if write!(self.text, "{call:?} ").is_err() {
             self.wants = self.wants.saturating_add(1);
             return Err(sval_core::Error::new());
@@ -165,10 +171,10 @@ fn captures_calls(rt: HostRuntime) -> Result<(), AllocError> {
     ];
     for (calls, refusal, complete, replay) in table {
         let buffer = buffer_of(rt.alloc(), calls);
-        assert_eq!(rt; buffer.is_complete(), complete, "{replay}");
+        assert_eq!(rt; buffer.is_complete(), complete);
         assert_eq!(rt; calls_of(rt.alloc(), &buffer)?.as_str(), replay);
         assert_eq!(rt; calls_of_ref(rt.alloc(), &buffer)?.as_str(), replay);
-        assert_eq!(rt; kind_of(buffer.into_err()), refusal, "{replay}");
+        assert_eq!(rt; kind_of(buffer.into_err()), refusal);
     }
     Ok(())
 }
@@ -182,7 +188,7 @@ fn collects_values(rt: HostRuntime) -> Result<(), AllocError> {
         Call::SeqValueEnd,
         Call::SeqEnd,
     ];
-    let mut buffer = buffer_of(rt.alloc(), &calls);
+    let buffer = buffer_of(rt.alloc(), &calls);
     match ValueBuf::collect(rt.alloc(), &buffer) {
         Ok(again) => {
             assert!(rt; again.is_complete());
@@ -193,12 +199,22 @@ fn collects_values(rt: HostRuntime) -> Result<(), AllocError> {
         }
         Err(error) => assert!(rt; false, "{error}"),
     }
+    Ok(())
+}
+
+#[test]
+fn forgets_calls(rt: HostRuntime) -> Result<(), AllocError> {
+    let mut buffer = buffer_of(rt.alloc(), &[Call::SeqBegin(None), Call::TextEnd]);
     buffer.clear();
     assert_eq!(rt; calls_of(rt.alloc(), &buffer)?.as_str(), "Null ");
+    Ok(())
+}
 
+#[test]
+fn tells_a_value_that_refuses(rt: HostRuntime) -> Result<(), AllocError> {
     let refusing = Refusing {};
     match ValueBuf::collect(rt.alloc(), &refusing) {
-        Ok(_) => assert!(rt; false),
+        Ok(_buffer) => assert!(rt; false),
         Err(error) => {
             let text = format!(in rt.alloc(); "{error}")?;
             assert_eq!(rt;
