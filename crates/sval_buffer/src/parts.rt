@@ -53,6 +53,14 @@ impl<'sval> Parts<'sval> {
         }
     }
 
+    /// Makes room for this many parts, where there is memory for them.
+    pub(crate) fn reserve(&mut self, parts: usize)
+        ensures { self.new ≡ self.old }
+    {
+        // Without it the parts make room as they come.
+        let _ = self.parts.reserve(parts);
+    }
+
     /// Forgets all parts.
     pub(crate) fn clear(&mut self)
         ensures { self.new ≡ empty_forest }

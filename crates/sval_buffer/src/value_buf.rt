@@ -73,6 +73,15 @@ impl<'sval> ValueBuf<'sval> {
         }
     }
 
+    /// A buffer that has taken no call, with room for this many parts where there is memory for them.
+    fn with_room(alloc: Global, parts: usize) -> Self
+        ensures { result ≡ no_calls 0 }
+    {
+        let mut buffer = ValueBuf::new(alloc);
+        buffer.parts.reserve(parts);
+        buffer
+    }
+
     /// Captures a value.
     ///
     /// - [`ErrorKind::OutsideContainer`] and [`ErrorKind::InvalidValue`] with [`Word::Unbalanced`] come where one of its
@@ -90,7 +99,24 @@ impl<'sval> ValueBuf<'sval> {
         ensures keeps_the_tree { IfOk result (λ buffer. KeepsTree (V.emission v.now) buffer.forest) }
         ensures complete { (tree : Tree) → (V.emission v.now).refuses ≡ false → Spells (V.emission v.now).calls tree → IsOkOrNoAlloc result }
     {
-        let mut buffer: ValueBuf<'sval> = ValueBuf::new(alloc);
+        ValueBuf::collect_with_capacity(alloc, 0, v)
+    }
+
+    /// Captures a value as [`ValueBuf::collect`] does, with room for this many parts from the start.
+    ///
+    /// A value has a part for each call but fragments and ends. The number changes no answer: where it is too small, or
+    /// there is no memory for so many, the buffer grows as the parts come.
+    pub fn collect_with_capacity<V: Value<'sval, Lent<'sval>>>(
+        alloc: Global,
+        parts: usize,
+        v: &'sval V,
+    ) -> Result<Self, Error>
+        ensures ok { IfOk result (λ buffer. IsCaptured (V.emission v.now) buffer) }
+        ensures err { IfErr result (λ why. IsCollectCause (V.emission v.now) why) }
+        ensures keeps_the_tree { IfOk result (λ buffer. KeepsTree (V.emission v.now) buffer.forest) }
+        ensures complete { (tree : Tree) → (V.emission v.now).refuses ≡ false → Spells (V.emission v.now).calls tree → IsOkOrNoAlloc result }
+    {
+        let mut buffer: ValueBuf<'sval> = ValueBuf::with_room(alloc, parts);
         match v.stream(&mut buffer) {
             Ok(()) => Ok(buffer),
             Err(_) => Err(buffer.cause()),

@@ -121,23 +121,25 @@ pub(crate) fn serve_script<K: Sink>(
     match way {
         Way::Direct => write_json(out, script)?,
         Way::Buffered => {
-            let captured = capture(alloc, script)?;
+            // A part takes a line or more; room that isn't filled takes no memory of the system.
+            let captured = capture(alloc, script.lines(), script)?;
             write_json(out, &captured)?;
         }
     }
     Ok(())
 }
 
-/// Captures a value that doesn't refuse and whose calls spell a tree.
+/// Captures a value that doesn't refuse and whose calls spell a tree, with room for this many parts.
 fn capture<'v, V: Value<'v, Lent<'v>>>(
     alloc: Global,
+    parts: usize,
     value: &'v V,
 ) -> Result<ValueBuf<'v>, RelayError>
     requires { IsOneValue (V.emission value.now) }
     ensures keeps_the_tree { IfOk result (λ captured. KeepsTree (V.emission value.now) captured.forest) }
     ensures only { IfErr result (λ error. error ≡ RelayError.NoMemory) }
 {
-    match ValueBuf::collect(alloc, value) {
+    match ValueBuf::collect_with_capacity(alloc, parts, value) {
         Ok(captured) => Ok(captured),
         Err(error) => match error.kind() {
             sval_buffer::ErrorKind::NoAlloc { .. } => Err(RelayError::NoMemory),

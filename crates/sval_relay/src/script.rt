@@ -78,6 +78,13 @@ impl Script {
         let texts = unsafe { String::from_utf8_unchecked(texts) };
         Ok(Script { texts, lines })
     }
+
+    /// The number of its lines.
+    pub(crate) fn lines(&self) -> usize
+        ensures { result ≡ length self.now }
+    {
+        self.lines.len()
+    }
 }
 
 impl<'v> Value<'v, Lent<'v>> for Script {
