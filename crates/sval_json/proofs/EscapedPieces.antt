@@ -8,7 +8,7 @@ use Rattle.std.proofs.lemmas.List.{take-append-drop, length-append, take-append-
 use Rattle.std.proofs.lemmas.List.Sums.{list_all-from_AllPass}
 use Rattle.std.proofs.lemmas.List.Elements.{All-append}
 use Rattle.std.proofs.Math.Seq.{take-append-add, take-add}
-use Rattle.sval_json.specs.Escape.{short_escape, escape_text, escape, escaped, is_escaped, is_plain}
+use Rattle.sval_json.specs.Escape.{escape, escaped, is_plain}
 use Rattle.sval_json.specs.Sinks.{appended, AppendsPrefix}
 use Rattle.sval_json.proofs.Pieces.{appended-appended, appended-nothing}
 use Rattle.sval_json.proofs.Texts.{escaped-append}

@@ -1,5 +1,5 @@
 -- An input that is read part by part.
-use Rattle.std.specs.Prelude.{◌≡◌, ℕ, zero, suc, ◌∷◌, ◌+◌, ◌-◌, ◌^◌, ◌<◌, ◌≤◌, List, [], ◌++◌, take, drop, length, Option, Some, None, IfSome, refl, ⊤}
+use Rattle.std.specs.Prelude.{◌≡◌, ℕ, zero, suc, ◌∷◌, ◌+◌, ◌^◌, ◌≤◌, List, [], ◌++◌, take, drop, length, Option, Some, None, IfSome, refl}
 use Rattle.std.proofs.Common.{sym, ap, ◌∙◌, subst, arith, append_assoc}
 use Rattle.std.proofs.lemmas.List.{length-drop, length-take-le, length-append, drop-drop, take-append-le, take_all}
 use Rattle.std.proofs.Math.Seq.{take-add, take-append-add, take-append_seam}

@@ -1,20 +1,18 @@
 -- From what reading, checking and writing a script answered to the script's verdict.
-use Rattle.std.specs.Prelude.{◌≡◌, ℕ, ◌+◌, ◌-◌, ◌*◌, ◌<◌, ◌≤◌, ◌^◌, ◌⊎◌, min, Bool, true, false, ◌==◌, cond, List, [], ◌∷◌, ◌++◌, length, take, Option, Some, None, option_map, Result, Ok, Err, refl}
-use Rattle.std.specs.List.{slice_split, onto_first}
+use Rattle.std.specs.Prelude.{◌≡◌, ℕ, ◌+◌, ◌<◌, ◌^◌, ◌⊎◌, List, [], ◌∷◌, length, take, Option, Some, None, Result, Ok, Err, refl}
 use Rattle.std.proofs.Common.{sym, ap, ◌∙◌, subst, arith, inl, inr, append-nil}
 use Rattle.std.proofs.lemmas.List.{take_all, length-append}
 use Rattle.sval_label.specs.Calls.{Call}
 use Rattle.sval_core.specs.Trees.{Tree}
 use Rattle.sval_core.specs.Spells.{Spells, IsViable}
 use Rattle.sval_core.specs.Law.{Emission}
-use Rattle.sval_check.specs.Checks.{IsOneValue, IsFirstBad, IsUnfinished}
+use Rattle.sval_check.specs.Checks.{IsFirstBad, IsUnfinished}
 use Rattle.sval_json.specs.Json.{Json, compact}
-use Rattle.sval_json.specs.Steps.{written}
 use Rattle.sval_json.specs.Number.{Refusal, InvalidKey, InvalidNumber}
 use Rattle.sval_json.specs.Shape.{json_of}
 use Rattle.sval_json.specs.Sinks.{appended, AppendsPrefix}
 use Rattle.sval_json.specs.Targets.{WritesTree}
-use Rattle.sval_script.specs.Lines.{Lines, Good, Bad, lines, cut_at, line_of, with_call, at_end, lines_from}
+use Rattle.sval_script.specs.Lines.{Good, Bad, lines}
 use Rattle.sval_relay.specs.declared.relay.Way.{Way}
 use Rattle.sval_relay.specs.declared.relay.Way.TheVariants.{Direct, Buffered}
 use Rattle.sval_relay.specs.Verdict.{Verdict, BadLine, BadCall, Unfinished, Key, Number, Text, json_verdict, tree_verdict, IsOfCalls, bad_call, unfinished, whole, IsOfLines, verdict}

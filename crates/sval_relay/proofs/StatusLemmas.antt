@@ -1,7 +1,6 @@
 -- What each way out of serving an input gives.
-use Rattle.std.specs.Prelude.{◌≡◌, ℕ, ◌<◌, ◌≤◌, ◌⊎◌, ◌^◌, Bool, true, false, List, [], length, Option, Some, None, IfSome, Result, Ok, Err, refl, ⊤}
+use Rattle.std.specs.Prelude.{◌≡◌, ℕ, ◌<◌, ◌≤◌, ◌⊎◌, ◌^◌, true, false, List, [], length, Option, Some, None, Result, Ok, Err, refl}
 use Rattle.std.proofs.Common.{sym, ap, ◌∙◌, subst, arith, inl, inr}
-use Rattle.sval_json.specs.Sinks.{appended}
 use Rattle.sval_relay.specs.declared.relay.Way.{Way}
 use Rattle.sval_relay.specs.declared.reading.ReadError.{ReadError}
 use Rattle.sval_relay.specs.declared.reading.ReadError.TheVariants.{Fault, TooLong}

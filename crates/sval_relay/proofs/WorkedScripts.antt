@@ -1,5 +1,5 @@
 -- Scripts and the JSON that they give, as they compute.
-use Rattle.std.specs.Prelude.{◌≡◌, ℕ, ◌+◌, negsuc, List, [], ◌∷◌, ◌++◌, Some, None, codes, refl, true, false}
+use Rattle.std.specs.Prelude.{◌≡◌, ℕ, negsuc, List, [], ◌∷◌, Some, None, codes, refl, true, false}
 use Rattle.std.specs.Str.{is_utf8, chars}
 use Rattle.std.specs.Char.{encode_utf8}
 use Rattle.std.specs.Fmt.{digits}

@@ -1,5 +1,5 @@
 -- What the program's status says.
-use Rattle.std.specs.Prelude.{◌≡◌, ℕ, ◌≤◌, ◌==◌, ◌^◌, Bool, true, false, List, [], ◌∷◌, length, codes, bytes_eq, Option, Some, None, if◌then◌else◌, ⊤, ◌<◌, ◌⊎◌}
+use Rattle.std.specs.Prelude.{◌≡◌, ℕ, ◌≤◌, ◌==◌, ◌^◌, Bool, true, List, [], ◌∷◌, length, codes, bytes_eq, Option, Some, None, if◌then◌else◌, ⊤, ◌<◌, ◌⊎◌}
 use Rattle.std.specs.List.{list_any}
 use Rattle.sval_relay.specs.declared.relay.Way.{Way}
 use Rattle.sval_relay.specs.declared.relay.Way.TheVariants.{Direct, Buffered}

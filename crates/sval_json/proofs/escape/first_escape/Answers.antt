@@ -1,6 +1,6 @@
-use Rattle.std.proofs.Common.{arith, rules, sym, ap, ◌∙◌, ◌+◌, ◌≡◌, ◌≤◌, drop, take, length, subst}
+use Rattle.std.proofs.Common.{arith, ap, ◌∙◌, drop, take, length, subst}
 use Rattle.std.specs.List.{AllPass}
-use Rattle.std.proofs.lemmas.List.{length-drop, drop-drop, get_or-drop}
+use Rattle.std.proofs.lemmas.List.{length-drop, drop-drop}
 use Rattle.sval_json.specs.Escape.{is_plain}
 use Rattle.sval_json.proofs.EscapedPieces.{plain_joins}
 use Rattle.sval_json.proofs.escape.first_escape.Goals as goal

@@ -1,5 +1,5 @@
 use Rattle.std.proofs.Common.{rules, arith, ◌≡◌, ◌≤◌, ◌+◌, ◌-◌, ◌++◌, ◌∙◌, take, drop, length, subst, sym, ap}
-use Rattle.std.proofs.lemmas.List.{length-take-le, length-drop, length-append}
+use Rattle.std.proofs.lemmas.List.{length-take-le, length-drop}
 use Rattle.sval_relay.proofs.ReadParts.{IsPartlyRead, read_on, read_long, filled, begins}
 use Rattle.sval_relay.proofs.reading.read_all.Goals as goal
 

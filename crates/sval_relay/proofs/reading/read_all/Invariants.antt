@@ -1,4 +1,4 @@
-use Rattle.std.proofs.Common.{◌≡◌, ◌-◌, ◌≤◌, ◌^◌, length, vec_len}
+use Rattle.std.proofs.Common.{◌≡◌, ◌-◌, ◌≤◌, ◌^◌, vec_len}
 use Rattle.sval_relay.proofs.ReadParts.{IsPartlyRead}
 use Rattle.sval_relay.proofs.reading.read_all.Given as goal
 

@@ -1,7 +1,5 @@
-use Rattle.std.proofs.Common.{refl, ap, Err, subst}
+use Rattle.std.proofs.Common.{ap, Err}
 use Rattle.std.proofs.lemmas.Result.{err_from_is_err_and}
-use Rattle.sval_relay.specs.Answers.{AnswersScript}
-use Rattle.sval_relay.specs.declared.relay.RelayError.TheVariants as answer
 use Rattle.sval_relay.proofs.Served.{first_bad, not_finished, one_text, part_of_text, grows_prefix, answers_bad_call, answers_unfinished, answers_text, answers_partly}
 use Rattle.sval_relay.proofs.relay.serve_script.Goals as goal
 

@@ -1,9 +1,8 @@
-use Rattle.std.proofs.Common.{rules, refl, sym, ap, ◌∙◌, subst, Err, length, ◌≤◌, ◌^◌}
+use Rattle.std.proofs.Common.{sym, ap, subst, Err, length, ◌≤◌, ◌^◌}
 use Rattle.std.proofs.lemmas.Result.{err_from_is_err_and}
-use Rattle.sval_core.specs.Law.{Rose}
 use Rattle.sval_relay.specs.Reading.{IsWhole}
 use Rattle.sval_relay.proofs.Served.{of_reading}
-use Rattle.sval_relay.proofs.StatusLemmas.{no_form, read_failed, served, answer_failed, text_written, flush_failed}
+use Rattle.sval_relay.proofs.StatusLemmas.{read_failed, served, answer_failed}
 use Rattle.sval_relay.proofs.run.serve.Goals as goal
 
 pub returns-in_err-bytes-clause-serves : goal.returns-in_err-bytes-clause-serves
