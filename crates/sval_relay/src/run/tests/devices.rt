@@ -41,7 +41,11 @@ fn reads_that_fail(rt: HostRuntime) -> Result<(), Fail> {
             assert_eq!(rt; status, 9, "{way} at {failing}");
             assert_eq!(rt; input.calls, failing);
             assert!(rt; out.as_slice().is_empty(), "{way} at {failing}");
-            assert_eq!(rt; diag.as_slice(), b"read fault\n".as_slice(), "{way} at {failing}");
+            assert_eq!(rt;
+                diag.as_slice(),
+                b"read fault\n".as_slice(),
+                "{way} at {failing}"
+            );
         }
     }
     Ok(())
@@ -66,10 +70,19 @@ fn writes_that_fail(rt: HostRuntime) -> Result<(), Fail> {
     for way in WAYS {
         for taken in 0..JSON.len() {
             let mut out = FaultySink::new(alloc, taken as u64 + 1, true);
-            let (status, diag) = run_on(alloc, way, &mut FaultySource::new(SCRIPT, 7, 0), &mut out)?;
+            let (status, diag) = run_on(
+                alloc,
+                way,
+                &mut FaultySource::new(SCRIPT, 7, 0),
+                &mut out,
+            )?;
             assert_eq!(rt; status, 8, "{way} after {taken}");
             assert_eq!(rt; out.taken.as_slice(), &JSON[..taken]);
-            assert_eq!(rt; diag.as_slice(), b"write fault\n".as_slice(), "{way} after {taken}");
+            assert_eq!(rt;
+                diag.as_slice(),
+                b"write fault\n".as_slice(),
+                "{way} after {taken}"
+            );
         }
     }
     Ok(())

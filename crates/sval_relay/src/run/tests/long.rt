@@ -83,8 +83,14 @@ fn deep_nesting(rt: HostRuntime) -> Result<(), Fail> {
         let ran = run_script(alloc, way, &script)?;
         assert_eq!(rt; ran.status, 0, "{way}");
         assert_eq!(rt; ran.out.len(), 2 * depth + 4, "{way}");
-        assert!(rt; ran.out.iter().take(depth).all(|byte| *byte == b'['), "{way}");
-        assert!(rt; ran.out.iter().rev().take(depth).all(|byte| *byte == b']'), "{way}");
+        assert!(rt;
+            ran.out.iter().take(depth).all(|byte| *byte == b'['),
+            "{way}"
+        );
+        assert!(rt;
+            ran.out.iter().rev().take(depth).all(|byte| *byte == b']'),
+            "{way}"
+        );
     }
     Ok(())
 }
