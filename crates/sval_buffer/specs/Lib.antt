@@ -13,5 +13,6 @@ pub mod Seen
 pub mod Emitted
 pub mod CaptureCodes
 pub mod Collects
+pub mod ErrorTexts
 pub mod Nesting
 pub mod Tests

@@ -31,6 +31,11 @@ pub enum Word {
 }
 
 impl fmt::Display for Word {
+    ghost use Rattle.std.specs.Prelude.{Some};
+    ghost use Rattle.sval_buffer.specs.ErrorTexts.{word_text};
+
+    ghost output = { λ word. Some (word_text word) };
+
     fn fmt<W: fmt::Write>(&self, f: &mut fmt::Formatter<W>) -> fmt::Result {
         f.write_str(match self {
             Word::Null => "null",
@@ -105,6 +110,11 @@ impl Error {
 }
 
 impl fmt::Display for Error {
+    ghost use Rattle.std.specs.Prelude.{Some};
+    ghost use Rattle.sval_buffer.specs.ErrorTexts.{error_text};
+
+    ghost output = { λ kind. Some (error_text kind) };
+
     fn fmt<W: fmt::Write>(&self, f: &mut fmt::Formatter<W>) -> fmt::Result {
         match self.kind {
             ErrorKind::Unsupported { actual, expected } => write!(
