@@ -104,10 +104,16 @@ fn captures_calls(rt: HostRuntime) -> Result<(), AllocError> {
         Option<ErrorKind>,
         bool,
         &'static str,
-    ); 9] = [
+    ); 10] = [
         (&[], None, false, "Null "),
         (&[Call::SeqEnd], unbalanced, false, "Null "),
         (&[Call::TextFragment("a")], outside, false, "Null "),
+        (
+            &[Call::SeqBegin(None), Call::SeqValueEnd],
+            None,
+            true,
+            "SeqBegin(None) SeqEnd ",
+        ),
         (
             &[Call::SeqBegin(None), Call::Null],
             None,
@@ -176,6 +182,34 @@ fn captures_calls(rt: HostRuntime) -> Result<(), AllocError> {
         assert_eq!(rt; calls_of_ref(rt.alloc(), &buffer)?.as_str(), replay);
         assert_eq!(rt; kind_of(buffer.into_err()), refusal);
     }
+    Ok(())
+}
+
+/// Takes a call once more where it was refused for want of memory, which left what stood.
+#[test]
+fn goes_on_after_want_of_memory(rt: HostRuntime) -> Result<(), AllocError> {
+    let calls: [Call<'static, 'static>; 9] = [
+        Call::SeqBegin(None),
+        Call::SeqValueBegin,
+        Call::TextBegin(None),
+        Call::TextFragment("a"),
+        Call::TextFragmentComputed("b"),
+        Call::TextFragment("c"),
+        Call::TextEnd,
+        Call::SeqValueEnd,
+        Call::SeqEnd,
+    ];
+    let mut buffer: ValueBuf<'static> = ValueBuf::new(rt.alloc());
+    for call in calls {
+        if buffer.take(call).is_err() {
+            assert!(rt; buffer.take(call).is_ok());
+        }
+    }
+    assert!(rt; buffer.is_complete());
+    assert_eq!(rt;
+        calls_of(rt.alloc(), &buffer)?.as_str(),
+        "SeqBegin(None) SeqValueBegin TextBegin(Some(3)) TextFragmentComputed(\"abc\") TextEnd SeqValueEnd SeqEnd "
+    );
     Ok(())
 }
 

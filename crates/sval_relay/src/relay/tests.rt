@@ -3,7 +3,9 @@
 use super::{RelayError, Way, relay};
 use crate::fakes::FaultySink;
 use std::test::Fail;
-use sval_json::VecSink;
+use sval_buffer::ValueBuf;
+use sval_core::{Call, Stream};
+use sval_json::{VecSink, stream_to_io_write};
 
 #[test]
 fn answers(rt: HostRuntime) -> Result<(), Fail> {
@@ -53,5 +55,28 @@ fn a_write_that_fails(rt: HostRuntime) -> Result<(), Fail> {
     let answer = relay(alloc, b"bool true\n", Way::Direct, &mut out);
     assert_eq!(rt; answer, Err(RelayError::Write));
     assert_eq!(rt; out.taken.as_slice(), b"tr".as_slice());
+    Ok(())
+}
+
+/// What is written of calls that are no whole value, after they were captured.
+#[test]
+fn captured_parts(rt: HostRuntime) -> Result<(), Fail> {
+    let alloc = rt.alloc();
+    let table: [(&'static [Call<'static, 'static>], bool, &'static str); 3] = [
+        (&[Call::SeqBegin(None), Call::Null], false, "[]null"),
+        (&[Call::SeqEnd], true, "null"),
+        (&[], false, "null"),
+    ];
+    for (calls, refused, text) in table {
+        let mut buffer: ValueBuf<'static> = ValueBuf::new(alloc);
+        for call in calls {
+            let _answer = buffer.take(*call);
+        }
+        let mut out = VecSink::new(alloc);
+        assert!(rt; stream_to_io_write(&mut out, &buffer).is_ok());
+        assert_eq!(rt; out.as_slice(), text.as_bytes());
+        assert!(rt; !buffer.is_complete());
+        assert_eq!(rt; buffer.into_err().is_some(), refused);
+    }
     Ok(())
 }
