@@ -1,6 +1,6 @@
 //! Where JSON is written to.
 
-ghost use Rattle.std.specs.Prelude.{◌≡◌, ℕ, ◌<◌, ◌≤◌, List, [], Option, Some, IfOk, OnOk, OnErr, length, take};
+ghost use Rattle.std.specs.Prelude.{◌≡◌, ℕ, ◌<◌, ◌≤◌, List, [], Option, Some, IfOk, OnOk, OnErr, length, take, ⊤};
 ghost use Rattle.sval_core.specs.Law.{Rose};
 ghost use Rattle.sval_json.specs.Sinks.{appended, AppendsPrefix};
 ghost use Rattle.sval_json.specs.Taken.{Taken};
@@ -31,6 +31,9 @@ pub trait Sink {
     /// How often it had no memory.
     ghost wants: { Self → ℕ };
 
+    /// It holds back none of the bytes that it tells. Most sinks never do.
+    ghost flushed: { Self → Type 0 } = { λ _. ⊤ };
+
     /// Takes the first bytes of a piece and answers how many: at least one, unless the piece is empty.
     ///
     /// [`SinkError::Failed`] comes only where the count of faults rose, and [`SinkError::NoMemory`] only where that of
@@ -44,15 +47,15 @@ pub trait Sink {
         ensures no_memory { result ≡ Err SinkError.NoMemory → Rose (wants self.old) (wants self.new) }
         ensures kept { OnErr result (text self.new ≡ text self.old) };
 
-    /// Passes on what this sink holds back of the bytes that it took. Most sinks hold back nothing.
+    /// Passes on what this sink holds back of the bytes that it took. A sink that holds back nothing answers `Ok`.
+    ///
+    /// The text stays as it was, and each error has its cause as at [`write`](Sink::write).
     fn flush(&mut self) -> Result<(), SinkError>
+        ensures flushed { OnOk result (flushed self.new) }
         ensures kept { text self.new ≡ text self.old }
         ensures steady { OnOk result ((faults self.new ≡ faults self.old) × (wants self.new ≡ wants self.old)) }
         ensures failed { result ≡ Err SinkError.Failed → Rose (faults self.old) (faults self.new) }
-        ensures no_memory { result ≡ Err SinkError.NoMemory → Rose (wants self.old) (wants self.new) }
-    {
-        Ok(())
-    }
+        ensures no_memory { result ≡ Err SinkError.NoMemory → Rose (wants self.old) (wants self.new) };
 }
 
 /// Writes a piece whole, by as many calls of [`Sink::write`] as it takes.
@@ -133,5 +136,9 @@ impl Sink for VecSink {
                 Err(SinkError::NoMemory)
             }
         }
+    }
+
+    fn flush(&mut self) -> Result<(), SinkError> {
+        Ok(())
     }
 }

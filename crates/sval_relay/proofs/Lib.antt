@@ -9,4 +9,5 @@ pub mod ScriptStreams
 pub mod ScriptTexts
 pub mod Served
 pub mod StatusLemmas
+pub mod Diagnoses
 mod WorkedScripts

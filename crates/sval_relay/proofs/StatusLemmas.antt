@@ -35,7 +35,7 @@ no_form input left read_fault write_fault told = record {
   unfinished = λ e. tt;
   write = λ e. absurd (omega arith);
   read = λ e. absurd (omega arith);
-  long = λ e. tt;
+  long = λ e. absurd (omega arith);
   comes = tt;
   long_comes = tt;
   leaves = tt;
@@ -59,7 +59,7 @@ not_read way input left read_fault write_fault told status known unread not2 not
   unfinished = λ e. absurd (read_5 e);
   write = λ e. absurd (not8 e);
   read = is9;
-  long = λ e. on_script way input (λ w s. 2 ^ 24 < length s) (λ s is. (long_of s is (is11 e)));
+  long = is11;
   comes = on_script way input (λ w s. IsShort s → (read_fault → ⊥) → (write_fault → ⊥) → (answer : Verdict) → verdict s w answer → IsStatusOf answer status ⊎ (status ≡ 10)) (λ s is short quiet_read quiet_write answer v. by_cause s is short quiet_read cause);
   long_comes = on_script way input (λ w s. 2 ^ 24 < length s → (read_fault → ⊥) → (status ≡ 11) ⊎ (status ≡ 10)) (λ s is long quiet. by_long quiet cause);
   leaves = on_script way input (λ w s. IsShort s → (answer : Verdict) → verdict s w answer → MayLeave answer told told) (λ s is short answer v. leaves_all answer told);

@@ -1,10 +1,12 @@
 pub mod Sources
+pub mod OverReader
 pub mod Reading
 pub mod Verdict
 pub mod Serving
 pub mod Answers
 pub mod Running
 pub mod Failing
+pub mod Reports
 pub mod LineCalls
 pub mod LineFields
 pub mod LineWords

@@ -4,6 +4,7 @@ use Rattle.std.specs.List.{list_any}
 use Rattle.sval_relay.specs.declared.relay.Way.{Way}
 use Rattle.sval_relay.specs.declared.relay.Way.TheVariants.{Direct, Buffered}
 use Rattle.sval_relay.specs.Verdict.{Verdict, BadLine, BadCall, Unfinished, Key, Number, Text, verdict}
+use Rattle.sval_relay.specs.Reading.{IsLong}
 use Rattle.sval_relay.specs.Serving.{WritesText, Grows, MayLeave}
 
 -- the way that the program's words name, if they are a form
@@ -56,7 +57,7 @@ pub record Serves (way : Option Way) (input left : Option (List ℕ)) (read_faul
   pub unfinished : status ≡ 5 → OnScript way input (λ w s. verdict s w Unfinished)
   pub write : status ≡ 8 → write_fault
   pub read : status ≡ 9 → read_fault
-  pub long : status ≡ 11 → OnScript way input (λ w s. 2 ^ 24 < length s)
+  pub long : status ≡ 11 → IsLong input left
   pub comes : OnScript way input (λ w s. IsShort s → (read_fault → ⊥) → (write_fault → ⊥) → (answer : Verdict) → verdict s w answer → IsStatusOf answer status ⊎ (status ≡ 10))
   pub long_comes : OnScript way input (λ w s. 2 ^ 24 < length s → (read_fault → ⊥) → (status ≡ 11) ⊎ (status ≡ 10))
   pub leaves : OnScript way input (λ w s. IsShort s → (answer : Verdict) → verdict s w answer → MayLeave answer old new)

@@ -1,6 +1,9 @@
 //! The source over std's readers: the trusted edge.
 
-ghost use Rattle.std.specs.Prelude.{◌≡◌, ℕ, ◌+◌, ◌-◌, ◌^◌, None, min};
+ghost use Rattle.std.specs.Prelude.{◌≡◌, ◌+◌, ◌-◌, ◌^◌, ◌≤◌, None, IfOk, OnOk, OnErr, min, length};
+ghost use Rattle.std.specs.Io.KnownBytes.{ReadConsumes};
+ghost use Rattle.sval_core.specs.Law.{Rose};
+ghost use Rattle.sval_relay.specs.OverReader.{OverReader};
 
 use crate::source::{Source, SourceError};
 use std::io;
@@ -12,7 +15,8 @@ const RETRIES: u32 = 1000;
 
 /// A source over one of std's readers. It doesn't tell what it has left, and each error of the reader is one fault.
 ///
-/// An interrupted call is made again, at most 1,000 times in a row.
+/// An interrupted call is made again, at most 1,000 times in a row. Where the reader tells what it has left, a call takes
+/// just the bytes that it answers from the front of that.
 #[derive(Drop)]
 pub struct RealSource<R> {
     reader: R,
@@ -20,22 +24,22 @@ pub struct RealSource<R> {
 }
 
 impl<R> Model for RealSource<R> {
-    ghost Value = { ℕ };
+    ghost Value = { OverReader R };
 
-    ghost view = { λ source. source.faults };
+    ghost view = { λ source. record { reader = source.reader; faults = source.faults } };
 }
 
 impl<R> RealSource<R> {
     /// A source over this reader, with no fault.
     pub fn new(reader: R) -> Self
-        ensures { result ≡ 0 }
+        ensures { result ≡ record { reader = reader; faults = 0 } }
     {
         RealSource { reader, faults: 0 }
     }
 
     /// Counts a fault.
     fn fault(&mut self) -> SourceError
-        ensures { self.new ≡ min (self.old + 1) (2 ^ 64 - 1) }
+        ensures { self.new ≡ record self.old { faults = min (self.old.faults + 1) (2 ^ 64 - 1) } }
     {
         self.faults = self.faults.saturating_add(1);
         SourceError::Failed
@@ -45,9 +49,14 @@ impl<R> RealSource<R> {
 impl<R: Read> Source for RealSource<R> {
     ghost left = { λ _. None };
 
-    ghost faults = { λ source. source };
+    ghost faults = { λ source. source.faults };
 
-    fn read(&mut self, buffer: &mut [u8]) -> Result<usize, SourceError> {
+    fn read(&mut self, buffer: &mut [u8]) -> Result<usize, SourceError>
+        ensures within { IfOk result (λ count. count ≤ length buffer.old) }
+        ensures steady { OnOk result (self.new.faults ≡ self.old.faults) }
+        ensures failed { OnErr result (Rose self.old.faults self.new.faults) }
+        ensures passed_on { ReadConsumes (R.remaining self.old.reader) (R.remaining self.new.reader) result buffer.new }
+    {
         for _ in 0..RETRIES {
             match self.reader.read(buffer) {
                 Ok(count) => return Ok(count),

@@ -82,7 +82,7 @@ impl From<ScriptError> for RelayError {
 /// ```
 pub fn relay<K: Sink>(alloc: Global, script: &[u8], way: Way, out: &mut K) -> Result<(), RelayError>
     ensures done { OnOk result (WritesText script.now way (K.text out.old) (K.text out.new)) }
-    ensures steady { OnOk result (K.faults out.new ≡ K.faults out.old) }
+    ensures steady { OnOk result ((K.faults out.new ≡ K.faults out.old) × (K.wants out.new ≡ K.wants out.old)) }
     ensures bad_line { (n : ℕ) → result ≡ Err (RelayError.BadLine n) → verdict script.now way (found.BadLine n) }
     ensures bad_call { (n : ℕ) → result ≡ Err (RelayError.BadCall n) → verdict script.now way (found.BadCall n) }
     ensures unfinished { result ≡ Err RelayError.Unfinished → verdict script.now way found.Unfinished }
@@ -108,7 +108,7 @@ pub(crate) fn serve_script<K: Sink>(
 ) -> Result<(), RelayError>
     requires few { length script.now < 2 ^ 64 }
     ensures serves { (bytes : List ℕ) → lines bytes ≡ Good script.now → AnswersScript bytes way (Rose (K.faults out.old) (K.faults out.new)) (K.text out.old) (K.text out.new) result }
-    ensures steady { OnOk result (K.faults out.new ≡ K.faults out.old) }
+    ensures steady { OnOk result ((K.faults out.new ≡ K.faults out.old) × (K.wants out.new ≡ K.wants out.old)) }
     ensures untouched { IfErr result (λ error. is_of_script error ≡ true → out.new ≡ out.old) }
 {
     match check(alloc, script) {
@@ -155,7 +155,7 @@ fn write_json<'v, K: Sink, V: Value<'v, Lent<'v>>>(
 ) -> Result<(), RelayError>
     requires { (V.emission value.now).refuses ≡ false }
     ensures tree { OnOk result ((tree : Tree) → Spells (V.emission value.now).calls tree → WritesTree tree (K.text out.old) (K.text out.new)) }
-    ensures steady { OnOk result (K.faults out.new ≡ K.faults out.old) }
+    ensures steady { OnOk result ((K.faults out.new ≡ K.faults out.old) × (K.wants out.new ≡ K.wants out.old)) }
     ensures write { result ≡ Err RelayError.Write → Rose (K.faults out.old) (K.faults out.new) }
     ensures only { IfErr result (λ error. (error ≡ RelayError.Write) ⊎ (error ≡ RelayError.NoMemory)) }
     ensures prefix { OnErr result (AppendsPrefix (K.text out.old) (K.text out.new) (written (V.emission value.now).calls).written) }

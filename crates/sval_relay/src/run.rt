@@ -1,8 +1,10 @@
 //! The whole program, over any words and devices.
 
-ghost use Rattle.std.specs.Prelude.{◌≡◌, ℕ, ◌<◌, ◌≤◌, ◌↔◌, ◌⊎◌, ◌^◌, true, [], None, Some, map, length, string_bytes};
+ghost use Rattle.std.specs.Prelude.{◌≡◌, ℕ, ◌<◌, ◌≤◌, ◌↔◌, ◌⊎◌, ◌^◌, true, [], None, Some, OnOk, map, length, string_bytes};
 ghost use Rattle.sval_core.specs.Law.{Rose};
 ghost use Rattle.sval_relay.specs.Failing.{status_of};
+ghost use Rattle.sval_relay.specs.Reading.{IsLong};
+ghost use Rattle.sval_relay.specs.Reports.{Reports};
 ghost use Rattle.sval_relay.specs.Running.{way_of, OnScript, IsShort, is_status, is_unwritten, is_read, IsStatusOf, Serves};
 ghost use Rattle.sval_relay.specs.Serving.{WritesText, Grows, MayLeave};
 ghost use Rattle.sval_relay.specs.Verdict.{Verdict, verdict, BadLine, BadCall, Unfinished};
@@ -35,8 +37,12 @@ fn serve<I: Source, K: Sink>(
 ) -> Result<(), Failure>
     ensures serves { Serves (way_of (map string_bytes words.now)) (I.left input.old) (I.left input.new) (Rose (I.faults input.old) (I.faults input.new))
         (Rose (K.faults out.old) (K.faults out.new)) (K.text out.old) (K.text out.new) (status_of result) }
+    ensures bad_line { (n : ℕ) → result ≡ Err (Failure.BadLine n) → OnScript (way_of (map string_bytes words.now)) (I.left input.old) (λ way script. verdict script way (BadLine n)) }
+    ensures bad_call { (n : ℕ) → result ≡ Err (Failure.BadCall n) → OnScript (way_of (map string_bytes words.now)) (I.left input.old) (λ way script. verdict script way (BadCall n)) }
     ensures nothing_read { status_of result ≡ 2 → input.new ≡ input.old }
     ensures untouched { is_unwritten (status_of result) ≡ true → out.new ≡ out.old }
+    ensures steady { OnOk result ((I.faults input.new ≡ I.faults input.old) × (K.faults out.new ≡ K.faults out.old) × (K.wants out.new ≡ K.wants out.old)) }
+    ensures flushed { OnOk result (K.flushed out.new) }
 {
     let Some(way) = way(words) else {
         return Err(Failure::Usage);
@@ -89,7 +95,7 @@ pub fn run<I: Source, K: Sink, D: Sink>(
     ensures unfinished { result ≡ 5 → OnScript (way_of (map string_bytes words.now)) (I.left input.old) (λ way script. verdict script way Unfinished) }
     ensures write { result ≡ 8 → Rose (K.faults out.old) (K.faults out.new) }
     ensures read { result ≡ 9 → Rose (I.faults input.old) (I.faults input.new) }
-    ensures long { result ≡ 11 → OnScript (way_of (map string_bytes words.now)) (I.left input.old) (λ way script. 2 ^ 24 < length script) }
+    ensures long { result ≡ 11 → IsLong (I.left input.old) (I.left input.new) }
 
     // Where the devices don't fail, the status is the one that is due, or memory was wanting.
     ensures comes { OnScript (way_of (map string_bytes words.now)) (I.left input.old) (λ way script. IsShort script
@@ -105,6 +111,14 @@ pub fn run<I: Source, K: Sink, D: Sink>(
     ensures leaves_long { OnScript (way_of (map string_bytes words.now)) (I.left input.old) (λ way script. 2 ^ 24 < length script → K.text out.new ≡ K.text out.old) }
     ensures grows { Grows (K.text out.old) (K.text out.new) }
     ensures spent { is_read result ≡ true → OnScript (way_of (map string_bytes words.now)) (I.left input.old) (λ way script. I.left input.new ≡ Some []) }
+
+    // Status 0 comes where no device failed, and nothing is held back.
+    ensures steady { result ≡ 0 → (I.faults input.new ≡ I.faults input.old) × (K.faults out.new ≡ K.faults out.old) × (K.wants out.new ≡ K.wants out.old) }
+    ensures flushed { result ≡ 0 → K.flushed out.new }
+
+    // What the third device is told.
+    ensures reports { Reports (way_of (map string_bytes words.now)) (I.left input.old) result
+        ((Rose (D.faults diag.old) (D.faults diag.new) → ⊥) × (Rose (D.wants diag.old) (D.wants diag.new) → ⊥)) (D.text diag.old) (D.text diag.new) }
 {
     match serve(alloc, words, input, out) {
         Ok(()) => 0,

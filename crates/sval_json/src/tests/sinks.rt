@@ -69,6 +69,10 @@ impl Sink for Balky {
             self.taken.write(piece)
         }
     }
+
+    fn flush(&mut self) -> Result<(), SinkError> {
+        Ok(())
+    }
 }
 
 /// A text with escapes, a number and a truth value in a sequence.

@@ -1,3 +1,5 @@
+use Rattle.std.proofs.Common.{ap, Err}
+use Rattle.sval_relay.proofs.Diagnoses.{diagnosed, nothing_diagnosed, where_quiet}
 use Rattle.sval_relay.proofs.run.run.Goals as goal
 
 pub returns-in-Err-clause-comes : goal.returns-in-Err-clause-comes
@@ -5,3 +7,11 @@ returns-in-Err-clause-comes g c = rw c.status.ensures c.in-Err.ensures.serves.co
 
 pub returns-in-Err-clause-long_comes : goal.returns-in-Err-clause-long_comes
 returns-in-Err-clause-long_comes g c = rw c.status.ensures c.in-Err.ensures.serves.long_comes
+
+pub returns-in-Ok-clause-reports : goal.returns-in-Ok-clause-reports
+returns-in-Ok-clause-reports g c = nothing_diagnosed _ _
+
+pub returns-in-Err-clause-reports : goal.returns-in-Err-clause-reports
+returns-in-Err-clause-reports g c = rw c.status.ensures (
+    diagnosed _ c.in-Err.failure (λ n is. c.in-Err.ensures.bad_line n (ap Err is)) (λ n is. c.in-Err.ensures.bad_call n (ap Err is)) c.report.ensures.prefix
+    (where_quiet c.report.result c.report.ensures.failed c.report.ensures.no_memory c.report.ensures.whole))
