@@ -174,6 +174,6 @@ fn push_piece<'sval>(text: &mut TextBuf<'sval>, piece: Piece<'sval, '_>) -> Resu
     };
     match pushed {
         Ok(()) => Ok(()),
-        Err(_) => Err(NoMemory {}),
+        Err(_) => Err(NoMemory),
     }
 }

@@ -206,6 +206,6 @@ fn push_part<'sval>(parts: &mut Vec<Part<'sval>>, part: Part<'sval>) -> Result<(
 {
     match parts.push(part) {
         Ok(()) => Ok(()),
-        Err(_) => Err(NoMemory {}),
+        Err(_) => Err(NoMemory),
     }
 }

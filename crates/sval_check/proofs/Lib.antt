@@ -1,3 +1,4 @@
 pub mod Stacks
 pub mod Moves
 pub mod Runs
+pub mod OneAnswer

@@ -1,9 +1,11 @@
 -- What is said of a value that was checked.
-use Rattle.std.specs.Prelude.{◌≡◌, ℕ, ◌+◌, ◌-◌, ◌^◌, min, true, false, List, [], ◌∷◌, ◌++◌, length}
+use Rattle.std.specs.Prelude.{◌≡◌, ℕ, ◌+◌, ◌-◌, ◌^◌, min, true, false, List, [], ◌∷◌, ◌++◌, length, Result, Ok, Err}
 use Rattle.sval_label.specs.Calls.{Call}
 use Rattle.sval_core.specs.Trees.{Tree}
 use Rattle.sval_core.specs.Spells.{Spells, IsViable}
 use Rattle.sval_core.specs.Law.{Emission}
+use Rattle.sval_check.specs.declared.error.CheckError.{CheckError}
+use Rattle.sval_check.specs.declared.error.CheckError.TheVariants as error
 
 -- the value doesn't refuse, and its calls spell a tree
 pub record IsOneValue (e : Emission) : Type 0 where
@@ -30,3 +32,15 @@ pub record IsUnfinished (e : Emission) : Type 0 where
   pub viable : IsViable e.calls
   pub willing : e.refuses ≡ false
   pub no_tree : (tree : Tree) → Spells e.calls tree → ⊥
+
+-- what checking answers
+abbrev pub Answer : Type 0
+Answer = Result (Unit {0}) CheckError
+
+-- the answer that is due, where memory isn't wanting
+abbrev pub IsDue : Emission → Answer → Type 0
+IsDue e (Ok done) = IsOneValue e
+IsDue e (Err (error.BadCall at)) = IsFirstBad e.calls at
+IsDue e (Err error.Refused) = OnlyRefuses e
+IsDue e (Err error.Unfinished) = IsUnfinished e
+IsDue e (Err error.NoMemory) = ⊥

@@ -4,8 +4,8 @@
 //! others. Its words stand in `specs/Checks.antt`.
 #![tactic(auto)]
 
-ghost use Rattle.std.specs.Prelude.{◌≡◌, ℕ, Err, OnOk};
-ghost use Rattle.sval_check.specs.Checks.{IsOneValue, IsFirstBad, OnlyRefuses, IsUnfinished};
+ghost use Rattle.std.specs.Prelude.{◌≡◌, ◌⊎◌, ℕ, Err, OnOk};
+ghost use Rattle.sval_check.specs.Checks.{IsOneValue, IsFirstBad, OnlyRefuses, IsUnfinished, Answer, IsDue};
 
 mod checker;
 mod error;
@@ -29,6 +29,8 @@ use sval_core::{Lent, Value};
 ///   one whole value.
 /// - [`CheckError::NoMemory`] comes where memory was wanting.
 ///
+/// The four cases exclude each other, and each has its answer wherever it stands, unless memory was wanting.
+///
 /// ```
 /// match check(alloc, &value) {
 ///     Ok(()) => println!(rt; "one whole value")?,
@@ -41,6 +43,7 @@ pub fn check<'v, V: Value<'v, Lent<'v>>>(alloc: Global, value: &'v V) -> Result<
     ensures bad_call { (at : ℕ) → result ≡ Err (CheckError.BadCall at) → IsFirstBad (V.emission value.now).calls at }
     ensures refused { result ≡ Err CheckError.Refused → OnlyRefuses (V.emission value.now) }
     ensures unfinished { result ≡ Err CheckError.Unfinished → IsUnfinished (V.emission value.now) }
+    ensures comes { (due : Answer) → IsDue (V.emission value.now) due → (result ≡ due) ⊎ (result ≡ Err CheckError.NoMemory) }
 {
     let mut checker = Checker::new(alloc);
     match value.stream(&mut checker) {

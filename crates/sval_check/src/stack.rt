@@ -57,7 +57,7 @@ impl Stack {
     {
         match self.frames.push(frame) {
             Ok(()) => Ok(()),
-            Err(_) => Err(NoMemory {}),
+            Err(_) => Err(NoMemory),
         }
     }
 

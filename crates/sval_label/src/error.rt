@@ -8,14 +8,14 @@ use std::fmt;
 ///
 /// A stream that knows more keeps the cause itself, as the checker and the JSON writer do.
 #[derive(Clone, Copy, Debug, PartialEq, Eq)]
-pub struct Error {}
+pub struct Error;
 
 impl Error {
     /// The one refusal that there is.
     pub fn new() -> Error
         ensures { result ≡ record {} }
     {
-        Error {}
+        Error
     }
 }
 
@@ -43,4 +43,4 @@ pub fn refusal<T>() -> Result<T>
 
 /// Memory was wanting, in a call that can fail in no other way.
 #[derive(Clone, Copy, Debug, PartialEq, Eq)]
-pub struct NoMemory {}
+pub struct NoMemory;

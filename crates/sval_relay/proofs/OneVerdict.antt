@@ -1,12 +1,13 @@
 -- Each script has one verdict in each way.
 use Rattle.std.specs.Prelude.{◌≡◌, ℕ, ◌+◌, ◌⊎◌, Bool, true, false, List, [], ◌∷◌, ◌++◌, length, refl}
-use Rattle.std.proofs.Common.{sym, ap, ◌∙◌, subst, inl, inr, append_assoc}
+use Rattle.std.proofs.Common.{sym, ap, ◌∙◌, inl, inr}
 use Rattle.sval_label.specs.Calls.{Call}
 use Rattle.sval_core.specs.Trees.{Tree}
-use Rattle.sval_core.specs.Spells.{Spells, IsViable, plain}
+use Rattle.sval_core.specs.Spells.{Spells, plain}
 use Rattle.sval_core.specs.Checker.{Frame, Runs}
 use Rattle.sval_core.proofs.Completions.{viable_is_taken, taken_is_viable, spelling_is_run, run_is_spelling}
-use Rattle.sval_core.proofs.Spellings.{spells_one, front_is_viable, spelling_is_viable}
+use Rattle.sval_core.proofs.Spellings.{spells_one, spelling_is_viable}
+use Rattle.sval_core.proofs.FirstBad.{one_first_bad, none_bad}
 use Rattle.sval_core.proofs.Determined.{runs_determined}
 use Rattle.sval_core.proofs.Decided.{Ran, Stopped, scanned}
 use Rattle.sval_script.specs.Lines.{Lines, Good, Bad, lines}
@@ -41,46 +42,14 @@ some_verdict (Good calls) way = by_scan calls way (scanned calls false [])
 
 -- ---- and no second one
 
--- of two fronts of one list the shorter one and the call after it begin the longer one
-pub data Meet : List Call → Call → List Call → Call → Type 0 where
-  same_front : {front other : List Call} {call next : Call} → front ≡ other → Meet front call other next
-  before : {front other : List Call} {call next : Call} (more : List Call) → other ≡ (front ++ (call ∷ [])) ++ more → Meet front call other next
-  after : {front other : List Call} {call next : Call} (more : List Call) → front ≡ (other ++ (next ∷ [])) ++ more → Meet front call other next
-
-longer : (first : Call) (front other : List Call) (call next : Call) → Meet front call other next → Meet (first ∷ front) call (first ∷ other) next
-longer first front other call next (same_front e) = same_front (ap (λ x. first ∷ x) e)
-longer first front other call next (before more e) = before more (ap (λ x. first ∷ x) e)
-longer first front other call next (after more e) = after more (ap (λ x. first ∷ x) e)
-
-first_same : (c d : Call) (cs ds : List Call) → (c ∷ cs) ≡ (d ∷ ds) → (c ≡ d) × (cs ≡ ds)
-first_same c d cs ds e = (cc e, cc e)
-
-fronts_meet : (front other : List Call) (call next : Call) (rest last : List Call) → front ++ (call ∷ rest) ≡ other ++ (next ∷ last) → Meet front call other next
-fronts_meet [] [] call next rest last e = same_front refl
-fronts_meet [] (first ∷ other) call next rest last e = let f = first_same call first rest (other ++ (next ∷ last)) e in before other (ap (λ c. c ∷ other) (sym f.0))
-fronts_meet (first ∷ front) [] call next rest last e = let f = first_same first next (front ++ (call ∷ rest)) last e in after front (ap (λ c. c ∷ front) f.0)
-fronts_meet (first ∷ front) (second ∷ other) call next rest last e =
-    let f = first_same first second (front ++ (call ∷ rest)) (other ++ (next ∷ last)) e in
-    subst (λ c. Meet (first ∷ front) call (c ∷ other) next) f.0 (longer first front other call next (fronts_meet front other call next rest last f.1))
-
-same_bad_call : {front other : List Call} {call next : Call} → IsViable front → (IsViable (front ++ (call ∷ [])) → ⊥) → IsViable other → (IsViable (other ++ (next ∷ [])) → ⊥) → Meet front call other next
-    → BadCall (length front + 1) ≡ BadCall (length other + 1)
-same_bad_call v n w m (same_front e) = ap (λ x. BadCall (length x + 1)) e
-same_bad_call {front = front} {call = call} v n w m (before more e) = absurd (n (front_is_viable (front ++ (call ∷ [])) more (subst IsViable e w)))
-same_bad_call {other = other} {next = next} v n w m (after more e) = absurd (m (front_is_viable (other ++ (next ∷ [])) more (subst IsViable e v)))
-
--- where all calls are viable, so is the front with the next call
-not_bad : (calls front rest : List Call) (call : Call) → calls ≡ front ++ (call ∷ rest) → IsViable calls → (IsViable (front ++ (call ∷ [])) → ⊥) → ⊥
-not_bad calls front rest call e v n = n (front_is_viable (front ++ (call ∷ [])) rest (subst IsViable (e ∙ sym (append_assoc front (call ∷ []) rest)) v))
-
 one_of_calls : {calls : List Call} {way : Way} {answer other : Verdict} → IsOfCalls calls way answer → IsOfCalls calls way other → answer ≡ other
-one_of_calls (bad_call front call rest e v n) (bad_call other next last f w m) = same_bad_call v n w m (fronts_meet front other call next rest last (sym e ∙ f))
-one_of_calls {calls = calls} (bad_call front call rest e v n) (unfinished w u) = absurd (not_bad calls front rest call e w n)
-one_of_calls {calls = calls} (bad_call front call rest e v n) (whole tree s) = absurd (not_bad calls front rest call e (spelling_is_viable calls tree s) n)
-one_of_calls {calls = calls} (unfinished w u) (bad_call front call rest e v n) = absurd (not_bad calls front rest call e w n)
+one_of_calls (bad_call front call rest e v n) (bad_call other next last f w m) = ap (λ found. BadCall (length found + 1)) (one_first_bad front other call next rest last e f v n w m)
+one_of_calls {calls = calls} (bad_call front call rest e v n) (unfinished w u) = absurd (none_bad calls front rest call e w n)
+one_of_calls {calls = calls} (bad_call front call rest e v n) (whole tree s) = absurd (none_bad calls front rest call e (spelling_is_viable calls tree s) n)
+one_of_calls {calls = calls} (unfinished w u) (bad_call front call rest e v n) = absurd (none_bad calls front rest call e w n)
 one_of_calls (unfinished w u) (unfinished w' u') = refl
 one_of_calls (unfinished w u) (whole tree s) = absurd (u tree s)
-one_of_calls {calls = calls} (whole tree s) (bad_call front call rest e v n) = absurd (not_bad calls front rest call e (spelling_is_viable calls tree s) n)
+one_of_calls {calls = calls} (whole tree s) (bad_call front call rest e v n) = absurd (none_bad calls front rest call e (spelling_is_viable calls tree s) n)
 one_of_calls (whole tree s) (unfinished w u) = absurd (u tree s)
 one_of_calls {calls = calls} {way = way} (whole tree s) (whole other t) = ap (tree_verdict way) (spells_one calls tree other s t)
 

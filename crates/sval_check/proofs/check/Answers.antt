@@ -1,6 +1,7 @@
 use Rattle.std.proofs.Common.{subst, ◌∙◌, sym}
 use Rattle.std.specs.Prelude.{OnOk}
 use Rattle.sval_check.specs.Checks.{IsOneValue}
+use Rattle.sval_check.proofs.OneAnswer.{finish_comes, cause_comes}
 use Rattle.sval_check.proofs.Runs.{finish_ok, finish_unfinished, cause_bad, cause_refused}
 use Rattle.sval_check.proofs.check.Goals as goal
 
@@ -20,3 +21,11 @@ returns-clause-bad_call g c at e =
 pub returns-clause-refused : goal.returns-clause-refused
 returns-clause-refused g c e =
     cause_refused (g.V.Value.emission c.args.value.now) c.new-checker.result c.stream.new.stream c.new-checker.ensures c.in-Err.ensures.err (sym c.cause.ensures ∙ (cc e))
+
+pub returns-in-Ok-clause-comes : goal.returns-in-Ok-clause-comes
+returns-in-Ok-clause-comes g c = λ due is. rw c.finish.ensures (
+    finish_comes (g.V.Value.emission c.args.value.now) c.new-checker.result c.stream.new.stream due c.new-checker.ensures c.in-Ok.ensures.ok is)
+
+pub returns-clause-comes : goal.returns-clause-comes
+returns-clause-comes g c = λ due is. rw c.cause.ensures (
+    cause_comes (g.V.Value.emission c.args.value.now) c.new-checker.result c.stream.new.stream due c.new-checker.ensures c.in-Err.ensures.err is)
