@@ -60,12 +60,12 @@ fn serve<I: Source, K: Sink>(
 ///
 /// The words are those after the program's name. For `direct` and `buffered` it reads the input to its end, at most
 /// 16,777,216 bytes and one more to see that there are too many, and writes the JSON of the one value that its script's
-/// calls spell, for `buffered` after the value was captured. Where the
-/// status isn't 0, it writes one line to `diag` that says why; what `diag` answers changes nothing.
+/// calls spell, for `buffered` after the value was captured. Where the status isn't 0, it writes one line to `diag` that
+/// says why; what `diag` answers changes nothing.
 ///
 /// | status | comes |
 /// |---|---|
-/// | 0 | the sink took exactly the JSON text of the tree that the script's calls spell |
+/// | 0 | the sink took exactly the JSON text of the tree that the script's calls spell, and holds back nothing of it |
 /// | 2 | the words are no form; nothing is read |
 /// | 3 | a line is no call |
 /// | 4 | no value goes on with the call of a line |
@@ -90,6 +90,8 @@ pub fn run<I: Source, K: Sink, D: Sink>(
 
     ensures done { result ≡ 0 → OnScript (way_of (map string_bytes words.now)) (I.left input.old)
         (λ way script. WritesText script way (K.text out.old) (K.text out.new)) }
+    ensures flushed { result ≡ 0 → K.flushed out.new }
+    ensures steady { result ≡ 0 → (I.faults input.new ≡ I.faults input.old) × (K.faults out.new ≡ K.faults out.old) × (K.wants out.new ≡ K.wants out.old) }
     ensures bad_line { result ≡ 3 → OnScript (way_of (map string_bytes words.now)) (I.left input.old) (λ way script. (n : ℕ) × verdict script way (BadLine n)) }
     ensures bad_call { result ≡ 4 → OnScript (way_of (map string_bytes words.now)) (I.left input.old) (λ way script. (n : ℕ) × verdict script way (BadCall n)) }
     ensures unfinished { result ≡ 5 → OnScript (way_of (map string_bytes words.now)) (I.left input.old) (λ way script. verdict script way Unfinished) }
@@ -111,10 +113,6 @@ pub fn run<I: Source, K: Sink, D: Sink>(
     ensures leaves_long { OnScript (way_of (map string_bytes words.now)) (I.left input.old) (λ way script. 2 ^ 24 < length script → K.text out.new ≡ K.text out.old) }
     ensures grows { Grows (K.text out.old) (K.text out.new) }
     ensures spent { is_read result ≡ true → OnScript (way_of (map string_bytes words.now)) (I.left input.old) (λ way script. I.left input.new ≡ Some []) }
-
-    // Status 0 comes where no device failed, and nothing is held back.
-    ensures steady { result ≡ 0 → (I.faults input.new ≡ I.faults input.old) × (K.faults out.new ≡ K.faults out.old) × (K.wants out.new ≡ K.wants out.old) }
-    ensures flushed { result ≡ 0 → K.flushed out.new }
 
     // What the third device is told.
     ensures reports { Reports (way_of (map string_bytes words.now)) (I.left input.old) result
