@@ -31,7 +31,7 @@ pub trait Sink {
     /// How often it had no memory.
     ghost wants: { Self → ℕ };
 
-    /// It holds back none of the bytes that it tells. Most sinks never do.
+    /// It holds back none of the bytes that it tells, as most sinks never do.
     ghost flushed: { Self → Type 0 } = { λ _. ⊤ };
 
     /// Takes the first bytes of a piece and answers how many: at least one, unless the piece is empty.

@@ -7,6 +7,7 @@ use Rattle.hex.specs.Hex.{decode_pairs}
 use Rattle.sval_label.specs.Calls.{Call, Int, I64, TextBegin, TextFragment, TextEnd, Begin, End, PartBegin, PartEnd, Seq, Item}
 use Rattle.sval_json.specs.Steps.{written}
 use Rattle.sval_script.specs.Lines.{Good, lines, line_of, forms}
+use Rattle.sval_relay.specs.Reports.{report}
 
 sequence_calls : List Call
 sequence_calls = Begin Seq (Some 2) ∷ PartBegin Item ∷ Int I64 (negsuc 6) ∷ PartEnd Item
@@ -23,3 +24,12 @@ sequence_lines = refl
 sequence_text : (written sequence_calls).written ≡ codes "[-7,\"a\\nb\"]"
 unfolding sequence_calls digits
 sequence_text = refl
+
+-- ---- what the third device is told
+
+lines_that_are_named : (report 3 1 ≡ codes "line 1: not a call\n") × (report 4 120 ≡ codes "line 120: no value goes on with this call\n")
+unfolding digits
+lines_that_are_named = (refl, refl)
+
+nothing_is_told : report 0 7 ≡ []
+nothing_is_told = refl

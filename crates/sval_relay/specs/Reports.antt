@@ -7,11 +7,11 @@ use Rattle.sval_relay.specs.declared.failure.Failure.TheVariants as failure
 use Rattle.sval_relay.specs.Verdict.{BadLine, BadCall, verdict}
 use Rattle.sval_relay.specs.Running.{OnScript}
 
--- the line that each status is told by, where this is the number of the script's line that it names
+-- the line for each status; those for 3 and 4 name a line of the script by its number
 abbrev pub reports : ℕ → List (ℕ × List ℕ)
-reports line = (2, codes "usage: sval_relay direct|buffered|calls|made N\n")
-    ∷ (3, codes "line " ++ decimal line ++ codes ": not a call\n")
-    ∷ (4, codes "line " ++ decimal line ++ codes ": no value goes on with this call\n")
+reports number = (2, codes "usage: sval_relay direct|buffered|calls|made N\n")
+    ∷ (3, codes "line " ++ decimal number ++ codes ": not a call\n")
+    ∷ (4, codes "line " ++ decimal number ++ codes ": no value goes on with this call\n")
     ∷ (5, codes "the calls are not one whole value\n")
     ∷ (8, codes "write fault\n")
     ∷ (9, codes "read fault\n")
@@ -25,7 +25,7 @@ report_among status (row ∷ rows) = if row.0 == status then row.1 else report_a
 
 -- the status's line; none for the other statuses
 abbrev pub report : ℕ → ℕ → List ℕ
-report status line = report_among status (reports line)
+report status number = report_among status (reports number)
 
 -- the line of a failure
 abbrev pub report_of : Failure → List ℕ

@@ -1,6 +1,6 @@
 //! Devices for tests, which give and take little at a time, and fail where they are told to.
 
-ghost use Rattle.std.specs.Prelude.{◌≡◌, ◌+◌, ◌-◌, ◌^◌, None, Some, min};
+ghost use Rattle.std.specs.Prelude.{◌≡◌, ◌+◌, ◌-◌, ◌^◌, ◌++◌, [], None, Some, min};
 
 use crate::source::{Source, SourceError};
 use std::alloc::Global;
@@ -132,5 +132,57 @@ impl Sink for FaultySink {
             return Ok(());
         }
         Err(self.fault())
+    }
+}
+
+/// Holds back all that it takes until it is flushed.
+#[derive(Drop)]
+pub(crate) struct HoldingSink {
+    /// The bytes that it passed on.
+    pub(crate) passed: Vec<u8>,
+    held: Vec<u8>,
+    wants: u64,
+}
+
+impl HoldingSink {
+    pub(crate) fn new(alloc: Global) -> Self {
+        HoldingSink {
+            passed: Vec::new(alloc),
+            held: Vec::new(alloc),
+            wants: 0,
+        }
+    }
+}
+
+impl Sink for HoldingSink {
+    ghost text = { λ sink. Some (sink.passed.items ++ sink.held.items) };
+
+    ghost faults = { λ _. 0 };
+
+    ghost wants = { λ sink. sink.wants };
+
+    ghost flushed = { λ sink. sink.held.items ≡ [] };
+
+    fn write(&mut self, piece: &[u8]) -> Result<usize, SinkError> {
+        match self.held.extend_from_slice(piece) {
+            Ok(()) => Ok(piece.len()),
+            Err(_) => {
+                self.wants = self.wants.saturating_add(1);
+                Err(SinkError::NoMemory)
+            }
+        }
+    }
+
+    fn flush(&mut self) -> Result<(), SinkError> {
+        match self.passed.extend_from_slice(&self.held) {
+            Ok(()) => {
+                self.held.clear();
+                Ok(())
+            }
+            Err(_) => {
+                self.wants = self.wants.saturating_add(1);
+                Err(SinkError::NoMemory)
+            }
+        }
     }
 }

@@ -1,7 +1,7 @@
 //! Devices that give and take little at a time, or fail.
 
 use super::{WAYS, run_on};
-use crate::fakes::{FaultySink, FaultySource};
+use crate::fakes::{FaultySink, FaultySource, HoldingSink};
 use std::test::Fail;
 use sval_json::VecSink;
 
@@ -97,6 +97,19 @@ fn a_flush_that_fails(rt: HostRuntime) -> Result<(), Fail> {
         assert_eq!(rt; status, 8, "{way}");
         assert_eq!(rt; out.taken.as_slice(), JSON, "{way}");
         assert_eq!(rt; diag.as_slice(), b"write fault\n".as_slice(), "{way}");
+    }
+    Ok(())
+}
+
+#[test]
+fn nothing_is_held_back(rt: HostRuntime) -> Result<(), Fail> {
+    let alloc = rt.alloc();
+    for way in WAYS {
+        let mut out = HoldingSink::new(alloc);
+        let (status, diag) = run_on(alloc, way, &mut FaultySource::new(SCRIPT, 7, 0), &mut out)?;
+        assert_eq!(rt; status, 0, "{way}");
+        assert_eq!(rt; out.passed.as_slice(), JSON, "{way}");
+        assert!(rt; diag.is_empty(), "{way}");
     }
     Ok(())
 }
