@@ -11,7 +11,7 @@ use Rattle.sval_check.specs.declared.stack.Frame.{Frame}
 use Rattle.sval_check.specs.declared.checker.Why.{Why}
 use Rattle.sval_check.specs.declared.checker.Why.TheVariants.{NotViable, NoMemory}
 use Rattle.sval_check.specs.Checking.{Checking, checker_law, standing_of, one_more, finish_at, finish_of, cause_by, cause_of}
-use Rattle.sval_check.proofs.Runs.{finish_ok, finish_unfinished, cause_bad, cause_refused}
+use Rattle.sval_check.proofs.Runs.{fresh, finish_ok, finish_unfinished, cause_bad, cause_refused}
 use Rattle.sval_check.specs.Checks.{IsOneValue, IsFirstBad, OnlyRefuses, IsUnfinished, Answer, IsDue}
 
 one_number : {calls : List Call} {at other : ℕ} → IsFirstBad calls at → IsFirstBad calls other → at ≡ other
@@ -57,7 +57,7 @@ finish_due e true [] ok unfinished = ok
 finish_due e true (f ∷ fs) ok unfinished = unfinished refl
 finish_due e false frames ok unfinished = unfinished refl
 
-pub finish_comes : (e : Emission) (first last : Checking) (due : Answer) → first ≡ record { filled = false; frames = []; taken = 0; why = None; wants = 0 }
+pub finish_comes : (e : Emission) (first last : Checking) (due : Answer) → first ≡ fresh
     → Streams checker_law (standing_of first) e (standing_of last) → IsDue e due → (finish_of last ≡ due) ⊎ (finish_of last ≡ Err error.NoMemory)
 finish_comes e first last due new streams d =
     due_comes e (finish_of last) due (inr (finish_due e last.filled last.frames (finish_ok e first last new streams) (finish_unfinished e first last new streams))) d
@@ -68,7 +68,7 @@ cause_due e None taken bad refused = inr (refused refl)
 cause_due e (Some NotViable) taken bad refused = inr (bad (one_more taken) refl)
 cause_due e (Some NoMemory) taken bad refused = inl refl
 
-pub cause_comes : (e : Emission) (first last : Checking) (due : Answer) → first ≡ record { filled = false; frames = []; taken = 0; why = None; wants = 0 }
+pub cause_comes : (e : Emission) (first last : Checking) (due : Answer) → first ≡ fresh
     → Stops checker_law (standing_of first) e (standing_of last) → IsDue e due → (◌≡◌ {A = Answer} (Err (cause_of last)) due) ⊎ (◌≡◌ {A = Answer} (Err (cause_of last)) (Err error.NoMemory))
 cause_comes e first last due new stops d =
     due_comes e (Err (cause_of last)) due (cause_due e last.why last.taken (λ at. cause_bad e first last at new stops) (cause_refused e first last new stops)) d

@@ -104,7 +104,8 @@ refused_by_itself (call ∷ calls) refuses old new v none still (inr s) =
 
 -- ---- what is said of the value
 
-abbrev fresh : Checking
+-- a checker that has taken no call
+abbrev pub fresh : Checking
 fresh = record { filled = false; frames = []; taken = 0; why = None; wants = 0 }
 
 viable : (calls : List Call) (last : State) → Runs false [] (plain calls) last.filled last.frames → IsViable calls
@@ -119,7 +120,6 @@ one_value e true [] w k = record { willing = w; spells = run_is_spelling e.calls
 one_value e true (f ∷ fs) w k = tt
 one_value e false frames w k = tt
 
--- a checker that has taken no call
 streams_fresh : (e : Emission) (first last : Checking) → first ≡ fresh → Streams checker_law (standing_of first) e (standing_of last) → Streams checker_law (standing_of fresh) e (standing_of last)
 streams_fresh e first last new s = subst (λ (x : Checking). Streams checker_law (standing_of x) e (standing_of last)) new s
 

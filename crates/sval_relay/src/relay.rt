@@ -73,7 +73,7 @@ impl From<ScriptError> for RelayError {
 /// On `Ok` the sink took exactly that JSON's text. [`RelayError::BadLine`], [`RelayError::BadCall`] and
 /// [`RelayError::Unfinished`] come exactly where the script is so, in this order, and leave the sink as it was.
 /// [`RelayError::Write`] comes only where the sink's count of faults rose; a prefix of the text was taken then. A script
-/// may have any length.
+/// may have any length. The sink isn't flushed.
 ///
 /// ```
 /// let mut sink = VecSink::new(alloc);

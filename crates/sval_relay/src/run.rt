@@ -76,6 +76,7 @@ fn serve<I: Source, K: Sink>(
 /// | 11 | the input is longer than is kept |
 ///
 /// Where the words are a form and neither device fails, the status is the one that the input's verdict asks for, or 10.
+#[tactic(auto, using(crate::proofs::Diagnoses::nothing_diagnosed))]
 pub fn run<I: Source, K: Sink, D: Sink>(
     alloc: Global,
     words: &[String],

@@ -1,5 +1,5 @@
 use Rattle.std.proofs.Common.{ap, Err}
-use Rattle.sval_relay.proofs.Diagnoses.{diagnosed, nothing_diagnosed, where_quiet}
+use Rattle.sval_relay.proofs.Diagnoses.{diagnosed, where_quiet}
 use Rattle.sval_relay.proofs.run.run.Goals as goal
 
 pub returns-in-Err-clause-comes : goal.returns-in-Err-clause-comes
@@ -7,9 +7,6 @@ returns-in-Err-clause-comes g c = rw c.status.ensures c.in-Err.ensures.serves.co
 
 pub returns-in-Err-clause-long_comes : goal.returns-in-Err-clause-long_comes
 returns-in-Err-clause-long_comes g c = rw c.status.ensures c.in-Err.ensures.serves.long_comes
-
-pub returns-in-Ok-clause-reports : goal.returns-in-Ok-clause-reports
-returns-in-Ok-clause-reports g c = nothing_diagnosed _ _
 
 pub returns-in-Err-clause-reports : goal.returns-in-Err-clause-reports
 returns-in-Err-clause-reports g c = rw c.status.ensures (
