@@ -6,6 +6,7 @@ pub mod WritingValues
 pub mod WritingPlain
 pub mod WrittenOnce
 pub mod WrittenTrees
+pub mod WrittenBeside
 pub mod WrittenNumbers
 pub mod OneValue
 pub mod DenotedTexts

@@ -4,6 +4,7 @@ use Rattle.std.specs.Borrow.{MutBor}
 use Rattle.sval_core.specs.Law.{Law, Standing, Rose}
 use Rattle.sval_json.specs.declared.sink.SinkError.{SinkError}
 use Rattle.sval_json.specs.declared.sink.SinkError.TheVariants.{Failed, NoMemory}
+use Rattle.sval_json.specs.declared.style.Variants.{Variants}
 use Rattle.sval_json.specs.Writer.{State, escapes}
 use Rattle.sval_json.specs.Steps.{step}
 use Rattle.sval_json.specs.Sinks.{appended, AppendsPrefix}
@@ -36,22 +37,23 @@ pub record Stopped (old : Held) (bytes : List ℕ) (new : Held) : Type 0 where
   pub text : AppendsPrefix old.text new.text bytes
   pub name : new.name ≡ old.name
 
--- what the writer has taken, as a stream: the state of the steps, and the sink
+-- what the writer has taken, as a stream: its style of variants, the state of the steps, and the sink
 pub record View : Type 0 where
+  pub style : Variants
   pub state : State
   pub held : Held
 
 abbrev pub writer_law : Law View
 writer_law = record {
-  accepts = λ view call. (step call view.state).refusal ≡ None;
-  after = λ view call. record { state = (step call view.state).state; held = with_text (step call view.state).written view.held };
-  stopped = λ view call left. Stopped view.held (step call view.state).written left.held;
+  accepts = λ view call. (step view.style call view.state).refusal ≡ None;
+  after = λ view call. record { style = view.style; state = (step view.style call view.state).state; held = with_text (step view.style call view.state).written view.held };
+  stopped = λ view call left. Stopped view.held (step view.style call view.state).written left.held;
 }
 
 -- where the writer stands, outside keys, enums and tagged values: whether nothing stands yet in what was begun last, and the sink
-abbrev pub standing_of : Bool → Held → Standing View
-standing_of empty held = record {
-  view = record { state = record { named = false; empty = empty; quoted = true; handler = escapes }; held = held };
+abbrev pub standing_of : Variants → Bool → Held → Standing View
+standing_of style empty held = record {
+  view = record { style = style; state = record { named = false; empty = empty; quoted = true; handler = escapes }; held = held };
   faults = held.faults;
   wants = held.wants;
 }

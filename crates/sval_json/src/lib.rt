@@ -6,6 +6,7 @@ mod escape;
 pub mod laws;
 mod real;
 mod sink;
+mod style;
 #[cfg(test)]
 mod tests;
 mod to_io;
@@ -14,4 +15,5 @@ mod writer;
 pub use error::{Error, ErrorKind};
 pub use real::RealSink;
 pub use sink::{Sink, SinkError, VecSink, write_all};
-pub use to_io::stream_to_io_write;
+pub use style::Variants;
+pub use to_io::{stream_to_io_write, stream_to_io_write_with};

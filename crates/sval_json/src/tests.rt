@@ -6,7 +6,9 @@ ghost use Rattle.sval_label.specs.Made.{lent_call};
 mod real;
 mod sinks;
 
-use crate::{Error, ErrorKind, SinkError, VecSink, stream_to_io_write};
+use crate::{
+    Error, ErrorKind, SinkError, Variants, VecSink, stream_to_io_write, stream_to_io_write_with,
+};
 use std::alloc::Global;
 use std::test::Fail;
 use sval_core::{Call, Lent, Stream, Value};
@@ -217,6 +219,32 @@ fn writes_sequences(rt: HostRuntime) -> Result<(), Fail> {
     for (calls, want) in table {
         let sink = written(rt.alloc(), calls)?;
         assert_eq!(rt; sink.as_slice(), want.as_bytes(), "{want}");
+    }
+    Ok(())
+}
+
+#[test]
+fn writes_what_is_no_variant_alike(rt: HostRuntime) -> Result<(), Fail> {
+    let calls = [
+        Call::SeqBegin(None),
+        Call::SeqValueBegin,
+        Call::I64(-7),
+        Call::SeqValueEnd,
+        Call::SeqValueBegin,
+        Call::TextBegin(None),
+        Call::TextFragment("a\""),
+        Call::TextEnd,
+        Call::SeqValueEnd,
+        Call::SeqEnd,
+    ];
+    for variants in [Variants::Inside, Variants::Beside] {
+        let mut sink = VecSink::new(rt.alloc());
+        stream_to_io_write_with(&mut sink, &willing(&calls), variants)?;
+        assert_eq!(rt;
+            sink.as_slice(),
+            b"[-7,\"a\\\"\"]".as_slice(),
+            "{variants:?}"
+        );
     }
     Ok(())
 }

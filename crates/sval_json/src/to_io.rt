@@ -5,13 +5,14 @@ ghost use Rattle.sval_core.specs.Law.{Rose};
 ghost use Rattle.sval_core.specs.Spells.{Spells};
 ghost use Rattle.sval_core.specs.Trees.{Tree};
 ghost use Rattle.sval_json.specs.Json.{Json, compact};
-ghost use Rattle.sval_json.specs.Shape.{json_of};
+ghost use Rattle.sval_json.specs.Shape.{json_of, json_in};
 ghost use Rattle.sval_json.specs.Sinks.{AppendsPrefix};
-ghost use Rattle.sval_json.specs.Steps.{written};
-ghost use Rattle.sval_json.specs.Targets.{IsWritten, WritesTree};
+ghost use Rattle.sval_json.specs.Steps.{written, written_in};
+ghost use Rattle.sval_json.specs.Targets.{IsWritten, IsWrittenIn, WritesTree, WritesTreeIn};
 
 use crate::error::{Error, ErrorKind};
 use crate::sink::Sink;
+use crate::style::Variants;
 use crate::writer::Writer;
 use sval_core::{Lent, Value};
 
@@ -46,8 +47,39 @@ pub fn stream_to_io_write<'v, K: Sink, V: Value<'v, Lent<'v>>>(
     ensures prefix { OnErr result (AppendsPrefix (K.text out.old) (K.text out.new) (written (V.emission v.now).calls).written) }
     ensures tree_prefix { OnErr result ((tree : Tree) (json : Json) → Spells (V.emission v.now).calls tree → json_of tree ≡ Ok json → AppendsPrefix (K.text out.old) (K.text out.new) (compact json)) }
 {
+    stream_to_io_write_with(out, v, Variants::Inside)
+}
+
+/// Streams a value to a sink as JSON, with the variants of enums in this style.
+///
+/// It answers as [`stream_to_io_write`] does, which is this call with [`Variants::Inside`]. On `Ok` it appended what the
+/// steps of `specs/Steps.antt` write for the value's calls in this style.
+///
+/// ```
+/// let mut sink = VecSink::new(alloc);
+/// stream_to_io_write_with(&mut sink, &value, Variants::Beside)?;
+/// assert_eq!(rt; sink.as_slice(), b"[-7,\"a\"]".as_slice());
+/// ```
+pub fn stream_to_io_write_with<'v, K: Sink, V: Value<'v, Lent<'v>>>(
+    out: &mut K,
+    v: &'v V,
+    variants: Variants,
+) -> Result<(), Error>
+    ensures written { OnOk result (IsWrittenIn variants (V.emission v.now).calls (K.text out.old) (K.text out.new)) }
+    ensures tree { OnOk result ((tree : Tree) → Spells (V.emission v.now).calls tree → WritesTreeIn variants tree (K.text out.old) (K.text out.new)) }
+    ensures willing { OnOk result ((V.emission v.now).refuses ≡ false) }
+    ensures steady { OnOk result ((K.faults out.new ≡ K.faults out.old) × (K.wants out.new ≡ K.wants out.old)) }
+
+    ensures generic_comes { (V.emission v.now).refuses ≡ true → (written_in variants (V.emission v.now).calls).refusal ≡ None → (Rose (K.faults out.old) (K.faults out.new) → ⊥) → (Rose (K.wants out.old) (K.wants out.new) → ⊥) → result ≡ Err ErrorKind.Generic }
+    ensures generic { result ≡ Err ErrorKind.Generic → ((V.emission v.now).refuses ≡ true) × IsWrittenIn variants (V.emission v.now).calls (K.text out.old) (K.text out.new) }
+    ensures io { result ≡ Err ErrorKind.IO → Rose (K.faults out.old) (K.faults out.new) }
+    ensures no_memory { result ≡ Err ErrorKind.NoMemory → Rose (K.wants out.old) (K.wants out.new) }
+    ensures prefix { OnErr result (AppendsPrefix (K.text out.old) (K.text out.new) (written_in variants (V.emission v.now).calls).written) }
+    ensures tree_prefix { OnErr result ((tree : Tree) (json : Json) → Spells (V.emission v.now).calls tree → json_in variants tree ≡ Ok json → AppendsPrefix (K.text out.old) (K.text out.new) (compact json)) }
+{
     let mut writer = Writer {
         sink: out,
+        variants,
         empty: true,
         why: None,
     };

@@ -9,6 +9,7 @@ ghost use Rattle.sval_json.specs.Writing.{View, Stopped, held_by, with_text, wri
 
 use crate::escape::write_escaped;
 use crate::sink::{Sink, SinkError, write_all};
+use crate::style::Variants;
 use itoa::Buffer;
 use sval_core::{Call, Error, Lent, Result, Stream};
 
@@ -16,6 +17,8 @@ use sval_core::{Call, Error, Lent, Result, Stream};
 #[derive(Drop)]
 pub(crate) struct Writer<'k, K: Sink> {
     pub(crate) sink: &'k mut K,
+    /// How a variant's name is written.
+    pub(crate) variants: Variants,
     /// Nothing stands yet in what was begun last.
     pub(crate) empty: bool,
     /// Why the sink took nothing, if it did so.
@@ -25,6 +28,7 @@ pub(crate) struct Writer<'k, K: Sink> {
 impl<'k, K: Sink> Writer<'k, K> {
     /// Writes a piece whole, or a prefix of it.
     fn put(&mut self, piece: &[u8]) -> Result
+        ensures variants { self.new.variants ≡ self.old.variants }
         ensures empty { self.new.empty ≡ self.old.empty }
         ensures ok { OnOk result (held_by K.text K.faults K.wants self.new.sink self.new.why ≡ with_text piece.now (held_by K.text K.faults K.wants self.old.sink self.old.why)) }
         ensures err { OnErr result (Stopped (held_by K.text K.faults K.wants self.old.sink self.old.why) piece.now (held_by K.text K.faults K.wants self.new.sink self.new.why)) }
@@ -40,6 +44,7 @@ impl<'k, K: Sink> Writer<'k, K> {
 
     /// Writes what begins something, in which nothing stands yet, or what ends something.
     fn put_then(&mut self, piece: &[u8], empty: bool) -> Result
+        ensures variants { self.new.variants ≡ self.old.variants }
         ensures empty { self.new.empty ≡ empty }
         ensures ok { OnOk result (held_by K.text K.faults K.wants self.new.sink self.new.why ≡ with_text piece.now (held_by K.text K.faults K.wants self.old.sink self.old.why)) }
         ensures err { OnErr result (Stopped (held_by K.text K.faults K.wants self.old.sink self.old.why) piece.now (held_by K.text K.faults K.wants self.new.sink self.new.why)) }
@@ -50,6 +55,7 @@ impl<'k, K: Sink> Writer<'k, K> {
 
     /// Writes a text as it stands between quotes, or a prefix of that.
     fn put_escaped(&mut self, text: &str) -> Result
+        ensures variants { self.new.variants ≡ self.old.variants }
         ensures empty { self.new.empty ≡ self.old.empty }
         ensures ok { OnOk result (held_by K.text K.faults K.wants self.new.sink self.new.why ≡ with_text (escaped text.now) (held_by K.text K.faults K.wants self.old.sink self.old.why)) }
         ensures err { OnErr result (Stopped (held_by K.text K.faults K.wants self.old.sink self.old.why) (escaped text.now) (held_by K.text K.faults K.wants self.new.sink self.new.why)) }
@@ -65,6 +71,7 @@ impl<'k, K: Sink> Writer<'k, K> {
 
     /// Begins an item.
     fn item_begins(&mut self) -> Result
+        ensures variants { self.new.variants ≡ self.old.variants }
         ensures empty { self.new.empty ≡ self.old.empty }
         ensures ok { OnOk result (held_by K.text K.faults K.wants self.new.sink self.new.why ≡ with_text (comma self.old.empty) (held_by K.text K.faults K.wants self.old.sink self.old.why)) }
         ensures err { OnErr result (Stopped (held_by K.text K.faults K.wants self.old.sink self.old.why) (comma self.old.empty) (held_by K.text K.faults K.wants self.new.sink self.new.why)) }
@@ -81,11 +88,11 @@ impl<'k, 'sval, K: Sink> Stream<Lent<'sval>> for Writer<'k, K> {
 
     ghost law = { writer_law };
 
-    ghost standing = { λ w. standing_of w.empty (held_by K.text K.faults K.wants w.sink w.why) };
+    ghost standing = { λ w. standing_of w.variants w.empty (held_by K.text K.faults K.wants w.sink w.why) };
 
     fn take(&mut self, call: Call<'sval, '_>) -> Result
-        ensures ok { OnOk result (Takes writer_law (standing_of self.old.empty (held_by K.text K.faults K.wants self.old.sink self.old.why)) (lent_call call.entry) (standing_of self.new.empty (held_by K.text K.faults K.wants self.new.sink self.new.why))) }
-        ensures err { OnErr result (Refuses writer_law (standing_of self.old.empty (held_by K.text K.faults K.wants self.old.sink self.old.why)) (lent_call call.entry) (standing_of self.new.empty (held_by K.text K.faults K.wants self.new.sink self.new.why))) }
+        ensures ok { OnOk result (Takes writer_law (standing_of self.old.variants self.old.empty (held_by K.text K.faults K.wants self.old.sink self.old.why)) (lent_call call.entry) (standing_of self.new.variants self.new.empty (held_by K.text K.faults K.wants self.new.sink self.new.why))) }
+        ensures err { OnErr result (Refuses writer_law (standing_of self.old.variants self.old.empty (held_by K.text K.faults K.wants self.old.sink self.old.why)) (lent_call call.entry) (standing_of self.new.variants self.new.empty (held_by K.text K.faults K.wants self.new.sink self.new.why))) }
     {
         match call {
             Call::Null => self.put_then(b"null", false),

@@ -1,6 +1,6 @@
 -- Each script has one verdict in each way.
 use Rattle.std.specs.Prelude.{◌≡◌, ℕ, ◌+◌, ◌⊎◌, Bool, true, false, List, [], ◌∷◌, ◌++◌, length, refl}
-use Rattle.std.proofs.Common.{sym, ap, ◌∙◌, inl, inr}
+use Rattle.std.proofs.Common.{sym, ap, ◌∙◌, subst, inl, inr}
 use Rattle.sval_label.specs.Calls.{Call}
 use Rattle.sval_core.specs.Trees.{Tree}
 use Rattle.sval_core.specs.Spells.{Spells, plain}
@@ -12,8 +12,9 @@ use Rattle.sval_core.proofs.Determined.{runs_determined}
 use Rattle.sval_core.proofs.Decided.{Ran, Stopped, scanned}
 use Rattle.sval_script.specs.Lines.{Lines, Good, Bad, lines}
 use Rattle.sval_relay.specs.declared.relay.Way.{Way}
-use Rattle.sval_relay.specs.declared.relay.Way.TheVariants.{Direct, Buffered}
+use Rattle.sval_relay.specs.declared.relay.Way.TheVariants.{Direct, Buffered, DirectBeside, BufferedBeside}
 use Rattle.sval_relay.specs.Verdict.{Verdict, BadLine, BadCall, Unfinished, tree_verdict, IsOfCalls, bad_call, unfinished, whole, IsOfLines, verdict}
+use Rattle.sval_relay.specs.Laws.{Agree, BothJsonWaysAgree}
 
 -- ---- there is one
 
@@ -63,14 +64,18 @@ one_verdict script way =
 
 -- ---- the two ways of JSON
 
-as_direct : {calls : List Call} {answer : Verdict} → IsOfCalls calls Buffered answer → IsOfCalls calls Direct answer
-as_direct (bad_call front call rest e v n) = bad_call front call rest e v n
-as_direct (unfinished w u) = unfinished w u
-as_direct (whole tree s) = whole {way = Direct} tree s
+-- ways that give the same of each tree give the same of calls and scripts
+as_other : {calls : List Call} {answer : Verdict} (way other : Way) → ((tree : Tree) → tree_verdict way tree ≡ tree_verdict other tree) → IsOfCalls calls way answer → IsOfCalls calls other answer
+as_other way other same (bad_call front call rest e v n) = bad_call front call rest e v n
+as_other way other same (unfinished w u) = unfinished w u
+as_other {calls} way other same (whole tree s) = subst (IsOfCalls calls other) (sym (same tree)) (whole {way = other} tree s)
 
-lines_as_direct : (found : Lines) (answer : Verdict) → IsOfLines found Buffered answer → IsOfLines found Direct answer
-lines_as_direct (Bad n) answer e = e
-lines_as_direct (Good calls) answer i = as_direct i
+lines_as_other : (way other : Way) → ((tree : Tree) → tree_verdict way tree ≡ tree_verdict other tree) → (found : Lines) (answer : Verdict) → IsOfLines found way answer → IsOfLines found other answer
+lines_as_other way other same (Bad n) answer e = e
+lines_as_other way other same (Good calls) answer i = as_other way other same i
 
-pub json_ways_agree : (script : List ℕ) (direct buffered : Verdict) → verdict script Direct direct → verdict script Buffered buffered → direct ≡ buffered
-json_ways_agree script direct buffered v w = one_of_lines (lines script) Direct direct buffered v (lines_as_direct (lines script) buffered w)
+ways_agree : (way other : Way) → ((tree : Tree) → tree_verdict way tree ≡ tree_verdict other tree) → Agree way other
+ways_agree way other same script answer second v w = one_of_lines (lines script) other answer second (lines_as_other way other same (lines script) answer v) w
+
+pub json_ways_agree : BothJsonWaysAgree
+json_ways_agree = (ways_agree Direct Buffered (λ tree. refl), ways_agree DirectBeside BufferedBeside (λ tree. refl))

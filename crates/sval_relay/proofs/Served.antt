@@ -1,5 +1,5 @@
 -- From what reading, checking and writing a script answered to the script's verdict.
-use Rattle.std.specs.Prelude.{◌≡◌, ℕ, ◌+◌, ◌<◌, ◌^◌, ◌⊎◌, List, [], ◌∷◌, length, take, Option, Some, None, Result, Ok, Err, refl}
+use Rattle.std.specs.Prelude.{◌≡◌, ℕ, ◌+◌, ◌<◌, ◌^◌, ◌⊎◌, List, [], ◌∷◌, length, take, Option, Some, None, Result, Ok, Err, OnOk, OnErr, IfErr, refl}
 use Rattle.std.proofs.Common.{sym, ap, ◌∙◌, subst, arith, inl, inr, append-nil}
 use Rattle.std.proofs.lemmas.List.{take_all, length-append}
 use Rattle.sval_label.specs.Calls.{Call}
@@ -9,12 +9,12 @@ use Rattle.sval_core.specs.Law.{Emission}
 use Rattle.sval_check.specs.Checks.{IsFirstBad, IsUnfinished}
 use Rattle.sval_json.specs.Json.{Json, compact}
 use Rattle.sval_json.specs.Number.{Refusal, InvalidKey, InvalidNumber}
-use Rattle.sval_json.specs.Shape.{json_of}
+use Rattle.sval_json.specs.declared.style.Variants.{Variants}
+use Rattle.sval_json.specs.Shape.{json_in}
 use Rattle.sval_json.specs.Sinks.{appended, AppendsPrefix}
-use Rattle.sval_json.specs.Targets.{WritesTree}
+use Rattle.sval_json.specs.Targets.{WritesTreeIn}
 use Rattle.sval_script.specs.Lines.{Good, Bad, lines}
 use Rattle.sval_relay.specs.declared.relay.Way.{Way}
-use Rattle.sval_relay.specs.declared.relay.Way.TheVariants.{Direct, Buffered}
 use Rattle.sval_relay.specs.Verdict.{Verdict, BadLine, BadCall, Unfinished, Key, Number, Text, json_verdict, tree_verdict, IsOfCalls, bad_call, unfinished, whole, IsOfLines, verdict}
 use Rattle.sval_relay.specs.declared.relay.RelayError.{RelayError}
 use Rattle.sval_relay.specs.declared.relay.RelayError.TheVariants.{NoMemory}
@@ -36,16 +36,16 @@ verdict_of_calls script way calls answer e v = subst (λ found. IsOfLines found 
 pub verdict_unfinished : (script : List ℕ) (way : Way) (calls : List Call) → lines script ≡ Good calls → IsViable calls → ((tree : Tree) → Spells calls tree → ⊥) → verdict script way Unfinished
 verdict_unfinished script way calls e viable none = verdict_of_calls script way calls Unfinished e (unfinished viable none)
 
--- each way of JSON gives a tree's JSON
-any_way : (way : Way) (tree : Tree) → tree_verdict way tree ≡ json_verdict (json_of tree)
-any_way Direct tree = refl
-any_way Buffered tree = refl
+-- the way gives a tree's JSON in this style
+abbrev pub Gives : Way → Variants → Type 0
+Gives way style = (tree : Tree) → tree_verdict way tree ≡ json_verdict (json_in style tree)
 
-pub verdict_tree : (script : List ℕ) (way : Way) (calls : List Call) (tree : Tree) → lines script ≡ Good calls → Spells calls tree → verdict script way (json_verdict (json_of tree))
-verdict_tree script way calls tree e spells = subst (verdict script way) (any_way way tree) (verdict_of_calls script way calls (tree_verdict way tree) e (whole {way = way} tree spells))
+pub verdict_tree : (script : List ℕ) (way : Way) (style : Variants) (calls : List Call) (tree : Tree) → Gives way style → lines script ≡ Good calls → Spells calls tree → verdict script way (json_verdict (json_in style tree))
+verdict_tree script way style calls tree gives e spells = subst (verdict script way) (gives tree) (verdict_of_calls script way calls (tree_verdict way tree) e (whole {way = way} tree spells))
 
-pub verdict_text : (script : List ℕ) (way : Way) (calls : List Call) (tree : Tree) (json : Json) → lines script ≡ Good calls → Spells calls tree → json_of tree ≡ Ok json → verdict script way (Text (compact json))
-verdict_text script way calls tree json e spells is = subst (λ found. verdict script way (json_verdict found)) is (verdict_tree script way calls tree e spells)
+pub verdict_text : (script : List ℕ) (way : Way) (style : Variants) (calls : List Call) (tree : Tree) (json : Json) → Gives way style → lines script ≡ Good calls → Spells calls tree → json_in style tree ≡ Ok json
+    → verdict script way (Text (compact json))
+verdict_text script way style calls tree json gives e spells is = subst (λ found. verdict script way (json_verdict found)) is (verdict_tree script way style calls tree gives e spells)
 
 -- ---- what holds of the verdict found holds of each
 
@@ -73,14 +73,13 @@ pub grows_prefix : {old new : Option (List ℕ)} {bytes : List ℕ} → AppendsP
 grows_prefix {bytes = bytes} p = (take p.count bytes, p.text)
 
 -- of a tree's text a prefix was written
-pub leaves_tree : {old new : Option (List ℕ)} {bytes : List ℕ} (tree : Tree) → ((json : Json) → json_of tree ≡ Ok json → AppendsPrefix old new (compact json)) → AppendsPrefix old new bytes
-    → MayLeave (json_verdict (json_of tree)) old new
-leaves_tree {old} {new} {bytes} tree f p = by_shape (json_of tree) refl
+pub leaves_tree : {old new : Option (List ℕ)} (style : Variants) (tree : Tree) → ((json : Json) → json_in style tree ≡ Ok json → AppendsPrefix old new (compact json)) → Grows old new → MayLeave (json_verdict (json_in style tree)) old new
+leaves_tree {old} {new} style tree f grows = by_shape (json_in style tree) refl
   where
-    by_shape : (found : Result Json Refusal) → json_of tree ≡ found → MayLeave (json_verdict found) old new
+    by_shape : (found : Result Json Refusal) → json_in style tree ≡ found → MayLeave (json_verdict found) old new
     by_shape (Ok json) is = f json is
-    by_shape (Err InvalidKey) is = grows_prefix p
-    by_shape (Err InvalidNumber) is = grows_prefix p
+    by_shape (Err InvalidKey) is = grows
+    by_shape (Err InvalidNumber) is = grows
 
 pub whole_text : {old new : Option (List ℕ)} (bytes : List ℕ) → new ≡ appended old bytes → AppendsPrefix old new bytes
 whole_text {old} bytes e = record { count = length bytes; within = omega arith; text = e ∙ ap (appended old) (sym (take_all (length bytes) bytes (omega arith))) }
@@ -97,14 +96,15 @@ pub not_finished : (script : List ℕ) (way : Way) (e : Emission) → lines scri
 not_finished script way e is u = verdict_unfinished script way e.calls is u.viable u.no_tree
 
 -- the text of the tree was written
-pub one_text : {old new : Option (List ℕ)} (script : List ℕ) (way : Way) (calls : List Call) (tree : Tree) → lines script ≡ Good calls → Spells calls tree → WritesTree tree old new → WritesText script way old new
-one_text script way calls tree is spells done = record { text = compact done.json; is = verdict_text script way calls tree done.json is spells done.shape; written = done.text }
+pub one_text : {old new : Option (List ℕ)} (script : List ℕ) (way : Way) (style : Variants) (calls : List Call) (tree : Tree) → Gives way style → lines script ≡ Good calls → Spells calls tree → WritesTreeIn style tree old new
+    → WritesText script way old new
+one_text script way style calls tree gives is spells done = record { text = compact done.json; is = verdict_text script way style calls tree done.json gives is spells done.shape; written = done.text }
 
 -- a prefix of it was
-pub part_of_text : {old new : Option (List ℕ)} {bytes : List ℕ} (script : List ℕ) (way : Way) (calls : List Call) (tree : Tree) → lines script ≡ Good calls → Spells calls tree → AppendsPrefix old new bytes
-    → ((json : Json) → json_of tree ≡ Ok json → AppendsPrefix old new (compact json)) → (answer : Verdict) → verdict script way answer → MayLeave answer old new
-part_of_text {old} {new} script way calls tree is spells prefix of_tree =
-    of_each script way (json_verdict (json_of tree)) (λ answer. MayLeave answer old new) (verdict_tree script way calls tree is spells) (leaves_tree tree of_tree prefix)
+pub part_of_text : {old new : Option (List ℕ)} (script : List ℕ) (way : Way) (style : Variants) (calls : List Call) (tree : Tree) → Gives way style → lines script ≡ Good calls → Spells calls tree → Grows old new
+    → ((json : Json) → json_in style tree ≡ Ok json → AppendsPrefix old new (compact json)) → (answer : Verdict) → verdict script way answer → MayLeave answer old new
+part_of_text {old} {new} script way style calls tree gives is spells grows of_tree =
+    of_each script way (json_verdict (json_in style tree)) (λ answer. MayLeave answer old new) (verdict_tree script way style calls tree gives is spells) (leaves_tree style tree of_tree grows)
 
 pub all_of_text : {script : List ℕ} {way : Way} {old new : Option (List ℕ)} → WritesText script way old new → (answer : Verdict) → verdict script way answer → MayLeave answer old new
 all_of_text {script} {way} {old} {new} w = of_each script way (Text w.text) (λ answer. MayLeave answer old new) w.is (whole_text w.text w.written)
@@ -196,6 +196,17 @@ answers_partly script way write_fault old new e only write leaves grows = record
     by_only : {A : Type 0} → (e ≡ answer.Write) ⊎ (e ≡ NoMemory) → (e ≡ answer.Write → A) → (e ≡ NoMemory → A) → A
     by_only (inl w) f g = f w
     by_only (inr w) f g = g w
+
+-- writing the JSON of a script that spells a tree
+pub answers_written : (script : List ℕ) (way : Way) (style : Variants) (write_fault : Type 0) {old new : Option (List ℕ)} (bytes : List ℕ) (calls : List Call) (spelled : (tree : Tree) × Spells calls tree) (result : Result (Unit {0}) RelayError)
+    → Gives way style → lines script ≡ Good calls → OnOk result ((tree : Tree) → Spells calls tree → WritesTreeIn style tree old new) → (result ≡ Err answer.Write → write_fault)
+    → IfErr result (λ e. (e ≡ answer.Write) ⊎ (e ≡ NoMemory)) → OnErr result (AppendsPrefix old new bytes)
+    → OnErr result ((tree : Tree) (json : Json) → Spells calls tree → json_in style tree ≡ Ok json → AppendsPrefix old new (compact json)) → AnswersScript script way write_fault old new result
+answers_written script way style write_fault bytes calls spelled (Ok done) gives is text write only prefix part =
+    answers_text write_fault (one_text script way style calls spelled.0 gives is spelled.1 (text spelled.0 spelled.1))
+answers_written script way style write_fault bytes calls spelled (Err e) gives is text write only prefix part =
+    let grows = grows_prefix prefix in
+    answers_partly script way write_fault _ _ e only write (part_of_text script way style calls spelled.0 gives is spelled.1 grows (λ json. part spelled.0 json spelled.1)) grows
 
 -- the same for a script that is read first: the record's facts are clauses
 pub of_reading : (e : ScriptError) (script : List ℕ) (way : Way) (write_fault : Type 0) (told : Option (List ℕ)) → ((n : ℕ) → ◌≡◌ {A = Result (List Call) ScriptError} (Err e) (Err (reading.BadLine n)) → lines script ≡ Bad n)

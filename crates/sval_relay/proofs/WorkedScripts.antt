@@ -5,9 +5,12 @@ use Rattle.std.specs.Char.{encode_utf8}
 use Rattle.std.specs.Fmt.{digits}
 use Rattle.hex.specs.Hex.{decode_pairs}
 use Rattle.sval_label.specs.Calls.{Call, Int, I64, TextBegin, TextFragment, TextEnd, Begin, End, PartBegin, PartEnd, Seq, Item}
-use Rattle.sval_json.specs.Steps.{written}
+use Rattle.sval_json.specs.declared.style.Variants.TheVariants.{Beside}
+use Rattle.sval_json.specs.Steps.{written, written_in}
 use Rattle.sval_script.specs.Lines.{Good, lines, line_of, forms}
+use Rattle.sval_relay.specs.declared.relay.Way.TheVariants.{Direct, Buffered, DirectBeside, BufferedBeside}
 use Rattle.sval_relay.specs.Reports.{report}
+use Rattle.sval_relay.specs.Running.{way_of}
 
 sequence_calls : List Call
 sequence_calls = Begin Seq (Some 2) ∷ PartBegin Item ∷ Int I64 (negsuc 6) ∷ PartEnd Item
@@ -25,7 +28,27 @@ sequence_text : (written sequence_calls).written ≡ codes "[-7,\"a\\nb\"]"
 unfolding sequence_calls digits
 sequence_text = refl
 
+-- it holds no enum, so its text is the same in both styles
+sequence_text_beside : (written_in Beside sequence_calls).written ≡ codes "[-7,\"a\\nb\"]"
+unfolding sequence_calls digits
+sequence_text_beside = refl
+
+-- ---- the forms
+
+alone : (way_of (codes "direct" ∷ []) ≡ Some Direct) × (way_of (codes "buffered" ∷ []) ≡ Some Buffered)
+alone = (refl, refl)
+
+with_beside : (way_of (codes "direct" ∷ codes "beside" ∷ []) ≡ Some DirectBeside) × (way_of (codes "buffered" ∷ codes "beside" ∷ []) ≡ Some BufferedBeside)
+with_beside = (refl, refl)
+
+no_forms : (way_of [] ≡ None) × (way_of (codes "beside" ∷ []) ≡ None) × (way_of (codes "calls" ∷ codes "beside" ∷ []) ≡ None)
+    × (way_of (codes "direct" ∷ codes "direct" ∷ []) ≡ None) × (way_of (codes "direct" ∷ codes "beside" ∷ codes "beside" ∷ []) ≡ None)
+no_forms = (refl, refl, refl, refl, refl)
+
 -- ---- what the third device is told
+
+usage : report 2 0 ≡ codes "usage: sval_relay direct [beside]|buffered [beside]|calls|made N\n"
+usage = refl
 
 lines_that_are_named : (report 3 1 ≡ codes "line 1: not a call\n") × (report 4 120 ≡ codes "line 120: no value goes on with this call\n")
 unfolding digits

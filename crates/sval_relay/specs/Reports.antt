@@ -9,7 +9,7 @@ use Rattle.sval_relay.specs.Running.{OnScript}
 
 -- the line for each status; those for 3 and 4 name a line of the script by its number
 abbrev pub reports : ℕ → List (ℕ × List ℕ)
-reports number = (2, codes "usage: sval_relay direct|buffered|calls|made N\n")
+reports number = (2, codes "usage: sval_relay direct [beside]|buffered [beside]|calls|made N\n")
     ∷ (3, codes "line " ++ decimal number ++ codes ": not a call\n")
     ∷ (4, codes "line " ++ decimal number ++ codes ": no value goes on with this call\n")
     ∷ (5, codes "the calls are not one whole value\n")

@@ -2,14 +2,23 @@
 use Rattle.std.specs.Prelude.{◌≡◌, ℕ, ◌≤◌, ◌==◌, ◌^◌, Bool, true, List, [], ◌∷◌, length, codes, bytes_eq, Option, Some, None, if◌then◌else◌, ⊤, ◌<◌, ◌⊎◌}
 use Rattle.std.specs.List.{list_any}
 use Rattle.sval_relay.specs.declared.relay.Way.{Way}
-use Rattle.sval_relay.specs.declared.relay.Way.TheVariants.{Direct, Buffered}
+use Rattle.sval_relay.specs.declared.relay.Way.TheVariants.{Direct, Buffered, DirectBeside, BufferedBeside}
 use Rattle.sval_relay.specs.Verdict.{Verdict, BadLine, BadCall, Unfinished, Key, Number, Text, verdict}
 use Rattle.sval_relay.specs.Reading.{IsLong}
 use Rattle.sval_relay.specs.Serving.{WritesText, Grows, MayLeave}
 
+-- the way that a word names by itself
+abbrev pub way_alone : List ℕ → Option Way
+way_alone word = if bytes_eq word (codes "direct") then Some Direct else if bytes_eq word (codes "buffered") then Some Buffered else None
+
+-- the way that it names before `beside`
+abbrev pub way_beside : List ℕ → Option Way
+way_beside word = if bytes_eq word (codes "direct") then Some DirectBeside else if bytes_eq word (codes "buffered") then Some BufferedBeside else None
+
 -- the way that the program's words name, if they are a form
 abbrev pub way_of : List (List ℕ) → Option Way
-way_of (word ∷ []) = if bytes_eq word (codes "direct") then Some Direct else if bytes_eq word (codes "buffered") then Some Buffered else None
+way_of (word ∷ []) = way_alone word
+way_of (word ∷ last ∷ []) = if bytes_eq last (codes "beside") then way_beside word else None
 way_of words = None
 
 -- a fact on the way and the input, where the words name a way and the source tells the input

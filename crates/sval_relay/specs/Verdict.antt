@@ -5,10 +5,11 @@ use Rattle.sval_core.specs.Trees.{Tree}
 use Rattle.sval_core.specs.Spells.{Spells, IsViable}
 use Rattle.sval_json.specs.Json.{Json, compact}
 use Rattle.sval_json.specs.Number.{Refusal, InvalidKey, InvalidNumber}
-use Rattle.sval_json.specs.Shape.{json_of}
+use Rattle.sval_json.specs.declared.style.Variants.TheVariants.{Inside, Beside}
+use Rattle.sval_json.specs.Shape.{json_in}
 use Rattle.sval_script.specs.Lines.{Lines, Good, Bad, lines}
 use Rattle.sval_relay.specs.declared.relay.Way.{Way}
-use Rattle.sval_relay.specs.declared.relay.Way.TheVariants.{Direct, Buffered}
+use Rattle.sval_relay.specs.declared.relay.Way.TheVariants.{Direct, Buffered, DirectBeside, BufferedBeside}
 
 -- the first bad line, or the first call that no value goes on with, each counted from 1; calls that are no whole value; a map's key
 -- that is no text; a number that is none; or the text
@@ -25,10 +26,12 @@ json_verdict (Ok json) = Text (compact json)
 json_verdict (Err InvalidKey) = Key
 json_verdict (Err InvalidNumber) = Number
 
--- what a whole tree gives
+-- what a whole tree gives: its JSON in the way's style of variants
 abbrev pub tree_verdict : Way → Tree → Verdict
-tree_verdict Direct tree = json_verdict (json_of tree)
-tree_verdict Buffered tree = json_verdict (json_of tree)
+tree_verdict Direct tree = json_verdict (json_in Inside tree)
+tree_verdict Buffered tree = json_verdict (json_in Inside tree)
+tree_verdict DirectBeside tree = json_verdict (json_in Beside tree)
+tree_verdict BufferedBeside tree = json_verdict (json_in Beside tree)
 
 -- what a list of calls gives
 pub data IsOfCalls : List Call → Way → Verdict → Type 0 where

@@ -117,7 +117,12 @@ impl Failure {
         ensures prefix { OnErr result (AppendsPrefix (D.text diag.old) (D.text diag.new) (report_of self.now)) }
     {
         match self {
-            Failure::Usage => write_all(diag, b"usage: sval_relay direct|buffered|calls|made N\n"),
+            Failure::Usage => {
+                write_all(
+                    diag,
+                    b"usage: sval_relay direct [beside]|buffered [beside]|calls|made N\n",
+                )
+            }
             Failure::BadLine { line } => write_at(diag, *line, b": not a call\n"),
             Failure::BadCall { line } => {
                 write_at(diag, *line, b": no value goes on with this call\n")

@@ -7,10 +7,10 @@ ghost use Rattle.sval_core.specs.Law.{Rose};
 ghost use Rattle.sval_core.specs.Spells.{Spells};
 ghost use Rattle.sval_core.specs.Trees.{Tree};
 ghost use Rattle.sval_json.specs.Json.{Json, compact};
-ghost use Rattle.sval_json.specs.Shape.{json_of};
+ghost use Rattle.sval_json.specs.Shape.{json_in};
 ghost use Rattle.sval_json.specs.Sinks.{AppendsPrefix};
-ghost use Rattle.sval_json.specs.Steps.{written};
-ghost use Rattle.sval_json.specs.Targets.{WritesTree};
+ghost use Rattle.sval_json.specs.Steps.{written_in};
+ghost use Rattle.sval_json.specs.Targets.{WritesTreeIn};
 ghost use Rattle.sval_script.specs.Lines.{lines, Good};
 ghost use Rattle.sval_relay.specs.Answers.{AnswersScript};
 ghost use Rattle.sval_relay.specs.Serving.{WritesText, Grows, MayLeave, IsAnswerTo, is_of_script};
@@ -22,7 +22,7 @@ use std::alloc::Global;
 use sval_buffer::ValueBuf;
 use sval_check::{CheckError, check};
 use sval_core::{Lent, Value};
-use sval_json::{ErrorKind, Sink, stream_to_io_write};
+use sval_json::{ErrorKind, Sink, Variants, stream_to_io_write_with};
 
 /// The ways to serve a script.
 #[derive(Clone, Copy, Debug, PartialEq, Eq)]
@@ -31,6 +31,10 @@ pub enum Way {
     Direct,
     /// The same JSON, written from the value as it was captured.
     Buffered,
+    /// As `Direct`, with the variants of enums beside their names.
+    DirectBeside,
+    /// As `Buffered`, with the variants of enums beside their names.
+    BufferedBeside,
 }
 
 /// Why a script wasn't served, or not whole.
@@ -119,14 +123,31 @@ pub(crate) fn serve_script<K: Sink>(
         Err(CheckError::Refused) => unreachable!("a script doesn't refuse"),
     }
     match way {
-        Way::Direct => write_json(out, script)?,
-        Way::Buffered => {
-            // A part takes a line or more; room that isn't filled takes no memory of the system.
-            let captured = capture(alloc, script.lines(), script)?;
-            write_json(out, &captured)?;
-        }
+        Way::Direct => write_json(out, script, Variants::Inside),
+        Way::Buffered => write_captured(alloc, script, Variants::Inside, out),
+        Way::DirectBeside => write_json(out, script, Variants::Beside),
+        Way::BufferedBeside => write_captured(alloc, script, Variants::Beside, out),
     }
-    Ok(())
+}
+
+/// Captures a script whose calls spell a tree, and writes the JSON of what it captured.
+fn write_captured<K: Sink>(
+    alloc: Global,
+    script: &Script,
+    variants: Variants,
+    out: &mut K,
+) -> Result<(), RelayError>
+    requires { (tree : Tree) × Spells script.now tree }
+    ensures tree { OnOk result ((tree : Tree) → Spells script.now tree → WritesTreeIn variants tree (K.text out.old) (K.text out.new)) }
+    ensures steady { OnOk result ((K.faults out.new ≡ K.faults out.old) × (K.wants out.new ≡ K.wants out.old)) }
+    ensures write { result ≡ Err RelayError.Write → Rose (K.faults out.old) (K.faults out.new) }
+    ensures only { IfErr result (λ error. (error ≡ RelayError.Write) ⊎ (error ≡ RelayError.NoMemory)) }
+    ensures prefix { OnErr result (AppendsPrefix (K.text out.old) (K.text out.new) (written_in variants script.now).written) }
+    ensures tree_prefix { OnErr result ((tree : Tree) (json : Json) → Spells script.now tree → json_in variants tree ≡ Ok json → AppendsPrefix (K.text out.old) (K.text out.new) (compact json)) }
+{
+    // A part takes a line or more; room that isn't filled takes no memory of the system.
+    let captured = capture(alloc, script.lines(), script)?;
+    write_json(out, &captured, variants)
 }
 
 /// Captures a value that doesn't refuse and whose calls spell a tree, with room for this many parts.
@@ -152,16 +173,17 @@ fn capture<'v, V: Value<'v, Lent<'v>>>(
 fn write_json<'v, K: Sink, V: Value<'v, Lent<'v>>>(
     out: &mut K,
     value: &'v V,
+    variants: Variants,
 ) -> Result<(), RelayError>
     requires { (V.emission value.now).refuses ≡ false }
-    ensures tree { OnOk result ((tree : Tree) → Spells (V.emission value.now).calls tree → WritesTree tree (K.text out.old) (K.text out.new)) }
+    ensures tree { OnOk result ((tree : Tree) → Spells (V.emission value.now).calls tree → WritesTreeIn variants tree (K.text out.old) (K.text out.new)) }
     ensures steady { OnOk result ((K.faults out.new ≡ K.faults out.old) × (K.wants out.new ≡ K.wants out.old)) }
     ensures write { result ≡ Err RelayError.Write → Rose (K.faults out.old) (K.faults out.new) }
     ensures only { IfErr result (λ error. (error ≡ RelayError.Write) ⊎ (error ≡ RelayError.NoMemory)) }
-    ensures prefix { OnErr result (AppendsPrefix (K.text out.old) (K.text out.new) (written (V.emission value.now).calls).written) }
-    ensures tree_prefix { OnErr result ((tree : Tree) (json : Json) → Spells (V.emission value.now).calls tree → json_of tree ≡ Ok json → AppendsPrefix (K.text out.old) (K.text out.new) (compact json)) }
+    ensures prefix { OnErr result (AppendsPrefix (K.text out.old) (K.text out.new) (written_in variants (V.emission value.now).calls).written) }
+    ensures tree_prefix { OnErr result ((tree : Tree) (json : Json) → Spells (V.emission value.now).calls tree → json_in variants tree ≡ Ok json → AppendsPrefix (K.text out.old) (K.text out.new) (compact json)) }
 {
-    match stream_to_io_write(out, value) {
+    match stream_to_io_write_with(out, value, variants) {
         Ok(()) => Ok(()),
         Err(error) => match error.kind() {
             ErrorKind::IO => Err(RelayError::Write),

@@ -5,7 +5,7 @@ ghost use Rattle.sval_core.specs.Law.{Rose};
 ghost use Rattle.sval_relay.specs.Failing.{status_of};
 ghost use Rattle.sval_relay.specs.Reading.{IsLong};
 ghost use Rattle.sval_relay.specs.Reports.{Reports};
-ghost use Rattle.sval_relay.specs.Running.{way_of, OnScript, IsShort, is_status, is_unwritten, is_read, IsStatusOf, Serves};
+ghost use Rattle.sval_relay.specs.Running.{way_of, way_beside, OnScript, IsShort, is_status, is_unwritten, is_read, IsStatusOf, Serves};
 ghost use Rattle.sval_relay.specs.Serving.{WritesText, Grows, MayLeave};
 ghost use Rattle.sval_relay.specs.Verdict.{Verdict, verdict, BadLine, BadCall, Unfinished};
 
@@ -17,6 +17,17 @@ use crate::source::Source;
 use std::alloc::Global;
 use sval_json::Sink;
 
+/// The way that a word names before `beside`.
+fn beside(word: &str) -> Option<Way>
+    ensures { result ≡ way_beside word.now }
+{
+    match word {
+        "direct" => Some(Way::DirectBeside),
+        "buffered" => Some(Way::BufferedBeside),
+        _ => None,
+    }
+}
+
 /// The way that the words name, if they are a form.
 fn way(words: &[String]) -> Option<Way>
     ensures { result ≡ way_of (map string_bytes words.now) }
@@ -24,6 +35,7 @@ fn way(words: &[String]) -> Option<Way>
     match words {
         [word] if word.as_str() == "direct" => Some(Way::Direct),
         [word] if word.as_str() == "buffered" => Some(Way::Buffered),
+        [word, last] if last.as_str() == "beside" => beside(word.as_str()),
         _ => None,
     }
 }
@@ -60,8 +72,9 @@ fn serve<I: Source, K: Sink>(
 ///
 /// The words are those after the program's name. For `direct` and `buffered` it reads the input to its end, at most
 /// 16,777,216 bytes and one more to see that there are too many, and writes the JSON of the one value that its script's
-/// calls spell, for `buffered` after the value was captured. Where the status isn't 0, it writes one line to `diag` that
-/// says why; what `diag` answers changes nothing.
+/// calls spell, for `buffered` after the value was captured. With `beside` as a second word the variants of enums stand
+/// beside their names. Where the status isn't 0, it writes one line to `diag` that says why; what `diag` answers changes
+/// nothing.
 ///
 /// | status | comes |
 /// |---|---|

@@ -28,7 +28,12 @@ fn answers(rt: HostRuntime) -> Result<(), Fail> {
         ),
     ];
     for (script, wanted, text) in table {
-        for way in [Way::Direct, Way::Buffered] {
+        for way in [
+            Way::Direct,
+            Way::Buffered,
+            Way::DirectBeside,
+            Way::BufferedBeside,
+        ] {
             let mut out = VecSink::new(alloc);
             let answer = relay(alloc, script.as_bytes(), way, &mut out);
             assert_eq!(rt; answer, wanted, "{way:?} at {script:?}");

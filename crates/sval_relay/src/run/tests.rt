@@ -26,7 +26,10 @@ struct Ran {
 /// The words of the ways that write JSON.
 const WAYS: [&'static str; 2] = ["direct", "buffered"];
 
-/// Runs a way on a source and a sink, and answers the status and what was said.
+/// These words, and those that ask for variants beside their names.
+const STYLED_WAYS: [&'static str; 4] = ["direct", "buffered", "direct beside", "buffered beside"];
+
+/// Runs a way, its words with a space between two, on a source and a sink, and answers the status and what was said.
 fn run_on<I: Source, K: Sink>(
     alloc: Global,
     way: &str,
@@ -34,8 +37,11 @@ fn run_on<I: Source, K: Sink>(
     out: &mut K,
 ) -> Result<(u8, Vec<u8>), AllocError> {
     let mut diag = VecSink::new(alloc);
-    let words = [String::from_str(alloc, way)?];
-    let status = run(alloc, &words, input, out, &mut diag);
+    let mut words = Vec::new(alloc);
+    for word in way.split(' ') {
+        words.push(String::from_str(alloc, word)?)?;
+    }
+    let status = run(alloc, words.as_slice(), input, out, &mut diag);
     Ok((status, diag.into_vec()))
 }
 
@@ -84,7 +90,7 @@ fn try_rows(rt: &impl Abort, alloc: Global, rows: &[(&'static str, Wanted)]) -> 
                 )
             }
         };
-        for way in WAYS {
+        for way in STYLED_WAYS {
             let ran = run_script(alloc, way, script.as_bytes())?;
             assert_eq!(rt; ran.status, status, "{way} at {script:?}");
             assert_eq!(rt; ran.out.as_slice(), out.as_bytes(), "{way} at {script:?}");

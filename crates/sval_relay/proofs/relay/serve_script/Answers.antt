@@ -1,6 +1,7 @@
-use Rattle.std.proofs.Common.{ap, Err}
-use Rattle.std.proofs.lemmas.Result.{err_from_is_err_and}
-use Rattle.sval_relay.proofs.Served.{first_bad, not_finished, one_text, part_of_text, grows_prefix, answers_bad_call, answers_unfinished, answers_text, answers_partly}
+use Rattle.std.proofs.Common.{ap, Err, refl}
+use Rattle.sval_json.specs.declared.style.Variants.TheVariants.{Inside, Beside}
+use Rattle.sval_relay.specs.declared.relay.Way.TheVariants.{Direct, Buffered, DirectBeside, BufferedBeside}
+use Rattle.sval_relay.proofs.Served.{first_bad, not_finished, answers_bad_call, answers_unfinished, answers_written}
 use Rattle.sval_relay.proofs.relay.serve_script.Goals as goal
 
 pub returns-in-Err-BadCall-clause-serves : goal.returns-in-Err-BadCall-clause-serves
@@ -13,32 +14,26 @@ pub returns-in-Err-Unfinished-clause-serves : goal.returns-in-Err-Unfinished-cla
 returns-in-Err-Unfinished-clause-serves g c = λ bytes is.
     answers_unfinished bytes c.args.way _ _ (not_finished bytes c.args.way (record { calls = c.args.script.now; refuses = _ }) is (c.in-Err-Unfinished.ensures.unfinished (ap Err c.in-Err-Unfinished.field-0-is)))
 
-pub returns-in_err-write_json-in-Direct-clause-serves : goal.returns-in_err-write_json-in-Direct-clause-serves
-returns-in_err-write_json-in-Direct-clause-serves g c = λ bytes is.
-    let failed = c.in_err-write_json-in-Direct in
-    let p = err_from_is_err_and c.from_residual.result c.from_residual.ensures.1 in
-    let (tree, spells) = c.in-Ok.ensures.ok.spells in
-    rw (p.1, p.2) (answers_partly bytes c.args.way _ _ _ failed.field-0.0 failed.ensures.only failed.ensures.write
-    (part_of_text bytes c.args.way c.args.script.now tree is spells failed.ensures.prefix (λ json. failed.ensures.tree_prefix tree json spells))
-    (grows_prefix failed.ensures.prefix))
+pub returns-in-Direct-clause-serves : goal.returns-in-Direct-clause-serves
+returns-in-Direct-clause-serves g c = λ bytes is.
+    let done = c.write_json in
+    rw c.in-Direct.is (answers_written bytes Direct Inside _ _ c.args.script.now c.in-Ok.ensures.ok.spells done.result (λ tree. refl) is
+    done.ensures.tree done.ensures.write done.ensures.only done.ensures.prefix done.ensures.tree_prefix)
 
-pub returns-in_ok-write_json-in-Direct-clause-serves : goal.returns-in_ok-write_json-in-Direct-clause-serves
-returns-in_ok-write_json-in-Direct-clause-serves g c = λ bytes is.
-    let (tree, spells) = c.in-Ok.ensures.ok.spells in
-    answers_text _ (one_text bytes c.args.way c.args.script.now tree is spells (c.in_ok-write_json-in-Direct.ensures.tree tree spells))
+pub returns-in-Buffered-clause-serves : goal.returns-in-Buffered-clause-serves
+returns-in-Buffered-clause-serves g c = λ bytes is.
+    let done = c.write_captured in
+    rw c.in-Buffered.is (answers_written bytes Buffered Inside _ _ c.args.script.now c.in-Ok.ensures.ok.spells done.result (λ tree. refl) is
+    done.ensures.tree done.ensures.write done.ensures.only done.ensures.prefix done.ensures.tree_prefix)
 
-pub returns-in_err-write_json-in-Buffered-clause-serves : goal.returns-in_err-write_json-in-Buffered-clause-serves
-returns-in_err-write_json-in-Buffered-clause-serves g c = λ bytes is.
-    let failed = c.in_err-write_json-in-Buffered in
-    let p = err_from_is_err_and c.from_residual-in_err-write_json-in-Buffered.result c.from_residual-in_err-write_json-in-Buffered.ensures.1 in
-    let (tree, spells) = c.in-Ok.ensures.ok.spells in
-    let again = (c.in_ok-captured-in-Buffered.ensures.keeps_the_tree tree spells).spells in
-    rw (p.1, p.2) (answers_partly bytes c.args.way _ _ _ failed.field-0.0 failed.ensures.only failed.ensures.write
-    (part_of_text bytes c.args.way c.args.script.now tree is spells failed.ensures.prefix (λ json. failed.ensures.tree_prefix tree json again))
-    (grows_prefix failed.ensures.prefix))
+pub returns-in-DirectBeside-clause-serves : goal.returns-in-DirectBeside-clause-serves
+returns-in-DirectBeside-clause-serves g c = λ bytes is.
+    let done = c.write_json-in-DirectBeside in
+    rw c.in-DirectBeside.is (answers_written bytes DirectBeside Beside _ _ c.args.script.now c.in-Ok.ensures.ok.spells done.result (λ tree. refl) is
+    done.ensures.tree done.ensures.write done.ensures.only done.ensures.prefix done.ensures.tree_prefix)
 
-pub returns-in_ok-write_json-in-Buffered-clause-serves : goal.returns-in_ok-write_json-in-Buffered-clause-serves
-returns-in_ok-write_json-in-Buffered-clause-serves g c = λ bytes is.
-    let (tree, spells) = c.in-Ok.ensures.ok.spells in
-    let again = (c.in_ok-captured-in-Buffered.ensures.keeps_the_tree tree spells).spells in
-    answers_text _ (one_text bytes c.args.way c.args.script.now tree is spells (c.in_ok-write_json-in-Buffered.ensures.tree tree again))
+pub returns-in-BufferedBeside-clause-serves : goal.returns-in-BufferedBeside-clause-serves
+returns-in-BufferedBeside-clause-serves g c = λ bytes is.
+    let done = c.write_captured-in-BufferedBeside in
+    rw c.in-BufferedBeside.is (answers_written bytes BufferedBeside Beside _ _ c.args.script.now c.in-Ok.ensures.ok.spells done.result (λ tree. refl) is
+    done.ensures.tree done.ensures.write done.ensures.only done.ensures.prefix done.ensures.tree_prefix)

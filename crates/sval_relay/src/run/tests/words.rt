@@ -18,7 +18,7 @@ fn owned(alloc: Global, texts: &[&str]) -> Result<Vec<String>, AllocError> {
 #[test]
 fn no_form(rt: HostRuntime) -> Result<(), Fail> {
     let alloc = rt.alloc();
-    let table: [&'static [&'static str]; 13] = [
+    let table: [&'static [&'static str]; 20] = [
         &[],
         &[""],
         &["Direct"],
@@ -30,6 +30,13 @@ fn no_form(rt: HostRuntime) -> Result<(), Fail> {
         &["Buffered"],
         &["buffer"],
         &["buffered", "direct"],
+        &["beside"],
+        &["beside", "direct"],
+        &["calls", "beside"],
+        &["direct", "Beside"],
+        &["direct", "besides"],
+        &["direct", "inside"],
+        &["buffered", "beside", "beside"],
         &["--help"],
         &["--version"],
     ];
@@ -44,7 +51,7 @@ fn no_form(rt: HostRuntime) -> Result<(), Fail> {
         assert!(rt; out.as_slice().is_empty(), "at {texts:?}");
         assert_eq!(rt;
             diag.as_slice(),
-            b"usage: sval_relay direct|buffered|calls|made N\n".as_slice()
+            b"usage: sval_relay direct [beside]|buffered [beside]|calls|made N\n".as_slice()
         );
     }
     Ok(())
@@ -54,7 +61,7 @@ fn no_form(rt: HostRuntime) -> Result<(), Fail> {
 #[test]
 fn diag_fails(rt: HostRuntime) -> Result<(), Fail> {
     let alloc = rt.alloc();
-    let table: [(&'static [&'static str], &'static str, u8); 8] = [
+    let table: [(&'static [&'static str], &'static str, u8); 10] = [
         (&[], "null\n", 2),
         (&["direct"], "null\n", 0),
         (&["direct"], "nil\n", 3),
@@ -63,6 +70,8 @@ fn diag_fails(rt: HostRuntime) -> Result<(), Fail> {
         (&["direct"], "null", 3),
         (&["buffered"], "null\n", 0),
         (&["buffered"], "seq_end\n", 4),
+        (&["direct", "beside"], "null\n", 0),
+        (&["buffered", "beside"], "seq_end\n", 4),
     ];
     for (texts, script, wanted) in table {
         let words = owned(alloc, texts)?;
