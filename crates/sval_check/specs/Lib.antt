@@ -2,3 +2,5 @@ pub mod Stacks
 pub mod States
 pub mod Checking
 pub mod Checks
+pub mod ManyStates
+pub mod ManyChecks

@@ -9,6 +9,7 @@ ghost use Rattle.sval_check.specs.Checks.{IsOneValue, IsFirstBad, OnlyRefuses, I
 
 mod checker;
 mod error;
+pub mod laws;
 mod stack;
 #[cfg(test)]
 mod tests;

@@ -6,7 +6,7 @@ use Rattle.sval_core.specs.Spells.{IsViable}
 use Rattle.sval_core.proofs.Spellings.{front_is_viable}
 
 -- of two fronts of one list the shorter one and the call after it begin the longer one
-data Meet : List Call → Call → List Call → Call → Type 0 where
+pub data Meet : List Call → Call → List Call → Call → Type 0 where
   same_front : {front other : List Call} {call next : Call} → front ≡ other → Meet front call other next
   before : {front other : List Call} {call next : Call} (more : List Call) → other ≡ (front ++ (call ∷ [])) ++ more → Meet front call other next
   after : {front other : List Call} {call next : Call} (more : List Call) → front ≡ (other ++ (next ∷ [])) ++ more → Meet front call other next
@@ -19,7 +19,7 @@ longer first front other call next (after more e) = after more (ap (λ x. first 
 first_same : (c d : Call) (cs ds : List Call) → (c ∷ cs) ≡ (d ∷ ds) → (c ≡ d) × (cs ≡ ds)
 first_same c d cs ds e = (cc e, cc e)
 
-fronts_meet : (front other : List Call) (call next : Call) (rest last : List Call) → front ++ (call ∷ rest) ≡ other ++ (next ∷ last) → Meet front call other next
+pub fronts_meet : (front other : List Call) (call next : Call) (rest last : List Call) → front ++ (call ∷ rest) ≡ other ++ (next ∷ last) → Meet front call other next
 fronts_meet [] [] call next rest last e = same_front refl
 fronts_meet [] (first ∷ other) call next rest last e = let f = first_same call first rest (other ++ (next ∷ last)) e in before other (ap (λ c. c ∷ other) (sym f.0))
 fronts_meet (first ∷ front) [] call next rest last e = let f = first_same first next (front ++ (call ∷ rest)) last e in after front (ap (λ c. c ∷ front) f.0)

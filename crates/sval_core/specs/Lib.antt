@@ -5,4 +5,7 @@ pub mod Real
 pub mod Law
 pub mod Emissions
 pub mod Laws
+pub mod Many
+pub mod ManyChecker
+pub mod ManyLaws
 pub mod Lenient

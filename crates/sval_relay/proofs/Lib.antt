@@ -3,6 +3,9 @@ pub mod FieldTexts
 pub mod LineCuts
 pub mod LineForms
 pub mod OneVerdict
+pub mod ManyVerdicts
+pub mod ManyLefts
+mod ManyRows
 pub mod ReadParts
 pub mod ScriptLines
 pub mod ScriptStreams

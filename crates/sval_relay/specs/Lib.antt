@@ -11,3 +11,6 @@ pub mod LineCalls
 pub mod LineFields
 pub mod LineWords
 pub mod Laws
+pub mod Many
+pub mod ManyLeft
+pub mod ManyLaws

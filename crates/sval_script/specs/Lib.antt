@@ -1,1 +1,5 @@
 pub mod Lines
+pub mod AllLines
+pub mod Printed
+pub mod Canon
+pub mod Laws

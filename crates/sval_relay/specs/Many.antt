@@ -1,0 +1,80 @@
+-- What a script has to give where it spells one value, and where it may spell many.
+use Rattle.std.specs.Prelude.{◌≡◌, ℕ, ◌+◌, Bool, true, false, List, [], ◌∷◌, ◌++◌, length, Result, Ok, Err}
+use Rattle.sval_label.specs.Calls.{Call}
+use Rattle.sval_core.specs.Trees.{Tree}
+use Rattle.sval_core.specs.Spells.{Spells, IsViable}
+use Rattle.sval_core.specs.Many.{SpellsAll, IsViableAll}
+use Rattle.sval_json.specs.Json.{compact}
+use Rattle.sval_json.specs.Number.{Refusal, InvalidKey, InvalidNumber}
+use Rattle.sval_json.specs.declared.style.Variants.{Variants}
+use Rattle.sval_json.specs.declared.style.Variants.TheVariants.{Inside, Beside}
+use Rattle.sval_json.specs.Shape.{json_in, on_ok, map_ok}
+use Rattle.sval_script.specs.Lines.{Lines, Good, Bad, lines}
+use Rattle.sval_script.specs.Canon.{canon}
+use Rattle.sval_relay.specs.declared.relay.Way.{Way}
+use Rattle.sval_relay.specs.declared.relay.Way.TheVariants.{Direct, Buffered, DirectBeside, BufferedBeside}
+use Rattle.sval_relay.specs.Verdict.{Verdict, BadLine, BadCall, Unfinished, Key, Number, Text}
+
+-- what is asked for of each tree: its JSON in a style of variants, or its canonical script
+pub data Asked : Type 0 where
+  JsonIn : Variants → Asked
+  Script : Asked
+
+abbrev pub asked_in : Way → Asked
+asked_in Direct = JsonIn Inside
+asked_in Buffered = JsonIn Inside
+asked_in DirectBeside = JsonIn Beside
+asked_in BufferedBeside = JsonIn Beside
+
+-- ---- what trees give
+
+abbrev pub tree_text : Asked → Tree → Result (List ℕ) Refusal
+tree_text (JsonIn style) tree = map_ok compact (json_in style tree)
+tree_text Script tree = Ok (canon tree)
+
+-- what ends each tree's text: a line feed where many values may come, and nothing after a script
+abbrev pub ending : Asked → Bool → List ℕ
+ending (JsonIn style) true = 10 ∷ []
+ending (JsonIn style) false = []
+ending Script many = []
+
+-- the trees' texts, each with its ending, or the refusal of the first tree that is refused
+abbrev pub texts : Asked → List ℕ → List Tree → Result (List ℕ) Refusal
+texts asked end [] = Ok []
+texts asked end (tree ∷ trees) = on_ok (tree_text asked tree) (λ text. map_ok (λ more. text ++ (end ++ more)) (texts asked end trees))
+
+abbrev pub text_verdict : Result (List ℕ) Refusal → Verdict
+text_verdict (Ok text) = Text text
+text_verdict (Err InvalidKey) = Key
+text_verdict (Err InvalidNumber) = Number
+
+abbrev pub trees_verdict : Asked → Bool → List Tree → Verdict
+trees_verdict asked many trees = text_verdict (texts asked (ending asked many) trees)
+
+-- ---- what a script gives
+
+-- some further calls complete these: to one value, or to a list of values
+abbrev pub CanGoOn : Bool → List Call → Type 0
+CanGoOn false calls = IsViable calls
+CanGoOn true calls = IsViableAll calls
+
+-- the calls spell these trees: one, or a list
+abbrev pub SpellTrees : Bool → List Call → List Tree → Type 0
+SpellTrees false calls trees = (tree : Tree) × (trees ≡ tree ∷ []) × Spells calls tree
+SpellTrees true calls trees = SpellsAll calls trees
+
+-- the first call that no value, or no list of values, goes on with, counted from 1; calls that are not whole; or what the trees give
+pub data IsOfCalls : List Call → Asked → Bool → Verdict → Type 0 where
+  bad_call : {calls : List Call} {asked : Asked} {many : Bool} (front : List Call) (call : Call) (rest : List Call) → calls ≡ front ++ (call ∷ rest)
+      → CanGoOn many front → (CanGoOn many (front ++ (call ∷ [])) → ⊥) → IsOfCalls calls asked many (BadCall (length front + 1))
+  unfinished : {calls : List Call} {asked : Asked} {many : Bool} → CanGoOn many calls → ((trees : List Tree) → SpellTrees many calls trees → ⊥)
+      → IsOfCalls calls asked many Unfinished
+  whole : {calls : List Call} {asked : Asked} {many : Bool} (trees : List Tree) → SpellTrees many calls trees → IsOfCalls calls asked many (trees_verdict asked many trees)
+
+abbrev pub IsOfLines : Lines → Asked → Bool → Verdict → Type 0
+IsOfLines (Bad n) asked many answer = answer ≡ BadLine n
+IsOfLines (Good calls) asked many answer = IsOfCalls calls asked many answer
+
+-- the script's verdict is this answer
+abbrev pub verdict_of : List ℕ → Asked → Bool → Verdict → Type 0
+verdict_of script asked many answer = IsOfLines (lines script) asked many answer
