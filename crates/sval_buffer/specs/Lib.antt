@@ -16,3 +16,6 @@ pub mod Collects
 pub mod ErrorTexts
 pub mod Nesting
 pub mod Tests
+pub mod Collected
+pub mod CollectSteps
+pub mod CollectLaws

@@ -4,6 +4,7 @@
 //! What they hold stands in `specs/Pushes.antt` and `specs/Forest.antt`, and [`laws`] has what holds of it.
 #![tactic(auto)]
 
+pub mod collect_laws;
 mod error;
 pub mod laws;
 mod one_pass;

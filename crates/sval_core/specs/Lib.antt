@@ -9,3 +9,8 @@ pub mod Many
 pub mod ManyChecker
 pub mod ManyLaws
 pub mod Lenient
+pub mod Names
+pub mod Values
+pub mod ValueTrees
+pub mod ValueLaws
+pub mod SameNames

@@ -5,10 +5,12 @@
 #![tactic(auto)]
 
 pub mod laws;
+pub mod name_laws;
 mod stream;
 #[cfg(test)]
 mod tests;
 mod value;
+pub mod value_laws;
 
 pub use stream::Stream;
 pub use sval_label::{AnyCall, Call, Error, Lending, Lent, NoMemory, Result, refusal};

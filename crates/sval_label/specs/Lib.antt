@@ -3,3 +3,4 @@ pub mod Calls
 pub mod Tags
 pub mod Ranges
 pub mod Made
+pub mod Equalities

@@ -6,6 +6,7 @@
 
 mod call;
 mod error;
+pub mod laws;
 #[cfg(test)]
 mod tests;
 

@@ -1,0 +1,35 @@
+-- The laws of collecting fragments, as facts.
+use Rattle.std.specs.Prelude.{◌≡◌, Ok, Err, Result}
+use Rattle.sval_core.specs.Law.{Emission, Streams, Stops}
+use Rattle.sval_buffer.specs.Pushes.{Fragment}
+use Rattle.sval_buffer.specs.Forest.{no_bytes}
+use Rattle.sval_buffer.specs.declared.error.Word.{Word}
+use Rattle.sval_buffer.specs.declared.error.Word.TheVariants as word
+use Rattle.sval_buffer.specs.declared.error.ErrorKind.{ErrorKind}
+use Rattle.sval_buffer.specs.Collects.{cause_by}
+use Rattle.sval_buffer.specs.Collected.{text_collected, binary_collected, IsDue}
+use Rattle.sval_buffer.specs.CollectSteps.{Step, text_step, binary_step, steps_of, answer_after, Collecting, nothing_collected, collect_law, collecting}
+
+-- the steps of the calls answer what their lowered calls do
+abbrev pub StepsCollect : Word → Step → (Emission → Result Fragment ErrorKind) → Type 0
+StepsCollect expected step collected = (e : Emission) → answer_after expected e.refuses (steps_of step no_bytes e.calls) ≡ collected e
+
+-- A stream that meets the steps, and has collected nothing at first, answers what is due: what it holds where it took all
+-- calls, and else why it refused one, or that the value itself failed.
+pub record StreamCollects (expected : Word) (step : Step) (collected : Emission → Result Fragment ErrorKind) : Type 0 where
+  pub on_ok : (e : Emission) (start last : Collecting) → start ≡ nothing_collected → Streams (collect_law expected step) (collecting start) e (collecting last)
+      → IsDue (collected e) (Ok last.held)
+  pub on_err : (e : Emission) (start last : Collecting) → start ≡ nothing_collected → Stops (collect_law expected step) (collecting start) e (collecting last)
+      → IsDue (collected e) (Err (cause_by last.refusal))
+
+abbrev pub TextStepsCollect : Type 0
+TextStepsCollect = StepsCollect word.Text text_step text_collected
+
+abbrev pub BinaryStepsCollect : Type 0
+BinaryStepsCollect = StepsCollect word.Binary binary_step binary_collected
+
+abbrev pub TextStreamCollects : Type 0
+TextStreamCollects = StreamCollects word.Text text_step text_collected
+
+abbrev pub BinaryStreamCollects : Type 0
+BinaryStreamCollects = StreamCollects word.Binary binary_step binary_collected

@@ -1,0 +1,143 @@
+-- What each call does to a buffer that collects, at once and without its lower calls; and the buffer as a stream.
+use Rattle.std.specs.Prelude.{◌≡◌, ℕ, ℤ, Bool, true, false, not, ◌&&◌, List, [], ◌∷◌, nat_abs, if◌then◌else◌, IsOk, Option, Some, None, Result, Ok, Err}
+use Rattle.std.specs.Fmt.{signed_decimal}
+use Rattle.sval_label.specs.Calls.{Label, Name, IntType, Head, Slot, Call}
+use Rattle.sval_label.specs.Texts.{is_empty}
+use Rattle.sval_label.specs.Ranges.{is_signed}
+use Rattle.sval_core.specs.Law.{Law, Standing}
+use Rattle.sval_core.specs.Names.{says_none}
+use Rattle.sval_buffer.specs.Pushes.{Fragment, pushed}
+use Rattle.sval_buffer.specs.Forest.{no_bytes}
+use Rattle.sval_buffer.specs.Captured.{IsNoAlloc, wants_after}
+use Rattle.sval_buffer.specs.declared.error.Word.{Word}
+use Rattle.sval_buffer.specs.declared.error.Word.TheVariants as word
+use Rattle.sval_buffer.specs.declared.error.ErrorKind.{ErrorKind}
+use Rattle.sval_buffer.specs.declared.error.ErrorKind.TheVariants as error
+
+-- the content after a call, or the kind of a call that doesn't fit
+abbrev pub Step : Type 0
+Step = Fragment → Call → Result Fragment Word
+
+-- one more fragment
+abbrev pub push : Fragment → Bool → List ℕ → Result Fragment Word
+push held borrowed bytes = Ok (pushed held (record { borrowed = borrowed; bytes = bytes }))
+
+-- a number of a type that goes up to 128 bits is told as digits where it doesn't fit 64 bits with a sign
+abbrev pub goes_up : IntType → Bool
+goes_up IntType.I8 = false
+goes_up IntType.I16 = false
+goes_up IntType.I32 = false
+goes_up IntType.I64 = false
+goes_up _ = true
+
+abbrev pub is_digits : IntType → ℤ → Bool
+is_digits type n = goes_up type && not (is_signed 63 n)
+
+-- the label of a tag by itself, where it isn't told as null
+abbrev pub own_label : Name → Option Label
+own_label name = if says_none name.tag then None else name.label
+
+abbrev pub push_label : Fragment → Option Label → Result Fragment Word
+push_label held (Some label) = push held label.is_static label.text
+push_label held None = Err word.Null
+
+abbrev pub text_step : Step
+text_step held Call.Null = Err word.Null
+text_step held (Call.Truth _) = Err word.Boolean
+text_step held (Call.Int type n) = if is_digits type n then push held false (signed_decimal n) else Err word.Integer
+text_step held (Call.Standalone name) = push_label held (own_label name)
+text_step held (Call.TextFragment borrowed text) = push held borrowed text
+text_step held (Call.BinaryBegin _) = Err word.Sequence
+text_step held (Call.BinaryFragment _ bytes) = if is_empty bytes then Ok held else Err word.Sequence
+text_step held Call.BinaryEnd = Err word.Sequence
+text_step held (Call.Begin _ _) = Err word.Sequence
+text_step held (Call.End _) = Err word.Sequence
+text_step held (Call.PartBegin _) = Err word.Sequence
+text_step held (Call.PartEnd _) = Err word.Sequence
+text_step held _ = Ok held
+
+abbrev pub word_for_label : Option Label → Word
+word_for_label (Some _) = word.Text
+word_for_label None = word.Null
+
+-- sequences and tuples are passed, and maps and records are not
+abbrev pub begin_binary : Fragment → Head → Result Fragment Word
+begin_binary held Head.Seq = Ok held
+begin_binary held (Head.Tuple _) = Ok held
+begin_binary held _ = Err word.Map
+
+-- a field's label is a text
+abbrev pub begin_part : Fragment → Slot → Result Fragment Word
+begin_part held (Slot.Field _ _) = Err word.Text
+begin_part held (Slot.FieldPlace _ _ _) = Err word.Text
+begin_part held _ = Ok held
+
+abbrev pub push_number : Fragment → IntType → ℤ → Result Fragment Word
+push_number held IntType.U8 n = push held false (nat_abs n ∷ [])
+push_number held type n = Err (if is_digits type n then word.Text else word.Integer)
+
+abbrev pub binary_step : Step
+binary_step held Call.Null = Err word.Null
+binary_step held (Call.Truth _) = Err word.Boolean
+binary_step held (Call.Int type n) = push_number held type n
+binary_step held (Call.Standalone name) = Err (word_for_label (own_label name))
+binary_step held (Call.TextBegin _) = Err word.Text
+binary_step held (Call.TextFragment _ _) = Err word.Text
+binary_step held Call.TextEnd = Err word.Text
+binary_step held (Call.BinaryFragment borrowed bytes) = push held borrowed bytes
+binary_step held (Call.Begin head _) = begin_binary held head
+binary_step held (Call.PartBegin slot) = begin_part held slot
+binary_step held _ = Ok held
+
+-- the content after all calls, or the kind of the first one that doesn't fit
+unfoldable pub steps_of : Step → Fragment → List Call → Result Fragment Word
+steps_of step held [] = Ok held
+steps_of step held (call ∷ calls) = elim (step held call) [ Ok next ↦ steps_of step next calls | Err actual ↦ Err actual ]
+
+-- what is answered in the end
+abbrev pub answer_after : Word → Bool → Result Fragment Word → Result Fragment ErrorKind
+answer_after expected refuses (Err actual) = Err (error.Unsupported actual expected)
+answer_after expected true (Ok held) = Err (error.InvalidValue word.FailedToStream)
+answer_after expected false (Ok held) = Ok held
+
+-- ---- the stream
+
+-- what a stream that collects is: what it holds, why it refused a call last, and how often memory was wanting
+pub record Collecting : Type 0 where
+  pub held : Fragment
+  pub refusal : Option ErrorKind
+  pub wants : ℕ
+
+abbrev pub nothing_collected : Collecting
+nothing_collected = record { held = no_bytes; refusal = None; wants = 0 }
+
+abbrev pub held_by : Result Fragment Word → Fragment → Fragment
+held_by (Ok next) held = next
+held_by (Err actual) held = held
+
+-- why a call that fits, or doesn't, was refused
+abbrev pub IsUnfitBy : Word → Result Fragment Word → ErrorKind → Type 0
+IsUnfitBy expected (Ok next) why = IsNoAlloc why
+IsUnfitBy expected (Err actual) why = why ≡ error.Unsupported actual expected
+
+-- what an operation leaves, where this is what the step answers
+abbrev pub CollectsBy : Word → Result Fragment Word → Result (Unit {0}) ErrorKind → Fragment → Type 0
+CollectsBy expected answer (Ok _) held = answer ≡ Ok held
+CollectsBy expected answer (Err why) held = IsUnfitBy expected answer why
+
+-- what a refused call leaves
+pub record IsLeft (expected : Word) (step : Step) (view : Collecting) (call : Call) (left : Collecting) : Type 0 where
+  pub why : ErrorKind
+  pub refusal : left.refusal ≡ Some why
+  pub cause : IsUnfitBy expected (step view.held call) why
+  pub wants : left.wants ≡ wants_after why view.wants
+
+abbrev pub collect_law : Word → Step → Law Collecting
+collect_law expected step = record {
+  accepts = λ view call. IsOk (step view.held call);
+  after = λ view call. record { held = held_by (step view.held call) view.held; refusal = view.refusal; wants = view.wants };
+  stopped = IsLeft expected step;
+}
+
+abbrev pub collecting : Collecting → Standing Collecting
+collecting view = record { view = view; faults = 0; wants = view.wants }
