@@ -1,0 +1,10 @@
+pub mod Trees
+pub mod Tokens
+pub mod Documents
+pub mod Calls
+pub mod Nodes
+pub mod RawStrings
+pub mod Numbers
+pub mod Strings
+pub mod Reader
+pub mod Laws

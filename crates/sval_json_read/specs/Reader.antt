@@ -1,0 +1,148 @@
+-- The machine that reads a text byte by byte, with a stack in place of recursion.
+use Rattle.std.specs.Prelude.{ℕ, zero, suc, Bool, true, false, ◌==◌, if◌then◌else◌, List, [], ◌∷◌, ◌++◌, codes, Option, Some, None, option_and_then, option_map}
+use Rattle.std.specs.Option.{option_map_or}
+use Rattle.sval_json.specs.Grammar.{is_space, is_number_byte}
+use Rattle.sval_json_read.specs.Tokens as token
+use Rattle.sval_json_read.specs.Tokens.{Place, Alone, Item, Key, Value, Token, Placed, at}
+use Rattle.sval_json_read.specs.Numbers.{Phase, first_phase, next_phase, may_end}
+use Rattle.sval_json_read.specs.Strings.{Within, Plain, next_within, closes}
+
+-- what has begun and not ended; the innermost stands first in a list of them
+pub data Opened : Type 0 where
+  Array : Opened
+  Object : Opened
+
+-- the place of a value, or of a container, directly in these
+abbrev pub place_in : List Opened → Place
+place_in [] = Alone
+place_in (Array ∷ _) = Item
+place_in (Object ∷ _) = Value
+
+-- what comes next
+pub data Expected : Type 0 where
+  AValue : Expected
+  -- a value or the end of an array, and a key or the end of an object
+  FirstItem : Expected
+  FirstKey : Expected
+  NextKey : Expected
+  Colon : Expected
+  -- a comma or the end of what is open, or of the text
+  Next : Expected
+  -- this letter of a word, and then these
+  Letter : ℕ → List ℕ → Expected
+  -- more of a number, or of a string that is a key or isn't; these bytes of it were read
+  InNumber : Phase → List ℕ → Expected
+  InString : (is_key : Bool) → Within → List ℕ → Expected
+
+-- what comes next, what is open, and the tokens that were read
+pub record State : Type 0 where
+  pub expected : Expected
+  pub opened : List Opened
+  pub tokens : List Placed
+
+abbrev pub start : State
+start = record { expected = AValue; opened = []; tokens = [] }
+
+-- something else comes next
+abbrev pub expects : State → Expected → State
+expects state expected = record { expected = expected; opened = state.opened; tokens = state.tokens }
+
+-- one token more, in its place
+abbrev pub adds : State → Place → Token → Expected → State
+adds state place token expected = record { expected = expected; opened = state.opened; tokens = state.tokens ++ (at place token ∷ []) }
+
+-- an array or object begins or ends
+abbrev pub opens : State → Opened → Token → Expected → State
+opens state container token expected =
+    record { expected = expected; opened = container ∷ state.opened; tokens = state.tokens ++ (at (place_in state.opened) token ∷ []) }
+
+abbrev pub ends : State → List Opened → Token → State
+ends state around token = record { expected = Next; opened = around; tokens = state.tokens ++ (at (place_in around) token ∷ []) }
+
+-- a word's first letter was read, and these are left
+abbrev pub word : State → Token → List ℕ → Option State
+word state token [] = None
+word state token (letter ∷ letters) = Some (adds state (place_in state.opened) token (Letter letter letters))
+
+-- the first byte of a value
+abbrev pub begins : State → ℕ → Option State
+begins state byte =
+    if byte == 34 then Some (expects state (InString false Plain []))
+    else if byte == 91 then Some (opens state Array token.BeginArray FirstItem)
+    else if byte == 123 then Some (opens state Object token.BeginObject FirstKey)
+    else if byte == 110 then word state token.Null (codes "ull")
+    else if byte == 116 then word state (token.Truth true) (codes "rue")
+    else if byte == 102 then word state (token.Truth false) (codes "alse")
+    else option_map (λ phase. expects state (InNumber phase (byte ∷ []))) (first_phase byte)
+
+-- a comma or a closing bracket or brace
+abbrev pub goes_on : State → List Opened → ℕ → Option State
+goes_on state [] byte = None
+goes_on state (Array ∷ around) byte = if byte == 44 then Some (expects state AValue) else if byte == 93 then Some (ends state around token.EndArray) else None
+goes_on state (Object ∷ around) byte = if byte == 44 then Some (expects state NextKey) else if byte == 125 then Some (ends state around token.EndObject) else None
+
+-- one byte after a value
+abbrev pub follows : State → ℕ → Option State
+follows state byte = if is_space byte then Some (expects state Next) else goes_on state state.opened byte
+
+-- the first byte of a key
+abbrev pub begins_key : State → ℕ → Option State
+begins_key state byte = if byte == 34 then Some (expects state (InString true Plain [])) else None
+
+-- after a letter of a word
+abbrev pub letters_left : List ℕ → Expected
+letters_left [] = Next
+letters_left (letter ∷ letters) = Letter letter letters
+
+-- a number ends with the byte before, and a string with its quote
+abbrev pub number_ends : State → List ℕ → State
+number_ends state text = adds state (place_in state.opened) (token.Number text) Next
+
+abbrev pub string_ends : State → Bool → List ℕ → State
+string_ends state true bytes = adds state Key (token.Text bytes) Colon
+string_ends state false bytes = adds state (place_in state.opened) (token.Text bytes) Next
+
+-- one byte; none where no text that denotes a value goes on with it
+abbrev pub step_in : Expected → State → ℕ → Option State
+step_in AValue state byte = if is_space byte then Some state else begins state byte
+step_in FirstItem state byte = if is_space byte then Some state else if byte == 93 then follows state byte else begins state byte
+step_in FirstKey state byte = if is_space byte then Some state else if byte == 125 then follows state byte else begins_key state byte
+step_in NextKey state byte = if is_space byte then Some state else begins_key state byte
+step_in Colon state byte = if is_space byte then Some state else if byte == 58 then Some (expects state AValue) else None
+step_in Next state byte = follows state byte
+step_in (Letter letter letters) state byte = if byte == letter then Some (expects state (letters_left letters)) else None
+step_in (InNumber phase text) state byte =
+    if is_number_byte byte then option_map (λ next. expects state (InNumber next (text ++ (byte ∷ [])))) (next_phase phase byte)
+    else if may_end phase then follows (number_ends state text) byte else None
+step_in (InString is_key within bytes) state byte =
+    if closes within byte then Some (string_ends state is_key bytes)
+    else option_map (λ next. expects state (InString is_key next (bytes ++ (byte ∷ [])))) (next_within within byte)
+
+abbrev pub step : State → ℕ → Option State
+step state byte = step_in state.expected state byte
+
+-- the bytes one after the other
+abbrev pub after : State → List ℕ → Option State
+after state [] = Some state
+after state (byte ∷ bytes) = option_and_then (λ next. after next bytes) (step state byte)
+
+-- the tokens, where the text may end here
+abbrev pub at_end_in : Expected → List Opened → List Placed → Option (List Placed)
+at_end_in Next [] tokens = Some tokens
+at_end_in (InNumber phase text) [] tokens = if may_end phase then Some (tokens ++ (at Alone (token.Number text) ∷ [])) else None
+at_end_in _ _ tokens = None
+
+abbrev pub at_end : State → Option (List Placed)
+at_end state = at_end_in state.expected state.opened state.tokens
+
+-- the tokens of all bytes; none where they are no text that denotes a value
+abbrev pub read : List ℕ → Option (List Placed)
+read bytes = option_and_then at_end (after start bytes)
+
+-- how many bytes are taken before one is refused
+abbrev pub taken_from : State → List ℕ → ℕ
+taken_from state [] = zero
+taken_from state (byte ∷ bytes) = option_map_or (λ next. suc (taken_from next bytes)) (step state byte) zero
+
+abbrev pub taken : List ℕ → ℕ
+taken bytes = taken_from start bytes

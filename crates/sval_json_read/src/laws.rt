@@ -1,0 +1,27 @@
+//! The laws of reading JSON, each as a clause that is proved.
+
+ghost use Rattle.sval_json_read.specs.Laws.{TreesAreReal, TreesArePrintable, WrittenAgainSettles, PiecesAreTheText, RunsAreLongest, DocumentsSpell, NodesMakeTheCalls, NodesSpell, TokensAreProper, OneDocument, ReadsTheDocuments, RefusesTheOthers, IsReadOrBad, NotBoth, StopsWhereTheyFail, FailsAtOnePlace};
+
+/// What holds of all texts that denote a value.
+pub fn document_laws()
+    ensures trees_are_real { TreesAreReal }
+    ensures trees_are_printable { TreesArePrintable }
+    ensures written_again_settles { WrittenAgainSettles }
+    ensures pieces_are_the_text { PiecesAreTheText }
+    ensures runs_are_longest { RunsAreLongest }
+    ensures documents_spell { DocumentsSpell }
+    ensures nodes_make_the_calls { NodesMakeTheCalls }
+    ensures nodes_spell { NodesSpell }
+    ensures tokens_are_proper { TokensAreProper }
+    ensures one_document { OneDocument }
+{}
+
+/// What holds of the machine at all bytes.
+pub fn reading_laws()
+    ensures reads_the_documents { ReadsTheDocuments }
+    ensures refuses_the_others { RefusesTheOthers }
+    ensures is_read_or_bad { IsReadOrBad }
+    ensures not_both { NotBoth }
+    ensures stops_where_they_fail { StopsWhereTheyFail }
+    ensures fails_at_one_place { FailsAtOnePlace }
+{}
