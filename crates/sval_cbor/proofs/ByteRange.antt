@@ -1,0 +1,120 @@
+-- The bytes of a packed shape are bytes.
+use Rattle.std.specs.Prelude.{◌≡◌, ℕ, zero, suc, ◌+◌, ◌*◌, ◌/◌, ◌%◌, ◌^◌, ◌<◌, ℤ, pos, negsuc, Bool, true, false, cond, ◌==◌, nat_lt, if◌then◌else◌, List, [], ◌∷◌, ◌++◌, length, Ok, IsUtf8, refl}
+use Rattle.std.specs.List.{AllByRecursion}
+use Rattle.std.specs.Int.{bytes_high_first}
+use Rattle.std.specs.Char.{IsScalar, encode_utf8}
+use Rattle.std.specs.Str.{all_scalars, encode_utf8_all}
+use Rattle.std.specs.Str.Parse.{signed_digits_value}
+use Rattle.std.proofs.Common.{subst, arith, inl, inr}
+use Rattle.std.proofs.lemmas.Bool.{and_parts}
+use Rattle.std.proofs.lemmas.Bool.Decides.{nat_tests}
+use lib.Utf8.{scalar, scalar_cases}
+use Rattle.sval_core.specs.Trees.{Tree}
+use Rattle.sval_core.specs.Real.{IsReal}
+use Rattle.sval_json.specs.Json as shape
+use Rattle.sval_json.specs.Json.{Key, escaped_key, raw_key, Json, Items, no_item, item, Pairs, no_pair, pair}
+use Rattle.sval_cbor.specs.Packs.{pack_of}
+use Rattle.sval_cbor.specs.Cbor.{head_bytes, without_zero_bytes, short_bytes, string, bignum, integer, truth_bytes, cbor, cbor_items, cbor_pairs}
+use Rattle.sval_cbor.specs.Premises.{IsShort}
+use Rattle.sval_cbor.proofs.Packed.{IsPacked, ArePacked, PairsArePacked, packed}
+
+abbrev pub AreBytes : List ℕ → Type 0
+AreBytes bytes = AllByRecursion (λ byte. byte < 256) bytes
+
+pub joined : (xs ys : List ℕ) → AreBytes xs → AreBytes ys → AreBytes (xs ++ ys)
+joined [] ys h k = k
+joined (x ∷ xs) ys h k = (h.0, joined xs ys h.1 k)
+
+number_bytes : (width n : ℕ) → AreBytes (bytes_high_first width n)
+number_bytes zero n = tt
+number_bytes (suc zero) n = (omega arith, tt)
+number_bytes (suc (suc width)) n = (omega arith, number_bytes (suc width) n)
+
+without_zeros : (bytes : List ℕ) → AreBytes bytes → AreBytes (without_zero_bytes bytes)
+unfolding without_zero_bytes
+without_zeros [] h = tt
+without_zeros (byte ∷ bytes) h = elim (byte == 0) as (λ b. AreBytes (if b then without_zero_bytes bytes else byte ∷ bytes)) [ true ↦ without_zeros bytes h.1 | false ↦ h ]
+
+heads : (major n : ℕ) → major < 8 → AreBytes (head_bytes major n)
+unfolding head_bytes
+heads major n h = go (nat_lt n 24) (nat_lt n (2 ^ 8)) (nat_lt n (2 ^ 16)) (nat_lt n (2 ^ 32)) refl
+  where
+    go : (a b c d : Bool) → nat_lt n 24 ≡ a
+        → AreBytes (if a then (32 * major + n) ∷ [] else if b then (32 * major + 24) ∷ bytes_high_first 1 n else if c then (32 * major + 25) ∷ bytes_high_first 2 n else if d then (32 * major + 26) ∷ bytes_high_first 4 n else (32 * major + 27) ∷ bytes_high_first 8 n)
+    go true b c d e = let less : n < 24 = grind (arith, nat_tests) in (omega arith, tt)
+    go false true c d e = (omega arith, number_bytes 1 n)
+    go false false true d e = (omega arith, number_bytes 2 n)
+    go false false false true e = (omega arith, number_bytes 4 n)
+    go false false false false e = (omega arith, number_bytes 8 n)
+
+-- ---- UTF-8
+
+encoded : (c : ℕ) → c < 1114112 → AreBytes (encode_utf8 c)
+unfolding encode_utf8
+encoded c bound = go (nat_lt c 128) (nat_lt c 2048) (nat_lt c 65536) refl refl refl
+  where
+    go : (a b d : Bool) → nat_lt c 128 ≡ a → nat_lt c 2048 ≡ b → nat_lt c 65536 ≡ d
+        → AreBytes (cond a (c ∷ []) (cond b ((192 + c / 64) ∷ (128 + c % 64) ∷ []) (cond d ((224 + c / 4096) ∷ (128 + c / 64 % 64) ∷ (128 + c % 64) ∷ []) ((240 + c / 262144) ∷ (128 + c / 4096 % 64) ∷ (128 + c / 64 % 64) ∷ (128 + c % 64) ∷ []))))
+    go true b d e f g = let l : c < 128 = grind (arith, nat_tests) in (omega arith, tt)
+    go false true d e f g = let l : c < 2048 = grind (arith, nat_tests) in (omega arith, (omega arith, tt))
+    go false false true e f g = let l : c < 65536 = grind (arith, nat_tests) in (omega arith, (omega arith, (omega arith, tt)))
+    go false false false e f g = (omega arith, (omega arith, (omega arith, (omega arith, tt))))
+
+scalar_bound : (c : ℕ) → IsScalar c → c < 1114112
+scalar_bound c h = elim (scalar_cases c h) [ inl low ↦ omega arith | inr high ↦ high.1 ]
+
+encoded_all : (cs : List ℕ) → all_scalars cs ≡ true → AreBytes (encode_utf8_all cs)
+encoded_all [] h = tt
+encoded_all (c ∷ cs) h =
+    let (a, b) = and_parts (scalar c) (all_scalars cs) h in
+    joined (encode_utf8 c) (encode_utf8_all cs) (encoded c (scalar_bound c a)) (encoded_all cs b)
+
+utf8_bytes : (bytes : List ℕ) → IsUtf8 bytes → AreBytes bytes
+utf8_bytes bytes (cs, (h, e)) = subst AreBytes e (encoded_all cs h)
+
+-- ---- shapes
+
+strings : (major : ℕ) (bytes : List ℕ) → major < 8 → AreBytes bytes → AreBytes (string major bytes)
+strings major bytes h k = joined (head_bytes major (length bytes)) bytes (heads major (length bytes) h) k
+
+shorts : (n : ℕ) → AreBytes (short_bytes n)
+unfolding short_bytes
+shorts n = without_zeros (bytes_high_first 16 n) (number_bytes 16 n)
+
+bignums : (tag n : ℕ) → AreBytes (bignum tag n)
+bignums tag n = joined (head_bytes 6 tag) (string 2 (short_bytes n)) (heads 6 tag (omega arith)) (strings 2 (short_bytes n) (omega arith) (shorts n))
+
+integers : (z : ℤ) → AreBytes (integer z)
+integers (pos n) = elim (nat_lt n (2 ^ 64)) as (λ b. AreBytes (if b then head_bytes 0 n else bignum 2 n)) [ true ↦ heads 0 n (omega arith) | false ↦ bignums 2 n ]
+integers (negsuc n) = elim (nat_lt n (2 ^ 64)) as (λ b. AreBytes (if b then head_bytes 1 n else bignum 3 n)) [ true ↦ heads 1 n (omega arith) | false ↦ bignums 3 n ]
+
+truths : (b : Bool) → AreBytes (truth_bytes b)
+truths false = (omega arith, tt)
+truths true = (omega arith, tt)
+
+closed : (xs : List ℕ) → AreBytes xs → AreBytes (xs ++ (0xff ∷ []))
+closed xs h = joined xs (0xff ∷ []) h (omega arith, tt)
+
+mutual
+  shape_bytes : (json : Json) → IsPacked json → AreBytes (cbor json)
+  shape_bytes shape.null h = (omega arith, tt)
+  shape_bytes (shape.truth b) h = truths b
+  shape_bytes (shape.number bytes) h = integers (signed_digits_value 10 bytes)
+  shape_bytes (shape.text bytes) h = strings 3 bytes (omega arith) (utf8_bytes bytes h.0)
+  shape_bytes (shape.quoted bytes) h = tt
+  shape_bytes (shape.raw bytes) h = tt
+  shape_bytes (shape.array row) h = (omega arith, closed (cbor_items row) (item_bytes row h))
+  shape_bytes (shape.object row) h = (omega arith, closed (cbor_pairs row) (pair_bytes row h))
+
+  item_bytes : (row : Items) → ArePacked row → AreBytes (cbor_items row)
+  item_bytes no_item h = tt
+  item_bytes (item json row) h = joined (cbor json) (cbor_items row) (shape_bytes json h.0) (item_bytes row h.1)
+
+  pair_bytes : (row : Pairs) → PairsArePacked row → AreBytes (cbor_pairs row)
+  pair_bytes no_pair h = tt
+  pair_bytes (pair (escaped_key bytes) json row) h =
+      joined (string 3 bytes ++ cbor json) (cbor_pairs row) (joined (string 3 bytes) (cbor json) (strings 3 bytes (omega arith) (utf8_bytes bytes h.0.0)) (shape_bytes json h.1)) (pair_bytes row h.2)
+  pair_bytes (pair (raw_key bytes) json row) h = absurd h.0
+
+pub cbor_is_bytes : (tree : Tree) (json : Json) → IsReal tree → IsShort tree → pack_of tree ≡ Ok json → AllByRecursion (λ byte. byte < 256) (cbor json)
+cbor_is_bytes tree json r s e = shape_bytes json (packed tree json r s e)

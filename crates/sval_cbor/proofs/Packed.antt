@@ -1,0 +1,338 @@
+-- What the shapes are made of that trees pack to: whole numbers of 128 bits, and short texts that are UTF-8.
+use Rattle.std.specs.Prelude.{◌≡◌, ℕ, suc, ◌+◌, ◌^◌, ◌<◌, ◌≤◌, ◌⊎◌, ℤ, pos, negsuc, Bool, true, false, cond, ◌||◌, ◌==◌, bytes_eq, if◌then◌else◌, List, [], ◌∷◌, length, Option, Some, None, IfSome, Result, Ok, Err, codes, decimal, IsUtf8, ⊤, refl}
+use Rattle.std.specs.List.{AllByRecursion}
+use Rattle.std.specs.Fmt.{signed_decimal}
+use Rattle.std.specs.Str.Parse.{signed_digits_value}
+use Rattle.std.proofs.Common.{sym, ap, ◌∙◌, subst, arith, inl, inr, length-append}
+use Rattle.std.proofs.lemmas.Bool.{and_parts}
+use Rattle.std.proofs.lemmas.Bool.Decides.{nat_tests}
+use Rattle.std.proofs.lemmas.Fmt.{length-decimal-le_wide}
+use Rattle.sval_label.specs.Texts.{is_empty, truth_text}
+use Rattle.sval_label.specs.Ranges.{is_unsigned, is_signed, is_of_type}
+use Rattle.sval_label.specs.Calls.{Head, Slot, Name, Label, Index, IntType, U8, U16, U32, U64, U128, I8, I16, I32, I64, I128}
+use Rattle.sval_label.proofs.Decimals.{IsShort as IsShortNumber, short_of_type}
+use Rattle.sval_core.specs.Trees.{Tree, Null, Truth, Int, Text, Binary, Standalone, Tagged, EmptyEnum, Enum, Container, Parts, none, part, TextKind, Number, JsonValue, JsonText, JsonNumber, text_kind}
+use Rattle.sval_core.specs.Real.{IsRealLabel, IsRealName, IsInRange, AreInRange, IsReal}
+use Rattle.sval_json.specs.Json as shape
+use Rattle.sval_json.specs.Json.{Key, escaped_key, raw_key, Json, Items, no_item, item, Pairs, no_pair, pair}
+use Rattle.sval_json.specs.Digits.{minus, zero_digit, digits_of, after_digits, without_sign}
+use Rattle.sval_json.specs.Number as json
+use Rattle.sval_json.specs.Number.{is_negative, is_number, is_word, without_zeros, with_sign, normal}
+use Rattle.sval_json.specs.declared.style.Variants.TheVariants.{Inside}
+use Rattle.sval_json.specs.Shape.{index_text, handle_of, handle, label_or_index, is_none_tag, own, wrap_in, wrap, is_wrapped, map_ok as json_map_ok, tagged_key, bare_text, key, byte_items}
+use Rattle.sval_json.specs.Grammar.{without_minus}
+use Rattle.sval_json.proofs.Append.{front_and_rest}
+use Rattle.sval_json.proofs.Texts.{normal_twice}
+use Rattle.sval_json.proofs.NumberTexts.{ascii_utf8, number_utf8, signed_number, normal_form}
+use Rattle.sval_cbor.specs.Packs.{Refusal, NotInteger, on_ok, map_ok, has_128_bits, is_whole, number_pack, tagged_pack, is_raw, key_bytes, pack_key_as, pack_key, packs, packed_items, packed_pairs, pack_of}
+use Rattle.sval_cbor.specs.Premises.{IsShortText, IsShortLabel, IsShortName, IsShort, AreShort}
+use Rattle.sval_cbor.proofs.Numbers.{short_of_128, whole_back}
+
+abbrev pub IsPackedText : List ℕ → Type 0
+IsPackedText bytes = IsUtf8 bytes × IsShortText bytes
+
+abbrev pub IsPackedNumber : List ℕ → Type 0
+IsPackedNumber bytes = (z : ℤ) × (bytes ≡ signed_decimal z) × (has_128_bits z ≡ true)
+
+abbrev pub IsPackedKey : Key → Type 0
+IsPackedKey (escaped_key bytes) = IsPackedText bytes
+IsPackedKey (raw_key _) = ⊥
+
+abbrev mutual
+  pub IsPacked : Json → Type 0
+  IsPacked (shape.number bytes) = IsPackedNumber bytes
+  IsPacked (shape.text bytes) = IsPackedText bytes
+  IsPacked (shape.quoted _) = ⊥
+  IsPacked (shape.raw _) = ⊥
+  IsPacked (shape.array row) = ArePacked row
+  IsPacked (shape.object row) = PairsArePacked row
+  IsPacked _ = ⊤
+
+  pub ArePacked : Items → Type 0
+  ArePacked no_item = ⊤
+  ArePacked (item json row) = IsPacked json × ArePacked row
+
+  pub PairsArePacked : Pairs → Type 0
+  PairsArePacked no_pair = ⊤
+  PairsArePacked (pair k json row) = IsPackedKey k × IsPacked json × PairsArePacked row
+
+-- where there is no refusal
+abbrev pub IfOk : {T E : Type 0} → (T → Type 0) → Result T E → Type 0
+IfOk P (Ok x) = P x
+IfOk P (Err why) = ⊤
+
+if_map : {T U : Type 0} (P : T → Type 0) (Q : U → Type 0) (f : T → U) (r : Result T Refusal) → ((x : T) → P x → Q (f x)) → IfOk P r → IfOk Q (map_ok f r)
+if_map P Q f (Ok x) g h = g x h
+if_map P Q f (Err why) g h = tt
+
+if_on : {T U : Type 0} (P : T → Type 0) (Q : U → Type 0) (f : T → Result U Refusal) (r : Result T Refusal) → ((x : T) → P x → IfOk Q (f x)) → IfOk P r → IfOk Q (on_ok r f)
+if_on P Q f (Ok x) g h = g x h
+if_on P Q f (Err why) g h = tt
+
+-- ---- numbers
+
+unsigned_128 : (k : ℕ) (z : ℤ) → k ≤ 128 → 2 ^ k ≤ 2 ^ 128 → is_unsigned k z ≡ true → has_128_bits z ≡ true
+unsigned_128 k (pos n) l h e = let f : n < 2 ^ k = grind (arith, nat_tests) in let g : n < 2 ^ 128 = omega arith in grind (arith, nat_tests)
+unsigned_128 k (negsuc n) l h e = absurd (cc e)
+
+signed_128 : (k : ℕ) (z : ℤ) → 2 ^ k ≤ 2 ^ 127 → is_signed k z ≡ true → has_128_bits z ≡ true
+signed_128 k (pos n) h e = let f : n < 2 ^ k = grind (arith, nat_tests) in let g : n < 2 ^ 128 = omega arith in grind (arith, nat_tests)
+signed_128 k (negsuc n) h e = let f : n < 2 ^ k = grind (arith, nat_tests) in let g : n < 2 ^ 127 = omega arith in grind (arith, nat_tests)
+
+type_128 : (type : IntType) (z : ℤ) → is_of_type type z ≡ true → has_128_bits z ≡ true
+type_128 U8 z e = unsigned_128 8 z (omega arith) (omega arith) e
+type_128 U16 z e = unsigned_128 16 z (omega arith) (omega arith) e
+type_128 U32 z e = unsigned_128 32 z (omega arith) (omega arith) e
+type_128 U64 z e = unsigned_128 64 z (omega arith) (omega arith) e
+type_128 U128 z e = unsigned_128 128 z (omega arith) (omega arith) e
+type_128 I8 z e = signed_128 7 z (omega arith) e
+type_128 I16 z e = signed_128 15 z (omega arith) e
+type_128 I32 z e = signed_128 31 z (omega arith) e
+type_128 I64 z e = signed_128 63 z (omega arith) e
+type_128 I128 z e = signed_128 127 z (omega arith) e
+
+byte_128 : (n : ℕ) → n < 256 → has_128_bits (pos n) ≡ true
+byte_128 n h = let g : n < 2 ^ 128 = omega arith in grind (arith, nat_tests)
+
+index_packed : (i : Index) → IfSome (index_text i) IsPackedNumber
+index_packed i = (elim (is_signed 63 i.number) as (λ b. is_signed 63 i.number ≡ b → IfSome (let o : Option (List ℕ) = if b then Some (signed_decimal i.number) else None in o) IsPackedNumber) [
+  | true ↦ λ e. (i.number, refl, signed_128 63 i.number (omega arith) e)
+  | false ↦ λ e. tt
+]) refl
+
+indexes_packed : (i : Option Index) → IfSome (handle_of None i) IsPackedNumber
+indexes_packed None = tt
+indexes_packed (Some i) = index_packed i
+
+decimal_length : (n : ℕ) → n < 10 ^ 64 → length (decimal n) ≤ 64
+decimal_length n h = length-decimal-le_wide 64 n (omega arith) h h
+
+signed_length : (z : ℤ) → IsShortNumber z → length (signed_decimal z) ≤ 65
+signed_length (pos n) h = omega (arith, decimal_length n h)
+signed_length (negsuc n) h = omega (arith, decimal_length (suc n) h)
+
+signed_text : (z : ℤ) → IsShortNumber z → IsPackedText (signed_decimal z)
+signed_text z h = (number_utf8 (signed_decimal z) (signed_number z h), omega (arith, signed_length z h))
+
+number_text : (bytes : List ℕ) → IsPackedNumber bytes → IsPackedText bytes
+number_text bytes (z, e, h) = subst IsPackedText (sym e) (signed_text z (short_of_128 z h))
+
+null_text : IsPackedText (codes "null")
+null_text = (ascii_utf8 (codes "null") refl, omega arith)
+
+truth_packed : (b : Bool) → IsPackedText (truth_text b)
+truth_packed true = (ascii_utf8 (codes "true") refl, omega arith)
+truth_packed false = (ascii_utf8 (codes "false") refl, omega arith)
+
+bytes_packed : (bytes : List ℕ) → AllByRecursion (λ byte. byte < 256) bytes → ArePacked (byte_items bytes)
+bytes_packed [] h = tt
+bytes_packed (byte ∷ bytes) h = ((pos byte, refl, byte_128 byte h.0), bytes_packed bytes h.1)
+
+-- ---- names
+
+label_or_index_packed : (l : Option Label) (o : Option (List ℕ)) → IfSome l IsRealLabel → IfSome l IsShortLabel → IfSome o IsPackedNumber → IsPacked (label_or_index l o)
+label_or_index_packed (Some l) o u s h = (u, s)
+label_or_index_packed None (Some digits) u s h = h
+label_or_index_packed None None u s h = tt
+
+own_by : (b : Bool) (json : Json) → IsPacked json → IsPacked (if b then shape.null else json)
+own_by true json m = tt
+own_by false json m = m
+
+own_packed : (n : Name) → IsRealName n → IsShortName n → IsPacked (own n)
+own_packed n r s = own_by (is_none_tag n.tag) (label_or_index n.label (handle_of None n.index)) (label_or_index_packed n.label (handle_of None n.index) r.0 s (indexes_packed n.index))
+
+label_or_index_text : (l : Option Label) (o : Option (List ℕ)) → IfSome l IsRealLabel → IfSome l IsShortLabel → IfSome o IsPackedNumber → IsPackedText (bare_text (label_or_index l o))
+label_or_index_text (Some l) o u s h = (u, s)
+label_or_index_text None (Some digits) u s h = number_text digits h
+label_or_index_text None None u s h = null_text
+
+own_text_by : (b : Bool) (json : Json) → IsPackedText (bare_text json) → IsPackedText (bare_text (if b then shape.null else json))
+own_text_by true json m = null_text
+own_text_by false json m = m
+
+own_text : (n : Name) → IsRealName n → IsShortName n → IsPackedText (bare_text (own n))
+own_text n r s = own_text_by (is_none_tag n.tag) (label_or_index n.label (handle_of None n.index)) (label_or_index_text n.label (handle_of None n.index) r.0 s (indexes_packed n.index))
+
+index_text_packed : (o : Option (List ℕ)) → IfSome o IsPackedNumber → IfSome o IsPackedText
+index_text_packed None h = tt
+index_text_packed (Some digits) h = number_text digits h
+
+handle_packed : (l : Option Label) (i : Option Index) → IfSome l IsRealLabel → IfSome l IsShortLabel → IfSome (handle_of l i) IsPackedText
+handle_packed (Some l) i u s = (u, s)
+handle_packed None None u s = tt
+handle_packed None (Some i) u s = index_text_packed (index_text i) (index_packed i)
+
+wrap_in_packed : (o : Option (List ℕ)) (json : Json) → IfSome o IsPackedText → IsPacked json → IsPacked (wrap_in Inside o json)
+wrap_in_packed (Some bytes) json u m = (u, m, tt)
+wrap_in_packed None json u m = m
+
+wrap_packed : (variant : Bool) (n : Name) (json : Json) → IsRealName n → IsShortName n → IsPacked json → IsPacked (wrap Inside variant n json)
+wrap_packed true n json r s m = wrap_in_packed (handle n) json (handle_packed n.label n.index r.0 s) m
+wrap_packed false n json r s m = m
+
+-- ---- numbers as text
+
+zeros_length : (ds : List ℕ) → length (without_zeros ds) ≤ length ds
+zeros_length [] = omega arith
+zeros_length (d ∷ []) = omega arith
+zeros_length (d ∷ e ∷ ds) = elim (d == zero_digit) as (λ b. length (if b then without_zeros (e ∷ ds) else d ∷ e ∷ ds) ≤ length (d ∷ e ∷ ds)) [ true ↦ omega (arith, zeros_length (e ∷ ds)) | false ↦ omega arith ]
+
+sign_length : (n : Bool) (ds t : List ℕ) → length (with_sign n ds t) ≤ cond n 1 0 + length ds + length t
+sign_length false ds t = omega (arith, length-append ds t)
+sign_length true [] t = omega arith
+sign_length true (d ∷ []) [] = elim (d == zero_digit) as (λ b. length (if b then d ∷ [] else minus ∷ d ∷ []) ≤ 1 + length (d ∷ []) + 0) [ true ↦ omega arith | false ↦ omega arith ]
+sign_length true (d ∷ []) (c ∷ t) = omega arith
+sign_length true (d ∷ e ∷ ds) t = omega (arith, length-append ds t)
+
+unsigned_length : (text : List ℕ) → cond (is_negative text) 1 0 + length (without_sign text) ≤ length text
+unsigned_length [] = omega arith
+unsigned_length (c ∷ cs) = elim (c == minus) as (λ b. cond b 1 0 + length (if (c == 43 || b) then cs else c ∷ cs) ≤ length (c ∷ cs)) [
+  | true ↦ elim (c == 43) as (λ b. cond true 1 0 + length (if (b || true) then cs else c ∷ cs) ≤ length (c ∷ cs)) [ true ↦ omega arith | false ↦ omega arith ]
+  | false ↦ elim (c == 43) as (λ b. cond false 1 0 + length (if (b || false) then cs else c ∷ cs) ≤ length (c ∷ cs)) [ true ↦ omega arith | false ↦ omega arith ]
+]
+
+same_ok : {x y : List ℕ} → (let r : Result (List ℕ) json.Refusal = Ok x in r) ≡ Ok y → x ≡ y
+same_ok e = cc e
+
+word_length : (b : Bool) (out : List ℕ) → (let r : Result (List ℕ) json.Refusal = if b then Ok (codes "null") else Err json.InvalidNumber in r) ≡ Ok out → length out ≤ 4
+word_length true out e = rw (sym (same_ok e)) (omega arith)
+word_length false out e = absurd (cc e)
+
+normal_length_by : (n b : Bool) (body out : List ℕ)
+    → (if b then Ok (with_sign n (without_zeros (digits_of body)) (after_digits body)) else (if is_word body then Ok (codes "null") else Err json.InvalidNumber)) ≡ Ok out
+    → (length out ≤ cond n 1 0 + length body) ⊎ (length out ≤ 4)
+normal_length_by n true body out e =
+    let ds = without_zeros (digits_of body) in
+    let s = sign_length n ds (after_digits body) in
+    let f : length (digits_of body) + length (after_digits body) ≡ length body = sym (length-append (digits_of body) (after_digits body)) ∙ ap length (front_and_rest _ body) in
+    inl (rw (sym (same_ok e)) (omega (arith, zeros_length (digits_of body))))
+normal_length_by n false body out e = inr (word_length (is_word body) out e)
+
+normal_short : (text out : List ℕ) → normal text ≡ Ok out → IsShortText text → IsShortText out
+normal_short text out e s = elim (normal_length_by (is_negative text) (is_number (without_sign text)) (without_sign text) out e) [
+  | inl less ↦ omega (arith, unsigned_length text)
+  | inr word ↦ omega arith
+]
+
+normal_text : (text out : List ℕ) → normal text ≡ Ok out → IsShortText text → IsPackedText out
+normal_text text out e s = (elim (normal_form text out e) [ inl j ↦ number_utf8 out j | inr word ↦ subst IsUtf8 (sym word) null_text.0 ], normal_short text out e s)
+
+no_word : (out : List ℕ) → out ≡ codes "null" → is_whole out ≡ true → ⊥
+no_word out e w = let f : is_whole (codes "null") ≡ true = rw e at w in cc f
+
+whole_packed : (text out : List ℕ) → normal text ≡ Ok out → is_whole out ≡ true → IsPackedNumber out
+whole_packed text out e w = elim (normal_form text out e) [
+  | inl j ↦ (signed_digits_value 10 out, sym (whole_back out (normal_twice text out e) j w), (and_parts (is_empty (after_digits (without_minus out))) (has_128_bits (signed_digits_value 10 out)) w).1)
+  | inr word ↦ absurd (no_word out word w)
+]
+
+number_by : (a b : Bool) (text out : List ℕ) → normal text ≡ Ok out → is_whole out ≡ b → IfOk IsPacked (let r : Result Json Refusal = if a then Ok shape.null else if b then Ok (shape.number out) else Err NotInteger in r)
+number_by true b text out e w = tt
+number_by false true text out e w = whole_packed text out e w
+number_by false false text out e w = tt
+
+number_packed : (text : List ℕ) (r : Result (List ℕ) json.Refusal) → normal text ≡ r → IfOk IsPacked (number_pack r)
+number_packed text (Ok out) e = number_by (bytes_eq out (codes "null")) (is_whole out) text out e refl
+number_packed text (Err why) e = tt
+
+tagged_packed : (kind : TextKind) (tree : Tree) (r : Result Json Refusal) → IfOk IsPacked r → IfOk IsPacked (tagged_pack kind tree r)
+tagged_packed Number (Text bytes) r h = number_packed bytes (normal bytes) refl
+tagged_packed JsonText (Text bytes) r h = tt
+tagged_packed JsonValue (Text bytes) r h = tt
+tagged_packed JsonNumber (Text bytes) r h = tt
+tagged_packed kind tree r h = h
+
+-- ---- keys
+
+abbrev HasPackedText : Key → Type 0
+HasPackedText k = IsPackedText (key_bytes k)
+
+unless : {T : Type 0} (P : T → Type 0) (b : Bool) (why : json.Refusal) (r : Result T json.Refusal) → IfOk P r → IfOk P (let s : Result T json.Refusal = if b then Err why else r in s)
+unless P true why r h = tt
+unless P false why r h = h
+
+normal_key : (text : List ℕ) (r : Result (List ℕ) json.Refusal) → normal text ≡ r → IsShortText text → IfOk HasPackedText (json_map_ok raw_key r)
+normal_key text (Ok out) e s = normal_text text out e s
+normal_key text (Err why) e s = tt
+
+tagged_key_packed : (kind : TextKind) (tree : Tree) (r : Result Key json.Refusal) → IsInRange tree → IsShort tree → IfOk HasPackedText r → IfOk HasPackedText (tagged_key kind tree r)
+tagged_key_packed Number (Text bytes) r u s h = normal_key bytes (normal bytes) refl s
+tagged_key_packed JsonText (Text bytes) r u s h = (u, s)
+tagged_key_packed JsonValue (Text bytes) r u s h = tt
+tagged_key_packed JsonNumber (Text bytes) r u s h = (u, s)
+tagged_key_packed kind tree r u s h = h
+
+key_packed : (t : Tree) (variant : Bool) → IsInRange t → IsShort t → IfOk HasPackedText (key t variant)
+key_packed Null variant r s = null_text
+key_packed (Truth b) variant r s = truth_packed b
+key_packed (Int type n) variant r s = signed_text n (short_of_type type n r)
+key_packed (Text bytes) variant r s = (r, s)
+key_packed (Binary bytes) variant r s = tt
+key_packed (Standalone name) variant r s = own_text name r s
+key_packed (Tagged name tree) variant r s =
+    unless HasPackedText (is_wrapped variant name) _ (tagged_key (text_kind name.tag) tree (key tree false))
+    (tagged_key_packed (text_kind name.tag) tree (key tree false) r.1 s.1 (key_packed tree false r.1 s.1))
+key_packed (EmptyEnum name) variant r s = unless HasPackedText (is_wrapped variant name) _ (Ok (escaped_key (bare_text (own name)))) (own_text name r s)
+key_packed (Enum name tree) variant r s = unless HasPackedText (is_wrapped variant name) _ (key tree true) (key_packed tree true r.1 s.1)
+key_packed (Container head parts) variant r s = tt
+
+key_as : (r : Result Key json.Refusal) (raw : Bool) → IfOk HasPackedText r → IfOk IsPackedKey (pack_key_as r raw)
+key_as (Err json.InvalidKey) raw h = tt
+key_as (Err json.InvalidNumber) true h = tt
+key_as (Err json.InvalidNumber) false h = tt
+key_as (Ok k) true h = tt
+key_as (Ok k) false h = h
+
+pack_key_packed : (t : Tree) → IsInRange t → IsShort t → IfOk IsPackedKey (pack_key t)
+pack_key_packed t r s = key_as (key t false) (is_raw t) (key_packed t false r s)
+
+-- ---- trees
+
+mutual
+  packs_packed : (t : Tree) (variant : Bool) → IsInRange t → IsShort t → IfOk IsPacked (packs t variant)
+  packs_packed Null variant r s = tt
+  packs_packed (Truth b) variant r s = tt
+  packs_packed (Int type n) variant r s = (n, refl, type_128 type n r)
+  packs_packed (Text bytes) variant r s = (r, s)
+  packs_packed (Binary bytes) variant r s = bytes_packed bytes r
+  packs_packed (Standalone name) variant r s = own_packed name r s
+  packs_packed (Tagged name tree) variant r s =
+      if_map IsPacked IsPacked (wrap Inside variant name) (tagged_pack (text_kind name.tag) tree (packs tree false)) (λ json m. wrap_packed variant name json r.0 s.0 m)
+      (tagged_packed (text_kind name.tag) tree (packs tree false) (packs_packed tree false r.1 s.1))
+  packs_packed (EmptyEnum name) variant r s = wrap_packed variant name (own name) r s (own_packed name r s)
+  packs_packed (Enum name tree) variant r s = if_map IsPacked IsPacked (wrap Inside variant name) (packs tree true) (λ json m. wrap_packed variant name json r.0 s.0 m) (packs_packed tree true r.1 s.1)
+  packs_packed (Container Head.Seq parts) variant r s = if_map ArePacked IsPacked shape.array (packed_items parts) (λ row m. m) (items_packed parts r.1 s.1)
+  packs_packed (Container Head.Map parts) variant r s = if_map PairsArePacked IsPacked shape.object (packed_pairs parts) (λ row m. m) (pairs_packed parts r.1 s.1)
+  packs_packed (Container (Head.Record name) parts) variant r s =
+      if_map PairsArePacked IsPacked (λ fields. wrap Inside variant name (shape.object fields)) (packed_pairs parts) (λ fields m. wrap_packed variant name (shape.object fields) r.0 s.0 m) (pairs_packed parts r.1 s.1)
+  packs_packed (Container (Head.Tuple name) parts) variant r s =
+      if_map ArePacked IsPacked (λ places. wrap Inside variant name (shape.array places)) (packed_items parts) (λ places m. wrap_packed variant name (shape.array places) r.0 s.0 m) (items_packed parts r.1 s.1)
+  packs_packed (Container (Head.RecordTuple name) parts) variant r s =
+      if_map PairsArePacked IsPacked (λ fields. wrap Inside variant name (shape.object fields)) (packed_pairs parts) (λ fields m. wrap_packed variant name (shape.object fields) r.0 s.0 m) (pairs_packed parts r.1 s.1)
+
+  items_packed : (parts : Parts) → AreInRange parts → AreShort parts → IfOk ArePacked (packed_items parts)
+  items_packed none r s = tt
+  items_packed (part slot tree parts) r s =
+      if_on IsPacked ArePacked (λ json. map_ok (item json) (packed_items parts)) (packs tree false)
+      (λ json m. if_map ArePacked ArePacked (item json) (packed_items parts) (λ row n. (m, n)) (items_packed parts r.2 s.2)) (packs_packed tree false r.1 s.1)
+
+  pairs_packed : (parts : Parts) → AreInRange parts → AreShort parts → IfOk PairsArePacked (packed_pairs parts)
+  pairs_packed (part Slot.Key name (part slot tree parts)) r s =
+      if_on IsPackedKey PairsArePacked (λ k. on_ok (packs tree false) (λ json. map_ok (pair k json) (packed_pairs parts))) (pack_key name)
+      (λ k n. if_on IsPacked PairsArePacked (λ json. map_ok (pair k json) (packed_pairs parts)) (packs tree false)
+      (λ json m. if_map PairsArePacked PairsArePacked (pair k json) (packed_pairs parts) (λ row o. (n, m, o)) (pairs_packed parts r.2.2 s.2.2)) (packs_packed tree false r.2.1 s.2.1))
+      (pack_key_packed name r.1 s.1)
+  pairs_packed (part (Slot.Field tag label) tree parts) r s =
+      if_on IsPacked PairsArePacked (λ json. map_ok (pair (escaped_key label.text) json) (packed_pairs parts)) (packs tree false)
+      (λ json m. if_map PairsArePacked PairsArePacked (pair (escaped_key label.text) json) (packed_pairs parts) (λ row o. ((r.0, s.0), m, o)) (pairs_packed parts r.2 s.2))
+      (packs_packed tree false r.1 s.1)
+  pairs_packed (part (Slot.FieldPlace tag label index) tree parts) r s =
+      if_on IsPacked PairsArePacked (λ json. map_ok (pair (escaped_key label.text) json) (packed_pairs parts)) (packs tree false)
+      (λ json m. if_map PairsArePacked PairsArePacked (pair (escaped_key label.text) json) (packed_pairs parts) (λ row o. ((r.0.0, s.0), m, o)) (pairs_packed parts r.2 s.2))
+      (packs_packed tree false r.1 s.1)
+  pairs_packed parts r s = tt
+
+-- a real tree with short texts packs to such a shape
+pub packed : (tree : Tree) (json : Json) → IsReal tree → IsShort tree → pack_of tree ≡ Ok json → IsPacked json
+packed tree json r s e = subst (IfOk IsPacked) e (packs_packed tree false r.1 s)

@@ -1,0 +1,51 @@
+-- What the laws of CBOR ask of a tree.
+use Rattle.std.specs.Prelude.{ℕ, ◌^◌, ◌<◌, List, length, IfSome, ⊤}
+use Rattle.sval_label.specs.Calls.{Slot, Name, Label}
+use Rattle.sval_core.specs.Trees.{Tree, Text, Standalone, Tagged, EmptyEnum, Enum, Container, Parts, none, part}
+use Rattle.sval_core.specs.Real.{head_name}
+use Rattle.sval_json.specs.Promises.{KeepsSlotPromise}
+
+-- shorter than 2 ^ 64 bytes
+abbrev pub IsShortText : List ℕ → Type 0
+IsShortText bytes = length bytes < 2 ^ 64
+
+-- the same of a label
+abbrev pub IsShortLabel : Label → Type 0
+IsShortLabel label = IsShortText label.text
+
+-- the same of a name's label
+abbrev pub IsShortName : Name → Type 0
+IsShortName name = IfSome name.label IsShortLabel
+
+-- the same of a field's label
+abbrev pub IsShortSlot : Slot → Type 0
+IsShortSlot (Slot.Field _ label) = IsShortLabel label
+IsShortSlot (Slot.FieldPlace _ label _) = IsShortLabel label
+IsShortSlot _ = ⊤
+
+abbrev mutual
+  -- each text and each label is shorter than 2 ^ 64 bytes
+  pub IsShort : Tree → Type 0
+  IsShort (Text bytes) = IsShortText bytes
+  IsShort (Standalone name) = IsShortName name
+  IsShort (Tagged name tree) = IsShortName name × IsShort tree
+  IsShort (EmptyEnum name) = IsShortName name
+  IsShort (Enum name tree) = IsShortName name × IsShort tree
+  IsShort (Container head parts) = IsShortName (head_name head) × AreShort parts
+  IsShort _ = ⊤
+
+  pub AreShort : Parts → Type 0
+  AreShort none = ⊤
+  AreShort (part slot tree parts) = IsShortSlot slot × IsShort tree × AreShort parts
+
+abbrev mutual
+  -- each field's label that is tagged `VALUE_IDENT` needs no escapes
+  pub HasPlainIdentifiers : Tree → Type 0
+  HasPlainIdentifiers (Tagged _ tree) = HasPlainIdentifiers tree
+  HasPlainIdentifiers (Enum _ tree) = HasPlainIdentifiers tree
+  HasPlainIdentifiers (Container _ parts) = HavePlainIdentifiers parts
+  HasPlainIdentifiers _ = ⊤
+
+  pub HavePlainIdentifiers : Parts → Type 0
+  HavePlainIdentifiers none = ⊤
+  HavePlainIdentifiers (part slot tree parts) = KeepsSlotPromise slot × HasPlainIdentifiers tree × HavePlainIdentifiers parts

@@ -1,0 +1,18 @@
+//! The laws of packed shapes and of their bytes, each as a clause that is proved.
+
+ghost use Rattle.sval_cbor.specs.Laws.{CborIsBytes, PacksAsWritten, WholeSpellingsAreWritten, CanonicalCallsAreWhole, CapturedIsWritten, TakenCallsAreWritten, RefusedCallRefuses};
+
+/// What holds of all trees that CBOR can hold.
+pub fn packing_laws()
+    ensures cbor_is_bytes { CborIsBytes }
+    ensures packs_as_written { PacksAsWritten }
+{}
+
+/// What holds of all calls.
+pub fn writing_laws()
+    ensures whole_spellings_are_written { WholeSpellingsAreWritten }
+    ensures canonical_calls_are_whole { CanonicalCallsAreWhole }
+    ensures captured_is_written { CapturedIsWritten }
+    ensures taken_calls_are_written { TakenCallsAreWritten }
+    ensures refused_call_refuses { RefusedCallRefuses }
+{}

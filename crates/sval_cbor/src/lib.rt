@@ -1,0 +1,4 @@
+//! CBOR (RFC 8949) of values.
+#![tactic(auto)]
+
+pub mod laws;

@@ -1,0 +1,178 @@
+-- The bytes of a packed shape are an item, and the shape of that item's tree is the shape that was packed.
+use Rattle.std.specs.Prelude.{◌≡◌, ℕ, ◌^◌, ◌<◌, ◌≤◌, ℤ, pos, negsuc, Bool, true, false, nat_lt, if◌then◌else◌, List, [], ◌∷◌, ◌++◌, length, take, drop, IsTrue, Some, Ok, refl}
+use Rattle.std.specs.Str.{is_utf8}
+use Rattle.std.specs.Str.Parse.{signed_digits_value}
+use Rattle.std.proofs.Common.{sym, ap, ◌∙◌, subst, arith, append_assoc, append-nil, length-append}
+use Rattle.std.proofs.lemmas.Bool.Decides.{nat_tests}
+use Rattle.std.proofs.lemmas.List.{take_at, drop_at}
+use Rattle.std.proofs.lemmas.Str.{is_utf8-from_IsUtf8}
+use Rattle.sval_label.specs.Calls.{IntType, U64, U128, I128, Seq, Map, Item, Key, Value}
+use Rattle.sval_core.specs.Trees.{Tree, Null, Truth, Int, Text, Container, Parts, none, part}
+use Rattle.sval_core.specs.Real.{IsReal}
+use Rattle.sval_json.specs.Json as shape
+use Rattle.sval_json.specs.Json.{escaped_key, raw_key, Json, Items, no_item, item, Pairs, no_pair, pair}
+use Rattle.sval_json.specs.declared.style.Variants.TheVariants.{Inside}
+use Rattle.sval_json.specs.Shape.{shape as shape_of, items, pairs, json_of}
+use Rattle.sval_cbor.specs.Packs.{has_128_bits, pack_of}
+use Rattle.sval_cbor.specs.Cbor.{head_bytes, short_bytes, string as string_bytes, bignum, integer, cbor, cbor_items, cbor_pairs}
+use Rattle.sval_cbor.specs.Premises.{IsShort}
+use Rattle.sval_cbor.proofs.Numbers.{value_of_decimal, short_of_128}
+use Rattle.sval_cbor.proofs.Packed.{IsPackedText, IsPackedNumber, IsPacked, ArePacked, PairsArePacked, packed}
+use Rattle.sval_cbor_read.specs.Items.{head, head_of, negative_type, is_piece, IsString, string, definite, IsItem, by_head, seq_to_break, map_to_break, falsehood, truth, null, IsBody, unsigned, negative, text, big, negative_big, ItemsToBreak, items_end, items_go_on, EntriesToBreak, entries_end, entries_go_on, IsItemOf}
+use Rattle.sval_cbor_read.proofs.Heads.{head_read, short_length, short_value}
+use Rattle.sval_cbor_read.proofs.OneTree.{one_item}
+
+-- ---- strings
+
+string_at : (major n : ℕ) (bytes after content rest : List ℕ) → head_of bytes ≡ Some (head major n after) → n ≤ length after → IsTrue (is_piece major content)
+    → take n after ≡ content → drop n after ≡ rest → IsString major bytes content rest
+string_at major n bytes after content rest e h k f g = subst (λ x. IsString major bytes x rest) f (subst (λ x. IsString major bytes (take n after) x) g (string e h (rw f k)))
+
+string_read : (major : ℕ) (content rest : List ℕ) → length content < 2 ^ 64 → IsTrue (is_piece major content) → IsString major (string_bytes major content ++ rest) content rest
+string_read major content rest h k =
+    let n = length content in
+    let e : head_of (string_bytes major content ++ rest) ≡ Some (head major n (content ++ rest)) = ap head_of (append_assoc (head_bytes major n) content rest) ∙ head_read major n (content ++ rest) h in
+    string_at major n (string_bytes major content ++ rest) (content ++ rest) content rest e (omega (arith, length-append content rest)) k (take_at content rest n refl) (drop_at content rest n refl)
+
+text_body : (n : ℕ) (after content rest : List ℕ) → n ≤ length after → IsTrue (is_utf8 content) → take n after ≡ content → drop n after ≡ rest → IsBody 3 n after (Text content) rest
+text_body n after content rest h k f g = subst (λ x. IsBody 3 n after (Text x) rest) f (subst (λ x. IsBody 3 n after (Text (take n after)) x) g (text h (rw f k)))
+
+text_read : (content rest : List ℕ) → IsPackedText content → IsItem (string_bytes 3 content ++ rest) (Text content) rest
+text_read content rest h =
+    let n = length content in
+    let e : head_of (string_bytes 3 content ++ rest) ≡ Some (head 3 n (content ++ rest)) = ap head_of (append_assoc (head_bytes 3 n) content rest) ∙ head_read 3 n (content ++ rest) h.1 in
+    by_head e (text_body n (content ++ rest) content rest (omega (arith, length-append content rest)) (is_utf8-from_IsUtf8 content h.0) (take_at content rest n refl) (drop_at content rest n refl))
+
+-- ---- numbers
+
+big_body : (n : ℕ) (rest : List ℕ) → n < 2 ^ 128 → IsBody 6 2 (string_bytes 2 (short_bytes n) ++ rest) (Int U128 (pos n)) rest
+big_body n rest h =
+    let e = short_value n h in
+    subst (λ m. IsBody 6 2 (string_bytes 2 (short_bytes n) ++ rest) (Int U128 (pos m)) rest) e
+    (big (definite (string_read 2 (short_bytes n) rest (omega (arith, short_length n)) refl)) (rw e h))
+
+negative_big_body : (n : ℕ) (rest : List ℕ) → n < 2 ^ 127 → IsBody 6 3 (string_bytes 2 (short_bytes n) ++ rest) (Int I128 (negsuc n)) rest
+negative_big_body n rest h =
+    let e = short_value n (omega arith) in
+    subst (λ m. IsBody 6 3 (string_bytes 2 (short_bytes n) ++ rest) (Int I128 (negsuc m)) rest) e
+    (negative_big (definite (string_read 2 (short_bytes n) rest (omega (arith, short_length n)) refl)) (rw e h))
+
+big_read : (tag n : ℕ) (rest : List ℕ) (tree : Tree) → tag < 24 → IsBody 6 tag (string_bytes 2 (short_bytes n) ++ rest) tree rest → IsItem (bignum tag n ++ rest) tree rest
+big_read tag n rest tree h b =
+    by_head (ap head_of (append_assoc (head_bytes 6 tag) (string_bytes 2 (short_bytes n)) rest) ∙ head_read 6 tag (string_bytes 2 (short_bytes n) ++ rest) (omega arith)) b
+
+unsigned_bound : (n : ℕ) → has_128_bits (pos n) ≡ true → n < 2 ^ 128
+unsigned_bound n h = grind (arith, nat_tests)
+
+signed_bound : (n : ℕ) → has_128_bits (negsuc n) ≡ true → n < 2 ^ 127
+signed_bound n h = grind (arith, nat_tests)
+
+-- some type of whole numbers, with which the number is read
+abbrev IsReadAs : List ℕ → ℤ → Type 0
+IsReadAs bytes z = (type : IntType) × ((rest : List ℕ) → IsItem (bytes ++ rest) (Int type z) rest)
+
+integer_read : (z : ℤ) → has_128_bits z ≡ true → IsReadAs (integer z) z
+integer_read (pos n) h = go (nat_lt n (2 ^ 64)) refl
+  where
+    go : (b : Bool) → nat_lt n (2 ^ 64) ≡ b → IsReadAs (if b then head_bytes 0 n else bignum 2 n) (pos n)
+    go true e = let less : n < 2 ^ 64 = grind (arith, nat_tests) in (U64, λ rest. by_head (head_read 0 n rest less) unsigned)
+    go false e = (U128, λ rest. big_read 2 n rest (Int U128 (pos n)) (omega arith) (big_body n rest (unsigned_bound n h)))
+integer_read (negsuc n) h = go (nat_lt n (2 ^ 64)) refl
+  where
+    go : (b : Bool) → nat_lt n (2 ^ 64) ≡ b → IsReadAs (if b then head_bytes 1 n else bignum 3 n) (negsuc n)
+    go true e = let less : n < 2 ^ 64 = grind (arith, nat_tests) in (negative_type n, λ rest. by_head (head_read 1 n rest less) negative)
+    go false e = (I128, λ rest. big_read 3 n rest (Int I128 (negsuc n)) (omega arith) (negative_big_body n rest (signed_bound n h)))
+
+-- ---- shapes
+
+-- the bytes are an item, whose tree has this shape
+record IsReadBack (json : Json) : Type 0 where
+  tree : Tree
+  is_item : (rest : List ℕ) → IsItem (cbor json ++ rest) tree rest
+  has_shape : shape_of Inside tree false ≡ Ok json
+
+record AreReadBack (row : Items) : Type 0 where
+  parts : Parts
+  are_items : (rest : List ℕ) → ItemsToBreak (cbor_items row ++ 0xff ∷ rest) parts rest
+  have_shape : items Inside parts ≡ Ok row
+
+record PairsAreReadBack (row : Pairs) : Type 0 where
+  parts : Parts
+  are_entries : (rest : List ℕ) → EntriesToBreak (cbor_pairs row ++ 0xff ∷ rest) parts rest
+  have_shape : pairs Inside parts ≡ Ok row
+
+number_back : (bytes : List ℕ) → IsPackedNumber bytes → IsReadBack (shape.number bytes)
+number_back bytes (z, e, h) =
+    let i = integer_read z h in
+    let v : signed_digits_value 10 bytes ≡ z = ap (signed_digits_value 10) e ∙ value_of_decimal z (short_of_128 z h) in
+    record {
+      tree = Int i.0 z;
+      is_item = λ rest. subst (λ x. IsItem (integer x ++ rest) (Int i.0 z) rest) (sym v) (i.1 rest);
+      has_shape = ap (λ x. Ok (shape.number x)) (sym e);
+    }
+
+truth_back : (b : Bool) → IsReadBack (shape.truth b)
+truth_back true = record { tree = Truth true; is_item = λ rest. truth; has_shape = refl }
+truth_back false = record { tree = Truth false; is_item = λ rest. falsehood; has_shape = refl }
+
+joined : (xs rest : List ℕ) → xs ++ (0xff ∷ []) ++ rest ≡ xs ++ 0xff ∷ rest
+joined xs rest = append_assoc xs (0xff ∷ []) rest
+
+array_back : (row : Items) → AreReadBack row → IsReadBack (shape.array row)
+array_back row r = record {
+  tree = Container Seq r.parts;
+  is_item = λ rest. subst (λ x. IsItem (0x9f ∷ x) (Container Seq r.parts) rest) (sym (joined (cbor_items row) rest)) (seq_to_break (r.are_items rest));
+  has_shape = rw r.have_shape refl;
+}
+
+object_back : (row : Pairs) → PairsAreReadBack row → IsReadBack (shape.object row)
+object_back row r = record {
+  tree = Container Map r.parts;
+  is_item = λ rest. subst (λ x. IsItem (0xbf ∷ x) (Container Map r.parts) rest) (sym (joined (cbor_pairs row) rest)) (map_to_break (r.are_entries rest));
+  has_shape = rw r.have_shape refl;
+}
+
+item_back : (json : Json) (row : Items) → IsReadBack json → AreReadBack row → AreReadBack (item json row)
+item_back json row r s = record {
+  parts = part Item r.tree s.parts;
+  are_items = λ rest. subst (λ x. ItemsToBreak x (part Item r.tree s.parts) rest) (sym (append_assoc (cbor json) (cbor_items row) (0xff ∷ rest)))
+      (items_go_on (r.is_item (cbor_items row ++ 0xff ∷ rest)) (s.are_items rest));
+  have_shape = rw (r.has_shape, s.have_shape) refl;
+}
+
+pair_back : (bytes : List ℕ) (json : Json) (row : Pairs) → IsPackedText bytes → IsReadBack json → PairsAreReadBack row → PairsAreReadBack (pair (escaped_key bytes) json row)
+pair_back bytes json row k r s = record {
+  parts = part Key (Text bytes) (part Value r.tree s.parts);
+  are_entries = λ rest. subst (λ x. EntriesToBreak x (part Key (Text bytes) (part Value r.tree s.parts)) rest)
+      (sym (append_assoc (string_bytes 3 bytes ++ cbor json) (cbor_pairs row) (0xff ∷ rest) ∙ append_assoc (string_bytes 3 bytes) (cbor json) (cbor_pairs row ++ 0xff ∷ rest)))
+      (entries_go_on (text_read bytes (cbor json ++ (cbor_pairs row ++ 0xff ∷ rest)) k) (r.is_item (cbor_pairs row ++ 0xff ∷ rest)) (s.are_entries rest));
+  have_shape = rw (r.has_shape, s.have_shape) refl;
+}
+
+mutual
+  read_back : (json : Json) → IsPacked json → IsReadBack json
+  read_back shape.null h = record { tree = Null; is_item = λ rest. null; has_shape = refl }
+  read_back (shape.truth b) h = truth_back b
+  read_back (shape.number bytes) h = number_back bytes h
+  read_back (shape.text bytes) h = record { tree = Text bytes; is_item = λ rest. text_read bytes rest h; has_shape = refl }
+  read_back (shape.quoted bytes) h = absurd h
+  read_back (shape.raw bytes) h = absurd h
+  read_back (shape.array row) h = array_back row (items_back row h)
+  read_back (shape.object row) h = object_back row (pairs_back row h)
+
+  items_back : (row : Items) → ArePacked row → AreReadBack row
+  items_back no_item h = record { parts = none; are_items = λ rest. items_end; have_shape = refl }
+  items_back (item json row) h = item_back json row (read_back json h.0) (items_back row h.1)
+
+  pairs_back : (row : Pairs) → PairsArePacked row → PairsAreReadBack row
+  pairs_back no_pair h = record { parts = none; are_entries = λ rest. entries_end; have_shape = refl }
+  pairs_back (pair (escaped_key bytes) json row) h = pair_back bytes json row h.0 (read_back json h.1) (pairs_back row h.2)
+  pairs_back (pair (raw_key bytes) json row) h = absurd h.0
+
+-- what a real tree with short texts is written as is an item of one tree, whose shape is what the tree packs to
+pub written_is_read_back : (tree : Tree) (json : Json) → IsReal tree → IsShort tree → pack_of tree ≡ Ok json
+    → (read : Tree) × IsItemOf (cbor json) read × ((other : Tree) → IsItemOf (cbor json) other → other ≡ read) × (json_of read ≡ Ok json)
+written_is_read_back tree json r s e =
+    let back = read_back json (packed tree json r s e) in
+    let i : IsItemOf (cbor json) back.tree = subst (λ x. IsItem x back.tree []) (append-nil (cbor json)) (back.is_item []) in
+    (back.tree, i, (λ other j. (one_item j i).0), back.has_shape)

@@ -1,0 +1,29 @@
+//! The laws of CBOR's items, each as a clause that is proved.
+
+ghost use Rattle.sval_cbor_read.specs.Laws.{ItemHasOneTree, ItemsAreReal, ItemsAreRefusedByKey, DocumentsSpell, ItemsAreRead, ReadIsItem, ReadInOneWay, ReadingEndsWell, ReadingStopsAtBadBytes, LargeNumbersAreBadBytes, StepsComeNearer, HeadsAreRead, HeadsAreShortest, WrittenIsReadBack};
+
+/// What holds of all bytes.
+pub fn item_laws()
+    ensures item_has_one_tree { ItemHasOneTree }
+    ensures items_are_real { ItemsAreReal }
+    ensures items_are_refused_by_key { ItemsAreRefusedByKey }
+    ensures heads_are_read { HeadsAreRead }
+    ensures heads_are_shortest { HeadsAreShortest }
+{}
+
+/// What holds of the reader's steps.
+pub fn reading_laws()
+    ensures documents_spell { DocumentsSpell }
+    ensures items_are_read { ItemsAreRead }
+    ensures read_is_item { ReadIsItem }
+    ensures read_in_one_way { ReadInOneWay }
+    ensures reading_ends_well { ReadingEndsWell }
+    ensures reading_stops_at_bad_bytes { ReadingStopsAtBadBytes }
+    ensures large_numbers_are_bad_bytes { LargeNumbersAreBadBytes }
+    ensures steps_come_nearer { StepsComeNearer }
+{}
+
+/// What holds of all that is written.
+pub fn round_trip_laws()
+    ensures written_is_read_back { WrittenIsReadBack }
+{}
