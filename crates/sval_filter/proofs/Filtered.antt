@@ -1,0 +1,89 @@
+-- What the inner stream of a filter has taken, and that the filter takes calls that spell a tree.
+use Rattle.std.specs.Prelude.{◌≡◌, Bool, false, List, [], ◌∷◌, ◌++◌, Option, Some, None, refl}
+use Rattle.std.proofs.Common.{sym, ap, subst}
+use Rattle.sval_label.specs.Calls.{Call}
+use Rattle.sval_core.specs.Law.{Law, Ran}
+use Rattle.sval_core.specs.Trees.{Tree}
+use Rattle.sval_core.specs.Spells.{Spells, plain, plain_call}
+use Rattle.sval_core.specs.Checker.{Frame, State, Steps, Runs, done, more}
+use Rattle.sval_core.proofs.Completions.{spelling_is_run}
+use Rattle.sval_core.proofs.ManyRuns.{plain_none, plain_some}
+use Rattle.sval_check.specs.States.{Goes}
+use Rattle.sval_check.proofs.Moves.{goes_to, goes_on}
+use Rattle.sval_filter.specs.Paths.{Path, Rule}
+use Rattle.sval_filter.specs.Pruned.{pruned}
+use Rattle.sval_filter.specs.Filtering as machine
+use Rattle.sval_filter.specs.Filtering.{Filtering, fresh, due, all_due}
+use Rattle.sval_filter.specs.FilterLaw.{View, new_view, all_taken, AcceptsAll, Accepts, after, filter_law}
+use Rattle.sval_filter.proofs.DueCalls.{due_spells_pruned}
+use Rattle.sval_core.proofs.Determined.{first_step}
+
+-- ---- joined calls
+
+pub ran_both : {V : Type 0} (law : Law V) (first second : List Call) (old middle new : V) → Ran law old first middle → Ran law middle second new → Ran law old (first ++ second) new
+ran_both law [] second old middle new r q = subst (λ x. Ran law x second new) r q
+ran_both law (c ∷ first) second old middle new r q = (r.0, ran_both law first second (law.after old c) middle new r.1 q)
+
+accepts_first : {V : Type 0} (law : Law V) (first second : List Call) (old : V) → AcceptsAll law old (first ++ second) → AcceptsAll law old first
+accepts_first law [] second old r = refl
+accepts_first law (c ∷ first) second old r = (r.0, accepts_first law first second (law.after old c) r.1)
+
+accepts_second : {V : Type 0} (law : Law V) (first second : List Call) (old : V) → AcceptsAll law old (first ++ second) → AcceptsAll law (all_taken law old first) second
+accepts_second law [] second old r = r
+accepts_second law (c ∷ first) second old r = accepts_second law first second (law.after old c) r.1
+
+module _ {V : Type 0} (law : Law V) (rule : Rule) (paths : List Path) where
+  -- ---- what the inner stream has taken is what was due
+
+  pub inner_takes_due : (calls : List Call) (view last : View V) → Ran (filter_law law rule paths) view calls last → Ran law view.inner (all_due rule paths view.kept calls) last.inner
+  inner_takes_due [] view last r = ap (λ (v : View V). v.inner) r
+  inner_takes_due (c ∷ calls) view last r =
+      ran_both law (due rule paths view.kept c) (all_due rule paths (machine.after rule paths view.kept c) calls) view.inner (all_taken law view.inner (due rule paths view.kept c)) last.inner
+      r.0.passed_on (inner_takes_due calls (after law rule paths view c) last r.1)
+
+  -- of calls that spell a tree it has taken calls that spell what is left of the tree
+  pub inner_takes_pruned : (calls : List Call) (tree : Tree) (inner : V) (last : View V) → Spells calls tree → Ran (filter_law law rule paths) (new_view inner) calls last
+      → (taken : List Call) × Ran law inner taken last.inner × Spells taken (pruned rule paths tree)
+  inner_takes_pruned calls tree inner last s r =
+      (all_due rule paths fresh calls, inner_takes_due calls (new_view inner) last r, due_spells_pruned rule paths calls tree s)
+
+  -- ---- and the filter takes them, where the inner stream takes what is due
+
+  -- what one call of a run comes to
+  one_goes : (state : State) (c : Call) (calls : List Call) {b' : Bool} {fs' : List Frame} → Runs state.filled state.frames (plain (c ∷ calls)) b' fs'
+      → (next : State) × Goes state c next × Runs next.filled next.frames (plain calls) b' fs'
+  one_goes state c calls {b'} {fs'} r = by_call (plain_call c) refl
+    where
+      of_step : (p : Call) → plain_call c ≡ Some p → Runs state.filled state.frames (p ∷ plain calls) b' fs'
+          → (next : State) × Goes state c next × Runs next.filled next.frames (plain calls) b' fs'
+      of_step p e q =
+          let s = first_step q in (
+            record { filled = s.0; frames = s.1 },
+            subst (λ x. Runs state.filled state.frames x s.0 s.1) (sym (plain_some c p [] e)) (more s.2 done),
+            s.3,
+          )
+
+      by_call : (o : Option Call) → plain_call c ≡ o → (next : State) × Goes state c next × Runs next.filled next.frames (plain calls) b' fs'
+      by_call None e = (
+        state,
+        subst (λ x. Runs state.filled state.frames x state.filled state.frames) (sym (plain_none c [] e)) done,
+        subst (λ x. Runs state.filled state.frames x b' fs') (plain_none c calls e) r,
+      )
+      by_call (Some p) e = of_step p e (subst (λ x. Runs state.filled state.frames x b' fs') (plain_some c p calls e) r)
+
+  pub filter_takes : (calls : List Call) (view : View V) {b' : Bool} {fs' : List Frame} → view.is_stopped ≡ false → Runs view.state.filled view.state.frames (plain calls) b' fs'
+      → AcceptsAll law view.inner (all_due rule paths view.kept calls) → (last : View V) × Ran (filter_law law rule paths) view calls last
+  filter_takes [] view going r a = (view, refl)
+  filter_takes (c ∷ calls) view {b'} {fs'} going r a =
+      let g = one_goes view.state c calls r in
+      let to = goes_to view.state g.0 c g.1 in
+      let first = due rule paths view.kept c in
+      let later = all_due rule paths (machine.after rule paths view.kept c) calls in
+      let accepted : Accepts law rule paths view c = record { going = going; viable = goes_on view.state g.0 c g.1; passed_on = accepts_first law first later view.inner a } in
+      let next = filter_takes calls (after law rule paths view c) going (subst (λ (s : State). Runs s.filled s.frames (plain calls) b' fs') to g.2) (accepts_second law first later view.inner a) in
+      (next.0, (accepted, next.1))
+
+  -- calls that spell a tree
+  pub filter_takes_a_tree : (calls : List Call) (tree : Tree) (inner : V) → Spells calls tree → AcceptsAll law inner (all_due rule paths fresh calls)
+      → (last : View V) × Ran (filter_law law rule paths) (new_view inner) calls last
+  filter_takes_a_tree calls tree inner s a = filter_takes calls (new_view inner) refl (spelling_is_run calls tree s) a

@@ -1,0 +1,10 @@
+pub mod PrunedGood
+pub mod NothingDropped
+pub mod Turns
+pub mod Silent
+pub mod PartSteps
+pub mod PrunedParts
+pub mod DueCalls
+pub mod Filtered
+pub mod PrunedTrees
+mod PassedCalls

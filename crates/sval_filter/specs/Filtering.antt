@@ -1,0 +1,166 @@
+-- The filter as a machine: what it keeps, which calls are due at a call, and what it keeps after it.
+use Rattle.std.specs.Prelude.{ℕ, List, [], ◌∷◌, ◌++◌, map, Option, Some, None}
+use Rattle.sval_label.specs.Calls.{Call, Head, Slot}
+use Rattle.sval_core.specs.Law.{computed}
+use Rattle.sval_core.specs.Spells.{plain}
+use Rattle.sval_buffer.specs.Forest.{Forest, empty_forest, Answer, Taken, Refused, take, replayed}
+use Rattle.sval_filter.specs.Paths.{Path, Rule, Fate, LeftOut, Whole, Within, fate_of}
+
+-- how calls are treated: held inside a key, and elsewhere by what becomes of what they are in
+pub data Mode : Type 0 where
+  Holding : Mode
+  By : Fate → Mode
+
+-- what has begun and has no end yet: how calls in it are treated, and, of a map, what becomes of the entry whose key has ended and whose value hasn't
+pub record Layer : Type 0 where
+  pub mode : Mode
+  pub entry : Fate
+
+-- what a filter keeps beside the state of the machine that takes viable calls: a layer for each frame of that, the innermost first,
+-- and the key that is held
+pub record Filtering : Type 0 where
+  pub layers : List Layer
+  pub held : Forest
+
+abbrev pub fresh : Filtering
+fresh = record { layers = []; held = empty_forest }
+
+-- ---- parts of a step
+
+abbrev pub mode_in : List Path → List Layer → Mode
+mode_in paths [] = By (Within paths)
+mode_in paths (layer ∷ layers) = layer.mode
+
+abbrev pub entry_in : List Layer → Fate
+entry_in [] = Whole
+entry_in (layer ∷ layers) = layer.entry
+
+abbrev pub outer : List Layer → List Layer
+outer [] = []
+outer (layer ∷ layers) = layers
+
+abbrev pub layer : Mode → Layer
+layer mode = record { mode = mode; entry = Whole }
+
+-- the innermost layer with this fate of its entry
+abbrev pub with_entry : Fate → List Layer → List Layer
+with_entry entry [] = []
+with_entry entry (innermost ∷ layers) = record { mode = innermost.mode; entry = entry } ∷ layers
+
+-- the text that a key's calls spell, if it is one
+abbrev pub fragments : List Call → List ℕ
+fragments (Call.TextFragment borrowed bytes ∷ calls) = bytes ++ fragments calls
+fragments calls = []
+
+abbrev pub text_of : List Call → Option (List ℕ)
+text_of (Call.TextBegin size ∷ calls) = Some (fragments calls)
+text_of calls = None
+
+abbrev pub held_label : Forest → Option (List ℕ)
+held_label held = text_of (plain (replayed held))
+
+-- what becomes of the entry of a key with this label, in a map that is treated so
+abbrev pub fate_in : Rule → Fate → Option (List ℕ) → Fate
+fate_in rule (Within paths) label = fate_of rule paths label
+fate_in rule fate label = fate
+
+-- what becomes of a part that is no key
+abbrev pub slot_fate : Rule → List Path → Fate → Slot → Fate
+slot_fate rule paths entry Slot.Value = entry
+slot_fate rule paths entry (Slot.Field tag label) = fate_of rule paths (Some label.text)
+slot_fate rule paths entry (Slot.FieldPlace tag label index) = fate_of rule paths (Some label.text)
+slot_fate rule paths entry _ = Within paths
+
+-- how a part is treated that begins in a layer
+abbrev pub mode_of_part : Rule → Mode → Fate → Slot → Mode
+mode_of_part rule Holding entry slot = Holding
+mode_of_part rule (By LeftOut) entry slot = By LeftOut
+mode_of_part rule (By fate) entry Slot.Key = Holding
+mode_of_part rule (By Whole) entry slot = By Whole
+mode_of_part rule (By (Within paths)) entry slot = By (slot_fate rule paths entry slot)
+
+-- the calls, where they are passed on
+abbrev pub passed : Mode → List Call → List Call
+passed Holding calls = []
+passed (By LeftOut) calls = []
+passed (By fate) calls = calls
+
+-- a hint, which isn't passed on either between the key and the value of an entry that is left out
+abbrev pub hint_due : Mode → Fate → Call → List Call
+hint_due mode LeftOut hint = []
+hint_due mode entry hint = passed mode (hint ∷ [])
+
+-- the begin of a map, a record or a record tuple may announce too many entries, and goes without its size
+abbrev pub without_size : Call → Call
+without_size (Call.Begin Head.Map size) = Call.Begin Head.Map None
+without_size (Call.Begin (Head.Record name) size) = Call.Begin (Head.Record name) None
+without_size (Call.Begin (Head.RecordTuple name) size) = Call.Begin (Head.RecordTuple name) None
+without_size call = call
+
+abbrev pub taken_or : Forest → Answer → Forest
+taken_or held (Taken after) = after
+taken_or held (Refused refusal) = held
+
+abbrev pub held_after : Mode → Forest → Call → Forest
+held_after Holding held call = taken_or held (take held (computed call))
+held_after (By fate) held call = held
+
+-- the layers after a call that is neither a part's begin nor its end
+abbrev pub layers_after : Mode → List Layer → Call → List Layer
+layers_after mode layers (Call.TextBegin size) = layer mode ∷ layers
+layers_after mode layers (Call.BinaryBegin size) = layer mode ∷ layers
+layers_after mode layers (Call.EnumBegin name) = layer mode ∷ layers
+layers_after mode layers (Call.TaggedBegin name) = layer mode ∷ layers
+layers_after mode layers (Call.Begin head size) = layer mode ∷ layers
+layers_after mode layers Call.TextEnd = outer layers
+layers_after mode layers Call.BinaryEnd = outer layers
+layers_after mode layers (Call.EnumEnd name) = outer layers
+layers_after mode layers (Call.TaggedEnd name) = outer layers
+layers_after mode layers (Call.End head) = outer layers
+layers_after mode layers call = layers
+
+-- ---- a part's end: that of a key which is inside no other key gives the key back
+
+-- the key with its begin and end, where its entry isn't left out
+abbrev pub key_due : Fate → Forest → Slot → List Call
+key_due LeftOut held slot = []
+key_due fate held slot = Call.PartBegin Slot.Key ∷ (map computed (replayed held) ++ (Call.PartEnd slot ∷ []))
+
+abbrev pub due_at_end : Rule → Mode → Mode → Forest → Slot → List Call
+due_at_end rule Holding (By fate) held slot = key_due (fate_in rule fate (held_label held)) held slot
+due_at_end rule mode around held slot = passed mode (Call.PartEnd slot ∷ [])
+
+abbrev pub after_end : Rule → Mode → Mode → List Layer → Forest → Slot → Filtering
+after_end rule Holding (By fate) layers held slot = record { layers = with_entry (fate_in rule fate (held_label held)) layers; held = empty_forest }
+after_end rule mode around layers held slot = record { layers = with_entry Whole layers; held = held_after mode held (Call.PartEnd slot) }
+
+-- ---- a step
+
+abbrev pub after_in : Rule → List Path → Mode → List Layer → Forest → Call → Filtering
+after_in rule paths mode layers held (Call.PartBegin slot) =
+    record { layers = layer (mode_of_part rule mode (entry_in layers) slot) ∷ layers; held = held_after mode held (Call.PartBegin slot) }
+after_in rule paths mode layers held (Call.PartEnd slot) = after_end rule mode (mode_in paths (outer layers)) (outer layers) held slot
+after_in rule paths mode layers held call = record { layers = layers_after mode layers call; held = held_after mode held call }
+
+-- what the filter keeps after a call
+abbrev pub after : Rule → List Path → Filtering → Call → Filtering
+after rule paths kept call = after_in rule paths (mode_in paths kept.layers) kept.layers kept.held call
+
+abbrev pub due_in : Rule → List Path → Mode → List Layer → Forest → Call → List Call
+due_in rule paths mode layers held (Call.PartBegin slot) = passed (mode_of_part rule mode (entry_in layers) slot) (Call.PartBegin slot ∷ [])
+due_in rule paths mode layers held (Call.PartEnd slot) = due_at_end rule mode (mode_in paths (outer layers)) held slot
+due_in rule paths mode layers held (Call.TagHint tag) = hint_due mode (entry_in layers) (Call.TagHint tag)
+due_in rule paths mode layers held call = passed mode (without_size call ∷ [])
+
+-- the calls that are due at a call
+abbrev pub due : Rule → List Path → Filtering → Call → List Call
+due rule paths kept call = due_in rule paths (mode_in paths kept.layers) kept.layers kept.held call
+
+-- the calls that are due at a list of calls, and what is kept after them
+abbrev pub all_due : Rule → List Path → Filtering → List Call → List Call
+all_due rule paths kept [] = []
+all_due rule paths kept (call ∷ calls) = due rule paths kept call ++ all_due rule paths (after rule paths kept call) calls
+
+abbrev pub all_after : Rule → List Path → Filtering → List Call → Filtering
+all_after rule paths kept [] = kept
+all_after rule paths kept (call ∷ calls) = all_after rule paths (after rule paths kept call) calls

@@ -1,0 +1,25 @@
+-- The laws of pruning and of the filter, as facts.
+use Rattle.std.specs.Prelude.{◌≡◌, List, []}
+use Rattle.sval_label.specs.Calls.{Call}
+use Rattle.sval_core.specs.Trees.{Tree, IsGood}
+use Rattle.sval_core.specs.Spells.{Spells}
+use Rattle.sval_core.specs.Real.{IsReal}
+use Rattle.sval_filter.specs.Paths.{Path, Rule, Drop}
+use Rattle.sval_filter.specs.Pruned.{pruned}
+use Rattle.sval_filter.specs.Filtering.{fresh, all_due}
+
+-- what is left of a good tree is good
+abbrev pub PrunedIsGood : Type 0
+PrunedIsGood = (rule : Rule) (paths : List Path) (tree : Tree) → IsGood tree → IsGood (pruned rule paths tree)
+
+-- what is left of a real tree is real
+abbrev pub PrunedIsReal : Type 0
+PrunedIsReal = (rule : Rule) (paths : List Path) (tree : Tree) → IsReal tree → IsReal (pruned rule paths tree)
+
+-- the calls that a new filter passes on of calls that spell a tree spell what is left of it
+abbrev pub DueCallsSpellPruned : Type 0
+DueCallsSpellPruned = (rule : Rule) (paths : List Path) (calls : List Call) (tree : Tree) → Spells calls tree → Spells (all_due rule paths fresh calls) (pruned rule paths tree)
+
+-- dropping by no path leaves a tree as it is
+abbrev pub NothingDropped : Type 0
+NothingDropped = (tree : Tree) → pruned Drop [] tree ≡ tree

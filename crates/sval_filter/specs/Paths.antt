@@ -1,0 +1,69 @@
+-- Paths of labels, and what a rule makes of a part of a value by them.
+use Rattle.std.specs.Prelude.{ℕ, ◌==◌, Bool, true, false, if◌then◌else◌, List, [], ◌∷◌, ◌++◌, Option, Some, None, option_map, bytes_eq}
+use Rattle.std.specs.List.{filter_map, list_any, slice_split}
+use Rattle.sval_label.specs.Texts.{is_empty}
+
+-- the labels from the outermost one on, each as its text
+abbrev pub Path : Type 0
+Path = List (List ℕ)
+
+pub data Rule : Type 0 where
+  Drop : Rule
+  Keep : Rule
+
+-- ---- how paths are made
+
+-- with a path of one label more
+abbrev pub with_path : List Path → List ℕ → List Path
+with_path paths label = paths ++ ((label ∷ []) ∷ [])
+
+-- with a label more at the end of the last path, if there is one
+abbrev pub with_label : List Path → List ℕ → Option (List Path)
+with_label [] label = None
+with_label (path ∷ []) label = Some ((path ++ (label ∷ [])) ∷ [])
+with_label (path ∷ next ∷ paths) label = option_map (λ rest. path ∷ rest) (with_label (next ∷ paths) label)
+
+-- the labels between the dots of a word, which is one that names a path if none of them is empty
+abbrev pub labels_of : List ℕ → Path
+labels_of word = slice_split (λ byte. byte == 46) word
+
+abbrev pub is_bad_word : List ℕ → Bool
+is_bad_word word = list_any is_empty (labels_of word)
+
+-- ---- what paths say of a label
+
+-- the rest of a path behind a label that it begins with
+abbrev pub tail_of : List ℕ → Path → Option Path
+tail_of label [] = None
+tail_of label (first ∷ rest) = if bytes_eq first label then Some rest else None
+
+-- the rests of the paths that begin with this label
+abbrev pub tails : List ℕ → List Path → List Path
+tails label paths = filter_map (tail_of label) paths
+
+abbrev pub ends_here : Path → Bool
+ends_here [] = true
+ends_here (label ∷ path) = false
+
+abbrev pub has_end : List Path → Bool
+has_end paths = list_any ends_here paths
+
+abbrev pub has_none : List Path → Bool
+has_none [] = true
+has_none (path ∷ paths) = false
+
+-- what becomes of a part: it is left out, it stays whole, or what is in it is pruned with these paths
+pub data Fate : Type 0 where
+  LeftOut : Fate
+  Whole : Fate
+  Within : List Path → Fate
+
+abbrev pub fate_by_tails : Rule → List Path → Fate
+fate_by_tails Drop rests = if has_end rests then LeftOut else Within rests
+fate_by_tails Keep rests = if has_none rests then LeftOut else (if has_end rests then Whole else Within rests)
+
+-- of a field or an entry with this label, or with none
+abbrev pub fate_of : Rule → List Path → Option (List ℕ) → Fate
+fate_of rule paths (Some label) = fate_by_tails rule (tails label paths)
+fate_of Drop paths None = Whole
+fate_of Keep paths None = LeftOut
