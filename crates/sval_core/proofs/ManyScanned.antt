@@ -2,29 +2,15 @@
 use Rattle.std.specs.Prelude.{◌≡◌, ℕ, ◌+◌, ◌⊎◌, Bool, List, [], ◌∷◌, ◌++◌, Option, Some, None, refl}
 use Rattle.std.proofs.Common.{sym, ap, ◌∙◌, subst, inl, inr, append_assoc}
 use Rattle.sval_label.specs.Calls.{Call}
-use Rattle.sval_core.specs.Spells.{plain, plain_call}
-use Rattle.sval_core.specs.Checker.{Frame, Steps, Runs, done, more}
+use Rattle.sval_core.specs.Spells.{plain_call}
+use Rattle.sval_core.specs.Checker.{Frame, Steps}
 use Rattle.sval_core.specs.Many.{IsViableAll}
 use Rattle.sval_core.specs.ManyChecker as all
 use Rattle.sval_core.specs.ManyChecker.{ready, noted, RunsAll}
-use Rattle.sval_core.proofs.Determined.{steps_determined, only_step}
-use Rattle.sval_core.proofs.Decided.{Or, Stepped, Ran, Stopped, scanned}
+use Rattle.sval_core.proofs.Determined.{steps_determined}
+use Rattle.sval_core.proofs.Decided.{Or, Stepped, step_dec}
 use Rattle.sval_core.proofs.FirstBad.{Meet, same_front, before, after, fronts_meet}
 use Rattle.sval_core.proofs.ManySpellings.{list_front_is_viable}
-use Rattle.sval_core.proofs.ManyRuns.{plain_some}
-
--- ---- whether one call is taken is decided
-
-only_one : (c x : Call) (front rest : List Call) → (c ∷ []) ≡ front ++ (x ∷ rest) → (front ++ (x ∷ [])) ≡ (c ∷ [])
-only_one c x [] rest e = let f : c ≡ x = cc e in ap (λ y. y ∷ []) (sym f)
-only_one c x (y ∷ []) rest e = let f : [] ≡ x ∷ rest = cc e in absurd (cc f)
-only_one c x (y ∷ z ∷ front) rest e = let f : [] ≡ z ∷ (front ++ (x ∷ rest)) = cc e in absurd (cc f)
-
-one_step : (b : Bool) (fs : List Frame) (c p : Call) → plain_call c ≡ Some p → Ran b fs (c ∷ []) ⊎ Stopped b fs (c ∷ []) → Or (Stepped b fs p)
-one_step b fs c p e (inl r) = inl (r.0, r.1, only_step (subst (λ x. Runs b fs x r.0 r.1) (plain_some c p [] e) r.2))
-one_step b fs c p e (inr s) =
-    let same = only_one c s.call s.front s.rest s.whole in
-    inr (λ t. s.stops t.0 t.1 (subst (λ x. Runs b fs (plain x) t.0 t.1) (sym same) (subst (λ x. Runs b fs x t.0 t.1) (sym (plain_some c p [] e)) (more t.2 done))))
 
 -- ---- all calls are taken, or a first one is not
 
@@ -115,7 +101,7 @@ scanned_all (c ∷ cs) n b fs = by_call (λ m ms. scanned_all cs (n + 1) m ms) (
 
     by_call : ((m : Bool) (ms : List Frame) → RanAll (n + 1) m ms cs ⊎ StoppedAll (n + 1) m ms cs) → (o : Option Call) → plain_call c ≡ o → RanAll n b fs (c ∷ cs) ⊎ StoppedAll n b fs (c ∷ cs)
     by_call next None e = scan_hint n b fs c cs e (next b fs)
-    by_call next (Some p) e = by_step next p e (one_step (ready b fs) fs c p e (scanned (c ∷ []) (ready b fs) fs))
+    by_call next (Some p) e = by_step next p e (step_dec (ready b fs) fs c p e)
 
 -- ---- there is one first bad call at most
 

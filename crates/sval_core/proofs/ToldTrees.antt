@@ -49,7 +49,7 @@ plain_label_twice (Some label) = refl
 pub plain_name_twice : (name : Name) → plain_name (plain_name name) ≡ plain_name name
 plain_name_twice name = ap (λ label. let n : Name = record { tag = name.tag; label = label; index = name.index } in n) (plain_label_twice name.label)
 
-plain_head_twice : (head : Head) → plain_head (plain_head head) ≡ plain_head head
+pub plain_head_twice : (head : Head) → plain_head (plain_head head) ≡ plain_head head
 plain_head_twice Head.Seq = refl
 plain_head_twice Head.Map = refl
 plain_head_twice (Head.Record name) = ap Head.Record (plain_name_twice name)

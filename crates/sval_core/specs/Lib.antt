@@ -14,3 +14,6 @@ pub mod Values
 pub mod ValueTrees
 pub mod ValueLaws
 pub mod SameNames
+pub mod Stacks
+pub mod CheckerSteps
+pub mod StepLaws
