@@ -7,7 +7,7 @@ use Rattle.sval_core.proofs.FirstBad.{one_first_bad, none_bad}
 use Rattle.sval_label.specs.Calls.{Call}
 use Rattle.sval_core.specs.Spells.{IsViable}
 use Rattle.sval_check.specs.declared.error.CheckError.TheVariants as error
-use Rattle.sval_check.specs.declared.stack.Frame.{Frame}
+use Rattle.sval_core.specs.Checker.{Frame}
 use Rattle.sval_check.specs.declared.checker.Why.{Why}
 use Rattle.sval_check.specs.declared.checker.Why.TheVariants.{NotViable, NoMemory}
 use Rattle.sval_check.specs.Checking.{Checking, checker_law, standing_of, one_more, finish_at, finish_of, cause_by, cause_of}
@@ -60,7 +60,7 @@ finish_due e false frames ok unfinished = unfinished refl
 pub finish_comes : (e : Emission) (first last : Checking) (due : Answer) → first ≡ fresh
     → Streams checker_law (standing_of first) e (standing_of last) → IsDue e due → (finish_of last ≡ due) ⊎ (finish_of last ≡ Err error.NoMemory)
 finish_comes e first last due new streams d =
-    due_comes e (finish_of last) due (inr (finish_due e last.filled last.frames (finish_ok e first last new streams) (finish_unfinished e first last new streams))) d
+    due_comes e (finish_of last) due (inr (finish_due e last.state.filled last.state.frames (finish_ok e first last new streams) (finish_unfinished e first last new streams))) d
 
 cause_due : (e : Emission) (why : Option Why) (taken : ℕ) → ((at : ℕ) → cause_by why taken ≡ error.BadCall at → IsFirstBad e.calls at) → (cause_by why taken ≡ error.Refused → OnlyRefuses e)
     → (◌≡◌ {A = Answer} (Err (cause_by why taken)) (Err error.NoMemory)) ⊎ IsDue e (Err (cause_by why taken))

@@ -1,34 +1,32 @@
 -- Which calls the checker took, and where it stopped.
-use Rattle.std.specs.Prelude.{◌≡◌, ℕ, suc, ◌+◌, ◌-◌, ◌^◌, ◌≤◌, min, Bool, true, false, List, [], ◌∷◌, ◌++◌, map, length, Option, Some, None, Err, OnOk, refl}
+use Rattle.std.specs.Prelude.{◌≡◌, ℕ, suc, ◌+◌, ◌-◌, ◌^◌, ◌≤◌, min, Bool, true, false, List, [], ◌∷◌, ◌++◌, length, Option, Some, None, Err, OnOk, refl}
 use Rattle.std.specs.List.{cons_option}
 use Rattle.std.proofs.Common.{sym, ap, subst, arith, inl, inr}
 use Rattle.sval_label.specs.Calls.{Call}
 use Rattle.sval_core.specs.Spells.{IsViable, plain, plain_call}
-use Rattle.sval_core.specs.Checker as machine
-use Rattle.sval_core.specs.Checker.{Runs, done, more, State}
+use Rattle.sval_core.specs.Checker.{Frame, Runs, done, more, State}
+use Rattle.sval_core.specs.CheckerSteps.{state_after}
 use Rattle.sval_core.specs.Law.{Standing, Emission, Ran, Streams, StoppedIn, Stops}
 use Rattle.sval_core.proofs.Completions.{spelling_is_run, run_is_spelling, viable_is_taken, taken_is_viable}
 use Rattle.sval_core.proofs.Determined.{steps_determined, runs_determined}
-use Rattle.sval_check.specs.declared.stack.Frame.{Frame}
+use Rattle.sval_core.proofs.CheckerSteps.{goes_taken, goes_after}
 use Rattle.sval_check.specs.declared.checker.Why.{Why}
 use Rattle.sval_check.specs.declared.checker.Why.TheVariants.{NotViable, NoMemory}
 use Rattle.sval_check.specs.declared.error.CheckError.TheVariants as error
-use Rattle.sval_check.specs.States.{state_after}
-use Rattle.sval_check.specs.Checking.{Checking, frame_of, View, IsWhy, IsLeft, accepts, checker_law, standing_of, one_more, finish_at, finish_of, cause_by, cause_of}
-use Rattle.sval_check.specs.Checks.{IsOneValue, IsFirstBad, OnlyRefuses, IsUnfinished}
-use Rattle.sval_check.proofs.Moves.{goes_on}
+use Rattle.sval_check.specs.Checking.{Checking, IsWhy, IsLeft, accepts, checker_law, standing_of, one_more, finish_at, finish_of, cause_by, cause_of}
+use Rattle.sval_check.specs.Checks.{IsOneValue, IsFirstBad, OnlyRefuses, IsUnfinished, opens, NeedsMemory}
 
 -- ---- a run with a call in front
 
-join : (o : Option Call) (cs : List Call) {b m b' : Bool} {fs ms fs' : List machine.Frame} → Runs b fs (cons_option o []) m ms → Runs m ms cs b' fs' → Runs b fs (cons_option o cs) b' fs'
+join : (o : Option Call) (cs : List Call) {b m b' : Bool} {fs ms fs' : List Frame} → Runs b fs (cons_option o []) m ms → Runs m ms cs b' fs' → Runs b fs (cons_option o cs) b' fs'
 join None cs done k = k
 join (Some c) cs (more s done) k = more s k
 
-same_end : {c : Call} {cs : List Call} {b m b' : Bool} {fs ms fs' : List machine.Frame} → Runs b fs (c ∷ []) m ms → Runs b fs (c ∷ cs) b' fs' → Runs m ms cs b' fs'
+same_end : {c : Call} {cs : List Call} {b m b' : Bool} {fs ms fs' : List Frame} → Runs b fs (c ∷ []) m ms → Runs b fs (c ∷ cs) b' fs' → Runs m ms cs b' fs'
 same_end {cs = cs} {m = m} {b' = b'} {ms = ms} {fs' = fs'} (more s done) (more {b' = n} {fs' = ns} s' r) =
     let e = steps_determined s' s in subst (λ x. Runs m x cs b' fs') e.1 (subst (λ x. Runs x ns cs b' fs') e.0 r)
 
-part : (o : Option Call) (cs : List Call) {b m b' : Bool} {fs ms fs' : List machine.Frame} → Runs b fs (cons_option o []) m ms → Runs b fs (cons_option o cs) b' fs' → Runs m ms cs b' fs'
+part : (o : Option Call) (cs : List Call) {b m b' : Bool} {fs ms fs' : List Frame} → Runs b fs (cons_option o []) m ms → Runs b fs (cons_option o cs) b' fs' → Runs m ms cs b' fs'
 part None cs done k = k
 part (Some c) cs s k = same_end s k
 
@@ -37,9 +35,9 @@ part (Some c) cs s k = same_end s k
 abbrev RunsFrom : State → List Call → State → Type 0
 RunsFrom old calls new = Runs old.filled old.frames (plain calls) new.filled new.frames
 
-pub ran_runs : (calls : List Call) (v u : View) → Ran checker_law v calls u → RunsFrom v.state calls u.state
-ran_runs [] v u e = subst (λ (x : View). Runs v.state.filled v.state.frames [] x.state.filled x.state.frames) (sym e) done
-ran_runs (call ∷ calls) v u r = join (plain_call call) (plain calls) r.0 (ran_runs calls (checker_law.after v call) u r.1)
+pub ran_runs : (calls : List Call) (v u : Checking) → Ran checker_law v calls u → RunsFrom v.state calls u.state
+ran_runs [] v u e = subst (λ (x : Checking). Runs v.state.filled v.state.frames [] x.state.filled x.state.frames) (sym e) done
+ran_runs (call ∷ calls) v u r = join (plain_call call) (plain calls) (goes_after v.state call r.0) (ran_runs calls (checker_law.after v call) u r.1)
 
 -- ---- a call was refused
 
@@ -53,7 +51,7 @@ pub record Halts (state : State) (taken : ℕ) (calls : List Call) (last : ℕ) 
   pub stops : (next : State) → RunsFrom state (front ++ (call ∷ [])) next → ⊥
   pub number : last ≡ min (taken + length front) (2 ^ 64 - 1)
 
-halts_here : (v u : View) (call : Call) (calls : List Call) → v.taken ≤ 2 ^ 64 - 1 → u.why ≡ Some NotViable → IsLeft v call u → Halts v.state v.taken (call ∷ calls) u.taken
+halts_here : (v u : Checking) (call : Call) (calls : List Call) → v.taken ≤ 2 ^ 64 - 1 → u.why ≡ Some NotViable → IsLeft v call u → Halts v.state v.taken (call ∷ calls) u.taken
 halts_here v u call calls within e left = record {
   front = [];
   call = call;
@@ -61,31 +59,31 @@ halts_here v u call calls within e left = record {
   whole = refl;
   at = v.state;
   runs = done;
-  stops = λ next k. never (goes_on v.state next call k);
+  stops = λ there k. never (goes_taken v.state there call k);
   number = omega (arith, within, left.taken);
 }
   where
     never : accepts v call → ⊥
     never = subst (λ w. IsWhy w v call u.wants) e left.why
 
-halts_later : (v : View) (call : Call) (calls : List Call) (last : ℕ) → v.taken ≤ 2 ^ 64 - 1 → accepts v call → Halts (state_after call v.state) (one_more v.taken) calls last → Halts v.state v.taken (call ∷ calls) last
+halts_later : (v : Checking) (call : Call) (calls : List Call) (last : ℕ) → v.taken ≤ 2 ^ 64 - 1 → accepts v call → Halts (state_after call v.state) (one_more v.taken) calls last → Halts v.state v.taken (call ∷ calls) last
 halts_later v call calls last within a h = record {
   front = call ∷ h.front;
   call = h.call;
   rest = h.rest;
   whole = ap (λ cs. call ∷ cs) h.whole;
   at = h.at;
-  runs = join (plain_call call) (plain h.front) a h.runs;
-  stops = λ next k. h.stops next (part (plain_call call) (plain (h.front ++ (h.call ∷ []))) a k);
+  runs = join (plain_call call) (plain h.front) (goes_after v.state call a) h.runs;
+  stops = λ next k. h.stops next (part (plain_call call) (plain (h.front ++ (h.call ∷ []))) (goes_after v.state call a) k);
   number = counted v.taken (length h.front) last within h.number;
 }
   where
     counted : (taken n last : ℕ) → taken ≤ 2 ^ 64 - 1 → last ≡ min (min (taken + 1) (2 ^ 64 - 1) + n) (2 ^ 64 - 1) → last ≡ min (taken + suc n) (2 ^ 64 - 1)
     counted taken n last within e = omega (arith, within, e)
 
-pub halts : (calls : List Call) (refuses : Bool) (old new : Standing View) (v : View) → v.taken ≤ 2 ^ 64 - 1 → v.why ≡ None → new.view.why ≡ Some NotViable → StoppedIn checker_law old new v calls refuses
+pub halts : (calls : List Call) (refuses : Bool) (old new : Standing Checking) (v : Checking) → v.taken ≤ 2 ^ 64 - 1 → v.why ≡ None → new.view.why ≡ Some NotViable → StoppedIn checker_law old new v calls refuses
     → Halts v.state v.taken calls new.view.taken
-halts [] refuses old new v within none some s = let same : new.view.why ≡ v.why = ap (λ (x : View). x.why) s.1 in cc
+halts [] refuses old new v within none some s = let same : new.view.why ≡ v.why = ap (λ (x : Checking). x.why) s.1 in cc
 halts (call ∷ calls) refuses old new v within none some (inl s) = halts_here v new.view call calls within some s.1
 halts (call ∷ calls) refuses old new v within none some (inr s) =
     let later : min (v.taken + 1) (2 ^ 64 - 1) ≤ 2 ^ 64 - 1 = omega arith in
@@ -93,29 +91,57 @@ halts (call ∷ calls) refuses old new v within none some (inr s) =
 
 -- ---- no call was refused, and yet the value was
 
-pub refused_by_itself : (calls : List Call) (refuses : Bool) (old new : Standing View) (v : View) → v.why ≡ None → new.view.why ≡ None → StoppedIn checker_law old new v calls refuses
+pub refused_by_itself : (calls : List Call) (refuses : Bool) (old new : Standing Checking) (v : Checking) → v.why ≡ None → new.view.why ≡ None → StoppedIn checker_law old new v calls refuses
     → (refuses ≡ true) × ((last : State) × RunsFrom v.state calls last)
 refused_by_itself [] refuses old new v none still s = (s.0, (v.state, done))
 refused_by_itself (call ∷ calls) refuses old new v none still (inl s) =
     let never : ⊥ = subst (λ w. IsWhy w v call new.view.wants) still s.1.why in absurd never
 refused_by_itself (call ∷ calls) refuses old new v none still (inr s) =
     let r = refused_by_itself calls refuses old new (checker_law.after v call) none still s.1 in
-    (r.0, (r.1.0, join (plain_call call) (plain calls) s.0 r.1.1))
+    (r.0, (r.1.0, join (plain_call call) (plain calls) (goes_after v.state call s.0) r.1.1))
+
+-- ---- memory was wanting
+
+pub record Wants (state : State) (calls : List Call) : Type 0 where
+  pub front : List Call
+  pub call : Call
+  pub rest : List Call
+  pub whole : calls ≡ front ++ (call ∷ rest)
+  pub last : State
+  pub runs : RunsFrom state (front ++ (call ∷ [])) last
+  pub opens : opens call ≡ true
+
+wants_here : (v u : Checking) (call : Call) (calls : List Call) → u.why ≡ Some NoMemory → IsLeft v call u → Wants v.state (call ∷ calls)
+wants_here v u call calls e left =
+    let why = subst (λ w. IsWhy w v call u.wants) e left.why in
+    record { front = []; call = call; rest = calls; whole = refl; last = state_after call v.state; runs = goes_after v.state call why.1; opens = why.0 }
+
+wants_later : (v : Checking) (call : Call) (calls : List Call) → accepts v call → Wants (state_after call v.state) calls → Wants v.state (call ∷ calls)
+wants_later v call calls a w = record {
+  front = call ∷ w.front;
+  call = w.call;
+  rest = w.rest;
+  whole = ap (λ cs. call ∷ cs) w.whole;
+  last = w.last;
+  runs = join (plain_call call) (plain (w.front ++ (w.call ∷ []))) (goes_after v.state call a) w.runs;
+  opens = w.opens;
+}
+
+pub wants : (calls : List Call) (refuses : Bool) (old new : Standing Checking) (v : Checking) → v.why ≡ None → new.view.why ≡ Some NoMemory → StoppedIn checker_law old new v calls refuses → Wants v.state calls
+wants [] refuses old new v none some s = let same : new.view.why ≡ v.why = ap (λ (x : Checking). x.why) s.1 in cc
+wants (call ∷ calls) refuses old new v none some (inl s) = wants_here v new.view call calls some s.1
+wants (call ∷ calls) refuses old new v none some (inr s) = wants_later v call calls s.0 (wants calls refuses old new (checker_law.after v call) none some s.1)
 
 -- ---- what is said of the value
 
 -- a checker that has taken no call
 abbrev pub fresh : Checking
-fresh = record { filled = false; frames = []; taken = 0; why = None; wants = 0 }
+fresh = record { state = record { filled = false; frames = [] }; taken = 0; why = None; wants = 0 }
 
 viable : (calls : List Call) (last : State) → Runs false [] (plain calls) last.filled last.frames → IsViable calls
 viable calls last k = taken_is_viable calls (last.filled, last.frames, k)
 
-empty : (frames : List Frame) → map frame_of frames ≡ [] → frames ≡ []
-empty [] e = refl
-empty (f ∷ fs) e = cc e
-
-one_value : (e : Emission) (filled : Bool) (frames : List Frame) → e.refuses ≡ false → Runs false [] (plain e.calls) filled (map frame_of frames) → OnOk (finish_at filled frames) (IsOneValue e)
+one_value : (e : Emission) (filled : Bool) (frames : List Frame) → e.refuses ≡ false → Runs false [] (plain e.calls) filled frames → OnOk (finish_at filled frames) (IsOneValue e)
 one_value e true [] w k = record { willing = w; spells = run_is_spelling e.calls k }
 one_value e true (f ∷ fs) w k = tt
 one_value e false frames w k = tt
@@ -129,7 +155,7 @@ stops_fresh e first last new s = subst (λ (x : Checking). Stops checker_law (st
 pub finish_ok : (e : Emission) (first last : Checking) → first ≡ fresh → Streams checker_law (standing_of first) e (standing_of last) → OnOk (finish_of last) (IsOneValue e)
 finish_ok e first last new streams =
     let s = streams_fresh e first last new streams in
-    one_value e last.filled last.frames s.willing (ran_runs e.calls (standing_of fresh).view (standing_of last).view s.ran)
+    one_value e last.state.filled last.state.frames s.willing (ran_runs e.calls (standing_of fresh).view (standing_of last).view s.ran)
 
 not_whole : (filled : Bool) (frames : List Frame) → finish_at filled frames ≡ Err error.Unfinished → filled ≡ true → frames ≡ [] → ⊥
 not_whole true [] e f g = cc e
@@ -145,7 +171,7 @@ finish_unfinished e first last new streams u =
       willing = s.willing;
       no_tree = λ tree spells.
           let same = runs_determined (plain e.calls) k (spelling_is_run e.calls tree spells) in
-          not_whole last.filled last.frames u same.0 (empty last.frames same.1);
+          not_whole last.state.filled last.state.frames u same.0 same.1;
     }
 
 not_viable : (why : Option Why) (taken at : ℕ) → cause_by why taken ≡ error.BadCall at → (why ≡ Some NotViable) × (at ≡ one_more taken)
@@ -178,3 +204,14 @@ cause_refused e first last new stops c =
     let s = stops_fresh e first last new stops in
     let r = refused_by_itself e.calls e.refuses (standing_of fresh) (standing_of last) (standing_of fresh).view refl (no_cause last.why last.taken c) s.stopped in
     record { viable = viable e.calls r.1.0 r.1.1; refuses = r.0 }
+
+no_memory : (why : Option Why) (taken : ℕ) → cause_by why taken ≡ error.NoMemory → why ≡ Some NoMemory
+no_memory None taken e = cc e
+no_memory (Some NotViable) taken e = cc e
+no_memory (Some NoMemory) taken e = refl
+
+pub cause_wants : (e : Emission) (first last : Checking) → first ≡ fresh → Stops checker_law (standing_of first) e (standing_of last) → cause_of last ≡ error.NoMemory → NeedsMemory e.calls
+cause_wants e first last new stops c =
+    let s = stops_fresh e first last new stops in
+    let w = wants e.calls e.refuses (standing_of fresh) (standing_of last) (standing_of fresh).view refl (no_memory last.why last.taken c) s.stopped in
+    record { front = w.front; call = w.call; rest = w.rest; whole = w.whole; viable = viable (w.front ++ (w.call ∷ [])) w.last w.runs; opens = w.opens }

@@ -1,6 +1,6 @@
 -- What is said of a value that was checked.
-use Rattle.std.specs.Prelude.{◌≡◌, ℕ, ◌+◌, ◌-◌, ◌^◌, min, true, false, List, [], ◌∷◌, ◌++◌, length, Result, Ok, Err}
-use Rattle.sval_label.specs.Calls.{Call}
+use Rattle.std.specs.Prelude.{◌≡◌, ℕ, ◌+◌, ◌-◌, ◌^◌, min, Bool, true, false, List, [], ◌∷◌, ◌++◌, length, Result, Ok, Err}
+use Rattle.sval_label.specs.Calls.{Call, TextBegin, BinaryBegin, EnumBegin, TaggedBegin, Begin, PartBegin}
 use Rattle.sval_core.specs.Trees.{Tree}
 use Rattle.sval_core.specs.Spells.{Spells, IsViable}
 use Rattle.sval_core.specs.Law.{Emission}
@@ -32,6 +32,25 @@ pub record IsUnfinished (e : Emission) : Type 0 where
   pub viable : IsViable e.calls
   pub willing : e.refuses ≡ false
   pub no_tree : (tree : Tree) → Spells e.calls tree → ⊥
+
+-- these calls begin what has an end of its own, and so need memory
+abbrev pub opens : Call → Bool
+opens (TextBegin _) = true
+opens (BinaryBegin _) = true
+opens (EnumBegin _) = true
+opens (TaggedBegin _) = true
+opens (Begin _ _) = true
+opens (PartBegin _) = true
+opens _ = false
+
+-- one of the calls needs memory, and with it and those before it the calls can be completed
+pub record NeedsMemory (calls : List Call) : Type 0 where
+  pub front : List Call
+  pub call : Call
+  pub rest : List Call
+  pub whole : calls ≡ front ++ (call ∷ rest)
+  pub viable : IsViable (front ++ (call ∷ []))
+  pub opens : opens call ≡ true
 
 -- what checking answers
 abbrev pub Answer : Type 0

@@ -1,6 +1,4 @@
-pub mod Stacks
-pub mod States
-pub mod Checking
+pub mod Frames
 pub mod Checks
-pub mod ManyStates
+pub mod Checking
 pub mod ManyChecks

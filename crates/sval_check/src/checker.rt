@@ -1,13 +1,14 @@
 //! The machine that takes the calls which can still be completed.
 
-ghost use Rattle.std.specs.Prelude.{◌≡◌, ℕ, ◌↔◌, Option, Some, [], ◌∷◌, IsTrue, IfOk, IfErr, OnOk, OnErr, true, false, None};
-ghost use Rattle.sval_label.specs.Calls.{TextFragment, TextEnd, PartBegin, PartEnd, End, Seq, Item};
+ghost use Rattle.std.specs.Prelude.{◌≡◌, Option, Some, None, [], ◌∷◌, length, OnOk, OnErr, true, false};
+ghost use Rattle.sval_label.specs.Calls.{Seq, Item};
 ghost use Rattle.sval_label.specs.Made.{lent_call};
-ghost use Rattle.sval_core.specs.Spells.{IsSize};
 ghost use Rattle.sval_core.specs.Law.{Takes, Refuses};
-ghost use Rattle.sval_core.specs.Checker as machine;
-ghost use Rattle.sval_check.specs.Stacks.{below};
-ghost use Rattle.sval_check.specs.Checking.{View, Checking, HasRoom, Because, Moves, Stays, checker_law, standing_of, finish_of, cause_of, wants_after};
+ghost use Rattle.sval_core.specs.Stacks.{top_of, below};
+ghost use Rattle.sval_core.specs.CheckerSteps.{Form, Other, take_off, is_used_up, unfilled, has_room, value, begin, at_top, text_fragment, text_end, end, part_begin, part_end, next};
+ghost use Rattle.sval_check.specs.Frames.{frame_of};
+ghost use Rattle.sval_check.specs.Checks.{opens};
+ghost use Rattle.sval_check.specs.Checking.{Checking, Answers, checker_law, standing_of, finish_of, cause_of, wants_after};
 
 use crate::error::CheckError;
 use crate::stack::{Frame, Stack};
@@ -43,26 +44,25 @@ pub(crate) struct Checker {
 impl Model for Checker {
     ghost Value = { Checking };
 
-    ghost view = { λ c. record { filled = c.filled; frames = c.frames; taken = c.taken; why = c.why; wants = c.wants } };
+    ghost view = { λ c. record { state = record { filled = c.filled; frames = c.frames }; taken = c.taken; why = c.why; wants = c.wants } };
 }
 
 /// What is left of a size where `count` of it come, if that is not too many.
-fn take_off(left: Option<usize>, count: usize) -> Result<Option<usize>, Why>
-    ensures ok { IfOk result (λ rest. machine.Takes left count rest) }
-    ensures err { IfErr result (λ why. Because why ((rest : Option ℕ) × machine.Takes left count rest)) }
+fn take_off(left: Option<usize>, count: usize) -> Option<Option<usize>>
+    ensures { result ≡ take_off left count }
 {
     match left {
-        None => Ok(None),
+        None => Some(None),
         Some(due) => match due.checked_sub(count) {
-            Some(rest) => Ok(Some(rest)),
-            None => Err(Why::NotViable),
+            Some(rest) => Some(Some(rest)),
+            None => None,
         },
     }
 }
 
 /// Of a size nothing is still to come, if it was given.
 fn is_used_up(left: Option<usize>) -> bool
-    ensures { IsTrue result ↔ IsSize left 0 }
+    ensures { result ≡ is_used_up left }
 {
     match left {
         None => true,
@@ -73,7 +73,7 @@ fn is_used_up(left: Option<usize>) -> bool
 impl Checker {
     /// A checker that has taken no call.
     pub(crate) fn new(alloc: Global) -> Self
-        ensures { result ≡ record { filled = false; frames = []; taken = 0; why = None; wants = 0 } }
+        ensures { result ≡ record { state = unfilled []; taken = 0; why = None; wants = 0 } }
     {
         Checker {
             filled: false,
@@ -109,18 +109,17 @@ impl Checker {
 
     /// A value may begin here.
     fn has_room(&self) -> bool
-        ensures { IsTrue result ↔ HasRoom self.now.frames }
+        ensures { (form : Form) → result ≡ has_room form self.now.state }
     {
         match self.frames.top() {
-            None | Some(Frame::Item) => true,
+            None | Some(Frame::Item) => !self.filled,
             Some(Frame::Text(_)) | Some(Frame::Seq(_)) => false,
         }
     }
 
     /// Takes a value that is one call.
     fn value(&mut self) -> Result<(), Why>
-        ensures ok { OnOk result (HasRoom self.old.frames × (self.new ≡ record self.old { filled = true })) }
-        ensures err { IfErr result (λ why. Because why (HasRoom self.old.frames) × (self.new ≡ self.old)) }
+        ensures { Answers false (value Other self.old.state) self.old self.new result }
     {
         if !self.has_room() {
             return Err(Why::NotViable);
@@ -129,105 +128,97 @@ impl Checker {
         Ok(())
     }
 
-    /// Opens a frame in the innermost one.
-    fn open(&mut self, frame: Frame) -> Result<(), Why>
-        ensures ok { OnOk result (self.new ≡ record self.old { frames = frame ∷ self.old.frames }) }
-        ensures err { IfErr result (λ why. (why ≡ Why.NoMemory) × (self.new ≡ self.old)) }
+    /// Takes the begin of a value.
+    fn begin(&mut self, frame: Frame) -> Result<(), Why>
+        ensures { (form : Form) → Answers true (begin form (frame_of frame) self.old.state) self.old self.new result }
     {
+        if !self.has_room() {
+            return Err(Why::NotViable);
+        }
         match self.frames.push(frame) {
             Ok(()) => Ok(()),
             Err(_) => Err(Why::NoMemory),
         }
     }
 
-    /// Takes the begin of a value.
-    fn begin(&mut self, frame: Frame) -> Result<(), Why>
-        ensures ok { OnOk result (HasRoom self.old.frames × (self.new ≡ record self.old { frames = frame ∷ self.old.frames })) }
-        ensures err { IfErr result (λ why. Because why (HasRoom self.old.frames) × (self.new ≡ self.old)) }
-    {
-        if !self.has_room() {
-            return Err(Why::NotViable);
-        }
-        self.open(frame)
-    }
-
-    /// Takes the end of a value, of whose size this is left.
-    fn end(&mut self, left: Option<usize>) -> Result<(), Why>
-        ensures ok { OnOk result (IsSize left 0 × (self.new ≡ record self.old { filled = true; frames = below self.old.frames })) }
-        ensures err { IfErr result (λ why. Because why (IsSize left 0) × (self.new ≡ self.old)) }
-    {
-        if !is_used_up(left) {
-            return Err(Why::NotViable);
-        }
-        self.frames.pop();
-        self.filled = true;
-        Ok(())
-    }
-
     /// Takes a part of a text.
-    fn fragment(&mut self, text: &str) -> Result<(), Why>
-        requires { self.old.filled ≡ false }
-        ensures ok { OnOk result (Moves self.old (TextFragment false text.now) self.new) }
-        ensures err { IfErr result (λ why. Stays why self.old (TextFragment false text.now) self.new) }
+    fn text_fragment(&mut self, text: &str) -> Result<(), Why>
+        ensures { Answers false (at_top (text_fragment (length text.now)) self.old.state) self.old self.new result }
     {
         match self.frames.top() {
-            Some(Frame::Text(left)) => {
-                let rest = take_off(left, text.len())?;
-                self.frames.replace_top(Frame::Text(rest));
-                Ok(())
-            }
+            Some(Frame::Text(left)) if !self.filled => match take_off(left, text.len()) {
+                Some(rest) => {
+                    self.frames.replace_top(Frame::Text(rest));
+                    Ok(())
+                }
+                None => Err(Why::NotViable),
+            },
             _ => Err(Why::NotViable),
         }
     }
 
     /// Takes a text's end.
     fn text_end(&mut self) -> Result<(), Why>
-        requires { self.old.filled ≡ false }
-        ensures ok { OnOk result (Moves self.old TextEnd self.new) }
-        ensures err { IfErr result (λ why. Stays why self.old TextEnd self.new) }
+        ensures { Answers false (at_top text_end self.old.state) self.old self.new result }
     {
         match self.frames.top() {
-            Some(Frame::Text(left)) => self.end(left),
+            Some(Frame::Text(left)) if !self.filled && is_used_up(left) => {
+                self.frames.pop();
+                self.filled = true;
+                Ok(())
+            }
             _ => Err(Why::NotViable),
         }
     }
 
     /// Takes a sequence's end.
     fn seq_end(&mut self) -> Result<(), Why>
-        requires { self.old.filled ≡ false }
-        ensures ok { OnOk result (Moves self.old (End Seq) self.new) }
-        ensures err { IfErr result (λ why. Stays why self.old (End Seq) self.new) }
+        ensures { Answers false (at_top (end Seq) self.old.state) self.old self.new result }
     {
         match self.frames.top() {
-            Some(Frame::Seq(left)) => self.end(left),
+            Some(Frame::Seq(left)) if !self.filled && is_used_up(left) => {
+                self.frames.pop();
+                self.filled = true;
+                Ok(())
+            }
             _ => Err(Why::NotViable),
+        }
+    }
+
+    /// Opens an item in the innermost sequence, of which this was left and is left.
+    fn open_item(&mut self, left: Option<usize>, rest: Option<usize>) -> Result<(), Why>
+        requires { top_of self.old.state.frames ≡ Some (frame_of (Frame.Seq left)) }
+        ensures { Answers true (Some (record self.old.state { frames = frame_of Frame.Item ∷ (frame_of (Frame.Seq rest) ∷ below self.old.state.frames) })) self.old self.new result }
+    {
+        self.frames.replace_top(Frame::Seq(rest));
+        match self.frames.push(Frame::Item) {
+            Ok(()) => Ok(()),
+            Err(_) => {
+                self.frames.replace_top(Frame::Seq(left));
+                Err(Why::NoMemory)
+            }
         }
     }
 
     /// Takes an item's begin.
     fn item_begin(&mut self) -> Result<(), Why>
-        requires { self.old.filled ≡ false }
-        ensures ok { OnOk result (Moves self.old (PartBegin Item) self.new) }
-        ensures err { IfErr result (λ why. Stays why self.old (PartBegin Item) self.new) }
+        ensures { Answers true (at_top (part_begin Item) self.old.state) self.old self.new result }
     {
         match self.frames.top() {
-            Some(Frame::Seq(left)) => {
-                let rest = take_off(left, 1)?;
-                self.frames.replace_top(Frame::Seq(rest));
-                self.open(Frame::Item)
-            }
+            Some(Frame::Seq(left)) if !self.filled => match take_off(left, 1) {
+                Some(rest) => self.open_item(left, rest),
+                None => Err(Why::NotViable),
+            },
             _ => Err(Why::NotViable),
         }
     }
 
     /// Takes an item's end.
     fn item_end(&mut self) -> Result<(), Why>
-        requires { self.old.filled ≡ true }
-        ensures ok { OnOk result (Moves self.old (PartEnd Item) self.new) }
-        ensures err { IfErr result (λ why. Stays why self.old (PartEnd Item) self.new) }
+        ensures { Answers false (at_top (part_end Item) self.old.state) self.old self.new result }
     {
         match self.frames.top() {
-            Some(Frame::Item) => {
+            Some(Frame::Item) if self.filled => {
                 self.frames.pop();
                 self.filled = false;
                 Ok(())
@@ -236,46 +227,22 @@ impl Checker {
         }
     }
 
-    /// Takes a call where a whole value stands in the innermost frame.
-    fn step_filled(&mut self, call: Call<'_, '_>) -> Result<(), Why>
-        requires { self.old.filled ≡ true }
-        ensures ok { OnOk result (Moves self.old (lent_call call.entry) self.new) }
-        ensures err { IfErr result (λ why. Stays why self.old (lent_call call.entry) self.new) }
+    /// Takes a call, or says why not.
+    fn step(&mut self, call: Call<'_, '_>) -> Result<(), Why>
+        ensures { Answers (opens (lent_call call.entry)) (next self.old.state (lent_call call.entry)) self.old self.new result }
     {
         match call {
-            Call::SeqValueEnd => self.item_end(),
-            _ => Err(Why::NotViable),
-        }
-    }
-
-    /// Takes a call where no whole value stands in the innermost frame.
-    fn step_empty(&mut self, call: Call<'_, '_>) -> Result<(), Why>
-        requires { self.old.filled ≡ false }
-        ensures ok { OnOk result (Moves self.old (lent_call call.entry) self.new) }
-        ensures err { IfErr result (λ why. Stays why self.old (lent_call call.entry) self.new) }
-    {
-        match call {
-            Call::Null | Call::Bool(_) | Call::I64(_) => self.value(),
+            Call::Null => self.value(),
+            Call::Bool(_) => self.value(),
+            Call::I64(_) => self.value(),
             Call::TextBegin(size) => self.begin(Frame::Text(size)),
-            Call::TextFragment(text) => self.fragment(text),
-            Call::TextFragmentComputed(text) => self.fragment(text),
+            Call::TextFragment(text) => self.text_fragment(text),
+            Call::TextFragmentComputed(text) => self.text_fragment(text),
             Call::TextEnd => self.text_end(),
             Call::SeqBegin(size) => self.begin(Frame::Seq(size)),
             Call::SeqValueBegin => self.item_begin(),
-            Call::SeqValueEnd => Err(Why::NotViable),
+            Call::SeqValueEnd => self.item_end(),
             Call::SeqEnd => self.seq_end(),
-        }
-    }
-
-    /// Takes a call, or says why not.
-    fn step(&mut self, call: Call<'_, '_>) -> Result<(), Why>
-        ensures ok { OnOk result (Moves self.old (lent_call call.entry) self.new) }
-        ensures err { IfErr result (λ why. Stays why self.old (lent_call call.entry) self.new) }
-    {
-        if self.filled {
-            self.step_filled(call)
-        } else {
-            self.step_empty(call)
         }
     }
 
@@ -291,7 +258,7 @@ impl Checker {
 }
 
 impl<'sval> Stream<Lent<'sval>> for Checker {
-    ghost View = { View };
+    ghost View = { Checking };
 
     ghost law = { checker_law };
 

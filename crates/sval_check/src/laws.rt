@@ -1,10 +1,8 @@
 //! The laws of checking, each as a clause that is proved.
 
 ghost use Rattle.sval_check.specs.ManyChecks.{OneListAnswer};
-ghost use Rattle.sval_check.specs.ManyStates.{OneCallMore};
 
 /// What holds of all values that are checked for many trees in a row.
 pub fn list_check_laws()
-    ensures one_call_more { OneCallMore }
     ensures one_answer { OneListAnswer }
 {}

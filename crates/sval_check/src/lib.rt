@@ -5,7 +5,7 @@
 #![tactic(auto)]
 
 ghost use Rattle.std.specs.Prelude.{◌≡◌, ◌⊎◌, ℕ, Err, OnOk};
-ghost use Rattle.sval_check.specs.Checks.{IsOneValue, IsFirstBad, OnlyRefuses, IsUnfinished, Answer, IsDue};
+ghost use Rattle.sval_check.specs.Checks.{IsOneValue, IsFirstBad, OnlyRefuses, IsUnfinished, NeedsMemory, Answer, IsDue};
 
 mod checker;
 mod error;
@@ -28,7 +28,8 @@ use sval_core::{Lent, Value};
 /// - [`CheckError::Refused`] comes where all calls can be completed, and the value refuses after them.
 /// - [`CheckError::Unfinished`] comes where all calls can be completed, the value doesn't refuse, and the calls are not
 ///   one whole value.
-/// - [`CheckError::NoMemory`] comes where memory was wanting.
+/// - [`CheckError::NoMemory`] comes where memory was wanting for a call that begins something, and only where this call
+///   can be completed.
 ///
 /// The four cases exclude each other, and each has its answer wherever it stands, unless memory was wanting.
 ///
@@ -44,6 +45,7 @@ pub fn check<'v, V: Value<'v, Lent<'v>>>(alloc: Global, value: &'v V) -> Result<
     ensures bad_call { (at : ℕ) → result ≡ Err (CheckError.BadCall at) → IsFirstBad (V.emission value.now).calls at }
     ensures refused { result ≡ Err CheckError.Refused → OnlyRefuses (V.emission value.now) }
     ensures unfinished { result ≡ Err CheckError.Unfinished → IsUnfinished (V.emission value.now) }
+    ensures no_memory { result ≡ Err CheckError.NoMemory → NeedsMemory (V.emission value.now).calls }
     ensures comes { (due : Answer) → IsDue (V.emission value.now) due → (result ≡ due) ⊎ (result ≡ Err CheckError.NoMemory) }
 {
     let mut checker = Checker::new(alloc);

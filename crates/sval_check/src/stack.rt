@@ -1,8 +1,10 @@
 //! What has begun and has no end yet.
 
-ghost use Rattle.std.specs.Prelude.{◌≡◌, List, [], ◌∷◌, ◌++◌, is_ok, if◌then◌else◌};
+ghost use Rattle.std.specs.Prelude.{◌≡◌, List, [], ◌∷◌, ◌++◌, is_ok, if◌then◌else◌, Some, option_map};
 ghost use Rattle.std.specs.Option.{option_to_list};
-ghost use Rattle.sval_check.specs.Stacks.{top_of, below};
+ghost use Rattle.sval_core.specs.Checker as machine;
+ghost use Rattle.sval_core.specs.Stacks.{top_of, below};
+ghost use Rattle.sval_check.specs.Frames.{frame_of};
 
 use std::alloc::Global;
 use std::marker::Model;
@@ -19,19 +21,20 @@ pub(crate) enum Frame {
     Item,
 }
 
-/// The frames that are open, seen as a list with the innermost first.
+/// The frames that are open, seen as the machine's, the innermost first.
 #[derive(Drop)]
 pub(crate) struct Stack {
     frames: Vec<Frame>,
 }
 
 impl Model for Stack {
-    ghost use Rattle.std.specs.Prelude.{List, reverse};
-    ghost use Rattle.sval_check.specs.declared.stack.Frame.{Frame};
+    ghost use Rattle.std.specs.Prelude.{List, reverse, map};
+    ghost use Rattle.sval_core.specs.Checker.{Frame};
+    ghost use Rattle.sval_check.specs.Frames.{frame_of};
 
     ghost Value = { List Frame };
 
-    ghost view = { λ stack. reverse stack.frames.items };
+    ghost view = { λ stack. map frame_of (reverse stack.frames.items) };
 }
 
 impl Stack {
@@ -46,14 +49,14 @@ impl Stack {
 
     /// The innermost frame.
     pub(crate) fn top(&self) -> Option<Frame>
-        ensures { result ≡ top_of self.now }
+        ensures { top_of self.now ≡ option_map frame_of result }
     {
         self.frames.last().copied()
     }
 
     /// Opens a frame in the innermost one.
     pub(crate) fn push(&mut self, frame: Frame) -> Result<(), NoMemory>
-        ensures { self.new ≡ (if is_ok result then frame ∷ self.old else self.old) }
+        ensures { self.new ≡ (if is_ok result then frame_of frame ∷ self.old else self.old) }
     {
         match self.frames.push(frame) {
             Ok(()) => Ok(()),
@@ -70,7 +73,7 @@ impl Stack {
 
     /// Puts another frame in place of the innermost one, if there is one.
     pub(crate) fn replace_top(&mut self, frame: Frame)
-        ensures { (top : Frame) (rest : List Frame) → self.old ≡ top ∷ rest → self.new ≡ frame ∷ rest }
+        ensures { (top : machine.Frame) → top_of self.old ≡ Some top → self.new ≡ frame_of frame ∷ below self.old }
     {
         if let Some(top) = self.frames.last_mut() {
             *top = frame;

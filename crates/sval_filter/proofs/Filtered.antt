@@ -8,8 +8,8 @@ use Rattle.sval_core.specs.Spells.{Spells, plain, plain_call}
 use Rattle.sval_core.specs.Checker.{Frame, State, Steps, Runs, done, more}
 use Rattle.sval_core.proofs.Completions.{spelling_is_run}
 use Rattle.sval_core.proofs.ManyRuns.{plain_none, plain_some}
-use Rattle.sval_check.specs.States.{Goes}
-use Rattle.sval_check.proofs.Moves.{goes_to, goes_on}
+use Rattle.sval_core.specs.StepLaws.{Goes}
+use Rattle.sval_core.proofs.CheckerSteps.{goes_to, goes_taken}
 use Rattle.sval_filter.specs.Paths.{Path, Rule}
 use Rattle.sval_filter.specs.Pruned.{pruned}
 use Rattle.sval_filter.specs.Filtering as machine
@@ -79,7 +79,7 @@ module _ {V : Type 0} (law : Law V) (rule : Rule) (paths : List Path) where
       let to = goes_to view.state g.0 c g.1 in
       let first = due rule paths view.kept c in
       let later = all_due rule paths (machine.after rule paths view.kept c) calls in
-      let accepted : Accepts law rule paths view c = record { going = going; viable = goes_on view.state g.0 c g.1; passed_on = accepts_first law first later view.inner a } in
+      let accepted : Accepts law rule paths view c = record { going = going; viable = goes_taken view.state g.0 c g.1; passed_on = accepts_first law first later view.inner a } in
       let next = filter_takes calls (after law rule paths view c) going (subst (λ (s : State). Runs s.filled s.frames (plain calls) b' fs') to g.2) (accepts_second law first later view.inner a) in
       (next.0, (accepted, next.1))
 

@@ -3,7 +3,7 @@ use Rattle.std.specs.Prelude.{◌≡◌, ◌⊎◌, Bool, true, false, List, [],
 use Rattle.sval_label.specs.Calls.{Call}
 use Rattle.sval_core.specs.Law.{Law, Ran}
 use Rattle.sval_core.specs.Checker.{State}
-use Rattle.sval_check.specs.States.{Goes, state_after}
+use Rattle.sval_core.specs.CheckerSteps.{goes_on, state_after}
 use Rattle.sval_filter.specs.Paths.{Path, Rule}
 use Rattle.sval_filter.specs.Filtering as machine
 use Rattle.sval_filter.specs.Filtering.{Filtering, fresh, due}
@@ -38,7 +38,7 @@ AcceptsAll law view calls = Ran law view calls (all_taken law view calls)
 -- stream refused one
 pub record Accepts {V : Type 0} (law : Law V) (rule : Rule) (paths : List Path) (view : View V) (call : Call) : Type 0 where
   pub going : view.is_stopped ≡ false
-  pub viable : Goes view.state call (state_after call view.state)
+  pub viable : goes_on view.state call ≡ true
   pub passed_on : AcceptsAll law view.inner (due rule paths view.kept call)
 
 abbrev pub after : {V : Type 0} → Law V → Rule → List Path → View V → Call → View V
@@ -74,7 +74,7 @@ pub record LeavesInner {V : Type 0} (law : Law V) (rule : Rule) (paths : List Pa
 abbrev pub IsLeftBy : {V : Type 0} → Law V → Rule → List Path → View V → Call → View V → Option Why → Type 0
 IsLeftBy law rule paths view call left None = ⊥
 IsLeftBy law rule paths view call left (Some NotViable) =
-    (view.is_stopped ≡ false) × (Goes view.state call (state_after call view.state) → ⊥) × LeavesAll view left
+    (view.is_stopped ≡ false) × (goes_on view.state call ≡ false) × LeavesAll view left
 IsLeftBy law rule paths view call left (Some NoMemory) = (view.is_stopped ≡ false) × LeavesAll view left
 IsLeftBy law rule paths view call left (Some Inner) = LeavesInner law rule paths view call left
 

@@ -2,7 +2,7 @@ use Rattle.std.proofs.Common.{subst, ◌∙◌, sym}
 use Rattle.std.specs.Prelude.{OnOk}
 use Rattle.sval_check.specs.Checks.{IsOneValue}
 use Rattle.sval_check.proofs.OneAnswer.{finish_comes, cause_comes}
-use Rattle.sval_check.proofs.Runs.{finish_ok, finish_unfinished, cause_bad, cause_refused}
+use Rattle.sval_check.proofs.Runs.{finish_ok, finish_unfinished, cause_bad, cause_refused, cause_wants}
 use Rattle.sval_check.proofs.check.Goals as goal
 
 pub returns-in-Ok-clause-ok : goal.returns-in-Ok-clause-ok
@@ -29,3 +29,7 @@ returns-in-Ok-clause-comes g c = λ due is. rw c.finish.ensures (
 pub returns-clause-comes : goal.returns-clause-comes
 returns-clause-comes g c = λ due is. rw c.cause.ensures (
     cause_comes (g.V.Value.emission c.args.value.now) c.new-checker.result c.stream.new.stream due c.new-checker.ensures c.in-Err.ensures.err is)
+
+pub returns-clause-no_memory : goal.returns-clause-no_memory
+returns-clause-no_memory g c e =
+    cause_wants (g.V.Value.emission c.args.value.now) c.new-checker.result c.stream.new.stream c.new-checker.ensures c.in-Err.ensures.err (sym c.cause.ensures ∙ (cc e))
