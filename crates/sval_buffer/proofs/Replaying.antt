@@ -7,7 +7,7 @@ use Rattle.std.proofs.lemmas.List.{length-map}
 use Rattle.sval_buffer.proofs.Replay.{pass-flat}
 use Rattle.sval_label.specs.Calls.{Call, Null}
 use Rattle.sval_core.specs.Law.{Law, Standing, Takes, Refuses, Streams, Stops, emits, then_emits}
-use Rattle.sval_core.specs.Emissions.{streams_one, stops_one, streams_then, stops_first, stops_later}
+use Rattle.sval_core.proofs.Emissions.{streams_one, stops_one, streams_then, stops_first, stops_later}
 use Rattle.sval_buffer.specs.Forest.{Forest, null_for_none, replayed}
 use Rattle.sval_buffer.specs.Flat as flat
 use Rattle.sval_buffer.specs.Replay.{Pending, ended, going, all_ends, head_calls, opened, pass}

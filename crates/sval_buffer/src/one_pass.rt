@@ -18,8 +18,7 @@ pub(crate) fn replay_parts<'sval, S: Stream<Lent<'sval>>>(
     stream: &mut S,
 ) -> Result
     requires { IsNested parts.now }
-    ensures ok { OnOk result (Streams S.law (S.standing stream.old) (says (pass 0 [] (map stored parts.now))) (S.standing stream.new)) }
-    ensures err { OnErr result (Stops S.law (S.standing stream.old) (says (pass 0 [] (map stored parts.now))) (S.standing stream.new)) }
+    ensures { Emits S.law result (S.standing stream.old) (says (pass 0 [] (map stored parts.now))) (S.standing stream.new) }
 {
     let mut going = None;
     for (place, part) in parts.iter().enumerate() {

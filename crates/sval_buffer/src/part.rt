@@ -33,8 +33,7 @@ impl Single {
 
     /// Makes the call.
     fn stream<L: Lending, S: Stream<L>>(self, stream: &mut S) -> sval_core::Result
-        ensures ok { OnOk result (Streams S.law (S.standing stream.old) (says (single_call self ∷ [])) (S.standing stream.new)) }
-        ensures err { OnErr result (Stops S.law (S.standing stream.old) (says (single_call self ∷ [])) (S.standing stream.new)) }
+        ensures { Emits S.law result (S.standing stream.old) (says (single_call self ∷ [])) (S.standing stream.new) }
     {
         match self {
             Single::Null => stream.null(),
@@ -54,8 +53,7 @@ pub(crate) enum Begin {
 impl Begin {
     /// Makes the begin.
     fn stream<L: Lending, S: Stream<L>>(self, stream: &mut S) -> sval_core::Result
-        ensures ok { OnOk result (Streams S.law (S.standing stream.old) (says (begin_call self ∷ [])) (S.standing stream.new)) }
-        ensures err { OnErr result (Stops S.law (S.standing stream.old) (says (begin_call self ∷ [])) (S.standing stream.new)) }
+        ensures { Emits S.law result (S.standing stream.old) (says (begin_call self ∷ [])) (S.standing stream.new) }
     {
         match self {
             Begin::Seq(size) => stream.seq_begin(size),
@@ -126,8 +124,7 @@ impl<'sval> Part<'sval> {
 
     /// Makes the calls of this part, of a container its begin.
     pub(crate) fn stream_head<S: Stream<Lent<'sval>>>(&self, stream: &mut S) -> sval_core::Result
-        ensures ok { OnOk result (Streams S.law (S.standing stream.old) (says (head_calls (kind_of self.now.kind))) (S.standing stream.new)) }
-        ensures err { OnErr result (Stops S.law (S.standing stream.old) (says (head_calls (kind_of self.now.kind))) (S.standing stream.new)) }
+        ensures { Emits S.law result (S.standing stream.old) (says (head_calls (kind_of self.now.kind))) (S.standing stream.new) }
     {
         match &self.kind {
             Kind::Single(single) => single.stream(stream),
@@ -138,8 +135,7 @@ impl<'sval> Part<'sval> {
 
     /// Makes the end of this part, if it is a container.
     pub(crate) fn stream_end<S: Stream<Lent<'sval>>>(&self, stream: &mut S) -> sval_core::Result
-        ensures ok { OnOk result (Streams S.law (S.standing stream.old) (says (end_calls (kind_of self.now.kind))) (S.standing stream.new)) }
-        ensures err { OnErr result (Stops S.law (S.standing stream.old) (says (end_calls (kind_of self.now.kind))) (S.standing stream.new)) }
+        ensures { Emits S.law result (S.standing stream.old) (says (end_calls (kind_of self.now.kind))) (S.standing stream.new) }
     {
         match &self.kind {
             Kind::Container {

@@ -152,8 +152,7 @@ impl<'sval> Parts<'sval> {
 
     /// Makes the calls again, or that of no value where there is no part.
     pub(crate) fn replay<S: Stream<Lent<'sval>>>(&self, stream: &mut S) -> sval_core::Result
-        ensures ok { OnOk result (Streams S.law (S.standing stream.old) (says (forest.replayed self.now)) (S.standing stream.new)) }
-        ensures err { OnErr result (Stops S.law (S.standing stream.old) (says (forest.replayed self.now)) (S.standing stream.new)) }
+        ensures { Emits S.law result (S.standing stream.old) (says (forest.replayed self.now)) (S.standing stream.new) }
     {
         if self.parts.is_empty() {
             return stream.null();

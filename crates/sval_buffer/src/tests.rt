@@ -26,8 +26,7 @@ impl<'sval> Stream<Lent<'sval>> for Written {
     ghost standing = { λ written. wanting written.wants };
 
     fn take(&mut self, call: Call<'sval, '_>) -> sval_core::Result
-        ensures ok { OnOk result (Takes takes_all (wanting self.old.wants) (lent_call call.entry) (wanting self.new.wants)) }
-        ensures err { OnErr result (Refuses takes_all (wanting self.old.wants) (lent_call call.entry) (wanting self.new.wants)) }
+        ensures { Answers takes_all result (wanting self.old.wants) (lent_call call.entry) (wanting self.new.wants) }
     {
         if write!(self.text, "{call:?} ").is_err() {
             self.wants = self.wants.saturating_add(1);

@@ -179,8 +179,7 @@ impl<'sval> Stream<Lent<'sval>> for ValueBuf<'sval> {
     ghost standing = { standing_of };
 
     fn take(&mut self, call: Call<'sval, '_>) -> sval_core::Result
-        ensures ok { OnOk result (Takes capture_law (standing_of self.old) (lent_call call.entry) (standing_of self.new)) }
-        ensures err { OnErr result (Refuses capture_law (standing_of self.old) (lent_call call.entry) (standing_of self.new)) }
+        ensures { Answers capture_law result (standing_of self.old) (lent_call call.entry) (standing_of self.new) }
     {
         match self.parts.capture(self.alloc, call) {
             Ok(()) => Ok(()),

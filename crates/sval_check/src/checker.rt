@@ -265,8 +265,7 @@ impl<'sval> Stream<Lent<'sval>> for Checker {
     ghost standing = { standing_of };
 
     fn take(&mut self, call: Call<'sval, '_>) -> sval_core::Result
-        ensures ok { OnOk result (Takes checker_law (standing_of self.old) (lent_call call.entry) (standing_of self.new)) }
-        ensures err { OnErr result (Refuses checker_law (standing_of self.old) (lent_call call.entry) (standing_of self.new)) }
+        ensures { Answers checker_law result (standing_of self.old) (lent_call call.entry) (standing_of self.new) }
     {
         match self.step(call) {
             Ok(()) => {

@@ -11,7 +11,7 @@ use Rattle.sval_core.specs.Spells.{IsSize, new_entries, bare_name, bare_head, ba
 use Rattle.sval_core.specs.SameNames.{same_name, same_head, same_slot}
 use Rattle.sval_core.specs.Stacks.{top_of}
 use Rattle.sval_core.specs.Checker as machine
-use Rattle.sval_core.specs.Checker.{Frame, InText, InBinary, InTagged, InEnum, InContainer, InPart, Admits, Takes, Steps, Runs, done, more, State}
+use Rattle.sval_core.specs.Checker.{Frame, InText, InBinary, InTagged, InEnum, InContainer, InPart, Admits, Leaves, Steps, Runs, done, more, State}
 use Rattle.sval_core.specs.CheckerSteps.{Form, OneText, Variant, Other, is_variant, form_of_head, may_hold, admits, take_off, is_used_up, same_kind, may_end, filled, unfilled, value, begin, at_top, text_fragment, text_end, binary_fragment, binary_end, tagged_end, enum_end, end, begun_part, part_begin, part_end, next, goes_on, state_after}
 use Rattle.sval_core.specs.StepLaws.{Goes}
 use Rattle.sval_core.proofs.SameNames.{name_decides, head_decides, slot_decides}
@@ -98,13 +98,13 @@ enough n due e = grind (arith, nat_tests)
 is_enough : (n due : ℕ) → n ≤ due → nat_le n due ≡ true
 is_enough n due h = grind (arith, nat_tests)
 
-off_takes : (left : Option ℕ) (n : ℕ) (rest : Option ℕ) → take_off left n ≡ Some rest → Takes left n rest
+off_takes : (left : Option ℕ) (n : ℕ) (rest : Option ℕ) → take_off left n ≡ Some rest → Leaves left n rest
 off_takes None n rest e = let same : None ≡ rest = cc e in sym same
 off_takes (Some due) n rest e =
     let t = is_taken (nat_le n due) (Some (due - n)) rest e in
     let h = enough n due t.0 in (due - n, sym t.1, omega (arith, h))
 
-takes_off : (left : Option ℕ) (n : ℕ) (rest : Option ℕ) → Takes left n rest → take_off left n ≡ Some rest
+takes_off : (left : Option ℕ) (n : ℕ) (rest : Option ℕ) → Leaves left n rest → take_off left n ≡ Some rest
 takes_off None n rest t = ap (λ x. Some x) (sym t)
 takes_off (Some due) n rest t =
     let h : n ≤ due = omega (arith, t.2) in
@@ -232,7 +232,7 @@ part_begin_goes slot false (InContainer head kind left ∷ fs) new e =
     let w = some_part (same_kind (kind_of slot) kind) slot head kind fs (take_off left (new_entries slot)) new e in
     let t = off_takes left (new_entries slot) w.1 w.2 in
     went (part_there slot head kind fs w.1) new w.3
-    (machine.part_begin (plain_slot_twice slot) (same_place_kind slot ∙ (kind_decides (kind_of slot) kind).0 w.0) (subst (λ n. Takes left n w.1) (sym (same_entries slot)) t))
+    (machine.part_begin (plain_slot_twice slot) (same_place_kind slot ∙ (kind_decides (kind_of slot) kind).0 w.0) (subst (λ n. Leaves left n w.1) (sym (same_entries slot)) t))
 part_begin_goes slot false [] new e = absurd (cc e)
 part_begin_goes slot false (f ∷ fs) new e = absurd (cc e)
 part_begin_goes slot true fs new e = absurd (cc e)
@@ -293,11 +293,11 @@ Gives b fs call b' fs' = next (state b fs) call ≡ Some (state b' fs')
 room : (fs : List Frame) (t : Tree) → Admits fs t → {A : Type 0} (x : A) → then_some (admits (top_of fs) (form_of t)) x ≡ Some x
 room fs t a x = takes (admits (top_of fs) (form_of t)) x ((admits_decides fs t).1 a)
 
-part_given : (slot : Slot) (head : Head) (kind : Kind) (left rest : Option ℕ) (fs : List Frame) → kind_of (plain_slot slot) ≡ kind → Takes left (new_entries (plain_slot slot)) rest
+part_given : (slot : Slot) (head : Head) (kind : Kind) (left rest : Option ℕ) (fs : List Frame) → kind_of (plain_slot slot) ≡ kind → Leaves left (new_entries (plain_slot slot)) rest
     → begun_part (same_kind (kind_of slot) kind) slot head kind fs (take_off left (new_entries slot)) ≡ Some (part_there slot head kind fs rest)
 part_given slot head kind left rest fs k t =
     ap (λ b. begun_part b slot head kind fs (take_off left (new_entries slot))) ((kind_decides (kind_of slot) kind).1 (sym (same_place_kind slot) ∙ k))
-    ∙ ap (λ o. begun_part true slot head kind fs o) (takes_off left (new_entries slot) rest (subst (λ n. Takes left n rest) (same_entries slot) t))
+    ∙ ap (λ o. begun_part true slot head kind fs o) (takes_off left (new_entries slot) rest (subst (λ n. Leaves left n rest) (same_entries slot) t))
 
 gives : (call : Call) {b b' : Bool} {fs fs' : List Frame} → Runs b fs (plain (call ∷ [])) b' fs' → Gives b fs call b' fs'
 gives Call.Null {fs = fs} (more (machine.null a) done) = room fs tree.Null a (filled fs)

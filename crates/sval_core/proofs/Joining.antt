@@ -4,7 +4,7 @@ use Rattle.std.proofs.Common.{ap, ◌∙◌, sym, subst, append_assoc, append-ni
 use Rattle.std.proofs.lemmas.List.{take_more, drop_more, take-append-drop, take_all}
 use Rattle.sval_label.specs.Calls.{Call}
 use Rattle.sval_core.specs.Law.{Standing, Law, Emission, silent, emits, then_emits, item_emission, items_emission, Streams, Stops}
-use Rattle.sval_core.specs.Emissions.{streams_then, stops_first, stops_later}
+use Rattle.sval_core.proofs.Emissions.{streams_then, stops_first, stops_later}
 use Rattle.sval_core.specs.Values.{makes, between, part_emission, parts_emission}
 use Rattle.sval_label.specs.Calls.{Slot}
 

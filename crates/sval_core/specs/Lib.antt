@@ -3,7 +3,6 @@ pub mod Spells
 pub mod Checker
 pub mod Real
 pub mod Law
-pub mod Emissions
 pub mod Laws
 pub mod Many
 pub mod ManyChecker

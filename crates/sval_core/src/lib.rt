@@ -13,5 +13,8 @@ mod value;
 pub mod value_laws;
 
 pub use stream::Stream;
-pub use sval_label::{AnyCall, Call, Error, Lending, Lent, NoMemory, Result, refusal};
+pub use sval_label::{
+    AnyCall, Call, Error, Fragment, GroupedCall, Head, Int, Lending, Lent, NoMemory, Result, Slot,
+    refusal,
+};
 pub use value::Value;

@@ -1,10 +1,10 @@
 //! What takes calls.
 
-ghost use Rattle.std.specs.Prelude.{OnOk, OnErr, true, false};
+ghost use Rattle.std.specs.Prelude.{true, false};
 ghost use Rattle.sval_label.specs.Made.{call_of};
 ghost use Rattle.sval_label.specs.Calls.{Truth, Int, I64, TextBegin, TextFragment, TextEnd, Begin, End, PartBegin, PartEnd, Seq, Item};
 ghost use Rattle.sval_label.specs.Calls as call;
-ghost use Rattle.sval_core.specs.Law.{Law, Standing, Takes, Refuses, Streams, Stops};
+ghost use Rattle.sval_core.specs.Law.{Law, Standing, Answers, Emits};
 
 use crate::value::Value;
 use sval_label::{AnyCall, Lending, Result};
@@ -26,101 +26,88 @@ pub trait Stream<L: Lending> {
 
     /// Takes a call, or refuses it.
     fn take(&mut self, call: AnyCall<'_, L::Text>) -> Result
-        ensures ok { OnOk result (Takes law (standing self.old) (call_of L.text call.entry) (standing self.new)) }
-        ensures err { OnErr result (Refuses law (standing self.old) (call_of L.text call.entry) (standing self.new)) };
+        ensures { Answers law result (standing self.old) (call_of L.text call.entry) (standing self.new) };
 
     /// No value.
     final fn null(&mut self) -> Result
-        ensures ok { OnOk result (Takes law (standing self.old) call.Null (standing self.new)) }
-        ensures err { OnErr result (Refuses law (standing self.old) call.Null (standing self.new)) }
+        ensures { Answers law result (standing self.old) call.Null (standing self.new) }
     {
         self.take(AnyCall::Null)
     }
 
     /// A truth value.
     final fn bool(&mut self, value: bool) -> Result
-        ensures ok { OnOk result (Takes law (standing self.old) (Truth value) (standing self.new)) }
-        ensures err { OnErr result (Refuses law (standing self.old) (Truth value) (standing self.new)) }
+        ensures { Answers law result (standing self.old) (Truth value) (standing self.new) }
     {
         self.take(AnyCall::Bool(value))
     }
 
     /// A whole number of 64 bits with its sign.
     final fn i64(&mut self, value: i64) -> Result
-        ensures ok { OnOk result (Takes law (standing self.old) (Int I64 value) (standing self.new)) }
-        ensures err { OnErr result (Refuses law (standing self.old) (Int I64 value) (standing self.new)) }
+        ensures { Answers law result (standing self.old) (Int I64 value) (standing self.new) }
     {
         self.take(AnyCall::I64(value))
     }
 
     /// A text begins, of `size` bytes where that is given.
     final fn text_begin(&mut self, size: Option<usize>) -> Result
-        ensures ok { OnOk result (Takes law (standing self.old) (TextBegin size) (standing self.new)) }
-        ensures err { OnErr result (Refuses law (standing self.old) (TextBegin size) (standing self.new)) }
+        ensures { Answers law result (standing self.old) (TextBegin size) (standing self.new) }
     {
         self.take(AnyCall::TextBegin(size))
     }
 
     /// A part of a text, which this stream may keep.
     final fn text_fragment(&mut self, fragment: L::Text) -> Result
-        ensures ok { OnOk result (Takes law (standing self.old) (TextFragment true (L.text fragment)) (standing self.new)) }
-        ensures err { OnErr result (Refuses law (standing self.old) (TextFragment true (L.text fragment)) (standing self.new)) }
+        ensures { Answers law result (standing self.old) (TextFragment true (L.text fragment)) (standing self.new) }
     {
         self.take(AnyCall::TextFragment(fragment))
     }
 
     /// A part of a text, which lives for the call alone.
     final fn text_fragment_computed(&mut self, fragment: &str) -> Result
-        ensures ok { OnOk result (Takes law (standing self.old) (TextFragment false fragment.now) (standing self.new)) }
-        ensures err { OnErr result (Refuses law (standing self.old) (TextFragment false fragment.now) (standing self.new)) }
+        ensures { Answers law result (standing self.old) (TextFragment false fragment.now) (standing self.new) }
     {
         self.take(AnyCall::TextFragmentComputed(fragment))
     }
 
     /// A text ends.
     final fn text_end(&mut self) -> Result
-        ensures ok { OnOk result (Takes law (standing self.old) TextEnd (standing self.new)) }
-        ensures err { OnErr result (Refuses law (standing self.old) TextEnd (standing self.new)) }
+        ensures { Answers law result (standing self.old) TextEnd (standing self.new) }
     {
         self.take(AnyCall::TextEnd)
     }
 
     /// A sequence begins, of `size` items where that is given.
     final fn seq_begin(&mut self, size: Option<usize>) -> Result
-        ensures ok { OnOk result (Takes law (standing self.old) (Begin Seq size) (standing self.new)) }
-        ensures err { OnErr result (Refuses law (standing self.old) (Begin Seq size) (standing self.new)) }
+        ensures { Answers law result (standing self.old) (Begin Seq size) (standing self.new) }
     {
         self.take(AnyCall::SeqBegin(size))
     }
 
     /// An item of a sequence begins.
     final fn seq_value_begin(&mut self) -> Result
-        ensures ok { OnOk result (Takes law (standing self.old) (PartBegin Item) (standing self.new)) }
-        ensures err { OnErr result (Refuses law (standing self.old) (PartBegin Item) (standing self.new)) }
+        ensures { Answers law result (standing self.old) (PartBegin Item) (standing self.new) }
     {
         self.take(AnyCall::SeqValueBegin)
     }
 
     /// An item of a sequence ends.
     final fn seq_value_end(&mut self) -> Result
-        ensures ok { OnOk result (Takes law (standing self.old) (PartEnd Item) (standing self.new)) }
-        ensures err { OnErr result (Refuses law (standing self.old) (PartEnd Item) (standing self.new)) }
+        ensures { Answers law result (standing self.old) (PartEnd Item) (standing self.new) }
     {
         self.take(AnyCall::SeqValueEnd)
     }
 
     /// A sequence ends.
     final fn seq_end(&mut self) -> Result
-        ensures ok { OnOk result (Takes law (standing self.old) (End Seq) (standing self.new)) }
-        ensures err { OnErr result (Refuses law (standing self.old) (End Seq) (standing self.new)) }
+        ensures { Answers law result (standing self.old) (End Seq) (standing self.new) }
     {
         self.take(AnyCall::SeqEnd)
     }
 
     /// Streams a value into this stream.
     final fn value<'v, V: Value<'v, L>>(&mut self, v: &'v V) -> Result
-        ensures ok { OnOk result (Streams law (standing self.old) (V.emission v.now) (standing self.new)) }
-        ensures err { OnErr result (Stops law (standing self.old) (V.emission v.now) (standing self.new)) }
+        ensures { Emits law result (standing self.old) (V.emission v.now) (standing self.new) }
     {
         v.stream(self)
     }

@@ -1,7 +1,7 @@
 //! Each named call, and a value, through the bounds.
 
-ghost use Rattle.std.specs.Prelude.{◌≡◌, OnOk, OnErr};
-ghost use Rattle.sval_core.specs.Law.{Takes, Refuses, emits};
+ghost use Rattle.std.specs.Prelude.{◌≡◌};
+ghost use Rattle.sval_core.specs.Law.{Answers, emits};
 ghost use Rattle.sval_core.specs.Lenient.{lenient, with_wants};
 ghost use Rattle.sval_label.specs.Calls as call;
 ghost use Rattle.sval_label.specs.Made.{lent_call};
@@ -25,8 +25,7 @@ impl<'v> Stream<Lent<'v>> for Record {
     ghost standing = { λ said. with_wants said.wants };
 
     fn take(&mut self, call: Call<'v, '_>) -> Result
-        ensures ok { OnOk result (Takes lenient (with_wants self.old.wants) (lent_call call.entry) (with_wants self.new.wants)) }
-        ensures err { OnErr result (Refuses lenient (with_wants self.old.wants) (lent_call call.entry) (with_wants self.new.wants)) }
+        ensures { Answers lenient result (with_wants self.old.wants) (lent_call call.entry) (with_wants self.new.wants) }
     {
         match write!(self.text, "{call:?} ") {
             Ok(()) => Ok(()),
@@ -44,7 +43,7 @@ struct Nothing {}
 impl<'v> Value<'v, Lent<'v>> for Nothing {
     ghost emission = { λ _. emits call.Null };
 
-    #[tactic(auto, using(crate::specs::Emissions::streams_one, crate::specs::Emissions::stops_one))]
+    #[tactic(auto, using(crate::proofs::Emissions::streams_one, crate::proofs::Emissions::stops_one))]
     fn stream<S: Stream<Lent<'v>>>(&'v self, stream: &mut S) -> Result {
         stream.null()
     }

@@ -1,7 +1,6 @@
 //! What makes calls.
 
-ghost use Rattle.std.specs.Prelude.{OnOk, OnErr};
-ghost use Rattle.sval_core.specs.Law.{Emission, Streams, Stops};
+ghost use Rattle.sval_core.specs.Law.{Emission, Emits};
 
 use crate::stream::Stream;
 use sval_label::{Lending, Result};
@@ -18,6 +17,5 @@ pub trait Value<'v, L: Lending> {
     /// On `Ok` each call was taken, and this value doesn't refuse. On an `Err` the first calls were taken, and then the
     /// stream refused the next one, or there was none left and this value refuses.
     fn stream<S: Stream<L>>(&'v self, stream: &mut S) -> Result
-        ensures ok { OnOk result (Streams S.law (S.standing stream.old) (emission self.now) (S.standing stream.new)) }
-        ensures err { OnErr result (Stops S.law (S.standing stream.old) (emission self.now) (S.standing stream.new)) };
+        ensures { Emits S.law result (S.standing stream.old) (emission self.now) (S.standing stream.new) };
 }

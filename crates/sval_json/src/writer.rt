@@ -91,8 +91,7 @@ impl<'k, 'sval, K: Sink> Stream<Lent<'sval>> for Writer<'k, K> {
     ghost standing = { λ w. standing_of w.variants w.empty (held_by K.text K.faults K.wants w.sink w.why) };
 
     fn take(&mut self, call: Call<'sval, '_>) -> Result
-        ensures ok { OnOk result (Takes writer_law (standing_of self.old.variants self.old.empty (held_by K.text K.faults K.wants self.old.sink self.old.why)) (lent_call call.entry) (standing_of self.new.variants self.new.empty (held_by K.text K.faults K.wants self.new.sink self.new.why))) }
-        ensures err { OnErr result (Refuses writer_law (standing_of self.old.variants self.old.empty (held_by K.text K.faults K.wants self.old.sink self.old.why)) (lent_call call.entry) (standing_of self.new.variants self.new.empty (held_by K.text K.faults K.wants self.new.sink self.new.why))) }
+        ensures { Answers writer_law result (standing_of self.old.variants self.old.empty (held_by K.text K.faults K.wants self.old.sink self.old.why)) (lent_call call.entry) (standing_of self.new.variants self.new.empty (held_by K.text K.faults K.wants self.new.sink self.new.why)) }
     {
         match call {
             Call::Null => self.put_then(b"null", false),

@@ -3,4 +3,5 @@ pub mod Calls
 pub mod Tags
 pub mod Ranges
 pub mod Made
+pub mod Grouped
 pub mod Equalities

@@ -6,9 +6,11 @@
 
 mod call;
 mod error;
+mod grouped;
 pub mod laws;
 #[cfg(test)]
 mod tests;
 
 pub use call::{AnyCall, Call, Lending, Lent};
 pub use error::{Error, NoMemory, Result, refusal};
+pub use grouped::{Fragment, GroupedCall, Head, Int, Slot};

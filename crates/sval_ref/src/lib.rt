@@ -4,8 +4,7 @@
 //! lifetime lends those for that lifetime, however short the borrow of the value itself is.
 #![tactic(auto)]
 
-ghost use Rattle.std.specs.Prelude.{OnOk, OnErr};
-ghost use Rattle.sval_core.specs.Law.{Emission, Streams, Stops};
+ghost use Rattle.sval_core.specs.Law.{Emission, Emits};
 
 use sval_core::{Lending, Result, Stream};
 
@@ -34,16 +33,14 @@ pub trait ValueRef<L: Lending> {
     /// On `Ok` each call was taken, and this value doesn't refuse. On an `Err` the first calls were taken, and then the
     /// stream refused the next one, or there was none left and this value refuses.
     fn stream_ref<S: Stream<L>>(&self, stream: &mut S) -> Result
-        ensures ok { OnOk result (Streams S.law (S.standing stream.old) (ref_emission self.now) (S.standing stream.new)) }
-        ensures err { OnErr result (Stops S.law (S.standing stream.old) (ref_emission self.now) (S.standing stream.new)) };
+        ensures { Emits S.law result (S.standing stream.old) (ref_emission self.now) (S.standing stream.new) };
 }
 
 /// Streams a value into a stream, which may keep the texts that are lent.
 ///
 /// It answers as [`ValueRef::stream_ref`] does.
 pub fn stream_ref<L: Lending, S: Stream<L>, V: ValueRef<L>>(stream: &mut S, value: &V) -> Result
-    ensures ok { OnOk result (Streams S.law (S.standing stream.old) (V.ref_emission value.now) (S.standing stream.new)) }
-    ensures err { OnErr result (Stops S.law (S.standing stream.old) (V.ref_emission value.now) (S.standing stream.new)) }
+    ensures { Emits S.law result (S.standing stream.old) (V.ref_emission value.now) (S.standing stream.new) }
 {
     value.stream_ref(stream)
 }

@@ -6,7 +6,7 @@ use Rattle.std.proofs.Common.{sym, ap, ◌∙◌, append-nil, append_assoc, add-
 use Rattle.std.proofs.Math.Seq.{drop-cons}
 use Rattle.sval_label.specs.Calls.{Call}
 use Rattle.sval_core.specs.Law.{Standing, Law, Emission, Takes, Refuses, Streams, Stops, emits, then_emits}
-use Rattle.sval_core.specs.Emissions.{streams_one, stops_one, streams_then, stops_first, stops_later}
+use Rattle.sval_core.proofs.Emissions.{streams_one, stops_one, streams_then, stops_first, stops_later}
 use Rattle.sval_relay.specs.declared.line.Line.{Line}
 use Rattle.sval_relay.specs.LineCalls.{text_len, call_with, calls_of, HoldsTexts}
 use Rattle.sval_relay.proofs.ScriptTexts.{first_boundary}

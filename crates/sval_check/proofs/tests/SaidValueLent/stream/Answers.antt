@@ -8,7 +8,7 @@ use Rattle.sval_label.specs.Made.{lent_call}
 use Rattle.sval_label.specs.declared.call.AnyCall.{AnyCall}
 use Rattle.sval_label.specs.declared.call.AnyCall.TheVariants.{Null}
 use Rattle.sval_core.specs.Law.{Law, Standing, Emission, Takes, Refuses, Streams, Stops, emits, then_emits}
-use Rattle.sval_core.specs.Emissions.{streams_one, stops_one, streams_then, stops_first, stops_later}
+use Rattle.sval_core.proofs.Emissions.{streams_one, stops_one, streams_then, stops_first, stops_later}
 use Rattle.sval_check.proofs.tests.SaidValueLent.stream.Goals as goal
 
 abbrev Said : Type 0
