@@ -65,10 +65,7 @@ module _ {T : Type 0} (read : Call → Option T) (over : Call → Bool) where
   last_or_none (x ∷ []) = refl
   last_or_none (x ∷ y ∷ items) = last_or_none (y ∷ items)
 
-  pub last_is_found : IsFound
-      (λ e held. Streams (last_law read over) (holding None) e (holding held))
-      (λ e held. Stops (last_law read over) (holding None) e (holding held))
-      (found last_of read over)
+  pub last_is_found : IsFound (last_law read over) (found last_of read over)
   last_is_found = record {
     on_ok = λ e held s.
         let r = last_ran e.calls None held s.ran in
@@ -120,10 +117,7 @@ module _ {T : Type 0} (read : Call → Option T) (over : Call → Bool) where
       goes_on held (read call) (over call) (list_all fits calls) refuses (filter_map read calls) p.0
       ∙ only_stopped calls (option_or (read call) held) old new refuses p.1
 
-  pub only_is_found : IsFound
-      (λ e held. Streams (only_law read over) (holding None) e (holding held))
-      (λ e held. Stops (only_law read over) (holding None) e (holding held))
-      (found only_of read over)
+  pub only_is_found : IsFound (only_law read over) (found only_of read over)
   only_is_found = record {
     on_ok = λ e held s. let r = only_ran e.calls None held s.ran in let w = s.willing in rw w r;
     on_err = λ e held s. sym (only_stopped e.calls None None held e.refuses s.stopped);

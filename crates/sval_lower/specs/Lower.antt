@@ -59,9 +59,7 @@ abbrev pub part_begin_calls : Slot → List Call
 part_begin_calls Slot.Item = Call.PartBegin Slot.Item ∷ []
 part_begin_calls Slot.Key = Call.PartBegin Slot.Item ∷ Call.Begin (Head.Tuple no_name) (Some 2) ∷ Call.PartBegin (Slot.Place None (untagged 0)) ∷ []
 part_begin_calls Slot.Value = Call.PartBegin (Slot.Place None (untagged 1)) ∷ []
-part_begin_calls (Slot.Field tag label) =
-    Call.PartBegin Slot.Key ∷ Call.TextBegin (Some (length label.text)) ∷ Call.TextFragment label.is_static label.text ∷ Call.TextEnd
-    ∷ Call.PartEnd Slot.Key ∷ Call.PartBegin Slot.Value ∷ []
+part_begin_calls (Slot.Field tag label) = Call.PartBegin Slot.Key ∷ (label_calls label ++ (Call.PartEnd Slot.Key ∷ Call.PartBegin Slot.Value ∷ []))
 part_begin_calls (Slot.Place tag index) = Call.PartBegin Slot.Item ∷ []
 part_begin_calls (Slot.FieldPlace tag label index) = Call.PartBegin (Slot.Field tag label) ∷ []
 
@@ -73,7 +71,7 @@ part_end_calls (Slot.Field tag label) = Call.PartEnd Slot.Value ∷ []
 part_end_calls (Slot.Place tag index) = Call.PartEnd Slot.Item ∷ []
 part_end_calls (Slot.FieldPlace tag label index) = Call.PartEnd (Slot.Field tag label) ∷ []
 
--- the lower calls; a base call has none, and stands for itself
+-- the lower calls; a base call stands for itself
 abbrev pub lower : Call → List Call
 lower Call.Null = Call.Null ∷ []
 lower (Call.Truth b) = Call.Truth b ∷ []

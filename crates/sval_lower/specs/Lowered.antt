@@ -3,7 +3,7 @@ use Rattle.std.specs.Prelude.{◌≡◌, ℕ, zero, suc, Bool, true, false, List
 use Rattle.sval_label.specs.Calls.{IntType, Head, Slot, Call}
 use Rattle.sval_lower.specs.Lower.{lower}
 
--- the ten calls that have no lower calls
+-- the ten base calls, which are never lowered
 abbrev pub is_base : Call → Bool
 is_base Call.Null = true
 is_base (Call.Truth _) = true
