@@ -1,16 +1,17 @@
 -- A text that is written run by run, and escape by escape.
-use Rattle.std.specs.Prelude.{◌≡◌, ℕ, ◌+◌, ◌-◌, ◌<◌, true, false, ◌==◌, nat_lt, List, [], ◌∷◌, ◌++◌, Option, take, drop, length, slice_index, refl}
+use Rattle.std.specs.Prelude.{◌≡◌, ℕ, ◌+◌, ◌-◌, ◌<◌, true, false, ◌==◌, nat_lt, List, [], ◌∷◌, ◌++◌, take, drop, length, slice_index, refl}
 use Rattle.std.specs.List.{AllPass, list_all}
 use Rattle.std.proofs.Common.{sym, ap, ◌∙◌, subst, arith, append_assoc, append-nil}
 use Rattle.std.proofs.lemmas.Bool.{and_parts}
 use Rattle.std.proofs.lemmas.Bool.Decides.{nat_tests}
-use Rattle.std.proofs.lemmas.List.{take-append-drop, length-append, take-append-le, take_rest, drop_more, nil_from_length}
+use Rattle.std.proofs.lemmas.List.{take-append-drop, take_rest, drop_more, nil_from_length}
 use Rattle.std.proofs.lemmas.List.Sums.{list_all-from_AllPass}
 use Rattle.std.proofs.lemmas.List.Elements.{All-append}
-use Rattle.std.proofs.Math.Seq.{take-append-add, take-add}
+use Rattle.std.proofs.Math.Seq.{take-add}
 use Rattle.sval_json.specs.Escape.{escape, escaped, is_plain}
-use Rattle.sval_json.specs.Sinks.{appended, AppendsPrefix}
-use Rattle.sval_json.proofs.Pieces.{appended-appended, appended-nothing}
+use Rattle.sval_json.specs.declared.sink.SinkError.{SinkError}
+use Rattle.sval_json.specs.Sinks.{Told, WritesWhole, WritesFront}
+use Rattle.sval_json.proofs.Appending.{writes_nothing, writes_both, stops_after}
 use Rattle.sval_json.proofs.Texts.{escaped-append}
 
 escape-plain : (byte : ℕ) → is_plain byte ≡ true → escape byte ≡ byte ∷ []
@@ -41,45 +42,36 @@ plain_joins bytes rest start n e p q =
     let whole : take start bytes ++ take n rest ≡ take (start + n) bytes = ap (λ r. take start bytes ++ take n r) e ∙ sym (take-add start n bytes) in
     subst (AllPass is_plain) whole both
 
--- a prefix of what comes after some bytes, with these bytes, is a prefix of the whole
-pub prefix_within : {old mid new : Option (List ℕ)} {whole : List ℕ} (xs ys zs : List ℕ) → mid ≡ appended old xs → whole ≡ xs ++ (ys ++ zs) → AppendsPrefix mid new ys → AppendsPrefix old new whole
-prefix_within {old} {mid} {new} {whole} xs ys zs m w t = record {
-  count = length xs + t.count;
-  within = let size : length whole ≡ length xs + (length ys + length zs) = ap length w ∙ length-append xs (ys ++ zs) ∙ ap (λ n. length xs + n) (length-append ys zs) in omega (arith, t.within);
-  text = t.text ∙ ap (λ told. appended told (take t.count ys)) m ∙ appended-appended old xs (take t.count ys)
-      ∙ ap (appended old) (ap (λ r. xs ++ r) (sym (take-append-le t.count ys zs t.within)) ∙ sym (take-append-add xs (ys ++ zs) t.count) ∙ ap (take (length xs + t.count)) (sym w));
-}
-
 -- some first part of the bytes was written, and the rest is due
-pub record IsPartlyEscaped (old new : Option (List ℕ)) (bytes rest : List ℕ) : Type 0 where
+pub record IsPartlyEscaped (old : Told) (bytes rest : List ℕ) (new : Told) : Type 0 where
   pub before : List ℕ
   pub whole : bytes ≡ before ++ rest
-  pub text : new ≡ appended old (escaped before)
+  pub writes : WritesWhole old (escaped before) new
 
-pub nothing_escaped : (told : Option (List ℕ)) (bytes : List ℕ) → IsPartlyEscaped told told bytes bytes
-nothing_escaped told bytes = record { before = []; whole = refl; text = sym (appended-nothing told) }
+pub nothing_escaped : (told : Told) (bytes : List ℕ) → IsPartlyEscaped told bytes bytes told
+nothing_escaped told bytes = record { before = []; whole = refl; writes = writes_nothing told }
 
 -- the next part of the rest was written
-pub escaped_on : {old mid new : Option (List ℕ)} {bytes rest : List ℕ} (part after : List ℕ) → IsPartlyEscaped old mid bytes rest → rest ≡ part ++ after → new ≡ appended mid (escaped part)
-    → IsPartlyEscaped old new bytes after
-escaped_on {old} {mid} {new} {bytes} {rest} part after p e t = record {
+escaped_on : {old mid new : Told} {bytes rest : List ℕ} (part after : List ℕ) → IsPartlyEscaped old bytes rest mid → rest ≡ part ++ after → WritesWhole mid (escaped part) new
+    → IsPartlyEscaped old bytes after new
+escaped_on {old} {mid} {new} {bytes} {rest} part after p e w = record {
   before = p.before ++ part;
   whole = p.whole ∙ ap (λ r. p.before ++ r) e ∙ sym (append_assoc p.before part after);
-  text = t ∙ ap (λ told. appended told (escaped part)) p.text ∙ appended-appended old (escaped p.before) (escaped part) ∙ ap (appended old) (sym (escaped-append p.before part));
+  writes = subst (λ taken. WritesWhole old taken new) (sym (escaped-append p.before part)) (writes_both (escaped p.before) (escaped part) p.writes w);
 }
 
--- a prefix of the next part was written
-pub prefix_on : {old mid new : Option (List ℕ)} {bytes rest : List ℕ} (part after : List ℕ) → IsPartlyEscaped old mid bytes rest → rest ≡ part ++ after → AppendsPrefix mid new (escaped part)
-    → AppendsPrefix old new (escaped bytes)
-prefix_on {old} {mid} {new} {bytes} {rest} part after p e t =
+-- a first part of the next part was written
+stops_on : {old mid new : Told} {bytes rest : List ℕ} {why : SinkError} (part after : List ℕ) → IsPartlyEscaped old bytes rest mid → rest ≡ part ++ after → WritesFront why mid (escaped part) new
+    → WritesFront why old (escaped bytes) new
+stops_on {bytes = bytes} part after p e w =
     let all : escaped bytes ≡ escaped p.before ++ (escaped part ++ escaped after) =
     ap escaped (p.whole ∙ ap (λ r. p.before ++ r) e) ∙ escaped-append p.before (part ++ after) ∙ ap (λ r. escaped p.before ++ r) (escaped-append part after) in
-    prefix_within (escaped p.before) (escaped part) (escaped after) p.text all t
+    stops_after (escaped p.before) (escaped part) (escaped after) p.writes all w
 
-pub all_escaped : {old new : Option (List ℕ)} {bytes rest : List ℕ} → IsPartlyEscaped old new bytes rest → length rest ≡ 0 → new ≡ appended old (escaped bytes)
+pub all_escaped : {old new : Told} {bytes rest : List ℕ} → IsPartlyEscaped old bytes rest new → length rest ≡ 0 → WritesWhole old (escaped bytes) new
 all_escaped {old} {new} {bytes} {rest} p e =
     let none : rest ≡ [] = nil_from_length rest e in
-    p.text ∙ ap (λ b. appended old (escaped b)) (sym (p.whole ∙ ap (λ r. p.before ++ r) none ∙ append-nil p.before))
+    subst (λ taken. WritesWhole old (escaped taken) new) (sym (p.whole ∙ ap (λ r. p.before ++ r) none ∙ append-nil p.before)) p.writes
 
 -- ---- a run without an escape, and then an escape
 
@@ -92,25 +84,25 @@ run_and_byte run rest h = drop_more rest run 0 h
 escaped-one : (byte : ℕ) → escaped (byte ∷ []) ≡ escape byte
 escaped-one byte = append-nil (escape byte)
 
-pub after_run : {old mid new : Option (List ℕ)} {bytes rest : List ℕ} (run : ℕ) → IsPartlyEscaped old mid bytes rest → AllPass is_plain (take run rest) → new ≡ appended mid (take run rest)
-    → IsPartlyEscaped old new bytes (drop run rest)
-after_run {mid = mid} {rest = rest} run p plain t =
-    escaped_on (take run rest) (drop run rest) p (run_first run rest) (t ∙ ap (appended mid) (sym (escaped-plain (take run rest) plain)))
+pub after_run : {old mid new : Told} {bytes rest : List ℕ} (run : ℕ) → IsPartlyEscaped old bytes rest mid → AllPass is_plain (take run rest) → WritesWhole mid (take run rest) new
+    → IsPartlyEscaped old bytes (drop run rest) new
+after_run {mid = mid} {new = new} {rest = rest} run p plain w =
+    escaped_on (take run rest) (drop run rest) p (run_first run rest) (subst (λ taken. WritesWhole mid taken new) (sym (escaped-plain (take run rest) plain)) w)
 
-pub stops_in_run : {old mid new : Option (List ℕ)} {bytes rest : List ℕ} (run : ℕ) → IsPartlyEscaped old mid bytes rest → AllPass is_plain (take run rest) → AppendsPrefix mid new (take run rest)
-    → AppendsPrefix old new (escaped bytes)
-stops_in_run {mid = mid} {new = new} {rest = rest} run p plain t =
-    prefix_on (take run rest) (drop run rest) p (run_first run rest) (subst (AppendsPrefix mid new) (sym (escaped-plain (take run rest) plain)) t)
+pub stops_in_run : {old mid new : Told} {bytes rest : List ℕ} {why : SinkError} (run : ℕ) → IsPartlyEscaped old bytes rest mid → AllPass is_plain (take run rest) → WritesFront why mid (take run rest) new
+    → WritesFront why old (escaped bytes) new
+stops_in_run {mid = mid} {new = new} {rest = rest} {why = why} run p plain w =
+    stops_on (take run rest) (drop run rest) p (run_first run rest) (subst (λ taken. WritesFront why mid taken new) (sym (escaped-plain (take run rest) plain)) w)
 
-pub after_escape : {old mid new : Option (List ℕ)} {bytes : List ℕ} (rest : List ℕ) (run : ℕ) → run < length rest → IsPartlyEscaped old mid bytes (drop run rest) → new ≡ appended mid (escape (slice_index rest run))
-    → IsPartlyEscaped old new bytes (drop (run + 1) rest)
-after_escape {mid = mid} rest run h p t =
-    escaped_on (slice_index rest run ∷ []) (drop (run + 1) rest) p (run_and_byte run rest h) (t ∙ ap (appended mid) (sym (escaped-one (slice_index rest run))))
+pub after_escape : {old mid new : Told} {bytes : List ℕ} (rest : List ℕ) (run : ℕ) → run < length rest → IsPartlyEscaped old bytes (drop run rest) mid → WritesWhole mid (escape (slice_index rest run)) new
+    → IsPartlyEscaped old bytes (drop (run + 1) rest) new
+after_escape {mid = mid} {new = new} rest run h p w =
+    escaped_on (slice_index rest run ∷ []) (drop (run + 1) rest) p (run_and_byte run rest h) (subst (λ taken. WritesWhole mid taken new) (sym (escaped-one (slice_index rest run))) w)
 
-pub stops_in_escape : {old mid new : Option (List ℕ)} {bytes : List ℕ} (rest : List ℕ) (run : ℕ) → run < length rest → IsPartlyEscaped old mid bytes (drop run rest) → AppendsPrefix mid new (escape (slice_index rest run))
-    → AppendsPrefix old new (escaped bytes)
-stops_in_escape {mid = mid} {new = new} rest run h p t =
-    prefix_on (slice_index rest run ∷ []) (drop (run + 1) rest) p (run_and_byte run rest h) (subst (AppendsPrefix mid new) (sym (escaped-one (slice_index rest run))) t)
+pub stops_in_escape : {old mid new : Told} {bytes : List ℕ} {why : SinkError} (rest : List ℕ) (run : ℕ) → run < length rest → IsPartlyEscaped old bytes (drop run rest) mid
+    → WritesFront why mid (escape (slice_index rest run)) new → WritesFront why old (escaped bytes) new
+stops_in_escape {mid = mid} {new = new} {why = why} rest run h p w =
+    stops_on (slice_index rest run ∷ []) (drop (run + 1) rest) p (run_and_byte run rest h) (subst (λ taken. WritesFront why mid taken new) (sym (escaped-one (slice_index rest run))) w)
 
-pub from_place : {old new : Option (List ℕ)} {bytes : List ℕ} (rest : List ℕ) (n : ℕ) → IsPartlyEscaped old new bytes (drop n rest) → IsPartlyEscaped old new bytes (take (length rest - n) (drop n rest))
-from_place {old} {new} {bytes} rest n p = subst (IsPartlyEscaped old new bytes) (sym (take_rest rest n)) p
+pub from_place : {old new : Told} {bytes : List ℕ} (rest : List ℕ) (n : ℕ) → IsPartlyEscaped old bytes (drop n rest) new → IsPartlyEscaped old bytes (take (length rest - n) (drop n rest)) new
+from_place {old} {new} {bytes} rest n p = subst (λ due. IsPartlyEscaped old bytes due new) (sym (take_rest rest n)) p

@@ -18,6 +18,8 @@ pub mod MeansOne
 pub mod CompactText
 pub mod NumberTexts
 pub mod Meaning
+pub mod Appending
 pub mod Pieces
 pub mod EscapedPieces
+pub mod Doing
 pub mod Streamed

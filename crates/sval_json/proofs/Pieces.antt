@@ -1,48 +1,62 @@
 -- A piece that is written bit by bit.
-use Rattle.std.specs.Prelude.{◌≡◌, ℕ, ◌+◌, ◌-◌, ◌≤◌, List, [], ◌++◌, Option, Some, None, take, drop, length, refl}
-use Rattle.std.proofs.Common.{sym, ap, ◌∙◌, arith, append_assoc, append-nil}
-use Rattle.std.proofs.lemmas.List.{length-drop, drop-drop, take_rest, take_all}
+use Rattle.std.specs.Prelude.{◌≡◌, ℕ, ◌+◌, ◌-◌, ◌<◌, ◌≤◌, List, [], ◌++◌, Option, Some, None, IfSome, take, drop, length, refl}
+use Rattle.std.proofs.Common.{sym, ap, ◌∙◌, subst, arith, append-nil}
+use Rattle.std.proofs.lemmas.List.{length-drop, drop-drop, take_rest, take_all, take-append-drop}
 use Rattle.std.proofs.Math.Seq.{take-add}
-use Rattle.sval_json.specs.Sinks.{appended, AppendsPrefix}
+use Rattle.sval_json.specs.declared.sink.SinkError.{SinkError}
+use Rattle.sval_json.specs.Sinks.{Told, TakesSome, TakesNothing, WritesWhole, WritesFront}
+use Rattle.sval_json.proofs.Appending.{appends_nothing, writes_nothing, writes_both, stops_after}
 
--- some first bytes of the piece were written, and the rest is due
-pub record IsPartlyWritten (old new : Option (List ℕ)) (piece rest : List ℕ) : Type 0 where
+-- some first bytes of the piece were taken, and the rest is due
+pub record IsPartlyWritten (old : Told) (piece rest : List ℕ) (new : Told) : Type 0 where
   pub count : ℕ
   pub within : count ≤ length piece
   pub rest_is : rest ≡ drop count piece
-  pub text : new ≡ appended old (take count piece)
+  pub writes : WritesWhole old (take count piece) new
 
-pub appended-appended : (told : Option (List ℕ)) (xs ys : List ℕ) → appended (appended told xs) ys ≡ appended told (xs ++ ys)
-appended-appended None xs ys = refl
-appended-appended (Some text) xs ys = ap Some (append_assoc text xs ys)
+pub nothing_written : (told : Told) (piece : List ℕ) → IsPartlyWritten told piece piece told
+nothing_written told piece = record { count = 0; within = omega arith; rest_is = refl; writes = writes_nothing told }
 
-pub appended-nothing : (told : Option (List ℕ)) → appended told [] ≡ told
-appended-nothing None = refl
-appended-nothing (Some text) = ap Some (append-nil text)
-
-pub nothing_written : (told : Option (List ℕ)) (piece : List ℕ) → IsPartlyWritten told told piece piece
-nothing_written told piece = record { count = 0; within = omega arith; rest_is = refl; text = sym (appended-nothing told) }
-
--- some first bytes of what was due were written
-pub written_on : {old mid new : Option (List ℕ)} {piece rest : List ℕ} (n : ℕ) → IsPartlyWritten old mid piece rest → n ≤ length rest → new ≡ appended mid (take n rest)
-    → IsPartlyWritten old new piece (take (length rest - n) (drop n rest))
-written_on {old} {mid} {new} {piece} {rest} n w h e =
-    let left : n ≤ length (drop w.count piece) = rw (sym w.rest_is) h in
-    let room : w.count + n ≤ length piece = omega (arith, length-drop w.count piece, w.within) in
+-- some first bytes of what was due were taken
+pub written_on : {old mid new : Told} {piece rest : List ℕ} (n : ℕ) → IsPartlyWritten old piece rest mid → TakesSome n mid rest new
+    → IsPartlyWritten old piece (take (length rest - n) (drop n rest)) new
+written_on {old} {mid} {new} {piece} {rest} n w t =
+    let left : n ≤ length (drop w.count piece) = rw (sym w.rest_is) t.within in
+    let taken : take w.count piece ++ take n rest ≡ take (w.count + n) piece = ap (λ due. take w.count piece ++ take n due) w.rest_is ∙ sym (take-add w.count n piece) in
     record {
       count = w.count + n;
-      within = room;
+      within = omega (arith, length-drop w.count piece, w.within);
       rest_is = take_rest rest n ∙ ap (drop n) w.rest_is ∙ drop-drop n w.count piece;
-      text = e ∙ ap (λ told. appended told (take n rest)) w.text ∙ appended-appended old (take w.count piece) (take n rest)
-          ∙ ap (λ due. appended old (take w.count piece ++ take n due)) w.rest_is ∙ ap (appended old) (sym (take-add w.count n piece));
+      writes = subst (λ bytes. WritesWhole old bytes new) taken (writes_both (take w.count piece) (take n rest) w.writes (record { appends = t.appends; steady = t.steady }));
     }
 
--- all of it was written
-pub all_written : {old new : Option (List ℕ)} {piece rest : List ℕ} → IsPartlyWritten old new piece rest → length rest ≡ 0 → new ≡ appended old piece
+-- all of it was taken
+pub all_written : {old new : Told} {piece rest : List ℕ} → IsPartlyWritten old piece rest new → length rest ≡ 0 → WritesWhole old piece new
 all_written {old} {new} {piece} {rest} w e =
     let none : length (drop w.count piece) ≡ 0 = ap length (sym w.rest_is) ∙ e in
     let whole : length piece ≤ w.count = omega (arith, length-drop w.count piece) in
-    w.text ∙ ap (appended old) (take_all w.count piece whole)
+    subst (λ bytes. WritesWhole old bytes new) (take_all w.count piece whole) w.writes
 
-pub prefix_written : {old new : Option (List ℕ)} {piece rest : List ℕ} → IsPartlyWritten old new piece rest → AppendsPrefix old new piece
-prefix_written w = record { count = w.count; within = w.within; text = w.text }
+-- where no room is left, nothing has place
+full_lacks : (room : Option ℕ) (n : ℕ) → 0 < n → IfSome room (λ left. left ≡ 0) → IfSome room (λ left. left < n)
+full_lacks None n h f = tt
+full_lacks (Some left) n h f = omega (arith, h, f)
+
+-- nothing of what was due was taken
+nothing_is_front : {why : SinkError} {old new : Told} {rest : List ℕ} → 0 < length rest → TakesNothing why old new → WritesFront why old rest new
+nothing_is_front {old = old} {new = new} {rest = rest} some t =
+    let none = appends_nothing old in record {
+      front = record {
+        count = 0;
+        within = omega arith;
+        appends = record { fits = none.fits; text = t.declines.text ∙ none.text; room = t.declines.room ∙ none.room };
+      };
+      cause = t.declines.cause;
+      full = λ failed. full_lacks old.room (length rest) some (t.full failed);
+      counts = t.declines.counts;
+    }
+
+pub stops_in_piece : {old mid new : Told} {piece rest : List ℕ} {why : SinkError} → IsPartlyWritten old piece rest mid → 0 < length rest → TakesNothing why mid new → WritesFront why old piece new
+stops_in_piece {piece = piece} {rest = rest} w some t =
+    let whole : piece ≡ take w.count piece ++ (rest ++ []) = sym (take-append-drop w.count piece) ∙ ap (λ r. take w.count piece ++ r) (sym w.rest_is ∙ sym (append-nil rest)) in
+    stops_after (take w.count piece) rest [] w.writes whole (nothing_is_front some t)

@@ -3,7 +3,7 @@ pub mod Json
 pub mod Digits
 pub mod Number
 pub mod Shape
-pub mod Writer
+pub mod Actions
 pub mod Steps
 pub mod Grammar
 pub mod Means
@@ -12,6 +12,7 @@ pub mod Fronts
 pub mod Sinks
 pub mod Taken
 pub mod OverWriter
-pub mod Writing
-pub mod Targets
+pub mod WriterLaw
+pub mod ErrorKinds
+pub mod Written
 pub mod Laws

@@ -1,7 +1,7 @@
 //! Why JSON wasn't written.
 
 ghost use Rattle.std.specs.Prelude.{◌≡◌};
-ghost use Rattle.sval_json.specs.Targets.{kind_of};
+ghost use Rattle.sval_json.specs.ErrorKinds.{error_kind};
 
 use crate::sink::SinkError;
 use std::fmt;
@@ -35,7 +35,7 @@ impl Model for Error {
 impl Error {
     /// What stopped a value: the sink, or else the value itself.
     pub(crate) fn of(why: Option<SinkError>) -> Error
-        ensures { result ≡ kind_of why }
+        ensures { result ≡ error_kind why }
     {
         let kind = match why {
             None => ErrorKind::Generic,
@@ -55,7 +55,7 @@ impl Error {
 
 impl fmt::Display for Error {
     ghost use Rattle.std.specs.Prelude.{Some};
-    ghost use Rattle.sval_json.specs.Targets.{error_text};
+    ghost use Rattle.sval_json.specs.ErrorKinds.{error_text};
 
     ghost output = { λ kind. Some (error_text kind) };
 

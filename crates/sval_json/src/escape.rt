@@ -1,11 +1,10 @@
 //! How a text stands between quotes (RFC 8259, section 7).
 
-ghost use Rattle.std.specs.Prelude.{◌≡◌, ℕ, ◌<◌, ◌≤◌, true, false, IsTrue, OnOk, OnErr, length, slice_index, take};
+ghost use Rattle.std.specs.Prelude.{◌≡◌, ℕ, ◌<◌, ◌≤◌, true, false, length, slice_index, take};
 ghost use Rattle.std.specs.Char.{digit_char};
 ghost use Rattle.std.specs.List.{AllPass};
-ghost use Rattle.sval_core.specs.Law.{Rose};
 ghost use Rattle.sval_json.specs.Escape.{escape, escaped, is_escaped, is_plain};
-ghost use Rattle.sval_json.specs.Sinks.{appended, AppendsPrefix};
+ghost use Rattle.sval_json.specs.Sinks.{WritesAll};
 
 use crate::sink::{Sink, SinkError, write_all};
 
@@ -75,11 +74,7 @@ fn hex_digit(digit: u8) -> u8
 /// Writes the escape of a byte that has one.
 fn write_escape<K: Sink>(sink: &mut K, byte: u8) -> Result<(), SinkError>
     requires { is_escaped byte ≡ true }
-    ensures written { OnOk result (K.text sink.new ≡ appended (K.text sink.old) (escape byte)) }
-    ensures steady { OnOk result ((K.faults sink.new ≡ K.faults sink.old) × (K.wants sink.new ≡ K.wants sink.old)) }
-    ensures failed { result ≡ Err SinkError.Failed → Rose (K.faults sink.old) (K.faults sink.new) }
-    ensures no_memory { result ≡ Err SinkError.NoMemory → Rose (K.wants sink.old) (K.wants sink.new) }
-    ensures prefix { OnErr result (AppendsPrefix (K.text sink.old) (K.text sink.new) (escape byte)) }
+    ensures { WritesAll result (K.told sink.old) (escape byte) (K.told sink.new) }
 {
     match byte {
         0x08 => write_all(sink, b"\\b"),
@@ -106,11 +101,7 @@ fn write_escape<K: Sink>(sink: &mut K, byte: u8) -> Result<(), SinkError>
 /// Writes a text as it stands between quotes: each run without an escape as one piece. After an error a prefix of it
 /// was taken.
 pub(crate) fn write_escaped<K: Sink>(sink: &mut K, bytes: &[u8]) -> Result<(), SinkError>
-    ensures written { OnOk result (K.text sink.new ≡ appended (K.text sink.old) (escaped bytes.now)) }
-    ensures steady { OnOk result ((K.faults sink.new ≡ K.faults sink.old) × (K.wants sink.new ≡ K.wants sink.old)) }
-    ensures failed { result ≡ Err SinkError.Failed → Rose (K.faults sink.old) (K.faults sink.new) }
-    ensures no_memory { result ≡ Err SinkError.NoMemory → Rose (K.wants sink.old) (K.wants sink.new) }
-    ensures prefix { OnErr result (AppendsPrefix (K.text sink.old) (K.text sink.new) (escaped bytes.now)) }
+    ensures { WritesAll result (K.told sink.old) (escaped bytes.now) (K.told sink.new) }
 {
     let mut rest = bytes;
     while !rest.is_empty() {

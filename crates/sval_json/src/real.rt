@@ -1,9 +1,10 @@
 //! The sink over std's writers: the trusted edge.
 
-ghost use Rattle.std.specs.Prelude.{◌≡◌, ◌+◌, ◌-◌, ◌^◌, ◌<◌, ◌≤◌, None, IfOk, OnOk, min, length};
+ghost use Rattle.std.specs.Prelude.{◌≡◌, None, OnOk, OnErr, IsSome};
 ghost use Rattle.std.specs.Io.KnownBytes.{Keeps, WriteAppends};
-ghost use Rattle.sval_core.specs.Law.{Rose};
-ghost use Rattle.sval_json.specs.OverWriter.{OverWriter};
+ghost use Rattle.sval_core.specs.Law.{one_more};
+ghost use Rattle.sval_json.specs.OverWriter.{OverWriter, over_writer_told};
+ghost use Rattle.sval_json.specs.Sinks.{Writes, Flushes, Declines};
 
 use crate::sink::{Sink, SinkError};
 use std::io;
@@ -52,7 +53,8 @@ impl<W> RealSink<W> {
     /// Counts a fault.
     fn fault(&mut self, kind: io::ErrorKind) -> SinkError
         ensures failed { result ≡ SinkError.Failed }
-        ensures counted { self.new ≡ record self.old { faults = min (self.old.faults + 1) (2 ^ 64 - 1); last_error = Some kind } }
+        ensures declines { Declines result (over_writer_told self.old) (over_writer_told self.new) }
+        ensures counted { self.new ≡ record self.old { faults = one_more self.old.faults; last_error = Some kind } }
     {
         self.last_error = Some(kind);
         self.faults = self.faults.saturating_add(1);
@@ -61,19 +63,14 @@ impl<W> RealSink<W> {
 }
 
 impl<W: Write> Sink for RealSink<W> {
-    ghost text = { λ _. None };
-
-    ghost faults = { λ sink. sink.faults };
-
-    ghost wants = { λ _. 0 };
+    ghost told = { over_writer_told };
 
     fn write(&mut self, piece: &[u8]) -> Result<usize, SinkError>
-        ensures within { IfOk result (λ count. count ≤ length piece.now) }
-        ensures progress { IfOk result (λ count. 0 < length piece.now → 0 < count) }
-        ensures steady { OnOk result (self.new.faults ≡ self.old.faults) }
-        ensures failed { result ≡ Err SinkError.Failed → Rose self.old.faults self.new.faults }
-        ensures no_memory { result ≡ Err SinkError.NoMemory → ⊥ }
+        ensures writes { Writes result (over_writer_told self.old) piece.now (over_writer_told self.new) }
+        ensures failed { OnErr result (result ≡ Err SinkError.Failed) }
         ensures passed_on { WriteAppends (W.contents self.old.writer) (W.contents self.new.writer) result piece.now }
+        ensures last_kept { OnOk result (self.new.last_error ≡ self.old.last_error) }
+        ensures last_told { OnErr result (IsSome self.new.last_error) }
     {
         for _ in 0..RETRIES {
             match self.writer.write(piece) {
@@ -90,10 +87,11 @@ impl<W: Write> Sink for RealSink<W> {
     }
 
     fn flush(&mut self) -> Result<(), SinkError>
-        ensures steady { OnOk result (self.new.faults ≡ self.old.faults) }
-        ensures failed { result ≡ Err SinkError.Failed → Rose self.old.faults self.new.faults }
-        ensures no_memory { result ≡ Err SinkError.NoMemory → ⊥ }
+        ensures flushes { Flushes result (over_writer_told self.old) (over_writer_told self.new) }
+        ensures failed { OnErr result (result ≡ Err SinkError.Failed) }
         ensures passed_on { Keeps (W.contents self.old.writer) (W.contents self.new.writer) }
+        ensures last_kept { OnOk result (self.new.last_error ≡ self.old.last_error) }
+        ensures last_told { OnErr result (IsSome self.new.last_error) }
     {
         for _ in 0..RETRIES {
             match self.writer.flush() {

@@ -1,9 +1,8 @@
 //! Where JSON is written to.
 
-ghost use Rattle.std.specs.Prelude.{◌≡◌, ℕ, ◌<◌, ◌≤◌, List, [], Option, Some, IfOk, OnOk, OnErr, length, take, ⊤};
-ghost use Rattle.sval_core.specs.Law.{Rose};
-ghost use Rattle.sval_json.specs.Sinks.{appended, AppendsPrefix};
-ghost use Rattle.sval_json.specs.Taken.{Taken};
+ghost use Rattle.std.specs.Prelude.{◌≡◌, [], IfOk, length};
+ghost use Rattle.sval_json.specs.Sinks.{Told, Writes, Flushes, WritesAll};
+ghost use Rattle.sval_json.specs.Taken.{Taken, taken_told};
 
 use std::alloc::Global;
 use std::marker::Model;
@@ -19,54 +18,34 @@ pub enum SinkError {
 
 /// A place that bytes are written to, piece by piece.
 ///
-/// Writing a piece whole is the caller's loop. A sink counts its faults and its refusals for want of memory, and neither
-/// count ever falls: so an error is one of this call.
+/// A sink counts its faults and its refusals for want of memory. Neither count ever falls, so an error is one of this
+/// call. What a sink holds back, if it does, it passes on at [`flush`](Sink::flush).
 pub trait Sink {
-    /// The bytes that it took so far, where it tells them.
-    ghost text: { Self → Option (List ℕ) };
+    /// What it tells of itself: the bytes that it took, its room, how many of those bytes it holds back, and its counts.
+    ghost told: { Self → Told };
 
-    /// How often it failed.
-    ghost faults: { Self → ℕ };
-
-    /// How often it had no memory.
-    ghost wants: { Self → ℕ };
-
-    /// It holds back none of the bytes that it tells, as most sinks never do.
-    ghost flushed: { Self → Type 0 } = { λ _. ⊤ };
-
-    /// Takes the first bytes of a piece and answers how many: at least one, unless the piece is empty.
+    /// Takes the first bytes of a piece and answers how many: at least one, unless the piece is empty. Writing a piece
+    /// whole is the caller's loop, as [`write_all`].
     ///
     /// [`SinkError::Failed`] comes only where the count of faults rose, and [`SinkError::NoMemory`] only where that of
-    /// wants did. Either leaves the text as it was.
+    /// wants did. Either leaves the text and the room as they were. A sink that tells its room takes no more than that,
+    /// and fails only where none is left.
     fn write(&mut self, piece: &[u8]) -> Result<usize, SinkError>
-        ensures within { IfOk result (λ count. count ≤ length piece.now) }
-        ensures progress { IfOk result (λ count. 0 < length piece.now → 0 < count) }
-        ensures taken { IfOk result (λ count. text self.new ≡ appended (text self.old) (take count piece.now)) }
-        ensures steady { OnOk result ((faults self.new ≡ faults self.old) × (wants self.new ≡ wants self.old)) }
-        ensures failed { result ≡ Err SinkError.Failed → Rose (faults self.old) (faults self.new) }
-        ensures no_memory { result ≡ Err SinkError.NoMemory → Rose (wants self.old) (wants self.new) }
-        ensures kept { OnErr result (text self.new ≡ text self.old) };
+        ensures { Writes result (told self.old) piece.now (told self.new) };
 
     /// Passes on what this sink holds back of the bytes that it took. A sink that holds back nothing answers `Ok`.
     ///
-    /// The text stays as it was, and each error has its cause as at [`write`](Sink::write).
+    /// The text and the room stay as they were, and each error has its cause as at [`write`](Sink::write).
     fn flush(&mut self) -> Result<(), SinkError>
-        ensures flushed { OnOk result (flushed self.new) }
-        ensures kept { text self.new ≡ text self.old }
-        ensures steady { OnOk result ((faults self.new ≡ faults self.old) × (wants self.new ≡ wants self.old)) }
-        ensures failed { result ≡ Err SinkError.Failed → Rose (faults self.old) (faults self.new) }
-        ensures no_memory { result ≡ Err SinkError.NoMemory → Rose (wants self.old) (wants self.new) };
+        ensures { Flushes result (told self.old) (told self.new) };
 }
 
 /// Writes a piece whole, by as many calls of [`Sink::write`] as it takes.
 ///
-/// After an error a prefix of it was taken. An empty piece makes no call.
+/// After an error a first part of it was taken. An empty piece makes no call. A sink that tells its room fails only
+/// where the piece has no place in it.
 pub fn write_all<K: Sink>(sink: &mut K, piece: &[u8]) -> Result<(), SinkError>
-    ensures written { OnOk result (K.text sink.new ≡ appended (K.text sink.old) piece.now) }
-    ensures steady { OnOk result ((K.faults sink.new ≡ K.faults sink.old) × (K.wants sink.new ≡ K.wants sink.old)) }
-    ensures failed { result ≡ Err SinkError.Failed → Rose (K.faults sink.old) (K.faults sink.new) }
-    ensures no_memory { result ≡ Err SinkError.NoMemory → Rose (K.wants sink.old) (K.wants sink.new) }
-    ensures prefix { OnErr result (AppendsPrefix (K.text sink.old) (K.text sink.new) piece.now) }
+    ensures { WritesAll result (K.told sink.old) piece.now (K.told sink.new) }
 {
     let mut rest = piece;
     while !rest.is_empty() {
@@ -122,13 +101,12 @@ impl VecSink {
 }
 
 impl Sink for VecSink {
-    ghost text = { λ sink. Some sink.bytes };
+    ghost told = { taken_told };
 
-    ghost faults = { λ _. 0 };
-
-    ghost wants = { λ sink. sink.wants };
-
-    fn write(&mut self, piece: &[u8]) -> Result<usize, SinkError> {
+    fn write(&mut self, piece: &[u8]) -> Result<usize, SinkError>
+        ensures all { IfOk result (λ count. count ≡ length piece.now) }
+        ensures writes { Writes result (taken_told self.old) piece.now (taken_told self.new) }
+    {
         match self.bytes.extend_from_slice(piece) {
             Ok(()) => Ok(piece.len()),
             Err(_) => {
@@ -138,7 +116,10 @@ impl Sink for VecSink {
         }
     }
 
-    fn flush(&mut self) -> Result<(), SinkError> {
+    fn flush(&mut self) -> Result<(), SinkError>
+        ensures idle { result ≡ Ok tt }
+        ensures same { self.new ≡ self.old }
+    {
         Ok(())
     }
 }

@@ -2,13 +2,8 @@
 
 ghost use Rattle.std.specs.Prelude.{◌≡◌, None, true, false, OnOk, OnErr};
 ghost use Rattle.sval_core.specs.Law.{Rose};
-ghost use Rattle.sval_core.specs.Spells.{Spells};
-ghost use Rattle.sval_core.specs.Trees.{Tree};
-ghost use Rattle.sval_json.specs.Json.{Json, compact};
-ghost use Rattle.sval_json.specs.Shape.{json_of, json_in};
-ghost use Rattle.sval_json.specs.Sinks.{AppendsPrefix};
-ghost use Rattle.sval_json.specs.Steps.{written, written_in};
-ghost use Rattle.sval_json.specs.Targets.{IsWritten, IsWrittenIn, WritesTree, WritesTreeIn};
+ghost use Rattle.sval_json.specs.Sinks.{IsSteady, IsQuiet, NoCountFell};
+ghost use Rattle.sval_json.specs.Written.{IsWrittenIn, IsBegunIn, IsTooLongFor, WritesSpelledTree, BeginsSpelledTree, RefusesItself, EndsRefused};
 
 use crate::error::{Error, ErrorKind};
 use crate::sink::Sink;
@@ -23,8 +18,9 @@ use sval_core::{Lent, Value};
 ///
 /// [`ErrorKind::Generic`] comes where the value itself refuses, after all that its calls write, and it always comes there
 /// unless a count of the sink rose.
-/// [`ErrorKind::IO`] comes only where the sink's count of faults rose, and [`ErrorKind::NoMemory`] only where its count of
-/// wants did; the sink then took a prefix. This call takes no memory itself.
+/// [`ErrorKind::IO`] comes only where the sink's count of faults rose, and never where the sink tells room for all of it.
+/// [`ErrorKind::NoMemory`] comes only where its count of wants rose. The sink then took a first part, and no count fell.
+/// This call takes no memory itself.
 ///
 /// ```
 /// let mut sink = VecSink::new(alloc);
@@ -35,17 +31,22 @@ pub fn stream_to_io_write<'v, K: Sink, V: Value<'v, Lent<'v>>>(
     out: &mut K,
     v: &'v V,
 ) -> Result<(), Error>
-    ensures written { OnOk result (IsWritten (V.emission v.now).calls (K.text out.old) (K.text out.new)) }
-    ensures tree { OnOk result ((tree : Tree) → Spells (V.emission v.now).calls tree → WritesTree tree (K.text out.old) (K.text out.new)) }
+    ensures written { OnOk result (IsWrittenIn Variants.Inside (V.emission v.now).calls (K.told out.old) (K.told out.new)) }
+    ensures tree { OnOk result (WritesSpelledTree Variants.Inside (V.emission v.now).calls (K.told out.old) (K.told out.new)) }
     ensures willing { OnOk result ((V.emission v.now).refuses ≡ false) }
-    ensures steady { OnOk result ((K.faults out.new ≡ K.faults out.old) × (K.wants out.new ≡ K.wants out.old)) }
+    ensures steady { OnOk result (IsSteady (K.told out.old) (K.told out.new)) }
 
-    ensures generic_comes { (V.emission v.now).refuses ≡ true → (written (V.emission v.now).calls).refusal ≡ None → (Rose (K.faults out.old) (K.faults out.new) → ⊥) → (Rose (K.wants out.old) (K.wants out.new) → ⊥) → result ≡ Err ErrorKind.Generic }
-    ensures generic { result ≡ Err ErrorKind.Generic → ((V.emission v.now).refuses ≡ true) × IsWritten (V.emission v.now).calls (K.text out.old) (K.text out.new) }
-    ensures io { result ≡ Err ErrorKind.IO → Rose (K.faults out.old) (K.faults out.new) }
-    ensures no_memory { result ≡ Err ErrorKind.NoMemory → Rose (K.wants out.old) (K.wants out.new) }
-    ensures prefix { OnErr result (AppendsPrefix (K.text out.old) (K.text out.new) (written (V.emission v.now).calls).written) }
-    ensures tree_prefix { OnErr result ((tree : Tree) (json : Json) → Spells (V.emission v.now).calls tree → json_of tree ≡ Ok json → AppendsPrefix (K.text out.old) (K.text out.new) (compact json)) }
+    ensures generic_comes { RefusesItself Variants.Inside (V.emission v.now) → IsQuiet (K.told out.old) (K.told out.new)
+        → result ≡ Err ErrorKind.Generic }
+    ensures generic { result ≡ Err ErrorKind.Generic
+        → EndsRefused Variants.Inside (V.emission v.now) (K.told out.old) (K.told out.new) }
+    ensures io { result ≡ Err ErrorKind.IO → Rose (K.told out.old).faults (K.told out.new).faults }
+    ensures io_room { result ≡ Err ErrorKind.IO → IsTooLongFor (K.told out.old) Variants.Inside (V.emission v.now).calls }
+    ensures no_memory { result ≡ Err ErrorKind.NoMemory → Rose (K.told out.old).wants (K.told out.new).wants }
+    ensures counts { NoCountFell (K.told out.old) (K.told out.new) }
+    ensures prefix { OnErr result (IsBegunIn Variants.Inside (V.emission v.now).calls (K.told out.old) (K.told out.new)) }
+    ensures tree_prefix { OnErr result
+        (BeginsSpelledTree Variants.Inside (V.emission v.now).calls (K.told out.old) (K.told out.new)) }
 {
     stream_to_io_write_with(out, v, Variants::Inside)
 }
@@ -65,17 +66,22 @@ pub fn stream_to_io_write_with<'v, K: Sink, V: Value<'v, Lent<'v>>>(
     v: &'v V,
     variants: Variants,
 ) -> Result<(), Error>
-    ensures written { OnOk result (IsWrittenIn variants (V.emission v.now).calls (K.text out.old) (K.text out.new)) }
-    ensures tree { OnOk result ((tree : Tree) → Spells (V.emission v.now).calls tree → WritesTreeIn variants tree (K.text out.old) (K.text out.new)) }
+    ensures written { OnOk result (IsWrittenIn variants (V.emission v.now).calls (K.told out.old) (K.told out.new)) }
+    ensures tree { OnOk result (WritesSpelledTree variants (V.emission v.now).calls (K.told out.old) (K.told out.new)) }
     ensures willing { OnOk result ((V.emission v.now).refuses ≡ false) }
-    ensures steady { OnOk result ((K.faults out.new ≡ K.faults out.old) × (K.wants out.new ≡ K.wants out.old)) }
+    ensures steady { OnOk result (IsSteady (K.told out.old) (K.told out.new)) }
 
-    ensures generic_comes { (V.emission v.now).refuses ≡ true → (written_in variants (V.emission v.now).calls).refusal ≡ None → (Rose (K.faults out.old) (K.faults out.new) → ⊥) → (Rose (K.wants out.old) (K.wants out.new) → ⊥) → result ≡ Err ErrorKind.Generic }
-    ensures generic { result ≡ Err ErrorKind.Generic → ((V.emission v.now).refuses ≡ true) × IsWrittenIn variants (V.emission v.now).calls (K.text out.old) (K.text out.new) }
-    ensures io { result ≡ Err ErrorKind.IO → Rose (K.faults out.old) (K.faults out.new) }
-    ensures no_memory { result ≡ Err ErrorKind.NoMemory → Rose (K.wants out.old) (K.wants out.new) }
-    ensures prefix { OnErr result (AppendsPrefix (K.text out.old) (K.text out.new) (written_in variants (V.emission v.now).calls).written) }
-    ensures tree_prefix { OnErr result ((tree : Tree) (json : Json) → Spells (V.emission v.now).calls tree → json_in variants tree ≡ Ok json → AppendsPrefix (K.text out.old) (K.text out.new) (compact json)) }
+    ensures generic_comes { RefusesItself variants (V.emission v.now) → IsQuiet (K.told out.old) (K.told out.new)
+        → result ≡ Err ErrorKind.Generic }
+    ensures generic { result ≡ Err ErrorKind.Generic
+        → EndsRefused variants (V.emission v.now) (K.told out.old) (K.told out.new) }
+    ensures io { result ≡ Err ErrorKind.IO → Rose (K.told out.old).faults (K.told out.new).faults }
+    ensures io_room { result ≡ Err ErrorKind.IO → IsTooLongFor (K.told out.old) variants (V.emission v.now).calls }
+    ensures no_memory { result ≡ Err ErrorKind.NoMemory → Rose (K.told out.old).wants (K.told out.new).wants }
+    ensures counts { NoCountFell (K.told out.old) (K.told out.new) }
+    ensures prefix { OnErr result (IsBegunIn variants (V.emission v.now).calls (K.told out.old) (K.told out.new)) }
+    ensures tree_prefix { OnErr result
+        (BeginsSpelledTree variants (V.emission v.now).calls (K.told out.old) (K.told out.new)) }
 {
     let mut writer = Writer {
         sink: out,

@@ -1,19 +1,20 @@
 //! The writer: a stream that writes JSON to a sink.
 
-ghost use Rattle.std.specs.Prelude.{◌≡◌, ◌++◌, Bool, true, false, OnOk, OnErr, codes};
 ghost use Rattle.sval_label.specs.Made.{lent_call};
-ghost use Rattle.sval_core.specs.Law.{Takes, Refuses};
-ghost use Rattle.sval_json.specs.Escape.{escaped};
-ghost use Rattle.sval_json.specs.Json.{comma};
-ghost use Rattle.sval_json.specs.Writing.{View, Stopped, held_by, with_text, writer_law, standing_of};
+ghost use Rattle.sval_core.specs.Law.{Answers};
+ghost use Rattle.sval_json.specs.Actions.{write};
+ghost use Rattle.sval_json.specs.Steps.{value_written, opens, closes, quote_if_quoted, text_begins, fragment, item_begins};
+ghost use Rattle.sval_json.specs.WriterLaw.{WriterView, Does, writer_law, writer_view, writer_standing};
 
 use crate::escape::write_escaped;
 use crate::sink::{Sink, SinkError, write_all};
 use crate::style::Variants;
 use itoa::Buffer;
-use sval_core::{Call, Error, Lent, Result, Stream};
+use sval_core::{Call, Error, Fragment, GroupedCall, Head, Int, Lent, Result, Slot, Stream};
 
 /// Writes JSON to a sink.
+///
+/// Each method does the action of the steps that its clause names, or a first part of it where the sink stops.
 #[derive(Drop)]
 pub(crate) struct Writer<'k, K: Sink> {
     pub(crate) sink: &'k mut K,
@@ -26,14 +27,11 @@ pub(crate) struct Writer<'k, K: Sink> {
 }
 
 impl<'k, K: Sink> Writer<'k, K> {
-    /// Writes a piece whole, or a prefix of it.
-    fn put(&mut self, piece: &[u8]) -> Result
-        ensures variants { self.new.variants ≡ self.old.variants }
-        ensures empty { self.new.empty ≡ self.old.empty }
-        ensures ok { OnOk result (held_by K.text K.faults K.wants self.new.sink self.new.why ≡ with_text piece.now (held_by K.text K.faults K.wants self.old.sink self.old.why)) }
-        ensures err { OnErr result (Stopped (held_by K.text K.faults K.wants self.old.sink self.old.why) piece.now (held_by K.text K.faults K.wants self.new.sink self.new.why)) }
+    /// Writes these bytes as they are.
+    fn write(&mut self, bytes: &[u8]) -> Result
+        ensures { Does (write bytes.now) result (writer_view K.told self.old) (writer_view K.told self.new) }
     {
-        match write_all(self.sink, piece) {
+        match write_all(self.sink, bytes) {
             Ok(()) => Ok(()),
             Err(why) => {
                 self.why = Some(why);
@@ -42,23 +40,9 @@ impl<'k, K: Sink> Writer<'k, K> {
         }
     }
 
-    /// Writes what begins something, in which nothing stands yet, or what ends something.
-    fn put_then(&mut self, piece: &[u8], empty: bool) -> Result
-        ensures variants { self.new.variants ≡ self.old.variants }
-        ensures empty { self.new.empty ≡ empty }
-        ensures ok { OnOk result (held_by K.text K.faults K.wants self.new.sink self.new.why ≡ with_text piece.now (held_by K.text K.faults K.wants self.old.sink self.old.why)) }
-        ensures err { OnErr result (Stopped (held_by K.text K.faults K.wants self.old.sink self.old.why) piece.now (held_by K.text K.faults K.wants self.new.sink self.new.why)) }
-    {
-        self.empty = empty;
-        self.put(piece)
-    }
-
-    /// Writes a text as it stands between quotes, or a prefix of that.
-    fn put_escaped(&mut self, text: &str) -> Result
-        ensures variants { self.new.variants ≡ self.old.variants }
-        ensures empty { self.new.empty ≡ self.old.empty }
-        ensures ok { OnOk result (held_by K.text K.faults K.wants self.new.sink self.new.why ≡ with_text (escaped text.now) (held_by K.text K.faults K.wants self.old.sink self.old.why)) }
-        ensures err { OnErr result (Stopped (held_by K.text K.faults K.wants self.old.sink self.old.why) (escaped text.now) (held_by K.text K.faults K.wants self.new.sink self.new.why)) }
+    /// Writes a part of a text.
+    fn write_fragment(&mut self, text: &str) -> Result
+        ensures { Does (fragment text.now) result (writer_view K.told self.old) (writer_view K.told self.new) }
     {
         match write_escaped(self.sink, text.as_bytes()) {
             Ok(()) => Ok(()),
@@ -69,43 +53,82 @@ impl<'k, K: Sink> Writer<'k, K> {
         }
     }
 
-    /// Begins an item.
-    fn item_begins(&mut self) -> Result
-        ensures variants { self.new.variants ≡ self.old.variants }
-        ensures empty { self.new.empty ≡ self.old.empty }
-        ensures ok { OnOk result (held_by K.text K.faults K.wants self.new.sink self.new.why ≡ with_text (comma self.old.empty) (held_by K.text K.faults K.wants self.old.sink self.old.why)) }
-        ensures err { OnErr result (Stopped (held_by K.text K.faults K.wants self.old.sink self.old.why) (comma self.old.empty) (held_by K.text K.faults K.wants self.new.sink self.new.why)) }
+    /// Writes a simple value.
+    fn write_value(&mut self, bytes: &[u8]) -> Result
+        ensures { Does (value_written bytes.now) result (writer_view K.told self.old) (writer_view K.told self.new) }
+    {
+        self.empty = false;
+        self.write(bytes)
+    }
+
+    /// Opens what other values may stand in.
+    fn open(&mut self, bracket: &[u8]) -> Result
+        ensures { Does (opens bracket.now) result (writer_view K.told self.old) (writer_view K.told self.new) }
+    {
+        self.empty = true;
+        self.write(bracket)
+    }
+
+    /// Closes what was opened.
+    fn close(&mut self, bracket: &[u8]) -> Result
+        ensures { Does (closes bracket.now) result (writer_view K.told self.old) (writer_view K.told self.new) }
+    {
+        self.empty = false;
+        self.write(bracket)
+    }
+
+    /// Writes the quote of a text.
+    fn quote(&mut self) -> Result
+        ensures { Does quote_if_quoted result (writer_view K.told self.old) (writer_view K.told self.new) }
+    {
+        self.write(b"\"")
+    }
+
+    /// Begins a text.
+    fn begin_text(&mut self) -> Result
+        ensures { Does text_begins result (writer_view K.told self.old) (writer_view K.told self.new) }
+    {
+        self.empty = false;
+        self.quote()
+    }
+
+    /// Begins an item: with a comma, unless it is the first.
+    fn begin_item(&mut self) -> Result
+        ensures { Does item_begins result (writer_view K.told self.old) (writer_view K.told self.new) }
     {
         if self.empty {
             return Ok(());
         }
-        self.put(b",")
+        self.write(b",")
     }
 }
 
 impl<'k, 'sval, K: Sink> Stream<Lent<'sval>> for Writer<'k, K> {
-    ghost View = { View };
+    ghost View = { WriterView };
 
     ghost law = { writer_law };
 
-    ghost standing = { λ w. standing_of w.variants w.empty (held_by K.text K.faults K.wants w.sink w.why) };
+    ghost standing = { writer_standing K.told };
 
     fn take(&mut self, call: Call<'sval, '_>) -> Result
-        ensures { Answers writer_law result (standing_of self.old.variants self.old.empty (held_by K.text K.faults K.wants self.old.sink self.old.why)) (lent_call call.entry) (standing_of self.new.variants self.new.empty (held_by K.text K.faults K.wants self.new.sink self.new.why)) }
+        ensures { Answers writer_law result (writer_standing K.told self.old) (lent_call call.entry) (writer_standing K.told self.new) }
     {
-        match call {
-            Call::Null => self.put_then(b"null", false),
-            Call::Bool(true) => self.put_then(b"true", false),
-            Call::Bool(false) => self.put_then(b"false", false),
-            Call::I64(number) => self.put_then(Buffer::new().format(number).as_bytes(), false),
-            Call::TextBegin(_) => self.put_then(b"\"", false),
-            Call::TextFragment(text) => self.put_escaped(text),
-            Call::TextFragmentComputed(text) => self.put_escaped(text),
-            Call::TextEnd => self.put(b"\""),
-            Call::SeqBegin(_) => self.put_then(b"[", true),
-            Call::SeqValueBegin => self.item_begins(),
-            Call::SeqValueEnd => Ok(()),
-            Call::SeqEnd => self.put_then(b"]", false),
+        match call.grouped() {
+            GroupedCall::Null => self.write_value(b"null"),
+            GroupedCall::Bool(true) => self.write_value(b"true"),
+            GroupedCall::Bool(false) => self.write_value(b"false"),
+            GroupedCall::Int(Int::I64(number)) => {
+                self.write_value(Buffer::new().format(number).as_bytes())
+            }
+            GroupedCall::TextBegin(_) => self.begin_text(),
+            GroupedCall::TextFragment(Fragment::Borrowed(text) | Fragment::Computed(text)) => {
+                self.write_fragment(text)
+            }
+            GroupedCall::TextEnd => self.quote(),
+            GroupedCall::Begin(Head::Seq, _) => self.open(b"["),
+            GroupedCall::End(Head::Seq) => self.close(b"]"),
+            GroupedCall::PartBegin(Slot::Item) => self.begin_item(),
+            GroupedCall::PartEnd(Slot::Item) => Ok(()),
         }
     }
 }

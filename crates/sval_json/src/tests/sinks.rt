@@ -1,6 +1,6 @@
 //! Sinks that take little, or stop.
 
-ghost use Rattle.std.specs.Prelude.{◌+◌, Some};
+ghost use Rattle.std.specs.Prelude.{◌+◌, Some, None};
 
 use super::willing;
 use crate::{ErrorKind, Sink, SinkError, VecSink, stream_to_io_write, write_all};
@@ -44,11 +44,7 @@ impl Balky {
 }
 
 impl Sink for Balky {
-    ghost text = { λ sink. Some sink.taken.bytes };
-
-    ghost faults = { λ sink. sink.faults };
-
-    ghost wants = { λ sink. sink.taken.wants + sink.wants };
+    ghost told = { λ sink. record { text = Some sink.taken.bytes; room = None; held = Some 0; faults = sink.faults; wants = sink.taken.wants + sink.wants } };
 
     fn write(&mut self, piece: &[u8]) -> Result<usize, SinkError> {
         self.calls = self.calls.saturating_add(1);

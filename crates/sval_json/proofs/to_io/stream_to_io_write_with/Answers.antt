@@ -1,50 +1,40 @@
-use Rattle.std.proofs.Common.{rules, refl, ◌≡◌}
-use Rattle.sval_json.specs.declared.error.ErrorKind.TheVariants as kind
-use Rattle.sval_json.specs.Targets.{kind_of}
-use Rattle.sval_json.proofs.Streamed.{after_streams, after_stops, is_generic, writes_tree, tree_prefix}
+use Rattle.std.proofs.Common.{refl, rules, true, None}
+use Rattle.sval_json.proofs.Streamed.{after_streams, after_stops, is_generic, writes_spelled, begins_spelled}
 use Rattle.sval_json.proofs.to_io.stream_to_io_write_with.Goals as goal
 
-pub returns-in-Ok-clause-written : goal.returns-in-Ok-clause-written
-returns-in-Ok-clause-written g c = let after = after_streams c.args.variants _ _ _ _ c.in-Ok.ensures.ok in search rules
+-- the writer began with the sink that was handed in, under a name of its own
+pub returns-in-Ok : goal.returns-in-Ok
+returns-in-Ok g c =
+    let after = after_streams g.K.Sink.told (g.V.Value.emission c.args.v.now) (record { sink = record c.args.out { ghost_name = _ }; variants = c.args.variants; empty = true; why = None }) c.stream-streamed.new.stream refl c.in-Ok.ensures in
+    record {
+      written = search rules;
+      tree = λ tree spells. let whole = writes_spelled after.written tree spells in search rules;
+      willing = search rules;
+      steady = search rules;
+      generic_comes = λ itself _. let willing = c.in-Ok.ensures.willing in let refuses = itself.refuses in cc;
+      generic = search rules;
+      io = search rules;
+      io_room = search rules;
+      no_memory = search rules;
+      counts = search rules;
+      prefix = search rules;
+      tree_prefix = search rules;
+    }
 
-pub returns-in-Ok-clause-steady : goal.returns-in-Ok-clause-steady
-returns-in-Ok-clause-steady g c = let after = after_streams c.args.variants _ _ _ _ c.in-Ok.ensures.ok in search rules
-
-pub returns-in-Ok-clause-generic_comes : goal.returns-in-Ok-clause-generic_comes
-returns-in-Ok-clause-generic_comes g c = λ refuses _ _ _. let willing = c.in-Ok.ensures.ok.willing in cc
-
-pub returns-in-Err-clause-generic_comes : goal.returns-in-Err-clause-generic_comes
-returns-in-Err-clause-generic_comes g c = λ refuses _ steady fed.
-    let after = after_stops c.args.variants _ _ _ _ refl c.in-Err.ensures.err in
-    let is : kind_of c.stream-streamed.new.stream.why ≡ kind.Generic = is_generic after (search rules) (search rules) in cc
-
-pub returns-in-Err-clause-generic : goal.returns-in-Err-clause-generic
-returns-in-Err-clause-generic g c = λ e.
-    let after = after_stops c.args.variants _ _ _ _ refl c.in-Err.ensures.err in
-    let is : kind_of c.stream-streamed.new.stream.why ≡ kind.Generic = cc in
-    let refused = after.generic is in search rules
-
-pub returns-in-Err-clause-io : goal.returns-in-Err-clause-io
-returns-in-Err-clause-io g c = λ e.
-    let after = after_stops c.args.variants _ _ _ _ refl c.in-Err.ensures.err in
-    let is : kind_of c.stream-streamed.new.stream.why ≡ kind.IO = cc in
-    let rose = after.io is in search rules
-
-pub returns-in-Err-clause-no_memory : goal.returns-in-Err-clause-no_memory
-returns-in-Err-clause-no_memory g c = λ e.
-    let after = after_stops c.args.variants _ _ _ _ refl c.in-Err.ensures.err in
-    let is : kind_of c.stream-streamed.new.stream.why ≡ kind.NoMemory = cc in
-    let rose = after.no_memory is in search rules
-
-pub returns-in-Err-clause-prefix : goal.returns-in-Err-clause-prefix
-returns-in-Err-clause-prefix g c = let after = after_stops c.args.variants _ _ _ _ refl c.in-Err.ensures.err in search rules
-
-pub returns-in-Ok-clause-tree : goal.returns-in-Ok-clause-tree
-returns-in-Ok-clause-tree g c = λ tree spells.
-    let after = after_streams c.args.variants _ _ _ _ c.in-Ok.ensures.ok in
-    let whole = writes_tree c.args.variants (g.V.Value.emission c.args.v.now).calls tree spells after.written in search rules
-
-pub returns-in-Err-clause-tree_prefix : goal.returns-in-Err-clause-tree_prefix
-returns-in-Err-clause-tree_prefix g c = λ tree json spells is.
-    let after = after_stops c.args.variants _ _ _ _ refl c.in-Err.ensures.err in
-    let prefix = tree_prefix c.args.variants (g.V.Value.emission c.args.v.now).calls tree json spells is after.prefix in search rules
+pub returns-in-Err : goal.returns-in-Err
+returns-in-Err g c =
+    let after = after_stops g.K.Sink.told (g.V.Value.emission c.args.v.now) (record { sink = record c.args.out { ghost_name = _ }; variants = c.args.variants; empty = true; why = None }) c.stream-streamed.new.stream refl {found = c.of.result} refl c.of.ensures c.in-Err.ensures in
+    record {
+      written = search rules;
+      tree = search rules;
+      willing = search rules;
+      steady = search rules;
+      generic_comes = λ itself quiet. let is = is_generic after (search rules) in cc;
+      generic = λ is. let ended = after.generic cc in search rules;
+      io = λ is. let rose = after.io cc in search rules;
+      io_room = λ is. let room = after.io_room cc in search rules;
+      no_memory = λ is. let rose = after.no_memory cc in search rules;
+      counts = search rules;
+      prefix = search rules;
+      tree_prefix = λ tree json spells is. let begun = begins_spelled c.args.variants (g.V.Value.emission c.args.v.now).calls after.prefix tree json spells is in search rules;
+    }

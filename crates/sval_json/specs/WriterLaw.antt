@@ -1,0 +1,86 @@
+-- The JSON writer as a stream: its law is that it meets the steps.
+use Rattle.std.specs.Prelude.{◌≡◌, ℕ, Bool, false, true, List, Option, Some, None, Result, Ok, Err, length}
+use Rattle.std.specs.Borrow.{MutBor}
+use Rattle.sval_label.specs.declared.error.Error.{Error}
+use Rattle.sval_core.specs.Law.{Law, Standing}
+use Rattle.sval_json.specs.declared.sink.SinkError.{SinkError}
+use Rattle.sval_json.specs.declared.sink.SinkError.TheVariants.{Failed}
+use Rattle.sval_json.specs.declared.style.Variants.{Variants}
+use Rattle.sval_json.specs.declared.writer.Writer.{Writer}
+use Rattle.sval_json.specs.Actions.{State, escapes, Action}
+use Rattle.sval_json.specs.Steps.{step}
+use Rattle.sval_json.specs.Sinks.{Told, appended, less_room, HasRoom, LacksRoom, AppendsFront, IsCounted, NoCountFell}
+
+-- the sink that a writer writes to: which one, what it tells but for what it holds back, and why it took nothing, if it did so
+pub record Target : Type 0 where
+  pub name : ℕ
+  pub told : Told
+  pub why : Option SinkError
+
+-- what the writer has taken, as a stream: its style of variants, the state of the steps, and the sink
+pub record WriterView : Type 0 where
+  pub style : Variants
+  pub state : State
+  pub target : Target
+
+-- the sink after it took these bytes
+abbrev pub with_bytes : List ℕ → Target → Target
+with_bytes bytes target =
+    record target { told = record target.told { text = appended target.told.text bytes; room = less_room target.told.room (length bytes) } }
+
+-- the writer after an action that isn't refused
+abbrev pub after_action : Action → WriterView → WriterView
+after_action action view =
+    record { style = view.style; state = (action view.state).state; target = with_bytes (action view.state).written view.target }
+
+-- ---- what an action does
+
+-- the action refuses nothing, and what it writes has room
+pub record MayDo (action : Action) (view : WriterView) : Type 0 where
+  pub refusal : (action view.state).refusal ≡ None
+  pub fits : HasRoom view.target.told (action view.state).written
+
+-- the action was done
+pub record HasDone (action : Action) (old new : WriterView) : Type 0 where
+  pub may : MayDo action old
+  pub view : new ≡ after_action action old
+
+-- why the sink took nothing of what was left of these bytes
+abbrev pub IsWhy : Option SinkError → Told → List ℕ → Told → Type 0
+IsWhy None old bytes new = ⊥
+IsWhy (Some why) old bytes new = IsCounted why old new × (why ≡ Failed → LacksRoom old bytes)
+
+-- of what the action writes the sink took a first part and then nothing
+pub record IsStopped (action : Action) (old new : WriterView) : Type 0 where
+  pub why : IsWhy new.target.why old.target.told (action old.state).written new.target.told
+  pub front : AppendsFront old.target.told (action old.state).written new.target.told
+  pub counts : NoCountFell old.target.told new.target.told
+  pub name : new.target.name ≡ old.target.name
+
+-- what the answer of a part of the writer says: it did the action, or the sink stopped it
+abbrev pub Does : Action → Result (Unit {0}) Error → WriterView → WriterView → Type 0
+Does action (Ok done) old new = HasDone action old new
+Does action (Err refusal) old new = IsStopped action old new
+
+abbrev pub writer_law : Law WriterView
+writer_law = record {
+  accepts = λ view call. MayDo (step view.style call) view;
+  after = λ view call. after_action (step view.style call) view;
+  stopped = λ view call left. IsStopped (step view.style call) view left;
+}
+
+-- ---- the writer in code
+
+-- the state of the steps outside keys, enums and tagged values: whether nothing stands yet in what was begun last
+abbrev pub writer_state : Bool → State
+writer_state empty = record { named = false; empty = empty; quoted = true; handler = escapes }
+
+-- `told` is what the sink tells
+abbrev pub target_of : {K : Type 0} → (K → Told) → MutBor K → Option SinkError → Target
+target_of told sink why = record { name = sink.ghost_name; told = record (told sink.now) { held = None }; why = why }
+
+abbrev pub writer_view : {K : Type 0} → (K → Told) → Writer K → WriterView
+writer_view told w = record { style = w.variants; state = writer_state w.empty; target = target_of told w.sink w.why }
+
+abbrev pub writer_standing : {K : Type 0} → (K → Told) → Writer K → Standing WriterView
+writer_standing told w = record { view = writer_view told w; faults = (told w.sink.now).faults; wants = (told w.sink.now).wants }

@@ -1,0 +1,49 @@
+-- What streaming a value to JSON leaves of a sink.
+use Rattle.std.specs.Prelude.{◌≡◌, true, List, None, Ok}
+use Rattle.sval_label.specs.Calls.{Call}
+use Rattle.sval_core.specs.Law.{Emission}
+use Rattle.sval_core.specs.Spells.{Spells}
+use Rattle.sval_core.specs.Trees.{Tree}
+use Rattle.sval_json.specs.declared.style.Variants.{Variants}
+use Rattle.sval_json.specs.Json.{Json, compact}
+use Rattle.sval_json.specs.Shape.{json_in}
+use Rattle.sval_json.specs.Sinks.{Told, IsSteady, Appends, AppendsFront, LacksRoom}
+use Rattle.sval_json.specs.Steps.{written_in}
+
+-- no step refuses a call, and exactly what the steps write in this style was taken
+pub record IsWrittenIn (style : Variants) (calls : List Call) (old new : Told) : Type 0 where
+  pub refusal : (written_in style calls).refusal ≡ None
+  pub appends : Appends old (written_in style calls).written new
+
+-- a first part of what the steps write was taken
+abbrev pub IsBegunIn : Variants → List Call → Told → Told → Type 0
+IsBegunIn style calls old new = AppendsFront old (written_in style calls).written new
+
+-- what the steps write has no place in the room that is told
+abbrev pub IsTooLongFor : Told → Variants → List Call → Type 0
+IsTooLongFor old style calls = LacksRoom old (written_in style calls).written
+
+-- the tree has a JSON shape in this style, and exactly the text of that was taken
+pub record WritesTreeIn (style : Variants) (tree : Tree) (old new : Told) : Type 0 where
+  pub json : Json
+  pub shape : json_in style tree ≡ Ok json
+  pub appends : Appends old (compact json) new
+
+-- if the calls spell a tree, that one's text was taken, or a first part of it
+abbrev pub WritesSpelledTree : Variants → List Call → Told → Told → Type 0
+WritesSpelledTree style calls old new = (tree : Tree) → Spells calls tree → WritesTreeIn style tree old new
+
+abbrev pub BeginsSpelledTree : Variants → List Call → Told → Told → Type 0
+BeginsSpelledTree style calls old new =
+    (tree : Tree) (json : Json) → Spells calls tree → json_in style tree ≡ Ok json → AppendsFront old (compact json) new
+
+-- the value refuses, and no step refuses a call of it
+pub record RefusesItself (style : Variants) (emission : Emission) : Type 0 where
+  pub refuses : emission.refuses ≡ true
+  pub refusal : (written_in style emission.calls).refusal ≡ None
+
+-- the value refused after all that its calls write
+pub record EndsRefused (style : Variants) (emission : Emission) (old new : Told) : Type 0 where
+  pub refuses : emission.refuses ≡ true
+  pub written : IsWrittenIn style emission.calls old new
+  pub steady : IsSteady old new
