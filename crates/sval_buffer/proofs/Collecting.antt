@@ -23,15 +23,15 @@ takes_by old new call f taken now = record {
   wants = ap (λ (c : Capture). c.wants) now;
 }
 
-rises : (why : ErrorKind) (wants : ℕ) → IsNoAlloc why → min (wants + 1) (2 ^ 64 - 1) ≤ wants_after why wants
-rises (error.NoAlloc method) wants h = omega arith
-rises (error.Unsupported actual expected) wants h = absurd h
-rises (error.InvalidValue reason) wants h = absurd h
-rises (error.OutsideContainer method) wants h = absurd h
+rose_once : (why : ErrorKind) (wants : ℕ) → IsNoAlloc why → min (wants + 1) (2 ^ 64 - 1) ≤ wants_after why wants
+rose_once (error.NoAlloc method) wants h = omega arith
+rose_once (error.Unsupported actual expected) wants h = absurd h
+rose_once (error.InvalidValue reason) wants h = absurd h
+rose_once (error.OutsideContainer method) wants h = absurd h
 
 pub refuses_by : (old new : Capture) (call : Call) (f : Forest) (why : ErrorKind) → f ≡ old.forest → IsCause (take old.forest call) why
-    → new ≡ record { forest = f; refusal = Some why; wants = wants_after why old.wants } → Refuses capture_law (standing_of old) call (standing_of new)
-refuses_by old new call f why same cause now = record {
+    → new ≡ record { forest = f; refusal = Some why; wants = wants_after why old.wants } → old.wants ≤ new.wants → Refuses capture_law (standing_of old) call (standing_of new)
+refuses_by old new call f why same cause now rises = record {
   cause = go (take old.forest call) cause;
   left = record {
     forest = ap (λ (c : Capture). c.forest) now ∙ same;
@@ -40,10 +40,12 @@ refuses_by old new call f why same cause now = record {
     cause = cause;
     wants = ap (λ (c : Capture). c.wants) now;
   };
+  faults = omega arith;
+  wants = rises;
 }
   where
     go : (a : Answer) → IsCause a why → (IsTaken a → ⊥) ⊎ (Rose 0 0 ⊎ Rose old.wants new.wants)
-    go (Taken g) h = let now_wants = ap (λ (c : Capture). c.wants) now in let r = rises why old.wants h in inr (inr (omega (arith, r, now_wants)))
+    go (Taken g) h = let now_wants = ap (λ (c : Capture). c.wants) now in let r = rose_once why old.wants h in inr (inr (omega (arith, r, now_wants)))
     go (Refused refusal) h = inl (λ no. no)
 
 -- ---- all calls

@@ -1,12 +1,13 @@
 -- What replay has made at each part.
-use Rattle.std.specs.Prelude.{◌≡◌, ℕ, zero, suc, ◌+◌, ◌-◌, ◌≤◌, ◌<◌, nat_le, Bool, true, false, if◌then◌else◌, List, [], ◌∷◌, ◌++◌, length, map, drop, get_or, Option, Some, None, Result, Ok, Err, OnOk, OnErr, refl, slice_get, ⊤}
+use Rattle.std.specs.Prelude.{◌≡◌, ℕ, zero, suc, ◌+◌, ◌-◌, ◌≤◌, ◌<◌, nat_le, Bool, true, false, if◌then◌else◌, List, [], ◌∷◌, ◌++◌, length, map, drop, get_or, Option, Some, None, Result, Ok, Err, IsErr, refl, slice_get, ⊤}
 use Rattle.std.proofs.Common.{sym, ap, ◌∙◌, subst, arith, append_assoc, append-nil, add-one}
 use Rattle.std.proofs.Math.Seq.{drop-cons}
 use Rattle.std.proofs.lemmas.Bool.Decides.{nat_tests}
 use Rattle.std.proofs.lemmas.List.{length-map}
 use Rattle.sval_buffer.proofs.Replay.{pass-flat}
 use Rattle.sval_label.specs.Calls.{Call, Null}
-use Rattle.sval_core.specs.Law.{Law, Standing, Takes, Refuses, Streams, Stops, emits, then_emits}
+use Rattle.sval_label.specs.declared.error.Error.{Error}
+use Rattle.sval_core.specs.Law.{Law, Standing, Streams, Stops, Answers, Emits, emits, then_emits}
 use Rattle.sval_core.proofs.Emissions.{streams_one, stops_one, streams_then, stops_first, stops_later}
 use Rattle.sval_buffer.specs.Forest.{Forest, null_for_none, replayed}
 use Rattle.sval_buffer.specs.Flat as flat
@@ -14,7 +15,7 @@ use Rattle.sval_buffer.specs.Replay.{Pending, ended, going, all_ends, head_calls
 use Rattle.sval_buffer.specs.Emitted.{says}
 use Rattle.sval_buffer.specs.declared.part.Part.{Part}
 use Rattle.sval_buffer.specs.Seen.{kind_of, holds_of, stored, holder, Tells}
-use Rattle.sval_buffer.specs.Nesting.{Going, pendings, still, opens, top, outer_of, IsBelow, Link, Linked, Nested, AllStop, IsNested, end_calls, is_holder}
+use Rattle.sval_buffer.specs.Nesting.{Going, pendings, still, opens, top, outer_of, IsBelow, Link, Linked, Nested, AllStop, IsNested, end_calls, is_holder, MakesEnds, EndsBefore}
 
 -- ---- one list of calls after another
 
@@ -97,27 +98,28 @@ newest_part parts at rest l p e =
     let n = newest_of parts at rest l in sym (e ∙ get_same parts at n.link.part p (ap (slice_get parts) (sym n.place_is) ∙ n.link.found))
 
 module _ {V : Type 0} {law : Law V} {old now : Standing V} {parts : List Part} {place : ℕ} {gs : List Going} where
-  pub walk-none : (w : IsWalked law old now parts place None gs) → Streams law old (says (ended place (pendings gs))) now × Linked parts None (still place gs)
+  pub walk-none : (w : IsWalked law old now parts place None gs) → MakesEnds law parts place gs old None now
   walk-none w = go w.rest w.linked w.ended_is w.still_is
     where
       go : (rest : List Going) → Linked parts None rest → ended place (pendings gs) ≡ w.done ++ ended place (pendings rest) → still place gs ≡ still place rest
-          → Streams law old (says (ended place (pendings gs))) now × Linked parts None (still place gs)
-      go [] l e s = (subst (λ calls. Streams law old (says calls) now) (sym (e ∙ append-nil w.done)) w.streams, subst (Linked parts None) (sym s) refl)
+          → MakesEnds law parts place gs old None now
+      go [] l e s = record { streams = subst (λ calls. Streams law old (says calls) now) (sym (e ∙ append-nil w.done)) w.streams; linked = subst (Linked parts None) (sym s) refl }
       go (newest ∷ older) l e s = let never = l.0.at in cc never
 
   -- the newest goes on at this place
   pub walk-goes_on : (at : ℕ) (p : Part) (w : IsWalked law old now parts place (Some at) gs) → p ≡ get_or parts at p → place - at ≤ holds_of p.kind
-      → Streams law old (says (ended place (pendings gs))) now × Linked parts (Some at) (still place gs)
+      → MakesEnds law parts place gs old (Some at) now
   walk-goes_on at p w same h =
       let n = newest_of parts at w.rest w.linked in
       let stop : n.newest.pending.stop ≡ at + 1 + holds_of p.kind =
       ap (λ (x : Pending). x.stop) n.link.pending ∙ ap (λ k. k + 1 + holds_of n.link.part.kind) n.place_is ∙ ap (λ (x : Part). at + 1 + holds_of x.kind) (newest_part parts at w.rest w.linked p same) in
       let e : nat_le n.newest.pending.stop place ≡ false = grind (arith, nat_tests) in
       let none_ends : ended place (pendings w.rest) ≡ [] = ap (λ gs. ended place (pendings gs)) n.rest_is ∙ rw e refl in
-      let all_go : still place w.rest ≡ w.rest = ap (still place) n.rest_is ∙ rw e (sym n.rest_is) in (
-        subst (λ calls. Streams law old (says calls) now) (sym (w.ended_is ∙ ap (λ calls. w.done ++ calls) none_ends ∙ append-nil w.done)) w.streams,
-        subst (Linked parts (Some at)) (sym (w.still_is ∙ all_go)) w.linked,
-      )
+      let all_go : still place w.rest ≡ w.rest = ap (still place) n.rest_is ∙ rw e (sym n.rest_is) in
+      record {
+        streams = subst (λ calls. Streams law old (says calls) now) (sym (w.ended_is ∙ ap (λ calls. w.done ++ calls) none_ends ∙ append-nil w.done)) w.streams;
+        linked = subst (Linked parts (Some at)) (sym (w.still_is ∙ all_go)) w.linked;
+      }
 
   module _ (at : ℕ) (p : Part) (w : IsWalked law old now parts place (Some at) gs) (same : p ≡ get_or parts at p) (h : holds_of p.kind < place - at) where
     abbrev n : Newest parts at w.rest
@@ -168,9 +170,11 @@ pub nearer : (next now : Option ℕ) (at : ℕ) → now ≡ Some at → IsBelow 
 nearer None now at e h = rw e (omega arith)
 nearer (Some place) now at e h = rw e (omega arith)
 
-pub on_err : {T E P : Type 0} (r : Result T E) → P → OnErr r P
-on_err (Ok x) p = tt
-on_err (Err e) p = p
+-- where a `?` passes on that an end was refused
+pub ends_stopped : {V : Type 0} {law : Law V} {old new : Standing V} (parts : List Part) (place : ℕ) (gs : List Going) (r : Result (Option ℕ) Error) → IsErr r
+    → Stops law old (says (ended place (pendings gs))) new → EndsBefore law parts place gs old r new
+ends_stopped parts place gs (Ok next) is s = cc is
+ends_stopped parts place gs (Err refusal) is s = s
 
 -- ---- each part
 
@@ -369,12 +373,7 @@ replay_some parts places f t h =
     sym (some_passed (map stored parts) (omega arith)) ∙ passed_all parts places f t
 
 -- the one call of no value
-pub null_streams : {V : Type 0} (law : Law V) (old new : Standing V) {E : Type 0} (r : Result (Unit {0}) E) (f : Forest) → Null ∷ [] ≡ replayed f → OnOk r (Takes law old Null new) → OnOk r (Streams law old (says (replayed f)) new)
+pub null_emitted : {V : Type 0} (law : Law V) (old new : Standing V) (r : Result (Unit {0}) Error) (f : Forest) → Null ∷ [] ≡ replayed f → Answers law r old Null new → Emits law r old (says (replayed f)) new
 unfolding emits
-null_streams law old new (Ok done) f e t = subst (λ calls. Streams law old (says calls) new) e (streams_one t)
-null_streams law old new (Err why) f e t = tt
-
-pub null_stops : {V : Type 0} (law : Law V) (old new : Standing V) {E : Type 0} (r : Result (Unit {0}) E) (f : Forest) → Null ∷ [] ≡ replayed f → OnErr r (Refuses law old Null new) → OnErr r (Stops law old (says (replayed f)) new)
-unfolding emits
-null_stops law old new (Ok done) f e t = tt
-null_stops law old new (Err why) f e t = subst (λ calls. Stops law old (says calls) new) e (stops_one t)
+null_emitted law old new (Ok done) f e t = subst (λ calls. Streams law old (says calls) new) e (streams_one t)
+null_emitted law old new (Err refusal) f e t = subst (λ calls. Stops law old (says calls) new) e (stops_one t)

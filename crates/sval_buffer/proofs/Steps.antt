@@ -1,5 +1,5 @@
 -- Each step of a forest on the parts of the program.
-use Rattle.std.specs.Prelude.{◌≡◌, ℕ, suc, ◌+◌, ◌-◌, ◌<◌, zero, Bool, true, false, List, [], ◌∷◌, ◌++◌, length, map, Option, Some, None, option_map, Result, Ok, Err, OnOk, IfErr, is_ok, if◌then◌else◌, not, refl, slice_set, slice_get, slice_index_or}
+use Rattle.std.specs.Prelude.{◌≡◌, ℕ, suc, ◌+◌, ◌-◌, ◌<◌, zero, Bool, true, false, List, [], ◌∷◌, ◌++◌, length, map, Option, Some, None, option_map, Result, Ok, Err, is_ok, if◌then◌else◌, not, refl, slice_set, slice_get, slice_index_or}
 use Rattle.std.proofs.Common.{sym, ap, ◌∙◌, subst, arith, length-append}
 use Rattle.std.proofs.lemmas.List.{map-append, length-map}
 use Rattle.std.proofs.Math.Seq.{set-append_seam}
@@ -15,7 +15,7 @@ use Rattle.sval_buffer.specs.Holders.{holders, holders_node, holders_row, holder
 use Rattle.sval_buffer.specs.declared.part.Part.{Part}
 use Rattle.sval_buffer.specs.declared.part.Kind.{Kind}
 use Rattle.sval_buffer.specs.declared.part.Kind.TheVariants as kind
-use Rattle.sval_buffer.specs.Seen.{stored, holder, kind_of, holds_of, with_holds, Tells, told, Pushed, IsPushCause, IsCauseBy}
+use Rattle.sval_buffer.specs.Seen.{stored, holder, kind_of, holds_of, with_holds, Tells, told, Pushed, PartPushes, IsCauseBy}
 use Rattle.sval_buffer.specs.declared.error.ErrorKind.{ErrorKind}
 use Rattle.sval_buffer.specs.Captured.{CapturesBy, IsCause, error_of}
 use Rattle.sval_buffer.proofs.Flat.{flat-add, flat-begun, flat-close, map_map, length-push_flat, push-flat_row, push-flat}
@@ -477,14 +477,14 @@ cause_of None a why cause refused taken = subst (λ x. IsCause x why) (sym (refu
 cause_of (Some kind) a why cause refused taken = subst (λ x. IsCause x why) (sym (taken kind refl).1) cause
 
 pub pushes_by : {parts : List Part} {places : List ℕ} {within : Bool} {f : Forest} (fragment : Fragment) (last next : Part) (r : Result (Unit {0}) ErrorKind) → Is parts places within f → (ends : EndsIn parts last)
-    → OnOk r (Pushed last fragment next) → IfErr r (λ why. next ≡ last) → IfErr r (λ why. IsPushCause last fragment why)
+    → PartPushes last fragment r next
     → PushesBy (ends.front ++ (next ∷ [])) places within f fragment r
-pushes_by {f = f} fragment last next (Ok done) is ends ok same cause = record {
+pushes_by {f = f} fragment last next (Ok done) is ends ok = record {
   next = with_row (push_taken fragment last is ends (kind_of next.kind) ok.kind).row f.nodes f.spine f.in_fragments;
   is = is_pushed fragment last is ends next ok;
   answers = push_answers fragment last is ends next ok;
 }
-pushes_by {parts} {places} {within} {f} fragment last next (Err why) is ends ok same cause =
+pushes_by {parts} {places} {within} {f} fragment last next (Err why) is ends (same, cause) =
     let whole : parts ≡ ends.front ++ (next ∷ []) = ends.parts_are ∙ ap (λ p. ends.front ++ (p ∷ [])) (sym same) in
     record {
       next = f;

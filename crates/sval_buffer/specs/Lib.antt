@@ -15,7 +15,6 @@ pub mod CaptureCodes
 pub mod Collects
 pub mod ErrorTexts
 pub mod Nesting
-pub mod Tests
 pub mod Collected
 pub mod CollectSteps
 pub mod CollectLaws

@@ -1,9 +1,12 @@
 -- What replay keeps at each part: the place of the newest container that goes on, from which the places of those around it follow.
-use Rattle.std.specs.Prelude.{◌≡◌, ℕ, ◌+◌, ◌≤◌, ◌<◌, ◌==◌, nat_le, Bool, true, false, if◌then◌else◌, List, [], ◌∷◌, map, Option, Some, None, slice_get, ⊤}
+use Rattle.std.specs.Prelude.{◌≡◌, ℕ, ◌+◌, ◌≤◌, ◌<◌, ◌==◌, nat_le, Bool, true, false, if◌then◌else◌, List, [], ◌∷◌, map, Option, Some, None, Result, Ok, Err, slice_get, ⊤}
 use Rattle.sval_label.specs.Calls.{Call}
 use Rattle.sval_buffer.specs.Forest.{end_of}
 use Rattle.sval_buffer.specs.Flat as flat
-use Rattle.sval_buffer.specs.Replay.{Pending}
+use Rattle.sval_label.specs.declared.error.Error.{Error}
+use Rattle.sval_core.specs.Law.{Law, Standing, Streams, Stops}
+use Rattle.sval_buffer.specs.Replay.{Pending, ended}
+use Rattle.sval_buffer.specs.Emitted.{says}
 use Rattle.sval_buffer.specs.declared.part.Part.{Part}
 use Rattle.sval_buffer.specs.Seen.{kind_of, holds_of, stored, holder}
 
@@ -87,3 +90,13 @@ is_holder (flat.One call) = false
 is_holder (flat.Words held) = false
 is_holder (flat.Bytes held) = false
 is_holder (flat.Holder begin) = true
+
+-- the ends that come before a place were made, and this is the newest container that goes on there
+pub record MakesEnds {V : Type 0} (law : Law V) (parts : List Part) (place : ℕ) (gs : List Going) (old : Standing V) (next : Option ℕ) (new : Standing V) : Type 0 where
+  pub streams : Streams law old (says (ended place (pendings gs))) new
+  pub linked : Linked parts next (still place gs)
+
+-- what a walk over the containers that go on answers: it made the ends, or the stream refused one of them
+abbrev pub EndsBefore : {V : Type 0} → Law V → List Part → ℕ → List Going → Standing V → Result (Option ℕ) Error → Standing V → Type 0
+EndsBefore law parts place gs old (Ok next) new = MakesEnds law parts place gs old next new
+EndsBefore law parts place gs old (Err refusal) new = Stops law old (says (ended place (pendings gs))) new

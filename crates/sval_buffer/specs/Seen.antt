@@ -1,32 +1,34 @@
 -- What the parts of the program are.
-use Rattle.std.specs.Prelude.{◌≡◌, ℕ, Bool, true, false, List, map, Option, Some, None}
+use Rattle.std.specs.Prelude.{◌≡◌, ℕ, Bool, true, false, List, map, Option, Some, None, Result, Ok, Err}
+use Rattle.std.specs.Borrow.{Bor}
 use Rattle.sval_label.specs.Calls as call
 use Rattle.sval_label.specs.Calls.{Call}
+use Rattle.sval_label.specs.Grouped.{int_call, seen_head, seen_slot}
+use Rattle.sval_label.specs.declared.grouped.Fragment as grouped
+use Rattle.sval_label.specs.declared.grouped.Fragment.TheVariants.{Borrowed, Computed}
 use Rattle.sval_buffer.specs.Pushes.{Fragment}
 use Rattle.sval_buffer.specs.Forest.{Forest, OutsideText}
 use Rattle.sval_buffer.specs.Flat as flat
 use Rattle.sval_buffer.specs.Built.{open_places, forest_of}
 use Rattle.sval_buffer.specs.Holders.{holders}
 use Rattle.sval_buffer.specs.declared.part.Single.{Single}
-use Rattle.sval_buffer.specs.declared.part.Single.TheVariants.{Null, Bool as Truth, I64}
+use Rattle.sval_buffer.specs.declared.part.Single.TheVariants.{Null, Bool as Truth, Int}
 use Rattle.sval_buffer.specs.declared.part.Begin.{Begin}
-use Rattle.sval_buffer.specs.declared.part.Begin.TheVariants.{Seq, SeqValue}
+use Rattle.sval_buffer.specs.declared.part.Begin.TheVariants.{Sized, Part as OfPart}
 use Rattle.sval_buffer.specs.declared.part.Kind.{Kind}
 use Rattle.sval_buffer.specs.declared.part.Kind.TheVariants as kind
 use Rattle.sval_buffer.specs.declared.part.Part.{Part}
-use Rattle.sval_buffer.specs.declared.part.Piece.{Piece}
-use Rattle.sval_buffer.specs.declared.part.Piece.TheVariants.{Borrowed, Computed}
 use Rattle.sval_buffer.specs.declared.error.ErrorKind.{ErrorKind}
 use Rattle.sval_buffer.specs.Captured.{IsNoAlloc, error_of}
 
 abbrev pub single_call : Single → Call
 single_call Null = call.Null
 single_call (Truth b) = call.Truth b
-single_call (I64 n) = call.Int call.I64 n
+single_call (Int n) = int_call n
 
 abbrev pub begin_call : Begin → Call
-begin_call (Seq size) = call.Begin call.Seq size
-begin_call SeqValue = call.PartBegin call.Item
+begin_call (Sized head size) = call.Begin (seen_head head) size
+begin_call (OfPart slot) = call.PartBegin (seen_slot slot)
 
 abbrev pub kind_of : Kind → flat.Kind
 kind_of (kind.Single single) = flat.One (single_call single)
@@ -59,7 +61,7 @@ pub record Pushed (old : Part) (fragment : Fragment) (new : Part) : Type 0 where
   pub holds : holds_of new.kind ≡ holds_of old.kind
   pub holder : new.holder ≡ old.holder
 
-abbrev pub piece_of : Piece → Fragment
+abbrev pub piece_of : grouped.Fragment (Bor (List ℕ)) (Bor (List ℕ)) → Fragment
 piece_of (Borrowed text) = record { borrowed = true; bytes = text.now }
 piece_of (Computed text) = record { borrowed = false; bytes = text.now }
 
@@ -76,3 +78,8 @@ IsCauseBy (Some next) why = IsNoAlloc why
 
 abbrev pub IsPushCause : Part → Fragment → ErrorKind → Type 0
 IsPushCause old fragment why = IsCauseBy (flat.push_part fragment (kind_of old.kind)) why
+
+-- the fragment was pushed into the part, or the part refused it and is as it was
+abbrev pub PartPushes : Part → Fragment → Result (Unit {0}) ErrorKind → Part → Type 0
+PartPushes old fragment (Ok done) new = Pushed old fragment new
+PartPushes old fragment (Err why) new = (new ≡ old) × IsPushCause old fragment why

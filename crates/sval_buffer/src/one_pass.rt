@@ -1,11 +1,11 @@
 //! Replay of a flat list of parts, in one pass without memory.
 
-ghost use Rattle.std.specs.Prelude.{◌≡◌, List, [], map, OnOk, OnErr, IfOk};
-ghost use Rattle.sval_core.specs.Law.{Streams, Stops};
-ghost use Rattle.sval_buffer.specs.Replay.{ended, pass};
+ghost use Rattle.std.specs.Prelude.{◌≡◌, List, [], map};
+ghost use Rattle.sval_core.specs.Law.{Emits};
+ghost use Rattle.sval_buffer.specs.Replay.{pass};
 ghost use Rattle.sval_buffer.specs.Emitted.{says};
 ghost use Rattle.sval_buffer.specs.Seen.{stored};
-ghost use Rattle.sval_buffer.specs.Nesting.{Going, pendings, still, outer_of, Linked, IsLinked, IsNested};
+ghost use Rattle.sval_buffer.specs.Nesting.{Going, outer_of, Linked, IsLinked, IsNested, EndsBefore};
 
 use crate::part::Part;
 use sval_core::{Lent, Result, Stream};
@@ -40,9 +40,7 @@ fn end_before<'sval, S: Stream<Lent<'sval>>>(
     stream: &mut S,
 ) -> Result<Option<usize>>
     requires { IsLinked parts.now going }
-    ensures ok { (gs : List Going) → Linked parts.now going gs → OnOk result (Streams S.law (S.standing stream.old) (says (ended place (pendings gs))) (S.standing stream.new)) }
-    ensures going { (gs : List Going) → Linked parts.now going gs → IfOk result (λ next. Linked parts.now next (still place gs)) }
-    ensures err { (gs : List Going) → Linked parts.now going gs → OnErr result (Stops S.law (S.standing stream.old) (says (ended place (pendings gs))) (S.standing stream.new)) }
+    ensures { (gs : List Going) → Linked parts.now going gs → EndsBefore S.law parts.now place gs (S.standing stream.old) result (S.standing stream.new) }
 {
     let mut newest = going;
     while let Some(at) = newest {

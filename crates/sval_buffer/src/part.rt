@@ -1,16 +1,17 @@
 //! The parts of a captured value.
 
-ghost use Rattle.std.specs.Prelude.{◌≡◌, [], ◌∷◌, OnOk, OnErr, IfErr, is_ok, if◌then◌else◌};
+ghost use Rattle.std.specs.Prelude.{◌≡◌, [], ◌∷◌, is_ok, if◌then◌else◌};
 ghost use Rattle.sval_buffer.specs.Pushes.{pushed};
-ghost use Rattle.sval_core.specs.Law.{Streams, Stops};
+ghost use Rattle.sval_core.specs.Law.{Emits};
 ghost use Rattle.sval_buffer.specs.Replay.{head_calls};
 ghost use Rattle.sval_buffer.specs.Emitted.{says};
 ghost use Rattle.sval_buffer.specs.Nesting.{end_calls, is_holder};
-ghost use Rattle.sval_buffer.specs.Seen.{Pushed, piece_of, with_holds, IsPushCause, kind_of, holds_of, single_call, begin_call};
+ghost use Rattle.sval_buffer.specs.Forest.{end_of};
+ghost use Rattle.sval_buffer.specs.Seen.{PartPushes, piece_of, with_holds, kind_of, holds_of, single_call, begin_call};
 
 use crate::error::{ErrorKind, Word};
 use crate::text_buf::TextBuf;
-use sval_core::{Lending, Lent, NoMemory, Stream};
+use sval_core::{Fragment, Head, Int, Lending, Lent, NoMemory, Slot, Stream};
 use sval_ref::ValueRef;
 
 /// A call that is complete by itself.
@@ -18,7 +19,7 @@ use sval_ref::ValueRef;
 pub(crate) enum Single {
     Null,
     Bool(bool),
-    I64(i64),
+    Int(Int),
 }
 
 impl Single {
@@ -27,7 +28,7 @@ impl Single {
         match self {
             Single::Null => Word::Null,
             Single::Bool(_) => Word::Boolean,
-            Single::I64(_) => Word::Integer,
+            Single::Int(_) => Word::Integer,
         }
     }
 
@@ -38,7 +39,7 @@ impl Single {
         match self {
             Single::Null => stream.null(),
             Single::Bool(value) => stream.bool(value),
-            Single::I64(value) => stream.i64(value),
+            Single::Int(Int::I64(value)) => stream.i64(value),
         }
     }
 }
@@ -46,8 +47,8 @@ impl Single {
 /// The begin of a container, which is all that has a begin and an end but a text.
 #[derive(Clone, Copy)]
 pub(crate) enum Begin {
-    Seq(Option<usize>),
-    SeqValue,
+    Sized(Head, Option<usize>),
+    Part(Slot),
 }
 
 impl Begin {
@@ -56,8 +57,18 @@ impl Begin {
         ensures { Emits S.law result (S.standing stream.old) (says (begin_call self ∷ [])) (S.standing stream.new) }
     {
         match self {
-            Begin::Seq(size) => stream.seq_begin(size),
-            Begin::SeqValue => stream.seq_value_begin(),
+            Begin::Sized(Head::Seq, size) => stream.seq_begin(size),
+            Begin::Part(Slot::Item) => stream.seq_value_begin(),
+        }
+    }
+
+    /// Makes the end that belongs to the begin.
+    fn stream_end<L: Lending, S: Stream<L>>(self, stream: &mut S) -> sval_core::Result
+        ensures { Emits S.law result (S.standing stream.old) (says (end_of (begin_call self) ∷ [])) (S.standing stream.new) }
+    {
+        match self {
+            Begin::Sized(Head::Seq, _) => stream.seq_end(),
+            Begin::Part(Slot::Item) => stream.seq_value_end(),
         }
     }
 }
@@ -71,13 +82,6 @@ pub(crate) enum Kind<'sval> {
     Container { begin: Begin, holds: usize },
 }
 
-/// A fragment of a text.
-#[derive(Clone, Copy)]
-pub(crate) enum Piece<'sval, 'c> {
-    Borrowed(&'sval str),
-    Computed(&'c str),
-}
-
 /// A part of a captured value.
 #[derive(Drop)]
 pub(crate) struct Part<'sval> {
@@ -88,16 +92,13 @@ pub(crate) struct Part<'sval> {
 
 impl<'sval> Part<'sval> {
     /// Pushes a fragment into a text.
-    pub(crate) fn push(&mut self, piece: Piece<'sval, '_>) -> Result<(), ErrorKind>
-        ensures ok { OnOk result (Pushed self.old (piece_of piece.entry) self.new) }
-        ensures err { IfErr result (λ why. self.new ≡ self.old) }
-        ensures why { IfErr result (λ why. IsPushCause self.old (piece_of piece.entry) why) }
+    pub(crate) fn push(&mut self, fragment: Fragment<&'sval str, &str>) -> Result<(), ErrorKind>
+        ensures { PartPushes self.old (piece_of fragment.entry) result self.new }
     {
         match &mut self.kind {
-            Kind::Text(text) => match push_piece(text, piece) {
-                Ok(()) => Ok(()),
-                Err(_) => Err(ErrorKind::NoAlloc { method: Word::Text }),
-            },
+            Kind::Text(text) => push_fragment(text, fragment).map_err(|_| ErrorKind::NoAlloc {
+                method: Word::Text,
+            }),
             _ => Err(ErrorKind::OutsideContainer { method: Word::Text }),
         }
     }
@@ -138,14 +139,7 @@ impl<'sval> Part<'sval> {
         ensures { Emits S.law result (S.standing stream.old) (says (end_calls (kind_of self.now.kind))) (S.standing stream.new) }
     {
         match &self.kind {
-            Kind::Container {
-                begin: Begin::Seq(_),
-                ..
-            } => stream.seq_end(),
-            Kind::Container {
-                begin: Begin::SeqValue,
-                ..
-            } => stream.seq_value_end(),
+            Kind::Container { begin, .. } => begin.stream_end(stream),
             Kind::Single(_) | Kind::Text(_) => Ok(()),
         }
     }
@@ -161,15 +155,15 @@ impl<'sval> Part<'sval> {
 }
 
 /// Pushes a fragment into a text.
-fn push_piece<'sval>(text: &mut TextBuf<'sval>, piece: Piece<'sval, '_>) -> Result<(), NoMemory>
-    ensures { text.new ≡ (if is_ok result then pushed text.old (piece_of piece.entry) else text.old) }
+fn push_fragment<'sval>(
+    text: &mut TextBuf<'sval>,
+    fragment: Fragment<&'sval str, &str>,
+) -> Result<(), NoMemory>
+    ensures { text.new ≡ (if is_ok result then pushed text.old (piece_of fragment.entry) else text.old) }
 {
-    let pushed = match piece {
-        Piece::Borrowed(fragment) => text.push_fragment(fragment),
-        Piece::Computed(fragment) => text.push_fragment_computed(fragment),
+    let pushed = match fragment {
+        Fragment::Borrowed(text_kept) => text.push_fragment(text_kept),
+        Fragment::Computed(text_copied) => text.push_fragment_computed(text_copied),
     };
-    match pushed {
-        Ok(()) => Ok(()),
-        Err(_) => Err(NoMemory),
-    }
+    pushed.map_err(|_| NoMemory)
 }

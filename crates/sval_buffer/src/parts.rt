@@ -1,8 +1,8 @@
 //! The parts of a captured value, in a flat list.
 
-ghost use Rattle.std.specs.Prelude.{◌≡◌, true, false, OnOk, OnErr, is_ok, if◌then◌else◌, [], ◌∷◌, ◌++◌};
+ghost use Rattle.std.specs.Prelude.{◌≡◌, true, false, [], ◌∷◌};
 ghost use Rattle.sval_label.specs.Made.{lent_call};
-ghost use Rattle.sval_core.specs.Law.{Streams, Stops};
+ghost use Rattle.sval_core.specs.Law.{Emits};
 ghost use Rattle.sval_buffer.specs.Emitted.{says};
 ghost use Rattle.sval_buffer.specs.Forest as forest;
 ghost use Rattle.sval_buffer.specs.Forest.{Taken, add, with_flag, begun, close, row_or, push_last_text, newest_row, empty_forest, no_bytes};
@@ -11,11 +11,11 @@ ghost use Rattle.sval_buffer.specs.Seen.{single_call, begin_call, piece_of};
 
 use crate::error::{ErrorKind, Word};
 use crate::one_pass::replay_parts;
-use crate::part::{Begin, Kind, Part, Piece, Single};
+use crate::part::{Begin, Kind, Part, Single};
 use crate::text_buf::TextBuf;
 use std::alloc::Global;
 use std::marker::Model;
-use sval_core::{Call, Lent, NoMemory, Stream};
+use sval_core::{Call, Fragment, GroupedCall, Lent, Stream};
 
 /// The parts of a captured value, seen as the forest that they are.
 #[derive(Drop)]
@@ -88,7 +88,7 @@ impl<'sval> Parts<'sval> {
             kind: Kind::Single(single),
             holder: self.places.last().copied(),
         };
-        if push_part(&mut self.parts, part).is_err() {
+        if self.parts.push(part).is_err() {
             return Err(ErrorKind::NoAlloc {
                 method: single.word(),
             });
@@ -104,7 +104,7 @@ impl<'sval> Parts<'sval> {
             kind: Kind::Text(TextBuf::new(alloc)),
             holder: self.places.last().copied(),
         };
-        if push_part(&mut self.parts, part).is_err() {
+        if self.parts.push(part).is_err() {
             return Err(ErrorKind::NoAlloc { method: Word::Text });
         }
         self.in_fragments = true;
@@ -119,11 +119,11 @@ impl<'sval> Parts<'sval> {
     }
 
     /// Pushes a fragment into the last part.
-    pub(crate) fn push(&mut self, piece: Piece<'sval, '_>) -> Result<(), ErrorKind>
-        ensures { CapturesBy (row_or forest.OutsideText self.old (push_last_text (piece_of piece.entry) (newest_row self.old.nodes self.old.spine))) self.old result self.new }
+    pub(crate) fn push(&mut self, fragment: Fragment<&'sval str, &str>) -> Result<(), ErrorKind>
+        ensures { CapturesBy (row_or forest.OutsideText self.old (push_last_text (piece_of fragment.entry) (newest_row self.old.nodes self.old.spine))) self.old result self.new }
     {
         match self.parts.last_mut() {
-            Some(part) => part.push(piece),
+            Some(part) => part.push(fragment),
             None => Err(ErrorKind::OutsideContainer { method: Word::Text }),
         }
     }
@@ -137,16 +137,12 @@ impl<'sval> Parts<'sval> {
             holder: self.places.last().copied(),
         };
         let place = self.parts.len();
-        if self.places.reserve(1).is_err() || push_part(&mut self.parts, part).is_err() {
+        if self.places.reserve(1).is_err() || self.parts.push(part).is_err() {
             return Err(ErrorKind::NoAlloc {
                 method: Word::Sequence,
             });
         }
-        if self.places.push(place).is_err() {
-            return Err(ErrorKind::NoAlloc {
-                method: Word::Sequence,
-            });
-        }
+        self.places.push_reserved(place);
         Ok(())
     }
 
@@ -165,20 +161,19 @@ impl<'sval> Parts<'sval> {
     pub(crate) fn capture(&mut self, alloc: Global, call: Call<'sval, '_>) -> Result<(), ErrorKind>
         ensures { CapturesBy (forest.take self.old (lent_call call.entry)) self.old result self.new }
     {
-        match call {
-            Call::Null => self.single(Single::Null),
-            Call::Bool(value) => self.single(Single::Bool(value)),
-            Call::I64(value) => self.single(Single::I64(value)),
-            Call::TextBegin(_) => self.text_begin(alloc),
-            Call::TextFragment(text) => self.push(Piece::Borrowed(text)),
-            Call::TextFragmentComputed(text) => self.push(Piece::Computed(text)),
-            Call::TextEnd => {
+        match call.grouped() {
+            GroupedCall::Null => self.single(Single::Null),
+            GroupedCall::Bool(value) => self.single(Single::Bool(value)),
+            GroupedCall::Int(value) => self.single(Single::Int(value)),
+            GroupedCall::TextBegin(_) => self.text_begin(alloc),
+            GroupedCall::TextFragment(fragment) => self.push(fragment),
+            GroupedCall::TextEnd => {
                 self.text_end();
                 Ok(())
             }
-            Call::SeqBegin(size) => self.begin(Begin::Seq(size)),
-            Call::SeqValueBegin => self.begin(Begin::SeqValue),
-            Call::SeqValueEnd | Call::SeqEnd => self.end(),
+            GroupedCall::Begin(head, size) => self.begin(Begin::Sized(head, size)),
+            GroupedCall::PartBegin(slot) => self.begin(Begin::Part(slot)),
+            GroupedCall::End(_) | GroupedCall::PartEnd(_) => self.end(),
         }
     }
 
@@ -196,15 +191,5 @@ impl<'sval> Parts<'sval> {
                 reason: Word::Unbalanced,
             }),
         }
-    }
-}
-
-/// Adds a part at the end.
-fn push_part<'sval>(parts: &mut Vec<Part<'sval>>, part: Part<'sval>) -> Result<(), NoMemory>
-    ensures { parts.new.items ≡ (if is_ok result then parts.old.items ++ part.entry ∷ [] else parts.old.items) }
-{
-    match parts.push(part) {
-        Ok(()) => Ok(()),
-        Err(_) => Err(NoMemory),
     }
 }

@@ -1,9 +1,9 @@
 //! What buffers hold, and what they make of it.
 
-ghost use Rattle.std.specs.Prelude.{[], true, OnOk, OnErr};
+ghost use Rattle.std.specs.Prelude.{[], true};
 ghost use Rattle.sval_label.specs.Made.{lent_call};
-ghost use Rattle.sval_core.specs.Law.{Takes, Refuses};
-ghost use Rattle.sval_buffer.specs.Tests.{takes_all, wanting};
+ghost use Rattle.sval_core.specs.Law.{Answers};
+ghost use Rattle.sval_core.specs.Lenient.{lenient, with_wants};
 
 use crate::{Error, ErrorKind, TextBuf, ValueBuf, Word};
 use std::alloc::{AllocError, Global};
@@ -21,12 +21,12 @@ struct Written {
 impl<'sval> Stream<Lent<'sval>> for Written {
     ghost View = { Unit {0} };
 
-    ghost law = { takes_all };
+    ghost law = { lenient };
 
-    ghost standing = { λ written. wanting written.wants };
+    ghost standing = { λ written. with_wants written.wants };
 
     fn take(&mut self, call: Call<'sval, '_>) -> sval_core::Result
-        ensures { Answers takes_all result (wanting self.old.wants) (lent_call call.entry) (wanting self.new.wants) }
+        ensures { Answers lenient result (with_wants self.old.wants) (lent_call call.entry) (with_wants self.new.wants) }
     {
         if write!(self.text, "{call:?} ").is_err() {
             self.wants = self.wants.saturating_add(1);

@@ -99,10 +99,9 @@ impl<'sval> TextBuf<'sval> {
         ensures err { IfErr result (λ error. IsNoAlloc error × (self.new ≡ self.old)) }
     {
         match &mut self.held {
-            Held::Owned(text) => match text.push_str(fragment) {
-                Ok(()) => Ok(()),
-                Err(_) => Err(Error::new(ErrorKind::NoAlloc { method: Word::Text })),
-            },
+            Held::Owned(text) => text.push_str(fragment).map_err(|_| {
+                Error::new(ErrorKind::NoAlloc { method: Word::Text })
+            }),
             Held::Borrowed(text) => match joined(self.alloc, text, fragment) {
                 Ok(copy) => {
                     self.held = Held::Owned(copy);

@@ -1,10 +1,10 @@
 //! Captured values.
 
-ghost use Rattle.std.specs.Prelude.{◌≡◌, false, Some, OnOk, OnErr, IfOk, IfErr};
+ghost use Rattle.std.specs.Prelude.{◌≡◌, ◌≤◌, false, Some, IfOk, IfErr};
 ghost use Rattle.sval_label.specs.Made.{lent_call};
 ghost use Rattle.sval_core.specs.Trees.{Tree};
 ghost use Rattle.sval_core.specs.Spells.{Spells};
-ghost use Rattle.sval_core.specs.Law.{Takes, Refuses};
+ghost use Rattle.sval_core.specs.Law.{Answers};
 ghost use Rattle.sval_buffer.specs.Forest as forest;
 ghost use Rattle.sval_buffer.specs.Captured.{Capture, no_calls, wants_after, capture_law, standing_of};
 ghost use Rattle.sval_buffer.specs.Emitted.{says};
@@ -142,10 +142,7 @@ impl<'sval> ValueBuf<'sval> {
     pub fn into_err(self) -> Option<Error>
         ensures { result ≡ self.entry.refusal }
     {
-        match self.refusal {
-            Some(kind) => Some(Error::new(kind)),
-            None => None,
-        }
+        self.refusal.map(Error::new)
     }
 
     /// Why a value wasn't captured: a refused call, or else the value itself.
@@ -162,7 +159,8 @@ impl<'sval> ValueBuf<'sval> {
 
     /// Keeps why a call was refused.
     fn keep(&mut self, why: ErrorKind)
-        ensures { self.new ≡ record self.old { refusal = Some why; wants = wants_after why self.old.wants } }
+        ensures kept { self.new ≡ record self.old { refusal = Some why; wants = wants_after why self.old.wants } }
+        ensures rises { self.old.wants ≤ self.new.wants }
     {
         if let ErrorKind::NoAlloc { .. } = why {
             self.wants = self.wants.saturating_add(1);

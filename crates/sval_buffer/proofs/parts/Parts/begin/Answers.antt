@@ -8,15 +8,15 @@ use Rattle.sval_buffer.proofs.parts.Parts.begin.Goals as goal
 pub invariant_of-self-2 : goal.invariant_of-self-2
 invariant_of-self-2 c =
     let is : Is c.self.inside.parts.items c.self.inside.places.items c.self.inside.in_fragments c.args.self.now = record { view = c.self.view_is; invariant = c.self.invariant } in
-    let e = was_pushed c.push_part.result _ _ c.push_part.ensures c.if-is_err-2.ensures.negation in
-    let p : c.push.new.self.items ≡ c.self.inside.places.items ++ (c.len-place.result ∷ []) = was_pushed c.push.result _ _ c.push.ensures.items c.if-is_err-3.ensures.negation ∙ ap (λ (qs : List ℕ). qs ++ (c.len-place.result ∷ [])) c.reserve.ensures.items in
+    let e = was_pushed c.push.result _ _ c.push.ensures.items c.if-is_err-2.ensures.negation in
+    let p : c.push_reserved.new.self.items ≡ c.self.inside.places.items ++ (c.len-place.result ∷ []) = c.push_reserved.ensures.items ∙ ap (λ (qs : List ℕ). qs ++ (c.len-place.result ∷ [])) c.reserve.ensures.items in
     let now = is_begun _ (begin_call c.args.begin) c.len-place.result is refl (c.copied.ensures ∙ c.last.ensures.value ∙ ap (λ (qs : List ℕ). slice_get qs (length qs - 1)) c.deref.ensures.value) (c.len-place.ensures ∙ c.self.inside.parts.ok.0) in
     rw (e, p) now.invariant
 
 pub returns : goal.returns
 returns c =
     let is : Is c.self.inside.parts.items c.self.inside.places.items c.self.inside.in_fragments c.args.self.now = record { view = c.self.view_is; invariant = c.self.invariant } in
-    let e = was_pushed c.push_part.result _ _ c.push_part.ensures c.if-is_err-2.ensures.negation in
-    let p : c.push.new.self.items ≡ c.self.inside.places.items ++ (c.len-place.result ∷ []) = was_pushed c.push.result _ _ c.push.ensures.items c.if-is_err-3.ensures.negation ∙ ap (λ (qs : List ℕ). qs ++ (c.len-place.result ∷ [])) c.reserve.ensures.items in
+    let e = was_pushed c.push.result _ _ c.push.ensures.items c.if-is_err-2.ensures.negation in
+    let p : c.push_reserved.new.self.items ≡ c.self.inside.places.items ++ (c.len-place.result ∷ []) = c.push_reserved.ensures.items ∙ ap (λ (qs : List ℕ). qs ++ (c.len-place.result ∷ [])) c.reserve.ensures.items in
     let now = is_begun _ (begin_call c.args.begin) c.len-place.result is refl (c.copied.ensures ∙ c.last.ensures.value ∙ ap (λ (qs : List ℕ). slice_get qs (length qs - 1)) c.deref.ensures.value) (c.len-place.ensures ∙ c.self.inside.parts.ok.0) in
     ap Taken (sym (rw (e, p) now.view))

@@ -9,13 +9,13 @@ use Rattle.sval_buffer.proofs.parts.Parts.single.Goals as goal
 pub invariant_of-self-2 : goal.invariant_of-self-2
 invariant_of-self-2 c =
     let is : Is c.self.inside.parts.items c.self.inside.places.items c.self.inside.in_fragments c.args.self.now = record { view = c.self.view_is; invariant = c.self.invariant } in
-    let e = was_pushed c.push_part.result _ _ c.push_part.ensures c.if-is_err.ensures.negation in
+    let e = was_pushed c.push.result _ _ c.push.ensures.items c.if-is_err.ensures.negation in
     let now = is_added _ (forest.Single (single_call c.args.single)) is refl (λ place h. refl) (c.copied.ensures ∙ c.last.ensures.value ∙ ap (λ (qs : List ℕ). slice_get qs (length qs - 1)) c.deref.ensures.value) in
     rw e now.invariant
 
 pub returns : goal.returns
 returns c =
     let is : Is c.self.inside.parts.items c.self.inside.places.items c.self.inside.in_fragments c.args.self.now = record { view = c.self.view_is; invariant = c.self.invariant } in
-    let e = was_pushed c.push_part.result _ _ c.push_part.ensures c.if-is_err.ensures.negation in
+    let e = was_pushed c.push.result _ _ c.push.ensures.items c.if-is_err.ensures.negation in
     let now = is_added _ (forest.Single (single_call c.args.single)) is refl (λ place h. refl) (c.copied.ensures ∙ c.last.ensures.value ∙ ap (λ (qs : List ℕ). slice_get qs (length qs - 1)) c.deref.ensures.value) in
     ap Taken (sym (rw e now.view))

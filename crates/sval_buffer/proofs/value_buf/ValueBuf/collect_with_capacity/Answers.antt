@@ -5,20 +5,20 @@ use Rattle.sval_buffer.proofs.Collecting.{collected, collect_cause, keeps_tree, 
 use Rattle.sval_buffer.proofs.value_buf.ValueBuf.collect_with_capacity.Goals as goal
 
 pub returns-in-Ok-clause-ok : goal.returns-in-Ok-clause-ok
-returns-in-Ok-clause-ok g c = collected (g.V.Value.emission c.args.v.now) c.with_room-buffer.result c.stream.new.stream c.with_room-buffer.ensures c.in-Ok.ensures.ok
+returns-in-Ok-clause-ok g c = collected (g.V.Value.emission c.args.v.now) c.with_room-buffer.result c.stream.new.stream c.with_room-buffer.ensures c.in-Ok.ensures
 
 pub returns-in-Ok-clause-keeps_the_tree : goal.returns-in-Ok-clause-keeps_the_tree
 returns-in-Ok-clause-keeps_the_tree g c =
     let e = g.V.Value.emission c.args.v.now in
-    keeps_tree e c.stream.new.stream.forest (collected e c.with_room-buffer.result c.stream.new.stream c.with_room-buffer.ensures c.in-Ok.ensures.ok).taken
+    keeps_tree e c.stream.new.stream.forest (collected e c.with_room-buffer.result c.stream.new.stream c.with_room-buffer.ensures c.in-Ok.ensures).taken
 
 pub returns-in-Err-clause-err : goal.returns-in-Err-clause-err
 returns-in-Err-clause-err g c =
     let e = g.V.Value.emission c.args.v.now in
-    subst (IsCollectCause e) (sym c.cause.ensures) (collect_cause e c.with_room-buffer.result c.stream.new.stream c.with_room-buffer.ensures c.in-Err.ensures.err)
+    subst (IsCollectCause e) (sym c.cause.ensures) (collect_cause e c.with_room-buffer.result c.stream.new.stream c.with_room-buffer.ensures c.in-Err.ensures)
 
 pub returns-in-Err-clause-complete : goal.returns-in-Err-clause-complete
 returns-in-Err-clause-complete g c tree willing spells =
     let e = g.V.Value.emission c.args.v.now in
-    let cause = collect_cause e c.with_room-buffer.result c.stream.new.stream c.with_room-buffer.ensures c.in-Err.ensures.err in
+    let cause = collect_cause e c.with_room-buffer.result c.stream.new.stream c.with_room-buffer.ensures c.in-Err.ensures in
     subst IsNoAlloc (sym c.cause.ensures) (only_no_alloc e tree _ willing spells cause)
