@@ -8,7 +8,7 @@ use Rattle.sval_core.specs.Law.{Emission}
 use Rattle.sval_core.specs.Names.{says_none, number_tag, tag_alone}
 use Rattle.sval_lower.specs.Lower.{wide_calls, label_or_null}
 use Rattle.sval_lower.specs.Lowered.{lowered, lowered_call, lowered_within, is_for_binaries}
-use Rattle.sval_buffer.specs.Pushes.{Fragment}
+use Rattle.sval_buffer.specs.Pushes.{HeldBytes}
 use Rattle.sval_buffer.specs.Forest.{no_bytes}
 use Rattle.sval_buffer.specs.declared.error.Word.{Word}
 use Rattle.sval_buffer.specs.declared.error.Word.TheVariants as word
@@ -19,10 +19,10 @@ use Rattle.sval_buffer.proofs.CollectingFragments.{stream_collects}
 use Rattle.sval_lower.proofs.WideNumbers.{at_wide, from_u128, from_u64, from_u32, from_u16}
 use Rattle.sval_buffer.proofs.CollectedSteps.{use_step, steps_collect}
 
-abbrev after_binary : Fragment → List Call → Result Fragment Word
+abbrev after_binary : HeldBytes → List Call → Result HeldBytes Word
 after_binary held calls = steps_of (use_step binary_use) held calls
 
-binary_wide : (n : ℤ) (held : Fragment) → after_binary held (lowered is_for_binaries (wide_calls n)) ≡ binary_step held (Call.Int IntType.U128 n)
+binary_wide : (n : ℤ) (held : HeldBytes) → after_binary held (lowered is_for_binaries (wide_calls n)) ≡ binary_step held (Call.Int IntType.U128 n)
 unfolding steps_of lowered_within
 binary_wide n held = go (is_signed 63 n)
   where
@@ -31,7 +31,7 @@ binary_wide n held = go (is_signed 63 n)
     go true = refl
     go false = refl
 
-binary_int : (type : IntType) (n : ℤ) (held : Fragment) → after_binary held (lowered_call is_for_binaries (Call.Int type n)) ≡ binary_step held (Call.Int type n)
+binary_int : (type : IntType) (n : ℤ) (held : HeldBytes) → after_binary held (lowered_call is_for_binaries (Call.Int type n)) ≡ binary_step held (Call.Int type n)
 unfolding steps_of lowered_within
 binary_int IntType.I8 n held = refl
 binary_int IntType.I16 n held = refl
@@ -44,7 +44,7 @@ binary_int IntType.U64 n held = ap (after_binary held) (from_u64 is_for_binaries
 binary_int IntType.U128 n held = ap (after_binary held) (from_u128 is_for_binaries n refl) ∙ binary_wide n held
 binary_int IntType.I128 n held = ap (after_binary held) (at_wide is_for_binaries IntType.I128 n refl refl) ∙ binary_wide n held
 
-binary_own : (name : Name) (held : Fragment) → after_binary held (lowered_call is_for_binaries (Call.Standalone name)) ≡ binary_step held (Call.Standalone name)
+binary_own : (name : Name) (held : HeldBytes) → after_binary held (lowered_call is_for_binaries (Call.Standalone name)) ≡ binary_step held (Call.Standalone name)
 unfolding steps_of lowered_within
 binary_own name held = go (says_none name.tag) name.label
   where
@@ -55,7 +55,7 @@ binary_own name held = go (says_none name.tag) name.label
     go false (Some label) = refl
     go false None = refl
 
-binary_call : (call : Call) (held : Fragment) → after_binary held (lowered_call is_for_binaries call) ≡ binary_step held call
+binary_call : (call : Call) (held : HeldBytes) → after_binary held (lowered_call is_for_binaries call) ≡ binary_step held call
 unfolding steps_of lowered_within
 binary_call Call.Null held = refl
 binary_call (Call.Truth b) held = refl

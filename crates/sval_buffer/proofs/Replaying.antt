@@ -11,24 +11,25 @@ use Rattle.sval_core.specs.Law.{Law, Standing, Streams, Stops, Answers, Emits, e
 use Rattle.sval_core.proofs.Emissions.{streams_one, stops_one, streams_then, stops_first, stops_later}
 use Rattle.sval_buffer.specs.Forest.{Forest, null_for_none, replayed}
 use Rattle.sval_buffer.specs.Flat as flat
+use Rattle.sval_buffer.specs.Flat.{FlatKind, FlatPart, flat_part}
 use Rattle.sval_buffer.specs.Replay.{Pending, ended, going, all_ends, head_calls, opened, pass}
-use Rattle.sval_buffer.specs.Emitted.{says}
+use Rattle.sval_core.specs.Values.{makes}
 use Rattle.sval_buffer.specs.declared.part.Part.{Part}
-use Rattle.sval_buffer.specs.Seen.{kind_of, holds_of, stored, holder, Tells}
-use Rattle.sval_buffer.specs.Nesting.{Going, pendings, still, opens, top, outer_of, IsBelow, Link, Linked, Nested, AllStop, IsNested, end_calls, is_holder, MakesEnds, EndsBefore}
+use Rattle.sval_buffer.specs.SeenParts.{flat_kind, holds_of, stored, holder, TellsForest}
+use Rattle.sval_buffer.specs.Nested.{Going, pendings, still, opens, top, outer_of, IsBelow, Link, Linked, Nested, AllStop, IsNested, end_calls, is_holder, MakesEnds, EndsBefore}
 
 -- ---- one list of calls after another
 
 module _ {V : Type 0} {law : Law V} {old mid new : Standing V} where
-  pub goes_on : {xs ys : List Call} → Streams law old (says xs) mid → Streams law mid (says ys) new → Streams law old (says (xs ++ ys)) new
+  pub goes_on : {xs ys : List Call} → Streams law old (makes xs) mid → Streams law mid (makes ys) new → Streams law old (makes (xs ++ ys)) new
   unfolding then_emits
   goes_on s t = streams_then s t
 
-  pub stops_in : {xs ys : List Call} (zs : List Call) → Streams law old (says xs) mid → Stops law mid (says ys) new → Stops law old (says (xs ++ (ys ++ zs))) new
+  pub stops_in : {xs ys : List Call} (zs : List Call) → Streams law old (makes xs) mid → Stops law mid (makes ys) new → Stops law old (makes (xs ++ (ys ++ zs))) new
   unfolding then_emits
-  stops_in zs s t = stops_later s (stops_first (says zs) t)
+  stops_in zs s t = stops_later s (stops_first (makes zs) t)
 
-pub streams_nothing : {V : Type 0} (law : Law V) (at : Standing V) → Streams law at (says []) at
+pub streams_nothing : {V : Type 0} (law : Law V) (at : Standing V) → Streams law at (makes []) at
 streams_nothing law at = record { willing = refl; ran = refl; faults = refl; wants = refl }
 
 get_found : {X : Type 0} (xs : List X) (i : ℕ) (x : X) → i < length xs → x ≡ get_or xs i x → slice_get xs i ≡ Some x
@@ -60,7 +61,7 @@ pub record IsWalked {V : Type 0} (law : Law V) (old now : Standing V) (parts : L
   pub linked : Linked parts at rest
   pub ended_is : ended place (pendings gs) ≡ done ++ ended place (pendings rest)
   pub still_is : still place gs ≡ still place rest
-  pub streams : Streams law old (says done) now
+  pub streams : Streams law old (makes done) now
 
 pub walk-start : {V : Type 0} (law : Law V) (old : Standing V) (parts : List Part) (place : ℕ) (at : Option ℕ) (gs : List Going) → Linked parts at gs → IsWalked law old old parts place at gs
 walk-start law old parts place at gs l = record { rest = gs; done = []; linked = l; ended_is = refl; still_is = refl; streams = streams_nothing law old }
@@ -103,7 +104,7 @@ module _ {V : Type 0} {law : Law V} {old now : Standing V} {parts : List Part} {
     where
       go : (rest : List Going) → Linked parts None rest → ended place (pendings gs) ≡ w.done ++ ended place (pendings rest) → still place gs ≡ still place rest
           → MakesEnds law parts place gs old None now
-      go [] l e s = record { streams = subst (λ calls. Streams law old (says calls) now) (sym (e ∙ append-nil w.done)) w.streams; linked = subst (Linked parts None) (sym s) refl }
+      go [] l e s = record { streams = subst (λ calls. Streams law old (makes calls) now) (sym (e ∙ append-nil w.done)) w.streams; linked = subst (Linked parts None) (sym s) refl }
       go (newest ∷ older) l e s = let never = l.0.at in cc never
 
   -- the newest goes on at this place
@@ -117,7 +118,7 @@ module _ {V : Type 0} {law : Law V} {old now : Standing V} {parts : List Part} {
       let none_ends : ended place (pendings w.rest) ≡ [] = ap (λ gs. ended place (pendings gs)) n.rest_is ∙ rw e refl in
       let all_go : still place w.rest ≡ w.rest = ap (still place) n.rest_is ∙ rw e (sym n.rest_is) in
       record {
-        streams = subst (λ calls. Streams law old (says calls) now) (sym (w.ended_is ∙ ap (λ calls. w.done ++ calls) none_ends ∙ append-nil w.done)) w.streams;
+        streams = subst (λ calls. Streams law old (makes calls) now) (sym (w.ended_is ∙ ap (λ calls. w.done ++ calls) none_ends ∙ append-nil w.done)) w.streams;
         linked = subst (Linked parts (Some at)) (sym (w.still_is ∙ all_go)) w.linked;
       }
 
@@ -134,29 +135,29 @@ module _ {V : Type 0} {law : Law V} {old now : Standing V} {parts : List Part} {
         ap (λ (x : Pending). x.stop) n.link.pending ∙ ap (λ k. k + 1 + holds_of n.link.part.kind) n.place_is ∙ ap (λ (x : Part). at + 1 + holds_of x.kind) part_is in
         grind (arith, nat_tests)
 
-    end_is : end_calls (kind_of p.kind) ≡ n.newest.pending.end ∷ []
+    end_is : end_calls (flat_kind p.kind) ≡ n.newest.pending.end ∷ []
     end_is =
-        ap (λ (x : Part). end_calls (kind_of x.kind)) (sym part_is) ∙ ap end_calls n.link.kind ∙ ap (λ (x : Pending). x.end ∷ []) (sym n.link.pending)
+        ap (λ (x : Part). end_calls (flat_kind x.kind)) (sym part_is) ∙ ap end_calls n.link.kind ∙ ap (λ (x : Pending). x.end ∷ []) (sym n.link.pending)
 
-    ends_here : ended place (pendings w.rest) ≡ end_calls (kind_of p.kind) ++ ended place (pendings n.older)
+    ends_here : ended place (pendings w.rest) ≡ end_calls (flat_kind p.kind) ++ ended place (pendings n.older)
     ends_here = let e = stops_here in ap (λ gs. ended place (pendings gs)) n.rest_is ∙ rw e (ap (λ calls. calls ++ ended place (pendings n.older)) (sym end_is))
 
     still_here : still place w.rest ≡ still place n.older
     still_here = let e = stops_here in ap (still place) n.rest_is ∙ rw e refl
 
-    pub walk-step : {new : Standing V} → Streams law now (says (end_calls (kind_of p.kind))) new → IsWalked law old new parts place (outer_of (map stored parts) p.holder) gs
+    pub walk-step : {new : Standing V} → Streams law now (makes (end_calls (flat_kind p.kind))) new → IsWalked law old new parts place (outer_of (map stored parts) p.holder) gs
     walk-step t = record {
       rest = n.older;
-      done = w.done ++ end_calls (kind_of p.kind);
+      done = w.done ++ end_calls (flat_kind p.kind);
       linked = subst (λ (x : Part). Linked parts (outer_of (map stored parts) x.holder) n.older) part_is n.linked;
-      ended_is = w.ended_is ∙ ap (λ calls. w.done ++ calls) ends_here ∙ sym (append_assoc w.done (end_calls (kind_of p.kind)) (ended place (pendings n.older)));
+      ended_is = w.ended_is ∙ ap (λ calls. w.done ++ calls) ends_here ∙ sym (append_assoc w.done (end_calls (flat_kind p.kind)) (ended place (pendings n.older)));
       still_is = w.still_is ∙ still_here;
       streams = goes_on w.streams t;
     }
 
-    pub walk-stop : {new : Standing V} → Stops law now (says (end_calls (kind_of p.kind))) new → Stops law old (says (ended place (pendings gs))) new
+    pub walk-stop : {new : Standing V} → Stops law now (makes (end_calls (flat_kind p.kind))) new → Stops law old (makes (ended place (pendings gs))) new
     walk-stop {new} t =
-        subst (λ calls. Stops law old (says calls) new) (sym (w.ended_is ∙ ap (λ calls. w.done ++ calls) ends_here)) (stops_in (ended place (pendings n.older)) w.streams t)
+        subst (λ calls. Stops law old (makes calls) new) (sym (w.ended_is ∙ ap (λ calls. w.done ++ calls) ends_here)) (stops_in (ended place (pendings n.older)) w.streams t)
 
     pub walk-below : IsBelow (outer_of (map stored parts) p.holder) at
     walk-below = subst (λ (x : Part). IsBelow (outer_of (map stored parts) x.holder) at) part_is (subst (IsBelow (outer_of (map stored parts) n.link.part.holder)) n.place_is n.link.below)
@@ -172,7 +173,7 @@ nearer (Some place) now at e h = rw e (omega arith)
 
 -- where a `?` passes on that an end was refused
 pub ends_stopped : {V : Type 0} {law : Law V} {old new : Standing V} (parts : List Part) (place : ℕ) (gs : List Going) (r : Result (Option ℕ) Error) → IsErr r
-    → Stops law old (says (ended place (pendings gs))) new → EndsBefore law parts place gs old r new
+    → Stops law old (makes (ended place (pendings gs))) new → EndsBefore law parts place gs old r new
 ends_stopped parts place gs (Ok next) is s = cc is
 ends_stopped parts place gs (Err refusal) is s = s
 
@@ -203,7 +204,7 @@ linked_top : (parts : List Part) (at : Option ℕ) (gs : List Going) → Linked 
 linked_top parts at [] l = l
 linked_top parts at (newest ∷ older) l = l.0.at
 
-opens-opened : (i holds : ℕ) (kind : flat.Kind) (gs : List Going) → pendings (opens i holds kind gs) ≡ opened i holds kind (pendings gs)
+opens-opened : (i holds : ℕ) (kind : FlatKind) (gs : List Going) → pendings (opens i holds kind gs) ≡ opened i holds kind (pendings gs)
 opens-opened i holds (flat.One call) gs = refl
 opens-opened i holds (flat.Words held) gs = refl
 opens-opened i holds (flat.Bytes held) gs = refl
@@ -217,27 +218,27 @@ pub record IsReplayed {V : Type 0} (law : Law V) (old now : Standing V) (parts :
   pub before : Before i gs
   pub nested : Nested (map stored parts) i gs (map stored (drop i parts)) (map holder (drop i parts))
   pub all_is : pass 0 [] (map stored parts) ≡ done ++ pass i (pendings gs) (map stored (drop i parts))
-  pub streams : Streams law old (says done) now
+  pub streams : Streams law old (makes done) now
 
 pub replay-start : {V : Type 0} (law : Law V) (old : Standing V) (parts : List Part) → IsNested parts → IsReplayed law old old parts 0 None
 replay-start law old parts n = record { gs = []; done = []; linked = refl; before = tt; nested = n; all_is = refl; streams = streams_nothing law old }
 
 -- where a container is opened, it is the newest, and else the newest is that of before
-unfoldable pub newest_after : ℕ → flat.Kind → Option ℕ → Option ℕ
+unfoldable pub newest_after : ℕ → FlatKind → Option ℕ → Option ℕ
 newest_after i kind at = if is_holder kind then Some i else at
 
 module _ {V : Type 0} {law : Law V} {old now : Standing V} {parts : List Part} {i : ℕ} {at : Option ℕ} (p : Part) (r : IsReplayed law old now parts i at) (lt : i < length parts) (same : p ≡ get_or parts i p) where
-  abbrev more : List flat.Part
+  abbrev more : List FlatPart
   more = map stored (drop (i + 1) parts)
 
   abbrev ends : List Call
   ends = ended i (pendings r.gs)
 
   abbrev heads : List Call
-  heads = head_calls (kind_of p.kind)
+  heads = head_calls (flat_kind p.kind)
 
   abbrev gs' : List Going
-  gs' = opens i (holds_of p.kind) (kind_of p.kind) (still i r.gs)
+  gs' = opens i (holds_of p.kind) (flat_kind p.kind) (still i r.gs)
 
   dropped : drop i parts ≡ p ∷ drop (i + 1) parts
   dropped = rw add-one (drop-cons parts i p lt) ∙ ap (λ (x : Part). x ∷ drop (i + 1) parts) (sym same)
@@ -251,15 +252,15 @@ module _ {V : Type 0} {law : Law V} {old now : Standing V} {parts : List Part} {
       r.all_is
       ∙ ap (λ (ps : List Part). r.done ++ pass i (pendings r.gs) (map stored ps)) dropped
       ∙ ap (λ (qs : List Pending). r.done ++ (ends ++ (heads ++ pass (i + 1) qs more)))
-      (ap (opened i (holds_of p.kind) (kind_of p.kind)) (sym (pendings-still i r.gs)) ∙ sym (opens-opened i (holds_of p.kind) (kind_of p.kind) (still i r.gs)))
+      (ap (opened i (holds_of p.kind) (flat_kind p.kind)) (sym (pendings-still i r.gs)) ∙ sym (opens-opened i (holds_of p.kind) (flat_kind p.kind) (still i r.gs)))
 
   -- the ends before it were refused
-  pub replay-stop_ends : {mid : Standing V} → Stops law now (says ends) mid → Stops law old (says (pass 0 [] (map stored parts))) mid
-  replay-stop_ends {mid} t = subst (λ calls. Stops law old (says calls) mid) (sym passed) (stops_in (heads ++ pass (i + 1) (pendings gs') more) r.streams t)
+  pub replay-stop_ends : {mid : Standing V} → Stops law now (makes ends) mid → Stops law old (makes (pass 0 [] (map stored parts))) mid
+  replay-stop_ends {mid} t = subst (λ calls. Stops law old (makes calls) mid) (sym passed) (stops_in (heads ++ pass (i + 1) (pendings gs') more) r.streams t)
 
-  linked_after : (next : Option ℕ) → Linked parts next (still i r.gs) → Linked parts (newest_after i (kind_of p.kind) next) gs'
+  linked_after : (next : Option ℕ) → Linked parts next (still i r.gs) → Linked parts (newest_after i (flat_kind p.kind) next) gs'
   unfolding newest_after
-  linked_after next l = go (kind_of p.kind) refl
+  linked_after next l = go (flat_kind p.kind) refl
     where
       found : slice_get parts i ≡ Some p
       found = get_found parts i p lt same
@@ -267,7 +268,7 @@ module _ {V : Type 0} {law : Law V} {old now : Standing V} {parts : List Part} {
       below : IsBelow (outer_of (map stored parts) p.holder) i
       below = subst (λ o. IsBelow o i) (sym here.0) (top_below i (still i r.gs) (before-still i i r.gs r.before))
 
-      go : (k : flat.Kind) → kind_of p.kind ≡ k → Linked parts (if is_holder k then Some i else next) (opens i (holds_of p.kind) k (still i r.gs))
+      go : (k : FlatKind) → flat_kind p.kind ≡ k → Linked parts (if is_holder k then Some i else next) (opens i (holds_of p.kind) k (still i r.gs))
       go (flat.One call) e = l
       go (flat.Words held) e = l
       go (flat.Bytes held) e = l
@@ -277,25 +278,25 @@ module _ {V : Type 0} {law : Law V} {old now : Standing V} {parts : List Part} {
       )
 
   before_after : Before (i + 1) gs'
-  before_after = go (kind_of p.kind)
+  before_after = go (flat_kind p.kind)
     where
       older : Before (i + 1) (still i r.gs)
       older = before-more i (still i r.gs) (before-still i i r.gs r.before)
 
-      go : (k : flat.Kind) → Before (i + 1) (opens i (holds_of p.kind) k (still i r.gs))
+      go : (k : FlatKind) → Before (i + 1) (opens i (holds_of p.kind) k (still i r.gs))
       go (flat.One call) = older
       go (flat.Words held) = older
       go (flat.Bytes held) = older
       go (flat.Holder begin) = (omega arith, older)
 
-  module _ {mid new : Standing V} (s : Streams law now (says ends) mid) where
+  module _ {mid new : Standing V} (s : Streams law now (makes ends) mid) where
     -- its own calls were refused
-    pub replay-stop_head : Stops law mid (says heads) new → Stops law old (says (pass 0 [] (map stored parts))) new
+    pub replay-stop_head : Stops law mid (makes heads) new → Stops law old (makes (pass 0 [] (map stored parts))) new
     replay-stop_head t =
-        subst (λ calls. Stops law old (says calls) new) (append_assoc r.done ends (heads ++ pass (i + 1) (pendings gs') more) ∙ sym passed)
+        subst (λ calls. Stops law old (makes calls) new) (append_assoc r.done ends (heads ++ pass (i + 1) (pendings gs') more) ∙ sym passed)
         (stops_in (pass (i + 1) (pendings gs') more) (goes_on r.streams s) t)
 
-    pub replay-step : (next : Option ℕ) → Linked parts next (still i r.gs) → Streams law mid (says heads) new → IsReplayed law old new parts (i + 1) (newest_after i (kind_of p.kind) next)
+    pub replay-step : (next : Option ℕ) → Linked parts next (still i r.gs) → Streams law mid (makes heads) new → IsReplayed law old new parts (i + 1) (newest_after i (flat_kind p.kind) next)
     replay-step next l t = record {
       gs = gs';
       done = (r.done ++ ends) ++ heads;
@@ -327,53 +328,53 @@ module _ {V : Type 0} {law : Law V} {old now : Standing V} {parts : List Part} {
       ∙ ap (λ calls. r.done ++ calls) (sym (all_stop i r.gs (subst (λ (ps : List Part). Nested (map stored parts) i r.gs (map stored ps) (map holder ps)) none_left r.nested)))
       ∙ ap (λ k. r.done ++ ended k (pendings r.gs)) (sym same)
 
-  pub replay-end : {new : Standing V} → Streams law now (says (ended j (pendings r.gs))) new → Streams law old (says (pass 0 [] (map stored parts))) new
-  replay-end {new} t = subst (λ calls. Streams law old (says calls) new) (sym last_is) (goes_on r.streams t)
+  pub replay-end : {new : Standing V} → Streams law now (makes (ended j (pendings r.gs))) new → Streams law old (makes (pass 0 [] (map stored parts))) new
+  replay-end {new} t = subst (λ calls. Streams law old (makes calls) new) (sym last_is) (goes_on r.streams t)
 
-  pub replay-stop_last : {new : Standing V} → Stops law now (says (ended j (pendings r.gs))) new → Stops law old (says (pass 0 [] (map stored parts))) new
+  pub replay-stop_last : {new : Standing V} → Stops law now (makes (ended j (pendings r.gs))) new → Stops law old (makes (pass 0 [] (map stored parts))) new
   replay-stop_last {new} t =
-      let all : Stops law old (says (r.done ++ (ended j (pendings r.gs) ++ []))) new = stops_in [] r.streams t in
-      subst (λ calls. Stops law old (says calls) new) (ap (λ calls. r.done ++ calls) (append-nil (ended j (pendings r.gs))) ∙ sym last_is) all
+      let all : Stops law old (makes (r.done ++ (ended j (pendings r.gs) ++ []))) new = stops_in [] r.streams t in
+      subst (λ calls. Stops law old (makes calls) new) (ap (λ calls. r.done ++ calls) (append-nil (ended j (pendings r.gs))) ∙ sym last_is) all
 
-pub newest_opened : (i : ℕ) (kind : flat.Kind) (at : Option ℕ) (b : Bool) → b ≡ is_holder kind → b ≡ true → newest_after i kind at ≡ Some i
+pub newest_opened : (i : ℕ) (kind : FlatKind) (at : Option ℕ) (b : Bool) → b ≡ is_holder kind → b ≡ true → newest_after i kind at ≡ Some i
 unfolding newest_after
 newest_opened i kind at b e h = ap (λ (t : Bool). if t then Some i else at) (sym e ∙ h)
 
-pub newest_kept : (i : ℕ) (kind : flat.Kind) (at : Option ℕ) (b : Bool) → b ≡ is_holder kind → b ≡ false → newest_after i kind at ≡ at
+pub newest_kept : (i : ℕ) (kind : FlatKind) (at : Option ℕ) (b : Bool) → b ≡ is_holder kind → b ≡ false → newest_after i kind at ≡ at
 unfolding newest_after
 newest_kept i kind at b e h = ap (λ (t : Bool). if t then Some i else at) (sym e ∙ h)
 
 -- ---- the replay of a forest
 
-some_first : (k : flat.Kind) (rest : List Call) → null_for_none (head_calls k ++ rest) ≡ head_calls k ++ rest
+some_first : (k : FlatKind) (rest : List Call) → null_for_none (head_calls k ++ rest) ≡ head_calls k ++ rest
 some_first (flat.One call) rest = refl
 some_first (flat.Words held) rest = refl
 some_first (flat.Bytes held) rest = refl
 some_first (flat.Holder begin) rest = refl
 
-some_passed : (parts : List flat.Part) → 0 < length parts → null_for_none (pass 0 [] parts) ≡ pass 0 [] parts
+some_passed : (parts : List FlatPart) → 0 < length parts → null_for_none (pass 0 [] parts) ≡ pass 0 [] parts
 unfolding pass
 some_passed [] h = absurd (omega arith)
 some_passed (p ∷ parts) h = some_first p.kind (pass 1 (opened 0 p.holds p.kind []) parts)
 
-none_passed : (parts : List flat.Part) → length parts ≡ 0 → null_for_none (pass 0 [] parts) ≡ Null ∷ []
+none_passed : (parts : List FlatPart) → length parts ≡ 0 → null_for_none (pass 0 [] parts) ≡ Null ∷ []
 unfolding pass
 none_passed [] h = refl
 none_passed (p ∷ parts) h = absurd (omega arith)
 
-passed_all : (parts : List Part) (places : List ℕ) (f : Forest) → Tells parts places f → null_for_none (pass 0 [] (map stored parts)) ≡ replayed f
+passed_all : (parts : List Part) (places : List ℕ) (f : Forest) → TellsForest parts places f → null_for_none (pass 0 [] (map stored parts)) ≡ replayed f
 passed_all parts places f t = ap (λ xs. null_for_none (pass 0 [] xs)) t.parts_are ∙ ap null_for_none (pass-flat f)
 
-pub replay_none : (parts : List Part) (places : List ℕ) (f : Forest) → Tells parts places f → length parts ≡ 0 → Null ∷ [] ≡ replayed f
+pub replay_none : (parts : List Part) (places : List ℕ) (f : Forest) → TellsForest parts places f → length parts ≡ 0 → Null ∷ [] ≡ replayed f
 replay_none parts places f t h = sym (none_passed (map stored parts) (length-map parts stored ∙ h)) ∙ passed_all parts places f t
 
-pub replay_some : (parts : List Part) (places : List ℕ) (f : Forest) → Tells parts places f → 0 < length parts → pass 0 [] (map stored parts) ≡ replayed f
+pub replay_some : (parts : List Part) (places : List ℕ) (f : Forest) → TellsForest parts places f → 0 < length parts → pass 0 [] (map stored parts) ≡ replayed f
 replay_some parts places f t h =
     let size = length-map parts stored in
     sym (some_passed (map stored parts) (omega arith)) ∙ passed_all parts places f t
 
 -- the one call of no value
-pub null_emitted : {V : Type 0} (law : Law V) (old new : Standing V) (r : Result (Unit {0}) Error) (f : Forest) → Null ∷ [] ≡ replayed f → Answers law r old Null new → Emits law r old (says (replayed f)) new
+pub null_emitted : {V : Type 0} (law : Law V) (old new : Standing V) (r : Result (Unit {0}) Error) (f : Forest) → Null ∷ [] ≡ replayed f → Answers law r old Null new → Emits law r old (makes (replayed f)) new
 unfolding emits
-null_emitted law old new (Ok done) f e t = subst (λ calls. Streams law old (says calls) new) e (streams_one t)
-null_emitted law old new (Err refusal) f e t = subst (λ calls. Stops law old (says calls) new) e (stops_one t)
+null_emitted law old new (Ok done) f e t = subst (λ calls. Streams law old (makes calls) new) e (streams_one t)
+null_emitted law old new (Err refusal) f e t = subst (λ calls. Stops law old (makes calls) new) e (stops_one t)

@@ -5,27 +5,27 @@ use Rattle.std.proofs.lemmas.List.{map-append, length-map}
 use Rattle.std.proofs.Math.Seq.{set-append_seam}
 use mathlib.Core.List.{append_assoc}
 use Rattle.sval_label.specs.Calls.{Call}
-use Rattle.sval_buffer.specs.Pushes.{Fragment, pushed}
-use Rattle.sval_buffer.specs.Forest.{Node, Single, Text, Binary, Container, Nodes, none, ◌and◌, Open, Forest, empty_forest, newest_row, with_row, with_flag, add, begun, close, push_text, push_last_text, Answer, Taken, Refused, OutsideText, row_or, is_complete}
+use Rattle.sval_buffer.specs.Pushes.{HeldBytes, pushed}
+use Rattle.sval_buffer.specs.Forest.{Node, Single, Text, Binary, Container, Nodes, none, ◌and◌, Open, Forest, empty_forest, newest_row, with_row, with_flag, add, begun, close, push_text, push_last_text, CaptureAnswer, Becomes, Rejects, OutsideText, row_or, is_complete, has_all_ends, push_into_text, push_may_grow, last_text, text_may_grow}
 use Rattle.sval_buffer.specs.Flat as flat
-use Rattle.sval_buffer.specs.Flat.{flat_node, flat_row, flat_spine, push_flat}
-use Rattle.sval_buffer.specs.Built.{open_places, forest_of}
-use Rattle.sval_buffer.specs.BuiltBack.{built_back, some_parts}
+use Rattle.sval_buffer.specs.Flat.{FlatKind, FlatPart, flat_part, flat_node, flat_row, flat_spine, push_flat}
+use Rattle.sval_buffer.specs.FlatForest.{open_places, forest_of}
+use Rattle.sval_buffer.proofs.BuiltBack.{built_back, some_parts}
 use Rattle.sval_buffer.specs.Holders.{holders, holders_node, holders_row, holders_spine, newest_place}
 use Rattle.sval_buffer.specs.declared.part.Part.{Part}
-use Rattle.sval_buffer.specs.declared.part.Kind.{Kind}
-use Rattle.sval_buffer.specs.declared.part.Kind.TheVariants as kind
-use Rattle.sval_buffer.specs.Seen.{stored, holder, kind_of, holds_of, with_holds, Tells, told, Pushed, PartPushes, IsCauseBy}
+use Rattle.sval_buffer.specs.declared.part.PartKind.{PartKind}
+use Rattle.sval_buffer.specs.declared.part.PartKind.TheVariants as kind
+use Rattle.sval_buffer.specs.SeenParts.{stored, holder, flat_kind, holds_of, with_holds, TellsForest, told, Pushed, PartPushes, IsPushCause}
 use Rattle.sval_buffer.specs.declared.error.ErrorKind.{ErrorKind}
-use Rattle.sval_buffer.specs.Captured.{CapturesBy, IsCause, error_of}
-use Rattle.sval_buffer.proofs.Flat.{flat-add, flat-begun, flat-close, map_map, length-push_flat, push-flat_row, push-flat}
+use Rattle.sval_buffer.specs.Capture.{Captures, IsCaptureCause, error_of}
+use Rattle.sval_buffer.proofs.Flat.{flat-add, flat-begun, flat-close, map_map, length-push_flat, push-flat_row, push-flat, words_of, last_words, last_words-append, text-flat}
 
 -- ---- the view
 
 -- the parts and places of a forest tell that forest
-pub told_is : (parts : List Part) (places : List ℕ) (within : Bool) (f : Forest) → Tells parts places f → within ≡ f.in_fragments → told parts places within ≡ f
+pub told_is : (parts : List Part) (places : List ℕ) (within : Bool) (f : Forest) → TellsForest parts places f → within ≡ f.in_fragments → told parts places within ≡ f
 told_is parts places within f t e =
-    ap (λ (xs : List flat.Part). forest_of xs places within) t.parts_are
+    ap (λ (xs : List FlatPart). forest_of xs places within) t.parts_are
     ∙ ap (λ (qs : List ℕ). forest_of (flat.flat f) qs within) t.places_are
     ∙ ap (forest_of (flat.flat f) (open_places f.nodes f.spine)) e
     ∙ built_back f
@@ -35,10 +35,10 @@ unfolding forest_of
 told_within parts places within = refl
 
 -- what stands for the forest stands for its view
-pub tells_view : (parts : List Part) (places : List ℕ) (within : Bool) (f : Forest) → Tells parts places f → within ≡ f.in_fragments → Tells parts places (told parts places within)
-tells_view parts places within f t e = subst (Tells parts places) (sym (told_is parts places within f t e)) t
+pub tells_view : (parts : List Part) (places : List ℕ) (within : Bool) (f : Forest) → TellsForest parts places f → within ≡ f.in_fragments → TellsForest parts places (told parts places within)
+tells_view parts places within f t e = subst (TellsForest parts places) (sym (told_is parts places within f t e)) t
 
-pub tells_nothing : Tells [] [] empty_forest
+pub tells_nothing : TellsForest [] [] empty_forest
 tells_nothing = record { parts_are = refl; places_are = refl; holders_are = refl }
 
 -- ---- a part at the end
@@ -51,7 +51,7 @@ holders-add node nodes [] within =
 holders-add node nodes (newest ∷ older) within =
     let place = length (flat_row nodes ++ flat_spine older) in
     let inner = flat_row newest.nodes in
-    let own = flat.part (flat.Holder newest.begin) 0 ∷ inner in
+    let own = flat_part (flat.Holder newest.begin) 0 ∷ inner in
     let e : place + 1 + length inner ≡ length (flat_row nodes ++ (flat_spine older ++ own)) =
     omega (arith, ap (λ xs. length xs) (append_assoc (flat_row nodes) (flat_spine older) own), length-append (flat_row nodes ++ flat_spine older) own) in
     let first = holders_spine nodes older in
@@ -66,9 +66,9 @@ open-add node f = go f.nodes f.spine
     go nodes [] = refl
     go nodes (newest ∷ older) = refl
 
-pub tells-add : (parts : List Part) (places : List ℕ) (f : Forest) (p : Part) (node : Node) → Tells parts places f
+pub tells-add : (parts : List Part) (places : List ℕ) (f : Forest) (p : Part) (node : Node) → TellsForest parts places f
     → flat_node node ≡ stored p ∷ [] → ((place : ℕ) (h : Option ℕ) → holders_node place h node ≡ h ∷ []) → p.holder ≡ newest_place f.nodes f.spine
-    → Tells (parts ++ (p ∷ [])) places (add node f)
+    → TellsForest (parts ++ (p ∷ [])) places (add node f)
 tells-add parts places f p node t one own held = record {
   parts_are = map-append stored parts (p ∷ []) ∙ ap (λ xs. xs ++ (stored p ∷ [])) t.parts_are ∙ ap (λ xs. flat.flat f ++ xs) (sym one) ∙ sym (flat-add node f.nodes f.spine f.in_fragments);
   places_are = t.places_are ∙ sym (open-add node f);
@@ -76,9 +76,9 @@ tells-add parts places f p node t one own held = record {
       ∙ ap (λ xs. holders f ++ xs) (sym (own (length (flat.flat f)) (newest_place f.nodes f.spine))) ∙ sym (holders-add node f.nodes f.spine f.in_fragments);
 }
 
-pub tells-begun : (parts : List Part) (places : List ℕ) (f : Forest) (p : Part) (begin : Call) (place : ℕ) → Tells parts places f
-    → stored p ≡ flat.part (flat.Holder begin) 0 → p.holder ≡ newest_place f.nodes f.spine → place ≡ length parts
-    → Tells (parts ++ (p ∷ [])) (places ++ (place ∷ [])) (begun begin f)
+pub tells-begun : (parts : List Part) (places : List ℕ) (f : Forest) (p : Part) (begin : Call) (place : ℕ) → TellsForest parts places f
+    → stored p ≡ flat_part (flat.Holder begin) 0 → p.holder ≡ newest_place f.nodes f.spine → place ≡ length parts
+    → TellsForest (parts ++ (p ∷ [])) (places ++ (place ∷ [])) (begun begin f)
 tells-begun parts places f p begin place t one held at = record {
   parts_are = map-append stored parts (p ∷ []) ∙ ap (λ xs. xs ++ (stored p ∷ [])) t.parts_are ∙ ap (λ x. flat.flat f ++ (x ∷ [])) one ∙ sym (flat-begun begin f);
   places_are = ap (λ qs. qs ++ (place ∷ [])) t.places_are ∙ ap (λ n. open_places f.nodes f.spine ++ (n ∷ [])) (at ∙ sym (length-map parts stored) ∙ ap (λ xs. length xs) t.parts_are);
@@ -88,13 +88,13 @@ tells-begun parts places f p begin place t one held at = record {
 -- what is known of an open buffer that is this forest
 pub record Is (parts : List Part) (places : List ℕ) (within : Bool) (f : Forest) : Type 0 where
   pub view : told parts places within ≡ f
-  pub invariant : Tells parts places (told parts places within)
+  pub invariant : TellsForest parts places (told parts places within)
 
-pub is_told : (parts : List Part) (places : List ℕ) (within : Bool) (f : Forest) → Tells parts places f → within ≡ f.in_fragments → Is parts places within f
+pub is_told : (parts : List Part) (places : List ℕ) (within : Bool) (f : Forest) → TellsForest parts places f → within ≡ f.in_fragments → Is parts places within f
 is_told parts places within f t e = record { view = told_is parts places within f t e; invariant = tells_view parts places within f t e }
 
-pub tells_it : {parts : List Part} {places : List ℕ} {within : Bool} {f : Forest} → Is parts places within f → Tells parts places f
-tells_it {parts} {places} {within} {f} is = subst (Tells parts places) is.view is.invariant
+pub tells_it : {parts : List Part} {places : List ℕ} {within : Bool} {f : Forest} → Is parts places within f → TellsForest parts places f
+tells_it {parts} {places} {within} {f} is = subst (TellsForest parts places) is.view is.invariant
 
 within_it : {parts : List Part} {places : List ℕ} {within : Bool} {f : Forest} → Is parts places within f → within ≡ f.in_fragments
 within_it {parts} {places} {within} {f} is = sym (told_within parts places within) ∙ ap (λ (g : Forest). g.in_fragments) is.view
@@ -134,7 +134,7 @@ is_added {parts} {places} {within} {f} p node is one own held =
     (within_it is ∙ sym (within-row (newest_row f.nodes f.spine and node) f.nodes f.spine f.in_fragments))
 
 pub is_begun : {parts : List Part} {places : List ℕ} {within : Bool} {f : Forest} (p : Part) (begin : Call) (place : ℕ) → Is parts places within f
-    → stored p ≡ flat.part (flat.Holder begin) 0 → p.holder ≡ slice_get places (length places - 1) → place ≡ length parts
+    → stored p ≡ flat_part (flat.Holder begin) 0 → p.holder ≡ slice_get places (length places - 1) → place ≡ length parts
     → Is (parts ++ (p ∷ [])) (places ++ (place ∷ [])) within (begun begin f)
 is_begun {parts} {places} {within} {f} p begin place is one held at =
     let t = tells_it is in
@@ -185,8 +185,8 @@ pub none_newest : {parts : List Part} {places : List ℕ} {within : Bool} {f : F
 none_newest {f = f} is e = no_places f.nodes f.spine (sym e ∙ (tells_it is).places_are)
 
 flat-split : (nodes : Nodes) (newest : Open) (older : List Open)
-    → flat_row nodes ++ flat_spine (newest ∷ older) ≡ (flat_row nodes ++ flat_spine older) ++ (flat.part (flat.Holder newest.begin) 0 ∷ flat_row newest.nodes)
-flat-split nodes newest older = sym (append_assoc (flat_row nodes) (flat_spine older) (flat.part (flat.Holder newest.begin) 0 ∷ flat_row newest.nodes))
+    → flat_row nodes ++ flat_spine (newest ∷ older) ≡ (flat_row nodes ++ flat_spine older) ++ (flat_part (flat.Holder newest.begin) 0 ∷ flat_row newest.nodes)
+flat-split nodes newest older = sym (append_assoc (flat_row nodes) (flat_spine older) (flat_part (flat.Holder newest.begin) 0 ∷ flat_row newest.nodes))
 
 length-parts : {parts : List Part} {places : List ℕ} {within : Bool} {f : Forest} → Is parts places within f → length parts ≡ length (flat.flat f)
 length-parts {parts} is = sym (length-map parts stored) ∙ ap (λ xs. length xs) (tells_it is).parts_are
@@ -196,7 +196,7 @@ pub place_within : {parts : List Part} {places : List ℕ} {within : Bool} {f : 
 place_within {parts} {places} {within} {f} rest place is e =
     let n = newest_is rest place is e in
     let front = flat_row f.nodes ++ flat_spine n.older in
-    let own = flat.part (flat.Holder n.newest.begin) 0 ∷ flat_row n.newest.nodes in
+    let own = flat_part (flat.Holder n.newest.begin) 0 ∷ flat_row n.newest.nodes in
     let size : length parts ≡ length (front ++ own) = length-parts is ∙ ap (λ spine. length (flat_row f.nodes ++ flat_spine spine)) n.spine_is ∙ ap (λ xs. length xs) (flat-split f.nodes n.newest n.older) in
     omega (arith, size, n.place_is, length-append front own)
 
@@ -219,10 +219,10 @@ get-seam : {X : Type 0} (xs : List X) (y : X) (ys : List X) (d : X) → slice_in
 get-seam [] y ys d = refl
 get-seam (x ∷ xs) y ys d = get-seam xs y ys d
 
-held-kind : (k : Kind) (begin : Call) (n : ℕ) → kind_of k ≡ flat.Holder begin → flat.part (kind_of (with_holds k n)) (holds_of (with_holds k n)) ≡ flat.part (flat.Holder begin) n
+held-kind : (k : PartKind) (begin : Call) (n : ℕ) → flat_kind k ≡ flat.Holder begin → flat_part (flat_kind (with_holds k n)) (holds_of (with_holds k n)) ≡ flat_part (flat.Holder begin) n
 held-kind (kind.Single single) begin n e = cc e
 held-kind (kind.Text held) begin n e = cc e
-held-kind (kind.Container b holds) begin n e = ap (λ k. flat.part k n) e
+held-kind (kind.Container b holds) begin n e = ap (λ k. flat_part k n) e
 
 holders-closed : (nodes : Nodes) (newest : Open) (older : List Open) (within : Bool)
     → holders (add (Container newest.begin newest.nodes) (record { nodes = nodes; spine = older; in_fragments = within })) ≡ holders_spine nodes (newest ∷ older)
@@ -233,11 +233,11 @@ module _ {parts : List Part} {places : List ℕ} {within : Bool} {f : Forest} (r
   abbrev n : Newest f.nodes f.spine rest place
   n = newest_is rest place is e
 
-  abbrev front : List flat.Part
+  abbrev front : List FlatPart
   front = flat_row f.nodes ++ flat_spine n.older
 
-  abbrev head : flat.Part
-  head = flat.part (flat.Holder n.newest.begin) 0
+  abbrev head : FlatPart
+  head = flat_part (flat.Holder n.newest.begin) 0
 
   abbrev old : Part
   old = slice_index_or parts place d
@@ -255,14 +255,14 @@ module _ {parts : List Part} {places : List ℕ} {within : Bool} {f : Forest} (r
       ∙ ap (λ i. slice_index_or (front ++ (head ∷ flat_row n.newest.nodes)) i head) n.place_is
       ∙ get-seam front head (flat_row n.newest.nodes) head
 
-  new_is : stored p ≡ flat.part (flat.Holder n.newest.begin) (length (flat.flat f) - place - 1)
+  new_is : stored p ≡ flat_part (flat.Holder n.newest.begin) (length (flat.flat f) - place - 1)
   new_is =
       ap stored same
-      ∙ held-kind old.kind n.newest.begin (length parts - place - 1) (ap (λ (x : flat.Part). x.kind) old_is)
-      ∙ ap (λ k. flat.part (flat.Holder n.newest.begin) (k - place - 1)) (length-parts is)
+      ∙ held-kind old.kind n.newest.begin (length parts - place - 1) (ap (λ (x : FlatPart). x.kind) old_is)
+      ∙ ap (λ k. flat_part (flat.Holder n.newest.begin) (k - place - 1)) (length-parts is)
 
-  abbrev closed_by : List flat.Part → ℕ → List flat.Part
-  closed_by xs i = slice_set xs i (flat.part (flat.Holder n.newest.begin) (length xs - i - 1))
+  abbrev closed_by : List FlatPart → ℕ → List FlatPart
+  closed_by xs i = slice_set xs i (flat_part (flat.Holder n.newest.begin) (length xs - i - 1))
 
   closed_parts : map stored (slice_set parts place p) ≡ flat.flat (add (Container n.newest.begin n.newest.nodes) (record { nodes = f.nodes; spine = n.older; in_fragments = f.in_fragments }))
   closed_parts =
@@ -285,14 +285,14 @@ module _ {parts : List Part} {places : List ℕ} {within : Bool} {f : Forest} (r
   is_closed =
       let node = Container n.newest.begin n.newest.nodes in
       let before : Forest = record { nodes = f.nodes; spine = n.older; in_fragments = f.in_fragments } in
-      let t : Tells (slice_set parts place p) rest (add node before) = record {
+      let t : TellsForest (slice_set parts place p) rest (add node before) = record {
         parts_are = closed_parts;
         places_are = n.places_are ∙ sym (open-add node before);
         holders_are = closed_holders ∙ ap (holders_spine f.nodes) n.spine_is ∙ sym (holders-closed f.nodes n.newest n.older f.in_fragments);
       } in
       is_told (slice_set parts place p) rest within (add node before) t (within_it is ∙ sym (within-row (newest_row f.nodes n.older and node) f.nodes n.older f.in_fragments))
 
-  pub closes : close f.nodes f.spine f.in_fragments ≡ Taken (add (Container n.newest.begin n.newest.nodes) (record { nodes = f.nodes; spine = n.older; in_fragments = f.in_fragments }))
+  pub closes : close f.nodes f.spine f.in_fragments ≡ Becomes (add (Container n.newest.begin n.newest.nodes) (record { nodes = f.nodes; spine = n.older; in_fragments = f.in_fragments }))
   closes = ap (λ spine. close f.nodes spine f.in_fragments) n.spine_is
 
 -- ---- a part that was kept, or not
@@ -307,49 +307,49 @@ nothing : {X : Type 0} (xs : List X) → length xs ≡ 0 → xs ≡ []
 nothing [] h = refl
 nothing (x ∷ xs) h = absurd (omega arith)
 
-no_row : (nodes : Nodes) (rest : List flat.Part) → [] ≡ flat_row nodes ++ rest → nodes ≡ none
+no_row : (nodes : Nodes) (rest : List FlatPart) → [] ≡ flat_row nodes ++ rest → nodes ≡ none
 no_row none rest e = refl
 no_row (nodes and node) rest e = go (flat_row nodes) (flat_node node) (some_parts node) e
   where
-    go : (xs ys : List flat.Part) → 0 < length ys → [] ≡ (xs ++ ys) ++ rest → nodes and node ≡ none
+    go : (xs ys : List FlatPart) → 0 < length ys → [] ≡ (xs ++ ys) ++ rest → nodes and node ≡ none
     go (x ∷ xs) ys h e = cc e
     go [] (y ∷ ys) h e = cc e
     go [] [] h e = absurd (omega arith)
 
-pub none_complete : {parts : List Part} {places : List ℕ} {within : Bool} {f : Forest} → Is parts places within f → length parts ≡ 0 → is_complete f.nodes f.spine f.in_fragments ≡ false
+pub none_complete : {parts : List Part} {places : List ℕ} {within : Bool} {f : Forest} → Is parts places within f → length parts ≡ 0 → is_complete f ≡ false
 none_complete {parts} {f = f} is h =
     let e = nothing parts h in
-    ap (λ nodes. is_complete nodes f.spine f.in_fragments) (no_row f.nodes (flat_spine f.spine) (ap (map stored) (sym e) ∙ (tells_it is).parts_are))
+    ap (λ nodes. has_all_ends nodes f.spine f.in_fragments) (no_row f.nodes (flat_spine f.spine) (ap (map stored) (sym e) ∙ (tells_it is).parts_are))
 
-unended : (nodes : Nodes) (spine : List Open) (within : Bool) → 0 < length (open_places nodes spine) → is_complete nodes spine within ≡ false
+unended : (nodes : Nodes) (spine : List Open) (within : Bool) → 0 < length (open_places nodes spine) → has_all_ends nodes spine within ≡ false
 unended nodes [] within h = absurd (omega arith)
 unended none (newest ∷ older) within h = refl
 unended (nodes and node) (newest ∷ older) within h = refl
 
-pub open_incomplete : {parts : List Part} {places : List ℕ} {within : Bool} {f : Forest} → Is parts places within f → 0 < length places → is_complete f.nodes f.spine f.in_fragments ≡ false
+pub open_incomplete : {parts : List Part} {places : List ℕ} {within : Bool} {f : Forest} → Is parts places within f → 0 < length places → is_complete f ≡ false
 open_incomplete {f = f} is h = let same = ap (λ xs. length xs) (tells_it is).places_are in unended f.nodes f.spine f.in_fragments (omega (arith, same))
 
-ended_all : (nodes : Nodes) (within : Bool) → 0 < length (flat_row nodes ++ []) → is_complete nodes [] within ≡ not within
+ended_all : (nodes : Nodes) (within : Bool) → 0 < length (flat_row nodes ++ []) → has_all_ends nodes [] within ≡ not within
 ended_all none within h = absurd (omega arith)
 ended_all (nodes and node) within h = refl
 
-pub complete_is : {parts : List Part} {places : List ℕ} {within : Bool} {f : Forest} → Is parts places within f → 0 < length parts → length places ≡ 0 → not within ≡ is_complete f.nodes f.spine f.in_fragments
+pub complete_is : {parts : List Part} {places : List ℕ} {within : Bool} {f : Forest} → Is parts places within f → 0 < length parts → length places ≡ 0 → not within ≡ is_complete f
 complete_is {parts} {places} {within} {f} is h none_open =
     let e = nothing places none_open in
     let spine = none_newest is e in
     let size : length parts ≡ length (flat_row f.nodes ++ []) = length-parts is ∙ ap (λ open_spine. length (flat_row f.nodes ++ flat_spine open_spine)) spine in
     let some : 0 < length (flat_row f.nodes ++ []) = omega arith in
-    ap not (within_it is) ∙ sym (ended_all f.nodes f.in_fragments some) ∙ ap (λ open_spine. is_complete f.nodes open_spine f.in_fragments) (sym spine)
+    ap not (within_it is) ∙ sym (ended_all f.nodes f.in_fragments some) ∙ ap (λ open_spine. has_all_ends f.nodes open_spine f.in_fragments) (sym spine)
 
 -- ---- a fragment
 
-push-last : (fragment : Fragment) (xs : List flat.Part) (y : flat.Part) → push_flat fragment (xs ++ (y ∷ [])) ≡ option_map (λ k. xs ++ (flat.part k y.holds ∷ [])) (flat.push_part fragment y.kind)
+push-last : (fragment : HeldBytes) (xs : List FlatPart) (y : FlatPart) → push_flat fragment (xs ++ (y ∷ [])) ≡ option_map (λ k. xs ++ (flat_part k y.holds ∷ [])) (flat.push_part fragment y.kind)
 push-last fragment [] y = refl
-push-last fragment (x ∷ []) y = map_map (λ k. flat.part k y.holds ∷ []) (λ rest. x ∷ rest) (flat.push_part fragment y.kind)
-push-last fragment (x ∷ next ∷ xs) y = ap (option_map (λ rest. x ∷ rest)) (push-last fragment (next ∷ xs) y) ∙ map_map (λ k. (next ∷ xs) ++ (flat.part k y.holds ∷ [])) (λ rest. x ∷ rest) (flat.push_part fragment y.kind)
+push-last fragment (x ∷ []) y = map_map (λ k. flat_part k y.holds ∷ []) (λ rest. x ∷ rest) (flat.push_part fragment y.kind)
+push-last fragment (x ∷ next ∷ xs) y = ap (option_map (λ rest. x ∷ rest)) (push-last fragment (next ∷ xs) y) ∙ map_map (λ k. (next ∷ xs) ++ (flat_part k y.holds ∷ [])) (λ rest. x ∷ rest) (flat.push_part fragment y.kind)
 
 mutual
-  holders-node : (fragment : Fragment) (node next : Node) (place : ℕ) (h : Option ℕ) → push_text fragment node ≡ Some next
+  holders-node : (fragment : HeldBytes) (node next : Node) (place : ℕ) (h : Option ℕ) → push_text fragment node ≡ Some next
       → (holders_node place h next ≡ holders_node place h node)
   holders-node fragment (Single call) next place h e = cc e
   holders-node fragment (Text held) next place h e = let same : next ≡ Text (pushed held fragment) = cc e in ap (holders_node place h) same
@@ -361,7 +361,7 @@ mutual
       go None f e = cc e
       go (Some row) f e = let same : next ≡ Container begin row = cc e in ap (holders_node place h) same ∙ ap (λ rest. h ∷ rest) (f row refl)
 
-  holders-last : (fragment : Fragment) (nodes row : Nodes) (place : ℕ) (h : Option ℕ) → push_last_text fragment nodes ≡ Some row
+  holders-last : (fragment : HeldBytes) (nodes row : Nodes) (place : ℕ) (h : Option ℕ) → push_last_text fragment nodes ≡ Some row
       → holders_row place h row ≡ holders_row place h nodes
   holders-last fragment none row place h e = cc e
   holders-last fragment (nodes and node) row place h e = go (push_text fragment node) (λ last. holders-node fragment node last (place + length (flat_row nodes)) h) e
@@ -371,18 +371,18 @@ mutual
       go None f e = cc e
       go (Some last) f e = let same : row ≡ (nodes and last) = cc e in ap (holders_row place h) same ∙ ap (λ rest. holders_row place h nodes ++ rest) (f last refl)
 
-holders-push : (fragment : Fragment) (nodes : Nodes) (spine : List Open) (within : Bool) (row : Nodes) → push_last_text fragment (newest_row nodes spine) ≡ Some row
+holders-push : (fragment : HeldBytes) (nodes : Nodes) (spine : List Open) (within : Bool) (row : Nodes) → push_last_text fragment (newest_row nodes spine) ≡ Some row
     → holders (with_row row nodes spine within) ≡ holders_spine nodes spine
 holders-push fragment nodes [] within row e = holders-last fragment nodes row 0 None e
 holders-push fragment nodes (newest ∷ older) within row e =
     let place = length (flat_row nodes ++ flat_spine older) in
     ap (λ rest. holders_spine nodes older ++ (newest_place nodes older ∷ rest)) (holders-last fragment newest.nodes row (place + 1) (Some place) e)
 
-length-flat_row : (fragment : Fragment) (nodes row : Nodes) → push_last_text fragment nodes ≡ Some row → length (flat_row row) ≡ length (flat_row nodes)
+length-flat_row : (fragment : HeldBytes) (nodes row : Nodes) → push_last_text fragment nodes ≡ Some row → length (flat_row row) ≡ length (flat_row nodes)
 length-flat_row fragment nodes row e =
     length-push_flat fragment (flat_row nodes) (flat_row row) (sym (push-flat_row fragment nodes) ∙ ap (option_map flat_row) e)
 
-open-push : (fragment : Fragment) (nodes : Nodes) (spine : List Open) (within : Bool) (row : Nodes) → push_last_text fragment (newest_row nodes spine) ≡ Some row
+open-push : (fragment : HeldBytes) (nodes : Nodes) (spine : List Open) (within : Bool) (row : Nodes) → push_last_text fragment (newest_row nodes spine) ≡ Some row
     → (let g = with_row row nodes spine within in open_places g.nodes g.spine) ≡ open_places nodes spine
 open-push fragment nodes [] within row e = refl
 open-push fragment nodes (newest ∷ older) within row e = refl
@@ -392,95 +392,108 @@ pub record EndsIn (parts : List Part) (last : Part) : Type 0 where
   pub front : List Part
   pub parts_are : parts ≡ front ++ (last ∷ [])
 
-one_more : (xs : List Part) (x : Part) → EndsIn xs x → (y : Part) → EndsIn (y ∷ xs) x
-one_more xs x e y = record { front = y ∷ e.front; parts_are = ap (λ ys. y ∷ ys) e.parts_are }
+ends_later : (xs : List Part) (x : Part) → EndsIn xs x → (y : Part) → EndsIn (y ∷ xs) x
+ends_later xs x e y = record { front = y ∷ e.front; parts_are = ap (λ ys. y ∷ ys) e.parts_are }
 
 pub ends_in : (parts : List Part) (last : Part) → 0 < length parts → last ≡ slice_index_or parts (length parts - 1) last → EndsIn parts last
 ends_in [] last h e = absurd (omega arith)
 ends_in (x ∷ []) last h e = record { front = []; parts_are = ap (λ y. y ∷ []) (sym e) }
 ends_in (x ∷ next ∷ parts) last h e =
     let i : length (x ∷ next ∷ parts) - 1 ≡ suc (length (next ∷ parts) - 1) = omega arith in
-    one_more (next ∷ parts) last (ends_in (next ∷ parts) last (omega arith) (rw i at e)) x
+    ends_later (next ∷ parts) last (ends_in (next ∷ parts) last (omega arith) (rw i at e)) x
 
 pub set-last : (parts front : List Part) (last next : Part) → parts ≡ front ++ (last ∷ []) → slice_set parts (length parts - 1) next ≡ front ++ (next ∷ [])
 set-last parts front last next e =
     let n : length (front ++ (last ∷ [])) - 1 ≡ length front = omega (arith, length-append front (last ∷ [])) in
     ap (λ xs. slice_set xs (length xs - 1) next) e ∙ ap (λ i. slice_set (front ++ (last ∷ [])) i next) n ∙ set-append_seam front last [] next
 
-module _ {parts : List Part} {places : List ℕ} {within : Bool} {f : Forest} (fragment : Fragment) (last : Part) (is : Is parts places within f) (ends : EndsIn parts last) where
+module _ {parts : List Part} {places : List ℕ} {within : Bool} {f : Forest} (fragment : HeldBytes) (last : Part) (is : Is parts places within f) (ends : EndsIn parts last) where
   -- what the flat list makes of it
   flat-pushed : option_map (λ row. flat.flat (with_row row f.nodes f.spine f.in_fragments)) (push_last_text fragment (newest_row f.nodes f.spine))
-      ≡ option_map (λ k. map stored ends.front ++ (flat.part k (holds_of last.kind) ∷ [])) (flat.push_part fragment (kind_of last.kind))
+      ≡ option_map (λ k. map stored ends.front ++ (flat_part k (holds_of last.kind) ∷ [])) (flat.push_part fragment (flat_kind last.kind))
   flat-pushed =
       push-flat fragment f.nodes f.spine f.in_fragments
       ∙ ap (push_flat fragment) (sym (tells_it is).parts_are ∙ ap (map stored) ends.parts_are ∙ map-append stored ends.front (last ∷ []))
       ∙ push-last fragment (map stored ends.front) (stored last)
 
-  abbrev answer : Answer
+  abbrev answer : CaptureAnswer
   answer = row_or OutsideText f (push_last_text fragment (newest_row f.nodes f.spine))
 
-  pub push_refused : flat.push_part fragment (kind_of last.kind) ≡ None → answer ≡ Refused OutsideText
-  push_refused none_is = go (push_last_text fragment (newest_row f.nodes f.spine)) (flat-pushed ∙ ap (option_map (λ k. map stored ends.front ++ (flat.part k (holds_of last.kind) ∷ []))) none_is)
+  pub push_refused : flat.push_part fragment (flat_kind last.kind) ≡ None → answer ≡ Rejects OutsideText
+  push_refused none_is = go (push_last_text fragment (newest_row f.nodes f.spine)) (flat-pushed ∙ ap (option_map (λ k. map stored ends.front ++ (flat_part k (holds_of last.kind) ∷ []))) none_is)
     where
-      go : (o : Option Nodes) → option_map (λ row. flat.flat (with_row row f.nodes f.spine f.in_fragments)) o ≡ None → row_or OutsideText f o ≡ Refused OutsideText
+      go : (o : Option Nodes) → option_map (λ row. flat.flat (with_row row f.nodes f.spine f.in_fragments)) o ≡ None → row_or OutsideText f o ≡ Rejects OutsideText
       go None e = refl
       go (Some row) e = cc e
 
-  pub record Pushes (kind : flat.Kind) : Type 0 where
+  pub record Pushes (kind : FlatKind) : Type 0 where
     pub row : Nodes
     pub row_is : push_last_text fragment (newest_row f.nodes f.spine) ≡ Some row
-    pub flat_is : flat.flat (with_row row f.nodes f.spine f.in_fragments) ≡ map stored ends.front ++ (flat.part kind (holds_of last.kind) ∷ [])
+    pub flat_is : flat.flat (with_row row f.nodes f.spine f.in_fragments) ≡ map stored ends.front ++ (flat_part kind (holds_of last.kind) ∷ [])
 
-  pub push_taken : (kind : flat.Kind) → flat.push_part fragment (kind_of last.kind) ≡ Some kind → Pushes kind
-  push_taken kind some = go (push_last_text fragment (newest_row f.nodes f.spine)) refl (flat-pushed ∙ ap (option_map (λ k. map stored ends.front ++ (flat.part k (holds_of last.kind) ∷ []))) some)
+  pub push_taken : (kind : FlatKind) → flat.push_part fragment (flat_kind last.kind) ≡ Some kind → Pushes kind
+  push_taken kind some = go (push_last_text fragment (newest_row f.nodes f.spine)) refl (flat-pushed ∙ ap (option_map (λ k. map stored ends.front ++ (flat_part k (holds_of last.kind) ∷ []))) some)
     where
       go : (o : Option Nodes) → push_last_text fragment (newest_row f.nodes f.spine) ≡ o
-          → option_map (λ row. flat.flat (with_row row f.nodes f.spine f.in_fragments)) o ≡ Some (map stored ends.front ++ (flat.part kind (holds_of last.kind) ∷ [])) → Pushes kind
+          → option_map (λ row. flat.flat (with_row row f.nodes f.spine f.in_fragments)) o ≡ Some (map stored ends.front ++ (flat_part kind (holds_of last.kind) ∷ [])) → Pushes kind
       go None e g = cc g
-      go (Some row) e g = let same : flat.flat (with_row row f.nodes f.spine f.in_fragments) ≡ map stored ends.front ++ (flat.part kind (holds_of last.kind) ∷ []) = cc g in
+      go (Some row) e g = let same : flat.flat (with_row row f.nodes f.spine f.in_fragments) ≡ map stored ends.front ++ (flat_part kind (holds_of last.kind) ∷ []) = cc g in
           record { row = row; row_is = e; flat_is = same }
 
-  pub is_pushed : (next : Part) (p : Pushed last fragment next) → let o = push_taken (kind_of next.kind) p.kind in Is (ends.front ++ (next ∷ [])) places within (with_row o.row f.nodes f.spine f.in_fragments)
+  pub is_pushed : (next : Part) (p : Pushed last fragment next) → let o = push_taken (flat_kind next.kind) p.kind in Is (ends.front ++ (next ∷ [])) places within (with_row o.row f.nodes f.spine f.in_fragments)
   is_pushed next p =
-      let o = push_taken (kind_of next.kind) p.kind in
+      let o = push_taken (flat_kind next.kind) p.kind in
       let g = with_row o.row f.nodes f.spine f.in_fragments in
-      let t : Tells (ends.front ++ (next ∷ [])) places g = record {
-        parts_are = map-append stored ends.front (next ∷ []) ∙ ap (λ holds. map stored ends.front ++ (flat.part (kind_of next.kind) holds ∷ [])) p.holds ∙ sym o.flat_is;
+      let t : TellsForest (ends.front ++ (next ∷ [])) places g = record {
+        parts_are = map-append stored ends.front (next ∷ []) ∙ ap (λ holds. map stored ends.front ++ (flat_part (flat_kind next.kind) holds ∷ [])) p.holds ∙ sym o.flat_is;
         places_are = (tells_it is).places_are ∙ sym (open-push fragment f.nodes f.spine f.in_fragments o.row o.row_is);
         holders_are = map-append holder ends.front (next ∷ []) ∙ ap (λ h. map holder ends.front ++ (h ∷ [])) p.holder ∙ sym (map-append holder ends.front (last ∷ [])) ∙ ap (map holder) (sym ends.parts_are)
             ∙ (tells_it is).holders_are ∙ sym (holders-push fragment f.nodes f.spine f.in_fragments o.row o.row_is);
       } in
       is_told (ends.front ++ (next ∷ [])) places within g t (within_it is ∙ sym (within-row o.row f.nodes f.spine f.in_fragments))
 
-  pub push_answers : (next : Part) (p : Pushed last fragment next) → let o = push_taken (kind_of next.kind) p.kind in answer ≡ Taken (with_row o.row f.nodes f.spine f.in_fragments)
-  push_answers next p = let o = push_taken (kind_of next.kind) p.kind in ap (row_or OutsideText f) o.row_is
+  pub push_answers : (next : Part) (p : Pushed last fragment next) → let o = push_taken (flat_kind next.kind) p.kind in answer ≡ Becomes (with_row o.row f.nodes f.spine f.in_fragments)
+  push_answers next p = let o = push_taken (flat_kind next.kind) p.kind in ap (row_or OutsideText f) o.row_is
 
 -- nothing takes a fragment
-pub push_nothing : {parts : List Part} {places : List ℕ} {within : Bool} {f : Forest} (fragment : Fragment) → Is parts places within f → length parts ≡ 0
-    → row_or OutsideText f (push_last_text fragment (newest_row f.nodes f.spine)) ≡ Refused OutsideText
+pub push_nothing : {parts : List Part} {places : List ℕ} {within : Bool} {f : Forest} (fragment : HeldBytes) → Is parts places within f → length parts ≡ 0
+    → row_or OutsideText f (push_last_text fragment (newest_row f.nodes f.spine)) ≡ Rejects OutsideText
 push_nothing {parts} {f = f} fragment is h =
     let e = nothing parts h in
     go (push_last_text fragment (newest_row f.nodes f.spine)) (push-flat fragment f.nodes f.spine f.in_fragments ∙ ap (push_flat fragment) (sym (ap (map stored) (sym e) ∙ (tells_it is).parts_are)))
   where
-    go : (o : Option Nodes) → option_map (λ row. flat.flat (with_row row f.nodes f.spine f.in_fragments)) o ≡ None → row_or OutsideText f o ≡ Refused OutsideText
+    go : (o : Option Nodes) → option_map (λ row. flat.flat (with_row row f.nodes f.spine f.in_fragments)) o ≡ None → row_or OutsideText f o ≡ Rejects OutsideText
     go None e = refl
     go (Some row) e = cc e
 
+-- the last part's text is the forest's last text
+last-text : {parts : List Part} {places : List ℕ} {within : Bool} {f : Forest} (last : Part) → Is parts places within f → EndsIn parts last
+    → last_text (newest_row f.nodes f.spine) ≡ words_of (flat_kind last.kind)
+last-text {f = f} last is ends =
+    text-flat f.nodes f.spine
+    ∙ ap last_words (sym (tells_it is).parts_are ∙ ap (map stored) ends.parts_are ∙ map-append stored ends.front (last ∷ []))
+    ∙ last_words-append (map stored ends.front) (stored last) []
+
 -- what a part answers to a fragment, the whole buffer answers
-pub record PushesBy (parts : List Part) (places : List ℕ) (within : Bool) (f : Forest) (fragment : Fragment) (r : Result (Unit {0}) ErrorKind) : Type 0 where
+pub record PushesBy (parts : List Part) (places : List ℕ) (within : Bool) (f : Forest) (fragment : HeldBytes) (r : Result (Unit {0}) ErrorKind) : Type 0 where
   pub next : Forest
   pub is : Is parts places within next
-  pub answers : CapturesBy (row_or OutsideText f (push_last_text fragment (newest_row f.nodes f.spine))) f r next
+  pub answers : Captures (text_may_grow fragment.borrowed f) (push_into_text fragment f) f r next
 
-cause_of : (o : Option flat.Kind) (a : Answer) (why : ErrorKind) → IsCauseBy o why → (o ≡ None → a ≡ Refused OutsideText) → ((kind : flat.Kind) → o ≡ Some kind → (next : Forest) × (a ≡ Taken next)) → IsCause a why
-cause_of None a why cause refused taken = subst (λ x. IsCause x why) (sym (refused refl)) cause
-cause_of (Some kind) a why cause refused taken = subst (λ x. IsCause x why) (sym (taken kind refl).1) cause
+cause_of : (fragment : HeldBytes) (k : FlatKind) (grows : Bool) (a : CaptureAnswer) (why : ErrorKind) → IsPushCause fragment k why → grows ≡ push_may_grow fragment.borrowed (words_of k)
+    → (flat.push_part fragment k ≡ None → a ≡ Rejects OutsideText) → ((kind : FlatKind) → flat.push_part fragment k ≡ Some kind → (next : Forest) × (a ≡ Becomes next)) → IsCaptureCause grows a why
+cause_of fragment (flat.One call) grows a why cause same refused taken = subst (λ x. IsCaptureCause grows x why) (sym (refused refl)) cause
+cause_of fragment (flat.Bytes held) grows a why cause same refused taken = subst (λ x. IsCaptureCause grows x why) (sym (refused refl)) cause
+cause_of fragment (flat.Holder begin) grows a why cause same refused taken = subst (λ x. IsCaptureCause grows x why) (sym (refused refl)) cause
+cause_of fragment (flat.Words held) grows a why cause same refused taken =
+    let t = taken (flat.Words (pushed held fragment)) refl in
+    subst (λ x. IsCaptureCause grows x why) (sym t.1) (record { no_alloc = cause.no_alloc; takes_memory = same ∙ cause.takes_memory })
 
-pub pushes_by : {parts : List Part} {places : List ℕ} {within : Bool} {f : Forest} (fragment : Fragment) (last next : Part) (r : Result (Unit {0}) ErrorKind) → Is parts places within f → (ends : EndsIn parts last)
+pub pushes_by : {parts : List Part} {places : List ℕ} {within : Bool} {f : Forest} (fragment : HeldBytes) (last next : Part) (r : Result (Unit {0}) ErrorKind) → Is parts places within f → (ends : EndsIn parts last)
     → PartPushes last fragment r next
     → PushesBy (ends.front ++ (next ∷ [])) places within f fragment r
 pushes_by {f = f} fragment last next (Ok done) is ends ok = record {
-  next = with_row (push_taken fragment last is ends (kind_of next.kind) ok.kind).row f.nodes f.spine f.in_fragments;
+  next = with_row (push_taken fragment last is ends (flat_kind next.kind) ok.kind).row f.nodes f.spine f.in_fragments;
   is = is_pushed fragment last is ends next ok;
   answers = push_answers fragment last is ends next ok;
 }
@@ -491,16 +504,17 @@ pushes_by {parts} {places} {within} {f} fragment last next (Err why) is ends (sa
       is = subst (λ ps. Is ps places within f) whole is;
       answers = (
         refl,
-        cause_of (flat.push_part fragment (kind_of last.kind)) (row_or OutsideText f (push_last_text fragment (newest_row f.nodes f.spine))) why cause
+        cause_of fragment (flat_kind last.kind) (text_may_grow fragment.borrowed f) (push_into_text fragment f) why cause
+            (ap (push_may_grow fragment.borrowed) (last-text last is ends))
             (push_refused fragment last is ends)
             (λ kind some. let o = push_taken fragment last is ends kind some in (with_row o.row f.nodes f.spine f.in_fragments, ap (row_or OutsideText f) o.row_is)),
       );
     }
 
-pub pushes_nothing : {parts : List Part} {places : List ℕ} {within : Bool} {f : Forest} (fragment : Fragment) → Is parts places within f → length parts ≡ 0
+pub pushes_nothing : {parts : List Part} {places : List ℕ} {within : Bool} {f : Forest} (fragment : HeldBytes) → Is parts places within f → length parts ≡ 0
     → PushesBy parts places within f fragment (Err (error_of OutsideText))
 pushes_nothing {f = f} fragment is h = record {
   next = f;
   is = is;
-  answers = (refl, subst (λ a. IsCause a (error_of OutsideText)) (sym (push_nothing fragment is h)) refl);
+  answers = (refl, subst (λ a. IsCaptureCause (text_may_grow fragment.borrowed f) a (error_of OutsideText)) (sym (push_nothing fragment is h)) refl);
 }

@@ -8,7 +8,7 @@ use Rattle.sval_core.specs.Law.{Emission}
 use Rattle.sval_core.specs.Names.{says_none, number_tag, tag_alone}
 use Rattle.sval_lower.specs.Lower.{wide_calls, label_or_null}
 use Rattle.sval_lower.specs.Lowered.{lowered, lowered_call, lowered_within, is_for_texts}
-use Rattle.sval_buffer.specs.Pushes.{Fragment, pushed}
+use Rattle.sval_buffer.specs.Pushes.{HeldBytes, pushed}
 use Rattle.sval_buffer.specs.Forest.{no_bytes}
 use Rattle.sval_buffer.specs.declared.error.Word.{Word}
 use Rattle.sval_buffer.specs.declared.error.Word.TheVariants as word
@@ -21,10 +21,10 @@ use Rattle.sval_buffer.proofs.CollectedSteps.{use_step, steps_collect}
 
 -- ---- numbers
 
-abbrev after_text : Fragment → List Call → Result Fragment Word
+abbrev after_text : HeldBytes → List Call → Result HeldBytes Word
 after_text held calls = steps_of (use_step text_use) held calls
 
-text_wide : (n : ℤ) (held : Fragment) → steps_of (use_step text_use) held (lowered is_for_texts (wide_calls n)) ≡ text_step held (Call.Int IntType.U128 n)
+text_wide : (n : ℤ) (held : HeldBytes) → steps_of (use_step text_use) held (lowered is_for_texts (wide_calls n)) ≡ text_step held (Call.Int IntType.U128 n)
 unfolding steps_of lowered_within
 text_wide n held = go (is_signed 63 n)
   where
@@ -33,7 +33,7 @@ text_wide n held = go (is_signed 63 n)
     go true = refl
     go false = refl
 
-text_int : (type : IntType) (n : ℤ) (held : Fragment) → after_text held (lowered_call is_for_texts (Call.Int type n)) ≡ text_step held (Call.Int type n)
+text_int : (type : IntType) (n : ℤ) (held : HeldBytes) → after_text held (lowered_call is_for_texts (Call.Int type n)) ≡ text_step held (Call.Int type n)
 unfolding steps_of lowered_within
 text_int IntType.I8 n held = refl
 text_int IntType.I16 n held = refl
@@ -46,19 +46,19 @@ text_int IntType.U64 n held = ap (after_text held) (from_u64 is_for_texts n refl
 text_int IntType.U128 n held = ap (after_text held) (from_u128 is_for_texts n refl) ∙ text_wide n held
 text_int IntType.I128 n held = ap (after_text held) (at_wide is_for_texts IntType.I128 n refl refl) ∙ text_wide n held
 
-text_bytes : (bytes : List ℕ) (held : Fragment) → after_text held (lowered_call is_for_texts (Call.BinaryFragment false bytes)) ≡ text_step held (Call.BinaryFragment false bytes)
+text_bytes : (bytes : List ℕ) (held : HeldBytes) → after_text held (lowered_call is_for_texts (Call.BinaryFragment false bytes)) ≡ text_step held (Call.BinaryFragment false bytes)
 unfolding steps_of lowered_within
 text_bytes [] held = refl
 text_bytes (byte ∷ bytes) held = refl
 
-text_label : (borrowed : Bool) (text : List ℕ) (name : Name) (size : Option ℕ) (held : Fragment)
+text_label : (borrowed : Bool) (text : List ℕ) (name : Name) (size : Option ℕ) (held : HeldBytes)
     → after_text held (flat_map (lowered_within 1 is_for_texts) (Call.TaggedBegin name ∷ Call.TextBegin size ∷ Call.TextFragment borrowed text ∷ Call.TextEnd ∷ Call.TaggedEnd name ∷ []))
     ≡ push held borrowed text
 unfolding steps_of lowered_within
 text_label true text name size held = refl
 text_label false text name size held = refl
 
-text_own : (name : Name) (held : Fragment) → after_text held (lowered_call is_for_texts (Call.Standalone name)) ≡ text_step held (Call.Standalone name)
+text_own : (name : Name) (held : HeldBytes) → after_text held (lowered_call is_for_texts (Call.Standalone name)) ≡ text_step held (Call.Standalone name)
 unfolding steps_of lowered_within
 text_own name held = go (says_none name.tag) name.label
   where
@@ -69,7 +69,7 @@ text_own name held = go (says_none name.tag) name.label
     go false (Some label) = text_label label.is_static label.text name (Some (length label.text)) held
     go false None = refl
 
-text_call : (call : Call) (held : Fragment) → after_text held (lowered_call is_for_texts call) ≡ text_step held call
+text_call : (call : Call) (held : HeldBytes) → after_text held (lowered_call is_for_texts call) ≡ text_step held call
 unfolding steps_of lowered_within
 text_call Call.Null held = refl
 text_call (Call.Truth b) held = refl

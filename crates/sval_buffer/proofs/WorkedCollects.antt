@@ -5,16 +5,16 @@ use Rattle.sval_label.specs.Calls.{IntType, Head, Slot, Call}
 use Rattle.sval_core.specs.Names.{constant_size_tag, unit_tag, tag_alone, no_name, offset, ident, some_name, none_name}
 use Rattle.sval_core.specs.Values.{makes, fails_after}
 use Rattle.sval_lower.specs.Lowered.{lowered_within}
-use Rattle.sval_buffer.specs.Pushes.{Fragment}
+use Rattle.sval_buffer.specs.Pushes.{HeldBytes}
 use Rattle.sval_buffer.specs.declared.error.Word.TheVariants as word
 use Rattle.sval_buffer.specs.declared.error.ErrorKind.{ErrorKind}
 use Rattle.sval_buffer.specs.declared.error.ErrorKind.TheVariants as error
 use Rattle.sval_buffer.specs.Collected.{text_collected, binary_collected}
 
-abbrev lent : List ℕ → Result Fragment ErrorKind
+abbrev lent : List ℕ → Result HeldBytes ErrorKind
 lent bytes = Ok (record { borrowed = true; bytes = bytes })
 
-abbrev copied : List ℕ → Result Fragment ErrorKind
+abbrev copied : List ℕ → Result HeldBytes ErrorKind
 copied bytes = Ok (record { borrowed = false; bytes = bytes })
 
 abbrev one_text : Bool → List ℕ → List Call

@@ -1,22 +1,22 @@
 -- The laws of collecting fragments, as facts.
 use Rattle.std.specs.Prelude.{◌≡◌, Ok, Err, Result}
 use Rattle.sval_core.specs.Law.{Emission, Streams, Stops}
-use Rattle.sval_buffer.specs.Pushes.{Fragment}
+use Rattle.sval_buffer.specs.Pushes.{HeldBytes}
 use Rattle.sval_buffer.specs.Forest.{no_bytes}
 use Rattle.sval_buffer.specs.declared.error.Word.{Word}
 use Rattle.sval_buffer.specs.declared.error.Word.TheVariants as word
 use Rattle.sval_buffer.specs.declared.error.ErrorKind.{ErrorKind}
-use Rattle.sval_buffer.specs.Collects.{cause_by}
+use Rattle.sval_buffer.specs.CapturedValues.{cause_by}
 use Rattle.sval_buffer.specs.Collected.{text_collected, binary_collected, IsDue}
-use Rattle.sval_buffer.specs.CollectSteps.{Step, text_step, binary_step, steps_of, answer_after, Collecting, nothing_collected, collect_law, collecting}
+use Rattle.sval_buffer.specs.CollectSteps.{CollectStep, text_step, binary_step, steps_of, answer_after, Collecting, nothing_collected, collect_law, collecting}
 
 -- the steps of the calls answer what their lowered calls do
-abbrev pub StepsCollect : Word → Step → (Emission → Result Fragment ErrorKind) → Type 0
+abbrev pub StepsCollect : Word → CollectStep → (Emission → Result HeldBytes ErrorKind) → Type 0
 StepsCollect expected step collected = (e : Emission) → answer_after expected e.refuses (steps_of step no_bytes e.calls) ≡ collected e
 
 -- A stream that meets the steps, and has collected nothing at first, answers what is due: what it holds where it took all
 -- calls, and else why it refused one, or that the value itself failed.
-pub record StreamCollects (expected : Word) (step : Step) (collected : Emission → Result Fragment ErrorKind) : Type 0 where
+pub record StreamCollects (expected : Word) (step : CollectStep) (collected : Emission → Result HeldBytes ErrorKind) : Type 0 where
   pub on_ok : (e : Emission) (start last : Collecting) → start ≡ nothing_collected → Streams (collect_law expected step) (collecting start) e (collecting last)
       → IsDue (collected e) (Ok last.held)
   pub on_err : (e : Emission) (start last : Collecting) → start ≡ nothing_collected → Stops (collect_law expected step) (collecting start) e (collecting last)

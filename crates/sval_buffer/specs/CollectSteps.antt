@@ -6,20 +6,20 @@ use Rattle.sval_label.specs.Texts.{is_empty}
 use Rattle.sval_label.specs.Ranges.{is_signed}
 use Rattle.sval_core.specs.Law.{Law, Standing}
 use Rattle.sval_core.specs.Names.{says_none}
-use Rattle.sval_buffer.specs.Pushes.{Fragment, pushed}
+use Rattle.sval_buffer.specs.Pushes.{HeldBytes, pushed}
 use Rattle.sval_buffer.specs.Forest.{no_bytes}
-use Rattle.sval_buffer.specs.Captured.{IsNoAlloc, wants_after}
+use Rattle.sval_buffer.specs.Capture.{IsNoAlloc, wants_after}
 use Rattle.sval_buffer.specs.declared.error.Word.{Word}
 use Rattle.sval_buffer.specs.declared.error.Word.TheVariants as word
 use Rattle.sval_buffer.specs.declared.error.ErrorKind.{ErrorKind}
 use Rattle.sval_buffer.specs.declared.error.ErrorKind.TheVariants as error
 
 -- the content after a call, or the kind of a call that doesn't fit
-abbrev pub Step : Type 0
-Step = Fragment → Call → Result Fragment Word
+abbrev pub CollectStep : Type 0
+CollectStep = HeldBytes → Call → Result HeldBytes Word
 
 -- one more fragment
-abbrev pub push : Fragment → Bool → List ℕ → Result Fragment Word
+abbrev pub push : HeldBytes → Bool → List ℕ → Result HeldBytes Word
 push held borrowed bytes = Ok (pushed held (record { borrowed = borrowed; bytes = bytes }))
 
 -- a number of a type that goes up to 128 bits is told as digits where it doesn't fit 64 bits with a sign
@@ -37,11 +37,11 @@ is_digits type n = goes_up type && not (is_signed 63 n)
 abbrev pub own_label : Name → Option Label
 own_label name = if says_none name.tag then None else name.label
 
-abbrev pub push_label : Fragment → Option Label → Result Fragment Word
+abbrev pub push_label : HeldBytes → Option Label → Result HeldBytes Word
 push_label held (Some label) = push held label.is_static label.text
 push_label held None = Err word.Null
 
-abbrev pub text_step : Step
+abbrev pub text_step : CollectStep
 text_step held Call.Null = Err word.Null
 text_step held (Call.Truth _) = Err word.Boolean
 text_step held (Call.Int type n) = if is_digits type n then push held false (signed_decimal n) else Err word.Integer
@@ -61,22 +61,22 @@ word_for_label (Some _) = word.Text
 word_for_label None = word.Null
 
 -- sequences and tuples are passed, and maps and records are not
-abbrev pub begin_binary : Fragment → Head → Result Fragment Word
+abbrev pub begin_binary : HeldBytes → Head → Result HeldBytes Word
 begin_binary held Head.Seq = Ok held
 begin_binary held (Head.Tuple _) = Ok held
 begin_binary held _ = Err word.Map
 
 -- a field's label is a text
-abbrev pub begin_part : Fragment → Slot → Result Fragment Word
+abbrev pub begin_part : HeldBytes → Slot → Result HeldBytes Word
 begin_part held (Slot.Field _ _) = Err word.Text
 begin_part held (Slot.FieldPlace _ _ _) = Err word.Text
 begin_part held _ = Ok held
 
-abbrev pub push_number : Fragment → IntType → ℤ → Result Fragment Word
+abbrev pub push_number : HeldBytes → IntType → ℤ → Result HeldBytes Word
 push_number held IntType.U8 n = push held false (nat_abs n ∷ [])
 push_number held type n = Err (if is_digits type n then word.Text else word.Integer)
 
-abbrev pub binary_step : Step
+abbrev pub binary_step : CollectStep
 binary_step held Call.Null = Err word.Null
 binary_step held (Call.Truth _) = Err word.Boolean
 binary_step held (Call.Int type n) = push_number held type n
@@ -90,12 +90,12 @@ binary_step held (Call.PartBegin slot) = begin_part held slot
 binary_step held _ = Ok held
 
 -- the content after all calls, or the kind of the first one that doesn't fit
-unfoldable pub steps_of : Step → Fragment → List Call → Result Fragment Word
+unfoldable pub steps_of : CollectStep → HeldBytes → List Call → Result HeldBytes Word
 steps_of step held [] = Ok held
 steps_of step held (call ∷ calls) = elim (step held call) [ Ok next ↦ steps_of step next calls | Err actual ↦ Err actual ]
 
 -- what is answered in the end
-abbrev pub answer_after : Word → Bool → Result Fragment Word → Result Fragment ErrorKind
+abbrev pub answer_after : Word → Bool → Result HeldBytes Word → Result HeldBytes ErrorKind
 answer_after expected refuses (Err actual) = Err (error.Unsupported actual expected)
 answer_after expected true (Ok held) = Err (error.InvalidValue word.FailedToStream)
 answer_after expected false (Ok held) = Ok held
@@ -104,39 +104,39 @@ answer_after expected false (Ok held) = Ok held
 
 -- what a stream that collects is: what it holds, why it refused a call last, and how often memory was wanting
 pub record Collecting : Type 0 where
-  pub held : Fragment
+  pub held : HeldBytes
   pub refusal : Option ErrorKind
   pub wants : ℕ
 
 abbrev pub nothing_collected : Collecting
 nothing_collected = record { held = no_bytes; refusal = None; wants = 0 }
 
-abbrev pub held_by : Result Fragment Word → Fragment → Fragment
+abbrev pub held_by : Result HeldBytes Word → HeldBytes → HeldBytes
 held_by (Ok next) held = next
 held_by (Err actual) held = held
 
 -- why a call that fits, or doesn't, was refused
-abbrev pub IsUnfitBy : Word → Result Fragment Word → ErrorKind → Type 0
+abbrev pub IsUnfitBy : Word → Result HeldBytes Word → ErrorKind → Type 0
 IsUnfitBy expected (Ok next) why = IsNoAlloc why
 IsUnfitBy expected (Err actual) why = why ≡ error.Unsupported actual expected
 
 -- what an operation leaves, where this is what the step answers
-abbrev pub CollectsBy : Word → Result Fragment Word → Result (Unit {0}) ErrorKind → Fragment → Type 0
+abbrev pub CollectsBy : Word → Result HeldBytes Word → Result (Unit {0}) ErrorKind → HeldBytes → Type 0
 CollectsBy expected answer (Ok _) held = answer ≡ Ok held
 CollectsBy expected answer (Err why) held = IsUnfitBy expected answer why
 
 -- what a refused call leaves
-pub record IsLeft (expected : Word) (step : Step) (view : Collecting) (call : Call) (left : Collecting) : Type 0 where
+pub record IsCollectLeft (expected : Word) (step : CollectStep) (view : Collecting) (call : Call) (left : Collecting) : Type 0 where
   pub why : ErrorKind
   pub refusal : left.refusal ≡ Some why
   pub cause : IsUnfitBy expected (step view.held call) why
   pub wants : left.wants ≡ wants_after why view.wants
 
-abbrev pub collect_law : Word → Step → Law Collecting
+abbrev pub collect_law : Word → CollectStep → Law Collecting
 collect_law expected step = record {
   accepts = λ view call. IsOk (step view.held call);
   after = λ view call. record { held = held_by (step view.held call) view.held; refusal = view.refusal; wants = view.wants };
-  stopped = IsLeft expected step;
+  stopped = IsCollectLeft expected step;
 }
 
 abbrev pub collecting : Collecting → Standing Collecting

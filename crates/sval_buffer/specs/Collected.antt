@@ -3,7 +3,7 @@ use Rattle.std.specs.Prelude.{◌≡◌, Bool, true, false, List, [], ◌∷◌,
 use Rattle.sval_label.specs.Calls.{IntType, Head, Call}
 use Rattle.sval_core.specs.Law.{Emission}
 use Rattle.sval_lower.specs.Lowered.{lowered, is_for_texts, is_for_binaries}
-use Rattle.sval_buffer.specs.Pushes.{Fragment, content}
+use Rattle.sval_buffer.specs.Pushes.{HeldBytes, content}
 use Rattle.sval_buffer.specs.declared.error.Word.{Word}
 use Rattle.sval_buffer.specs.declared.error.Word.TheVariants as word
 use Rattle.sval_buffer.specs.declared.error.ErrorKind.{ErrorKind}
@@ -11,7 +11,7 @@ use Rattle.sval_buffer.specs.declared.error.ErrorKind.TheVariants as error
 
 -- what a lowered call is to a buffer: a fragment to push, nothing to keep, or a call of another kind
 pub data Use : Type 0 where
-  Push : Fragment → Use
+  Push : HeldBytes → Use
   Pass : Use
   Unfit : Word → Use
 
@@ -38,32 +38,32 @@ binary_use Call.TextEnd = Unfit word.Text
 binary_use (Call.Begin Head.Map _) = Unfit word.Map
 binary_use _ = Pass
 
-abbrev pub before : Use → Result (List Fragment) Word → Result (List Fragment) Word
+abbrev pub before : Use → Result (List HeldBytes) Word → Result (List HeldBytes) Word
 before (Push fragment) (Ok pushes) = Ok (fragment ∷ pushes)
 before (Push fragment) (Err actual) = Err actual
 before Pass rest = rest
 before (Unfit actual) rest = Err actual
 
 -- the pushes of lowered calls, or the kind of the first call of another kind
-abbrev pub pushes_of : (Call → Use) → List Call → Result (List Fragment) Word
+abbrev pub pushes_of : (Call → Use) → List Call → Result (List HeldBytes) Word
 pushes_of use_of [] = Ok []
 pushes_of use_of (call ∷ calls) = before (use_of call) (pushes_of use_of calls)
 
 -- what is answered for pushes, or for such a kind, where the value refuses or doesn't
-abbrev pub answer : Word → Bool → Result (List Fragment) Word → Result Fragment ErrorKind
-answer expected refuses (Err actual) = Err (error.Unsupported actual expected)
-answer expected true (Ok pushes) = Err (error.InvalidValue word.FailedToStream)
-answer expected false (Ok pushes) = Ok (content pushes)
+abbrev pub collect_answer : Word → Bool → Result (List HeldBytes) Word → Result HeldBytes ErrorKind
+collect_answer expected refuses (Err actual) = Err (error.Unsupported actual expected)
+collect_answer expected true (Ok pushes) = Err (error.InvalidValue word.FailedToStream)
+collect_answer expected false (Ok pushes) = Ok (content pushes)
 
 -- what a buffer for texts collects
-abbrev pub text_collected : Emission → Result Fragment ErrorKind
-text_collected e = answer word.Text e.refuses (pushes_of text_use (lowered is_for_texts e.calls))
+abbrev pub text_collected : Emission → Result HeldBytes ErrorKind
+text_collected e = collect_answer word.Text e.refuses (pushes_of text_use (lowered is_for_texts e.calls))
 
 -- what a buffer for binaries collects
-abbrev pub binary_collected : Emission → Result Fragment ErrorKind
-binary_collected e = answer word.Binary e.refuses (pushes_of binary_use (lowered is_for_binaries e.calls))
+abbrev pub binary_collected : Emission → Result HeldBytes ErrorKind
+binary_collected e = collect_answer word.Binary e.refuses (pushes_of binary_use (lowered is_for_binaries e.calls))
 
 -- what is due is answered, unless memory is wanting
-abbrev pub IsDue : Result Fragment ErrorKind → Result Fragment ErrorKind → Type 0
+abbrev pub IsDue : Result HeldBytes ErrorKind → Result HeldBytes ErrorKind → Type 0
 IsDue due (Err (error.NoAlloc method)) = ⊤
 IsDue due given = given ≡ due

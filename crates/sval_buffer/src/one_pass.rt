@@ -3,9 +3,9 @@
 ghost use Rattle.std.specs.Prelude.{◌≡◌, List, [], map};
 ghost use Rattle.sval_core.specs.Law.{Emits};
 ghost use Rattle.sval_buffer.specs.Replay.{pass};
-ghost use Rattle.sval_buffer.specs.Emitted.{says};
-ghost use Rattle.sval_buffer.specs.Seen.{stored};
-ghost use Rattle.sval_buffer.specs.Nesting.{Going, outer_of, Linked, IsLinked, IsNested, EndsBefore};
+ghost use Rattle.sval_core.specs.Values.{makes};
+ghost use Rattle.sval_buffer.specs.SeenParts.{stored};
+ghost use Rattle.sval_buffer.specs.Nested.{Going, outer_of, Linked, IsLinked, IsNested, EndsBefore};
 
 use crate::part::Part;
 use sval_core::{Lent, Result, Stream};
@@ -18,7 +18,7 @@ pub(crate) fn replay_parts<'sval, S: Stream<Lent<'sval>>>(
     stream: &mut S,
 ) -> Result
     requires { IsNested parts.now }
-    ensures { Emits S.law result (S.standing stream.old) (says (pass 0 [] (map stored parts.now))) (S.standing stream.new) }
+    ensures { Emits S.law result (S.standing stream.old) (makes (pass 0 [] (map stored parts.now))) (S.standing stream.new) }
 {
     let mut going = None;
     for (place, part) in parts.iter().enumerate() {

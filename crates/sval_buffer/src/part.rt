@@ -1,13 +1,13 @@
 //! The parts of a captured value.
 
-ghost use Rattle.std.specs.Prelude.{◌≡◌, [], ◌∷◌, is_ok, if◌then◌else◌};
+ghost use Rattle.std.specs.Prelude.{◌≡◌, [], ◌∷◌, Some, OnErr, IsTrue, is_ok, if◌then◌else◌};
 ghost use Rattle.sval_buffer.specs.Pushes.{pushed};
 ghost use Rattle.sval_core.specs.Law.{Emits};
 ghost use Rattle.sval_buffer.specs.Replay.{head_calls};
-ghost use Rattle.sval_buffer.specs.Emitted.{says};
-ghost use Rattle.sval_buffer.specs.Nesting.{end_calls, is_holder};
-ghost use Rattle.sval_buffer.specs.Forest.{end_of};
-ghost use Rattle.sval_buffer.specs.Seen.{PartPushes, piece_of, with_holds, kind_of, holds_of, single_call, begin_call};
+ghost use Rattle.sval_core.specs.Values.{makes};
+ghost use Rattle.sval_buffer.specs.Nested.{end_calls, is_holder};
+ghost use Rattle.sval_buffer.specs.Forest.{end_of, push_may_grow};
+ghost use Rattle.sval_buffer.specs.SeenParts.{PartPushes, fragment_bytes, with_holds, flat_kind, holds_of, single_call, begin_call};
 
 use crate::error::{ErrorKind, Word};
 use crate::text_buf::TextBuf;
@@ -34,7 +34,7 @@ impl Single {
 
     /// Makes the call.
     fn stream<L: Lending, S: Stream<L>>(self, stream: &mut S) -> sval_core::Result
-        ensures { Emits S.law result (S.standing stream.old) (says (single_call self ∷ [])) (S.standing stream.new) }
+        ensures { Emits S.law result (S.standing stream.old) (makes (single_call self ∷ [])) (S.standing stream.new) }
     {
         match self {
             Single::Null => stream.null(),
@@ -54,7 +54,7 @@ pub(crate) enum Begin {
 impl Begin {
     /// Makes the begin.
     fn stream<L: Lending, S: Stream<L>>(self, stream: &mut S) -> sval_core::Result
-        ensures { Emits S.law result (S.standing stream.old) (says (begin_call self ∷ [])) (S.standing stream.new) }
+        ensures { Emits S.law result (S.standing stream.old) (makes (begin_call self ∷ [])) (S.standing stream.new) }
     {
         match self {
             Begin::Sized(Head::Seq, size) => stream.seq_begin(size),
@@ -64,7 +64,7 @@ impl Begin {
 
     /// Makes the end that belongs to the begin.
     fn stream_end<L: Lending, S: Stream<L>>(self, stream: &mut S) -> sval_core::Result
-        ensures { Emits S.law result (S.standing stream.old) (says (end_of (begin_call self) ∷ [])) (S.standing stream.new) }
+        ensures { Emits S.law result (S.standing stream.old) (makes (end_of (begin_call self) ∷ [])) (S.standing stream.new) }
     {
         match self {
             Begin::Sized(Head::Seq, _) => stream.seq_end(),
@@ -75,7 +75,7 @@ impl Begin {
 
 /// What a part is.
 #[derive(Drop)]
-pub(crate) enum Kind<'sval> {
+pub(crate) enum PartKind<'sval> {
     Single(Single),
     Text(TextBuf<'sval>),
     /// A container, and the number of parts after it that it holds: none, as long as it has no end.
@@ -85,7 +85,7 @@ pub(crate) enum Kind<'sval> {
 /// A part of a captured value.
 #[derive(Drop)]
 pub(crate) struct Part<'sval> {
-    pub(crate) kind: Kind<'sval>,
+    pub(crate) kind: PartKind<'sval>,
     /// The place of the container that holds this part, if one does.
     pub(crate) holder: Option<usize>,
 }
@@ -93,10 +93,10 @@ pub(crate) struct Part<'sval> {
 impl<'sval> Part<'sval> {
     /// Pushes a fragment into a text.
     pub(crate) fn push(&mut self, fragment: Fragment<&'sval str, &str>) -> Result<(), ErrorKind>
-        ensures { PartPushes self.old (piece_of fragment.entry) result self.new }
+        ensures { PartPushes self.old (fragment_bytes fragment.entry) result self.new }
     {
         match &mut self.kind {
-            Kind::Text(text) => push_fragment(text, fragment).map_err(|_| ErrorKind::NoAlloc {
+            PartKind::Text(text) => push_fragment(text, fragment).map_err(|_| ErrorKind::NoAlloc {
                 method: Word::Text,
             }),
             _ => Err(ErrorKind::OutsideContainer { method: Word::Text }),
@@ -108,39 +108,39 @@ impl<'sval> Part<'sval> {
         ensures { result ≡ holds_of self.now.kind }
     {
         match &self.kind {
-            Kind::Container { holds, .. } => *holds,
-            Kind::Single(_) | Kind::Text(_) => 0,
+            PartKind::Container { holds, .. } => *holds,
+            PartKind::Single(_) | PartKind::Text(_) => 0,
         }
     }
 
     /// This is a container.
     pub(crate) fn is_container(&self) -> bool
-        ensures { result ≡ is_holder (kind_of self.now.kind) }
+        ensures { result ≡ is_holder (flat_kind self.now.kind) }
     {
         match &self.kind {
-            Kind::Container { .. } => true,
-            Kind::Single(_) | Kind::Text(_) => false,
+            PartKind::Container { .. } => true,
+            PartKind::Single(_) | PartKind::Text(_) => false,
         }
     }
 
     /// Makes the calls of this part, of a container its begin.
     pub(crate) fn stream_head<S: Stream<Lent<'sval>>>(&self, stream: &mut S) -> sval_core::Result
-        ensures { Emits S.law result (S.standing stream.old) (says (head_calls (kind_of self.now.kind))) (S.standing stream.new) }
+        ensures { Emits S.law result (S.standing stream.old) (makes (head_calls (flat_kind self.now.kind))) (S.standing stream.new) }
     {
         match &self.kind {
-            Kind::Single(single) => single.stream(stream),
-            Kind::Text(text) => text.stream_ref(stream),
-            Kind::Container { begin, .. } => begin.stream(stream),
+            PartKind::Single(single) => single.stream(stream),
+            PartKind::Text(text) => text.stream_ref(stream),
+            PartKind::Container { begin, .. } => begin.stream(stream),
         }
     }
 
     /// Makes the end of this part, if it is a container.
     pub(crate) fn stream_end<S: Stream<Lent<'sval>>>(&self, stream: &mut S) -> sval_core::Result
-        ensures { Emits S.law result (S.standing stream.old) (says (end_calls (kind_of self.now.kind))) (S.standing stream.new) }
+        ensures { Emits S.law result (S.standing stream.old) (makes (end_calls (flat_kind self.now.kind))) (S.standing stream.new) }
     {
         match &self.kind {
-            Kind::Container { begin, .. } => begin.stream_end(stream),
-            Kind::Single(_) | Kind::Text(_) => Ok(()),
+            PartKind::Container { begin, .. } => begin.stream_end(stream),
+            PartKind::Single(_) | PartKind::Text(_) => Ok(()),
         }
     }
 
@@ -148,7 +148,7 @@ impl<'sval> Part<'sval> {
     pub(crate) fn close(&mut self, parts: usize)
         ensures { self.new ≡ record self.old { kind = with_holds self.old.kind parts } }
     {
-        if let Kind::Container { holds, .. } = &mut self.kind {
+        if let PartKind::Container { holds, .. } = &mut self.kind {
             *holds = parts;
         }
     }
@@ -159,7 +159,8 @@ fn push_fragment<'sval>(
     text: &mut TextBuf<'sval>,
     fragment: Fragment<&'sval str, &str>,
 ) -> Result<(), NoMemory>
-    ensures { text.new ≡ (if is_ok result then pushed text.old (piece_of fragment.entry) else text.old) }
+    ensures text { text.new ≡ (if is_ok result then pushed text.old (fragment_bytes fragment.entry) else text.old) }
+    ensures may_fail { OnErr result (IsTrue (push_may_grow (fragment_bytes fragment.entry).borrowed (Some text.old))) }
 {
     let pushed = match fragment {
         Fragment::Borrowed(text_kept) => text.push_fragment(text_kept),

@@ -3,15 +3,16 @@
 ghost use Rattle.std.specs.Prelude.{◌≡◌, true, false, [], ◌∷◌};
 ghost use Rattle.sval_label.specs.Made.{lent_call};
 ghost use Rattle.sval_core.specs.Law.{Emits};
-ghost use Rattle.sval_buffer.specs.Emitted.{says};
+ghost use Rattle.sval_core.specs.Values.{makes};
 ghost use Rattle.sval_buffer.specs.Forest as forest;
-ghost use Rattle.sval_buffer.specs.Forest.{Taken, add, with_flag, begun, close, row_or, push_last_text, newest_row, empty_forest, no_bytes};
-ghost use Rattle.sval_buffer.specs.Captured.{CapturesBy};
-ghost use Rattle.sval_buffer.specs.Seen.{single_call, begin_call, piece_of};
+ghost use Rattle.sval_buffer.specs.Forest.{Becomes, add, with_flag, begun, push_into_text, close_newest, text_may_grow, may_grow, empty_forest, no_bytes};
+ghost use Rattle.sval_buffer.specs.FlatForest.{forest_in};
+ghost use Rattle.sval_buffer.specs.Capture.{CapturesBy};
+ghost use Rattle.sval_buffer.specs.SeenParts.{single_call, begin_call, fragment_bytes};
 
 use crate::error::{ErrorKind, Word};
 use crate::one_pass::replay_parts;
-use crate::part::{Begin, Kind, Part, Single};
+use crate::part::{Begin, Part, PartKind, Single};
 use crate::text_buf::TextBuf;
 use std::alloc::Global;
 use std::marker::Model;
@@ -28,23 +29,22 @@ pub(crate) struct Parts<'sval> {
 }
 
 impl<'sval> Model for Parts<'sval> {
-    ghost use Rattle.sval_buffer.specs.Forest.{Forest};
-    ghost use Rattle.sval_buffer.specs.Codes.{forest_code};
-    ghost use Rattle.sval_buffer.specs.Seen.{told, Tells};
+    ghost use Rattle.std.specs.Prelude.{map};
+    ghost use Rattle.sval_buffer.specs.FlatForest.{FlatForest};
 
-    ghost Value = { Forest };
+    ghost Value = { FlatForest };
 
-    ghost coded = { forest_code };
+    ghost use Rattle.sval_buffer.specs.SeenParts.{stored, told, TellsForest};
 
-    ghost view = { λ p. told p.parts.items p.places.items p.in_fragments };
+    ghost view = { λ p. record { parts = map stored p.parts.items; places = p.places.items; in_fragments = p.in_fragments } };
 
-    ghost invariant = { λ p. Tells p.parts.items p.places.items (told p.parts.items p.places.items p.in_fragments) };
+    ghost invariant = { λ p. TellsForest p.parts.items p.places.items (told p.parts.items p.places.items p.in_fragments) };
 }
 
 impl<'sval> Parts<'sval> {
     /// No parts, which take no memory yet.
     pub(crate) fn new(alloc: Global) -> Self
-        ensures { result ≡ empty_forest }
+        ensures { forest_in result ≡ empty_forest }
     {
         Parts {
             parts: Vec::new(alloc),
@@ -63,7 +63,7 @@ impl<'sval> Parts<'sval> {
 
     /// Forgets all parts.
     pub(crate) fn clear(&mut self)
-        ensures { self.new ≡ empty_forest }
+        ensures { forest_in self.new ≡ empty_forest }
     {
         self.parts.clear();
         self.places.clear();
@@ -72,7 +72,7 @@ impl<'sval> Parts<'sval> {
 
     /// There is a part, and each container and each text has its end.
     pub(crate) fn is_complete(&self) -> bool
-        ensures { result ≡ forest.is_complete self.now.nodes self.now.spine self.now.in_fragments }
+        ensures { result ≡ forest.is_complete (forest_in self.now) }
     {
         if self.parts.is_empty() || !self.places.is_empty() {
             return false;
@@ -82,10 +82,10 @@ impl<'sval> Parts<'sval> {
 
     /// Adds a call that is complete by itself.
     pub(crate) fn single(&mut self, single: Single) -> Result<(), ErrorKind>
-        ensures { CapturesBy (Taken (add (forest.Single (single_call single)) self.old)) self.old result self.new }
+        ensures { CapturesBy (λ _. true) (λ f. Becomes (add (forest.Single (single_call single)) f)) self.old result self.new }
     {
         let part = Part {
-            kind: Kind::Single(single),
+            kind: PartKind::Single(single),
             holder: self.places.last().copied(),
         };
         if self.parts.push(part).is_err() {
@@ -98,10 +98,10 @@ impl<'sval> Parts<'sval> {
 
     /// Begins a text.
     pub(crate) fn text_begin(&mut self, alloc: Global) -> Result<(), ErrorKind>
-        ensures { CapturesBy (Taken (with_flag true (add (forest.Text no_bytes) self.old))) self.old result self.new }
+        ensures { CapturesBy (λ _. true) (λ f. Becomes (with_flag true (add (forest.Text no_bytes) f))) self.old result self.new }
     {
         let part = Part {
-            kind: Kind::Text(TextBuf::new(alloc)),
+            kind: PartKind::Text(TextBuf::new(alloc)),
             holder: self.places.last().copied(),
         };
         if self.parts.push(part).is_err() {
@@ -113,14 +113,15 @@ impl<'sval> Parts<'sval> {
 
     /// Ends a text.
     pub(crate) fn text_end(&mut self)
-        ensures { self.new ≡ with_flag false self.old }
+        ensures { forest_in self.new ≡ with_flag false (forest_in self.old) }
     {
         self.in_fragments = false;
     }
 
     /// Pushes a fragment into the last part.
     pub(crate) fn push(&mut self, fragment: Fragment<&'sval str, &str>) -> Result<(), ErrorKind>
-        ensures { CapturesBy (row_or forest.OutsideText self.old (push_last_text (piece_of fragment.entry) (newest_row self.old.nodes self.old.spine))) self.old result self.new }
+        ensures { let pushed = fragment_bytes fragment.entry in
+            CapturesBy (text_may_grow pushed.borrowed) (push_into_text pushed) self.old result self.new }
     {
         match self.parts.last_mut() {
             Some(part) => part.push(fragment),
@@ -130,10 +131,10 @@ impl<'sval> Parts<'sval> {
 
     /// Begins a container. There is memory for its place before its part is kept.
     pub(crate) fn begin(&mut self, begin: Begin) -> Result<(), ErrorKind>
-        ensures { CapturesBy (Taken (begun (begin_call begin) self.old)) self.old result self.new }
+        ensures { CapturesBy (λ _. true) (λ f. Becomes (begun (begin_call begin) f)) self.old result self.new }
     {
         let part = Part {
-            kind: Kind::Container { begin, holds: 0 },
+            kind: PartKind::Container { begin, holds: 0 },
             holder: self.places.last().copied(),
         };
         let place = self.parts.len();
@@ -148,7 +149,7 @@ impl<'sval> Parts<'sval> {
 
     /// Makes the calls again, or that of no value where there is no part.
     pub(crate) fn replay<S: Stream<Lent<'sval>>>(&self, stream: &mut S) -> sval_core::Result
-        ensures { Emits S.law result (S.standing stream.old) (says (forest.replayed self.now)) (S.standing stream.new) }
+        ensures { Emits S.law result (S.standing stream.old) (makes (forest.replayed (forest_in self.now))) (S.standing stream.new) }
     {
         if self.parts.is_empty() {
             return stream.null();
@@ -157,9 +158,10 @@ impl<'sval> Parts<'sval> {
     }
 
     /// Takes a call.
-    #[tactic(auto, unfolding(crate::specs::Forest::take))]
+    #[tactic(auto, unfolding(crate::specs::Forest::take, crate::specs::Forest::may_grow))]
     pub(crate) fn capture(&mut self, alloc: Global, call: Call<'sval, '_>) -> Result<(), ErrorKind>
-        ensures { CapturesBy (forest.take self.old (lent_call call.entry)) self.old result self.new }
+        ensures { let taken = lent_call call.entry in
+            CapturesBy (λ f. may_grow f taken) (λ f. forest.take f taken) self.old result self.new }
     {
         match call.grouped() {
             GroupedCall::Null => self.single(Single::Null),
@@ -179,7 +181,7 @@ impl<'sval> Parts<'sval> {
 
     /// Ends the newest container without an end.
     pub(crate) fn end(&mut self) -> Result<(), ErrorKind>
-        ensures { CapturesBy (close self.old.nodes self.old.spine self.old.in_fragments) self.old result self.new }
+        ensures { CapturesBy (λ _. false) close_newest self.old result self.new }
     {
         match self.places.pop() {
             Some(place) => {

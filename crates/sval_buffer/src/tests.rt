@@ -85,7 +85,7 @@ fn buffer_of<'sval>(alloc: Global, calls: &[Call<'sval, 'sval>]) -> ValueBuf<'sv
 }
 
 /// Why a text was refused where it was.
-fn kind_of(error: Option<Error>) -> Option<ErrorKind> {
+fn flat_kind(error: Option<Error>) -> Option<ErrorKind> {
     match error {
         Some(error) => Some(*error.kind()),
         None => None,
@@ -179,7 +179,7 @@ fn captures_calls(rt: HostRuntime) -> Result<(), AllocError> {
         assert_eq!(rt; buffer.is_complete(), complete);
         assert_eq!(rt; calls_of(rt.alloc(), &buffer)?.as_str(), replay);
         assert_eq!(rt; calls_of_ref(rt.alloc(), &buffer)?.as_str(), replay);
-        assert_eq!(rt; kind_of(buffer.into_err()), refusal);
+        assert_eq!(rt; flat_kind(buffer.into_err()), refusal);
     }
     Ok(())
 }

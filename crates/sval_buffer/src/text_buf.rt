@@ -3,9 +3,9 @@
 ghost use Rattle.std.specs.Prelude.{◌≡◌, true, false, length, [], ◌∷◌, Some, None, IsOk, OnOk, OnErr, IfOk, IfErr, ◌++◌, option_map, if◌then◌else◌};
 ghost use Rattle.sval_buffer.specs.Pushes.{pushed};
 ghost use Rattle.std.specs.String.{string_bytes};
-ghost use Rattle.sval_buffer.specs.Forest.{no_bytes};
-ghost use Rattle.sval_buffer.specs.Captured.{IsNoAlloc};
-ghost use Rattle.sval_buffer.specs.Emitted.{text_emission};
+ghost use Rattle.sval_buffer.specs.Forest.{no_bytes, held_text_calls};
+ghost use Rattle.sval_buffer.specs.Capture.{IsNoAlloc};
+ghost use Rattle.sval_core.specs.Values.{makes};
 
 use crate::error::{Error, ErrorKind, Word};
 use std::alloc::{AllocError, Global};
@@ -38,16 +38,13 @@ pub struct TextBuf<'sval> {
 }
 
 impl<'sval> Model for TextBuf<'sval> {
-    ghost use Rattle.sval_buffer.specs.Pushes.{Fragment};
-    ghost use Rattle.sval_buffer.specs.Codes.{fragment_code};
+    ghost use Rattle.sval_buffer.specs.Pushes.{HeldBytes};
 
-    ghost Value = { Fragment };
+    ghost Value = { HeldBytes };
 
-    ghost coded = { fragment_code };
+    ghost use Rattle.sval_buffer.specs.SeenTexts.{text_bytes};
 
-    ghost use Rattle.sval_buffer.specs.Texts.{fragment_of};
-
-    ghost view = { λ text. fragment_of text.held };
+    ghost view = { λ text. text_bytes text.held };
 }
 
 impl<'sval> TextBuf<'sval> {
@@ -134,7 +131,7 @@ impl<'sval> TextBuf<'sval> {
 }
 
 impl<'v, 'sval> Value<'v, Lent<'v>> for TextBuf<'sval> {
-    ghost emission = { λ text. text_emission (record { borrowed = true; bytes = text.bytes }) };
+    ghost emission = { λ text. makes (held_text_calls (record { borrowed = true; bytes = text.bytes })) };
 
     fn stream<S: Stream<Lent<'v>>>(&'v self, stream: &mut S) -> Result {
         let text = self.as_str();
@@ -145,7 +142,7 @@ impl<'v, 'sval> Value<'v, Lent<'v>> for TextBuf<'sval> {
 }
 
 impl<'sval> ValueRef<Lent<'sval>> for TextBuf<'sval> {
-    ghost ref_emission = { text_emission };
+    ghost ref_emission = { λ text. makes (held_text_calls text) };
 
     fn stream_ref<S: Stream<Lent<'sval>>>(&self, stream: &mut S) -> Result {
         stream.text_begin(Some(self.as_str().len()))?;

@@ -6,14 +6,14 @@ ghost use Rattle.sval_core.specs.Trees.{Tree};
 ghost use Rattle.sval_core.specs.Spells.{Spells};
 ghost use Rattle.sval_core.specs.Law.{Answers};
 ghost use Rattle.sval_buffer.specs.Forest as forest;
-ghost use Rattle.sval_buffer.specs.Captured.{Capture, no_calls, wants_after, capture_law, standing_of};
-ghost use Rattle.sval_buffer.specs.Emitted.{says};
-ghost use Rattle.sval_buffer.specs.Collects.{IsCaptured, KeepsTree, IsCollectCause, IsOkOrNoAlloc, cause_by};
+ghost use Rattle.sval_buffer.specs.Capture.{Capture, no_calls, wants_after, capture_law, capture_standing};
+ghost use Rattle.sval_core.specs.Values.{makes};
+ghost use Rattle.sval_buffer.specs.SeenBuffers.{capture_of};
+ghost use Rattle.sval_buffer.specs.CapturedValues.{IsCaptured, KeepsTree, IsCollectCause, IsOkOrNoAlloc, cause_by};
 
 use crate::error::{Error, ErrorKind, Word};
 use crate::parts::Parts;
 use std::alloc::Global;
-use std::marker::Model;
 use sval_core::{Call, Lent, Stream, Value};
 use sval_ref::ValueRef;
 
@@ -49,21 +49,10 @@ pub struct ValueBuf<'sval> {
     alloc: Global,
 }
 
-impl<'sval> Model for ValueBuf<'sval> {
-    ghost use Rattle.sval_buffer.specs.Captured.{Capture};
-    ghost use Rattle.sval_buffer.specs.CaptureCodes.{capture_code};
-
-    ghost Value = { Capture };
-
-    ghost coded = { capture_code };
-
-    ghost view = { λ b. record { forest = b.parts; refusal = b.refusal; wants = b.wants } };
-}
-
 impl<'sval> ValueBuf<'sval> {
     /// A buffer that has taken no call, and takes no memory yet.
     pub fn new(alloc: Global) -> Self
-        ensures { result ≡ no_calls 0 }
+        ensures { capture_of result ≡ no_calls 0 }
     {
         ValueBuf {
             parts: Parts::new(alloc),
@@ -75,7 +64,7 @@ impl<'sval> ValueBuf<'sval> {
 
     /// A buffer that has taken no call, with room for this many parts where there is memory for them.
     fn with_room(alloc: Global, parts: usize) -> Self
-        ensures { result ≡ no_calls 0 }
+        ensures { capture_of result ≡ no_calls 0 }
     {
         let mut buffer = ValueBuf::new(alloc);
         buffer.parts.reserve(parts);
@@ -94,9 +83,9 @@ impl<'sval> ValueBuf<'sval> {
     /// stream.value(&buffer)?;
     /// ```
     pub fn collect<V: Value<'sval, Lent<'sval>>>(alloc: Global, v: &'sval V) -> Result<Self, Error>
-        ensures ok { IfOk result (λ buffer. IsCaptured (V.emission v.now) buffer) }
+        ensures ok { IfOk result (λ buffer. IsCaptured (V.emission v.now) (capture_of buffer)) }
         ensures err { IfErr result (λ why. IsCollectCause (V.emission v.now) why) }
-        ensures keeps_the_tree { IfOk result (λ buffer. KeepsTree (V.emission v.now) buffer.forest) }
+        ensures keeps_the_tree { IfOk result (λ buffer. KeepsTree (V.emission v.now) (capture_of buffer).forest) }
         ensures complete { (tree : Tree) → (V.emission v.now).refuses ≡ false → Spells (V.emission v.now).calls tree → IsOkOrNoAlloc result }
     {
         ValueBuf::collect_with_capacity(alloc, 0, v)
@@ -111,9 +100,9 @@ impl<'sval> ValueBuf<'sval> {
         parts: usize,
         v: &'sval V,
     ) -> Result<Self, Error>
-        ensures ok { IfOk result (λ buffer. IsCaptured (V.emission v.now) buffer) }
+        ensures ok { IfOk result (λ buffer. IsCaptured (V.emission v.now) (capture_of buffer)) }
         ensures err { IfErr result (λ why. IsCollectCause (V.emission v.now) why) }
-        ensures keeps_the_tree { IfOk result (λ buffer. KeepsTree (V.emission v.now) buffer.forest) }
+        ensures keeps_the_tree { IfOk result (λ buffer. KeepsTree (V.emission v.now) (capture_of buffer).forest) }
         ensures complete { (tree : Tree) → (V.emission v.now).refuses ≡ false → Spells (V.emission v.now).calls tree → IsOkOrNoAlloc result }
     {
         let mut buffer: ValueBuf<'sval> = ValueBuf::with_room(alloc, parts);
@@ -125,14 +114,14 @@ impl<'sval> ValueBuf<'sval> {
 
     /// There is a part, each container has its end, and no text has begun without one ending since.
     pub fn is_complete(&self) -> bool
-        ensures { result ≡ forest.is_complete self.now.forest.nodes self.now.forest.spine self.now.forest.in_fragments }
+        ensures { result ≡ forest.is_complete (capture_of self.now).forest }
     {
         self.parts.is_complete()
     }
 
     /// Forgets all calls, and the last refusal.
     pub fn clear(&mut self)
-        ensures { self.new ≡ no_calls self.old.wants }
+        ensures { capture_of self.new ≡ no_calls (capture_of self.old).wants }
     {
         self.parts.clear();
         self.refusal = None;
@@ -140,14 +129,14 @@ impl<'sval> ValueBuf<'sval> {
 
     /// Why the last refused call was refused, if one was since the buffer was new or cleared.
     pub fn into_err(self) -> Option<Error>
-        ensures { result ≡ self.entry.refusal }
+        ensures { result ≡ (capture_of self.entry).refusal }
     {
         self.refusal.map(Error::new)
     }
 
     /// Why a value wasn't captured: a refused call, or else the value itself.
     fn cause(self) -> Error
-        ensures { result ≡ cause_by self.entry.refusal }
+        ensures { result ≡ cause_by (capture_of self.entry).refusal }
     {
         match self.refusal {
             Some(kind) => Error::new(kind),
@@ -159,7 +148,8 @@ impl<'sval> ValueBuf<'sval> {
 
     /// Keeps why a call was refused.
     fn keep(&mut self, why: ErrorKind)
-        ensures kept { self.new ≡ record self.old { refusal = Some why; wants = wants_after why self.old.wants } }
+        ensures kept { let was = capture_of self.old in
+            capture_of self.new ≡ record was { refusal = Some why; wants = wants_after why was.wants } }
         ensures rises { self.old.wants ≤ self.new.wants }
     {
         if let ErrorKind::NoAlloc { .. } = why {
@@ -174,10 +164,10 @@ impl<'sval> Stream<Lent<'sval>> for ValueBuf<'sval> {
 
     ghost law = { capture_law };
 
-    ghost standing = { standing_of };
+    ghost standing = { λ buffer. capture_standing (capture_of buffer) };
 
     fn take(&mut self, call: Call<'sval, '_>) -> sval_core::Result
-        ensures { Answers capture_law result (standing_of self.old) (lent_call call.entry) (standing_of self.new) }
+        ensures { Answers capture_law result (capture_standing (capture_of self.old)) (lent_call call.entry) (capture_standing (capture_of self.new)) }
     {
         match self.parts.capture(self.alloc, call) {
             Ok(()) => Ok(()),
@@ -190,7 +180,7 @@ impl<'sval> Stream<Lent<'sval>> for ValueBuf<'sval> {
 }
 
 impl<'v, 'sval> Value<'v, Lent<'v>> for ValueBuf<'sval> {
-    ghost emission = { λ buffer. says (forest.replayed buffer.forest) };
+    ghost emission = { λ buffer. makes (forest.replayed (capture_of buffer).forest) };
 
     fn stream<S: Stream<Lent<'v>>>(&'v self, stream: &mut S) -> sval_core::Result {
         let shorter: &'v ValueBuf<'v> = self;
@@ -199,7 +189,7 @@ impl<'v, 'sval> Value<'v, Lent<'v>> for ValueBuf<'sval> {
 }
 
 impl<'sval> ValueRef<Lent<'sval>> for ValueBuf<'sval> {
-    ghost ref_emission = { λ buffer. says (forest.replayed buffer.forest) };
+    ghost ref_emission = { λ buffer. makes (forest.replayed (capture_of buffer).forest) };
 
     fn stream_ref<S: Stream<Lent<'sval>>>(&self, stream: &mut S) -> sval_core::Result {
         self.parts.replay(stream)

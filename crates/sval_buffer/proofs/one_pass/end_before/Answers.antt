@@ -1,6 +1,6 @@
 use Rattle.std.proofs.Common.{◌-◌, ◌<◌, ◌≤◌, sym, subst, arith, rules}
-use Rattle.sval_buffer.specs.Seen.{holds_of}
-use Rattle.sval_buffer.specs.Nesting.{still, IsBelow, Linked}
+use Rattle.sval_buffer.specs.SeenParts.{holds_of}
+use Rattle.sval_buffer.specs.Nested.{still, IsBelow, Linked}
 use Rattle.sval_buffer.proofs.Replaying.{IsWalked, linked_within, walk-none, walk-goes_on, walk-step, walk-stop, walk-below, ends_stopped, nearer}
 use Rattle.sval_buffer.proofs.one_pass.end_before.Goals as goal
 

@@ -1,5 +1,5 @@
 use Rattle.std.proofs.Common.{List}
-use Rattle.sval_buffer.specs.Nesting.{Going, Linked}
+use Rattle.sval_buffer.specs.Nested.{Going, Linked}
 use Rattle.sval_buffer.proofs.Replaying.{IsWalked, steps_left}
 use Rattle.sval_buffer.proofs.one_pass.end_before.Given as goal
 

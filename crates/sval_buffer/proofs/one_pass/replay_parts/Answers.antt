@@ -1,5 +1,5 @@
 use Rattle.std.proofs.Common.{◌≡◌, ◌+◌, ◌<◌, ◌≤◌, length, sym, ◌∙◌, subst, arith, Option, ℕ}
-use Rattle.sval_buffer.specs.Seen.{kind_of}
+use Rattle.sval_buffer.specs.SeenParts.{flat_kind}
 use Rattle.sval_buffer.proofs.Replaying.{IsReplayed, replay-step, replay-stop_ends, replay-stop_head, replay-stop_last, replay-end, newest_opened, newest_kept}
 use Rattle.sval_core.proofs.Emissions.{passes_on}
 use Rattle.sval_buffer.proofs.one_pass.replay_parts.Goals as goal
@@ -26,8 +26,8 @@ loop-place-preserved g c =
     let step = replay-step part r lt c.index-parts-place.is (c.in_ok-going.ensures r.gs r.linked).streams c.in_ok-going.going (c.in_ok-going.ensures r.gs r.linked).linked c.in_ok-stream_head.ensures in
     let at : Option ℕ → Type 0 = λ o. IsReplayed g.S.Stream.law (g.S.Stream.standing c.args.stream.now) (g.S.Stream.standing c.stream_head.new.stream) c.args.parts.now (c.loop-place.place + 1) o in
     elim c.if-is_container.branch [
-      | then-is_container w ↦ subst at (newest_opened c.loop-place.place (kind_of part.kind) c.in_ok-going.going c.is_container.result c.is_container.ensures w.if-is_container.true ∙ sym w.going-is) step
-      | else-is_container w ↦ subst at (newest_kept c.loop-place.place (kind_of part.kind) c.in_ok-going.going c.is_container.result c.is_container.ensures w.if-is_container.false ∙ sym w.going-is) step
+      | then-is_container w ↦ subst at (newest_opened c.loop-place.place (flat_kind part.kind) c.in_ok-going.going c.is_container.result c.is_container.ensures w.if-is_container.true ∙ sym w.going-is) step
+      | else-is_container w ↦ subst at (newest_kept c.loop-place.place (flat_kind part.kind) c.in_ok-going.going c.is_container.result c.is_container.ensures w.if-is_container.false ∙ sym w.going-is) step
     ]
 
 pub returns-in_err-end_before : goal.returns-in_err-end_before

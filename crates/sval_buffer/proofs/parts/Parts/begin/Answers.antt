@@ -1,13 +1,14 @@
 use Rattle.std.specs.Prelude.{slice_get}
 use Rattle.std.proofs.Common.{◌≡◌, ℕ, ◌-◌, List, [], ◌∷◌, ◌++◌, length, refl, ap, ◌∙◌, sym}
-use Rattle.sval_buffer.specs.Forest.{Taken}
-use Rattle.sval_buffer.specs.Seen.{begin_call}
+use Rattle.sval_buffer.specs.Forest.{Becomes}
+use Rattle.sval_buffer.specs.SeenParts.{begin_call}
+use Rattle.sval_buffer.specs.FlatForest.{forest_in}
 use Rattle.sval_buffer.proofs.Steps.{Is, is_begun, was_pushed}
 use Rattle.sval_buffer.proofs.parts.Parts.begin.Goals as goal
 
 pub invariant_of-self-2 : goal.invariant_of-self-2
 invariant_of-self-2 c =
-    let is : Is c.self.inside.parts.items c.self.inside.places.items c.self.inside.in_fragments c.args.self.now = record { view = c.self.view_is; invariant = c.self.invariant } in
+    let is : Is c.self.inside.parts.items c.self.inside.places.items c.self.inside.in_fragments (forest_in c.args.self.now) = record { view = ap forest_in c.self.view_is; invariant = c.self.invariant } in
     let e = was_pushed c.push.result _ _ c.push.ensures.items c.if-is_err-2.ensures.negation in
     let p : c.push_reserved.new.self.items ≡ c.self.inside.places.items ++ (c.len-place.result ∷ []) = c.push_reserved.ensures.items ∙ ap (λ (qs : List ℕ). qs ++ (c.len-place.result ∷ [])) c.reserve.ensures.items in
     let now = is_begun _ (begin_call c.args.begin) c.len-place.result is refl (c.copied.ensures ∙ c.last.ensures.value ∙ ap (λ (qs : List ℕ). slice_get qs (length qs - 1)) c.deref.ensures.value) (c.len-place.ensures ∙ c.self.inside.parts.ok.0) in
@@ -15,8 +16,8 @@ invariant_of-self-2 c =
 
 pub returns : goal.returns
 returns c =
-    let is : Is c.self.inside.parts.items c.self.inside.places.items c.self.inside.in_fragments c.args.self.now = record { view = c.self.view_is; invariant = c.self.invariant } in
+    let is : Is c.self.inside.parts.items c.self.inside.places.items c.self.inside.in_fragments (forest_in c.args.self.now) = record { view = ap forest_in c.self.view_is; invariant = c.self.invariant } in
     let e = was_pushed c.push.result _ _ c.push.ensures.items c.if-is_err-2.ensures.negation in
     let p : c.push_reserved.new.self.items ≡ c.self.inside.places.items ++ (c.len-place.result ∷ []) = c.push_reserved.ensures.items ∙ ap (λ (qs : List ℕ). qs ++ (c.len-place.result ∷ [])) c.reserve.ensures.items in
     let now = is_begun _ (begin_call c.args.begin) c.len-place.result is refl (c.copied.ensures ∙ c.last.ensures.value ∙ ap (λ (qs : List ℕ). slice_get qs (length qs - 1)) c.deref.ensures.value) (c.len-place.ensures ∙ c.self.inside.parts.ok.0) in
-    ap Taken (sym (rw (e, p) now.view))
+    ap Becomes (sym (rw (e, p) now.view))

@@ -1,35 +1,36 @@
 use Rattle.std.specs.Prelude.{slice_index_or}
 use Rattle.std.proofs.Common.{◌≡◌, ℕ, ◌-◌, ◌<◌, length, ap, ◌∙◌, sym, arith, vec_len}
-use Rattle.sval_buffer.specs.Forest.{Taken}
-use Rattle.sval_buffer.specs.Seen.{with_holds}
+use Rattle.sval_buffer.specs.Forest.{Becomes}
+use Rattle.sval_buffer.specs.SeenParts.{with_holds}
 use Rattle.sval_buffer.specs.declared.part.Part.{Part}
+use Rattle.sval_buffer.specs.FlatForest.{forest_in}
 use Rattle.sval_buffer.proofs.Steps.{Is, place_within, is_closed, closes}
 use Rattle.sval_buffer.proofs.parts.Parts.end.Goals as goal
 
 pub overflow_sub-holds : goal.overflow_sub-holds
 overflow_sub-holds c =
-    let is : Is c.self.inside.parts.items c.self.inside.places.items c.self.inside.in_fragments c.args.self.now = record { view = c.self.view_is; invariant = c.self.invariant } in
+    let is : Is c.self.inside.parts.items c.self.inside.places.items c.self.inside.in_fragments (forest_in c.args.self.now) = record { view = ap forest_in c.self.view_is; invariant = c.self.invariant } in
     let lt : c.in-Some.place < length c.self.inside.parts.items = place_within c.pop.new.self.items c.in-Some.place is c.in-Some.ensures.items in
     let n : length c.self.inside.parts.items ≡ vec_len c.self.inside.parts = sym c.self.inside.parts.ok.0 in
     omega arith
 
 pub overflow_sub-holds-in-Some : goal.overflow_sub-holds-in-Some
 overflow_sub-holds-in-Some c =
-    let is : Is c.self.inside.parts.items c.self.inside.places.items c.self.inside.in_fragments c.args.self.now = record { view = c.self.view_is; invariant = c.self.invariant } in
+    let is : Is c.self.inside.parts.items c.self.inside.places.items c.self.inside.in_fragments (forest_in c.args.self.now) = record { view = ap forest_in c.self.view_is; invariant = c.self.invariant } in
     let lt : c.in-Some.place < length c.self.inside.parts.items = place_within c.pop.new.self.items c.in-Some.place is c.in-Some.ensures.items in
     let n : length c.self.inside.parts.items ≡ vec_len c.self.inside.parts = sym c.self.inside.parts.ok.0 in
     omega arith
 
 pub index_mut-requires : goal.index_mut-requires
 index_mut-requires c =
-    let is : Is c.self.inside.parts.items c.self.inside.places.items c.self.inside.in_fragments c.args.self.now = record { view = c.self.view_is; invariant = c.self.invariant } in
+    let is : Is c.self.inside.parts.items c.self.inside.places.items c.self.inside.in_fragments (forest_in c.args.self.now) = record { view = ap forest_in c.self.view_is; invariant = c.self.invariant } in
     let lt : c.in-Some.place < length c.self.inside.parts.items = place_within c.pop.new.self.items c.in-Some.place is c.in-Some.ensures.items in
     let n : length c.self.inside.parts.items ≡ vec_len c.self.inside.parts = sym c.self.inside.parts.ok.0 in
     omega arith
 
 pub invariant_of-self : goal.invariant_of-self
 invariant_of-self c =
-    let is : Is c.self.inside.parts.items c.self.inside.places.items c.self.inside.in_fragments c.args.self.now = record { view = c.self.view_is; invariant = c.self.invariant } in
+    let is : Is c.self.inside.parts.items c.self.inside.places.items c.self.inside.in_fragments (forest_in c.args.self.now) = record { view = ap forest_in c.self.view_is; invariant = c.self.invariant } in
     let d = c.index_mut.result.now in
     let same : c.close.new.self ≡ (let x : Part = slice_index_or c.self.inside.parts.items c.in-Some.place d in record x { kind = with_holds x.kind (length c.self.inside.parts.items - c.in-Some.place - 1) }) =
     c.close.ensures
@@ -40,11 +41,11 @@ invariant_of-self c =
 
 pub returns-in-Some : goal.returns-in-Some
 returns-in-Some c =
-    let is : Is c.self.inside.parts.items c.self.inside.places.items c.self.inside.in_fragments c.args.self.now = record { view = c.self.view_is; invariant = c.self.invariant } in
+    let is : Is c.self.inside.parts.items c.self.inside.places.items c.self.inside.in_fragments (forest_in c.args.self.now) = record { view = ap forest_in c.self.view_is; invariant = c.self.invariant } in
     let d = c.index_mut.result.now in
     let same : c.close.new.self ≡ (let x : Part = slice_index_or c.self.inside.parts.items c.in-Some.place d in record x { kind = with_holds x.kind (length c.self.inside.parts.items - c.in-Some.place - 1) }) =
     c.close.ensures
     ∙ ap (λ (n : ℕ). let w : Part = record { kind = with_holds d.kind (n - c.in-Some.place - 1); holder = d.holder } in w) (c.len.ensures ∙ c.self.inside.parts.ok.0)
     ∙ ap (λ (x : Part). let w : Part = record x { kind = with_holds x.kind (length c.self.inside.parts.items - c.in-Some.place - 1) } in w) c.index_mut.ensures.value in
     let now = is_closed c.pop.new.self.items c.in-Some.place c.index_mut.result.now c.close.new.self is c.in-Some.ensures.items same in
-    closes c.pop.new.self.items c.in-Some.place c.index_mut.result.now c.close.new.self is c.in-Some.ensures.items same ∙ ap Taken (sym now.view)
+    closes c.pop.new.self.items c.in-Some.place c.index_mut.result.now c.close.new.self is c.in-Some.ensures.items same ∙ ap Becomes (sym now.view)

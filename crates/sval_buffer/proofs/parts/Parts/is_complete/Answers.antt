@@ -1,12 +1,13 @@
-use Rattle.std.proofs.Common.{◌≡◌, ◌<◌, length, sym, arith, vec_len}
+use Rattle.std.proofs.Common.{◌≡◌, ◌<◌, length, sym, ap, arith, vec_len}
 use Rattle.std.proofs.lemmas.Bool.Decides.{nat_tests}
+use Rattle.sval_buffer.specs.FlatForest.{forest_in}
 use Rattle.sval_buffer.proofs.Steps.{Is, none_complete, open_incomplete, complete_is}
 use Rattle.sval_buffer.proofs.parts.Parts.is_complete.Goals as goal
 use Rattle.sval_buffer.proofs.parts.Parts.is_complete.Goals.{then-is_empty-via-then-is_empty, then-is_empty-via-else-is_empty+then-not-is_empty}
 
 pub returns-then-is_empty : goal.returns-then-is_empty
 returns-then-is_empty c =
-    let is : Is c.self.inside.parts.items c.self.inside.places.items c.self.inside.in_fragments c.args.self.now = record { view = c.self.view_is; invariant = c.self.invariant } in
+    let is : Is c.self.inside.parts.items c.self.inside.places.items c.self.inside.in_fragments (forest_in c.args.self.now) = record { view = ap forest_in c.self.view_is; invariant = c.self.invariant } in
     let n : length c.self.inside.parts.items ≡ vec_len c.self.inside.parts = sym c.self.inside.parts.ok.0 in
     let m : length c.self.inside.places.items ≡ vec_len c.self.inside.places = sym c.self.inside.places.ok.0 in
     elim c.then-is_empty.branch [
@@ -16,7 +17,7 @@ returns-then-is_empty c =
 
 pub returns : goal.returns
 returns c =
-    let is : Is c.self.inside.parts.items c.self.inside.places.items c.self.inside.in_fragments c.args.self.now = record { view = c.self.view_is; invariant = c.self.invariant } in
+    let is : Is c.self.inside.parts.items c.self.inside.places.items c.self.inside.in_fragments (forest_in c.args.self.now) = record { view = ap forest_in c.self.view_is; invariant = c.self.invariant } in
     let n : length c.self.inside.parts.items ≡ vec_len c.self.inside.parts = sym c.self.inside.parts.ok.0 in
     let m : length c.self.inside.places.items ≡ vec_len c.self.inside.places = sym c.self.inside.places.ok.0 in
     let some : 0 < length c.self.inside.parts.items = grind (arith, nat_tests, c.if-is_empty.ensures) in

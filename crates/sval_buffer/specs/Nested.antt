@@ -3,12 +3,13 @@ use Rattle.std.specs.Prelude.{◌≡◌, ℕ, ◌+◌, ◌≤◌, ◌<◌, ◌==
 use Rattle.sval_label.specs.Calls.{Call}
 use Rattle.sval_buffer.specs.Forest.{end_of}
 use Rattle.sval_buffer.specs.Flat as flat
+use Rattle.sval_buffer.specs.Flat.{FlatKind, FlatPart, flat_part}
 use Rattle.sval_label.specs.declared.error.Error.{Error}
 use Rattle.sval_core.specs.Law.{Law, Standing, Streams, Stops}
 use Rattle.sval_buffer.specs.Replay.{Pending, ended}
-use Rattle.sval_buffer.specs.Emitted.{says}
+use Rattle.sval_core.specs.Values.{makes}
 use Rattle.sval_buffer.specs.declared.part.Part.{Part}
-use Rattle.sval_buffer.specs.Seen.{kind_of, holds_of, stored, holder}
+use Rattle.sval_buffer.specs.SeenParts.{flat_kind, holds_of, stored, holder}
 
 -- a container that was begun and has no end yet, with its place
 pub record Going : Type 0 where
@@ -24,7 +25,7 @@ still i [] = []
 still i (newest ∷ older) = if nat_le newest.pending.stop i then still i older else newest ∷ older
 
 -- with the container that the part at place i is, if it is one
-abbrev pub opens : ℕ → ℕ → flat.Kind → List Going → List Going
+abbrev pub opens : ℕ → ℕ → FlatKind → List Going → List Going
 opens i holds (flat.One call) gs = gs
 opens i holds (flat.Words held) gs = gs
 opens i holds (flat.Bytes held) gs = gs
@@ -35,11 +36,11 @@ top [] = None
 top (newest ∷ older) = Some newest.place
 
 -- the place of the container that holds a part in replay: none, where that container has no end
-abbrev pub outer_at : ℕ → Option flat.Part → Option ℕ
+abbrev pub outer_at : ℕ → Option FlatPart → Option ℕ
 outer_at place None = None
 outer_at place (Some p) = if p.holds == 0 then None else Some place
 
-abbrev pub outer_of : List flat.Part → Option ℕ → Option ℕ
+abbrev pub outer_of : List FlatPart → Option ℕ → Option ℕ
 outer_of whole None = None
 outer_of whole (Some place) = outer_at place (slice_get whole place)
 
@@ -53,7 +54,7 @@ pub record Link (parts : List Part) (going : Option ℕ) (newest : Going) : Type
   pub at : going ≡ Some newest.place
   pub found : slice_get parts newest.place ≡ Some part
   pub begin : Call
-  pub kind : kind_of part.kind ≡ flat.Holder begin
+  pub kind : flat_kind part.kind ≡ flat.Holder begin
   pub pending : newest.pending ≡ record { stop = newest.place + 1 + holds_of part.kind; end = end_of begin }
   pub below : IsBelow (outer_of (map stored parts) part.holder) newest.place
 
@@ -70,7 +71,7 @@ AllStop i [] = ⊤
 AllStop i (newest ∷ older) = (newest.pending.stop ≤ i) × AllStop i older
 
 -- each part from place i on is held by the newest container that goes on there
-abbrev pub Nested : List flat.Part → ℕ → List Going → List flat.Part → List (Option ℕ) → Type 0
+abbrev pub Nested : List FlatPart → ℕ → List Going → List FlatPart → List (Option ℕ) → Type 0
 Nested whole i gs [] hs = AllStop i gs
 Nested whole i gs (p ∷ parts) [] = ⊥
 Nested whole i gs (p ∷ parts) (h ∷ hs) = (outer_of whole h ≡ top (still i gs)) × Nested whole (i + 1) (opens i p.holds p.kind (still i gs)) parts hs
@@ -79,13 +80,13 @@ abbrev pub IsNested : List Part → Type 0
 IsNested parts = Nested (map stored parts) 0 [] (map stored parts) (map holder parts)
 
 -- what ends a part that is a container
-abbrev pub end_calls : flat.Kind → List Call
+abbrev pub end_calls : FlatKind → List Call
 end_calls (flat.One call) = []
 end_calls (flat.Words held) = []
 end_calls (flat.Bytes held) = []
 end_calls (flat.Holder begin) = end_of begin ∷ []
 
-abbrev pub is_holder : flat.Kind → Bool
+abbrev pub is_holder : FlatKind → Bool
 is_holder (flat.One call) = false
 is_holder (flat.Words held) = false
 is_holder (flat.Bytes held) = false
@@ -93,10 +94,10 @@ is_holder (flat.Holder begin) = true
 
 -- the ends that come before a place were made, and this is the newest container that goes on there
 pub record MakesEnds {V : Type 0} (law : Law V) (parts : List Part) (place : ℕ) (gs : List Going) (old : Standing V) (next : Option ℕ) (new : Standing V) : Type 0 where
-  pub streams : Streams law old (says (ended place (pendings gs))) new
+  pub streams : Streams law old (makes (ended place (pendings gs))) new
   pub linked : Linked parts next (still place gs)
 
 -- what a walk over the containers that go on answers: it made the ends, or the stream refused one of them
 abbrev pub EndsBefore : {V : Type 0} → Law V → List Part → ℕ → List Going → Standing V → Result (Option ℕ) Error → Standing V → Type 0
 EndsBefore law parts place gs old (Ok next) new = MakesEnds law parts place gs old next new
-EndsBefore law parts place gs old (Err refusal) new = Stops law old (says (ended place (pendings gs))) new
+EndsBefore law parts place gs old (Err refusal) new = Stops law old (makes (ended place (pendings gs))) new

@@ -5,8 +5,8 @@ use Rattle.std.proofs.lemmas.Bool.Decides.{nat_tests}
 use mathlib.Core.List.{append_assoc, append-nil}
 use Rattle.sval_label.specs.Calls.{Call}
 use Rattle.sval_buffer.specs.Forest.{Node, Single, Text, Binary, Container, Nodes, none, ◌and◌, Open, Forest}
-use Rattle.sval_buffer.specs.Flat.{One, Words, Bytes, Holder, Part, part, flat_node, flat_row, flat_spine, flat}
-use Rattle.sval_buffer.specs.Built.{open_places, Built, row_onto, front_of, after, with_part, with_holder, is_open_at, beyond, built, forest_of}
+use Rattle.sval_buffer.specs.Flat.{One, Words, Bytes, Holder, FlatPart, flat_part, flat_node, flat_row, flat_spine, flat}
+use Rattle.sval_buffer.specs.FlatForest.{open_places, Built, row_onto, front_of, after, with_part, with_holder, is_open_at, beyond, built, forest_of}
 
 -- ---- rows as lists
 
@@ -107,10 +107,10 @@ fits-later : (i a b : ℕ) (places : List ℕ) → Fits i (a + b) places → Fit
 fits-later i a b [] f = tt
 fits-later i a b (place ∷ places) f = omega arith
 
-moved : (i j : ℕ) (places : List ℕ) (parts : List Part) → i ≡ j → built i places parts ≡ built j places parts
+moved : (i j : ℕ) (places : List ℕ) (parts : List FlatPart) → i ≡ j → built i places parts ≡ built j places parts
 moved i j places parts e = rw e refl
 
-built-leaf : (i k : ℕ) (places : List ℕ) (p : Part) (more : List Part) → 0 < k → Fits i k places
+built-leaf : (i k : ℕ) (places : List ℕ) (p : FlatPart) (more : List FlatPart) → 0 < k → Fits i k places
     → built i places (p ∷ more) ≡ with_part false p.kind p.holds (built (i + 1) places more)
 unfolding built
 built-leaf i k places p more h f = let (e, g) = none_open i k places h f in rw (e, g) refl
@@ -128,20 +128,20 @@ holder-row begin nodes b =
     ∙ ap (λ (rest : List Node). let r : Built = record { row = Container begin nodes ∷ rest; spine = b.spine } in r) (after-row nodes b.row)
 
 mutual
-  built-node : (i : ℕ) (places : List ℕ) (node : Node) (more : List Part) → Fits i (length (flat_node node)) places
+  built-node : (i : ℕ) (places : List ℕ) (node : Node) (more : List FlatPart) → Fits i (length (flat_node node)) places
       → built i places (flat_node node ++ more) ≡ with_node node (built (i + length (flat_node node)) places more)
-  built-node i places (Single call) more f = built-leaf i 1 places (part (One call) 0) more (omega arith) f
-  built-node i places (Text held) more f = built-leaf i 1 places (part (Words held) 0) more (omega arith) f
-  built-node i places (Binary held) more f = built-leaf i 1 places (part (Bytes held) 0) more (omega arith) f
+  built-node i places (Single call) more f = built-leaf i 1 places (flat_part (One call) 0) more (omega arith) f
+  built-node i places (Text held) more f = built-leaf i 1 places (flat_part (Words held) 0) more (omega arith) f
+  built-node i places (Binary held) more f = built-leaf i 1 places (flat_part (Bytes held) 0) more (omega arith) f
   built-node i places (Container begin nodes) more f =
       let n = length (flat_row nodes) in
       let within = fits-later i 1 n places (fits-less i (1 + n) (suc n) places (omega arith) f) in
-      built-leaf i (suc n) places (part (Holder begin) n) (flat_row nodes ++ more) (omega arith) f
+      built-leaf i (suc n) places (flat_part (Holder begin) n) (flat_row nodes ++ more) (omega arith) f
       ∙ ap (with_holder false begin n) (built-row (i + 1) places nodes more within)
       ∙ holder-row begin nodes (built (i + 1 + n) places more)
       ∙ ap (with_node (Container begin nodes)) (moved (i + 1 + n) (i + suc n) places more (omega arith))
 
-  built-row : (i : ℕ) (places : List ℕ) (nodes : Nodes) (more : List Part) → Fits i (length (flat_row nodes)) places
+  built-row : (i : ℕ) (places : List ℕ) (nodes : Nodes) (more : List FlatPart) → Fits i (length (flat_row nodes)) places
       → built i places (flat_row nodes ++ more) ≡ with_nodes nodes (built (i + length (flat_row nodes)) places more)
   built-row i places none more f = moved i (i + 0) places more (omega arith)
   built-row i places (nodes and node) more f =
@@ -159,19 +159,19 @@ mutual
 abbrev just : List Open → Built
 just spine = record { row = []; spine = spine }
 
-open_here : (i : ℕ) (places : List ℕ) (begin : Call) (more : List Part) → built i (i ∷ places) (part (Holder begin) 0 ∷ more) ≡ with_holder true begin 0 (built (i + 1) places more)
+open_here : (i : ℕ) (places : List ℕ) (begin : Call) (more : List FlatPart) → built i (i ∷ places) (flat_part (Holder begin) 0 ∷ more) ≡ with_holder true begin 0 (built (i + 1) places more)
 unfolding built
 open_here i places begin more = let e : (i == i) ≡ true = grind (arith, nat_tests) in rw e refl
 
-built-open : (i : ℕ) (places : List ℕ) (newest : Open) (more : List Part) (spine : List Open) → Fits (i + 1) (length (flat_row newest.nodes)) places
+built-open : (i : ℕ) (places : List ℕ) (newest : Open) (more : List FlatPart) (spine : List Open) → Fits (i + 1) (length (flat_row newest.nodes)) places
     → built (i + 1 + length (flat_row newest.nodes)) places more ≡ just spine
-    → built i (i ∷ places) (part (Holder newest.begin) 0 ∷ (flat_row newest.nodes ++ more)) ≡ just (spine ++ (newest ∷ []))
+    → built i (i ∷ places) (flat_part (Holder newest.begin) 0 ∷ (flat_row newest.nodes ++ more)) ≡ just (spine ++ (newest ∷ []))
 built-open i places newest more spine f e =
     open_here i places newest.begin (flat_row newest.nodes ++ more)
     ∙ ap (with_holder true newest.begin 0) (built-row (i + 1) places newest.nodes more f ∙ ap (with_nodes newest.nodes) e)
     ∙ ap (λ (row : Nodes). just (spine ++ (record { begin = newest.begin; nodes = row } ∷ []))) (row-listed newest.nodes)
 
-built-spine : (nodes : Nodes) (spine : List Open) (places : List ℕ) (more : List Part) (later : List Open)
+built-spine : (nodes : Nodes) (spine : List Open) (places : List ℕ) (more : List FlatPart) (later : List Open)
     → Fits (length (flat_row nodes ++ flat_spine spine)) 0 places
     → built (length (flat_row nodes ++ flat_spine spine)) places more ≡ just later
     → built (length (flat_row nodes)) (open_places nodes spine ++ places) (flat_spine spine ++ more) ≡ just (later ++ spine)
@@ -181,7 +181,7 @@ built-spine nodes (newest ∷ older) places more later f e =
     let front = flat_row nodes ++ flat_spine older in
     let place = length front in
     let inner = flat_row newest.nodes in
-    let own = part (Holder newest.begin) 0 ∷ inner in
+    let own = flat_part (Holder newest.begin) 0 ∷ inner in
     let count : length (flat_row nodes ++ (flat_spine older ++ own)) ≡ place + 1 + length inner =
     omega (arith, ap (λ xs. length xs) (append_assoc (flat_row nodes) (flat_spine older) own), length-append front own) in
     ap (λ qs. built (length (flat_row nodes)) qs ((flat_spine older ++ own) ++ more)) (append_assoc (open_places nodes older) (place ∷ []) places)

@@ -1,34 +1,47 @@
 -- What capturing a value answers.
-use Rattle.std.specs.Prelude.{◌≡◌, ℕ, true, false, [], Option, Some, None, Result, Ok, Err, ⊤}
+use Rattle.std.specs.Prelude.{◌≡◌, ℕ, true, false, List, [], ◌∷◌, ◌++◌, Option, Some, None, Result, Ok, Err, ⊤}
+use Rattle.sval_label.specs.Calls.{Call}
 use Rattle.sval_core.specs.Trees.{Tree}
 use Rattle.sval_core.specs.Spells.{Spells}
 use Rattle.sval_core.specs.Law.{Emission}
-use Rattle.sval_buffer.specs.Forest.{Forest, Holds, RefusedAt, Unbalanced, OutsideText, OutsideBinary, forest, replayed, is_complete}
+use Rattle.sval_buffer.specs.Forest.{Forest, Holds, RefusedAt, Unbalanced, OutsideText, OutsideBinary, take, may_grow, forest, replayed, is_complete}
 use Rattle.sval_buffer.specs.declared.error.Word.TheVariants as word
 use Rattle.sval_buffer.specs.declared.error.ErrorKind.{ErrorKind}
 use Rattle.sval_buffer.specs.declared.error.ErrorKind.TheVariants as error
-use Rattle.sval_buffer.specs.Captured.{Capture, IsNoAlloc}
+use Rattle.sval_buffer.specs.Capture.{Capture, IsNoAlloc, IsAccepted}
 
 -- all calls were taken, and none was refused; and the value doesn't refuse
 pub record IsCaptured (e : Emission) (buffer : Capture) : Type 0 where
   pub willing : e.refuses ≡ false
   pub taken : forest e.calls ≡ Holds buffer.forest
   pub no_refusal : buffer.refusal ≡ None
+  pub wants : buffer.wants ≡ 0
 
--- one of the calls is refused so, or none is and the value refuses, or memory was wanting
+-- memory was wanting in one of the calls: those before it are taken, and so is this one, which may take memory
+pub record RunsOut (calls : List Call) : Type 0 where
+  pub before : List Call
+  pub call : Call
+  pub later : List Call
+  pub calls_are : calls ≡ before ++ (call ∷ later)
+  pub held : Forest
+  pub before_taken : forest before ≡ Holds held
+  pub accepted : IsAccepted (take held call)
+  pub takes_memory : may_grow held call ≡ true
+
+-- one of the calls is refused so, or none is and the value refuses, or memory was wanting in one
 abbrev pub IsCollectCause : Emission → ErrorKind → Type 0
 IsCollectCause e (error.OutsideContainer word.Text) = (at : ℕ) × (forest e.calls ≡ RefusedAt at OutsideText)
 IsCollectCause e (error.OutsideContainer word.Binary) = (at : ℕ) × (forest e.calls ≡ RefusedAt at OutsideBinary)
 IsCollectCause e (error.InvalidValue word.Unbalanced) = (at : ℕ) × (forest e.calls ≡ RefusedAt at Unbalanced)
 IsCollectCause e (error.InvalidValue word.FailedToStream) = (e.refuses ≡ true) × ((f : Forest) × (forest e.calls ≡ Holds f))
-IsCollectCause e (error.NoAlloc method) = ⊤
+IsCollectCause e (error.NoAlloc method) = RunsOut e.calls
 IsCollectCause e _ = ⊥
 
 -- the replay spells the tree, no container is without its end, and the buffer is complete
 pub record SpellsAgain (f : Forest) (tree : Tree) : Type 0 where
   pub spells : Spells (replayed f) tree
   pub no_spine : f.spine ≡ []
-  pub complete : is_complete f.nodes f.spine f.in_fragments ≡ true
+  pub complete : is_complete f ≡ true
 
 -- where the value's calls spell a tree, the replay spells it too
 abbrev pub KeepsTree : Emission → Forest → Type 0

@@ -2,7 +2,7 @@
 use Rattle.std.specs.Prelude.{ℕ, ◌+◌, ◌-◌, ◌==◌, nat_lt, Bool, true, false, if◌then◌else◌, List, [], ◌∷◌, ◌++◌, length}
 use Rattle.sval_label.specs.Calls.{Call}
 use Rattle.sval_buffer.specs.Forest.{Node, Single, Text, Binary, Container, Nodes, none, ◌and◌, Open, Forest}
-use Rattle.sval_buffer.specs.Flat.{Kind, One, Words, Bytes, Holder, Part, flat_node, flat_row, flat_spine}
+use Rattle.sval_buffer.specs.Flat.{FlatKind, One, Words, Bytes, Holder, FlatPart, flat_node, flat_row, flat_spine}
 
 -- the places of the containers without an end, the oldest first
 abbrev pub open_places : Nodes → List Open → List ℕ
@@ -34,7 +34,7 @@ abbrev pub with_holder : Bool → Call → ℕ → Built → Built
 with_holder true begin holds b = record { row = []; spine = b.spine ++ (record { begin = begin; nodes = row_onto none b.row } ∷ []) }
 with_holder false begin holds b = record { row = Container begin (row_onto none (front_of holds b.row)) ∷ after holds b.row; spine = b.spine }
 
-abbrev pub with_part : Bool → Kind → ℕ → Built → Built
+abbrev pub with_part : Bool → FlatKind → ℕ → Built → Built
 with_part is_open (One call) holds b = record { row = Single call ∷ b.row; spine = b.spine }
 with_part is_open (Words held) holds b = record { row = Text held ∷ b.row; spine = b.spine }
 with_part is_open (Bytes held) holds b = record { row = Binary held ∷ b.row; spine = b.spine }
@@ -50,10 +50,21 @@ beyond i [] = []
 beyond i (place ∷ places) = if place == i then places else place ∷ places
 
 -- what the parts from place i on tell
-unfoldable pub built : ℕ → List ℕ → List Part → Built
+unfoldable pub built : ℕ → List ℕ → List FlatPart → Built
 built i places [] = record { row = []; spine = [] }
 built i places (p ∷ parts) = with_part (is_open_at i places) p.kind p.holds (built (i + 1) (beyond i places) parts)
 
-unfoldable pub forest_of : List Part → List ℕ → Bool → Forest
+unfoldable pub forest_of : List FlatPart → List ℕ → Bool → Forest
 forest_of parts places within =
     let b = built 0 places parts in record { nodes = row_onto none b.row; spine = b.spine; in_fragments = within }
+
+-- what is kept of a forest: its parts in a flat list, the places of the containers without an end, and whether a text or a
+-- binary has begun and none has ended since
+pub record FlatForest : Type 0 where
+  pub parts : List FlatPart
+  pub places : List ℕ
+  pub in_fragments : Bool
+
+-- the forest that is kept so
+abbrev pub forest_in : FlatForest → Forest
+forest_in kept = forest_of kept.parts kept.places kept.in_fragments
