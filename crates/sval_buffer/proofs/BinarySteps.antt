@@ -2,27 +2,23 @@
 use Rattle.std.specs.Prelude.{◌≡◌, ℤ, Bool, true, false, not, List, [], ◌∷◌, ◌++◌, flat_map, if◌then◌else◌, Option, Some, None, Result, Err, refl}
 use Rattle.std.specs.Fmt.{signed_decimal}
 use Rattle.std.proofs.Common.{ap, ◌∙◌}
-use Rattle.sval_label.specs.Calls.{Label, Name, IntType, Head, Slot, Call}
+use Rattle.sval_label.specs.Calls.{Label, Name, IntType, Call}
 use Rattle.sval_label.specs.Ranges.{is_signed}
-use Rattle.sval_core.specs.Law.{Emission}
 use Rattle.sval_core.specs.Names.{says_none, number_tag, tag_alone}
 use Rattle.sval_lower.specs.Lower.{wide_calls, label_or_null}
 use Rattle.sval_lower.specs.Lowered.{lowered, lowered_call, lowered_within, is_for_binaries}
 use Rattle.sval_buffer.specs.Pushes.{HeldBytes}
-use Rattle.sval_buffer.specs.Forest.{no_bytes}
 use Rattle.sval_buffer.specs.declared.error.Word.{Word}
 use Rattle.sval_buffer.specs.declared.error.Word.TheVariants as word
-use Rattle.sval_buffer.specs.Collected.{binary_use, binary_collected}
-use Rattle.sval_buffer.specs.CollectSteps.{word_for_label, binary_step, steps_of, answer_after}
-use Rattle.sval_buffer.specs.CollectLaws.{StreamCollects}
-use Rattle.sval_buffer.proofs.CollectingFragments.{stream_collects}
+use Rattle.sval_buffer.specs.Collected.{binary_use}
+use Rattle.sval_buffer.specs.CollectSteps.{word_for_label, binary_step, steps_of}
 use Rattle.sval_lower.proofs.WideNumbers.{at_wide, from_u128, from_u64, from_u32, from_u16}
-use Rattle.sval_buffer.proofs.CollectedSteps.{use_step, steps_collect}
+use Rattle.sval_buffer.proofs.CollectedSteps.{use_step}
 
-abbrev after_binary : HeldBytes → List Call → Result HeldBytes Word
+abbrev pub after_binary : HeldBytes → List Call → Result HeldBytes Word
 after_binary held calls = steps_of (use_step binary_use) held calls
 
-binary_wide : (n : ℤ) (held : HeldBytes) → after_binary held (lowered is_for_binaries (wide_calls n)) ≡ binary_step held (Call.Int IntType.U128 n)
+pub binary_wide : (n : ℤ) (held : HeldBytes) → after_binary held (lowered is_for_binaries (wide_calls n)) ≡ binary_step held (Call.Int IntType.U128 n)
 unfolding steps_of lowered_within
 binary_wide n held = go (is_signed 63 n)
   where
@@ -31,7 +27,7 @@ binary_wide n held = go (is_signed 63 n)
     go true = refl
     go false = refl
 
-binary_int : (type : IntType) (n : ℤ) (held : HeldBytes) → after_binary held (lowered_call is_for_binaries (Call.Int type n)) ≡ binary_step held (Call.Int type n)
+pub binary_int : (type : IntType) (n : ℤ) (held : HeldBytes) → after_binary held (lowered_call is_for_binaries (Call.Int type n)) ≡ binary_step held (Call.Int type n)
 unfolding steps_of lowered_within
 binary_int IntType.I8 n held = refl
 binary_int IntType.I16 n held = refl
@@ -44,7 +40,7 @@ binary_int IntType.U64 n held = ap (after_binary held) (from_u64 is_for_binaries
 binary_int IntType.U128 n held = ap (after_binary held) (from_u128 is_for_binaries n refl) ∙ binary_wide n held
 binary_int IntType.I128 n held = ap (after_binary held) (at_wide is_for_binaries IntType.I128 n refl refl) ∙ binary_wide n held
 
-binary_own : (name : Name) (held : HeldBytes) → after_binary held (lowered_call is_for_binaries (Call.Standalone name)) ≡ binary_step held (Call.Standalone name)
+pub binary_own : (name : Name) (held : HeldBytes) → after_binary held (lowered_call is_for_binaries (Call.Standalone name)) ≡ binary_step held (Call.Standalone name)
 unfolding steps_of lowered_within
 binary_own name held = go (says_none name.tag) name.label
   where
@@ -54,52 +50,3 @@ binary_own name held = go (says_none name.tag) name.label
     go true label = refl
     go false (Some label) = refl
     go false None = refl
-
-binary_call : (call : Call) (held : HeldBytes) → after_binary held (lowered_call is_for_binaries call) ≡ binary_step held call
-unfolding steps_of lowered_within
-binary_call Call.Null held = refl
-binary_call (Call.Truth b) held = refl
-binary_call (Call.Int type n) held = binary_int type n held
-binary_call (Call.Standalone name) held = binary_own name held
-binary_call (Call.TagHint tag) held = refl
-binary_call (Call.TextBegin size) held = refl
-binary_call (Call.TextFragment true text) held = refl
-binary_call (Call.TextFragment false text) held = refl
-binary_call Call.TextEnd held = refl
-binary_call (Call.BinaryBegin size) held = refl
-binary_call (Call.BinaryFragment true bytes) held = refl
-binary_call (Call.BinaryFragment false bytes) held = refl
-binary_call Call.BinaryEnd held = refl
-binary_call (Call.EnumBegin name) held = refl
-binary_call (Call.EnumEnd name) held = refl
-binary_call (Call.TaggedBegin name) held = refl
-binary_call (Call.TaggedEnd name) held = refl
-binary_call (Call.Begin Head.Seq size) held = refl
-binary_call (Call.Begin Head.Map size) held = refl
-binary_call (Call.Begin (Head.Record name) size) held = refl
-binary_call (Call.Begin (Head.Tuple name) size) held = refl
-binary_call (Call.Begin (Head.RecordTuple name) size) held = refl
-binary_call (Call.End Head.Seq) held = refl
-binary_call (Call.End Head.Map) held = refl
-binary_call (Call.End (Head.Record name)) held = refl
-binary_call (Call.End (Head.Tuple name)) held = refl
-binary_call (Call.End (Head.RecordTuple name)) held = refl
-binary_call (Call.PartBegin Slot.Item) held = refl
-binary_call (Call.PartBegin Slot.Key) held = refl
-binary_call (Call.PartBegin Slot.Value) held = refl
-binary_call (Call.PartBegin (Slot.Field tag label)) held = refl
-binary_call (Call.PartBegin (Slot.Place tag index)) held = refl
-binary_call (Call.PartBegin (Slot.FieldPlace tag label index)) held = refl
-binary_call (Call.PartEnd Slot.Item) held = refl
-binary_call (Call.PartEnd Slot.Key) held = refl
-binary_call (Call.PartEnd Slot.Value) held = refl
-binary_call (Call.PartEnd (Slot.Field tag label)) held = refl
-binary_call (Call.PartEnd (Slot.Place tag index)) held = refl
-binary_call (Call.PartEnd (Slot.FieldPlace tag label index)) held = refl
-
-pub binary_steps : (e : Emission) → answer_after word.Binary e.refuses (steps_of binary_step no_bytes e.calls) ≡ binary_collected e
-binary_steps e = steps_collect word.Binary is_for_binaries binary_use binary_step binary_call e
-
--- for what collects a binary
-pub binary_stream : StreamCollects word.Binary binary_step binary_collected
-binary_stream = stream_collects word.Binary binary_step binary_collected binary_steps

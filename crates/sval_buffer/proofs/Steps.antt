@@ -1,12 +1,10 @@
 -- Each step of a forest on the parts of the program.
-use Rattle.std.specs.Prelude.{◌≡◌, ℕ, suc, ◌+◌, ◌-◌, ◌<◌, zero, Bool, true, false, List, [], ◌∷◌, ◌++◌, length, map, Option, Some, None, option_map, Result, Ok, Err, is_ok, if◌then◌else◌, not, refl, slice_set, slice_get, slice_index_or}
+use Rattle.std.specs.Prelude.{◌≡◌, ℕ, suc, ◌+◌, ◌-◌, ◌<◌, zero, Bool, true, false, List, [], ◌∷◌, ◌++◌, length, map, Option, Some, None, Result, Ok, Err, is_ok, if◌then◌else◌, not, refl, slice_set, slice_get, slice_index_or}
 use Rattle.std.proofs.Common.{sym, ap, ◌∙◌, subst, arith, length-append}
 use Rattle.std.proofs.lemmas.List.{map-append, length-map}
-use Rattle.std.proofs.Math.Seq.{set-append_seam}
 use mathlib.Core.List.{append_assoc}
 use Rattle.sval_label.specs.Calls.{Call}
-use Rattle.sval_buffer.specs.Pushes.{HeldBytes, pushed}
-use Rattle.sval_buffer.specs.Forest.{Node, Single, Text, Binary, Container, Nodes, none, ◌and◌, Open, Forest, empty_forest, newest_row, with_row, with_flag, add, begun, close, push_text, push_last_text, CaptureAnswer, Becomes, Rejects, OutsideText, row_or, is_complete, has_all_ends, push_into_text, push_may_grow, last_text, text_may_grow}
+use Rattle.sval_buffer.specs.Forest.{Node, Container, Nodes, none, ◌and◌, Open, Forest, empty_forest, newest_row, with_row, with_flag, add, begun, close, Becomes, is_complete, has_all_ends}
 use Rattle.sval_buffer.specs.Flat as flat
 use Rattle.sval_buffer.specs.Flat.{FlatKind, FlatPart, flat_part, flat_node, flat_row, flat_spine, push_flat}
 use Rattle.sval_buffer.specs.FlatForest.{open_places, forest_of}
@@ -15,10 +13,8 @@ use Rattle.sval_buffer.specs.Holders.{holders, holders_node, holders_row, holder
 use Rattle.sval_buffer.specs.declared.part.Part.{Part}
 use Rattle.sval_buffer.specs.declared.part.PartKind.{PartKind}
 use Rattle.sval_buffer.specs.declared.part.PartKind.TheVariants as kind
-use Rattle.sval_buffer.specs.SeenParts.{stored, holder, flat_kind, holds_of, with_holds, TellsForest, told, Pushed, PartPushes, IsPushCause}
-use Rattle.sval_buffer.specs.declared.error.ErrorKind.{ErrorKind}
-use Rattle.sval_buffer.specs.Capture.{Captures, IsCaptureCause, error_of}
-use Rattle.sval_buffer.proofs.Flat.{flat-add, flat-begun, flat-close, map_map, length-push_flat, push-flat_row, push-flat, words_of, last_words, last_words-append, text-flat}
+use Rattle.sval_buffer.specs.SeenParts.{stored, holder, flat_kind, holds_of, with_holds, TellsForest, told}
+use Rattle.sval_buffer.proofs.Flat.{flat-add, flat-begun, flat-close}
 
 -- ---- the view
 
@@ -43,7 +39,7 @@ tells_nothing = record { parts_are = refl; places_are = refl; holders_are = refl
 
 -- ---- a part at the end
 
-holders-add : (node : Node) (nodes : Nodes) (spine : List Open) (within : Bool)
+pub holders-add : (node : Node) (nodes : Nodes) (spine : List Open) (within : Bool)
     → holders (add node (record { nodes = nodes; spine = spine; in_fragments = within })) ≡ holders_spine nodes spine ++ holders_node (length (flat_row nodes ++ flat_spine spine)) (newest_place nodes spine) node
 holders-add node nodes [] within =
     let e : 0 + length (flat_row nodes) ≡ length (flat_row nodes ++ []) = omega (arith, length-append (flat_row nodes) []) in
@@ -59,7 +55,7 @@ holders-add node nodes (newest ∷ older) within =
     sym (append_assoc first second (holders_node (place + 1 + length inner) (Some place) node))
     ∙ ap (λ at. (first ++ second) ++ holders_node at (Some place) node) e
 
-open-add : (node : Node) (f : Forest) → let g = add node f in open_places g.nodes g.spine ≡ open_places f.nodes f.spine
+pub open-add : (node : Node) (f : Forest) → let g = add node f in open_places g.nodes g.spine ≡ open_places f.nodes f.spine
 open-add node f = go f.nodes f.spine
   where
     go : (nodes : Nodes) (spine : List Open) → let g = add node (record { nodes = nodes; spine = spine; in_fragments = f.in_fragments }) in open_places g.nodes g.spine ≡ open_places nodes spine
@@ -96,10 +92,10 @@ is_told parts places within f t e = record { view = told_is parts places within 
 pub tells_it : {parts : List Part} {places : List ℕ} {within : Bool} {f : Forest} → Is parts places within f → TellsForest parts places f
 tells_it {parts} {places} {within} {f} is = subst (TellsForest parts places) is.view is.invariant
 
-within_it : {parts : List Part} {places : List ℕ} {within : Bool} {f : Forest} → Is parts places within f → within ≡ f.in_fragments
+pub within_it : {parts : List Part} {places : List ℕ} {within : Bool} {f : Forest} → Is parts places within f → within ≡ f.in_fragments
 within_it {parts} {places} {within} {f} is = sym (told_within parts places within) ∙ ap (λ (g : Forest). g.in_fragments) is.view
 
-within-row : (row nodes : Nodes) (spine : List Open) (within : Bool) → (with_row row nodes spine within).in_fragments ≡ within
+pub within-row : (row nodes : Nodes) (spine : List Open) (within : Bool) → (with_row row nodes spine within).in_fragments ≡ within
 within-row row nodes [] within = refl
 within-row row nodes (newest ∷ older) within = refl
 
@@ -111,12 +107,12 @@ is_flagged {parts} {places} {f = f} flag is =
     let t = tells_it is in
     is_told parts places flag (with_flag flag f) (record { parts_are = t.parts_are; places_are = t.places_are; holders_are = t.holders_are }) refl
 
-seam : {X : Type 0} (xs : List X) (y : X) → slice_get (xs ++ (y ∷ [])) (length xs) ≡ Some y
+pub seam : {X : Type 0} (xs : List X) (y : X) → slice_get (xs ++ (y ∷ [])) (length xs) ≡ Some y
 seam [] y = refl
 seam (x ∷ xs) y = seam xs y
 
 -- the place of the newest container without an end is the last of the places
-last-place : (nodes : Nodes) (spine : List Open) → slice_get (open_places nodes spine) (length (open_places nodes spine) - 1) ≡ newest_place nodes spine
+pub last-place : (nodes : Nodes) (spine : List Open) → slice_get (open_places nodes spine) (length (open_places nodes spine) - 1) ≡ newest_place nodes spine
 last-place nodes [] = refl
 last-place nodes (newest ∷ older) =
     let front = open_places nodes older in
@@ -143,7 +139,7 @@ is_begun {parts} {places} {within} {f} p begin place is one held at =
 
 -- ---- an end
 
-snoc_inj : {X : Type 0} (xs ys : List X) (x y : X) → xs ++ (x ∷ []) ≡ ys ++ (y ∷ []) → (xs ≡ ys) × (x ≡ y)
+pub snoc_inj : {X : Type 0} (xs ys : List X) (x y : X) → xs ++ (x ∷ []) ≡ ys ++ (y ∷ []) → (xs ≡ ys) × (x ≡ y)
 snoc_inj [] [] x y e = let same : x ≡ y = cc e in (refl, same)
 snoc_inj [] (b ∷ []) x y e = cc e
 snoc_inj [] (b ∷ c ∷ ys) x y e = cc e
@@ -163,14 +159,14 @@ pub record Newest (nodes : Nodes) (spine : List Open) (places : List ℕ) (place
   pub places_are : places ≡ open_places nodes older
   pub place_is : place ≡ length (flat_row nodes ++ flat_spine older)
 
-newest_of : (nodes : Nodes) (spine : List Open) (places : List ℕ) (place : ℕ) → places ++ (place ∷ []) ≡ open_places nodes spine → Newest nodes spine places place
+pub newest_of : (nodes : Nodes) (spine : List Open) (places : List ℕ) (place : ℕ) → places ++ (place ∷ []) ≡ open_places nodes spine → Newest nodes spine places place
 newest_of nodes [] [] place e = cc e
 newest_of nodes [] (p ∷ places) place e = cc e
 newest_of nodes (newest ∷ older) places place e =
     let same = snoc_inj places (open_places nodes older) place (length (flat_row nodes ++ flat_spine older)) e in
     record { newest = newest; older = older; spine_is = refl; places_are = same.0; place_is = same.1 }
 
-no_places : (nodes : Nodes) (spine : List Open) → [] ≡ open_places nodes spine → spine ≡ []
+pub no_places : (nodes : Nodes) (spine : List Open) → [] ≡ open_places nodes spine → spine ≡ []
 no_places nodes [] e = refl
 no_places nodes (newest ∷ older) e = go (open_places nodes older) (length (flat_row nodes ++ flat_spine older)) e
   where
@@ -184,11 +180,11 @@ newest_is {f = f} rest place is e = newest_of f.nodes f.spine rest place (sym e 
 pub none_newest : {parts : List Part} {places : List ℕ} {within : Bool} {f : Forest} → Is parts places within f → places ≡ [] → f.spine ≡ []
 none_newest {f = f} is e = no_places f.nodes f.spine (sym e ∙ (tells_it is).places_are)
 
-flat-split : (nodes : Nodes) (newest : Open) (older : List Open)
+pub flat-split : (nodes : Nodes) (newest : Open) (older : List Open)
     → flat_row nodes ++ flat_spine (newest ∷ older) ≡ (flat_row nodes ++ flat_spine older) ++ (flat_part (flat.Holder newest.begin) 0 ∷ flat_row newest.nodes)
 flat-split nodes newest older = sym (append_assoc (flat_row nodes) (flat_spine older) (flat_part (flat.Holder newest.begin) 0 ∷ flat_row newest.nodes))
 
-length-parts : {parts : List Part} {places : List ℕ} {within : Bool} {f : Forest} → Is parts places within f → length parts ≡ length (flat.flat f)
+pub length-parts : {parts : List Part} {places : List ℕ} {within : Bool} {f : Forest} → Is parts places within f → length parts ≡ length (flat.flat f)
 length-parts {parts} is = sym (length-map parts stored) ∙ ap (λ xs. length xs) (tells_it is).parts_are
 
 -- the newest container without an end is a part
@@ -200,31 +196,31 @@ place_within {parts} {places} {within} {f} rest place is e =
     let size : length parts ≡ length (front ++ own) = length-parts is ∙ ap (λ spine. length (flat_row f.nodes ++ flat_spine spine)) n.spine_is ∙ ap (λ xs. length xs) (flat-split f.nodes n.newest n.older) in
     omega (arith, size, n.place_is, length-append front own)
 
-map-set : {X Y : Type 0} (g : X → Y) (xs : List X) (i : ℕ) (y : X) → map g (slice_set xs i y) ≡ slice_set (map g xs) i (g y)
+pub map-set : {X Y : Type 0} (g : X → Y) (xs : List X) (i : ℕ) (y : X) → map g (slice_set xs i y) ≡ slice_set (map g xs) i (g y)
 map-set g [] i y = refl
 map-set g (x ∷ xs) zero y = refl
 map-set g (x ∷ xs) (suc i) y = ap (λ rest. g x ∷ rest) (map-set g xs i y)
 
-set-same : {X : Type 0} (xs : List X) (i : ℕ) (d : X) → slice_set xs i (slice_index_or xs i d) ≡ xs
+pub set-same : {X : Type 0} (xs : List X) (i : ℕ) (d : X) → slice_set xs i (slice_index_or xs i d) ≡ xs
 set-same [] i d = refl
 set-same (x ∷ xs) zero d = refl
 set-same (x ∷ xs) (suc i) d = ap (λ rest. x ∷ rest) (set-same xs i d)
 
-get-map : {X Y : Type 0} (g : X → Y) (xs : List X) (i : ℕ) (d : X) → i < length xs → (e : Y) → slice_index_or (map g xs) i e ≡ g (slice_index_or xs i d)
+pub get-map : {X Y : Type 0} (g : X → Y) (xs : List X) (i : ℕ) (d : X) → i < length xs → (e : Y) → slice_index_or (map g xs) i e ≡ g (slice_index_or xs i d)
 get-map g [] i d h e = absurd (omega arith)
 get-map g (x ∷ xs) zero d h e = refl
 get-map g (x ∷ xs) (suc i) d h e = get-map g xs i d (omega arith) e
 
-get-seam : {X : Type 0} (xs : List X) (y : X) (ys : List X) (d : X) → slice_index_or (xs ++ (y ∷ ys)) (length xs) d ≡ y
+pub get-seam : {X : Type 0} (xs : List X) (y : X) (ys : List X) (d : X) → slice_index_or (xs ++ (y ∷ ys)) (length xs) d ≡ y
 get-seam [] y ys d = refl
 get-seam (x ∷ xs) y ys d = get-seam xs y ys d
 
-held-kind : (k : PartKind) (begin : Call) (n : ℕ) → flat_kind k ≡ flat.Holder begin → flat_part (flat_kind (with_holds k n)) (holds_of (with_holds k n)) ≡ flat_part (flat.Holder begin) n
+pub held-kind : (k : PartKind) (begin : Call) (n : ℕ) → flat_kind k ≡ flat.Holder begin → flat_part (flat_kind (with_holds k n)) (holds_of (with_holds k n)) ≡ flat_part (flat.Holder begin) n
 held-kind (kind.Single single) begin n e = cc e
 held-kind (kind.Text held) begin n e = cc e
 held-kind (kind.Container b holds) begin n e = ap (λ k. flat_part k n) e
 
-holders-closed : (nodes : Nodes) (newest : Open) (older : List Open) (within : Bool)
+pub holders-closed : (nodes : Nodes) (newest : Open) (older : List Open) (within : Bool)
     → holders (add (Container newest.begin newest.nodes) (record { nodes = nodes; spine = older; in_fragments = within })) ≡ holders_spine nodes (newest ∷ older)
 holders-closed nodes newest older within = holders-add (Container newest.begin newest.nodes) nodes older within
 
@@ -303,11 +299,11 @@ was_pushed (Err x) xs ys e h = cc h
 
 -- ---- a buffer that is complete
 
-nothing : {X : Type 0} (xs : List X) → length xs ≡ 0 → xs ≡ []
+pub nothing : {X : Type 0} (xs : List X) → length xs ≡ 0 → xs ≡ []
 nothing [] h = refl
 nothing (x ∷ xs) h = absurd (omega arith)
 
-no_row : (nodes : Nodes) (rest : List FlatPart) → [] ≡ flat_row nodes ++ rest → nodes ≡ none
+pub no_row : (nodes : Nodes) (rest : List FlatPart) → [] ≡ flat_row nodes ++ rest → nodes ≡ none
 no_row none rest e = refl
 no_row (nodes and node) rest e = go (flat_row nodes) (flat_node node) (some_parts node) e
   where
@@ -321,7 +317,7 @@ none_complete {parts} {f = f} is h =
     let e = nothing parts h in
     ap (λ nodes. has_all_ends nodes f.spine f.in_fragments) (no_row f.nodes (flat_spine f.spine) (ap (map stored) (sym e) ∙ (tells_it is).parts_are))
 
-unended : (nodes : Nodes) (spine : List Open) (within : Bool) → 0 < length (open_places nodes spine) → has_all_ends nodes spine within ≡ false
+pub unended : (nodes : Nodes) (spine : List Open) (within : Bool) → 0 < length (open_places nodes spine) → has_all_ends nodes spine within ≡ false
 unended nodes [] within h = absurd (omega arith)
 unended none (newest ∷ older) within h = refl
 unended (nodes and node) (newest ∷ older) within h = refl
@@ -329,7 +325,7 @@ unended (nodes and node) (newest ∷ older) within h = refl
 pub open_incomplete : {parts : List Part} {places : List ℕ} {within : Bool} {f : Forest} → Is parts places within f → 0 < length places → is_complete f ≡ false
 open_incomplete {f = f} is h = let same = ap (λ xs. length xs) (tells_it is).places_are in unended f.nodes f.spine f.in_fragments (omega (arith, same))
 
-ended_all : (nodes : Nodes) (within : Bool) → 0 < length (flat_row nodes ++ []) → has_all_ends nodes [] within ≡ not within
+pub ended_all : (nodes : Nodes) (within : Bool) → 0 < length (flat_row nodes ++ []) → has_all_ends nodes [] within ≡ not within
 ended_all none within h = absurd (omega arith)
 ended_all (nodes and node) within h = refl
 
@@ -340,181 +336,3 @@ complete_is {parts} {places} {within} {f} is h none_open =
     let size : length parts ≡ length (flat_row f.nodes ++ []) = length-parts is ∙ ap (λ open_spine. length (flat_row f.nodes ++ flat_spine open_spine)) spine in
     let some : 0 < length (flat_row f.nodes ++ []) = omega arith in
     ap not (within_it is) ∙ sym (ended_all f.nodes f.in_fragments some) ∙ ap (λ open_spine. has_all_ends f.nodes open_spine f.in_fragments) (sym spine)
-
--- ---- a fragment
-
-push-last : (fragment : HeldBytes) (xs : List FlatPart) (y : FlatPart) → push_flat fragment (xs ++ (y ∷ [])) ≡ option_map (λ k. xs ++ (flat_part k y.holds ∷ [])) (flat.push_part fragment y.kind)
-push-last fragment [] y = refl
-push-last fragment (x ∷ []) y = map_map (λ k. flat_part k y.holds ∷ []) (λ rest. x ∷ rest) (flat.push_part fragment y.kind)
-push-last fragment (x ∷ next ∷ xs) y = ap (option_map (λ rest. x ∷ rest)) (push-last fragment (next ∷ xs) y) ∙ map_map (λ k. (next ∷ xs) ++ (flat_part k y.holds ∷ [])) (λ rest. x ∷ rest) (flat.push_part fragment y.kind)
-
-mutual
-  holders-node : (fragment : HeldBytes) (node next : Node) (place : ℕ) (h : Option ℕ) → push_text fragment node ≡ Some next
-      → (holders_node place h next ≡ holders_node place h node)
-  holders-node fragment (Single call) next place h e = cc e
-  holders-node fragment (Text held) next place h e = let same : next ≡ Text (pushed held fragment) = cc e in ap (holders_node place h) same
-  holders-node fragment (Binary held) next place h e = cc e
-  holders-node fragment (Container begin nodes) next place h e = go (push_last_text fragment nodes) (λ row. holders-last fragment nodes row (place + 1) (Some place)) e
-    where
-      go : (o : Option Nodes) → ((row : Nodes) → o ≡ Some row → holders_row (place + 1) (Some place) row ≡ holders_row (place + 1) (Some place) nodes)
-          → option_map (Container begin) o ≡ Some next → holders_node place h next ≡ h ∷ holders_row (place + 1) (Some place) nodes
-      go None f e = cc e
-      go (Some row) f e = let same : next ≡ Container begin row = cc e in ap (holders_node place h) same ∙ ap (λ rest. h ∷ rest) (f row refl)
-
-  holders-last : (fragment : HeldBytes) (nodes row : Nodes) (place : ℕ) (h : Option ℕ) → push_last_text fragment nodes ≡ Some row
-      → holders_row place h row ≡ holders_row place h nodes
-  holders-last fragment none row place h e = cc e
-  holders-last fragment (nodes and node) row place h e = go (push_text fragment node) (λ last. holders-node fragment node last (place + length (flat_row nodes)) h) e
-    where
-      go : (o : Option Node) → ((last : Node) → o ≡ Some last → holders_node (place + length (flat_row nodes)) h last ≡ holders_node (place + length (flat_row nodes)) h node)
-          → option_map (λ last. nodes and last) o ≡ Some row → holders_row place h row ≡ holders_row place h nodes ++ holders_node (place + length (flat_row nodes)) h node
-      go None f e = cc e
-      go (Some last) f e = let same : row ≡ (nodes and last) = cc e in ap (holders_row place h) same ∙ ap (λ rest. holders_row place h nodes ++ rest) (f last refl)
-
-holders-push : (fragment : HeldBytes) (nodes : Nodes) (spine : List Open) (within : Bool) (row : Nodes) → push_last_text fragment (newest_row nodes spine) ≡ Some row
-    → holders (with_row row nodes spine within) ≡ holders_spine nodes spine
-holders-push fragment nodes [] within row e = holders-last fragment nodes row 0 None e
-holders-push fragment nodes (newest ∷ older) within row e =
-    let place = length (flat_row nodes ++ flat_spine older) in
-    ap (λ rest. holders_spine nodes older ++ (newest_place nodes older ∷ rest)) (holders-last fragment newest.nodes row (place + 1) (Some place) e)
-
-length-flat_row : (fragment : HeldBytes) (nodes row : Nodes) → push_last_text fragment nodes ≡ Some row → length (flat_row row) ≡ length (flat_row nodes)
-length-flat_row fragment nodes row e =
-    length-push_flat fragment (flat_row nodes) (flat_row row) (sym (push-flat_row fragment nodes) ∙ ap (option_map flat_row) e)
-
-open-push : (fragment : HeldBytes) (nodes : Nodes) (spine : List Open) (within : Bool) (row : Nodes) → push_last_text fragment (newest_row nodes spine) ≡ Some row
-    → (let g = with_row row nodes spine within in open_places g.nodes g.spine) ≡ open_places nodes spine
-open-push fragment nodes [] within row e = refl
-open-push fragment nodes (newest ∷ older) within row e = refl
-
--- the parts end in this one
-pub record EndsIn (parts : List Part) (last : Part) : Type 0 where
-  pub front : List Part
-  pub parts_are : parts ≡ front ++ (last ∷ [])
-
-ends_later : (xs : List Part) (x : Part) → EndsIn xs x → (y : Part) → EndsIn (y ∷ xs) x
-ends_later xs x e y = record { front = y ∷ e.front; parts_are = ap (λ ys. y ∷ ys) e.parts_are }
-
-pub ends_in : (parts : List Part) (last : Part) → 0 < length parts → last ≡ slice_index_or parts (length parts - 1) last → EndsIn parts last
-ends_in [] last h e = absurd (omega arith)
-ends_in (x ∷ []) last h e = record { front = []; parts_are = ap (λ y. y ∷ []) (sym e) }
-ends_in (x ∷ next ∷ parts) last h e =
-    let i : length (x ∷ next ∷ parts) - 1 ≡ suc (length (next ∷ parts) - 1) = omega arith in
-    ends_later (next ∷ parts) last (ends_in (next ∷ parts) last (omega arith) (rw i at e)) x
-
-pub set-last : (parts front : List Part) (last next : Part) → parts ≡ front ++ (last ∷ []) → slice_set parts (length parts - 1) next ≡ front ++ (next ∷ [])
-set-last parts front last next e =
-    let n : length (front ++ (last ∷ [])) - 1 ≡ length front = omega (arith, length-append front (last ∷ [])) in
-    ap (λ xs. slice_set xs (length xs - 1) next) e ∙ ap (λ i. slice_set (front ++ (last ∷ [])) i next) n ∙ set-append_seam front last [] next
-
-module _ {parts : List Part} {places : List ℕ} {within : Bool} {f : Forest} (fragment : HeldBytes) (last : Part) (is : Is parts places within f) (ends : EndsIn parts last) where
-  -- what the flat list makes of it
-  flat-pushed : option_map (λ row. flat.flat (with_row row f.nodes f.spine f.in_fragments)) (push_last_text fragment (newest_row f.nodes f.spine))
-      ≡ option_map (λ k. map stored ends.front ++ (flat_part k (holds_of last.kind) ∷ [])) (flat.push_part fragment (flat_kind last.kind))
-  flat-pushed =
-      push-flat fragment f.nodes f.spine f.in_fragments
-      ∙ ap (push_flat fragment) (sym (tells_it is).parts_are ∙ ap (map stored) ends.parts_are ∙ map-append stored ends.front (last ∷ []))
-      ∙ push-last fragment (map stored ends.front) (stored last)
-
-  abbrev answer : CaptureAnswer
-  answer = row_or OutsideText f (push_last_text fragment (newest_row f.nodes f.spine))
-
-  pub push_refused : flat.push_part fragment (flat_kind last.kind) ≡ None → answer ≡ Rejects OutsideText
-  push_refused none_is = go (push_last_text fragment (newest_row f.nodes f.spine)) (flat-pushed ∙ ap (option_map (λ k. map stored ends.front ++ (flat_part k (holds_of last.kind) ∷ []))) none_is)
-    where
-      go : (o : Option Nodes) → option_map (λ row. flat.flat (with_row row f.nodes f.spine f.in_fragments)) o ≡ None → row_or OutsideText f o ≡ Rejects OutsideText
-      go None e = refl
-      go (Some row) e = cc e
-
-  pub record Pushes (kind : FlatKind) : Type 0 where
-    pub row : Nodes
-    pub row_is : push_last_text fragment (newest_row f.nodes f.spine) ≡ Some row
-    pub flat_is : flat.flat (with_row row f.nodes f.spine f.in_fragments) ≡ map stored ends.front ++ (flat_part kind (holds_of last.kind) ∷ [])
-
-  pub push_taken : (kind : FlatKind) → flat.push_part fragment (flat_kind last.kind) ≡ Some kind → Pushes kind
-  push_taken kind some = go (push_last_text fragment (newest_row f.nodes f.spine)) refl (flat-pushed ∙ ap (option_map (λ k. map stored ends.front ++ (flat_part k (holds_of last.kind) ∷ []))) some)
-    where
-      go : (o : Option Nodes) → push_last_text fragment (newest_row f.nodes f.spine) ≡ o
-          → option_map (λ row. flat.flat (with_row row f.nodes f.spine f.in_fragments)) o ≡ Some (map stored ends.front ++ (flat_part kind (holds_of last.kind) ∷ [])) → Pushes kind
-      go None e g = cc g
-      go (Some row) e g = let same : flat.flat (with_row row f.nodes f.spine f.in_fragments) ≡ map stored ends.front ++ (flat_part kind (holds_of last.kind) ∷ []) = cc g in
-          record { row = row; row_is = e; flat_is = same }
-
-  pub is_pushed : (next : Part) (p : Pushed last fragment next) → let o = push_taken (flat_kind next.kind) p.kind in Is (ends.front ++ (next ∷ [])) places within (with_row o.row f.nodes f.spine f.in_fragments)
-  is_pushed next p =
-      let o = push_taken (flat_kind next.kind) p.kind in
-      let g = with_row o.row f.nodes f.spine f.in_fragments in
-      let t : TellsForest (ends.front ++ (next ∷ [])) places g = record {
-        parts_are = map-append stored ends.front (next ∷ []) ∙ ap (λ holds. map stored ends.front ++ (flat_part (flat_kind next.kind) holds ∷ [])) p.holds ∙ sym o.flat_is;
-        places_are = (tells_it is).places_are ∙ sym (open-push fragment f.nodes f.spine f.in_fragments o.row o.row_is);
-        holders_are = map-append holder ends.front (next ∷ []) ∙ ap (λ h. map holder ends.front ++ (h ∷ [])) p.holder ∙ sym (map-append holder ends.front (last ∷ [])) ∙ ap (map holder) (sym ends.parts_are)
-            ∙ (tells_it is).holders_are ∙ sym (holders-push fragment f.nodes f.spine f.in_fragments o.row o.row_is);
-      } in
-      is_told (ends.front ++ (next ∷ [])) places within g t (within_it is ∙ sym (within-row o.row f.nodes f.spine f.in_fragments))
-
-  pub push_answers : (next : Part) (p : Pushed last fragment next) → let o = push_taken (flat_kind next.kind) p.kind in answer ≡ Becomes (with_row o.row f.nodes f.spine f.in_fragments)
-  push_answers next p = let o = push_taken (flat_kind next.kind) p.kind in ap (row_or OutsideText f) o.row_is
-
--- nothing takes a fragment
-pub push_nothing : {parts : List Part} {places : List ℕ} {within : Bool} {f : Forest} (fragment : HeldBytes) → Is parts places within f → length parts ≡ 0
-    → row_or OutsideText f (push_last_text fragment (newest_row f.nodes f.spine)) ≡ Rejects OutsideText
-push_nothing {parts} {f = f} fragment is h =
-    let e = nothing parts h in
-    go (push_last_text fragment (newest_row f.nodes f.spine)) (push-flat fragment f.nodes f.spine f.in_fragments ∙ ap (push_flat fragment) (sym (ap (map stored) (sym e) ∙ (tells_it is).parts_are)))
-  where
-    go : (o : Option Nodes) → option_map (λ row. flat.flat (with_row row f.nodes f.spine f.in_fragments)) o ≡ None → row_or OutsideText f o ≡ Rejects OutsideText
-    go None e = refl
-    go (Some row) e = cc e
-
--- the last part's text is the forest's last text
-last-text : {parts : List Part} {places : List ℕ} {within : Bool} {f : Forest} (last : Part) → Is parts places within f → EndsIn parts last
-    → last_text (newest_row f.nodes f.spine) ≡ words_of (flat_kind last.kind)
-last-text {f = f} last is ends =
-    text-flat f.nodes f.spine
-    ∙ ap last_words (sym (tells_it is).parts_are ∙ ap (map stored) ends.parts_are ∙ map-append stored ends.front (last ∷ []))
-    ∙ last_words-append (map stored ends.front) (stored last) []
-
--- what a part answers to a fragment, the whole buffer answers
-pub record PushesBy (parts : List Part) (places : List ℕ) (within : Bool) (f : Forest) (fragment : HeldBytes) (r : Result (Unit {0}) ErrorKind) : Type 0 where
-  pub next : Forest
-  pub is : Is parts places within next
-  pub answers : Captures (text_may_grow fragment.borrowed f) (push_into_text fragment f) f r next
-
-cause_of : (fragment : HeldBytes) (k : FlatKind) (grows : Bool) (a : CaptureAnswer) (why : ErrorKind) → IsPushCause fragment k why → grows ≡ push_may_grow fragment.borrowed (words_of k)
-    → (flat.push_part fragment k ≡ None → a ≡ Rejects OutsideText) → ((kind : FlatKind) → flat.push_part fragment k ≡ Some kind → (next : Forest) × (a ≡ Becomes next)) → IsCaptureCause grows a why
-cause_of fragment (flat.One call) grows a why cause same refused taken = subst (λ x. IsCaptureCause grows x why) (sym (refused refl)) cause
-cause_of fragment (flat.Bytes held) grows a why cause same refused taken = subst (λ x. IsCaptureCause grows x why) (sym (refused refl)) cause
-cause_of fragment (flat.Holder begin) grows a why cause same refused taken = subst (λ x. IsCaptureCause grows x why) (sym (refused refl)) cause
-cause_of fragment (flat.Words held) grows a why cause same refused taken =
-    let t = taken (flat.Words (pushed held fragment)) refl in
-    subst (λ x. IsCaptureCause grows x why) (sym t.1) (record { no_alloc = cause.no_alloc; takes_memory = same ∙ cause.takes_memory })
-
-pub pushes_by : {parts : List Part} {places : List ℕ} {within : Bool} {f : Forest} (fragment : HeldBytes) (last next : Part) (r : Result (Unit {0}) ErrorKind) → Is parts places within f → (ends : EndsIn parts last)
-    → PartPushes last fragment r next
-    → PushesBy (ends.front ++ (next ∷ [])) places within f fragment r
-pushes_by {f = f} fragment last next (Ok done) is ends ok = record {
-  next = with_row (push_taken fragment last is ends (flat_kind next.kind) ok.kind).row f.nodes f.spine f.in_fragments;
-  is = is_pushed fragment last is ends next ok;
-  answers = push_answers fragment last is ends next ok;
-}
-pushes_by {parts} {places} {within} {f} fragment last next (Err why) is ends (same, cause) =
-    let whole : parts ≡ ends.front ++ (next ∷ []) = ends.parts_are ∙ ap (λ p. ends.front ++ (p ∷ [])) (sym same) in
-    record {
-      next = f;
-      is = subst (λ ps. Is ps places within f) whole is;
-      answers = (
-        refl,
-        cause_of fragment (flat_kind last.kind) (text_may_grow fragment.borrowed f) (push_into_text fragment f) why cause
-            (ap (push_may_grow fragment.borrowed) (last-text last is ends))
-            (push_refused fragment last is ends)
-            (λ kind some. let o = push_taken fragment last is ends kind some in (with_row o.row f.nodes f.spine f.in_fragments, ap (row_or OutsideText f) o.row_is)),
-      );
-    }
-
-pub pushes_nothing : {parts : List Part} {places : List ℕ} {within : Bool} {f : Forest} (fragment : HeldBytes) → Is parts places within f → length parts ≡ 0
-    → PushesBy parts places within f fragment (Err (error_of OutsideText))
-pushes_nothing {f = f} fragment is h = record {
-  next = f;
-  is = is;
-  answers = (refl, subst (λ a. IsCaptureCause (text_may_grow fragment.borrowed f) a (error_of OutsideText)) (sym (push_nothing fragment is h)) refl);
-}

@@ -2,29 +2,25 @@
 use Rattle.std.specs.Prelude.{◌≡◌, ℕ, ℤ, Bool, true, false, not, List, [], ◌∷◌, ◌++◌, length, flat_map, if◌then◌else◌, Option, Some, None, Result, Ok, Err, refl}
 use Rattle.std.specs.Fmt.{signed_decimal}
 use Rattle.std.proofs.Common.{ap, ◌∙◌}
-use Rattle.sval_label.specs.Calls.{Label, Name, IntType, Head, Slot, Call}
+use Rattle.sval_label.specs.Calls.{Label, Name, IntType, Call}
 use Rattle.sval_label.specs.Ranges.{is_signed}
-use Rattle.sval_core.specs.Law.{Emission}
 use Rattle.sval_core.specs.Names.{says_none, number_tag, tag_alone}
 use Rattle.sval_lower.specs.Lower.{wide_calls, label_or_null}
 use Rattle.sval_lower.specs.Lowered.{lowered, lowered_call, lowered_within, is_for_texts}
 use Rattle.sval_buffer.specs.Pushes.{HeldBytes, pushed}
-use Rattle.sval_buffer.specs.Forest.{no_bytes}
 use Rattle.sval_buffer.specs.declared.error.Word.{Word}
 use Rattle.sval_buffer.specs.declared.error.Word.TheVariants as word
-use Rattle.sval_buffer.specs.Collected.{text_use, text_collected}
-use Rattle.sval_buffer.specs.CollectSteps.{push, push_label, text_step, steps_of, answer_after}
-use Rattle.sval_buffer.specs.CollectLaws.{StreamCollects}
-use Rattle.sval_buffer.proofs.CollectingFragments.{stream_collects}
+use Rattle.sval_buffer.specs.Collected.{text_use}
+use Rattle.sval_buffer.specs.CollectSteps.{push, push_label, text_step, steps_of}
 use Rattle.sval_lower.proofs.WideNumbers.{one_up, at_wide, from_u128, from_u64, from_u32, from_u16}
-use Rattle.sval_buffer.proofs.CollectedSteps.{use_step, steps_collect}
+use Rattle.sval_buffer.proofs.CollectedSteps.{use_step}
 
 -- ---- numbers
 
-abbrev after_text : HeldBytes → List Call → Result HeldBytes Word
+abbrev pub after_text : HeldBytes → List Call → Result HeldBytes Word
 after_text held calls = steps_of (use_step text_use) held calls
 
-text_wide : (n : ℤ) (held : HeldBytes) → steps_of (use_step text_use) held (lowered is_for_texts (wide_calls n)) ≡ text_step held (Call.Int IntType.U128 n)
+pub text_wide : (n : ℤ) (held : HeldBytes) → steps_of (use_step text_use) held (lowered is_for_texts (wide_calls n)) ≡ text_step held (Call.Int IntType.U128 n)
 unfolding steps_of lowered_within
 text_wide n held = go (is_signed 63 n)
   where
@@ -33,7 +29,7 @@ text_wide n held = go (is_signed 63 n)
     go true = refl
     go false = refl
 
-text_int : (type : IntType) (n : ℤ) (held : HeldBytes) → after_text held (lowered_call is_for_texts (Call.Int type n)) ≡ text_step held (Call.Int type n)
+pub text_int : (type : IntType) (n : ℤ) (held : HeldBytes) → after_text held (lowered_call is_for_texts (Call.Int type n)) ≡ text_step held (Call.Int type n)
 unfolding steps_of lowered_within
 text_int IntType.I8 n held = refl
 text_int IntType.I16 n held = refl
@@ -46,19 +42,19 @@ text_int IntType.U64 n held = ap (after_text held) (from_u64 is_for_texts n refl
 text_int IntType.U128 n held = ap (after_text held) (from_u128 is_for_texts n refl) ∙ text_wide n held
 text_int IntType.I128 n held = ap (after_text held) (at_wide is_for_texts IntType.I128 n refl refl) ∙ text_wide n held
 
-text_bytes : (bytes : List ℕ) (held : HeldBytes) → after_text held (lowered_call is_for_texts (Call.BinaryFragment false bytes)) ≡ text_step held (Call.BinaryFragment false bytes)
+pub text_bytes : (bytes : List ℕ) (held : HeldBytes) → after_text held (lowered_call is_for_texts (Call.BinaryFragment false bytes)) ≡ text_step held (Call.BinaryFragment false bytes)
 unfolding steps_of lowered_within
 text_bytes [] held = refl
 text_bytes (byte ∷ bytes) held = refl
 
-text_label : (borrowed : Bool) (text : List ℕ) (name : Name) (size : Option ℕ) (held : HeldBytes)
+pub text_label : (borrowed : Bool) (text : List ℕ) (name : Name) (size : Option ℕ) (held : HeldBytes)
     → after_text held (flat_map (lowered_within 1 is_for_texts) (Call.TaggedBegin name ∷ Call.TextBegin size ∷ Call.TextFragment borrowed text ∷ Call.TextEnd ∷ Call.TaggedEnd name ∷ []))
     ≡ push held borrowed text
 unfolding steps_of lowered_within
 text_label true text name size held = refl
 text_label false text name size held = refl
 
-text_own : (name : Name) (held : HeldBytes) → after_text held (lowered_call is_for_texts (Call.Standalone name)) ≡ text_step held (Call.Standalone name)
+pub text_own : (name : Name) (held : HeldBytes) → after_text held (lowered_call is_for_texts (Call.Standalone name)) ≡ text_step held (Call.Standalone name)
 unfolding steps_of lowered_within
 text_own name held = go (says_none name.tag) name.label
   where
@@ -68,53 +64,3 @@ text_own name held = go (says_none name.tag) name.label
     go true label = refl
     go false (Some label) = text_label label.is_static label.text name (Some (length label.text)) held
     go false None = refl
-
-text_call : (call : Call) (held : HeldBytes) → after_text held (lowered_call is_for_texts call) ≡ text_step held call
-unfolding steps_of lowered_within
-text_call Call.Null held = refl
-text_call (Call.Truth b) held = refl
-text_call (Call.Int type n) held = text_int type n held
-text_call (Call.Standalone name) held = text_own name held
-text_call (Call.TagHint tag) held = refl
-text_call (Call.TextBegin size) held = refl
-text_call (Call.TextFragment true text) held = refl
-text_call (Call.TextFragment false text) held = refl
-text_call Call.TextEnd held = refl
-text_call (Call.BinaryBegin size) held = refl
-text_call (Call.BinaryFragment true []) held = refl
-text_call (Call.BinaryFragment true (byte ∷ bytes)) held = refl
-text_call (Call.BinaryFragment false bytes) held = text_bytes bytes held
-text_call Call.BinaryEnd held = refl
-text_call (Call.EnumBegin name) held = refl
-text_call (Call.EnumEnd name) held = refl
-text_call (Call.TaggedBegin name) held = refl
-text_call (Call.TaggedEnd name) held = refl
-text_call (Call.Begin Head.Seq size) held = refl
-text_call (Call.Begin Head.Map size) held = refl
-text_call (Call.Begin (Head.Record name) size) held = refl
-text_call (Call.Begin (Head.Tuple name) size) held = refl
-text_call (Call.Begin (Head.RecordTuple name) size) held = refl
-text_call (Call.End Head.Seq) held = refl
-text_call (Call.End Head.Map) held = refl
-text_call (Call.End (Head.Record name)) held = refl
-text_call (Call.End (Head.Tuple name)) held = refl
-text_call (Call.End (Head.RecordTuple name)) held = refl
-text_call (Call.PartBegin Slot.Item) held = refl
-text_call (Call.PartBegin Slot.Key) held = refl
-text_call (Call.PartBegin Slot.Value) held = refl
-text_call (Call.PartBegin (Slot.Field tag label)) held = refl
-text_call (Call.PartBegin (Slot.Place tag index)) held = refl
-text_call (Call.PartBegin (Slot.FieldPlace tag label index)) held = refl
-text_call (Call.PartEnd Slot.Item) held = refl
-text_call (Call.PartEnd Slot.Key) held = refl
-text_call (Call.PartEnd Slot.Value) held = refl
-text_call (Call.PartEnd (Slot.Field tag label)) held = refl
-text_call (Call.PartEnd (Slot.Place tag index)) held = refl
-text_call (Call.PartEnd (Slot.FieldPlace tag label index)) held = refl
-
-pub text_steps : (e : Emission) → answer_after word.Text e.refuses (steps_of text_step no_bytes e.calls) ≡ text_collected e
-text_steps e = steps_collect word.Text is_for_texts text_use text_step text_call e
-
--- for what collects a text
-pub text_stream : StreamCollects word.Text text_step text_collected
-text_stream = stream_collects word.Text text_step text_collected text_steps

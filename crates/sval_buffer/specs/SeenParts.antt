@@ -1,5 +1,5 @@
 -- What the parts of the program are.
-use Rattle.std.specs.Prelude.{◌≡◌, ℕ, Bool, true, false, List, map, Option, Some, None, Result, Ok, Err}
+use Rattle.std.specs.Prelude.{◌≡◌, ℕ, Bool, true, false, List, map, Option, Some, Result, Ok, Err}
 use Rattle.std.specs.Borrow.{Bor}
 use Rattle.sval_label.specs.Calls as call
 use Rattle.sval_label.specs.Calls.{Call}

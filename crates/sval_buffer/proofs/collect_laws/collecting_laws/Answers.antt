@@ -1,6 +1,5 @@
 use Rattle.sval_buffer.proofs.collect_laws.collecting_laws.Goals as goal
-use Rattle.sval_buffer.proofs.TextSteps.{text_steps, text_stream}
-use Rattle.sval_buffer.proofs.BinarySteps.{binary_steps, binary_stream}
+use Rattle.sval_buffer.proofs.CallSteps.{text_steps, text_stream, binary_steps, binary_stream}
 
 pub returns-clause-text_steps_collect : goal.returns-clause-text_steps_collect
 returns-clause-text_steps_collect c = text_steps

@@ -3,7 +3,8 @@ use Rattle.sval_buffer.specs.Forest.{Forest, push_into_text, text_may_grow}
 use Rattle.sval_buffer.specs.Capture.{Captures}
 use Rattle.sval_buffer.specs.SeenParts.{fragment_bytes}
 use Rattle.sval_buffer.specs.FlatForest.{forest_in}
-use Rattle.sval_buffer.proofs.Steps.{Is, PushesBy, EndsIn, ends_in, set-last, pushes_by, pushes_nothing}
+use Rattle.sval_buffer.proofs.Steps.{Is}
+use Rattle.sval_buffer.proofs.PushSteps.{PushesBy, EndsIn, ends_in, set-last, pushes_by, pushes_nothing}
 use Rattle.sval_buffer.proofs.parts.Parts.push.Goals as goal
 use Rattle.sval_buffer.proofs.parts.Parts.push.Goals.{in-Some, in-None}
 
