@@ -6,14 +6,14 @@ use Rattle.sval_label.specs.Calls.{Call}
 use Rattle.sval_core.specs.Spells.{IsViable, plain, plain_call}
 use Rattle.sval_core.specs.Checker.{Frame, Runs, done, more, State}
 use Rattle.sval_core.specs.CheckerSteps.{state_after}
-use Rattle.sval_core.specs.Law.{Standing, Emission, Ran, Streams, StoppedIn, Stops}
+use Rattle.sval_core.specs.Law.{Standing, Emission, one_more, Ran, Streams, StoppedIn, Stops}
 use Rattle.sval_core.proofs.Completions.{spelling_is_run, run_is_spelling, viable_is_taken, taken_is_viable}
 use Rattle.sval_core.proofs.Determined.{steps_determined, runs_determined}
 use Rattle.sval_core.proofs.CheckerSteps.{goes_taken, goes_after}
 use Rattle.sval_check.specs.declared.checker.Why.{Why}
 use Rattle.sval_check.specs.declared.checker.Why.TheVariants.{NotViable, NoMemory}
 use Rattle.sval_check.specs.declared.error.CheckError.TheVariants as error
-use Rattle.sval_check.specs.Checking.{Checking, IsWhy, IsLeft, accepts, checker_law, standing_of, one_more, finish_at, finish_of, cause_by, cause_of}
+use Rattle.sval_check.specs.Checking.{Checking, IsCheckerWhy, IsLeft, accepts, checker_law, checker_standing, finish_at, finish_of, cause_by, cause_of}
 use Rattle.sval_check.specs.Checks.{IsOneValue, IsFirstBad, OnlyRefuses, IsUnfinished, opens, NeedsMemory}
 
 -- ---- a run with a call in front
@@ -64,7 +64,7 @@ halts_here v u call calls within e left = record {
 }
   where
     never : accepts v call → ⊥
-    never = subst (λ w. IsWhy w v call u.wants) e left.why
+    never = subst (λ w. IsCheckerWhy w v call u.wants) e left.why
 
 halts_later : (v : Checking) (call : Call) (calls : List Call) (last : ℕ) → v.taken ≤ 2 ^ 64 - 1 → accepts v call → Halts (state_after call v.state) (one_more v.taken) calls last → Halts v.state v.taken (call ∷ calls) last
 halts_later v call calls last within a h = record {
@@ -95,7 +95,7 @@ pub refused_by_itself : (calls : List Call) (refuses : Bool) (old new : Standing
     → (refuses ≡ true) × ((last : State) × RunsFrom v.state calls last)
 refused_by_itself [] refuses old new v none still s = (s.0, (v.state, done))
 refused_by_itself (call ∷ calls) refuses old new v none still (inl s) =
-    let never : ⊥ = subst (λ w. IsWhy w v call new.view.wants) still s.1.why in absurd never
+    let never : ⊥ = subst (λ w. IsCheckerWhy w v call new.view.wants) still s.1.why in absurd never
 refused_by_itself (call ∷ calls) refuses old new v none still (inr s) =
     let r = refused_by_itself calls refuses old new (checker_law.after v call) none still s.1 in
     (r.0, (r.1.0, join (plain_call call) (plain calls) (goes_after v.state call s.0) r.1.1))
@@ -113,7 +113,7 @@ pub record Wants (state : State) (calls : List Call) : Type 0 where
 
 wants_here : (v u : Checking) (call : Call) (calls : List Call) → u.why ≡ Some NoMemory → IsLeft v call u → Wants v.state (call ∷ calls)
 wants_here v u call calls e left =
-    let why = subst (λ w. IsWhy w v call u.wants) e left.why in
+    let why = subst (λ w. IsCheckerWhy w v call u.wants) e left.why in
     record { front = []; call = call; rest = calls; whole = refl; last = state_after call v.state; runs = goes_after v.state call why.1; opens = why.0 }
 
 wants_later : (v : Checking) (call : Call) (calls : List Call) → accepts v call → Wants (state_after call v.state) calls → Wants v.state (call ∷ calls)
@@ -146,28 +146,28 @@ one_value e true [] w k = record { willing = w; spells = run_is_spelling e.calls
 one_value e true (f ∷ fs) w k = tt
 one_value e false frames w k = tt
 
-streams_fresh : (e : Emission) (first last : Checking) → first ≡ fresh → Streams checker_law (standing_of first) e (standing_of last) → Streams checker_law (standing_of fresh) e (standing_of last)
-streams_fresh e first last new s = subst (λ (x : Checking). Streams checker_law (standing_of x) e (standing_of last)) new s
+streams_fresh : (e : Emission) (first last : Checking) → first ≡ fresh → Streams checker_law (checker_standing first) e (checker_standing last) → Streams checker_law (checker_standing fresh) e (checker_standing last)
+streams_fresh e first last new s = subst (λ (x : Checking). Streams checker_law (checker_standing x) e (checker_standing last)) new s
 
-stops_fresh : (e : Emission) (first last : Checking) → first ≡ fresh → Stops checker_law (standing_of first) e (standing_of last) → Stops checker_law (standing_of fresh) e (standing_of last)
-stops_fresh e first last new s = subst (λ (x : Checking). Stops checker_law (standing_of x) e (standing_of last)) new s
+stops_fresh : (e : Emission) (first last : Checking) → first ≡ fresh → Stops checker_law (checker_standing first) e (checker_standing last) → Stops checker_law (checker_standing fresh) e (checker_standing last)
+stops_fresh e first last new s = subst (λ (x : Checking). Stops checker_law (checker_standing x) e (checker_standing last)) new s
 
-pub finish_ok : (e : Emission) (first last : Checking) → first ≡ fresh → Streams checker_law (standing_of first) e (standing_of last) → OnOk (finish_of last) (IsOneValue e)
+pub finish_ok : (e : Emission) (first last : Checking) → first ≡ fresh → Streams checker_law (checker_standing first) e (checker_standing last) → OnOk (finish_of last) (IsOneValue e)
 finish_ok e first last new streams =
     let s = streams_fresh e first last new streams in
-    one_value e last.state.filled last.state.frames s.willing (ran_runs e.calls (standing_of fresh).view (standing_of last).view s.ran)
+    one_value e last.state.filled last.state.frames s.willing (ran_runs e.calls (checker_standing fresh).view (checker_standing last).view s.ran)
 
 not_whole : (filled : Bool) (frames : List Frame) → finish_at filled frames ≡ Err error.Unfinished → filled ≡ true → frames ≡ [] → ⊥
 not_whole true [] e f g = cc e
 not_whole true (x ∷ xs) e f g = cc g
 not_whole false frames e f g = cc f
 
-pub finish_unfinished : (e : Emission) (first last : Checking) → first ≡ fresh → Streams checker_law (standing_of first) e (standing_of last) → finish_of last ≡ Err error.Unfinished → IsUnfinished e
+pub finish_unfinished : (e : Emission) (first last : Checking) → first ≡ fresh → Streams checker_law (checker_standing first) e (checker_standing last) → finish_of last ≡ Err error.Unfinished → IsUnfinished e
 finish_unfinished e first last new streams u =
     let s = streams_fresh e first last new streams in
-    let k = ran_runs e.calls (standing_of fresh).view (standing_of last).view s.ran in
+    let k = ran_runs e.calls (checker_standing fresh).view (checker_standing last).view s.ran in
     record {
-      viable = viable e.calls (standing_of last).view.state k;
+      viable = viable e.calls (checker_standing last).view.state k;
       willing = s.willing;
       no_tree = λ tree spells.
           let same = runs_determined (plain e.calls) k (spelling_is_run e.calls tree spells) in
@@ -179,11 +179,11 @@ not_viable None taken at e = cc e
 not_viable (Some NotViable) taken at e = let same : one_more taken ≡ at = cc e in (refl, sym same)
 not_viable (Some NoMemory) taken at e = cc e
 
-pub cause_bad : (e : Emission) (first last : Checking) (at : ℕ) → first ≡ fresh → Stops checker_law (standing_of first) e (standing_of last) → cause_of last ≡ error.BadCall at → IsFirstBad e.calls at
+pub cause_bad : (e : Emission) (first last : Checking) (at : ℕ) → first ≡ fresh → Stops checker_law (checker_standing first) e (checker_standing last) → cause_of last ≡ error.BadCall at → IsFirstBad e.calls at
 cause_bad e first last at new stops c =
     let s = stops_fresh e first last new stops in
     let why = not_viable last.why last.taken at c in
-    let h = halts e.calls e.refuses (standing_of fresh) (standing_of last) (standing_of fresh).view (omega arith) refl why.0 s.stopped in
+    let h = halts e.calls e.refuses (checker_standing fresh) (checker_standing last) (checker_standing fresh).view (omega arith) refl why.0 s.stopped in
     record {
       front = h.front;
       call = h.call;
@@ -199,10 +199,10 @@ no_cause None taken e = refl
 no_cause (Some NotViable) taken e = cc e
 no_cause (Some NoMemory) taken e = cc e
 
-pub cause_refused : (e : Emission) (first last : Checking) → first ≡ fresh → Stops checker_law (standing_of first) e (standing_of last) → cause_of last ≡ error.Refused → OnlyRefuses e
+pub cause_refused : (e : Emission) (first last : Checking) → first ≡ fresh → Stops checker_law (checker_standing first) e (checker_standing last) → cause_of last ≡ error.Refused → OnlyRefuses e
 cause_refused e first last new stops c =
     let s = stops_fresh e first last new stops in
-    let r = refused_by_itself e.calls e.refuses (standing_of fresh) (standing_of last) (standing_of fresh).view refl (no_cause last.why last.taken c) s.stopped in
+    let r = refused_by_itself e.calls e.refuses (checker_standing fresh) (checker_standing last) (checker_standing fresh).view refl (no_cause last.why last.taken c) s.stopped in
     record { viable = viable e.calls r.1.0 r.1.1; refuses = r.0 }
 
 no_memory : (why : Option Why) (taken : ℕ) → cause_by why taken ≡ error.NoMemory → why ≡ Some NoMemory
@@ -210,8 +210,8 @@ no_memory None taken e = cc e
 no_memory (Some NotViable) taken e = cc e
 no_memory (Some NoMemory) taken e = refl
 
-pub cause_wants : (e : Emission) (first last : Checking) → first ≡ fresh → Stops checker_law (standing_of first) e (standing_of last) → cause_of last ≡ error.NoMemory → NeedsMemory e.calls
+pub cause_wants : (e : Emission) (first last : Checking) → first ≡ fresh → Stops checker_law (checker_standing first) e (checker_standing last) → cause_of last ≡ error.NoMemory → NeedsMemory e.calls
 cause_wants e first last new stops c =
     let s = stops_fresh e first last new stops in
-    let w = wants e.calls e.refuses (standing_of fresh) (standing_of last) (standing_of fresh).view refl (no_memory last.why last.taken c) s.stopped in
+    let w = wants e.calls e.refuses (checker_standing fresh) (checker_standing last) (checker_standing fresh).view refl (no_memory last.why last.taken c) s.stopped in
     record { front = w.front; call = w.call; rest = w.rest; whole = w.whole; viable = viable (w.front ++ (w.call ∷ [])) w.last w.runs; opens = w.opens }

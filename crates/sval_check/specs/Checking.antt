@@ -1,9 +1,10 @@
 -- The law of the checker as a stream: it takes a call where the machine does.
-use Rattle.std.specs.Prelude.{◌≡◌, ℕ, ◌+◌, ◌-◌, ◌^◌, min, Bool, true, List, [], Option, Some, None, is_some, Result, Ok, Err}
+use Rattle.std.specs.Prelude.{◌≡◌, ℕ, Bool, true, List, [], ◌∷◌, Option, Some, None, is_some, Result, Ok, Err}
 use Rattle.sval_label.specs.Calls.{Call}
-use Rattle.sval_core.specs.Law.{Law, Standing, Rose}
+use Rattle.sval_core.specs.Law.{Law, Standing, one_more, Rose}
 use Rattle.sval_core.specs.Checker.{Frame, State}
-use Rattle.sval_core.specs.CheckerSteps.{goes_on, state_after}
+use Rattle.sval_core.specs.Stacks.{below}
+use Rattle.sval_core.specs.CheckerSteps.{next, goes_on, state_after}
 use Rattle.sval_check.specs.Checks.{opens}
 use Rattle.sval_check.specs.declared.checker.Why.{Why}
 use Rattle.sval_check.specs.declared.checker.Why.TheVariants.{NotViable, NoMemory}
@@ -19,31 +20,37 @@ pub record Checking : Type 0 where
 
 -- The answer to a call of which the machine makes this, and which opens a frame or doesn't: it was taken, or isn't viable, or is viable and
 -- memory was wanting for the frame. A call that was refused leaves all as it was.
-abbrev pub Answers : (opening : Bool) → Option State → Checking → Checking → Result (Unit {0}) Why → Type 0
-Answers opening after old new (Ok done) = (after ≡ Some new.state) × (new ≡ record old { state = new.state })
-Answers opening after old new (Err NotViable) = (after ≡ None) × (new ≡ old)
-Answers opening after old new (Err NoMemory) = (opening ≡ true) × (is_some after ≡ true) × (new ≡ old)
+abbrev pub StepsBy : (opening : Bool) → Option State → Checking → Checking → Result (Unit {0}) Why → Type 0
+StepsBy opening after old new (Ok done) = (after ≡ Some new.state) × (new ≡ record old { state = new.state })
+StepsBy opening after old new (Err NotViable) = (after ≡ None) × (new ≡ old)
+StepsBy opening after old new (Err NoMemory) = (opening ≡ true) × (is_some after ≡ true) × (new ≡ old)
 
--- a count that stops at its type's end
-abbrev pub one_more : ℕ → ℕ
-one_more count = min (count + 1) (2 ^ 64 - 1)
+-- the state with this innermost frame, and a part in it
+abbrev pub opened : (part innermost : Frame) → State → Option State
+opened part innermost s = Some (record s { frames = part ∷ innermost ∷ below s.frames })
 
+-- the same for a call, of which the machine makes what `next` says
+abbrev pub StepsOn : Call → Checking → Checking → Result (Unit {0}) Why → Type 0
+StepsOn call old new answer = StepsBy (opens call) (next old.state call) old new answer
+
+-- how often memory was wanting after a call was refused for this
 abbrev pub wants_after : Why → ℕ → ℕ
 wants_after NotViable wants = wants
 wants_after NoMemory wants = one_more wants
 
+-- the call is viable after those that were taken
 abbrev pub accepts : Checking → Call → Type 0
 accepts view call = goes_on view.state call ≡ true
 
 -- what is kept of a refusal: memory was wanting only where the call is viable and opens a frame
-abbrev pub IsWhy : Option Why → Checking → Call → ℕ → Type 0
-IsWhy None view call wants = ⊥
-IsWhy (Some NotViable) view call wants = accepts view call → ⊥
-IsWhy (Some NoMemory) view call wants = (opens call ≡ true) × accepts view call × Rose view.wants wants
+abbrev pub IsCheckerWhy : Option Why → Checking → Call → ℕ → Type 0
+IsCheckerWhy None view call wants = ⊥
+IsCheckerWhy (Some NotViable) view call wants = accepts view call → ⊥
+IsCheckerWhy (Some NoMemory) view call wants = (opens call ≡ true) × accepts view call × Rose view.wants wants
 
 -- a call that was refused leaves the state as it was
 pub record IsLeft (view : Checking) (call : Call) (left : Checking) : Type 0 where
-  pub why : IsWhy left.why view call left.wants
+  pub why : IsCheckerWhy left.why view call left.wants
   pub state : left.state ≡ view.state
   pub taken : left.taken ≡ view.taken
 
@@ -54,8 +61,8 @@ checker_law = record {
   stopped = IsLeft;
 }
 
-abbrev pub standing_of : Checking → Standing Checking
-standing_of checker = record { view = checker; faults = 0; wants = checker.wants }
+abbrev pub checker_standing : Checking → Standing Checking
+checker_standing checker = record { view = checker; faults = 0; wants = checker.wants }
 
 -- what is answered where all calls were taken: outside everything one whole value
 abbrev pub finish_at : Bool → List Frame → Result (Unit {0}) CheckError

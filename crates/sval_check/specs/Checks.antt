@@ -53,11 +53,11 @@ pub record NeedsMemory (calls : List Call) : Type 0 where
   pub opens : opens call ≡ true
 
 -- what checking answers
-abbrev pub Answer : Type 0
-Answer = Result (Unit {0}) CheckError
+abbrev pub CheckAnswer : Type 0
+CheckAnswer = Result (Unit {0}) CheckError
 
 -- the answer that is due, where memory isn't wanting
-abbrev pub IsDue : Emission → Answer → Type 0
+abbrev pub IsDue : Emission → CheckAnswer → Type 0
 IsDue e (Ok done) = IsOneValue e
 IsDue e (Err (error.BadCall at)) = IsFirstBad e.calls at
 IsDue e (Err error.Refused) = OnlyRefuses e

@@ -1,20 +1,19 @@
 //! The machine that takes the calls which can still be completed.
 
-ghost use Rattle.std.specs.Prelude.{◌≡◌, Option, Some, None, [], ◌∷◌, length, OnOk, OnErr, true, false};
-ghost use Rattle.sval_label.specs.Calls.{Seq, Item};
+ghost use Rattle.std.specs.Prelude.{◌≡◌, Option, Some, None, [], ◌∷◌, length, true, false, ◌≤◌};
 ghost use Rattle.sval_label.specs.Made.{lent_call};
-ghost use Rattle.sval_core.specs.Law.{Takes, Refuses};
+ghost use Rattle.sval_label.specs.Grouped.{seen_head, seen_slot};
+ghost use Rattle.sval_core.specs.Law.{Answers};
 ghost use Rattle.sval_core.specs.Stacks.{top_of, below};
-ghost use Rattle.sval_core.specs.CheckerSteps.{Form, Other, take_off, is_used_up, unfilled, has_room, value, begin, at_top, text_fragment, text_end, end, part_begin, part_end, next};
+ghost use Rattle.sval_core.specs.CheckerSteps.{Form, Other, take_off, is_used_up, unfilled, has_room, value, begin, at_top, text_fragment, text_end, end, part_begin, part_end};
 ghost use Rattle.sval_check.specs.Frames.{frame_of};
-ghost use Rattle.sval_check.specs.Checks.{opens};
-ghost use Rattle.sval_check.specs.Checking.{Checking, Answers, checker_law, standing_of, finish_of, cause_of, wants_after};
+ghost use Rattle.sval_check.specs.Checking.{Checking, StepsBy, StepsOn, opened, checker_law, checker_standing, finish_of, cause_of, wants_after};
 
 use crate::error::CheckError;
 use crate::stack::{Frame, Stack};
 use std::alloc::Global;
 use std::marker::Model;
-use sval_core::{Call, Error, Lent, Stream};
+use sval_core::{Call, Error, Fragment, GroupedCall, Head, Lent, Slot, Stream};
 
 /// Why a call was refused.
 #[derive(Clone, Copy, PartialEq, Eq)]
@@ -53,10 +52,7 @@ fn take_off(left: Option<usize>, count: usize) -> Option<Option<usize>>
 {
     match left {
         None => Some(None),
-        Some(due) => match due.checked_sub(count) {
-            Some(rest) => Some(Some(rest)),
-            None => None,
-        },
+        Some(due) => due.checked_sub(count).map(Some),
     }
 }
 
@@ -112,14 +108,14 @@ impl Checker {
         ensures { (form : Form) → result ≡ has_room form self.now.state }
     {
         match self.frames.top() {
-            None | Some(Frame::Item) => !self.filled,
-            Some(Frame::Text(_)) | Some(Frame::Seq(_)) => false,
+            None | Some(Frame::Part(_)) => !self.filled,
+            Some(Frame::Text(_) | Frame::Container(_, _)) => false,
         }
     }
 
     /// Takes a value that is one call.
     fn value(&mut self) -> Result<(), Why>
-        ensures { Answers false (value Other self.old.state) self.old self.new result }
+        ensures { StepsBy false (value Other self.old.state) self.old self.new result }
     {
         if !self.has_room() {
             return Err(Why::NotViable);
@@ -130,36 +126,31 @@ impl Checker {
 
     /// Takes the begin of a value.
     fn begin(&mut self, frame: Frame) -> Result<(), Why>
-        ensures { (form : Form) → Answers true (begin form (frame_of frame) self.old.state) self.old self.new result }
+        ensures { (form : Form) → StepsBy true (begin form (frame_of frame) self.old.state) self.old self.new result }
     {
         if !self.has_room() {
             return Err(Why::NotViable);
         }
-        match self.frames.push(frame) {
-            Ok(()) => Ok(()),
-            Err(_) => Err(Why::NoMemory),
-        }
+        self.frames.push(frame).map_err(|_| Why::NoMemory)
     }
 
-    /// Takes a part of a text.
-    fn text_fragment(&mut self, text: &str) -> Result<(), Why>
-        ensures { Answers false (at_top (text_fragment (length text.now)) self.old.state) self.old self.new result }
+    /// Takes so many bytes of a text.
+    fn text_fragment(&mut self, size: usize) -> Result<(), Why>
+        ensures { StepsBy false (at_top (text_fragment size) self.old.state) self.old self.new result }
     {
         match self.frames.top() {
-            Some(Frame::Text(left)) if !self.filled => match take_off(left, text.len()) {
-                Some(rest) => {
-                    self.frames.replace_top(Frame::Text(rest));
-                    Ok(())
-                }
-                None => Err(Why::NotViable),
-            },
+            Some(Frame::Text(left)) if !self.filled => {
+                let rest = take_off(left, size).ok_or(Why::NotViable)?;
+                self.frames.replace_top(Frame::Text(rest));
+                Ok(())
+            }
             _ => Err(Why::NotViable),
         }
     }
 
     /// Takes a text's end.
     fn text_end(&mut self) -> Result<(), Why>
-        ensures { Answers false (at_top text_end self.old.state) self.old self.new result }
+        ensures { StepsBy false (at_top text_end self.old.state) self.old self.new result }
     {
         match self.frames.top() {
             Some(Frame::Text(left)) if !self.filled && is_used_up(left) => {
@@ -171,12 +162,13 @@ impl Checker {
         }
     }
 
-    /// Takes a sequence's end.
-    fn seq_end(&mut self) -> Result<(), Why>
-        ensures { Answers false (at_top (end Seq) self.old.state) self.old self.new result }
+    /// Takes a container's end.
+    fn end(&mut self, head: Head) -> Result<(), Why>
+        ensures { StepsBy false (at_top (end (seen_head head)) self.old.state) self.old self.new result }
     {
         match self.frames.top() {
-            Some(Frame::Seq(left)) if !self.filled && is_used_up(left) => {
+            Some(Frame::Container(begun, left))
+                if !self.filled && begun == head && is_used_up(left) => {
                 self.frames.pop();
                 self.filled = true;
                 Ok(())
@@ -185,40 +177,44 @@ impl Checker {
         }
     }
 
-    /// Opens an item in the innermost sequence, of which this was left and is left.
-    fn open_item(&mut self, left: Option<usize>, rest: Option<usize>) -> Result<(), Why>
-        requires { top_of self.old.state.frames ≡ Some (frame_of (Frame.Seq left)) }
-        ensures { Answers true (Some (record self.old.state { frames = frame_of Frame.Item ∷ (frame_of (Frame.Seq rest) ∷ below self.old.state.frames) })) self.old self.new result }
+    /// Opens a part in the innermost frame, a container, which is `before` now and `after` with it.
+    fn open_part(&mut self, slot: Slot, before: Frame, after: Frame) -> Result<(), Why>
+        requires { top_of self.old.state.frames ≡ Some (frame_of before) }
+        ensures { StepsBy true (opened (frame_of (Frame.Part slot)) (frame_of after) self.old.state) self.old self.new result }
     {
-        self.frames.replace_top(Frame::Seq(rest));
-        match self.frames.push(Frame::Item) {
+        self.frames.replace_top(after);
+        match self.frames.push(Frame::Part(slot)) {
             Ok(()) => Ok(()),
             Err(_) => {
-                self.frames.replace_top(Frame::Seq(left));
+                self.frames.replace_top(before);
                 Err(Why::NoMemory)
             }
         }
     }
 
-    /// Takes an item's begin.
-    fn item_begin(&mut self) -> Result<(), Why>
-        ensures { Answers true (at_top (part_begin Item) self.old.state) self.old self.new result }
+    /// Takes a part's begin.
+    fn part_begin(&mut self, slot: Slot) -> Result<(), Why>
+        ensures { StepsBy true (at_top (part_begin (seen_slot slot)) self.old.state) self.old self.new result }
     {
         match self.frames.top() {
-            Some(Frame::Seq(left)) if !self.filled => match take_off(left, 1) {
-                Some(rest) => self.open_item(left, rest),
-                None => Err(Why::NotViable),
-            },
+            Some(Frame::Container(head, left)) if !self.filled => {
+                let rest = take_off(left, 1).ok_or(Why::NotViable)?;
+                self.open_part(
+                    slot,
+                    Frame::Container(head, left),
+                    Frame::Container(head, rest),
+                )
+            }
             _ => Err(Why::NotViable),
         }
     }
 
-    /// Takes an item's end.
-    fn item_end(&mut self) -> Result<(), Why>
-        ensures { Answers false (at_top (part_end Item) self.old.state) self.old self.new result }
+    /// Takes a part's end.
+    fn part_end(&mut self, slot: Slot) -> Result<(), Why>
+        ensures { StepsBy false (at_top (part_end (seen_slot slot)) self.old.state) self.old self.new result }
     {
         match self.frames.top() {
-            Some(Frame::Item) if self.filled => {
+            Some(Frame::Part(begun)) if self.filled && begun == slot => {
                 self.frames.pop();
                 self.filled = false;
                 Ok(())
@@ -229,26 +225,26 @@ impl Checker {
 
     /// Takes a call, or says why not.
     fn step(&mut self, call: Call<'_, '_>) -> Result<(), Why>
-        ensures { Answers (opens (lent_call call.entry)) (next self.old.state (lent_call call.entry)) self.old self.new result }
+        ensures { StepsOn (lent_call call.entry) self.old self.new result }
     {
-        match call {
-            Call::Null => self.value(),
-            Call::Bool(_) => self.value(),
-            Call::I64(_) => self.value(),
-            Call::TextBegin(size) => self.begin(Frame::Text(size)),
-            Call::TextFragment(text) => self.text_fragment(text),
-            Call::TextFragmentComputed(text) => self.text_fragment(text),
-            Call::TextEnd => self.text_end(),
-            Call::SeqBegin(size) => self.begin(Frame::Seq(size)),
-            Call::SeqValueBegin => self.item_begin(),
-            Call::SeqValueEnd => self.item_end(),
-            Call::SeqEnd => self.seq_end(),
+        match call.grouped() {
+            GroupedCall::Null | GroupedCall::Bool(_) | GroupedCall::Int(_) => self.value(),
+            GroupedCall::TextBegin(size) => self.begin(Frame::Text(size)),
+            GroupedCall::TextFragment(Fragment::Borrowed(text) | Fragment::Computed(text)) => {
+                self.text_fragment(text.len())
+            }
+            GroupedCall::TextEnd => self.text_end(),
+            GroupedCall::Begin(head, size) => self.begin(Frame::Container(head, size)),
+            GroupedCall::End(head) => self.end(head),
+            GroupedCall::PartBegin(slot) => self.part_begin(slot),
+            GroupedCall::PartEnd(slot) => self.part_end(slot),
         }
     }
 
     /// Keeps why a call was refused.
     fn keep(&mut self, why: Why)
-        ensures { self.new ≡ record self.old { why = Some why; wants = wants_after why self.old.wants } }
+        ensures kept { self.new ≡ record self.old { why = Some why; wants = wants_after why self.old.wants } }
+        ensures never_falls { self.old.wants ≤ self.new.wants }
     {
         if why == Why::NoMemory {
             self.wants = self.wants.saturating_add(1);
@@ -262,10 +258,10 @@ impl<'sval> Stream<Lent<'sval>> for Checker {
 
     ghost law = { checker_law };
 
-    ghost standing = { standing_of };
+    ghost standing = { checker_standing };
 
     fn take(&mut self, call: Call<'sval, '_>) -> sval_core::Result
-        ensures { Answers checker_law result (standing_of self.old) (lent_call call.entry) (standing_of self.new) }
+        ensures { Answers checker_law result (checker_standing self.old) (lent_call call.entry) (checker_standing self.new) }
     {
         match self.step(call) {
             Ok(()) => {

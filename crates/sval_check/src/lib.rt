@@ -5,7 +5,7 @@
 #![tactic(auto)]
 
 ghost use Rattle.std.specs.Prelude.{◌≡◌, ◌⊎◌, ℕ, Err, OnOk};
-ghost use Rattle.sval_check.specs.Checks.{IsOneValue, IsFirstBad, OnlyRefuses, IsUnfinished, NeedsMemory, Answer, IsDue};
+ghost use Rattle.sval_check.specs.Checks.{IsOneValue, IsFirstBad, OnlyRefuses, IsUnfinished, NeedsMemory, CheckAnswer, IsDue};
 
 mod checker;
 mod error;
@@ -46,7 +46,7 @@ pub fn check<'v, V: Value<'v, Lent<'v>>>(alloc: Global, value: &'v V) -> Result<
     ensures refused { result ≡ Err CheckError.Refused → OnlyRefuses (V.emission value.now) }
     ensures unfinished { result ≡ Err CheckError.Unfinished → IsUnfinished (V.emission value.now) }
     ensures no_memory { result ≡ Err CheckError.NoMemory → NeedsMemory (V.emission value.now).calls }
-    ensures comes { (due : Answer) → IsDue (V.emission value.now) due → (result ≡ due) ⊎ (result ≡ Err CheckError.NoMemory) }
+    ensures comes { (due : CheckAnswer) → IsDue (V.emission value.now) due → (result ≡ due) ⊎ (result ≡ Err CheckError.NoMemory) }
 {
     let mut checker = Checker::new(alloc);
     match value.stream(&mut checker) {

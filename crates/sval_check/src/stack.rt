@@ -8,17 +8,17 @@ ghost use Rattle.sval_check.specs.Frames.{frame_of};
 
 use std::alloc::Global;
 use std::marker::Model;
-use sval_core::NoMemory;
+use sval_core::{Head, NoMemory, Slot};
 
 /// What has begun and has no end yet; of a size that was given, what is still to come.
 #[derive(Clone, Copy)]
 pub(crate) enum Frame {
     /// In a text: its bytes that are still to come.
     Text(Option<usize>),
-    /// In a sequence: its items that are still to come.
-    Seq(Option<usize>),
-    /// In an item of a sequence.
-    Item,
+    /// In a container: its entries that are still to come.
+    Container(Head, Option<usize>),
+    /// In a part of a container.
+    Part(Slot),
 }
 
 /// The frames that are open, seen as the machine's, the innermost first.
@@ -58,10 +58,7 @@ impl Stack {
     pub(crate) fn push(&mut self, frame: Frame) -> Result<(), NoMemory>
         ensures { self.new ≡ (if is_ok result then frame_of frame ∷ self.old else self.old) }
     {
-        match self.frames.push(frame) {
-            Ok(()) => Ok(()),
-            Err(_) => Err(NoMemory),
-        }
+        self.frames.push(frame).map_err(|_| NoMemory)
     }
 
     /// Closes the innermost frame, if there is one.
