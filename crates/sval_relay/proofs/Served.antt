@@ -19,8 +19,8 @@ use Rattle.sval_relay.specs.Verdict.{Verdict, BadLine, BadCall, Unfinished, Key,
 use Rattle.sval_relay.specs.declared.relay.RelayError.{RelayError}
 use Rattle.sval_relay.specs.declared.relay.RelayError.TheVariants.{NoMemory}
 use Rattle.sval_relay.specs.declared.relay.RelayError.TheVariants as answer
-use Rattle.sval_relay.specs.declared.script.ScriptError.{ScriptError}
-use Rattle.sval_relay.specs.declared.script.ScriptError.TheVariants as reading
+use Rattle.sval_script.specs.declared.script.ScriptError.{ScriptError}
+use Rattle.sval_script.specs.declared.script.ScriptError.TheVariants as reading
 use Rattle.sval_relay.specs.Answers.{AnswersScript, of_script}
 use Rattle.sval_relay.specs.Serving.{WritesText, Grows, MayLeave, IsAnswerTo}
 use Rattle.sval_relay.proofs.OneVerdict.{one_of_lines}

@@ -3,8 +3,8 @@ use Rattle.std.specs.Prelude.{◌≡◌, ℕ, ◌⊎◌, List, Option, Result, O
 use Rattle.sval_relay.specs.declared.relay.Way.{Way}
 use Rattle.sval_relay.specs.declared.relay.RelayError.{RelayError}
 use Rattle.sval_relay.specs.declared.relay.RelayError.TheVariants as answer
-use Rattle.sval_relay.specs.declared.script.ScriptError.{ScriptError}
-use Rattle.sval_relay.specs.declared.script.ScriptError.TheVariants as reading
+use Rattle.sval_script.specs.declared.script.ScriptError.{ScriptError}
+use Rattle.sval_script.specs.declared.script.ScriptError.TheVariants as reading
 use Rattle.sval_relay.specs.Verdict.{Verdict, BadLine, BadCall, Unfinished, verdict}
 use Rattle.sval_relay.specs.Serving.{WritesText, Grows, MayLeave, IsAnswerTo}
 

@@ -7,9 +7,6 @@ pub mod Answers
 pub mod Running
 pub mod Failing
 pub mod Reports
-pub mod LineCalls
-pub mod LineFields
-pub mod LineWords
 pub mod Laws
 pub mod Many
 pub mod ManyLeft

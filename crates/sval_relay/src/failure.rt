@@ -9,7 +9,7 @@ ghost use Rattle.sval_relay.specs.Reports.{report_of};
 
 use crate::reading::ReadError;
 use crate::relay::RelayError;
-use crate::script::ScriptError;
+use sval_script::ScriptError;
 use itoa::Buffer;
 use sval_json::{Sink, SinkError, write_all};
 

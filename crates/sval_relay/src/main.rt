@@ -4,14 +4,11 @@
 mod failure;
 #[cfg(test)]
 mod fakes;
-mod field;
 pub mod laws;
-mod line;
 mod reading;
 mod real_source;
 mod relay;
 mod run;
-mod script;
 mod source;
 
 ghost use Rattle.std.specs.Prelude.{◌≡◌, ◌≢◌};

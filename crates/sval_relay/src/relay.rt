@@ -17,7 +17,7 @@ ghost use Rattle.sval_relay.specs.Serving.{WritesText, Grows, MayLeave, IsAnswer
 ghost use Rattle.sval_relay.specs.Verdict.{Verdict, verdict};
 ghost use Rattle.sval_relay.specs.Verdict as found;
 
-use crate::script::{Script, ScriptError};
+use sval_script::{Script, ScriptError};
 use std::alloc::Global;
 use sval_buffer::ValueBuf;
 use sval_check::{CheckError, check};
@@ -146,7 +146,7 @@ fn write_captured<K: Sink>(
     ensures tree_prefix { OnErr result ((tree : Tree) (json : Json) → Spells script.now tree → json_in variants tree ≡ Ok json → AppendsPrefix (K.text out.old) (K.text out.new) (compact json)) }
 {
     // A part takes a line or more; room that isn't filled takes no memory of the system.
-    let captured = capture(alloc, script.lines(), script)?;
+    let captured = capture(alloc, script.line_count() as usize, script)?;
     write_json(out, &captured, variants)
 }
 

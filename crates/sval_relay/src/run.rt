@@ -12,7 +12,7 @@ ghost use Rattle.sval_relay.specs.Verdict.{Verdict, verdict, BadLine, BadCall, U
 use crate::failure::Failure;
 use crate::reading::read_all;
 use crate::relay::{Way, serve_script};
-use crate::script::Script;
+use sval_script::Script;
 use crate::source::Source;
 use std::alloc::Global;
 use sval_json::Sink;

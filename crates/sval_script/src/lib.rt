@@ -1,5 +1,12 @@
-//! Scripts: calls as lines of text. So far this crate holds what a script's lines say (`specs/Lines.antt`), how calls are
-//! printed, and what holds of both ([`laws`]), and no code that runs.
+//! Scripts: calls as lines of text.
+//!
+//! A [`Script`] is read from bytes, and is a value: it makes the calls of its lines. What a line says stands in
+//! `specs/Lines.antt`, how calls are printed in `specs/Printed.antt`, and [`laws`] has what holds of both.
 #![tactic(auto)]
 
+mod field;
 pub mod laws;
+mod line;
+mod script;
+
+pub use script::{Script, ScriptError};

@@ -1,9 +1,0 @@
-use Rattle.std.proofs.Common.{ap, arith, length, string_bytes}
-use Rattle.sval_relay.proofs.ScriptTexts.{calls_of-length}
-use Rattle.sval_relay.proofs.script.Script.lines.Goals as goal
-
-pub returns : goal.returns
-returns c =
-    let count = calls_of-length (string_bytes c.self.inside.texts) c.self.inside.lines.items in
-    let seen = ap length c.self.view_is in
-    omega (arith, count, seen, c.len.ensures)

@@ -1,0 +1,115 @@
+//! Scripts of calls.
+
+ghost use Rattle.std.specs.Prelude.{◌≡◌, ℕ, ◌<◌, ◌^◌, false, IfOk, length};
+ghost use Rattle.sval_script.specs.Lines.{Good, Bad};
+ghost use Rattle.sval_script.specs.Lines as spec;
+ghost use Rattle.sval_script.specs.declared.script.ScriptError.TheVariants as error;
+
+use crate::field::LineError;
+use crate::line::{Line, read_line};
+use memchr::memchr;
+use std::alloc::{AllocFailed, Global};
+use std::marker::Model;
+use sval_core::{Lent, Stream, Value};
+
+/// Why a script wasn't read.
+#[derive(Clone, Copy, Debug, PartialEq, Eq)]
+pub enum ScriptError {
+    /// This line, counted from 1, is the first that spells no call.
+    BadLine { line: u64 },
+    /// There was no memory for the script.
+    NoMemory,
+}
+
+impl<T: Drop> From<AllocFailed<T>> for ScriptError {
+    ghost from_gives = { λ _ r. r ≡ error.NoMemory };
+
+    fn from(_e: AllocFailed<T>) -> ScriptError {
+        ScriptError::NoMemory
+    }
+}
+
+/// A script: the calls of its lines, in order.
+///
+/// The texts stand decoded in one store, one after another in the order of the lines.
+#[derive(Drop)]
+pub struct Script {
+    texts: String,
+    lines: Vec<Line>,
+}
+
+impl Model for Script {
+    ghost use Rattle.std.specs.Prelude.{List};
+    ghost use Rattle.std.specs.String.{string_bytes};
+    ghost use Rattle.sval_label.specs.Calls.{Call};
+    ghost use Rattle.sval_script.specs.LineCalls.{calls_of, HoldsTexts};
+
+    ghost Value = { List Call };
+
+    ghost view = { λ script. calls_of (string_bytes script.texts) script.lines.items };
+
+    ghost invariant = { λ script. HoldsTexts (string_bytes script.texts) script.lines.items };
+}
+
+impl Script {
+    /// Reads a script whole: the calls of its lines, of which each ends with a line feed.
+    ///
+    /// ```
+    /// let script = Script::read(alloc, b"text_begin -\ntext_fragment =6869\ntext_end\n")?;
+    /// assert_eq!(script.line_count(), 3);
+    /// ```
+    ///
+    /// # Errors
+    ///
+    /// [`ScriptError::BadLine`] with the number of the first line that spells no call, also where nothing ends the last
+    /// line. [`ScriptError::NoMemory`] where there was no memory for the lines or their texts.
+    pub fn read(alloc: Global, bytes: &[u8]) -> Result<Script, ScriptError>
+        ensures ok { IfOk result (λ script. spec.lines bytes.now ≡ Good script) }
+        ensures few { IfOk result (λ script. length script < 2 ^ 64) }
+        ensures bad_line { (n : ℕ) → result ≡ Err (ScriptError.BadLine n) → spec.lines bytes.now ≡ Bad n }
+    {
+        let mut texts = Vec::new(alloc);
+        let mut lines = Vec::new(alloc);
+        let mut rest = bytes;
+        while let Some(end) = memchr(b'\n', rest) {
+            let line = lines.len() as u64 + 1;
+            match read_line(&mut texts, &rest[..end]) {
+                Ok(made) => lines.push(made)?,
+                Err(LineError::Bad) => return Err(ScriptError::BadLine { line }),
+                Err(LineError::NoMemory) => return Err(ScriptError::NoMemory),
+            }
+            rest = &rest[end + 1..];
+        }
+        if !rest.is_empty() {
+            let line = lines.len() as u64 + 1;
+            return Err(ScriptError::BadLine { line });
+        }
+        // SAFETY: each text was found to be UTF-8 when it was read.
+        let texts = unsafe { String::from_utf8_unchecked(texts) };
+        Ok(Script { texts, lines })
+    }
+
+    /// The number of its lines.
+    pub fn line_count(&self) -> u64
+        ensures { result ≡ length self.now }
+    {
+        self.lines.len() as u64
+    }
+}
+
+impl<'v> Value<'v, Lent<'v>> for Script {
+    ghost emission = { λ script. record { calls = script; refuses = false } };
+
+    fn stream<S: Stream<Lent<'v>>>(&'v self, stream: &mut S) -> sval_core::Result {
+        let mut texts = self.texts.as_str();
+        for line in &self.lines {
+            let (text, rest) = texts.split_at(line.text_len());
+            stream.take(line.call(text))?;
+            texts = rest;
+        }
+        Ok(())
+    }
+}
+
+#[cfg(test)]
+mod tests;
