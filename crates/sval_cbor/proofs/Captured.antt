@@ -7,7 +7,7 @@ use Rattle.sval_core.specs.Trees.{Tree}
 use Rattle.sval_core.specs.Spells.{Spells}
 use Rattle.sval_buffer.specs.Forest.{Node, Nodes, Forest, empty_forest, Holds, forest, end_of, node_calls, row_calls, spine_calls, null_for_none, replayed}
 use Rattle.sval_buffer.specs.Laws.{IsCapturedAs}
-use Rattle.sval_buffer.proofs.Recapture.{is_single, is_begin, IsMade, single, text, binary, container, AreMade, no_nodes, one_more, IsMadeForest, IfHeld, captured-made}
+use Rattle.sval_buffer.proofs.Recapture.{is_single, is_begin, IsMade, single, text, binary, container, AreMade, no_nodes, more_made, IsMadeForest, IfHeld, captured-made}
 use Rattle.sval_buffer.proofs.SameTree.{capture_keeps}
 use Rattle.sval_cbor.specs.Packs.{map_ok, pack_of}
 use Rattle.sval_cbor.specs.Cbor.{cbor}
@@ -52,7 +52,7 @@ mutual
 
   row_whole : {nodes : Nodes} → AreMade nodes → (rest : List Call) → HaveWholeTexts rest → HaveWholeTexts (row_calls nodes ++ rest)
   row_whole no_nodes rest h = h
-  row_whole (one_more {nodes = nodes} {node = node} made last) rest h =
+  row_whole (more_made {nodes = nodes} {node = node} made last) rest h =
       subst HaveWholeTexts (sym (append_assoc (row_calls nodes) (node_calls node) rest)) (row_whole made (node_calls node ++ rest) (node_whole last rest h))
 
 -- ---- captured calls
