@@ -9,10 +9,11 @@ use Rattle.sval_core.specs.Spells.{Says, SayParts, Spells, IsSize, entries, plai
 use Rattle.sval_core.proofs.ManySpellings.{says_before, parts_before}
 use Rattle.sval_buffer.specs.Forest.{empty_forest}
 use Rattle.sval_filter.specs.Paths.{Path, Rule, Fate, LeftOut, Whole, Within, fate_of}
-use Rattle.sval_filter.specs.Pruned.{pruned, placed, key_fate, key_label}
+use Rattle.sval_filter.specs.Pruned.{pruned, placed, key_label}
 use Rattle.sval_filter.specs.Filtering.{with_entry, Mode, Holding, By, Layer, layer, mode_in, entry_in, fate_in, mode_of_part, passed, without_size, layers_after, fresh, all_due}
 use Rattle.sval_filter.proofs.PrunedGood.{pruned_good}
-use Rattle.sval_filter.proofs.Turns.{Passing, whole, within, is_part, Step, steps, no_step, step_of, step_to, turn, hints_passed, plain_append}
+use Rattle.sval_filter.proofs.PartByPart.{key_fate}
+use Rattle.sval_filter.proofs.Turns.{Passing, whole, within, is_part, Crossing, steps, no_step, step_of, step_to, turn, hints_passed, plain_append}
 use Rattle.sval_filter.proofs.PartSteps.{begin_step, end_step, skip_step, key_step, PassesKey}
 use Rattle.sval_filter.proofs.PrunedParts.{by, parts_by, by_leaf, by_tagged, by_enum, by_container, by_none, size_passed, key_said, PassesPart, part_said}
 
@@ -23,7 +24,7 @@ row mode entry = record { mode = mode; entry = entry }
 module _ (rule : Rule) (paths : List Path) where
   -- calls are passed on that spell what is left of a tree
   abbrev PassesTree : Fate → List Layer → Tree → List Call → List Call → Type 0
-  PassesTree fate ls t calls after = Step rule paths ls ls calls (λ x. Says (by rule fate t) x []) after
+  PassesTree fate ls t calls after = Crossing rule paths ls ls calls (λ x. Says (by rule fate t) x []) after
 
   -- ---- trees of one call
 
@@ -32,7 +33,7 @@ module _ (rule : Rule) (paths : List Path) where
   leaf_step fate ls t p calls after passes is other stays plainly same s e =
       step_of rule paths ls ls calls (p ∷ after) after (λ x. Says (by rule fate t) x []) e
       (step_to rule paths ls ls (p ∷ after) after (λ x. x ≡ without_size p ∷ []) (λ x. Says (by rule fate t) x [])
-      (subst (λ x. Step rule paths ls x (p ∷ after) (λ y. y ≡ without_size p ∷ []) after) stays (turn rule paths fate passes ls is p other after))
+      (subst (λ x. Crossing rule paths ls x (p ∷ after) (λ y. y ≡ without_size p ∷ []) after) stays (turn rule paths fate passes ls is p other after))
       (λ x h. subst (λ y. Says (by rule fate t) y []) (sym (h ∙ ap (λ y. y ∷ []) plainly)) (subst (λ y. Says y (p ∷ []) []) (sym same) s)))
 
   -- ---- a begin, what is in it, and an end
@@ -40,14 +41,14 @@ module _ (rule : Rule) (paths : List Path) where
   around_step : (fate : Fate) (ls : List Layer) (begin end : Call) (calls inner after : List Call) (P R : List Call → Type 0) (from to : Layer) → Passing fate → mode_in paths ls ≡ By fate
       → is_part begin ≡ false → layers_after (By fate) ls begin ≡ from ∷ ls
       → to.mode ≡ By fate → is_part end ≡ false → layers_after (By fate) (to ∷ ls) end ≡ ls
-      → calls ≡ begin ∷ inner → Step rule paths (from ∷ ls) (to ∷ ls) inner P (end ∷ after)
-      → ((x : List Call) → P x → R ((without_size begin ∷ []) ++ (x ++ (without_size end ∷ [])))) → Step rule paths ls ls calls R after
+      → calls ≡ begin ∷ inner → Crossing rule paths (from ∷ ls) (to ∷ ls) inner P (end ∷ after)
+      → ((x : List Call) → P x → R ((without_size begin ∷ []) ++ (x ++ (without_size end ∷ [])))) → Crossing rule paths ls ls calls R after
   around_step fate ls begin end calls inner after P R from to passes is other opens there last closes e middle joined =
       step_of rule paths ls ls calls (begin ∷ inner) after R e
       (steps rule paths ls (from ∷ ls) ls (begin ∷ inner) inner after (λ x. x ≡ without_size begin ∷ []) (λ y. R ((without_size begin ∷ []) ++ y)) R
-      (subst (λ x. Step rule paths ls x (begin ∷ inner) (λ y. y ≡ without_size begin ∷ []) inner) opens (turn rule paths fate passes ls is begin other inner))
+      (subst (λ x. Crossing rule paths ls x (begin ∷ inner) (λ y. y ≡ without_size begin ∷ []) inner) opens (turn rule paths fate passes ls is begin other inner))
       (steps rule paths (from ∷ ls) (to ∷ ls) ls inner (end ∷ after) after P (λ y. y ≡ without_size end ∷ []) (λ y. R ((without_size begin ∷ []) ++ y)) middle
-      (subst (λ x. Step rule paths (to ∷ ls) x (end ∷ after) (λ y. y ≡ without_size end ∷ []) after) closes (turn rule paths fate passes (to ∷ ls) there end last after))
+      (subst (λ x. Crossing rule paths (to ∷ ls) x (end ∷ after) (λ y. y ≡ without_size end ∷ []) after) closes (turn rule paths fate passes (to ∷ ls) there end last after))
       (λ x y p f. subst (λ z. R ((without_size begin ∷ []) ++ (x ++ z))) (sym f) (joined x p)))
       (λ x y f r. subst (λ z. R (z ++ y)) (sym f) r))
 
@@ -56,11 +57,11 @@ module _ (rule : Rule) (paths : List Path) where
   module _ (make : List ℕ → Call) (other : (bytes : List ℕ) → is_part (make bytes) ≡ false) (stays : (m : Mode) (ls : List Layer) (bytes : List ℕ) → layers_after m ls (make bytes) ≡ ls)
       (plainly : (bytes : List ℕ) → without_size (make bytes) ≡ make bytes) where
     fragments_step : (fate : Fate) (ls : List Layer) (pieces : List (List ℕ)) (after : List Call) → Passing fate → mode_in paths ls ≡ By fate
-        → Step rule paths ls ls (map make pieces ++ after) (λ x. x ≡ map make pieces) after
+        → Crossing rule paths ls ls (map make pieces ++ after) (λ x. x ≡ map make pieces) after
     fragments_step fate ls [] after passes is = no_step rule paths ls after
     fragments_step fate ls (piece ∷ pieces) after passes is =
         steps rule paths ls ls ls (make piece ∷ (map make pieces ++ after)) (map make pieces ++ after) after (λ x. x ≡ without_size (make piece) ∷ []) (λ x. x ≡ map make pieces) (λ x. x ≡ make piece ∷ map make pieces)
-        (subst (λ x. Step rule paths ls x (make piece ∷ (map make pieces ++ after)) (λ y. y ≡ without_size (make piece) ∷ []) (map make pieces ++ after)) (stays (By fate) ls piece)
+        (subst (λ x. Crossing rule paths ls x (make piece ∷ (map make pieces ++ after)) (λ y. y ≡ without_size (make piece) ∷ []) (map make pieces ++ after)) (stays (By fate) ls piece)
         (turn rule paths fate passes ls is (make piece) (other piece) (map make pieces ++ after)))
         (fragments_step fate ls pieces after passes is)
         (λ x y e f. ap (λ z. z ++ y) (e ∙ ap (λ z. z ∷ []) (plainly piece)) ∙ ap (λ z. make piece ∷ z) f)
@@ -68,11 +69,11 @@ module _ (rule : Rule) (paths : List Path) where
   -- ---- parts
 
   abbrev PassesParts : Fate → Fate → List Layer → Parts → List Call → List Call → Type 0
-  PassesParts fate entry ls p calls after = (last : Fate) × Step rule paths (row (By fate) entry ∷ ls) (row (By fate) last ∷ ls) calls (λ x. SayParts (parts_by rule fate entry p) x []) after
+  PassesParts fate entry ls p calls after = (last : Fate) × Crossing rule paths (row (By fate) entry ∷ ls) (row (By fate) last ∷ ls) calls (λ x. SayParts (parts_by rule fate entry p) x []) after
 
   part_around : (fate g : Fate) (ls : List Layer) (slot ended : Slot) (t : Tree) (inner after : List Call) (P R : List Call → Type 0) → mode_in paths ls ≡ By fate
-      → mode_of_part rule (By fate) (entry_in ls) slot ≡ By g → Step rule paths (layer (By g) ∷ ls) (layer (By g) ∷ ls) inner P (Call.PartEnd ended ∷ after)
-      → ((x : List Call) → P x → R (passed (By g) (Call.PartBegin slot ∷ []) ++ (x ++ passed (By g) (Call.PartEnd ended ∷ [])))) → Step rule paths ls (with_entry Whole ls) (Call.PartBegin slot ∷ inner) R after
+      → mode_of_part rule (By fate) (entry_in ls) slot ≡ By g → Crossing rule paths (layer (By g) ∷ ls) (layer (By g) ∷ ls) inner P (Call.PartEnd ended ∷ after)
+      → ((x : List Call) → P x → R (passed (By g) (Call.PartBegin slot ∷ []) ++ (x ++ passed (By g) (Call.PartEnd ended ∷ [])))) → Crossing rule paths ls (with_entry Whole ls) (Call.PartBegin slot ∷ inner) R after
   part_around fate g ls slot ended t inner after P R is k middle joined =
       let first = passed (By g) (Call.PartBegin slot ∷ []) in
       let last = passed (By g) (Call.PartEnd ended ∷ []) in
@@ -85,7 +86,7 @@ module _ (rule : Rule) (paths : List Path) where
   part_step : (fate g : Fate) (ls : List Layer) (slot : Slot) (t : Tree) (inner after : List Call) → mode_in paths ls ≡ By fate → mode_of_part rule (By fate) (entry_in ls) slot ≡ By g
       → IsGood t → Says t inner (Call.PartEnd (bare_slot slot) ∷ after)
       → (Passing g → PassesTree g (layer (By g) ∷ ls) t inner (Call.PartEnd (bare_slot slot) ∷ after))
-      → Step rule paths ls (with_entry Whole ls) (Call.PartBegin slot ∷ inner) (PassesPart rule g slot t) after
+      → Crossing rule paths ls (with_entry Whole ls) (Call.PartBegin slot ∷ inner) (PassesPart rule g slot t) after
   part_step fate LeftOut ls slot t inner after is k good s next =
       part_around fate LeftOut ls slot (bare_slot slot) t inner after (λ x. x ≡ []) (PassesPart rule LeftOut slot t) is k
       (skip_step rule paths ls t inner (Call.PartEnd (bare_slot slot) ∷ after) good s) (λ x e. ap (λ y. y ++ []) e)
@@ -179,7 +180,7 @@ module _ (rule : Rule) (paths : List Path) where
       → (x : List Call) → SayParts (parts_by rule fate Whole p) x [] → Says (by rule fate (Container head p)) ((without_size (Call.Begin head size) ∷ []) ++ (x ++ (Call.End (bare_head head) ∷ []))) []
   container_said fate head size p o h x s =
       let given = size_passed rule fate head size p o h in
-      subst (λ t. Says t (without_size (Call.Begin head size) ∷ (x ++ (Call.End (bare_head head) ∷ []))) []) (sym (by_container rule fate head p)) (
+      subst (λ t. Says t (without_size (Call.Begin head size) ∷ (x ++ (Call.End (bare_head head) ∷ []))) []) (sym (by_container rule fate head p o)) (
         given.0,
         x ++ (Call.End (bare_head head) ∷ []),
         given.2,

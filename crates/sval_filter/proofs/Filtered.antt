@@ -2,27 +2,30 @@
 use Rattle.std.specs.Prelude.{◌≡◌, Bool, false, List, [], ◌∷◌, ◌++◌, Option, Some, None, refl}
 use Rattle.std.proofs.Common.{sym, ap, subst}
 use Rattle.sval_label.specs.Calls.{Call}
-use Rattle.sval_core.specs.Law.{Law, Ran}
+use Rattle.sval_core.specs.Law.{Law, Standing, Ran, Streams, then_emits}
+use Rattle.sval_core.specs.Values.{makes}
 use Rattle.sval_core.specs.Trees.{Tree}
 use Rattle.sval_core.specs.Spells.{Spells, plain, plain_call}
 use Rattle.sval_core.specs.Checker.{Frame, State, Steps, Runs, done, more}
 use Rattle.sval_core.proofs.Completions.{spelling_is_run}
 use Rattle.sval_core.proofs.ManyRuns.{plain_none, plain_some}
+use Rattle.sval_core.proofs.Determined.{first_step}
+use Rattle.sval_core.proofs.Emissions.{streams_then}
 use Rattle.sval_core.specs.StepLaws.{Goes}
 use Rattle.sval_core.proofs.CheckerSteps.{goes_to, goes_taken}
 use Rattle.sval_filter.specs.Paths.{Path, Rule}
 use Rattle.sval_filter.specs.Pruned.{pruned}
-use Rattle.sval_filter.specs.Filtering as machine
-use Rattle.sval_filter.specs.Filtering.{Filtering, fresh, due, all_due}
-use Rattle.sval_filter.specs.FilterLaw.{View, new_view, all_taken, AcceptsAll, Accepts, after, filter_law}
+use Rattle.sval_filter.specs.Filtering.{fresh, due, kept_after, all_due}
+use Rattle.sval_filter.specs.FilterLaw.{FilterView, new_filter, is_stopped, all_taken, AcceptsAll, Accepts, inner_after, filter_after, filter_law}
+use Rattle.sval_filter.specs.Laws.{InnerTakesPruned, TakesTrees}
 use Rattle.sval_filter.proofs.DueCalls.{due_spells_pruned}
-use Rattle.sval_core.proofs.Determined.{first_step}
 
 -- ---- joined calls
 
-pub ran_both : {V : Type 0} (law : Law V) (first second : List Call) (old middle new : V) → Ran law old first middle → Ran law middle second new → Ran law old (first ++ second) new
-ran_both law [] second old middle new r q = subst (λ x. Ran law x second new) r q
-ran_both law (c ∷ first) second old middle new r q = (r.0, ran_both law first second (law.after old c) middle new r.1 q)
+joined : {V : Type 0} (law : Law V) (old middle new : Standing V) (first second : List Call)
+    → Streams law old (makes first) middle → Streams law middle (makes second) new → Streams law old (makes (first ++ second)) new
+unfolding then_emits
+joined law old middle new first second p q = streams_then p q
 
 accepts_first : {V : Type 0} (law : Law V) (first second : List Call) (old : V) → AcceptsAll law old (first ++ second) → AcceptsAll law old first
 accepts_first law [] second old r = refl
@@ -35,17 +38,14 @@ accepts_second law (c ∷ first) second old r = accepts_second law first second 
 module _ {V : Type 0} (law : Law V) (rule : Rule) (paths : List Path) where
   -- ---- what the inner stream has taken is what was due
 
-  pub inner_takes_due : (calls : List Call) (view last : View V) → Ran (filter_law law rule paths) view calls last → Ran law view.inner (all_due rule paths view.kept calls) last.inner
-  inner_takes_due [] view last r = ap (λ (v : View V). v.inner) r
+  inner_takes_due : (calls : List Call) (view last : FilterView V) → Ran (filter_law law rule paths) view calls last
+      → Streams law view.inner (makes (all_due rule paths view.kept calls)) last.inner
+  inner_takes_due [] view last r =
+      subst (λ (v : FilterView V). Streams law view.inner (makes []) v.inner) (sym r) (record { willing = refl; ran = refl; faults = refl; wants = refl })
   inner_takes_due (c ∷ calls) view last r =
-      ran_both law (due rule paths view.kept c) (all_due rule paths (machine.after rule paths view.kept c) calls) view.inner (all_taken law view.inner (due rule paths view.kept c)) last.inner
-      r.0.passed_on (inner_takes_due calls (after law rule paths view c) last r.1)
-
-  -- of calls that spell a tree it has taken calls that spell what is left of the tree
-  pub inner_takes_pruned : (calls : List Call) (tree : Tree) (inner : V) (last : View V) → Spells calls tree → Ran (filter_law law rule paths) (new_view inner) calls last
-      → (taken : List Call) × Ran law inner taken last.inner × Spells taken (pruned rule paths tree)
-  inner_takes_pruned calls tree inner last s r =
-      (all_due rule paths fresh calls, inner_takes_due calls (new_view inner) last r, due_spells_pruned rule paths calls tree s)
+      let now = due rule paths view.kept c in
+      joined law view.inner (inner_after law view.inner now) last.inner now (all_due rule paths (kept_after rule paths view.kept c) calls)
+      (record { willing = refl; ran = r.0.passed_on; faults = refl; wants = refl }) (inner_takes_due calls (filter_after law rule paths view c) last r.1)
 
   -- ---- and the filter takes them, where the inner stream takes what is due
 
@@ -71,19 +71,23 @@ module _ {V : Type 0} (law : Law V) (rule : Rule) (paths : List Path) where
       )
       by_call (Some p) e = of_step p e (subst (λ x. Runs state.filled state.frames x b' fs') (plain_some c p calls e) r)
 
-  pub filter_takes : (calls : List Call) (view : View V) {b' : Bool} {fs' : List Frame} → view.is_stopped ≡ false → Runs view.state.filled view.state.frames (plain calls) b' fs'
-      → AcceptsAll law view.inner (all_due rule paths view.kept calls) → (last : View V) × Ran (filter_law law rule paths) view calls last
+  filter_takes : (calls : List Call) (view : FilterView V) {b' : Bool} {fs' : List Frame} → is_stopped view.why ≡ false → Runs view.state.filled view.state.frames (plain calls) b' fs'
+      → AcceptsAll law view.inner.view (all_due rule paths view.kept calls) → (last : FilterView V) × Ran (filter_law law rule paths) view calls last
   filter_takes [] view going r a = (view, refl)
   filter_takes (c ∷ calls) view {b'} {fs'} going r a =
       let g = one_goes view.state c calls r in
       let to = goes_to view.state g.0 c g.1 in
       let first = due rule paths view.kept c in
-      let later = all_due rule paths (machine.after rule paths view.kept c) calls in
-      let accepted : Accepts law rule paths view c = record { going = going; viable = goes_taken view.state g.0 c g.1; passed_on = accepts_first law first later view.inner a } in
-      let next = filter_takes calls (after law rule paths view c) going (subst (λ (s : State). Runs s.filled s.frames (plain calls) b' fs') to g.2) (accepts_second law first later view.inner a) in
+      let later = all_due rule paths (kept_after rule paths view.kept c) calls in
+      let accepted : Accepts law rule paths view c = record { goes_on = record { going = going; viable = goes_taken view.state g.0 c g.1 }; passed_on = accepts_first law first later view.inner.view a } in
+      let next = filter_takes calls (filter_after law rule paths view c) going (subst (λ (s : State). Runs s.filled s.frames (plain calls) b' fs') to g.2) (accepts_second law first later view.inner.view a) in
       (next.0, (accepted, next.1))
 
-  -- calls that spell a tree
-  pub filter_takes_a_tree : (calls : List Call) (tree : Tree) (inner : V) → Spells calls tree → AcceptsAll law inner (all_due rule paths fresh calls)
-      → (last : View V) × Ran (filter_law law rule paths) (new_view inner) calls last
-  filter_takes_a_tree calls tree inner s a = filter_takes calls (new_view inner) refl (spelling_is_run calls tree s) a
+-- ---- the laws
+
+pub inner_takes_pruned : {V : Type 0} (law : Law V) → InnerTakesPruned law
+inner_takes_pruned law rule paths calls tree inner last s r =
+    (all_due rule paths fresh calls, inner_takes_due law rule paths calls (new_filter inner) last r, due_spells_pruned rule paths calls tree s)
+
+pub takes_trees : {V : Type 0} (law : Law V) → TakesTrees law
+takes_trees law rule paths calls tree inner s a = filter_takes law rule paths calls (new_filter inner) refl (spelling_is_run calls tree s) a

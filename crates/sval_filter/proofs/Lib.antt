@@ -3,8 +3,8 @@ pub mod NothingDropped
 pub mod Turns
 pub mod Silent
 pub mod PartSteps
+pub mod PartByPart
 pub mod PrunedParts
 pub mod DueCalls
 pub mod Filtered
-pub mod PrunedTrees
-mod PassedCalls
+mod examples

@@ -14,9 +14,8 @@ use Rattle.sval_buffer.specs.Forest.{Forest, empty_forest, replayed}
 use Rattle.sval_buffer.proofs.SameTree.{capture_keeps}
 use Rattle.sval_filter.specs.Paths.{Path, Rule, Fate, LeftOut, Whole, Within}
 use Rattle.sval_filter.specs.Pruned.{key_label}
-use Rattle.sval_filter.specs.Filtering as machine
-use Rattle.sval_filter.specs.Filtering.{Mode, Holding, By, Layer, layer, mode_in, entry_in, with_entry, fragments, text_of, held_label, fate_in, slot_fate, passed, mode_of_part, key_due, due_at_end, after_end, after_in, after, due_in, due, all_due}
-use Rattle.sval_filter.proofs.Turns.{at, Step, hints_passed, plain_append}
+use Rattle.sval_filter.specs.Filtering.{Mode, Holding, By, Layer, layer, mode_in, entry_in, with_entry, fragments, text_of, held_label, fate_in, slot_fate, passed, mode_of_part, key_due, due_at_end, kept_after_end, kept_after_in, kept_after, due_in, due, all_due}
+use Rattle.sval_filter.proofs.Turns.{at, Crossing, hints_passed, plain_append}
 use Rattle.sval_filter.proofs.Silent.{holding, left_out, part_begin_is, part_end_is, silent_run, held_all, held_is}
 
 -- ---- the label of a key
@@ -79,7 +78,7 @@ after_hints hints a e = plain_append hints a ∙ ap (λ x. x ++ plain a) e
 
 module _ (rule : Rule) (paths : List Path) where
   pub begin_step : (fate : Fate) (ls : List Layer) (slot : Slot) (m : Mode) (after : List Call) → mode_in paths ls ≡ By fate → mode_of_part rule (By fate) (entry_in ls) slot ≡ m
-      → Step rule paths ls (layer m ∷ ls) (Call.PartBegin slot ∷ after) (λ x. x ≡ passed m (Call.PartBegin slot ∷ [])) after
+      → Crossing rule paths ls (layer m ∷ ls) (Call.PartBegin slot ∷ after) (λ x. x ≡ passed m (Call.PartBegin slot ∷ [])) after
   begin_step fate ls slot m after is k raw e =
       let n = next_call raw (Call.PartBegin slot) after e in
       let c = part_begin_is n.call slot n.is in
@@ -87,13 +86,13 @@ module _ (rule : Rule) (paths : List Path) where
       let same : mode_of_part rule (By fate) (entry_in ls) c.0 ≡ m = mode_plain rule (By fate) (entry_in ls) c.0 ∙ ap (mode_of_part rule (By fate) (entry_in ls)) c.2 ∙ k in
       let due_is : due rule paths (at ls empty_forest) n.call ≡ passed m (Call.PartBegin c.0 ∷ []) =
       ap (λ x. due_in rule paths x ls empty_forest n.call) is ∙ ap (λ x. due_in rule paths (By fate) ls empty_forest x) c.1 ∙ ap (λ x. passed x (Call.PartBegin c.0 ∷ [])) same in
-      let after_is : machine.after rule paths (at ls empty_forest) n.call ≡ at (layer m ∷ ls) empty_forest =
-      ap (λ x. after_in rule paths x ls empty_forest n.call) is ∙ ap (λ x. after_in rule paths (By fate) ls empty_forest x) c.1 ∙ ap (λ x. at (layer x ∷ ls) empty_forest) same in
+      let after_is : kept_after rule paths (at ls empty_forest) n.call ≡ at (layer m ∷ ls) empty_forest =
+      ap (λ x. kept_after_in rule paths x ls empty_forest n.call) is ∙ ap (λ x. kept_after_in rule paths (By fate) ls empty_forest x) c.1 ∙ ap (λ x. at (layer x ∷ ls) empty_forest) same in
       record {
         rest = n.rest;
         out = hints.0 ++ passed m (Call.PartBegin c.0 ∷ []);
         goes = ap (all_due rule paths (at ls empty_forest)) n.whole ∙ hints.1
-            ∙ ap (λ x. hints.0 ++ (x ++ all_due rule paths (machine.after rule paths (at ls empty_forest) n.call) n.rest)) due_is
+            ∙ ap (λ x. hints.0 ++ (x ++ all_due rule paths (kept_after rule paths (at ls empty_forest) n.call) n.rest)) due_is
             ∙ ap (λ x. hints.0 ++ (passed m (Call.PartBegin c.0 ∷ []) ++ all_due rule paths x n.rest)) after_is
             ∙ sym (append_assoc hints.0 (passed m (Call.PartBegin c.0 ∷ [])) (all_due rule paths (at (layer m ∷ ls) empty_forest) n.rest));
         left = n.after;
@@ -101,19 +100,19 @@ module _ (rule : Rule) (paths : List Path) where
       }
 
   pub end_step : (fate : Fate) (ls : List Layer) (slot : Slot) (after : List Call)
-      → Step rule paths (layer (By fate) ∷ ls) (with_entry Whole ls) (Call.PartEnd slot ∷ after) (λ x. x ≡ passed (By fate) (Call.PartEnd slot ∷ [])) after
+      → Crossing rule paths (layer (By fate) ∷ ls) (with_entry Whole ls) (Call.PartEnd slot ∷ after) (λ x. x ≡ passed (By fate) (Call.PartEnd slot ∷ [])) after
   end_step fate ls slot after raw e =
       let n = next_call raw (Call.PartEnd slot) after e in
       let c = part_end_is n.call slot n.is in
       let from = layer (By fate) ∷ ls in
       let hints = hints_passed rule paths fate from empty_forest refl n.hints (n.call ∷ n.rest) n.none in
       let due_is : due rule paths (at from empty_forest) n.call ≡ passed (By fate) (Call.PartEnd c.0 ∷ []) = ap (due rule paths (at from empty_forest)) c.1 in
-      let after_is : machine.after rule paths (at from empty_forest) n.call ≡ at (with_entry Whole ls) empty_forest = ap (machine.after rule paths (at from empty_forest)) c.1 in
+      let after_is : kept_after rule paths (at from empty_forest) n.call ≡ at (with_entry Whole ls) empty_forest = ap (kept_after rule paths (at from empty_forest)) c.1 in
       record {
         rest = n.rest;
         out = hints.0 ++ passed (By fate) (Call.PartEnd c.0 ∷ []);
         goes = ap (all_due rule paths (at from empty_forest)) n.whole ∙ hints.1
-            ∙ ap (λ x. hints.0 ++ (x ++ all_due rule paths (machine.after rule paths (at from empty_forest) n.call) n.rest)) due_is
+            ∙ ap (λ x. hints.0 ++ (x ++ all_due rule paths (kept_after rule paths (at from empty_forest) n.call) n.rest)) due_is
             ∙ ap (λ x. hints.0 ++ (passed (By fate) (Call.PartEnd c.0 ∷ []) ++ all_due rule paths x n.rest)) after_is
             ∙ sym (append_assoc hints.0 (passed (By fate) (Call.PartEnd c.0 ∷ [])) (all_due rule paths (at (with_entry Whole ls) empty_forest) n.rest));
         left = n.after;
@@ -127,7 +126,7 @@ module _ (rule : Rule) (paths : List Path) where
   nothing_held held (c ∷ calls) = nothing_held held calls
 
   pub skip_step : (ls : List Layer) (t : Tree) (calls after : List Call) → IsGood t → Says t calls after
-      → Step rule paths (layer (By LeftOut) ∷ ls) (layer (By LeftOut) ∷ ls) calls (λ x. x ≡ []) after
+      → Crossing rule paths (layer (By LeftOut) ∷ ls) (layer (By LeftOut) ∷ ls) calls (λ x. x ≡ []) after
   skip_step ls t calls after g s raw e =
       let f = says_front t calls after s in
       let k = cut_calls raw f.front after (e ∙ f.whole) in
@@ -166,7 +165,7 @@ module _ (rule : Rule) (paths : List Path) where
 
   -- a key is held, and given back at its end
   pub key_step : (fate : Fate) (ls : List Layer) (key : Tree) (calls after : List Call) → mode_in paths ls ≡ By fate → IsGood key → Says key calls (Call.PartEnd Slot.Key ∷ after)
-      → Step rule paths (layer Holding ∷ ls) (with_entry (fate_in rule fate (key_label key)) ls) calls (PassesKey (fate_in rule fate (key_label key)) key) after
+      → Crossing rule paths (layer Holding ∷ ls) (with_entry (fate_in rule fate (key_label key)) ls) calls (PassesKey (fate_in rule fate (key_label key)) key) after
   key_step fate ls key calls after is g s raw e =
       let f = says_front key calls (Call.PartEnd Slot.Key ∷ after) s in
       let k = cut_calls raw f.front (Call.PartEnd Slot.Key ∷ after) (e ∙ f.whole) in
@@ -184,14 +183,14 @@ module _ (rule : Rule) (paths : List Path) where
       let whole : raw ≡ held_calls ++ (n.call ∷ n.rest) = k.whole ∙ ap (λ x. k.front ++ x) n.whole ∙ sym (append_assoc k.front n.hints (n.call ∷ n.rest)) in
       let due_is : due rule paths (at base held) n.call ≡ key_due entry held c.0 =
       ap (due rule paths (at base held)) c.1 ∙ ap (λ x. due_at_end rule Holding x held c.0) is ∙ ap (λ x. key_due x held c.0) named in
-      let after_is : machine.after rule paths (at base held) n.call ≡ at (with_entry entry ls) empty_forest =
-      ap (machine.after rule paths (at base held)) c.1 ∙ ap (λ x. after_end rule Holding x ls held c.0) is ∙ ap (λ x. at (with_entry x ls) empty_forest) named in
+      let after_is : kept_after rule paths (at base held) n.call ≡ at (with_entry entry ls) empty_forest =
+      ap (kept_after rule paths (at base held)) c.1 ∙ ap (λ x. kept_after_end rule Holding x ls held c.0) is ∙ ap (λ x. at (with_entry x ls) empty_forest) named in
       record {
         rest = n.rest;
         out = key_due entry held c.0;
         goes = ap (all_due rule paths (at base empty_forest)) whole
             ∙ silent_run rule paths Holding holding base refl refl held_calls empty_forest (n.call ∷ n.rest) (spelling_is_run held_calls key spells)
-            ∙ ap (λ x. x ++ all_due rule paths (machine.after rule paths (at base held) n.call) n.rest) due_is
+            ∙ ap (λ x. x ++ all_due rule paths (kept_after rule paths (at base held) n.call) n.rest) due_is
             ∙ ap (λ x. key_due entry held c.0 ++ all_due rule paths x n.rest) after_is;
         left = n.after;
         says = key_passed entry key held c.0 c.2 replay;

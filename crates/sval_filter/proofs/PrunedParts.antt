@@ -3,12 +3,14 @@ use Rattle.std.specs.Prelude.{◌≡◌, ℕ, ◌+◌, List, [], ◌∷◌, ◌+
 use Rattle.std.proofs.Common.{sym, ap, ◌∙◌, subst, append_assoc}
 use Rattle.sval_label.specs.Calls.{Call, Head, Slot}
 use Rattle.sval_core.specs.Trees as tree
-use Rattle.sval_core.specs.Trees.{Tree, Tagged, Enum, Container, Parts, none, part, Kind, Item, Place, kind_of, next_kind, AreInOrder, IsGood, AreGood}
+use Rattle.sval_core.specs.Trees.{Tree, Tagged, Enum, Container, Parts, none, part, Item, Place, kind_of, AreInOrder}
 use Rattle.sval_core.specs.Spells.{Says, SayParts, IsSize, entries, bare_slot}
 use Rattle.sval_core.proofs.ManySpellings.{says_before}
 use Rattle.sval_filter.specs.Paths.{Path, Rule, Fate, LeftOut, Whole, Within}
-use Rattle.sval_filter.specs.Pruned.{pruned, pruned_parts, placed, key_fate}
+use Rattle.sval_filter.specs.Pruned.{pruned, placed}
 use Rattle.sval_filter.specs.Filtering.{without_size}
+use Rattle.sval_filter.proofs.PrunedGood.{may_end}
+use Rattle.sval_filter.proofs.PartByPart.{key_fate, parts_from, parts_alike}
 use Rattle.sval_filter.proofs.PartSteps.{PassesKey}
 
 -- ---- pruning where calls are passed on
@@ -21,7 +23,7 @@ by rule (Within rests) t = pruned rule rests t
 abbrev pub parts_by : Rule → Fate → Fate → Parts → Parts
 parts_by rule LeftOut entry p = p
 parts_by rule Whole entry p = p
-parts_by rule (Within rests) entry p = pruned_parts rule rests entry p
+parts_by rule (Within rests) entry p = parts_from rule rests entry p
 
 pub by_leaf : (rule : Rule) (fate : Fate) (t : Tree) → ((rests : List Path) → pruned rule rests t ≡ t) → by rule fate t ≡ t
 by_leaf rule LeftOut t h = refl
@@ -38,10 +40,10 @@ by_enum rule LeftOut name t = refl
 by_enum rule Whole name t = refl
 by_enum rule (Within rests) name t = refl
 
-pub by_container : (rule : Rule) (fate : Fate) (head : Head) (p : Parts) → by rule fate (Container head p) ≡ Container head (parts_by rule fate Whole p)
-by_container rule LeftOut head p = refl
-by_container rule Whole head p = refl
-by_container rule (Within rests) head p = refl
+pub by_container : (rule : Rule) (fate : Fate) (head : Head) (p : Parts) → AreInOrder (tree.first_kind head) p → by rule fate (Container head p) ≡ Container head (parts_by rule fate Whole p)
+by_container rule LeftOut head p o = refl
+by_container rule Whole head p o = refl
+by_container rule (Within rests) head p o = ap (Container head) (parts_alike rule rests (tree.first_kind head) p (may_end head) o)
 
 pub by_none : (rule : Rule) (fate entry : Fate) → parts_by rule fate entry none ≡ none
 by_none rule LeftOut entry = refl
@@ -50,12 +52,12 @@ by_none rule (Within rests) entry = refl
 
 -- ---- sizes: no part of a sequence or a tuple is left out
 
-items_kept : (rule : Rule) (rests : List Path) (entry : Fate) (p : Parts) → AreInOrder Item p → entries (pruned_parts rule rests entry p) ≡ entries p
+items_kept : (rule : Rule) (rests : List Path) (entry : Fate) (p : Parts) → AreInOrder Item p → entries (parts_from rule rests entry p) ≡ entries p
 items_kept rule rests entry none o = refl
 items_kept rule rests entry (part Slot.Item t p) o = ap (λ n. 1 + n) (items_kept rule rests Whole p o.1)
 items_kept rule rests entry (part slot t p) o = cc (o.0)
 
-places_kept : (rule : Rule) (rests : List Path) (entry : Fate) (p : Parts) → AreInOrder Place p → entries (pruned_parts rule rests entry p) ≡ entries p
+places_kept : (rule : Rule) (rests : List Path) (entry : Fate) (p : Parts) → AreInOrder Place p → entries (parts_from rule rests entry p) ≡ entries p
 places_kept rule rests entry none o = refl
 places_kept rule rests entry (part (Slot.Place tag index) t p) o = ap (λ n. 1 + n) (places_kept rule rests Whole p o.1)
 places_kept rule rests entry (part slot t p) o = cc (o.0)

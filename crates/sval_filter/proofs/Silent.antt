@@ -7,9 +7,10 @@ use Rattle.sval_core.specs.Trees.{next_kind, plain_slot}
 use Rattle.sval_core.specs.Spells.{plain, plain_call, bare_slot}
 use Rattle.sval_core.specs.Checker.{Frame, InContainer, InPart, Steps, null, truth, int, standalone, text_begin, text_fragment, text_end, binary_begin, binary_fragment, binary_end, tagged_begin, tagged_end, enum_begin, enum_end, begin, end, part_begin, part_end, Runs, done, more}
 use Rattle.sval_core.proofs.ManyRuns.{plain_none, plain_some}
-use Rattle.sval_buffer.specs.Forest.{Forest, empty_forest, Answer, Taken, Refused, take, forest_from, forest, Holds, RefusedAt}
+use Rattle.sval_buffer.specs.Forest.{Forest, empty_forest, CaptureAnswer, Becomes, Rejects, take, forest_from, forest, Holds, RefusedAt}
+use Rattle.sval_buffer.specs.Capture.{forest_by}
 use Rattle.sval_filter.specs.Paths.{Path, Rule, Fate, LeftOut, Whole, Within}
-use Rattle.sval_filter.specs.Filtering.{with_entry, hint_due, Mode, Holding, By, Layer, layer, mode_in, entry_in, passed, without_size, taken_or, held_after, layers_after, mode_of_part, due_at_end, after_end, after_in, after, due_in, due, all_due}
+use Rattle.sval_filter.specs.Filtering.{with_entry, hint_due, Mode, Holding, By, Layer, layer, mode_in, entry_in, passed, without_size, held_after, layers_after, mode_of_part, due_at_end, kept_after_end, kept_after_in, kept_after, due_in, due, all_due}
 use Rattle.sval_filter.proofs.Turns.{at, is_part, part_plain, layers_plain, after_other, due_other, after_hint, due_hint}
 use Rattle.sval_core.proofs.Determined.{first_step}
 
@@ -45,7 +46,7 @@ part_silent rule (By LeftOut) left_out entry slot = refl
 part_silent rule (By Whole) s entry slot = elim s [ ]
 part_silent rule (By (Within paths)) s entry slot = elim s [ ]
 
-end_silent : (rule : Rule) (m : Mode) → Silent m → (layers : List Layer) (held : Forest) (slot : Slot) → after_end rule m m layers held slot ≡ at (with_entry Whole layers) (held_after m held (Call.PartEnd slot))
+end_silent : (rule : Rule) (m : Mode) → Silent m → (layers : List Layer) (held : Forest) (slot : Slot) → kept_after_end rule m m layers held slot ≡ at (with_entry Whole layers) (held_after m held (Call.PartEnd slot))
 end_silent rule Holding holding layers held slot = refl
 end_silent rule (By LeftOut) left_out layers held slot = refl
 end_silent rule (By Whole) s layers held slot = elim s [ ]
@@ -98,13 +99,13 @@ part_end_is c s e = cc e
 module _ (rule : Rule) (paths : List Path) (m : Mode) (silent : Silent m) (base : List Layer) (is : mode_in paths base ≡ m) (no_entry : with_entry Whole base ≡ base) where
   -- after a call there are the layers of the frames after it, and nothing was passed on
   abbrev Quiet : List Frame → List Frame → Forest → Call → Type 0
-  Quiet fs fs' h c = (after rule paths (at (above m fs base) h) c ≡ at (above m fs' base) (held_after m h c)) × (due rule paths (at (above m fs base) h) c ≡ [])
+  Quiet fs fs' h c = (kept_after rule paths (at (above m fs base) h) c ≡ at (above m fs' base) (held_after m h c)) × (due rule paths (at (above m fs base) h) c ≡ [])
 
   quiet_other : {b b' : Bool} (fs fs' : List Frame) (h : Forest) (c p : Call) → plain_call c ≡ Some p → Steps b fs p b' fs' → is_part p ≡ false → Quiet fs fs' h c
   quiet_other fs fs' h c p e s other =
       let here = mode_above paths m fs base is in
       let no_part : is_part c ≡ false = part_plain c p e ∙ other in (
-        ap (λ x. after_in rule paths x (above m fs base) h c) here ∙ after_other rule paths m (above m fs base) h c no_part
+        ap (λ x. kept_after_in rule paths x (above m fs base) h c) here ∙ after_other rule paths m (above m fs base) h c no_part
             ∙ ap (λ x. at x (held_after m h c)) (layers_plain m (above m fs base) c p e ∙ layered m base s other),
         ap (λ x. due_in rule paths x (above m fs base) h c) here ∙ due_other rule paths m (above m fs base) h c p e no_part ∙ passed_none m silent (without_size c ∷ []),
       )
@@ -114,7 +115,7 @@ module _ (rule : Rule) (paths : List Path) (m : Mode) (silent : Silent m) (base 
       let here = mode_above paths m fs base is in
       let inner = part_silent rule m silent (entry_in (above m fs base)) slot in
       let same : layer m ∷ above m fs base ≡ above m gs base = ap (λ x. layer m ∷ above m x base) e ∙ sym (ap (λ x. above m x base) k) in (
-        ap (λ x. after_in rule paths x (above m fs base) h (Call.PartBegin slot)) here
+        ap (λ x. kept_after_in rule paths x (above m fs base) h (Call.PartBegin slot)) here
             ∙ ap (λ x. at (layer x ∷ above m fs base) (held_after m h (Call.PartBegin slot))) inner ∙ ap (λ x. at x (held_after m h (Call.PartBegin slot))) same,
         ap (λ x. due_in rule paths x (above m fs base) h (Call.PartBegin slot)) here ∙ ap (λ x. passed x (Call.PartBegin slot ∷ [])) inner ∙ passed_none m silent (Call.PartBegin slot ∷ []),
       )
@@ -122,7 +123,7 @@ module _ (rule : Rule) (paths : List Path) (m : Mode) (silent : Silent m) (base 
   quiet_end : (f : Frame) (fs : List Frame) (h : Forest) (slot : Slot) → Quiet (f ∷ fs) fs h (Call.PartEnd slot)
   quiet_end f fs h slot =
       let below = mode_above paths m fs base is in (
-        ap (λ x. after_end rule m x (above m fs base) h slot) below ∙ end_silent rule m silent (above m fs base) h slot
+        ap (λ x. kept_after_end rule m x (above m fs base) h slot) below ∙ end_silent rule m silent (above m fs base) h slot
             ∙ ap (λ x. at x (held_after m h (Call.PartEnd slot))) (entry_above m fs base no_entry),
         ap (λ x. due_at_end rule m x h slot) below ∙ end_passes_none rule m silent h slot,
       )
@@ -145,11 +146,11 @@ module _ (rule : Rule) (paths : List Path) (m : Mode) (silent : Silent m) (base 
 
   -- ---- calls that the machine takes
 
-  taken_silently : (raw : List Call) (fs gs : List Frame) (h held : Forest) (c : Call) → after rule paths (at (above m fs base) h) c ≡ at (above m gs base) held
+  taken_silently : (raw : List Call) (fs gs : List Frame) (h held : Forest) (c : Call) → kept_after rule paths (at (above m fs base) h) c ≡ at (above m gs base) held
       → due rule paths (at (above m fs base) h) c ≡ []
       → all_due rule paths (at (above m fs base) h) (c ∷ raw) ≡ all_due rule paths (at (above m gs base) held) raw
   taken_silently raw fs gs h held c e d =
-      ap (λ x. x ++ all_due rule paths (after rule paths (at (above m fs base) h) c) raw) d ∙ ap (λ x. all_due rule paths x raw) e
+      ap (λ x. x ++ all_due rule paths (kept_after rule paths (at (above m fs base) h) c) raw) d ∙ ap (λ x. all_due rule paths x raw) e
 
   pub silent_run : (calls : List Call) {b b' : Bool} {fs fs' : List Frame} (h : Forest) (raw : List Call) → Runs b fs (plain calls) b' fs'
       → all_due rule paths (at (above m fs base) h) (calls ++ raw) ≡ all_due rule paths (at (above m fs' base) (held_all m h calls)) raw
@@ -177,10 +178,10 @@ unfolding forest_from
 holds_that held g [] n e = let same : held ≡ g = cc e in same
 holds_that held g (c ∷ calls) n e = by_answer (λ f k. holds_that f g calls (n + 1) k) (take held (computed c)) e
   where
-    by_answer : ((f : Forest) → forest_from f (n + 1) (map computed calls) ≡ Holds g → held_all Holding f calls ≡ g) → (answer : Answer)
-        → elim answer [ Taken f ↦ forest_from f (n + 1) (map computed calls) | Refused refusal ↦ RefusedAt n refusal ] ≡ Holds g → held_all Holding (taken_or held answer) calls ≡ g
-    by_answer next (Taken f) k = next f k
-    by_answer next (Refused refusal) k = cc k
+    by_answer : ((f : Forest) → forest_from f (n + 1) (map computed calls) ≡ Holds g → held_all Holding f calls ≡ g) → (answer : CaptureAnswer)
+        → elim answer [ Becomes f ↦ forest_from f (n + 1) (map computed calls) | Rejects misfit ↦ RefusedAt n misfit ] ≡ Holds g → held_all Holding (forest_by answer held) calls ≡ g
+    by_answer next (Becomes f) k = next f k
+    by_answer next (Rejects misfit) k = cc k
 
 pub held_is : (calls : List Call) (g : Forest) → forest (map computed calls) ≡ Holds g → held_all Holding empty_forest calls ≡ g
 held_is calls g e = holds_that empty_forest g calls 1 e

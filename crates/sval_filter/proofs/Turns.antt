@@ -8,8 +8,7 @@ use Rattle.sval_core.proofs.ManyRuns.{plain_none, plain_some}
 use Rattle.sval_core.proofs.Segments.{next_call}
 use Rattle.sval_buffer.specs.Forest.{Forest, empty_forest}
 use Rattle.sval_filter.specs.Paths.{Path, Rule, Fate, LeftOut, Whole, Within}
-use Rattle.sval_filter.specs.Filtering as machine
-use Rattle.sval_filter.specs.Filtering.{Mode, Holding, By, Layer, Filtering, mode_in, entry_in, hint_due, outer, passed, without_size, held_after, layers_after, after_in, after, due_in, due, all_due}
+use Rattle.sval_filter.specs.Filtering.{Mode, Holding, By, Layer, Filtering, mode_in, entry_in, hint_due, passed, without_size, held_after, layers_after, kept_after_in, kept_after, due_in, due, all_due}
 
 abbrev pub at : List Layer → Forest → Filtering
 at layers held = record { layers = layers; held = held }
@@ -64,7 +63,7 @@ hint_says (By (Within others)) (Within rests) c e = plain_none c [] e
 
 module _ (rule : Rule) (paths : List Path) where
   -- a call that is neither a part's begin nor its end
-  pub after_other : (m : Mode) (ls : List Layer) (h : Forest) (c : Call) → is_part c ≡ false → after_in rule paths m ls h c ≡ at (layers_after m ls c) (held_after m h c)
+  pub after_other : (m : Mode) (ls : List Layer) (h : Forest) (c : Call) → is_part c ≡ false → kept_after_in rule paths m ls h c ≡ at (layers_after m ls c) (held_after m h c)
   after_other m ls h (Call.PartBegin slot) e = cc e
   after_other m ls h (Call.PartEnd slot) e = cc e
   after_other m ls h c e = refl
@@ -88,9 +87,9 @@ module _ (rule : Rule) (paths : List Path) where
   hint_layers m ls c e = cc e
 
   -- a hint leaves the layers
-  pub after_hint : (m : Mode) (ls : List Layer) (h : Forest) (c : Call) → plain_call c ≡ None → mode_in paths ls ≡ m → after rule paths (at ls h) c ≡ at ls (held_after m h c)
+  pub after_hint : (m : Mode) (ls : List Layer) (h : Forest) (c : Call) → plain_call c ≡ None → mode_in paths ls ≡ m → kept_after rule paths (at ls h) c ≡ at ls (held_after m h c)
   after_hint m ls h c e i =
-      ap (λ x. after_in rule paths x ls h c) i ∙ after_other m ls h c (hint_no_part c e) ∙ ap (λ x. at x (held_after m h c)) (hint_layers m ls c e)
+      ap (λ x. kept_after_in rule paths x ls h c) i ∙ after_other m ls h c (hint_no_part c e) ∙ ap (λ x. at x (held_after m h c)) (hint_layers m ls c e)
 
   pub due_hint : (m : Mode) (ls : List Layer) (h : Forest) (c : Call) → plain_call c ≡ None → mode_in paths ls ≡ m → due rule paths (at ls h) c ≡ hint_due m (entry_in ls) c
   due_hint m ls h c e i = ap (λ x. due_in rule paths x ls h c) i ∙ due_of_hint m ls h c e
@@ -99,7 +98,7 @@ module _ (rule : Rule) (paths : List Path) where
 
   -- Of these calls, and what comes after them, the filter passes on calls that say what is asked for, and comes from these layers to those. No key is
   -- held before and after.
-  pub record Goes (from to : List Layer) (raw : List Call) (Passes : List Call → Type 0) (after : List Call) : Type 0 where
+  pub record Passage (from to : List Layer) (raw : List Call) (Passes : List Call → Type 0) (after : List Call) : Type 0 where
     pub rest : List Call
     pub out : List Call
     pub goes : all_due rule paths (at from empty_forest) raw ≡ out ++ all_due rule paths (at to empty_forest) rest
@@ -107,11 +106,11 @@ module _ (rule : Rule) (paths : List Path) where
     pub says : Passes (plain out)
 
   -- so of any calls that say these
-  abbrev pub Step : List Layer → List Layer → List Call → (List Call → Type 0) → List Call → Type 0
-  Step from to calls Passes after = (raw : List Call) → plain raw ≡ calls → Goes from to raw Passes after
+  abbrev pub Crossing : List Layer → List Layer → List Call → (List Call → Type 0) → List Call → Type 0
+  Crossing from to calls Passes after = (raw : List Call) → plain raw ≡ calls → Passage from to raw Passes after
 
-  pub steps : (from middle to : List Layer) (calls between after : List Call) (P Q R : List Call → Type 0) → Step from middle calls P between → Step middle to between Q after
-      → ((first second : List Call) → P first → Q second → R (first ++ second)) → Step from to calls R after
+  pub steps : (from middle to : List Layer) (calls between after : List Call) (P Q R : List Call → Type 0) → Crossing from middle calls P between → Crossing middle to between Q after
+      → ((first second : List Call) → P first → Q second → R (first ++ second)) → Crossing from to calls R after
   steps from middle to calls between after P Q R first second joined raw e =
       let g = first raw e in
       let h = second g.rest g.left in
@@ -123,13 +122,13 @@ module _ (rule : Rule) (paths : List Path) where
         says = subst R (sym (plain_append g.out h.out)) (joined (plain g.out) (plain h.out) g.says h.says);
       }
 
-  pub no_step : (ls : List Layer) (calls : List Call) → Step ls ls calls (λ x. x ≡ []) calls
+  pub no_step : (ls : List Layer) (calls : List Call) → Crossing ls ls calls (λ x. x ≡ []) calls
   no_step ls calls raw e = record { rest = raw; out = []; goes = refl; left = e; says = refl }
 
-  pub step_of : (from to : List Layer) (calls other after : List Call) (P : List Call → Type 0) → calls ≡ other → Step from to other P after → Step from to calls P after
-  step_of from to calls other after P e step = subst (λ x. Step from to x P after) (sym e) step
+  pub step_of : (from to : List Layer) (calls other after : List Call) (P : List Call → Type 0) → calls ≡ other → Crossing from to other P after → Crossing from to calls P after
+  step_of from to calls other after P e step = subst (λ x. Crossing from to x P after) (sym e) step
 
-  pub step_to : (from to : List Layer) (calls after : List Call) (P Q : List Call → Type 0) → Step from to calls P after → ((x : List Call) → P x → Q x) → Step from to calls Q after
+  pub step_to : (from to : List Layer) (calls after : List Call) (P Q : List Call → Type 0) → Crossing from to calls P after → ((x : List Call) → P x → Q x) → Crossing from to calls Q after
   step_to from to calls after P Q step f raw e = let g = step raw e in record { rest = g.rest; out = g.out; goes = g.goes; left = g.left; says = f (plain g.out) g.says }
 
   -- hints are passed on, or nothing is
@@ -146,7 +145,7 @@ module _ (rule : Rule) (paths : List Path) where
             let rest = next (sym (plain_none c hints k) ∙ e) in
             let this = hint_due (By fate) (entry_in ls) c in
             let same : all_due rule paths (at ls h) (c ∷ (hints ++ raw)) ≡ this ++ all_due rule paths (at ls h) (hints ++ raw) =
-            ap (λ x. x ++ all_due rule paths (after rule paths (at ls h) c) (hints ++ raw)) (due_hint (By fate) ls h c k is)
+            ap (λ x. x ++ all_due rule paths (kept_after rule paths (at ls h) c) (hints ++ raw)) (due_hint (By fate) ls h c k is)
             ∙ ap (λ x. this ++ all_due rule paths x (hints ++ raw)) (after_hint (By fate) ls h c k is) in (
               this ++ rest.0,
               same ∙ ap (λ x. this ++ x) rest.1 ∙ sym (append_assoc this rest.0 (all_due rule paths (at ls h) raw)),
@@ -160,7 +159,7 @@ module _ (rule : Rule) (paths : List Path) where
 
   -- a call that is neither a part's begin nor its end is passed on, without its size
   module _ (fate : Fate) (passes : Passing fate) (ls : List Layer) (is : mode_in paths ls ≡ By fate) (p : Call) (other : is_part p ≡ false) where
-    pub turn : (after : List Call) → Step ls (layers_after (By fate) ls p) (p ∷ after) (λ x. x ≡ without_size p ∷ []) after
+    pub turn : (after : List Call) → Crossing ls (layers_after (By fate) ls p) (p ∷ after) (λ x. x ≡ without_size p ∷ []) after
     turn after raw e =
         let n = next_call raw p after e in
         let hints = hints_passed fate ls empty_forest is n.hints (n.call ∷ n.rest) n.none in
@@ -168,14 +167,14 @@ module _ (rule : Rule) (paths : List Path) where
         let to = layers_after (By fate) ls p in
         let due_is : due rule paths (at ls empty_forest) n.call ≡ without_size n.call ∷ [] =
         ap (λ x. due_in rule paths x ls empty_forest n.call) is ∙ due_other (By fate) ls empty_forest n.call p n.is no_part ∙ passed_call fate passes (without_size n.call) in
-        let after_is : machine.after rule paths (at ls empty_forest) n.call ≡ at to empty_forest =
-        ap (λ x. after_in rule paths x ls empty_forest n.call) is ∙ after_other (By fate) ls empty_forest n.call no_part
+        let after_is : kept_after rule paths (at ls empty_forest) n.call ≡ at to empty_forest =
+        ap (λ x. kept_after_in rule paths x ls empty_forest n.call) is ∙ after_other (By fate) ls empty_forest n.call no_part
         ∙ ap (λ x. at x empty_forest) (layers_plain (By fate) ls n.call p n.is) in
         record {
           rest = n.rest;
           out = hints.0 ++ (without_size n.call ∷ []);
           goes = ap (λ x. all_due rule paths (at ls empty_forest) x) n.whole ∙ hints.1
-              ∙ ap (λ x. hints.0 ++ (x ++ all_due rule paths (machine.after rule paths (at ls empty_forest) n.call) n.rest)) due_is
+              ∙ ap (λ x. hints.0 ++ (x ++ all_due rule paths (kept_after rule paths (at ls empty_forest) n.call) n.rest)) due_is
               ∙ ap (λ x. hints.0 ++ (without_size n.call ∷ all_due rule paths x n.rest)) after_is
               ∙ sym (append_assoc hints.0 (without_size n.call ∷ []) (all_due rule paths (at to empty_forest) n.rest));
           left = n.after;

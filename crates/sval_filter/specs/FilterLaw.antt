@@ -1,30 +1,51 @@
 -- The law of a filter as a stream over another one: which calls it takes, what it passes on, and what a refusal leaves.
-use Rattle.std.specs.Prelude.{◌≡◌, ◌⊎◌, Bool, true, false, List, [], ◌∷◌, ◌++◌, Option, Some, None}
+use Rattle.std.specs.Prelude.{◌≡◌, ℕ, ◌⊎◌, Bool, true, false, List, [], ◌∷◌, Option, Some, None}
 use Rattle.sval_label.specs.Calls.{Call}
-use Rattle.sval_core.specs.Law.{Law, Ran}
+use Rattle.sval_core.specs.Law.{Law, Standing, Ran, Stops, one_more}
+use Rattle.sval_core.specs.Values.{makes}
 use Rattle.sval_core.specs.Checker.{State}
 use Rattle.sval_core.specs.CheckerSteps.{goes_on, state_after}
+use Rattle.sval_check.specs.Checks.{opens}
 use Rattle.sval_filter.specs.Paths.{Path, Rule}
-use Rattle.sval_filter.specs.Filtering as machine
-use Rattle.sval_filter.specs.Filtering.{Filtering, fresh, due}
+use Rattle.sval_filter.specs.Filtering.{Filtering, fresh, Holding, mode_in, due, kept_after}
 
 -- why a call was refused: no value goes on with it, memory was wanting, or the inner stream refused a call that was due
-pub data Why : Type 0 where
-  NotViable : Why
-  NoMemory : Why
-  Inner : Why
+pub data FilterWhy : Type 0 where
+  NotViable : FilterWhy
+  NoMemory : FilterWhy
+  Inner : FilterWhy
 
--- what a filter has taken: the state of the machine that takes viable calls, what is kept to filter them, the inner stream's view,
--- whether that has refused a call that was due, and why the last refused call was refused
-pub record View (V : Type 0) : Type 0 where
+-- what a filter is: the machine's state, what it keeps to filter calls, where the inner stream stands, and of its refusals the last and a count
+pub record FilterView (V : Type 0) : Type 0 where
   pub state : State
   pub kept : Filtering
-  pub inner : V
-  pub is_stopped : Bool
-  pub why : Option Why
+  pub inner : Standing V
+  pub why : Option FilterWhy
+  pub wants : ℕ
 
-abbrev pub new_view : {V : Type 0} → V → View V
-new_view inner = record { state = record { filled = false; frames = [] }; kept = fresh; inner = inner; is_stopped = false; why = None }
+abbrev pub new_filter : {V : Type 0} → Standing V → FilterView V
+new_filter inner = record { state = record { filled = false; frames = [] }; kept = fresh; inner = inner; why = None; wants = 0 }
+
+-- the faults are the inner stream's, and the wants its own
+abbrev pub filter_standing : {V : Type 0} → FilterView V → Standing (FilterView V)
+filter_standing view = record { view = view; faults = view.inner.faults; wants = view.wants }
+
+-- how often it was refused, other than as not viable, once it was for this
+abbrev pub wants_after : FilterWhy → ℕ → ℕ
+wants_after NotViable wants = wants
+wants_after _ wants = one_more wants
+
+-- ---- calls that are taken
+
+-- the inner stream has refused a call that was due: no later call is taken
+abbrev pub is_stopped : Option FilterWhy → Bool
+is_stopped (Some Inner) = true
+is_stopped _ = false
+
+-- the filter isn't stopped, and some value goes on with the call
+pub record GoesOn {V : Type 0} (view : FilterView V) (call : Call) : Type 0 where
+  pub going : is_stopped view.why ≡ false
+  pub viable : goes_on view.state call ≡ true
 
 -- what calls make of a view, if each of them is accepted
 abbrev pub all_taken : {V : Type 0} → Law V → V → List Call → V
@@ -34,53 +55,58 @@ all_taken law view (call ∷ calls) = all_taken law (law.after view call) calls
 abbrev pub AcceptsAll : {V : Type 0} → Law V → V → List Call → Type 0
 AcceptsAll law view calls = Ran law view calls (all_taken law view calls)
 
--- a call is accepted where some value goes on with it and the inner stream accepts the calls that are due, and none after that
--- stream refused one
-pub record Accepts {V : Type 0} (law : Law V) (rule : Rule) (paths : List Path) (view : View V) (call : Call) : Type 0 where
-  pub going : view.is_stopped ≡ false
-  pub viable : goes_on view.state call ≡ true
-  pub passed_on : AcceptsAll law view.inner (due rule paths view.kept call)
+-- a call is accepted where it goes on, and the inner stream accepts the calls that are due
+pub record Accepts {V : Type 0} (law : Law V) (rule : Rule) (paths : List Path) (view : FilterView V) (call : Call) : Type 0 where
+  pub goes_on : GoesOn view call
+  pub passed_on : AcceptsAll law view.inner.view (due rule paths view.kept call)
 
-abbrev pub after : {V : Type 0} → Law V → Rule → List Path → View V → Call → View V
-after law rule paths view call = record {
+-- the inner stream after these calls were taken
+abbrev pub inner_after : {V : Type 0} → Law V → Standing V → List Call → Standing V
+inner_after law inner calls = record inner { view = all_taken law inner.view calls }
+
+abbrev pub filter_after : {V : Type 0} → Law V → Rule → List Path → FilterView V → Call → FilterView V
+filter_after law rule paths view call = record view {
   state = state_after call view.state;
-  kept = machine.after rule paths view.kept call;
-  inner = all_taken law view.inner (due rule paths view.kept call);
-  is_stopped = view.is_stopped;
-  why = view.why;
+  kept = kept_after rule paths view.kept call;
+  inner = inner_after law view.inner (due rule paths view.kept call);
 }
 
--- some first of these calls were taken, and the next one was refused
-pub record StopsWithin {V : Type 0} (law : Law V) (old : V) (calls : List Call) (new : V) : Type 0 where
-  pub front : List Call
-  pub call : Call
-  pub rest : List Call
-  pub whole : calls ≡ front ++ (call ∷ rest)
-  pub middle : V
-  pub ran : Ran law old front middle
-  pub stopped : law.stopped middle call new
+-- ---- calls that are refused
 
--- a refusal as such leaves all but what is kept of it
-abbrev pub LeavesAll : {V : Type 0} → View V → View V → Type 0
-LeavesAll view left = (left.state ≡ view.state) × (left.kept ≡ view.kept) × (left.inner ≡ view.inner) × (left.is_stopped ≡ view.is_stopped)
+-- no value goes on with the call, and the filter isn't stopped
+pub record IsNotViable {V : Type 0} (view : FilterView V) (call : Call) : Type 0 where
+  pub going : is_stopped view.why ≡ false
+  pub not_viable : goes_on view.state call ≡ false
 
--- after a refusal by the inner stream that has taken a front of what was due, and nothing later
-pub record LeavesInner {V : Type 0} (law : Law V) (rule : Rule) (paths : List Path) (view : View V) (call : Call) (left : View V) : Type 0 where
+-- the call goes on, and it may take memory: it begins what has an end of its own, or is held in a key, or is its end
+pub record LacksMemory {V : Type 0} (paths : List Path) (view : FilterView V) (call : Call) : Type 0 where
+  pub goes_on : GoesOn view call
+  pub may_grow : (opens call ≡ true) ⊎ (mode_in paths view.kept.layers ≡ Holding)
+
+-- the call goes on, and the inner stream refused one of the calls that are due
+pub record IsRefusedInside {V : Type 0} (law : Law V) (rule : Rule) (paths : List Path) (view : FilterView V) (call : Call) (inner : Standing V) : Type 0 where
+  pub goes_on : GoesOn view call
+  pub stops : Stops law view.inner (makes (due rule paths view.kept call)) inner
+
+-- the cause of a refusal for this, and what it leaves of the inner stream
+abbrev pub IsFilterCause : {V : Type 0} → Law V → Rule → List Path → FilterView V → Call → Standing V → FilterWhy → Type 0
+IsFilterCause law rule paths view call inner NotViable = IsNotViable view call × (inner ≡ view.inner)
+IsFilterCause law rule paths view call inner NoMemory = LacksMemory paths view call × (inner ≡ view.inner)
+IsFilterCause law rule paths view call inner Inner =
+    ((is_stopped view.why ≡ true) × (inner ≡ view.inner)) ⊎ IsRefusedInside law rule paths view call inner
+
+-- a refused call leaves what the filter keeps, and is the last one that was refused
+pub record IsFilterLeft {V : Type 0} (law : Law V) (rule : Rule) (paths : List Path) (view : FilterView V) (call : Call) (left : FilterView V) : Type 0 where
   pub state : left.state ≡ view.state
   pub kept : left.kept ≡ view.kept
-  pub is_stopped : left.is_stopped ≡ true
-  pub inner : ((view.is_stopped ≡ true) × (left.inner ≡ view.inner)) ⊎ ((view.is_stopped ≡ false) × StopsWithin law view.inner (due rule paths view.kept call) left.inner)
+  pub last : FilterWhy
+  pub why : left.why ≡ Some last
+  pub cause : IsFilterCause law rule paths view call left.inner last
+  pub wants : left.wants ≡ wants_after last view.wants
 
-abbrev pub IsLeftBy : {V : Type 0} → Law V → Rule → List Path → View V → Call → View V → Option Why → Type 0
-IsLeftBy law rule paths view call left None = ⊥
-IsLeftBy law rule paths view call left (Some NotViable) =
-    (view.is_stopped ≡ false) × (goes_on view.state call ≡ false) × LeavesAll view left
-IsLeftBy law rule paths view call left (Some NoMemory) = (view.is_stopped ≡ false) × LeavesAll view left
-IsLeftBy law rule paths view call left (Some Inner) = LeavesInner law rule paths view call left
-
-abbrev pub filter_law : {V : Type 0} → Law V → Rule → List Path → Law (View V)
+abbrev pub filter_law : {V : Type 0} → Law V → Rule → List Path → Law (FilterView V)
 filter_law law rule paths = record {
   accepts = λ view call. Accepts law rule paths view call;
-  after = λ view call. after law rule paths view call;
-  stopped = λ view call left. IsLeftBy law rule paths view call left left.why;
+  after = λ view call. filter_after law rule paths view call;
+  stopped = λ view call left. IsFilterLeft law rule paths view call left;
 }

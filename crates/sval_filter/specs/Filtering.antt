@@ -3,21 +3,23 @@ use Rattle.std.specs.Prelude.{ℕ, List, [], ◌∷◌, ◌++◌, map, Option, S
 use Rattle.sval_label.specs.Calls.{Call, Head, Slot}
 use Rattle.sval_core.specs.Law.{computed}
 use Rattle.sval_core.specs.Spells.{plain}
-use Rattle.sval_buffer.specs.Forest.{Forest, empty_forest, Answer, Taken, Refused, take, replayed}
+use Rattle.sval_core.specs.Stacks.{below}
+use Rattle.sval_buffer.specs.Forest.{Forest, empty_forest, take, replayed}
+use Rattle.sval_buffer.specs.Capture.{forest_by}
 use Rattle.sval_filter.specs.Paths.{Path, Rule, Fate, LeftOut, Whole, Within, fate_of}
+use Rattle.sval_filter.specs.Pruned.{part_fate}
 
 -- how calls are treated: held inside a key, and elsewhere by what becomes of what they are in
 pub data Mode : Type 0 where
   Holding : Mode
   By : Fate → Mode
 
--- what has begun and has no end yet: how calls in it are treated, and, of a map, what becomes of the entry whose key has ended and whose value hasn't
+-- what has begun and has no end yet: how calls in it are treated, and what becomes of the entry whose key was the last part in it
 pub record Layer : Type 0 where
   pub mode : Mode
   pub entry : Fate
 
--- what a filter keeps beside the state of the machine that takes viable calls: a layer for each frame of that, the innermost first,
--- and the key that is held
+-- what a filter keeps beside the state of the machine that takes viable calls: a layer for each of its frames, and the held key
 pub record Filtering : Type 0 where
   pub layers : List Layer
   pub held : Forest
@@ -34,10 +36,6 @@ mode_in paths (layer ∷ layers) = layer.mode
 abbrev pub entry_in : List Layer → Fate
 entry_in [] = Whole
 entry_in (layer ∷ layers) = layer.entry
-
-abbrev pub outer : List Layer → List Layer
-outer [] = []
-outer (layer ∷ layers) = layers
 
 abbrev pub layer : Mode → Layer
 layer mode = record { mode = mode; entry = Whole }
@@ -67,9 +65,7 @@ fate_in rule fate label = fate
 -- what becomes of a part that is no key
 abbrev pub slot_fate : Rule → List Path → Fate → Slot → Fate
 slot_fate rule paths entry Slot.Value = entry
-slot_fate rule paths entry (Slot.Field tag label) = fate_of rule paths (Some label.text)
-slot_fate rule paths entry (Slot.FieldPlace tag label index) = fate_of rule paths (Some label.text)
-slot_fate rule paths entry _ = Within paths
+slot_fate rule paths entry slot = part_fate rule paths slot
 
 -- how a part is treated that begins in a layer
 abbrev pub mode_of_part : Rule → Mode → Fate → Slot → Mode
@@ -97,12 +93,9 @@ without_size (Call.Begin (Head.Record name) size) = Call.Begin (Head.Record name
 without_size (Call.Begin (Head.RecordTuple name) size) = Call.Begin (Head.RecordTuple name) None
 without_size call = call
 
-abbrev pub taken_or : Forest → Answer → Forest
-taken_or held (Taken after) = after
-taken_or held (Refused refusal) = held
-
+-- the key that is held after a call
 abbrev pub held_after : Mode → Forest → Call → Forest
-held_after Holding held call = taken_or held (take held (computed call))
+held_after Holding held call = forest_by (take held (computed call)) held
 held_after (By fate) held call = held
 
 -- the layers after a call that is neither a part's begin nor its end
@@ -112,11 +105,11 @@ layers_after mode layers (Call.BinaryBegin size) = layer mode ∷ layers
 layers_after mode layers (Call.EnumBegin name) = layer mode ∷ layers
 layers_after mode layers (Call.TaggedBegin name) = layer mode ∷ layers
 layers_after mode layers (Call.Begin head size) = layer mode ∷ layers
-layers_after mode layers Call.TextEnd = outer layers
-layers_after mode layers Call.BinaryEnd = outer layers
-layers_after mode layers (Call.EnumEnd name) = outer layers
-layers_after mode layers (Call.TaggedEnd name) = outer layers
-layers_after mode layers (Call.End head) = outer layers
+layers_after mode layers Call.TextEnd = below layers
+layers_after mode layers Call.BinaryEnd = below layers
+layers_after mode layers (Call.EnumEnd name) = below layers
+layers_after mode layers (Call.TaggedEnd name) = below layers
+layers_after mode layers (Call.End head) = below layers
 layers_after mode layers call = layers
 
 -- ---- a part's end: that of a key which is inside no other key gives the key back
@@ -130,25 +123,25 @@ abbrev pub due_at_end : Rule → Mode → Mode → Forest → Slot → List Call
 due_at_end rule Holding (By fate) held slot = key_due (fate_in rule fate (held_label held)) held slot
 due_at_end rule mode around held slot = passed mode (Call.PartEnd slot ∷ [])
 
-abbrev pub after_end : Rule → Mode → Mode → List Layer → Forest → Slot → Filtering
-after_end rule Holding (By fate) layers held slot = record { layers = with_entry (fate_in rule fate (held_label held)) layers; held = empty_forest }
-after_end rule mode around layers held slot = record { layers = with_entry Whole layers; held = held_after mode held (Call.PartEnd slot) }
+abbrev pub kept_after_end : Rule → Mode → Mode → List Layer → Forest → Slot → Filtering
+kept_after_end rule Holding (By fate) layers held slot = record { layers = with_entry (fate_in rule fate (held_label held)) layers; held = empty_forest }
+kept_after_end rule mode around layers held slot = record { layers = with_entry Whole layers; held = held_after mode held (Call.PartEnd slot) }
 
 -- ---- a step
 
-abbrev pub after_in : Rule → List Path → Mode → List Layer → Forest → Call → Filtering
-after_in rule paths mode layers held (Call.PartBegin slot) =
+abbrev pub kept_after_in : Rule → List Path → Mode → List Layer → Forest → Call → Filtering
+kept_after_in rule paths mode layers held (Call.PartBegin slot) =
     record { layers = layer (mode_of_part rule mode (entry_in layers) slot) ∷ layers; held = held_after mode held (Call.PartBegin slot) }
-after_in rule paths mode layers held (Call.PartEnd slot) = after_end rule mode (mode_in paths (outer layers)) (outer layers) held slot
-after_in rule paths mode layers held call = record { layers = layers_after mode layers call; held = held_after mode held call }
+kept_after_in rule paths mode layers held (Call.PartEnd slot) = kept_after_end rule mode (mode_in paths (below layers)) (below layers) held slot
+kept_after_in rule paths mode layers held call = record { layers = layers_after mode layers call; held = held_after mode held call }
 
 -- what the filter keeps after a call
-abbrev pub after : Rule → List Path → Filtering → Call → Filtering
-after rule paths kept call = after_in rule paths (mode_in paths kept.layers) kept.layers kept.held call
+abbrev pub kept_after : Rule → List Path → Filtering → Call → Filtering
+kept_after rule paths kept call = kept_after_in rule paths (mode_in paths kept.layers) kept.layers kept.held call
 
 abbrev pub due_in : Rule → List Path → Mode → List Layer → Forest → Call → List Call
 due_in rule paths mode layers held (Call.PartBegin slot) = passed (mode_of_part rule mode (entry_in layers) slot) (Call.PartBegin slot ∷ [])
-due_in rule paths mode layers held (Call.PartEnd slot) = due_at_end rule mode (mode_in paths (outer layers)) held slot
+due_in rule paths mode layers held (Call.PartEnd slot) = due_at_end rule mode (mode_in paths (below layers)) held slot
 due_in rule paths mode layers held (Call.TagHint tag) = hint_due mode (entry_in layers) (Call.TagHint tag)
 due_in rule paths mode layers held call = passed mode (without_size call ∷ [])
 
@@ -156,11 +149,7 @@ due_in rule paths mode layers held call = passed mode (without_size call ∷ [])
 abbrev pub due : Rule → List Path → Filtering → Call → List Call
 due rule paths kept call = due_in rule paths (mode_in paths kept.layers) kept.layers kept.held call
 
--- the calls that are due at a list of calls, and what is kept after them
+-- the calls that are due at a list of calls
 abbrev pub all_due : Rule → List Path → Filtering → List Call → List Call
 all_due rule paths kept [] = []
-all_due rule paths kept (call ∷ calls) = due rule paths kept call ++ all_due rule paths (after rule paths kept call) calls
-
-abbrev pub all_after : Rule → List Path → Filtering → List Call → Filtering
-all_after rule paths kept [] = kept
-all_after rule paths kept (call ∷ calls) = all_after rule paths (after rule paths kept call) calls
+all_due rule paths kept (call ∷ calls) = due rule paths kept call ++ all_due rule paths (kept_after rule paths kept call) calls

@@ -4,9 +4,12 @@ use Rattle.sval_label.specs.Calls.{Call}
 use Rattle.sval_core.specs.Trees.{Tree, IsGood}
 use Rattle.sval_core.specs.Spells.{Spells}
 use Rattle.sval_core.specs.Real.{IsReal}
+use Rattle.sval_core.specs.Law.{Law, Standing, Ran, Streams}
+use Rattle.sval_core.specs.Values.{makes}
 use Rattle.sval_filter.specs.Paths.{Path, Rule, Drop}
 use Rattle.sval_filter.specs.Pruned.{pruned}
 use Rattle.sval_filter.specs.Filtering.{fresh, all_due}
+use Rattle.sval_filter.specs.FilterLaw.{FilterView, new_filter, AcceptsAll, filter_law}
 
 -- what is left of a good tree is good
 abbrev pub PrunedIsGood : Type 0
@@ -18,8 +21,24 @@ PrunedIsReal = (rule : Rule) (paths : List Path) (tree : Tree) → IsReal tree �
 
 -- the calls that a new filter passes on of calls that spell a tree spell what is left of it
 abbrev pub DueCallsSpellPruned : Type 0
-DueCallsSpellPruned = (rule : Rule) (paths : List Path) (calls : List Call) (tree : Tree) → Spells calls tree → Spells (all_due rule paths fresh calls) (pruned rule paths tree)
+DueCallsSpellPruned =
+    (rule : Rule) (paths : List Path) (calls : List Call) (tree : Tree) → Spells calls tree
+    → Spells (all_due rule paths fresh calls) (pruned rule paths tree)
 
 -- dropping by no path leaves a tree as it is
 abbrev pub NothingDropped : Type 0
 NothingDropped = (tree : Tree) → pruned Drop [] tree ≡ tree
+
+-- where a new filter has taken calls that spell a tree, the stream in it has taken calls that spell what is left of the tree
+abbrev pub InnerTakesPruned : {V : Type 0} → Law V → Type 0
+InnerTakesPruned {V} law =
+    (rule : Rule) (paths : List Path) (calls : List Call) (tree : Tree) (inner : Standing V) (last : FilterView V)
+    → Spells calls tree → Ran (filter_law law rule paths) (new_filter inner) calls last
+    → (taken : List Call) × Streams law inner (makes taken) last.inner × Spells taken (pruned rule paths tree)
+
+-- a new filter takes calls that spell a tree, where the stream in it takes the calls that are due
+abbrev pub TakesTrees : {V : Type 0} → Law V → Type 0
+TakesTrees {V} law =
+    (rule : Rule) (paths : List Path) (calls : List Call) (tree : Tree) (inner : Standing V)
+    → Spells calls tree → AcceptsAll law inner.view (all_due rule paths fresh calls)
+    → (last : FilterView V) × Ran (filter_law law rule paths) (new_filter inner) calls last

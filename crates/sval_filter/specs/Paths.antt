@@ -1,5 +1,5 @@
 -- Paths of labels, and what a rule makes of a part of a value by them.
-use Rattle.std.specs.Prelude.{ℕ, ◌==◌, Bool, true, false, if◌then◌else◌, List, [], ◌∷◌, ◌++◌, Option, Some, None, option_map, bytes_eq}
+use Rattle.std.specs.Prelude.{ℕ, ◌==◌, Bool, true, false, if◌then◌else◌, List, [], ◌∷◌, ◌++◌, Option, Some, None, length, option_map, bytes_eq}
 use Rattle.std.specs.List.{filter_map, list_any, slice_split}
 use Rattle.sval_label.specs.Texts.{is_empty}
 
@@ -41,16 +41,9 @@ tail_of label (first ∷ rest) = if bytes_eq first label then Some rest else Non
 abbrev pub tails : List ℕ → List Path → List Path
 tails label paths = filter_map (tail_of label) paths
 
-abbrev pub ends_here : Path → Bool
-ends_here [] = true
-ends_here (label ∷ path) = false
-
+-- one of the paths ends here
 abbrev pub has_end : List Path → Bool
-has_end paths = list_any ends_here paths
-
-abbrev pub has_none : List Path → Bool
-has_none [] = true
-has_none (path ∷ paths) = false
+has_end paths = list_any (λ path. length path == 0) paths
 
 -- what becomes of a part: it is left out, it stays whole, or what is in it is pruned with these paths
 pub data Fate : Type 0 where
@@ -60,7 +53,8 @@ pub data Fate : Type 0 where
 
 abbrev pub fate_by_tails : Rule → List Path → Fate
 fate_by_tails Drop rests = if has_end rests then LeftOut else Within rests
-fate_by_tails Keep rests = if has_none rests then LeftOut else (if has_end rests then Whole else Within rests)
+fate_by_tails Keep [] = LeftOut
+fate_by_tails Keep rests = if has_end rests then Whole else Within rests
 
 -- of a field or an entry with this label, or with none
 abbrev pub fate_of : Rule → List Path → Option (List ℕ) → Fate

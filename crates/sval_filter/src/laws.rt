@@ -1,6 +1,9 @@
 //! The laws of pruning and of the filter, each as a clause that is proved.
 
-ghost use Rattle.sval_filter.specs.Laws.{PrunedIsGood, PrunedIsReal, DueCallsSpellPruned, NothingDropped};
+ghost use Rattle.sval_filter.specs.Laws.{PrunedIsGood, PrunedIsReal, DueCallsSpellPruned, NothingDropped, InnerTakesPruned, TakesTrees};
+
+use sval_core::Stream;
+use sval_label::Lending;
 
 /// What holds of all rules, paths, trees and lists of calls.
 pub fn filter_laws()
@@ -8,4 +11,10 @@ pub fn filter_laws()
     ensures pruned_is_real { PrunedIsReal }
     ensures nothing_dropped { NothingDropped }
     ensures due_calls_spell_pruned { DueCallsSpellPruned }
+{}
+
+/// What holds of a filter over every stream.
+pub fn stream_laws<L: Lending, S: Stream<L>>()
+    ensures inner_takes_pruned { InnerTakesPruned S.law }
+    ensures takes_trees { TakesTrees S.law }
 {}

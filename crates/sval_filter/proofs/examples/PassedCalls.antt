@@ -4,7 +4,7 @@ use Rattle.sval_label.specs.Calls.{Call, Head, Slot, IntType}
 use Rattle.sval_buffer.specs.Forest.{take, forest_from}
 use Rattle.sval_filter.specs.Paths.{Drop, Keep}
 use Rattle.sval_filter.specs.Filtering.{fresh, all_due}
-use Rattle.sval_filter.proofs.PrunedTrees.{named, field, by_words}
+use Rattle.sval_filter.proofs.examples.PrunedTrees.{named, field, by_words}
 
 -- a record of two fields, of which one is left out with all that is in it, goes without its size
 abbrev record_calls : List Call
