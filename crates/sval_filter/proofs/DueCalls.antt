@@ -1,5 +1,5 @@
 -- The calls that a filter passes on of calls that spell a tree spell what is left of the tree.
-use Rattle.std.specs.Prelude.{◌≡◌, ℕ, false, List, [], ◌∷◌, ◌++◌, map, length, Option, Some, refl}
+use Rattle.std.specs.Prelude.{◌≡◌, ℕ, false, List, [], ◌∷◌, ◌++◌, map, length, Option, refl}
 use Rattle.std.specs.List.{concat}
 use Rattle.std.proofs.Common.{sym, ap, ◌∙◌, subst, append-nil}
 use Rattle.sval_label.specs.Calls.{Call, Head, Slot}
@@ -8,12 +8,12 @@ use Rattle.sval_core.specs.Trees.{Tree, Tagged, Enum, Container, Parts, none, pa
 use Rattle.sval_core.specs.Spells.{Says, SayParts, Spells, IsSize, entries, plain, bare_name, bare_head, bare_slot}
 use Rattle.sval_core.proofs.ManySpellings.{says_before, parts_before}
 use Rattle.sval_buffer.specs.Forest.{empty_forest}
-use Rattle.sval_filter.specs.Paths.{Path, Rule, Fate, LeftOut, Whole, Within, fate_of}
+use Rattle.sval_filter.specs.Paths.{Path, Rule, Fate, LeftOut, Stays, Within}
 use Rattle.sval_filter.specs.Pruned.{pruned, placed, key_label}
-use Rattle.sval_filter.specs.Filtering.{with_entry, Mode, Holding, By, Layer, layer, mode_in, entry_in, fate_in, mode_of_part, passed, without_size, layers_after, fresh, all_due}
+use Rattle.sval_filter.specs.Filtering.{with_entry, Mode, Holding, By, Layer, layer, mode_in, entry_in, fate_in, slot_fate, mode_of_part, passed, without_size, layers_after, fresh, all_due}
 use Rattle.sval_filter.proofs.PrunedGood.{pruned_good}
 use Rattle.sval_filter.proofs.PartByPart.{key_fate}
-use Rattle.sval_filter.proofs.Turns.{Passing, whole, within, is_part, Crossing, steps, no_step, step_of, step_to, turn, hints_passed, plain_append}
+use Rattle.sval_filter.proofs.Turns.{Passing, stays, within, is_part, Crossing, steps, no_step, step_of, step_to, turn, hints_passed, plain_append}
 use Rattle.sval_filter.proofs.PartSteps.{begin_step, end_step, skip_step, key_step, PassesKey}
 use Rattle.sval_filter.proofs.PrunedParts.{by, parts_by, by_leaf, by_tagged, by_enum, by_container, by_none, size_passed, key_said, PassesPart, part_said}
 
@@ -30,10 +30,10 @@ module _ (rule : Rule) (paths : List Path) where
 
   leaf_step : (fate : Fate) (ls : List Layer) (t : Tree) (p : Call) (calls after : List Call) → Passing fate → mode_in paths ls ≡ By fate → is_part p ≡ false
       → layers_after (By fate) ls p ≡ ls → without_size p ≡ p → by rule fate t ≡ t → Says t (p ∷ []) [] → calls ≡ p ∷ after → PassesTree fate ls t calls after
-  leaf_step fate ls t p calls after passes is other stays plainly same s e =
+  leaf_step fate ls t p calls after passes is other same_layers plainly same s e =
       step_of rule paths ls ls calls (p ∷ after) after (λ x. Says (by rule fate t) x []) e
       (step_to rule paths ls ls (p ∷ after) after (λ x. x ≡ without_size p ∷ []) (λ x. Says (by rule fate t) x [])
-      (subst (λ x. Crossing rule paths ls x (p ∷ after) (λ y. y ≡ without_size p ∷ []) after) stays (turn rule paths fate passes ls is p other after))
+      (subst (λ x. Crossing rule paths ls x (p ∷ after) (λ y. y ≡ without_size p ∷ []) after) same_layers (turn rule paths fate passes ls is p other after))
       (λ x h. subst (λ y. Says (by rule fate t) y []) (sym (h ∙ ap (λ y. y ∷ []) plainly)) (subst (λ y. Says y (p ∷ []) []) (sym same) s)))
 
   -- ---- a begin, what is in it, and an end
@@ -54,14 +54,14 @@ module _ (rule : Rule) (paths : List Path) where
 
   -- ---- texts and binaries
 
-  module _ (make : List ℕ → Call) (other : (bytes : List ℕ) → is_part (make bytes) ≡ false) (stays : (m : Mode) (ls : List Layer) (bytes : List ℕ) → layers_after m ls (make bytes) ≡ ls)
+  module _ (make : List ℕ → Call) (other : (bytes : List ℕ) → is_part (make bytes) ≡ false) (same_layers : (m : Mode) (ls : List Layer) (bytes : List ℕ) → layers_after m ls (make bytes) ≡ ls)
       (plainly : (bytes : List ℕ) → without_size (make bytes) ≡ make bytes) where
     fragments_step : (fate : Fate) (ls : List Layer) (pieces : List (List ℕ)) (after : List Call) → Passing fate → mode_in paths ls ≡ By fate
         → Crossing rule paths ls ls (map make pieces ++ after) (λ x. x ≡ map make pieces) after
     fragments_step fate ls [] after passes is = no_step rule paths ls after
     fragments_step fate ls (piece ∷ pieces) after passes is =
         steps rule paths ls ls ls (make piece ∷ (map make pieces ++ after)) (map make pieces ++ after) after (λ x. x ≡ without_size (make piece) ∷ []) (λ x. x ≡ map make pieces) (λ x. x ≡ make piece ∷ map make pieces)
-        (subst (λ x. Crossing rule paths ls x (make piece ∷ (map make pieces ++ after)) (λ y. y ≡ without_size (make piece) ∷ []) (map make pieces ++ after)) (stays (By fate) ls piece)
+        (subst (λ x. Crossing rule paths ls x (make piece ∷ (map make pieces ++ after)) (λ y. y ≡ without_size (make piece) ∷ []) (map make pieces ++ after)) (same_layers (By fate) ls piece)
         (turn rule paths fate passes ls is (make piece) (other piece) (map make pieces ++ after)))
         (fragments_step fate ls pieces after passes is)
         (λ x y e f. ap (λ z. z ++ y) (e ∙ ap (λ z. z ∷ []) (plainly piece)) ∙ ap (λ z. make piece ∷ z) f)
@@ -73,42 +73,42 @@ module _ (rule : Rule) (paths : List Path) where
 
   part_around : (fate g : Fate) (ls : List Layer) (slot ended : Slot) (t : Tree) (inner after : List Call) (P R : List Call → Type 0) → mode_in paths ls ≡ By fate
       → mode_of_part rule (By fate) (entry_in ls) slot ≡ By g → Crossing rule paths (layer (By g) ∷ ls) (layer (By g) ∷ ls) inner P (Call.PartEnd ended ∷ after)
-      → ((x : List Call) → P x → R (passed (By g) (Call.PartBegin slot ∷ []) ++ (x ++ passed (By g) (Call.PartEnd ended ∷ [])))) → Crossing rule paths ls (with_entry Whole ls) (Call.PartBegin slot ∷ inner) R after
+      → ((x : List Call) → P x → R (passed (By g) (Call.PartBegin slot ∷ []) ++ (x ++ passed (By g) (Call.PartEnd ended ∷ [])))) → Crossing rule paths ls (with_entry Stays ls) (Call.PartBegin slot ∷ inner) R after
   part_around fate g ls slot ended t inner after P R is k middle joined =
       let first = passed (By g) (Call.PartBegin slot ∷ []) in
       let last = passed (By g) (Call.PartEnd ended ∷ []) in
-      steps rule paths ls (layer (By g) ∷ ls) (with_entry Whole ls) (Call.PartBegin slot ∷ inner) inner after (λ x. x ≡ first) (λ y. R (first ++ y)) R
+      steps rule paths ls (layer (By g) ∷ ls) (with_entry Stays ls) (Call.PartBegin slot ∷ inner) inner after (λ x. x ≡ first) (λ y. R (first ++ y)) R
       (begin_step rule paths fate ls slot (By g) inner is k)
-      (steps rule paths (layer (By g) ∷ ls) (layer (By g) ∷ ls) (with_entry Whole ls) inner (Call.PartEnd ended ∷ after) after P (λ y. y ≡ last) (λ y. R (first ++ y)) middle
+      (steps rule paths (layer (By g) ∷ ls) (layer (By g) ∷ ls) (with_entry Stays ls) inner (Call.PartEnd ended ∷ after) after P (λ y. y ≡ last) (λ y. R (first ++ y)) middle
       (end_step rule paths g ls ended after) (λ x y p f. subst (λ z. R (first ++ (x ++ z))) (sym f) (joined x p)))
       (λ x y f r. subst (λ z. R (z ++ y)) (sym f) r)
 
   part_step : (fate g : Fate) (ls : List Layer) (slot : Slot) (t : Tree) (inner after : List Call) → mode_in paths ls ≡ By fate → mode_of_part rule (By fate) (entry_in ls) slot ≡ By g
       → IsGood t → Says t inner (Call.PartEnd (bare_slot slot) ∷ after)
       → (Passing g → PassesTree g (layer (By g) ∷ ls) t inner (Call.PartEnd (bare_slot slot) ∷ after))
-      → Crossing rule paths ls (with_entry Whole ls) (Call.PartBegin slot ∷ inner) (PassesPart rule g slot t) after
+      → Crossing rule paths ls (with_entry Stays ls) (Call.PartBegin slot ∷ inner) (PassesPart rule g slot t) after
   part_step fate LeftOut ls slot t inner after is k good s next =
       part_around fate LeftOut ls slot (bare_slot slot) t inner after (λ x. x ≡ []) (PassesPart rule LeftOut slot t) is k
       (skip_step rule paths ls t inner (Call.PartEnd (bare_slot slot) ∷ after) good s) (λ x e. ap (λ y. y ++ []) e)
-  part_step fate Whole ls slot t inner after is k good s next =
-      part_around fate Whole ls slot (bare_slot slot) t inner after (λ x. Says t x []) (PassesPart rule Whole slot t) is k (next whole) (λ x h. (x, refl, h))
+  part_step fate Stays ls slot t inner after is k good s next =
+      part_around fate Stays ls slot (bare_slot slot) t inner after (λ x. Says t x []) (PassesPart rule Stays slot t) is k (next stays) (λ x h. (x, refl, h))
   part_step fate (Within rests) ls slot t inner after is k good s next =
       part_around fate (Within rests) ls slot (bare_slot slot) t inner after (λ x. Says (pruned rule rests t) x []) (PassesPart rule (Within rests) slot t) is k (next (within rests)) (λ x h. (x, refl, h))
 
   -- a part, and then others
   one_part : (fate entry : Fate) (ls : List Layer) (slot : Slot) (t : Tree) (p : Parts) (calls inner between after : List Call) (g : Fate)
       → mode_of_part rule (By fate) entry slot ≡ By g
-      → parts_by rule fate entry (part slot t p) ≡ placed g slot t (λ rests. pruned rule rests t) (parts_by rule fate Whole p)
+      → parts_by rule fate entry (part slot t p) ≡ placed g slot t (λ rests. pruned rule rests t) (parts_by rule fate Stays p)
       → IsGood t → calls ≡ Call.PartBegin slot ∷ inner → Says t inner (Call.PartEnd (bare_slot slot) ∷ between)
       → ((g : Fate) (base : List Layer) → Passing g → mode_in paths base ≡ By g → PassesTree g base t inner (Call.PartEnd (bare_slot slot) ∷ between))
-      → PassesParts fate Whole ls p between after → PassesParts fate entry ls (part slot t p) calls after
+      → PassesParts fate Stays ls p between after → PassesParts fate entry ls (part slot t p) calls after
   one_part fate entry ls slot t p calls inner between after g k same good e s ih rest = (
     rest.0,
     step_of rule paths (row (By fate) entry ∷ ls) (row (By fate) rest.0 ∷ ls) calls (Call.PartBegin slot ∷ inner) after (λ x. SayParts (parts_by rule fate entry (part slot t p)) x []) e
-        (steps rule paths (row (By fate) entry ∷ ls) (row (By fate) Whole ∷ ls) (row (By fate) rest.0 ∷ ls) (Call.PartBegin slot ∷ inner) between after
-        (PassesPart rule g slot t) (λ x. SayParts (parts_by rule fate Whole p) x []) (λ x. SayParts (parts_by rule fate entry (part slot t p)) x [])
+        (steps rule paths (row (By fate) entry ∷ ls) (row (By fate) Stays ∷ ls) (row (By fate) rest.0 ∷ ls) (Call.PartBegin slot ∷ inner) between after
+        (PassesPart rule g slot t) (λ x. SayParts (parts_by rule fate Stays p) x []) (λ x. SayParts (parts_by rule fate entry (part slot t p)) x [])
         (part_step fate g (row (By fate) entry ∷ ls) slot t inner between refl k good s (λ q. ih g (layer (By g) ∷ row (By fate) entry ∷ ls) q refl)) rest.1
-        (λ x y a b. subst (λ z. SayParts z (x ++ y) []) (sym same) (part_said rule g slot t (parts_by rule fate Whole p) x y a b))),
+        (λ x y a b. subst (λ z. SayParts z (x ++ y) []) (sym same) (part_said rule g slot t (parts_by rule fate Stays p) x y a b))),
   )
 
   -- a key, and then what follows in its map
@@ -137,30 +137,14 @@ module _ (rule : Rule) (paths : List Path) where
       → ((g : Fate) (base : List Layer) → Passing g → mode_in paths base ≡ By g → PassesTree g base t inner (Call.PartEnd (bare_slot slot) ∷ between))
       → ((e : Fate) → PassesParts fate e ls p between after) → PassesParts fate entry ls (part slot t p) calls after
   by_slot LeftOut entry passes ls slot t p calls inner between after good e s ih next = elim passes [ ]
-  by_slot Whole entry whole ls Slot.Key t p calls inner between after good e s ih next =
-      one_key Whole entry ls t p calls inner between after refl refl good e s (next Whole)
-  by_slot Whole entry whole ls Slot.Item t p calls inner between after good e s ih next =
-      one_part Whole entry ls Slot.Item t p calls inner between after Whole refl refl good e s ih (next Whole)
-  by_slot Whole entry whole ls Slot.Value t p calls inner between after good e s ih next =
-      one_part Whole entry ls Slot.Value t p calls inner between after Whole refl refl good e s ih (next Whole)
-  by_slot Whole entry whole ls (Slot.Field tag label) t p calls inner between after good e s ih next =
-      one_part Whole entry ls (Slot.Field tag label) t p calls inner between after Whole refl refl good e s ih (next Whole)
-  by_slot Whole entry whole ls (Slot.Place tag index) t p calls inner between after good e s ih next =
-      one_part Whole entry ls (Slot.Place tag index) t p calls inner between after Whole refl refl good e s ih (next Whole)
-  by_slot Whole entry whole ls (Slot.FieldPlace tag label index) t p calls inner between after good e s ih next =
-      one_part Whole entry ls (Slot.FieldPlace tag label index) t p calls inner between after Whole refl refl good e s ih (next Whole)
+  by_slot Stays entry stays ls Slot.Key t p calls inner between after good e s ih next =
+      one_key Stays entry ls t p calls inner between after refl refl good e s (next Stays)
+  by_slot Stays entry stays ls slot t p calls inner between after good e s ih next =
+      one_part Stays entry ls slot t p calls inner between after Stays refl refl good e s ih (next Stays)
   by_slot (Within rests) entry (within same) ls Slot.Key t p calls inner between after good e s ih next =
       one_key (Within rests) entry ls t p calls inner between after refl refl good e s (next (fate_in rule (Within rests) (key_label t)))
-  by_slot (Within rests) entry (within same) ls Slot.Item t p calls inner between after good e s ih next =
-      one_part (Within rests) entry ls Slot.Item t p calls inner between after (Within rests) refl refl good e s ih (next Whole)
-  by_slot (Within rests) entry (within same) ls Slot.Value t p calls inner between after good e s ih next =
-      one_part (Within rests) entry ls Slot.Value t p calls inner between after entry refl refl good e s ih (next Whole)
-  by_slot (Within rests) entry (within same) ls (Slot.Field tag label) t p calls inner between after good e s ih next =
-      one_part (Within rests) entry ls (Slot.Field tag label) t p calls inner between after (fate_of rule rests (Some label.text)) refl refl good e s ih (next Whole)
-  by_slot (Within rests) entry (within same) ls (Slot.Place tag index) t p calls inner between after good e s ih next =
-      one_part (Within rests) entry ls (Slot.Place tag index) t p calls inner between after (Within rests) refl refl good e s ih (next Whole)
-  by_slot (Within rests) entry (within same) ls (Slot.FieldPlace tag label index) t p calls inner between after good e s ih next =
-      one_part (Within rests) entry ls (Slot.FieldPlace tag label index) t p calls inner between after (fate_of rule rests (Some label.text)) refl refl good e s ih (next Whole)
+  by_slot (Within rests) entry (within same) ls slot t p calls inner between after good e s ih next =
+      one_part (Within rests) entry ls slot t p calls inner between after (slot_fate rule rests entry slot) refl refl good e s ih (next Stays)
 
   -- ---- trees
 
@@ -177,7 +161,7 @@ module _ (rule : Rule) (paths : List Path) where
       (size, pieces, h, k, ap (λ y. Call.BinaryBegin size ∷ (y ++ (Call.BinaryEnd ∷ []))) e)
 
   container_said : (fate : Fate) (head : Head) (size : Option ℕ) (p : Parts) → AreInOrder (tree.first_kind head) p → IsSize size (entries p)
-      → (x : List Call) → SayParts (parts_by rule fate Whole p) x [] → Says (by rule fate (Container head p)) ((without_size (Call.Begin head size) ∷ []) ++ (x ++ (Call.End (bare_head head) ∷ []))) []
+      → (x : List Call) → SayParts (parts_by rule fate Stays p) x [] → Says (by rule fate (Container head p)) ((without_size (Call.Begin head size) ∷ []) ++ (x ++ (Call.End (bare_head head) ∷ []))) []
   container_said fate head size p o h x s =
       let given = size_passed rule fate head size p o h in
       subst (λ t. Says t (without_size (Call.Begin head size) ∷ (x ++ (Call.End (bare_head head) ∷ []))) []) (sym (by_container rule fate head p o)) (
@@ -185,7 +169,7 @@ module _ (rule : Rule) (paths : List Path) where
         x ++ (Call.End (bare_head head) ∷ []),
         given.2,
         ap (λ y. y ∷ (x ++ (Call.End (bare_head head) ∷ []))) given.1,
-        parts_before (parts_by rule fate Whole p) x [] (Call.End (bare_head head) ∷ []) s,
+        parts_before (parts_by rule fate Stays p) x [] (Call.End (bare_head head) ∷ []) s,
       )
 
   mutual
@@ -227,9 +211,9 @@ module _ (rule : Rule) (paths : List Path) where
         (λ x h. subst (λ u. Says u (Call.EnumBegin name ∷ (x ++ (Call.EnumEnd (bare_name name) ∷ []))) []) (sym (by_enum rule fate name t))
         (x ++ (Call.EnumEnd (bare_name name) ∷ []), refl, says_before (by rule fate t) x [] (Call.EnumEnd (bare_name name) ∷ []) h))
     tree_step (Container head p) fate ls calls after passes is good s =
-        let inner = parts_step p fate Whole ls s.1 (Call.End (bare_head head) ∷ after) passes good.2 s.4 in
+        let inner = parts_step p fate Stays ls s.1 (Call.End (bare_head head) ∷ after) passes good.2 s.4 in
         around_step fate ls (Call.Begin head s.0) (Call.End (bare_head head)) calls s.1 after
-        (λ x. SayParts (parts_by rule fate Whole p) x []) (λ x. Says (by rule fate (Container head p)) x []) (layer (By fate)) (row (By fate) inner.0) passes is refl refl refl refl refl s.3
+        (λ x. SayParts (parts_by rule fate Stays p) x []) (λ x. Says (by rule fate (Container head p)) x []) (layer (By fate)) (row (By fate) inner.0) passes is refl refl refl refl refl s.3
         inner.1 (container_said fate head s.0 p good.1 s.2)
 
     parts_step : (p : Parts) (fate entry : Fate) (ls : List Layer) (calls after : List Call) → Passing fate → AreGood p → SayParts p calls after → PassesParts fate entry ls p calls after

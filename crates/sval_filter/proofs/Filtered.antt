@@ -1,12 +1,11 @@
 -- What the inner stream of a filter has taken, and that the filter takes calls that spell a tree.
 use Rattle.std.specs.Prelude.{◌≡◌, Bool, false, List, [], ◌∷◌, ◌++◌, Option, Some, None, refl}
-use Rattle.std.proofs.Common.{sym, ap, subst}
+use Rattle.std.proofs.Common.{sym, subst}
 use Rattle.sval_label.specs.Calls.{Call}
 use Rattle.sval_core.specs.Law.{Law, Standing, Ran, Streams, then_emits}
 use Rattle.sval_core.specs.Values.{makes}
-use Rattle.sval_core.specs.Trees.{Tree}
-use Rattle.sval_core.specs.Spells.{Spells, plain, plain_call}
-use Rattle.sval_core.specs.Checker.{Frame, State, Steps, Runs, done, more}
+use Rattle.sval_core.specs.Spells.{plain, plain_call}
+use Rattle.sval_core.specs.Checker.{Frame, State, Runs, done, more}
 use Rattle.sval_core.proofs.Completions.{spelling_is_run}
 use Rattle.sval_core.proofs.ManyRuns.{plain_none, plain_some}
 use Rattle.sval_core.proofs.Determined.{first_step}
@@ -14,9 +13,8 @@ use Rattle.sval_core.proofs.Emissions.{streams_then}
 use Rattle.sval_core.specs.StepLaws.{Goes}
 use Rattle.sval_core.proofs.CheckerSteps.{goes_to, goes_taken}
 use Rattle.sval_filter.specs.Paths.{Path, Rule}
-use Rattle.sval_filter.specs.Pruned.{pruned}
 use Rattle.sval_filter.specs.Filtering.{fresh, due, kept_after, all_due}
-use Rattle.sval_filter.specs.FilterLaw.{FilterView, new_filter, is_stopped, all_taken, AcceptsAll, Accepts, inner_after, filter_after, filter_law}
+use Rattle.sval_filter.specs.FilterLaw.{FilterWhy, NotViable, NoMemory, Inner, FilterView, new_filter, is_stopped, all_taken, AcceptsAll, Accepts, inner_after, filter_after, IsFilterCause, IsFilterLeft, filter_law, Took, none, takes, refuses}
 use Rattle.sval_filter.specs.Laws.{InnerTakesPruned, TakesTrees}
 use Rattle.sval_filter.proofs.DueCalls.{due_spells_pruned}
 
@@ -38,14 +36,25 @@ accepts_second law (c ∷ first) second old r = accepts_second law first second 
 module _ {V : Type 0} (law : Law V) (rule : Rule) (paths : List Path) where
   -- ---- what the inner stream has taken is what was due
 
-  inner_takes_due : (calls : List Call) (view last : FilterView V) → Ran (filter_law law rule paths) view calls last
+  -- a refusal that doesn't stop the filter leaves the inner stream
+  inner_left : (view left : FilterView V) (call : Call) → IsFilterLeft law rule paths view call left → is_stopped left.why ≡ false → left.inner ≡ view.inner
+  inner_left view left call is going = by_cause is.last (subst (λ why. is_stopped why ≡ false) is.why going) is.cause
+    where
+      by_cause : (last : FilterWhy) → is_stopped (Some last) ≡ false → IsFilterCause law rule paths view call left.inner last → left.inner ≡ view.inner
+      by_cause NotViable e c = c.1
+      by_cause NoMemory e c = c.1
+      by_cause Inner e c = cc e
+
+  inner_takes_due : (calls : List Call) (view last : FilterView V) → Took law rule paths view calls last
       → Streams law view.inner (makes (all_due rule paths view.kept calls)) last.inner
-  inner_takes_due [] view last r =
-      subst (λ (v : FilterView V). Streams law view.inner (makes []) v.inner) (sym r) (record { willing = refl; ran = refl; faults = refl; wants = refl })
-  inner_takes_due (c ∷ calls) view last r =
+  inner_takes_due [] view last none = record { willing = refl; ran = refl; faults = refl; wants = refl }
+  inner_takes_due (c ∷ calls) view last (takes accepts later) =
       let now = due rule paths view.kept c in
       joined law view.inner (inner_after law view.inner now) last.inner now (all_due rule paths (kept_after rule paths view.kept c) calls)
-      (record { willing = refl; ran = r.0.passed_on; faults = refl; wants = refl }) (inner_takes_due calls (filter_after law rule paths view c) last r.1)
+      (record { willing = refl; ran = accepts.passed_on; faults = refl; wants = refl }) (inner_takes_due calls (filter_after law rule paths view c) last later)
+  inner_takes_due calls view last (refuses {left = left} call is going later) =
+      subst (λ inner. Streams law inner (makes (all_due rule paths view.kept calls)) last.inner) (inner_left view left call is going)
+      (subst (λ kept. Streams law left.inner (makes (all_due rule paths kept calls)) last.inner) is.kept (inner_takes_due calls left last later))
 
   -- ---- and the filter takes them, where the inner stream takes what is due
 

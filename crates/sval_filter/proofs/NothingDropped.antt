@@ -3,34 +3,30 @@ use Rattle.std.specs.Prelude.{◌≡◌, ℕ, List, [], Option, Some, None, refl
 use Rattle.std.proofs.Common.{ap, ◌∙◌}
 use Rattle.sval_label.specs.Calls.{Slot}
 use Rattle.sval_core.specs.Trees.{Tree, Null, Truth, Int, Text, Binary, Standalone, Tagged, EmptyEnum, Enum, Container, Parts, none, part}
-use Rattle.sval_filter.specs.Paths.{Path, Fate, Whole, Within, Drop, fate_of}
+use Rattle.sval_filter.specs.Paths.{Fate, Stays, Within, Drop, fate_of}
 use Rattle.sval_filter.specs.Pruned.{pruned, pruned_parts, placed, placed_entry, part_fate, key_label}
 
 -- nothing is left out of a part that has such a fate
 data Harmless : Fate → Type 0 where
-  whole : Harmless Whole
+  stays : Harmless Stays
   by_none : Harmless (Within [])
 
 harmless : (label : Option (List ℕ)) → Harmless (fate_of Drop [] label)
-harmless None = whole
+harmless None = stays
 harmless (Some label) = by_none
 
 placed_so : (fate : Fate) (slot : Slot) (t : Tree) (p : Parts) → Harmless fate → pruned Drop [] t ≡ t → placed fate slot t (λ rests. pruned Drop rests t) p ≡ part slot t p
-placed_so Whole slot t p whole e = refl
+placed_so Stays slot t p stays e = refl
 placed_so (Within []) slot t p by_none e = ap (λ x. part slot x p) e
 placed_so fate slot t p h e = elim h [ ]
 
 harmless_part : (slot : Slot) → Harmless (part_fate Drop [] slot)
-harmless_part Slot.Item = by_none
-harmless_part Slot.Key = by_none
-harmless_part Slot.Value = by_none
 harmless_part (Slot.Field tag label) = by_none
-harmless_part (Slot.Place tag index) = by_none
-harmless_part (Slot.FieldPlace tag label index) = by_none
+harmless_part slot = by_none
 
 entry_so : (fate : Fate) (key value : Tree) (p : Parts) → Harmless fate → pruned Drop [] value ≡ value
     → placed_entry fate key value (λ rests. pruned Drop rests value) p ≡ part Slot.Key key (part Slot.Value value p)
-entry_so Whole key value p whole e = refl
+entry_so Stays key value p stays e = refl
 entry_so (Within []) key value p by_none e = ap (λ x. part Slot.Key key (part Slot.Value x p)) e
 entry_so fate key value p h e = elim h [ ]
 

@@ -12,9 +12,9 @@ use Rattle.sval_core.proofs.ManySpellings.{hints_last}
 use Rattle.sval_core.proofs.Segments.{next_call, cut_calls, says_front}
 use Rattle.sval_buffer.specs.Forest.{Forest, empty_forest, replayed}
 use Rattle.sval_buffer.proofs.SameTree.{capture_keeps}
-use Rattle.sval_filter.specs.Paths.{Path, Rule, Fate, LeftOut, Whole, Within}
+use Rattle.sval_filter.specs.Paths.{Path, Rule, Fate, LeftOut, Stays, Within}
 use Rattle.sval_filter.specs.Pruned.{key_label}
-use Rattle.sval_filter.specs.Filtering.{Mode, Holding, By, Layer, layer, mode_in, entry_in, with_entry, fragments, text_of, held_label, fate_in, slot_fate, passed, mode_of_part, key_due, due_at_end, kept_after_end, kept_after_in, kept_after, due_in, due, all_due}
+use Rattle.sval_filter.specs.Filtering.{Mode, Holding, By, Layer, layer, mode_in, entry_in, with_entry, fragments, text_of, held_label, fate_in, passed, mode_of_part, key_due, due_at_end, kept_after_end, kept_after_in, kept_after, due_in, due, all_due}
 use Rattle.sval_filter.proofs.Turns.{at, Crossing, hints_passed, plain_append}
 use Rattle.sval_filter.proofs.Silent.{holding, left_out, part_begin_is, part_end_is, silent_run, held_all, held_is}
 
@@ -49,29 +49,19 @@ plain_computed (c ∷ calls) = ap (λ x. cons_option x (plain (map computed call
 mode_plain : (rule : Rule) (m : Mode) (entry : Fate) (slot : Slot) → mode_of_part rule m entry slot ≡ mode_of_part rule m entry (plain_slot slot)
 mode_plain rule Holding entry slot = refl
 mode_plain rule (By LeftOut) entry slot = refl
-mode_plain rule (By Whole) entry Slot.Item = refl
-mode_plain rule (By Whole) entry Slot.Key = refl
-mode_plain rule (By Whole) entry Slot.Value = refl
-mode_plain rule (By Whole) entry (Slot.Field tag label) = refl
-mode_plain rule (By Whole) entry (Slot.Place tag index) = refl
-mode_plain rule (By Whole) entry (Slot.FieldPlace tag label index) = refl
-mode_plain rule (By (Within rests)) entry Slot.Item = refl
+mode_plain rule (By Stays) entry Slot.Key = refl
+mode_plain rule (By Stays) entry slot = refl
 mode_plain rule (By (Within rests)) entry Slot.Key = refl
-mode_plain rule (By (Within rests)) entry Slot.Value = refl
-mode_plain rule (By (Within rests)) entry (Slot.Field tag label) = refl
-mode_plain rule (By (Within rests)) entry (Slot.Place tag index) = refl
-mode_plain rule (By (Within rests)) entry (Slot.FieldPlace tag label index) = refl
+mode_plain rule (By (Within rests)) entry slot = refl
 
 begin_passed : (m : Mode) (c s : Slot) → plain_slot c ≡ s → plain (passed m (Call.PartBegin c ∷ [])) ≡ passed m (Call.PartBegin s ∷ [])
 begin_passed Holding c s e = refl
 begin_passed (By LeftOut) c s e = refl
-begin_passed (By Whole) c s e = ap (λ x. Call.PartBegin x ∷ []) e
-begin_passed (By (Within rests)) c s e = ap (λ x. Call.PartBegin x ∷ []) e
+begin_passed (By fate) c s e = ap (λ x. Call.PartBegin x ∷ []) e
 
 end_passed : (fate : Fate) (c s : Slot) → bare_slot c ≡ s → plain (passed (By fate) (Call.PartEnd c ∷ [])) ≡ passed (By fate) (Call.PartEnd s ∷ [])
 end_passed LeftOut c s e = refl
-end_passed Whole c s e = ap (λ x. Call.PartEnd x ∷ []) e
-end_passed (Within rests) c s e = ap (λ x. Call.PartEnd x ∷ []) e
+end_passed fate c s e = ap (λ x. Call.PartEnd x ∷ []) e
 
 after_hints : (hints a : List Call) → plain hints ≡ [] → plain (hints ++ a) ≡ plain a
 after_hints hints a e = plain_append hints a ∙ ap (λ x. x ++ plain a) e
@@ -100,21 +90,21 @@ module _ (rule : Rule) (paths : List Path) where
       }
 
   pub end_step : (fate : Fate) (ls : List Layer) (slot : Slot) (after : List Call)
-      → Crossing rule paths (layer (By fate) ∷ ls) (with_entry Whole ls) (Call.PartEnd slot ∷ after) (λ x. x ≡ passed (By fate) (Call.PartEnd slot ∷ [])) after
+      → Crossing rule paths (layer (By fate) ∷ ls) (with_entry Stays ls) (Call.PartEnd slot ∷ after) (λ x. x ≡ passed (By fate) (Call.PartEnd slot ∷ [])) after
   end_step fate ls slot after raw e =
       let n = next_call raw (Call.PartEnd slot) after e in
       let c = part_end_is n.call slot n.is in
       let from = layer (By fate) ∷ ls in
       let hints = hints_passed rule paths fate from empty_forest refl n.hints (n.call ∷ n.rest) n.none in
       let due_is : due rule paths (at from empty_forest) n.call ≡ passed (By fate) (Call.PartEnd c.0 ∷ []) = ap (due rule paths (at from empty_forest)) c.1 in
-      let after_is : kept_after rule paths (at from empty_forest) n.call ≡ at (with_entry Whole ls) empty_forest = ap (kept_after rule paths (at from empty_forest)) c.1 in
+      let after_is : kept_after rule paths (at from empty_forest) n.call ≡ at (with_entry Stays ls) empty_forest = ap (kept_after rule paths (at from empty_forest)) c.1 in
       record {
         rest = n.rest;
         out = hints.0 ++ passed (By fate) (Call.PartEnd c.0 ∷ []);
         goes = ap (all_due rule paths (at from empty_forest)) n.whole ∙ hints.1
             ∙ ap (λ x. hints.0 ++ (x ++ all_due rule paths (kept_after rule paths (at from empty_forest) n.call) n.rest)) due_is
             ∙ ap (λ x. hints.0 ++ (passed (By fate) (Call.PartEnd c.0 ∷ []) ++ all_due rule paths x n.rest)) after_is
-            ∙ sym (append_assoc hints.0 (passed (By fate) (Call.PartEnd c.0 ∷ [])) (all_due rule paths (at (with_entry Whole ls) empty_forest) n.rest));
+            ∙ sym (append_assoc hints.0 (passed (By fate) (Call.PartEnd c.0 ∷ [])) (all_due rule paths (at (with_entry Stays ls) empty_forest) n.rest));
         left = n.after;
         says = after_hints hints.0 (passed (By fate) (Call.PartEnd c.0 ∷ [])) hints.2 ∙ end_passed fate c.0 slot c.2;
       }
@@ -150,13 +140,7 @@ module _ (rule : Rule) (paths : List Path) where
 
   key_passed : (fate : Fate) (key : Tree) (held : Forest) (slot : Slot) → bare_slot slot ≡ Slot.Key → Spells (replayed held) key → PassesKey fate key (plain (key_due fate held slot))
   key_passed LeftOut key held slot e s = refl
-  key_passed Whole key held slot e s = (
-    plain (replayed held),
-    ap (λ x. Call.PartBegin Slot.Key ∷ x) (plain_append (map computed (replayed held)) (Call.PartEnd slot ∷ [])
-        ∙ ap (λ x. x ++ (Call.PartEnd (bare_slot slot) ∷ [])) (plain_computed (replayed held)) ∙ ap (λ x. plain (replayed held) ++ (Call.PartEnd x ∷ [])) e),
-    s.1,
-  )
-  key_passed (Within rests) key held slot e s = (
+  key_passed fate key held slot e s = (
     plain (replayed held),
     ap (λ x. Call.PartBegin Slot.Key ∷ x) (plain_append (map computed (replayed held)) (Call.PartEnd slot ∷ [])
         ∙ ap (λ x. x ++ (Call.PartEnd (bare_slot slot) ∷ [])) (plain_computed (replayed held)) ∙ ap (λ x. plain (replayed held) ++ (Call.PartEnd x ∷ [])) e),

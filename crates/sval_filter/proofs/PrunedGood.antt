@@ -1,10 +1,10 @@
 -- What is left of a good tree is good, and what is left of a real one is real.
-use Rattle.std.specs.Prelude.{◌≡◌, List, Some, refl}
+use Rattle.std.specs.Prelude.{◌≡◌, List, refl}
 use Rattle.std.proofs.Common.{sym, subst}
 use Rattle.sval_label.specs.Calls.{Slot, Head}
 use Rattle.sval_core.specs.Trees.{Tree, Null, Truth, Int, Text, Binary, Standalone, Tagged, EmptyEnum, Enum, Container, Parts, none, part, plain_slot, Kind, Item, Key, Value, Field, Place, FieldPlace, kind_of, first_kind, next_kind, MayEnd, AreInOrder, TextKind, Ordinary, Number, JsonValue, JsonText, JsonNumber, text_kind, MayHold, IsVariant, IsGood, AreGood}
 use Rattle.sval_core.specs.Real.{IsRealSlot, IsInRange, AreInRange, IsReal}
-use Rattle.sval_filter.specs.Paths.{Path, Rule, Fate, LeftOut, Whole, Within, fate_of}
+use Rattle.sval_filter.specs.Paths.{Path, Rule, Fate, LeftOut, Stays, Within, fate_of}
 use Rattle.sval_filter.specs.Pruned.{pruned, pruned_parts, placed, placed_entry, part_fate, key_label}
 
 -- ---- a tag holds a text, and an enum a variant
@@ -32,13 +32,13 @@ variant_pruned rule paths t h = absurd h
 
 entry_in_order : (fate : Fate) (key value : Tree) (prune : List Path → Tree) (rest : Parts) → AreInOrder Key rest → AreInOrder Key (placed_entry fate key value prune rest)
 entry_in_order LeftOut key value prune rest h = h
-entry_in_order Whole key value prune rest h = (refl, (refl, h))
+entry_in_order Stays key value prune rest h = (refl, (refl, h))
 entry_in_order (Within paths) key value prune rest h = (refl, (refl, h))
 
 field_in_order : (fate : Fate) (slot : Slot) (t : Tree) (prune : List Path → Tree) (rest : Parts) → kind_of slot ≡ next_kind (kind_of slot)
     → AreInOrder (next_kind (kind_of slot)) rest → AreInOrder (kind_of slot) (placed fate slot t prune rest)
 field_in_order LeftOut slot t prune rest e h = subst (λ k. AreInOrder k rest) (sym e) h
-field_in_order Whole slot t prune rest e h = (refl, h)
+field_in_order Stays slot t prune rest e h = (refl, h)
 field_in_order (Within paths) slot t prune rest e h = (refl, h)
 
 -- what comes after a part
@@ -83,13 +83,13 @@ may_end (Head.RecordTuple name) = tt
 placed_good : (fate : Fate) (slot : Slot) (t : Tree) (prune : List Path → Tree) (rest : Parts) → plain_slot slot ≡ slot → IsGood t → ((paths : List Path) → IsGood (prune paths)) → AreGood rest
     → AreGood (placed fate slot t prune rest)
 placed_good LeftOut slot t prune rest e g h r = r
-placed_good Whole slot t prune rest e g h r = (e, g, r)
+placed_good Stays slot t prune rest e g h r = (e, g, r)
 placed_good (Within paths) slot t prune rest e g h r = (e, h paths, r)
 
 entry_good : (fate : Fate) (key value : Tree) (prune : List Path → Tree) (rest : Parts) → IsGood key → IsGood value → ((paths : List Path) → IsGood (prune paths)) → AreGood rest
     → AreGood (placed_entry fate key value prune rest)
 entry_good LeftOut key value prune rest k g h r = r
-entry_good Whole key value prune rest k g h r = (refl, k, (refl, g, r))
+entry_good Stays key value prune rest k g h r = (refl, k, (refl, g, r))
 entry_good (Within paths) key value prune rest k g h r = (refl, k, (refl, h paths, r))
 
 mutual
@@ -117,13 +117,13 @@ mutual
 placed_in_range : (fate : Fate) (slot : Slot) (t : Tree) (prune : List Path → Tree) (rest : Parts) → IsRealSlot slot → IsInRange t → ((paths : List Path) → IsInRange (prune paths)) → AreInRange rest
     → AreInRange (placed fate slot t prune rest)
 placed_in_range LeftOut slot t prune rest e g h r = r
-placed_in_range Whole slot t prune rest e g h r = (e, g, r)
+placed_in_range Stays slot t prune rest e g h r = (e, g, r)
 placed_in_range (Within paths) slot t prune rest e g h r = (e, h paths, r)
 
 entry_in_range : (fate : Fate) (key value : Tree) (prune : List Path → Tree) (rest : Parts) → IsInRange key → IsInRange value → ((paths : List Path) → IsInRange (prune paths)) → AreInRange rest
     → AreInRange (placed_entry fate key value prune rest)
 entry_in_range LeftOut key value prune rest k g h r = r
-entry_in_range Whole key value prune rest k g h r = (tt, k, (tt, g, r))
+entry_in_range Stays key value prune rest k g h r = (tt, k, (tt, g, r))
 entry_in_range (Within paths) key value prune rest k g h r = (tt, k, (tt, h paths, r))
 
 mutual

@@ -5,11 +5,11 @@ use Rattle.sval_label.specs.Calls.{Call, Slot}
 use Rattle.sval_core.specs.Law.{computed}
 use Rattle.sval_core.specs.Trees.{next_kind, plain_slot}
 use Rattle.sval_core.specs.Spells.{plain, plain_call, bare_slot}
-use Rattle.sval_core.specs.Checker.{Frame, InContainer, InPart, Steps, null, truth, int, standalone, text_begin, text_fragment, text_end, binary_begin, binary_fragment, binary_end, tagged_begin, tagged_end, enum_begin, enum_end, begin, end, part_begin, part_end, Runs, done, more}
+use Rattle.sval_core.specs.Checker.{Frame, InContainer, InPart, Steps, null, truth, int, standalone, text_begin, text_fragment, text_end, binary_begin, binary_fragment, binary_end, tagged_begin, tagged_end, enum_begin, enum_end, begin, end, part_begin, part_end, Runs, done}
 use Rattle.sval_core.proofs.ManyRuns.{plain_none, plain_some}
 use Rattle.sval_buffer.specs.Forest.{Forest, empty_forest, CaptureAnswer, Becomes, Rejects, take, forest_from, forest, Holds, RefusedAt}
 use Rattle.sval_buffer.specs.Capture.{forest_by}
-use Rattle.sval_filter.specs.Paths.{Path, Rule, Fate, LeftOut, Whole, Within}
+use Rattle.sval_filter.specs.Paths.{Path, Rule, Fate, LeftOut, Stays, Within}
 use Rattle.sval_filter.specs.Filtering.{with_entry, hint_due, Mode, Holding, By, Layer, layer, mode_in, entry_in, passed, without_size, held_after, layers_after, mode_of_part, due_at_end, kept_after_end, kept_after_in, kept_after, due_in, due, all_due}
 use Rattle.sval_filter.proofs.Turns.{at, is_part, part_plain, layers_plain, after_other, due_other, after_hint, due_hint}
 use Rattle.sval_core.proofs.Determined.{first_step}
@@ -32,37 +32,37 @@ held_all m held (call ∷ calls) = held_all m (held_after m held call) calls
 passed_none : (m : Mode) → Silent m → (calls : List Call) → passed m calls ≡ []
 passed_none Holding holding calls = refl
 passed_none (By LeftOut) left_out calls = refl
-passed_none (By Whole) s calls = elim s [ ]
+passed_none (By Stays) s calls = elim s [ ]
 passed_none (By (Within paths)) s calls = elim s [ ]
 
 hint_none : (m : Mode) → Silent m → (entry : Fate) (c : Call) → hint_due m entry c ≡ []
 hint_none m s LeftOut c = refl
-hint_none m s Whole c = passed_none m s (c ∷ [])
+hint_none m s Stays c = passed_none m s (c ∷ [])
 hint_none m s (Within rests) c = passed_none m s (c ∷ [])
 
 part_silent : (rule : Rule) (m : Mode) → Silent m → (entry : Fate) (slot : Slot) → mode_of_part rule m entry slot ≡ m
 part_silent rule Holding holding entry slot = refl
 part_silent rule (By LeftOut) left_out entry slot = refl
-part_silent rule (By Whole) s entry slot = elim s [ ]
+part_silent rule (By Stays) s entry slot = elim s [ ]
 part_silent rule (By (Within paths)) s entry slot = elim s [ ]
 
-end_silent : (rule : Rule) (m : Mode) → Silent m → (layers : List Layer) (held : Forest) (slot : Slot) → kept_after_end rule m m layers held slot ≡ at (with_entry Whole layers) (held_after m held (Call.PartEnd slot))
+end_silent : (rule : Rule) (m : Mode) → Silent m → (layers : List Layer) (held : Forest) (slot : Slot) → kept_after_end rule m m layers held slot ≡ at (with_entry Stays layers) (held_after m held (Call.PartEnd slot))
 end_silent rule Holding holding layers held slot = refl
 end_silent rule (By LeftOut) left_out layers held slot = refl
-end_silent rule (By Whole) s layers held slot = elim s [ ]
+end_silent rule (By Stays) s layers held slot = elim s [ ]
 end_silent rule (By (Within paths)) s layers held slot = elim s [ ]
 
 end_passes_none : (rule : Rule) (m : Mode) → Silent m → (held : Forest) (slot : Slot) → due_at_end rule m m held slot ≡ []
 end_passes_none rule Holding holding held slot = refl
 end_passes_none rule (By LeftOut) left_out held slot = refl
-end_passes_none rule (By Whole) s held slot = elim s [ ]
+end_passes_none rule (By Stays) s held slot = elim s [ ]
 end_passes_none rule (By (Within paths)) s held slot = elim s [ ]
 
 mode_above : (paths : List Path) (m : Mode) (fs : List Frame) (base : List Layer) → mode_in paths base ≡ m → mode_in paths (above m fs base) ≡ m
 mode_above paths m [] base e = e
 mode_above paths m (f ∷ fs) base e = refl
 
-entry_above : (m : Mode) (fs : List Frame) (base : List Layer) → with_entry Whole base ≡ base → with_entry Whole (above m fs base) ≡ above m fs base
+entry_above : (m : Mode) (fs : List Frame) (base : List Layer) → with_entry Stays base ≡ base → with_entry Stays (above m fs base) ≡ above m fs base
 entry_above m [] base e = e
 entry_above m (f ∷ fs) base e = refl
 
@@ -96,7 +96,7 @@ pub part_end_is : (c : Call) (s : Slot) → plain_call c ≡ Some (Call.PartEnd 
 part_end_is (Call.PartEnd slot) s e = let f : bare_slot slot ≡ s = cc e in (slot, refl, f)
 part_end_is c s e = cc e
 
-module _ (rule : Rule) (paths : List Path) (m : Mode) (silent : Silent m) (base : List Layer) (is : mode_in paths base ≡ m) (no_entry : with_entry Whole base ≡ base) where
+module _ (rule : Rule) (paths : List Path) (m : Mode) (silent : Silent m) (base : List Layer) (is : mode_in paths base ≡ m) (no_entry : with_entry Stays base ≡ base) where
   -- after a call there are the layers of the frames after it, and nothing was passed on
   abbrev Quiet : List Frame → List Frame → Forest → Call → Type 0
   Quiet fs fs' h c = (kept_after rule paths (at (above m fs base) h) c ≡ at (above m fs' base) (held_after m h c)) × (due rule paths (at (above m fs base) h) c ≡ [])

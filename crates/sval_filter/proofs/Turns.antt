@@ -7,7 +7,7 @@ use Rattle.sval_core.specs.Spells.{plain, plain_call}
 use Rattle.sval_core.proofs.ManyRuns.{plain_none, plain_some}
 use Rattle.sval_core.proofs.Segments.{next_call}
 use Rattle.sval_buffer.specs.Forest.{Forest, empty_forest}
-use Rattle.sval_filter.specs.Paths.{Path, Rule, Fate, LeftOut, Whole, Within}
+use Rattle.sval_filter.specs.Paths.{Path, Rule, Fate, LeftOut, Stays, Within}
 use Rattle.sval_filter.specs.Filtering.{Mode, Holding, By, Layer, Filtering, mode_in, entry_in, hint_due, passed, without_size, held_after, layers_after, kept_after_in, kept_after, due_in, due, all_due}
 
 abbrev pub at : List Layer → Forest → Filtering
@@ -15,7 +15,7 @@ at layers held = record { layers = layers; held = held }
 
 -- calls in it are passed on
 pub data Passing : Fate → Type 0 where
-  whole : Passing Whole
+  stays : Passing Stays
   within : (paths : List Path) → Passing (Within paths)
 
 -- ---- what follows from what a call says
@@ -52,14 +52,9 @@ plain_append a b = filter_map-append plain_call a b
 -- what is passed on of a hint says nothing
 hint_says : (m : Mode) (entry : Fate) (c : Call) → plain_call c ≡ None → plain (hint_due m entry c) ≡ []
 hint_says m LeftOut c e = refl
-hint_says Holding Whole c e = refl
-hint_says Holding (Within rests) c e = refl
-hint_says (By LeftOut) Whole c e = refl
-hint_says (By LeftOut) (Within rests) c e = refl
-hint_says (By Whole) Whole c e = plain_none c [] e
-hint_says (By Whole) (Within rests) c e = plain_none c [] e
-hint_says (By (Within others)) Whole c e = plain_none c [] e
-hint_says (By (Within others)) (Within rests) c e = plain_none c [] e
+hint_says Holding entry c e = refl
+hint_says (By LeftOut) entry c e = refl
+hint_says (By fate) entry c e = plain_none c [] e
 
 module _ (rule : Rule) (paths : List Path) where
   -- a call that is neither a part's begin nor its end
@@ -96,8 +91,7 @@ module _ (rule : Rule) (paths : List Path) where
 
   -- ---- from layers to layers
 
-  -- Of these calls, and what comes after them, the filter passes on calls that say what is asked for, and comes from these layers to those. No key is
-  -- held before and after.
+  -- of some first of these calls, what is passed on says what is asked for, and leads from these layers to those, where no key is held
   pub record Passage (from to : List Layer) (raw : List Call) (Passes : List Call → Type 0) (after : List Call) : Type 0 where
     pub rest : List Call
     pub out : List Call
@@ -154,7 +148,7 @@ module _ (rule : Rule) (paths : List Path) where
 
   passed_call : (fate : Fate) → Passing fate → (c : Call) → passed (By fate) (c ∷ []) ≡ c ∷ []
   passed_call LeftOut passes c = elim passes [ ]
-  passed_call Whole whole c = refl
+  passed_call Stays stays c = refl
   passed_call (Within rests) (within other) c = refl
 
   -- a call that is neither a part's begin nor its end is passed on, without its size

@@ -1,3 +1,4 @@
--- Values that are computed here, and not by any program.
+-- What the definitions come to, and used by no program.
 mod PrunedTrees
 mod PassedCalls
+mod RefusedFilters

@@ -1,12 +1,12 @@
 -- The filter as a machine: what it keeps, which calls are due at a call, and what it keeps after it.
-use Rattle.std.specs.Prelude.{ℕ, List, [], ◌∷◌, ◌++◌, map, Option, Some, None}
+use Rattle.std.specs.Prelude.{ℕ, Bool, true, false, List, [], ◌∷◌, ◌++◌, map, Option, Some, None}
 use Rattle.sval_label.specs.Calls.{Call, Head, Slot}
 use Rattle.sval_core.specs.Law.{computed}
 use Rattle.sval_core.specs.Spells.{plain}
 use Rattle.sval_core.specs.Stacks.{below}
-use Rattle.sval_buffer.specs.Forest.{Forest, empty_forest, take, replayed}
+use Rattle.sval_buffer.specs.Forest.{Forest, empty_forest, take, may_grow, replayed}
 use Rattle.sval_buffer.specs.Capture.{forest_by}
-use Rattle.sval_filter.specs.Paths.{Path, Rule, Fate, LeftOut, Whole, Within, fate_of}
+use Rattle.sval_filter.specs.Paths.{Path, Rule, Fate, LeftOut, Stays, Within, fate_of}
 use Rattle.sval_filter.specs.Pruned.{part_fate}
 
 -- how calls are treated: held inside a key, and elsewhere by what becomes of what they are in
@@ -24,36 +24,42 @@ pub record Filtering : Type 0 where
   pub layers : List Layer
   pub held : Forest
 
+-- what a new filter keeps
 abbrev pub fresh : Filtering
 fresh = record { layers = []; held = empty_forest }
 
 -- ---- parts of a step
 
+-- how calls are treated here: outside all, they are pruned with the filter's paths
 abbrev pub mode_in : List Path → List Layer → Mode
 mode_in paths [] = By (Within paths)
 mode_in paths (layer ∷ layers) = layer.mode
 
+-- what becomes of the entry whose value comes next
 abbrev pub entry_in : List Layer → Fate
-entry_in [] = Whole
+entry_in [] = Stays
 entry_in (layer ∷ layers) = layer.entry
 
+-- a layer in which no key has ended
 abbrev pub layer : Mode → Layer
-layer mode = record { mode = mode; entry = Whole }
+layer mode = record { mode = mode; entry = Stays }
 
 -- the innermost layer with this fate of its entry
 abbrev pub with_entry : Fate → List Layer → List Layer
 with_entry entry [] = []
 with_entry entry (innermost ∷ layers) = record { mode = innermost.mode; entry = entry } ∷ layers
 
--- the text that a key's calls spell, if it is one
+-- the fragments that these calls begin with, joined
 abbrev pub fragments : List Call → List ℕ
 fragments (Call.TextFragment borrowed bytes ∷ calls) = bytes ++ fragments calls
 fragments calls = []
 
+-- the text that a key's calls spell, if it is one
 abbrev pub text_of : List Call → Option (List ℕ)
 text_of (Call.TextBegin size ∷ calls) = Some (fragments calls)
 text_of calls = None
 
+-- the label of the entry whose key is held
 abbrev pub held_label : Forest → Option (List ℕ)
 held_label held = text_of (plain (replayed held))
 
@@ -72,7 +78,7 @@ abbrev pub mode_of_part : Rule → Mode → Fate → Slot → Mode
 mode_of_part rule Holding entry slot = Holding
 mode_of_part rule (By LeftOut) entry slot = By LeftOut
 mode_of_part rule (By fate) entry Slot.Key = Holding
-mode_of_part rule (By Whole) entry slot = By Whole
+mode_of_part rule (By Stays) entry slot = By Stays
 mode_of_part rule (By (Within paths)) entry slot = By (slot_fate rule paths entry slot)
 
 -- the calls, where they are passed on
@@ -98,6 +104,12 @@ abbrev pub held_after : Mode → Forest → Call → Forest
 held_after Holding held call = forest_by (take held (computed call)) held
 held_after (By fate) held call = held
 
+-- the held key may take memory for the call: where it may grow, and at a key's end, which keeps what its label says of paths
+abbrev pub key_may_grow : Mode → Forest → Call → Bool
+key_may_grow (By fate) held call = false
+key_may_grow Holding held (Call.PartEnd slot) = true
+key_may_grow Holding held call = may_grow held (computed call)
+
 -- the layers after a call that is neither a part's begin nor its end
 abbrev pub layers_after : Mode → List Layer → Call → List Layer
 layers_after mode layers (Call.TextBegin size) = layer mode ∷ layers
@@ -112,35 +124,44 @@ layers_after mode layers (Call.TaggedEnd name) = below layers
 layers_after mode layers (Call.End head) = below layers
 layers_after mode layers call = layers
 
--- ---- a part's end: that of a key which is inside no other key gives the key back
+-- ---- a part's end: that of a key inside no other key gives the key back
 
 -- the key with its begin and end, where its entry isn't left out
 abbrev pub key_due : Fate → Forest → Slot → List Call
 key_due LeftOut held slot = []
 key_due fate held slot = Call.PartBegin Slot.Key ∷ (map computed (replayed held) ++ (Call.PartEnd slot ∷ []))
 
+-- what is due at a part's end, by how calls in the part and around it are treated
 abbrev pub due_at_end : Rule → Mode → Mode → Forest → Slot → List Call
 due_at_end rule Holding (By fate) held slot = key_due (fate_in rule fate (held_label held)) held slot
 due_at_end rule mode around held slot = passed mode (Call.PartEnd slot ∷ [])
 
+-- what is kept after it
 abbrev pub kept_after_end : Rule → Mode → Mode → List Layer → Forest → Slot → Filtering
-kept_after_end rule Holding (By fate) layers held slot = record { layers = with_entry (fate_in rule fate (held_label held)) layers; held = empty_forest }
-kept_after_end rule mode around layers held slot = record { layers = with_entry Whole layers; held = held_after mode held (Call.PartEnd slot) }
+kept_after_end rule Holding (By fate) layers held slot =
+    record { layers = with_entry (fate_in rule fate (held_label held)) layers; held = empty_forest }
+kept_after_end rule mode around layers held slot =
+    record { layers = with_entry Stays layers; held = held_after mode held (Call.PartEnd slot) }
 
 -- ---- a step
 
+-- what is kept after a call that is treated so
 abbrev pub kept_after_in : Rule → List Path → Mode → List Layer → Forest → Call → Filtering
 kept_after_in rule paths mode layers held (Call.PartBegin slot) =
     record { layers = layer (mode_of_part rule mode (entry_in layers) slot) ∷ layers; held = held_after mode held (Call.PartBegin slot) }
-kept_after_in rule paths mode layers held (Call.PartEnd slot) = kept_after_end rule mode (mode_in paths (below layers)) (below layers) held slot
-kept_after_in rule paths mode layers held call = record { layers = layers_after mode layers call; held = held_after mode held call }
+kept_after_in rule paths mode layers held (Call.PartEnd slot) =
+    kept_after_end rule mode (mode_in paths (below layers)) (below layers) held slot
+kept_after_in rule paths mode layers held call =
+    record { layers = layers_after mode layers call; held = held_after mode held call }
 
 -- what the filter keeps after a call
 abbrev pub kept_after : Rule → List Path → Filtering → Call → Filtering
 kept_after rule paths kept call = kept_after_in rule paths (mode_in paths kept.layers) kept.layers kept.held call
 
+-- the calls that are due at a call that is treated so
 abbrev pub due_in : Rule → List Path → Mode → List Layer → Forest → Call → List Call
-due_in rule paths mode layers held (Call.PartBegin slot) = passed (mode_of_part rule mode (entry_in layers) slot) (Call.PartBegin slot ∷ [])
+due_in rule paths mode layers held (Call.PartBegin slot) =
+    passed (mode_of_part rule mode (entry_in layers) slot) (Call.PartBegin slot ∷ [])
 due_in rule paths mode layers held (Call.PartEnd slot) = due_at_end rule mode (mode_in paths (below layers)) held slot
 due_in rule paths mode layers held (Call.TagHint tag) = hint_due mode (entry_in layers) (Call.TagHint tag)
 due_in rule paths mode layers held call = passed mode (without_size call ∷ [])

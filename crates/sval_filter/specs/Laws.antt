@@ -9,7 +9,7 @@ use Rattle.sval_core.specs.Values.{makes}
 use Rattle.sval_filter.specs.Paths.{Path, Rule, Drop}
 use Rattle.sval_filter.specs.Pruned.{pruned}
 use Rattle.sval_filter.specs.Filtering.{fresh, all_due}
-use Rattle.sval_filter.specs.FilterLaw.{FilterView, new_filter, AcceptsAll, filter_law}
+use Rattle.sval_filter.specs.FilterLaw.{FilterView, new_filter, AcceptsAll, filter_law, Took}
 
 -- what is left of a good tree is good
 abbrev pub PrunedIsGood : Type 0
@@ -29,11 +29,11 @@ DueCallsSpellPruned =
 abbrev pub NothingDropped : Type 0
 NothingDropped = (tree : Tree) → pruned Drop [] tree ≡ tree
 
--- where a new filter has taken calls that spell a tree, the stream in it has taken calls that spell what is left of the tree
+-- where a new filter has taken calls that spell a tree, and isn't stopped, the stream in it has taken calls that spell what is left
 abbrev pub InnerTakesPruned : {V : Type 0} → Law V → Type 0
 InnerTakesPruned {V} law =
     (rule : Rule) (paths : List Path) (calls : List Call) (tree : Tree) (inner : Standing V) (last : FilterView V)
-    → Spells calls tree → Ran (filter_law law rule paths) (new_filter inner) calls last
+    → Spells calls tree → Took law rule paths (new_filter inner) calls last
     → (taken : List Call) × Streams law inner (makes taken) last.inner × Spells taken (pruned rule paths tree)
 
 -- a new filter takes calls that spell a tree, where the stream in it takes the calls that are due

@@ -1,5 +1,5 @@
 -- Paths of labels, and what a rule makes of a part of a value by them.
-use Rattle.std.specs.Prelude.{ℕ, ◌==◌, Bool, true, false, if◌then◌else◌, List, [], ◌∷◌, ◌++◌, Option, Some, None, length, option_map, bytes_eq}
+use Rattle.std.specs.Prelude.{ℕ, ◌==◌, Bool, if◌then◌else◌, List, [], ◌∷◌, ◌++◌, Option, Some, None, length, option_map, bytes_eq}
 use Rattle.std.specs.List.{filter_map, list_any, slice_split}
 use Rattle.sval_label.specs.Texts.{is_empty}
 
@@ -7,6 +7,7 @@ use Rattle.sval_label.specs.Texts.{is_empty}
 abbrev pub Path : Type 0
 Path = List (List ℕ)
 
+-- the named fields and entries are left out, or they alone are kept
 pub data Rule : Type 0 where
   Drop : Rule
   Keep : Rule
@@ -23,10 +24,11 @@ with_label [] label = None
 with_label (path ∷ []) label = Some ((path ++ (label ∷ [])) ∷ [])
 with_label (path ∷ next ∷ paths) label = option_map (λ rest. path ∷ rest) (with_label (next ∷ paths) label)
 
--- the labels between the dots of a word, which is one that names a path if none of them is empty
+-- the labels between the dots of a word
 abbrev pub labels_of : List ℕ → Path
 labels_of word = slice_split (λ byte. byte == 46) word
 
+-- the word names no path
 abbrev pub is_bad_word : List ℕ → Bool
 is_bad_word word = list_any is_empty (labels_of word)
 
@@ -48,16 +50,17 @@ has_end paths = list_any (λ path. length path == 0) paths
 -- what becomes of a part: it is left out, it stays whole, or what is in it is pruned with these paths
 pub data Fate : Type 0 where
   LeftOut : Fate
-  Whole : Fate
+  Stays : Fate
   Within : List Path → Fate
 
+-- of a field or an entry, by the rests of the paths that begin with its label
 abbrev pub fate_by_tails : Rule → List Path → Fate
 fate_by_tails Drop rests = if has_end rests then LeftOut else Within rests
 fate_by_tails Keep [] = LeftOut
-fate_by_tails Keep rests = if has_end rests then Whole else Within rests
+fate_by_tails Keep rests = if has_end rests then Stays else Within rests
 
--- of a field or an entry with this label, or with none
+-- the same by its label, if it has one
 abbrev pub fate_of : Rule → List Path → Option (List ℕ) → Fate
 fate_of rule paths (Some label) = fate_by_tails rule (tails label paths)
-fate_of Drop paths None = Whole
+fate_of Drop paths None = Stays
 fate_of Keep paths None = LeftOut

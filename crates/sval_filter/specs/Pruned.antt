@@ -2,7 +2,7 @@
 use Rattle.std.specs.Prelude.{ℕ, List, Option, Some, None}
 use Rattle.sval_label.specs.Calls.{Slot}
 use Rattle.sval_core.specs.Trees.{Tree, Text, Tagged, Enum, Container, Parts, none, part}
-use Rattle.sval_filter.specs.Paths.{Path, Rule, Fate, LeftOut, Whole, Within, fate_of}
+use Rattle.sval_filter.specs.Paths.{Path, Rule, Fate, LeftOut, Stays, Within, fate_of}
 
 -- the label of an entry whose key this is
 abbrev pub key_label : Tree → Option (List ℕ)
@@ -18,13 +18,13 @@ part_fate rule paths _ = Within paths
 -- a part in front of others, by what becomes of it
 abbrev pub placed : Fate → Slot → Tree → (List Path → Tree) → Parts → Parts
 placed LeftOut slot tree prune parts = parts
-placed Whole slot tree prune parts = part slot tree parts
+placed Stays slot tree prune parts = part slot tree parts
 placed (Within paths) slot tree prune parts = part slot (prune paths) parts
 
 -- the same of an entry, whose key stays as it is
 abbrev pub placed_entry : Fate → Tree → Tree → (List Path → Tree) → Parts → Parts
 placed_entry LeftOut key value prune parts = parts
-placed_entry Whole key value prune parts = part Slot.Key key (part Slot.Value value parts)
+placed_entry Stays key value prune parts = part Slot.Key key (part Slot.Value value parts)
 placed_entry (Within paths) key value prune parts = part Slot.Key key (part Slot.Value (prune paths) parts)
 
 abbrev mutual
