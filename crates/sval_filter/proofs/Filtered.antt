@@ -88,7 +88,7 @@ module _ {V : Type 0} (law : Law V) (rule : Rule) (paths : List Path) where
       let to = goes_to view.state g.0 c g.1 in
       let first = due rule paths view.kept c in
       let later = all_due rule paths (kept_after rule paths view.kept c) calls in
-      let accepted : Accepts law rule paths view c = record { goes_on = record { going = going; viable = goes_taken view.state g.0 c g.1 }; passed_on = accepts_first law first later view.inner.view a } in
+      let accepted : Accepts law rule paths view c = record { goes = record { going = going; viable = goes_taken view.state g.0 c g.1 }; passed_on = accepts_first law first later view.inner.view a } in
       let next = filter_takes calls (filter_after law rule paths view c) going (subst (λ (s : State). Runs s.filled s.frames (plain calls) b' fs') to g.2) (accepts_second law first later view.inner.view a) in
       (next.0, (accepted, next.1))
 

@@ -7,4 +7,5 @@ pub mod PartByPart
 pub mod PrunedParts
 pub mod DueCalls
 pub mod Filtered
+pub mod Refusals
 mod examples

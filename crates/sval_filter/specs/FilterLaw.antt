@@ -31,7 +31,7 @@ new_filter inner = record { state = record { filled = false; frames = [] }; kept
 abbrev pub filter_standing : {V : Type 0} → FilterView V → Standing (FilterView V)
 filter_standing view = record { view = view; faults = view.inner.faults; wants = view.wants }
 
--- how often it was refused, other than as not viable, once it was for this
+-- the count of wants after a refusal for this
 abbrev pub wants_after : FilterWhy → ℕ → ℕ
 wants_after NotViable wants = wants
 wants_after _ wants = one_more wants
@@ -59,7 +59,7 @@ AcceptsAll law view calls = Ran law view calls (all_taken law view calls)
 
 -- a call is accepted where it goes on, and the inner stream accepts the calls that are due
 pub record Accepts {V : Type 0} (law : Law V) (rule : Rule) (paths : List Path) (view : FilterView V) (call : Call) : Type 0 where
-  pub goes_on : GoesOn view call
+  pub goes : GoesOn view call
   pub passed_on : AcceptsAll law view.inner.view (due rule paths view.kept call)
 
 -- the inner stream after these calls were taken
@@ -81,15 +81,15 @@ pub record IsNotViable {V : Type 0} (view : FilterView V) (call : Call) : Type 0
   pub going : is_stopped view.why ≡ false
   pub not_viable : goes_on view.state call ≡ false
 
--- the call goes on, and it may take memory: it begins what has an end of its own, or the held key may grow
+-- the call goes on, and may take memory: it begins what has an end of its own, or the held key takes some
 pub record LacksMemory {V : Type 0} (paths : List Path) (view : FilterView V) (call : Call) : Type 0 where
-  pub goes_on : GoesOn view call
+  pub goes : GoesOn view call
   pub grows : (opens call || key_may_grow (mode_in paths view.kept.layers) view.kept.held call) ≡ true
 
 -- the call goes on, and the inner stream refused one of the calls that are due
 pub record IsRefusedInside {V : Type 0} (law : Law V) (rule : Rule) (paths : List Path) (view : FilterView V) (call : Call)
     (inner : Standing V) : Type 0 where
-  pub goes_on : GoesOn view call
+  pub goes : GoesOn view call
   pub stops : Stops law view.inner (makes (due rule paths view.kept call)) inner
 
 -- the cause of a refusal for this, and what it leaves of the inner stream

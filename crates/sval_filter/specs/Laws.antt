@@ -1,15 +1,15 @@
 -- The laws of pruning and of the filter, as facts.
-use Rattle.std.specs.Prelude.{◌≡◌, List, []}
+use Rattle.std.specs.Prelude.{◌≡◌, ◌<◌, ◌^◌, List, []}
 use Rattle.sval_label.specs.Calls.{Call}
 use Rattle.sval_core.specs.Trees.{Tree, IsGood}
 use Rattle.sval_core.specs.Spells.{Spells}
 use Rattle.sval_core.specs.Real.{IsReal}
-use Rattle.sval_core.specs.Law.{Law, Standing, Ran, Streams}
+use Rattle.sval_core.specs.Law.{Law, Standing, Ran, Refuses, Streams}
 use Rattle.sval_core.specs.Values.{makes}
 use Rattle.sval_filter.specs.Paths.{Path, Rule, Drop}
 use Rattle.sval_filter.specs.Pruned.{pruned}
 use Rattle.sval_filter.specs.Filtering.{fresh, all_due}
-use Rattle.sval_filter.specs.FilterLaw.{FilterView, new_filter, AcceptsAll, filter_law, Took}
+use Rattle.sval_filter.specs.FilterLaw.{FilterView, new_filter, filter_standing, AcceptsAll, IsFilterLeft, filter_law, Took}
 
 -- what is left of a good tree is good
 abbrev pub PrunedIsGood : Type 0
@@ -42,3 +42,10 @@ TakesTrees {V} law =
     (rule : Rule) (paths : List Path) (calls : List Call) (tree : Tree) (inner : Standing V)
     → Spells calls tree → AcceptsAll law inner.view (all_due rule paths fresh calls)
     → (last : FilterView V) × Ran (filter_law law rule paths) (new_filter inner) calls last
+
+-- whatever a refused call leaves, it was refused with a cause, and no count fell
+abbrev pub RefusesWithCause : {V : Type 0} → Law V → Type 0
+RefusesWithCause {V} law =
+    (rule : Rule) (paths : List Path) (call : Call) (view left : FilterView V) → view.wants < 2 ^ 64
+    → IsFilterLeft law rule paths view call left
+    → Refuses (filter_law law rule paths) (filter_standing view) call (filter_standing left)

@@ -35,6 +35,7 @@ abbrev mutual
   pruned rule paths (Container head parts) = Container head (pruned_parts rule paths parts)
   pruned rule paths tree = tree
 
+  -- an entry goes by its key's label, and each other part by itself
   pub pruned_parts : Rule → List Path → Parts → Parts
   pruned_parts rule paths none = none
   pruned_parts rule paths (part Slot.Key key (part Slot.Value value parts)) =

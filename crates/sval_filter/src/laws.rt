@@ -1,6 +1,7 @@
 //! The laws of pruning and of the filter, each as a clause that is proved.
 
-ghost use Rattle.sval_filter.specs.Laws.{PrunedIsGood, PrunedIsReal, DueCallsSpellPruned, NothingDropped, InnerTakesPruned, TakesTrees};
+ghost use Rattle.sval_filter.specs.Laws.{PrunedIsGood, PrunedIsReal, DueCallsSpellPruned, NothingDropped};
+ghost use Rattle.sval_filter.specs.Laws.{InnerTakesPruned, TakesTrees, RefusesWithCause};
 
 use sval_core::Stream;
 use sval_label::Lending;
@@ -17,4 +18,5 @@ pub fn filter_laws()
 pub fn stream_laws<L: Lending, S: Stream<L>>()
     ensures inner_takes_pruned { InnerTakesPruned S.law }
     ensures takes_trees { TakesTrees S.law }
+    ensures refuses_with_cause { RefusesWithCause S.law }
 {}

@@ -1,15 +1,13 @@
 -- What the law of a filter refuses: an answer that isn't the first that is due, and `Inner` where the inner stream refused nothing.
-use Rattle.std.specs.Prelude.{◌≡◌, ℕ, ◌<◌, ◌-◌, ◌^◌, true, false, List, [], ◌∷◌, Some}
+use Rattle.std.specs.Prelude.{◌≡◌, ℕ, ◌<◌, ◌-◌, ◌^◌, false, List, [], ◌∷◌, Some}
 use Rattle.std.proofs.Common.{inl, inr, sym, ◌∙◌, subst, arith}
 use Rattle.sval_label.specs.Calls.{Call}
 use Rattle.sval_core.specs.Law.{Law, Standing, Rose, StoppedIn}
 use Rattle.sval_core.specs.CheckerSteps.{goes_on}
 use Rattle.sval_filter.specs.Paths.{Path, Rule}
 use Rattle.sval_filter.specs.Filtering.{due}
+use Rattle.sval_filter.proofs.Refusals.{not_both}
 use Rattle.sval_filter.specs.FilterLaw.{FilterWhy, NotViable, NoMemory, Inner, FilterView, is_stopped, AcceptsAll, IsFilterCause, IsFilterLeft, wants_after}
-
-not_both : false ≡ true → ⊥
-not_both e = cc e
 
 -- a count that can rise, and stood still, didn't rise
 still : (count : ℕ) → count < 2 ^ 64 - 1 → Rose count count → ⊥
@@ -33,9 +31,9 @@ module _ {V : Type 0} (law : Law V) where
         by_last : (last : FilterWhy) → left.why ≡ Some last → IsFilterCause law rule paths view call left.inner last → left.wants ≡ wants_after last view.wants
             → (left.why ≡ Some NotViable) × (left.inner ≡ view.inner) × (left.wants ≡ view.wants)
         by_last NotViable e c w = (e, c.1, w)
-        by_last NoMemory e c w = absurd (not_both (sym never ∙ c.0.goes_on.viable))
+        by_last NoMemory e c w = absurd (not_both (sym never ∙ c.0.goes.viable))
         by_last Inner e (inl stopped) w = absurd (not_both (sym going ∙ stopped.0))
-        by_last Inner e (inr inside) w = absurd (not_both (sym never ∙ inside.goes_on.viable))
+        by_last Inner e (inr inside) w = absurd (not_both (sym never ∙ inside.goes.viable))
 
     -- `Inner` isn't the answer where the inner stream accepts what is due, and was left as it stood
     inner_has_cause : view.inner.faults < 2 ^ 64 - 1 → view.inner.wants < 2 ^ 64 - 1 → AcceptsAll law view.inner.view (due rule paths view.kept call)
