@@ -20,10 +20,10 @@ use Rattle.sval_filter.proofs.DueCalls.{due_spells_pruned}
 
 -- ---- joined calls
 
-joined : {V : Type 0} (law : Law V) (old middle new : Standing V) (first second : List Call)
+streams_both : {V : Type 0} (law : Law V) (old middle new : Standing V) (first second : List Call)
     → Streams law old (makes first) middle → Streams law middle (makes second) new → Streams law old (makes (first ++ second)) new
 unfolding then_emits
-joined law old middle new first second p q = streams_then p q
+streams_both law old middle new first second p q = streams_then p q
 
 accepts_first : {V : Type 0} (law : Law V) (first second : List Call) (old : V) → AcceptsAll law old (first ++ second) → AcceptsAll law old first
 accepts_first law [] second old r = refl
@@ -50,7 +50,7 @@ module _ {V : Type 0} (law : Law V) (rule : Rule) (paths : List Path) where
   inner_takes_due [] view last none = record { willing = refl; ran = refl; faults = refl; wants = refl }
   inner_takes_due (c ∷ calls) view last (takes accepts later) =
       let now = due rule paths view.kept c in
-      joined law view.inner (inner_after law view.inner now) last.inner now (all_due rule paths (kept_after rule paths view.kept c) calls)
+      streams_both law view.inner (inner_after law view.inner now) last.inner now (all_due rule paths (kept_after rule paths view.kept c) calls)
       (record { willing = refl; ran = accepts.passed_on; faults = refl; wants = refl }) (inner_takes_due calls (filter_after law rule paths view c) last later)
   inner_takes_due calls view last (refuses {left = left} call is going later) =
       subst (λ inner. Streams law inner (makes (all_due rule paths view.kept calls)) last.inner) (inner_left view left call is going)

@@ -15,7 +15,7 @@ use Rattle.sval_buffer.proofs.SameTree.{capture_keeps}
 use Rattle.sval_filter.specs.Paths.{Path, Rule, Fate, LeftOut, Stays, Within}
 use Rattle.sval_filter.specs.Pruned.{key_label}
 use Rattle.sval_filter.specs.Filtering.{Mode, Holding, By, Layer, layer, mode_in, entry_in, with_entry, fragments, text_of, held_label, fate_in, passed, mode_of_part, key_due, due_at_end, kept_after_end, kept_after_in, kept_after, due_in, due, all_due}
-use Rattle.sval_filter.proofs.Turns.{at, Crossing, hints_passed, plain_append}
+use Rattle.sval_filter.proofs.Turns.{at, Crossing, one_call, plain_append}
 use Rattle.sval_filter.proofs.Silent.{holding, left_out, part_begin_is, part_end_is, silent_run, held_all, held_is}
 
 -- ---- the label of a key
@@ -63,31 +63,18 @@ end_passed : (fate : Fate) (c s : Slot) → bare_slot c ≡ s → plain (passed 
 end_passed LeftOut c s e = refl
 end_passed fate c s e = ap (λ x. Call.PartEnd x ∷ []) e
 
-after_hints : (hints a : List Call) → plain hints ≡ [] → plain (hints ++ a) ≡ plain a
-after_hints hints a e = plain_append hints a ∙ ap (λ x. x ++ plain a) e
-
 module _ (rule : Rule) (paths : List Path) where
   pub begin_step : (fate : Fate) (ls : List Layer) (slot : Slot) (m : Mode) (after : List Call) → mode_in paths ls ≡ By fate → mode_of_part rule (By fate) (entry_in ls) slot ≡ m
       → Crossing rule paths ls (layer m ∷ ls) (Call.PartBegin slot ∷ after) (λ x. x ≡ passed m (Call.PartBegin slot ∷ [])) after
   begin_step fate ls slot m after is k raw e =
       let n = next_call raw (Call.PartBegin slot) after e in
       let c = part_begin_is n.call slot n.is in
-      let hints = hints_passed rule paths fate ls empty_forest is n.hints (n.call ∷ n.rest) n.none in
       let same : mode_of_part rule (By fate) (entry_in ls) c.0 ≡ m = mode_plain rule (By fate) (entry_in ls) c.0 ∙ ap (mode_of_part rule (By fate) (entry_in ls)) c.2 ∙ k in
-      let due_is : due rule paths (at ls empty_forest) n.call ≡ passed m (Call.PartBegin c.0 ∷ []) =
-      ap (λ x. due_in rule paths x ls empty_forest n.call) is ∙ ap (λ x. due_in rule paths (By fate) ls empty_forest x) c.1 ∙ ap (λ x. passed x (Call.PartBegin c.0 ∷ [])) same in
-      let after_is : kept_after rule paths (at ls empty_forest) n.call ≡ at (layer m ∷ ls) empty_forest =
-      ap (λ x. kept_after_in rule paths x ls empty_forest n.call) is ∙ ap (λ x. kept_after_in rule paths (By fate) ls empty_forest x) c.1 ∙ ap (λ x. at (layer x ∷ ls) empty_forest) same in
-      record {
-        rest = n.rest;
-        out = hints.0 ++ passed m (Call.PartBegin c.0 ∷ []);
-        goes = ap (all_due rule paths (at ls empty_forest)) n.whole ∙ hints.1
-            ∙ ap (λ x. hints.0 ++ (x ++ all_due rule paths (kept_after rule paths (at ls empty_forest) n.call) n.rest)) due_is
-            ∙ ap (λ x. hints.0 ++ (passed m (Call.PartBegin c.0 ∷ []) ++ all_due rule paths x n.rest)) after_is
-            ∙ sym (append_assoc hints.0 (passed m (Call.PartBegin c.0 ∷ [])) (all_due rule paths (at (layer m ∷ ls) empty_forest) n.rest));
-        left = n.after;
-        says = after_hints hints.0 (passed m (Call.PartBegin c.0 ∷ [])) hints.2 ∙ begin_passed m c.0 slot c.2;
-      }
+      one_call rule paths fate ls (layer m ∷ ls) raw (Call.PartBegin slot) after (passed m (Call.PartBegin c.0 ∷ [])) (passed m (Call.PartBegin slot ∷ [])) is n
+      (ap (λ x. due_in rule paths x ls empty_forest n.call) is ∙ ap (λ x. due_in rule paths (By fate) ls empty_forest x) c.1 ∙ ap (λ x. passed x (Call.PartBegin c.0 ∷ [])) same)
+      (ap (λ x. kept_after_in rule paths x ls empty_forest n.call) is ∙ ap (λ x. kept_after_in rule paths (By fate) ls empty_forest x) c.1
+      ∙ ap (λ x. at (layer x ∷ ls) empty_forest) same)
+      (begin_passed m c.0 slot c.2)
 
   pub end_step : (fate : Fate) (ls : List Layer) (slot : Slot) (after : List Call)
       → Crossing rule paths (layer (By fate) ∷ ls) (with_entry Stays ls) (Call.PartEnd slot ∷ after) (λ x. x ≡ passed (By fate) (Call.PartEnd slot ∷ [])) after
@@ -95,19 +82,8 @@ module _ (rule : Rule) (paths : List Path) where
       let n = next_call raw (Call.PartEnd slot) after e in
       let c = part_end_is n.call slot n.is in
       let from = layer (By fate) ∷ ls in
-      let hints = hints_passed rule paths fate from empty_forest refl n.hints (n.call ∷ n.rest) n.none in
-      let due_is : due rule paths (at from empty_forest) n.call ≡ passed (By fate) (Call.PartEnd c.0 ∷ []) = ap (due rule paths (at from empty_forest)) c.1 in
-      let after_is : kept_after rule paths (at from empty_forest) n.call ≡ at (with_entry Stays ls) empty_forest = ap (kept_after rule paths (at from empty_forest)) c.1 in
-      record {
-        rest = n.rest;
-        out = hints.0 ++ passed (By fate) (Call.PartEnd c.0 ∷ []);
-        goes = ap (all_due rule paths (at from empty_forest)) n.whole ∙ hints.1
-            ∙ ap (λ x. hints.0 ++ (x ++ all_due rule paths (kept_after rule paths (at from empty_forest) n.call) n.rest)) due_is
-            ∙ ap (λ x. hints.0 ++ (passed (By fate) (Call.PartEnd c.0 ∷ []) ++ all_due rule paths x n.rest)) after_is
-            ∙ sym (append_assoc hints.0 (passed (By fate) (Call.PartEnd c.0 ∷ [])) (all_due rule paths (at (with_entry Stays ls) empty_forest) n.rest));
-        left = n.after;
-        says = after_hints hints.0 (passed (By fate) (Call.PartEnd c.0 ∷ [])) hints.2 ∙ end_passed fate c.0 slot c.2;
-      }
+      one_call rule paths fate from (with_entry Stays ls) raw (Call.PartEnd slot) after (passed (By fate) (Call.PartEnd c.0 ∷ [])) (passed (By fate) (Call.PartEnd slot ∷ [])) refl n
+      (ap (due rule paths (at from empty_forest)) c.1) (ap (kept_after rule paths (at from empty_forest)) c.1) (end_passed fate c.0 slot c.2)
 
   -- ---- what is left out
 

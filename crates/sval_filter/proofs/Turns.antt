@@ -5,7 +5,7 @@ use Rattle.std.proofs.lemmas.List.Elements.{filter_map-append}
 use Rattle.sval_label.specs.Calls.{Call, Head}
 use Rattle.sval_core.specs.Spells.{plain, plain_call}
 use Rattle.sval_core.proofs.ManyRuns.{plain_none, plain_some}
-use Rattle.sval_core.proofs.Segments.{next_call}
+use Rattle.sval_core.proofs.Segments.{NextCall, next_call}
 use Rattle.sval_buffer.specs.Forest.{Forest, empty_forest}
 use Rattle.sval_filter.specs.Paths.{Path, Rule, Fate, LeftOut, Stays, Within}
 use Rattle.sval_filter.specs.Filtering.{Mode, Holding, By, Layer, Filtering, mode_in, entry_in, hint_due, passed, without_size, held_after, layers_after, kept_after_in, kept_after, due_in, due, all_due}
@@ -146,6 +146,23 @@ module _ (rule : Rule) (paths : List Path) where
               plain_append this rest.0 ∙ ap (λ x. x ++ plain rest.0) (hint_says (By fate) (entry_in ls) c k) ∙ rest.2,
             )
 
+  -- hints, and then a call at which this is due and after which these layers are there
+  pub one_call : (fate : Fate) (ls to : List Layer) (raw : List Call) (p : Call) (after out said : List Call) → mode_in paths ls ≡ By fate → (n : NextCall raw p after)
+      → due rule paths (at ls empty_forest) n.call ≡ out → kept_after rule paths (at ls empty_forest) n.call ≡ at to empty_forest → plain out ≡ said
+      → Passage ls to raw (λ x. x ≡ said) after
+  one_call fate ls to raw p after out said is n due_is after_is says =
+      let hints = hints_passed fate ls empty_forest is n.hints (n.call ∷ n.rest) n.none in
+      record {
+        rest = n.rest;
+        out = hints.0 ++ out;
+        goes = ap (λ x. all_due rule paths (at ls empty_forest) x) n.whole ∙ hints.1
+            ∙ ap (λ x. hints.0 ++ (x ++ all_due rule paths (kept_after rule paths (at ls empty_forest) n.call) n.rest)) due_is
+            ∙ ap (λ x. hints.0 ++ (out ++ all_due rule paths x n.rest)) after_is
+            ∙ sym (append_assoc hints.0 out (all_due rule paths (at to empty_forest) n.rest));
+        left = n.after;
+        says = plain_append hints.0 out ∙ ap (λ x. x ++ plain out) hints.2 ∙ says;
+      }
+
   passed_call : (fate : Fate) → Passing fate → (c : Call) → passed (By fate) (c ∷ []) ≡ c ∷ []
   passed_call LeftOut passes c = elim passes [ ]
   passed_call Stays stays c = refl
@@ -156,22 +173,9 @@ module _ (rule : Rule) (paths : List Path) where
     pub turn : (after : List Call) → Crossing ls (layers_after (By fate) ls p) (p ∷ after) (λ x. x ≡ without_size p ∷ []) after
     turn after raw e =
         let n = next_call raw p after e in
-        let hints = hints_passed fate ls empty_forest is n.hints (n.call ∷ n.rest) n.none in
         let no_part : is_part n.call ≡ false = part_plain n.call p n.is ∙ other in
-        let to = layers_after (By fate) ls p in
-        let due_is : due rule paths (at ls empty_forest) n.call ≡ without_size n.call ∷ [] =
-        ap (λ x. due_in rule paths x ls empty_forest n.call) is ∙ due_other (By fate) ls empty_forest n.call p n.is no_part ∙ passed_call fate passes (without_size n.call) in
-        let after_is : kept_after rule paths (at ls empty_forest) n.call ≡ at to empty_forest =
-        ap (λ x. kept_after_in rule paths x ls empty_forest n.call) is ∙ after_other (By fate) ls empty_forest n.call no_part
-        ∙ ap (λ x. at x empty_forest) (layers_plain (By fate) ls n.call p n.is) in
-        record {
-          rest = n.rest;
-          out = hints.0 ++ (without_size n.call ∷ []);
-          goes = ap (λ x. all_due rule paths (at ls empty_forest) x) n.whole ∙ hints.1
-              ∙ ap (λ x. hints.0 ++ (x ++ all_due rule paths (kept_after rule paths (at ls empty_forest) n.call) n.rest)) due_is
-              ∙ ap (λ x. hints.0 ++ (without_size n.call ∷ all_due rule paths x n.rest)) after_is
-              ∙ sym (append_assoc hints.0 (without_size n.call ∷ []) (all_due rule paths (at to empty_forest) n.rest));
-          left = n.after;
-          says = plain_append hints.0 (without_size n.call ∷ []) ∙ ap (λ x. x ++ plain (without_size n.call ∷ [])) hints.2
-              ∙ plain_some (without_size n.call) (without_size p) [] (size_plain n.call p n.is);
-        }
+        one_call fate ls (layers_after (By fate) ls p) raw p after (without_size n.call ∷ []) (without_size p ∷ []) is n
+        (ap (λ x. due_in rule paths x ls empty_forest n.call) is ∙ due_other (By fate) ls empty_forest n.call p n.is no_part ∙ passed_call fate passes (without_size n.call))
+        (ap (λ x. kept_after_in rule paths x ls empty_forest n.call) is ∙ after_other (By fate) ls empty_forest n.call no_part
+        ∙ ap (λ x. at x empty_forest) (layers_plain (By fate) ls n.call p n.is))
+        (plain_some (without_size n.call) (without_size p) [] (size_plain n.call p n.is))

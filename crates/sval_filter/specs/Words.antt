@@ -8,7 +8,7 @@ abbrev pub rule_of : List ℕ → Option Rule
 rule_of word = if bytes_eq word (codes "drop") then Some Drop else if bytes_eq word (codes "keep") then Some Keep else None
 
 -- a rule and paths, if the words are such a form
-abbrev pub form_of : List (List ℕ) → Option (Rule × List Path)
-form_of (rule ∷ word ∷ words) =
+abbrev pub rule_and_paths : List (List ℕ) → Option (Rule × List Path)
+rule_and_paths (rule ∷ word ∷ words) =
     if list_any is_bad_word (word ∷ words) then None else option_map (λ found. (found, map labels_of (word ∷ words))) (rule_of rule)
-form_of words = None
+rule_and_paths words = None

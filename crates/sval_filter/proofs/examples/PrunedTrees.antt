@@ -8,7 +8,7 @@ use Rattle.sval_json.specs.Number.{Refusal}
 use Rattle.sval_json.specs.Shape.{map_ok, json_of}
 use Rattle.sval_filter.specs.Paths.{Path, Rule, Drop, Keep, with_path, with_label, labels_of, is_bad_word, tails}
 use Rattle.sval_filter.specs.Pruned.{pruned}
-use Rattle.sval_filter.specs.Words.{form_of}
+use Rattle.sval_filter.specs.Words.{rule_and_paths}
 
 abbrev pub label : List ℕ → Option Tag → Label
 label text tag = record { text = text; tag = tag; is_static = false }
@@ -94,8 +94,8 @@ deeper = (refl, refl, refl, refl)
 
 -- ---- words
 
-forms : (form_of (codes "drop" ∷ codes "a.b" ∷ codes "c" ∷ []) ≡ Some (Drop, (codes "a" ∷ codes "b" ∷ []) ∷ (codes "c" ∷ []) ∷ []))
-    × (form_of (codes "keep" ∷ codes "a" ∷ []) ≡ Some (Keep, (codes "a" ∷ []) ∷ []))
-    × (form_of (codes "drop" ∷ []) ≡ None) × (form_of (codes "drop" ∷ codes "a..b" ∷ []) ≡ None) × (form_of (codes "drop" ∷ codes "a" ∷ [] ∷ []) ≡ None)
-    × (form_of (codes "Drop" ∷ codes "a" ∷ []) ≡ None) × (form_of [] ≡ None)
+forms : (rule_and_paths (codes "drop" ∷ codes "a.b" ∷ codes "c" ∷ []) ≡ Some (Drop, (codes "a" ∷ codes "b" ∷ []) ∷ (codes "c" ∷ []) ∷ []))
+    × (rule_and_paths (codes "keep" ∷ codes "a" ∷ []) ≡ Some (Keep, (codes "a" ∷ []) ∷ []))
+    × (rule_and_paths (codes "drop" ∷ []) ≡ None) × (rule_and_paths (codes "drop" ∷ codes "a..b" ∷ []) ≡ None) × (rule_and_paths (codes "drop" ∷ codes "a" ∷ [] ∷ []) ≡ None)
+    × (rule_and_paths (codes "Drop" ∷ codes "a" ∷ []) ≡ None) × (rule_and_paths [] ≡ None)
 forms = (refl, refl, refl, refl, refl, refl, refl)
