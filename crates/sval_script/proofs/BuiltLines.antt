@@ -3,36 +3,36 @@ use Rattle.std.specs.Prelude.{◌≡◌, ℕ, ◌+◌, Bool, true, false, if◌t
 use Rattle.std.proofs.Common.{sym, ap, ◌∙◌}
 use Rattle.std.proofs.lemmas.Slice.Eq.{bytes_eq-Decides}
 use Rattle.sval_label.specs.Calls.{Call}
-use Rattle.sval_script.specs.Lines.{Form, forms, form_of, call_of, line_of, cut_at, Lines, Good, Bad, with_call, lines_from, lines}
-use Rattle.sval_script.specs.AllLines.{all_forms, any_call_of, any_line_of, any_lines_from, any_lines}
+use Rattle.sval_script.specs.Lines.{LineForm, forms, find_form, call_of_fields, line_of, cut_at, Lines, Good, Bad, with_call, lines_from, lines}
+use Rattle.sval_script.specs.AllLines.{all_forms, any_call_of_fields, any_line_of, any_lines_from, any_lines}
 
 -- each row of a table stands in the table of all
-abbrev AreKnown : List (List ℕ × Form) → Type 0
+abbrev AreKnown : List (List ℕ × LineForm) → Type 0
 AreKnown [] = Unit {0}
-AreKnown (row ∷ rows) = (form_of row.0 all_forms ≡ Some row.1) × AreKnown rows
+AreKnown (row ∷ rows) = (find_form row.0 all_forms ≡ Some row.1) × AreKnown rows
 
 forms_known : AreKnown forms
 unfolding forms all_forms
 forms_known = (refl, (refl, (refl, (refl, (refl, (refl, (refl, (refl, (refl, (refl, (refl, tt)))))))))))
 
-known_form : (word : List ℕ) (rows : List (List ℕ × Form)) (form : Form) → AreKnown rows → form_of word rows ≡ Some form → form_of word all_forms ≡ Some form
+known_form : (word : List ℕ) (rows : List (List ℕ × LineForm)) (form : LineForm) → AreKnown rows → find_form word rows ≡ Some form → find_form word all_forms ≡ Some form
 known_form word [] form k e = cc e
 known_form word (row ∷ rows) form k e = by_word (λ h. known_form word rows form k.1 h) (bytes_eq word row.0) refl e
   where
-    by_word : (form_of word rows ≡ Some form → form_of word all_forms ≡ Some form) → (b : Bool) → bytes_eq word row.0 ≡ b
-        → (if b then Some row.1 else form_of word rows) ≡ Some form → form_of word all_forms ≡ Some form
-    by_word next true f h = let same : word ≡ row.0 = (bytes_eq-Decides word row.0).0 f in ap (λ w. form_of w all_forms) same ∙ k.0 ∙ h
+    by_word : (find_form word rows ≡ Some form → find_form word all_forms ≡ Some form) → (b : Bool) → bytes_eq word row.0 ≡ b
+        → (if b then Some row.1 else find_form word rows) ≡ Some form → find_form word all_forms ≡ Some form
+    by_word next true f h = let same : word ≡ row.0 = (bytes_eq-Decides word row.0).0 f in ap (λ w. find_form w all_forms) same ∙ k.0 ∙ h
     by_word next false f h = next h
 
-some_form : (fields : List (List ℕ)) (found : Option Form) (call : Call) → option_and_then (λ (form : Form). form fields) found ≡ Some call → (form : Form) × (found ≡ Some form) × (form fields ≡ Some call)
+some_form : (fields : List (List ℕ)) (found : Option LineForm) (call : Call) → option_and_then (λ (form : LineForm). form fields) found ≡ Some call → (form : LineForm) × (found ≡ Some form) × (form fields ≡ Some call)
 some_form fields None call e = cc e
 some_form fields (Some form) call e = (form, refl, e)
 
-any_of_call : (words : List (List ℕ)) (call : Call) → call_of words ≡ Some call → any_call_of words ≡ Some call
+any_of_call : (words : List (List ℕ)) (call : Call) → call_of_fields words ≡ Some call → any_call_of_fields words ≡ Some call
 any_of_call [] call e = cc e
 any_of_call (word ∷ fields) call e =
-    let f = some_form fields (form_of word forms) call e in
-    ap (option_and_then (λ (form : Form). form fields)) (known_form word forms f.0 forms_known f.1) ∙ f.2
+    let f = some_form fields (find_form word forms) call e in
+    ap (option_and_then (λ (form : LineForm). form fields)) (known_form word forms f.0 forms_known f.1) ∙ f.2
 
 any_of_line : (part : List ℕ) (call : Call) → line_of part ≡ Some call → any_line_of part ≡ Some call
 unfolding line_of any_line_of

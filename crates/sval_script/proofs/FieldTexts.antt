@@ -8,7 +8,7 @@ use Rattle.std.proofs.lemmas.List.{take_all, length-drop}
 use Rattle.std.proofs.lemmas.Str.{IsUtf8-from_is_utf8, is_utf8-from_IsUtf8}
 use Rattle.hex.specs.Hex.{decode_of}
 use Rattle.sval_script.specs.Lines.{bytes, text}
-use Rattle.sval_script.specs.LineFields.{Decodes, Stores}
+use Rattle.sval_script.specs.StoredTexts.{Decodes, StoresText}
 
 drop_length : (xs ys : List ℕ) → drop (length xs) (xs ++ ys) ≡ ys
 drop_length [] ys = refl
@@ -31,7 +31,7 @@ behind digits old new stored part start d e same f =
     f ∙ take_rest stored start ∙ ap (drop start) (same ∙ d.stored) ∙ ap (λ n. drop n (old ++ d.bytes)) e ∙ drop_length old d.bytes
 
 pub text_stored : (field digits old new stored part : List ℕ) (start : ℕ) → get_or field 0 0 ≡ 61 → digits ≡ take (length field - 1) (drop 1 field)
-    → Decodes digits old new → start ≡ length old → stored ≡ new → part ≡ take (length stored - start) (drop start stored) → IsUtf8 part → Stores field old new (length part)
+    → Decodes digits old new → start ≡ length old → stored ≡ new → part ≡ take (length stored - start) (drop start stored) → IsUtf8 part → StoresText field old new (length part)
 text_stored field digits old new stored part start h e d s same f u =
     let made = behind digits old new stored part start d s same f in
     let v : IsUtf8 d.bytes = subst IsUtf8 made u in

@@ -21,7 +21,7 @@ use Rattle.sval_label.specs.Calls.{Label, Index, Tag}
 use Rattle.sval_label.specs.Tags.{tag_names, is_tag_name}
 use Rattle.sval_label.specs.Ranges.{is_index}
 use Rattle.sval_label.proofs.Decimals.{IsPlain, decimal_plain, is_decimal-plain, IsShort, short_index}
-use Rattle.sval_script.specs.Printed.{IsPrintableLabel, IsPrintableIndex, or_dash_text, size_text, hex_text, tag_text, hint_text, label_text, index_text}
+use Rattle.sval_script.specs.Printed.{IsPrintableLabel, IsPrintableIndex, or_dash_field, size_field, hex_field, tag_field, hint_text, label_field, index_field}
 use Rattle.sval_script.specs.Lines.{keep, natural, negative, integer, or_dash, size, bytes, text, cut_at}
 use Rattle.sval_script.specs.AllLines.{tag, tagged_parts, label, index}
 use Rattle.sval_script.proofs.Cut.{not_true, is_not, cut_none, cut_first}
@@ -190,25 +190,25 @@ pub inner_feed : (byte : ℕ) → is_inner byte ≡ true → is_not 10 byte ≡ 
 inner_feed byte h = grind (arith, nat_tests)
 
 -- the field reads as this value, and ends no field
-pub record Reads {A : Type 0} (read : List ℕ → Option A) (part : List ℕ) (x : A) : Type 0 where
+pub record ReadsField {A : Type 0} (read : List ℕ → Option A) (part : List ℕ) (x : A) : Type 0 where
   pub as_value : read part ≡ Some x
   pub inner : list_all is_inner part ≡ true
 
 -- of a value that may be absent
 pub record ReadsApart {A : Type 0} (read : List ℕ → Option A) (part : List ℕ) (x : A) : Type 0 where
-  pub reads : Reads read part x
+  pub reads : ReadsField read part x
   pub no_dash : bytes_eq part (codes "-") ≡ false
 
-pub or_dash-none : {A : Type 0} (read : List ℕ → Option A) → Reads (or_dash read) (codes "-") None
+pub or_dash-none : {A : Type 0} (read : List ℕ → Option A) → ReadsField (or_dash read) (codes "-") None
 or_dash-none read = record { as_value = refl; inner = refl }
 
-pub or_dash-some : {A : Type 0} (read : List ℕ → Option A) (part : List ℕ) (x : A) → ReadsApart read part x → Reads (or_dash read) part (Some x)
+pub or_dash-some : {A : Type 0} (read : List ℕ → Option A) (part : List ℕ) (x : A) → ReadsApart read part x → ReadsField (or_dash read) part (Some x)
 or_dash-some read part x h = record { as_value = rw h.no_dash (ap (option_map Some) h.reads.as_value); inner = h.reads.inner }
 
 pub split-no_dash : (digits : List ℕ) → IsSplitDecimal digits → bytes_eq digits (codes "-") ≡ false
 split-no_dash digits s = rw (s.is, s.no_minus) refl
 
-pub size-reads : (n : Option ℕ) → IfSome n (λ k. k < 2 ^ 64) → Reads size (size_text n) n
+pub size-reads : (n : Option ℕ) → IfSome n (λ k. k < 2 ^ 64) → ReadsField size (size_field n) n
 size-reads None h = or_dash-none _
 size-reads (Some n) h =
     let short : n < 10 ^ 64 = omega arith in
@@ -222,13 +222,13 @@ size-reads (Some n) h =
       no_dash = split-no_dash (decimal n) digits;
     })
 
-pub bytes-reads : (xs : List ℕ) → IsBytes xs → Reads bytes (hex_text xs) xs
+pub bytes-reads : (xs : List ℕ) → IsBytes xs → ReadsField bytes (hex_field xs) xs
 bytes-reads xs h = record {
   as_value = let e = decode_of-encode_lower xs h in rw e refl;
   inner = all_weaker is_clean is_inner clean_inner (encode_lower xs) (clean-hex xs);
 }
 
-pub text-reads : (xs : List ℕ) → is_utf8 xs ≡ true → Reads text (hex_text xs) xs
+pub text-reads : (xs : List ℕ) → is_utf8 xs ≡ true → ReadsField text (hex_field xs) xs
 text-reads xs u = let h = bytes_of_text xs u in record {
   as_value = ap (option_and_then (keep is_utf8)) (bytes-reads xs h).as_value ∙ rw u refl;
   inner = (bytes-reads xs h).inner;
@@ -240,7 +240,7 @@ tag-reads t h = record {
   no_dash = not_true (bytes_eq t (codes "-")) (of_names (λ name. not (bytes_eq name (codes "-"))) t tag_names h refl);
 }
 
-pub or_dash_tag-reads : (t : Option Tag) → IfSome t (λ name. is_tag_name name ≡ true) → Reads (or_dash tag) (tag_text t) t
+pub or_dash_tag-reads : (t : Option Tag) → IfSome t (λ name. is_tag_name name ≡ true) → ReadsField (or_dash tag) (tag_field t) t
 or_dash_tag-reads None h = or_dash-none tag
 or_dash_tag-reads (Some t) h = or_dash-some tag t t (tag-reads t h)
 
@@ -266,13 +266,13 @@ pub both_inner : (xs ys : List ℕ) → list_all is_clean xs ≡ true → list_a
 both_inner xs ys h k =
     list_all-append is_inner xs ys ∙ ap (λ b. b && list_all is_inner ys) (all_weaker is_clean is_inner clean_inner xs h) ∙ k
 
-pub label-reads : (l : Label) → IsPrintableLabel l → ReadsApart label (label_text l) l
+pub label-reads : (l : Label) → IsPrintableLabel l → ReadsApart label (label_field l) l
 label-reads l h = record {
   reads = record {
-    as_value = tagged-reads text (λ t hint. record { text = t; tag = hint; is_static = false }) (hex_text l.text) l.text l.tag
+    as_value = tagged-reads text (λ t hint. record { text = t; tag = hint; is_static = false }) (hex_field l.text) l.text l.tag
         (text-reads l.text h.utf8).as_value (clean-hex l.text) h.hint
         ∙ ap (λ b. let m : Label = record { text = l.text; tag = l.tag; is_static = b } in Some m) (sym h.not_static);
-    inner = both_inner (hex_text l.text) (hint_text l.tag) (clean-hex l.text) (hint_inner l.tag h.hint);
+    inner = both_inner (hex_field l.text) (hint_text l.tag) (clean-hex l.text) (hint_inner l.tag h.hint);
   };
   no_dash = refl;
 }
@@ -281,7 +281,7 @@ pub index-no_dash : (z : ℤ) (rest : List ℕ) → IsShort z → bytes_eq (sign
 index-no_dash (pos n) rest h = let s = split_decimal n h in rw (s.is, s.no_minus) refl
 index-no_dash (negsuc n) rest h = let s = split_decimal (suc n) h in rw s.is refl
 
-pub index-reads : (i : Index) → IsPrintableIndex i → ReadsApart index (index_text i) i
+pub index-reads : (i : Index) → IsPrintableIndex i → ReadsApart index (index_field i) i
 index-reads i h =
     let short = short_index i.number h.range in
     let e : option_and_then (keep is_index) (integer (signed_decimal i.number)) ≡ Some i.number =
@@ -295,10 +295,10 @@ index-reads i h =
       no_dash = index-no_dash i.number (hint_text i.tag) short;
     }
 
-pub or_dash_label-reads : (l : Option Label) → IfSome l IsPrintableLabel → Reads (or_dash label) (or_dash_text label_text l) l
+pub or_dash_label-reads : (l : Option Label) → IfSome l IsPrintableLabel → ReadsField (or_dash label) (or_dash_field label_field l) l
 or_dash_label-reads None h = or_dash-none label
-or_dash_label-reads (Some l) h = or_dash-some label (label_text l) l (label-reads l h)
+or_dash_label-reads (Some l) h = or_dash-some label (label_field l) l (label-reads l h)
 
-pub or_dash_index-reads : (i : Option Index) → IfSome i IsPrintableIndex → Reads (or_dash index) (or_dash_text index_text i) i
+pub or_dash_index-reads : (i : Option Index) → IfSome i IsPrintableIndex → ReadsField (or_dash index) (or_dash_field index_field i) i
 or_dash_index-reads None h = or_dash-none index
-or_dash_index-reads (Some i) h = or_dash-some index (index_text i) i (index-reads i h)
+or_dash_index-reads (Some i) h = or_dash-some index (index_field i) i (index-reads i h)

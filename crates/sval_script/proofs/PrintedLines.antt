@@ -15,26 +15,26 @@ use Rattle.sval_label.specs.Calls.{U8, U16, U32, U64, U128, I8, I16, I32, I64, I
 use Rattle.sval_label.specs.Tags.{IsTagName}
 use Rattle.sval_label.specs.Ranges.{is_of_type}
 use Rattle.sval_label.proofs.Decimals.{short_of_type}
-use Rattle.sval_script.specs.Printed.{IsShortSize, IsPrintableLabel, IsPrintableIndex, IsPrintableName, IsPrintableCall, ArePrintable, or_dash_text, size_text, hex_text, tag_text, label_text, index_text, name_fields, type_word, words_of, line, printed}
-use Rattle.sval_script.specs.Lines.{keep, integer, or_dash, size, bytes, text, Form, end, field, whole_number, form_of, cut_at, Good, with_call}
-use Rattle.sval_script.specs.AllLines.{tag, label, index, name, record_part, tuple_part, record_tuple_part, all_forms, any_call_of, any_line_of, any_lines_from, any_lines}
+use Rattle.sval_script.specs.Printed.{IsShortSize, IsPrintableLabel, IsPrintableIndex, IsPrintableName, IsPrintableCall, ArePrintable, or_dash_field, size_field, hex_field, tag_field, label_field, index_field, name_fields, type_word, words_of, line, printed}
+use Rattle.sval_script.specs.Lines.{keep, integer, or_dash, size, bytes, text, LineForm, complete, field, whole_number, find_form, cut_at, Good, with_call}
+use Rattle.sval_script.specs.AllLines.{tag, label, index, name, record_part, tuple_part, record_tuple_part, all_forms, any_call_of_fields, any_line_of, any_lines_from, any_lines}
 use Rattle.sval_script.proofs.Cut.{is_not, cut_first, cut-some}
-use Rattle.sval_script.proofs.PrintedFields.{integer-signed, clean-signed, all_weaker, cut_joined, clean_inner, inner_space, inner_feed, Reads, size-reads, bytes-reads, text-reads, tag-reads, or_dash_tag-reads, label-reads, index-reads, or_dash_label-reads, or_dash_index-reads, is_clean, is_inner}
+use Rattle.sval_script.proofs.PrintedFields.{integer-signed, clean-signed, all_weaker, cut_joined, clean_inner, inner_space, inner_feed, ReadsField, size-reads, bytes-reads, text-reads, tag-reads, or_dash_tag-reads, label-reads, index-reads, or_dash_label-reads, or_dash_index-reads, is_clean, is_inner}
 
 -- ---- lines
 
-field-reads : {A : Type 0} (read : List ℕ → Option A) (next : A → Form) (part : List ℕ) (x : A) (fields : List (List ℕ))
-    → Reads read part x → field read next (part ∷ fields) ≡ next x fields
+field-reads : {A : Type 0} (read : List ℕ → Option A) (next : A → LineForm) (part : List ℕ) (x : A) (fields : List (List ℕ))
+    → ReadsField read part x → field read next (part ∷ fields) ≡ next x fields
 field-reads read next part x fields h = ap (option_and_then (λ y. next y fields)) h.as_value
 
-name-reads : (next : Name → Form) (n : Name) (fields : List (List ℕ)) → IsPrintableName n → name next (name_fields n ++ fields) ≡ next n fields
+name-reads : (next : Name → LineForm) (n : Name) (fields : List (List ℕ)) → IsPrintableName n → name next (name_fields n ++ fields) ≡ next n fields
 name-reads next n fields h =
     field-reads (or_dash tag) (λ t. field (or_dash label) (λ l. field (or_dash index) (λ i. next (record { tag = t; label = l; index = i }))))
-    (tag_text n.tag) n.tag (or_dash_text label_text n.label ∷ or_dash_text index_text n.index ∷ fields) (or_dash_tag-reads n.tag h.tag)
+    (tag_field n.tag) n.tag (or_dash_field label_field n.label ∷ or_dash_field index_field n.index ∷ fields) (or_dash_tag-reads n.tag h.tag)
     ∙ field-reads (or_dash label) (λ l. field (or_dash index) (λ i. next (record { tag = n.tag; label = l; index = i })))
-    (or_dash_text label_text n.label) n.label (or_dash_text index_text n.index ∷ fields) (or_dash_label-reads n.label h.label)
+    (or_dash_field label_field n.label) n.label (or_dash_field index_field n.index ∷ fields) (or_dash_label-reads n.label h.label)
     ∙ field-reads (or_dash index) (λ i. next (record { tag = n.tag; label = n.label; index = i }))
-    (or_dash_text index_text n.index) n.index fields (or_dash_index-reads n.index h.index)
+    (or_dash_field index_field n.index) n.index fields (or_dash_index-reads n.index h.index)
 
 abbrev are_inner : List (List ℕ) → Bool
 are_inner fields = list_all (list_all is_inner) fields
@@ -45,7 +45,7 @@ name_inner n fields h k =
 
 -- the words spell the call, and have neither a space nor a line feed
 pub record Spell (words : List (List ℕ)) (call : Call) : Type 0 where
-  as_call : any_call_of words ≡ Some call
+  as_call : any_call_of_fields words ≡ Some call
   inner : are_inner words ≡ true
 
 -- a word with one field, and one with a name
@@ -53,52 +53,52 @@ abbrev one_field : List ℕ → List (List ℕ)
 one_field part = part ∷ []
 
 sized-spell : (word : List ℕ) (make : Option ℕ → Call) (n : Option ℕ) → IsShortSize n → list_all is_inner word ≡ true
-    → form_of word all_forms ≡ Some (field size (λ k. end (make k))) → Spell (word ∷ size_text n ∷ []) (make n)
+    → find_form word all_forms ≡ Some (field size (λ k. complete (make k))) → Spell (word ∷ size_field n ∷ []) (make n)
 sized-spell word make n h w e = record {
-  as_call = ap (option_and_then (λ form. form (size_text n ∷ []))) e ∙ field-reads size (λ k. end (make k)) (size_text n) n [] (size-reads n h);
+  as_call = ap (option_and_then (λ form. form (size_field n ∷ []))) e ∙ field-reads size (λ k. complete (make k)) (size_field n) n [] (size-reads n h);
   inner = rw (w, (size-reads n h).inner) refl;
 }
 
 named-spell : (word : List ℕ) (make : Name → Call) (n : Name) → IsPrintableName n → list_all is_inner word ≡ true
-    → form_of word all_forms ≡ Some (name (λ m. end (make m))) → Spell (word ∷ name_fields n) (make n)
+    → find_form word all_forms ≡ Some (name (λ m. complete (make m))) → Spell (word ∷ name_fields n) (make n)
 named-spell word make n h w e = record {
-  as_call = ap (option_and_then (λ form. form (name_fields n))) e ∙ name-reads (λ m. end (make m)) n [] h;
+  as_call = ap (option_and_then (λ form. form (name_fields n))) e ∙ name-reads (λ m. complete (make m)) n [] h;
   inner = rw (w, name_inner n [] h refl) refl;
 }
 
 head-spell : (word : List ℕ) (make : Name → Head) (n : Name) (s : Option ℕ) → IsPrintableName n → IsShortSize s → list_all is_inner word ≡ true
-    → form_of word all_forms ≡ Some (name (λ m. field size (λ k. end (Begin (make m) k)))) → Spell (word ∷ (name_fields n ++ (size_text s ∷ []))) (Begin (make n) s)
+    → find_form word all_forms ≡ Some (name (λ m. field size (λ k. complete (Begin (make m) k)))) → Spell (word ∷ (name_fields n ++ (size_field s ∷ []))) (Begin (make n) s)
 head-spell word make n s h k w e = record {
-  as_call = ap (option_and_then (λ form. form (name_fields n ++ (size_text s ∷ [])))) e
-      ∙ name-reads (λ m. field size (λ j. end (Begin (make m) j))) n (size_text s ∷ []) h
-      ∙ field-reads size (λ j. end (Begin (make n) j)) (size_text s) s [] (size-reads s k);
-  inner = let sized : are_inner (size_text s ∷ []) ≡ true = rw (size-reads s k).inner refl in rw (w, name_inner n (size_text s ∷ []) h sized) refl;
+  as_call = ap (option_and_then (λ form. form (name_fields n ++ (size_field s ∷ [])))) e
+      ∙ name-reads (λ m. field size (λ j. complete (Begin (make m) j))) n (size_field s ∷ []) h
+      ∙ field-reads size (λ j. complete (Begin (make n) j)) (size_field s) s [] (size-reads s k);
+  inner = let sized : are_inner (size_field s ∷ []) ≡ true = rw (size-reads s k).inner refl in rw (w, name_inner n (size_field s ∷ []) h sized) refl;
 }
 
 text-spell : (word : List ℕ) (make : List ℕ → Call) (xs : List ℕ) → is_utf8 xs ≡ true → list_all is_inner word ≡ true
-    → form_of word all_forms ≡ Some (field text (λ t. end (make t))) → Spell (word ∷ hex_text xs ∷ []) (make xs)
+    → find_form word all_forms ≡ Some (field text (λ t. complete (make t))) → Spell (word ∷ hex_field xs ∷ []) (make xs)
 text-spell word make xs u w e = record {
-  as_call = ap (option_and_then (λ form. form (hex_text xs ∷ []))) e ∙ field-reads text (λ t. end (make t)) (hex_text xs) xs [] (text-reads xs u);
+  as_call = ap (option_and_then (λ form. form (hex_field xs ∷ []))) e ∙ field-reads text (λ t. complete (make t)) (hex_field xs) xs [] (text-reads xs u);
   inner = rw (w, (text-reads xs u).inner) refl;
 }
 
 bytes-spell : (word : List ℕ) (make : List ℕ → Call) (xs : List ℕ) → IsBytes xs → list_all is_inner word ≡ true
-    → form_of word all_forms ≡ Some (field bytes (λ t. end (make t))) → Spell (word ∷ hex_text xs ∷ []) (make xs)
+    → find_form word all_forms ≡ Some (field bytes (λ t. complete (make t))) → Spell (word ∷ hex_field xs ∷ []) (make xs)
 bytes-spell word make xs h w e = record {
-  as_call = ap (option_and_then (λ form. form (hex_text xs ∷ []))) e ∙ field-reads bytes (λ t. end (make t)) (hex_text xs) xs [] (bytes-reads xs h);
+  as_call = ap (option_and_then (λ form. form (hex_field xs ∷ []))) e ∙ field-reads bytes (λ t. complete (make t)) (hex_field xs) xs [] (bytes-reads xs h);
   inner = rw (w, (bytes-reads xs h).inner) refl;
 }
 
 int-spell : (word : List ℕ) (type : IntType) (z : ℤ) → is_of_type type z ≡ true → list_all is_inner word ≡ true
-    → form_of word all_forms ≡ Some (whole_number type) → Spell (word ∷ signed_decimal z ∷ []) (Int type z)
+    → find_form word all_forms ≡ Some (whole_number type) → Spell (word ∷ signed_decimal z ∷ []) (Int type z)
 int-spell word type z h w e =
     let short = short_of_type type z h in
-    let r : Reads (λ part. option_and_then (keep (is_of_type type)) (integer part)) (signed_decimal z) z = record {
+    let r : ReadsField (λ part. option_and_then (keep (is_of_type type)) (integer part)) (signed_decimal z) z = record {
       as_value = ap (option_and_then (keep (is_of_type type))) (integer-signed z short) ∙ rw h refl;
       inner = all_weaker is_clean is_inner clean_inner (signed_decimal z) (clean-signed z short);
     } in
     record {
-      as_call = ap (option_and_then (λ form. form (signed_decimal z ∷ []))) e ∙ field-reads _ (λ y. end (Int type y)) (signed_decimal z) z [] r;
+      as_call = ap (option_and_then (λ form. form (signed_decimal z ∷ []))) e ∙ field-reads _ (λ y. complete (Int type y)) (signed_decimal z) z [] r;
       inner = rw (w, r.inner) refl;
     }
 
@@ -116,31 +116,31 @@ int_spells I64 z h = int-spell _ I64 z h refl refl
 int_spells I128 z h = int-spell _ I128 z h refl refl
 
 field-spell : (word : List ℕ) (make : Slot → Call) (t : Option Tag) (l : Label) → IsTagName t → IsPrintableLabel l → list_all is_inner word ≡ true
-    → form_of word all_forms ≡ Some (record_part make) → Spell (word ∷ tag_text t ∷ label_text l ∷ []) (make (Field t l))
+    → find_form word all_forms ≡ Some (record_part make) → Spell (word ∷ tag_field t ∷ label_field l ∷ []) (make (Field t l))
 field-spell word make t l h k w e = record {
-  as_call = ap (option_and_then (λ form. form (tag_text t ∷ label_text l ∷ []))) e
-      ∙ field-reads (or_dash tag) (λ u. field label (λ m. end (make (Field u m)))) (tag_text t) t (label_text l ∷ []) (or_dash_tag-reads t h)
-      ∙ field-reads label (λ m. end (make (Field t m))) (label_text l) l [] (label-reads l k).reads;
+  as_call = ap (option_and_then (λ form. form (tag_field t ∷ label_field l ∷ []))) e
+      ∙ field-reads (or_dash tag) (λ u. field label (λ m. complete (make (Field u m)))) (tag_field t) t (label_field l ∷ []) (or_dash_tag-reads t h)
+      ∙ field-reads label (λ m. complete (make (Field t m))) (label_field l) l [] (label-reads l k).reads;
   inner = rw (w, (or_dash_tag-reads t h).inner, (label-reads l k).reads.inner) refl;
 }
 
 place-spell : (word : List ℕ) (make : Slot → Call) (t : Option Tag) (i : Index) → IsTagName t → IsPrintableIndex i → list_all is_inner word ≡ true
-    → form_of word all_forms ≡ Some (tuple_part make) → Spell (word ∷ tag_text t ∷ index_text i ∷ []) (make (Place t i))
+    → find_form word all_forms ≡ Some (tuple_part make) → Spell (word ∷ tag_field t ∷ index_field i ∷ []) (make (Place t i))
 place-spell word make t i h k w e = record {
-  as_call = ap (option_and_then (λ form. form (tag_text t ∷ index_text i ∷ []))) e
-      ∙ field-reads (or_dash tag) (λ u. field index (λ j. end (make (Place u j)))) (tag_text t) t (index_text i ∷ []) (or_dash_tag-reads t h)
-      ∙ field-reads index (λ j. end (make (Place t j))) (index_text i) i [] (index-reads i k).reads;
+  as_call = ap (option_and_then (λ form. form (tag_field t ∷ index_field i ∷ []))) e
+      ∙ field-reads (or_dash tag) (λ u. field index (λ j. complete (make (Place u j)))) (tag_field t) t (index_field i ∷ []) (or_dash_tag-reads t h)
+      ∙ field-reads index (λ j. complete (make (Place t j))) (index_field i) i [] (index-reads i k).reads;
   inner = rw (w, (or_dash_tag-reads t h).inner, (index-reads i k).reads.inner) refl;
 }
 
 field_place-spell : (word : List ℕ) (make : Slot → Call) (t : Option Tag) (l : Label) (i : Index) → IsTagName t → IsPrintableLabel l → IsPrintableIndex i
-    → list_all is_inner word ≡ true → form_of word all_forms ≡ Some (record_tuple_part make)
-    → Spell (word ∷ tag_text t ∷ label_text l ∷ index_text i ∷ []) (make (FieldPlace t l i))
+    → list_all is_inner word ≡ true → find_form word all_forms ≡ Some (record_tuple_part make)
+    → Spell (word ∷ tag_field t ∷ label_field l ∷ index_field i ∷ []) (make (FieldPlace t l i))
 field_place-spell word make t l i h k j w e = record {
-  as_call = ap (option_and_then (λ form. form (tag_text t ∷ label_text l ∷ index_text i ∷ []))) e
-      ∙ field-reads (or_dash tag) (λ u. field label (λ m. field index (λ y. end (make (FieldPlace u m y))))) (tag_text t) t (label_text l ∷ index_text i ∷ []) (or_dash_tag-reads t h)
-      ∙ field-reads label (λ m. field index (λ y. end (make (FieldPlace t m y)))) (label_text l) l (index_text i ∷ []) (label-reads l k).reads
-      ∙ field-reads index (λ y. end (make (FieldPlace t l y))) (index_text i) i [] (index-reads i j).reads;
+  as_call = ap (option_and_then (λ form. form (tag_field t ∷ label_field l ∷ index_field i ∷ []))) e
+      ∙ field-reads (or_dash tag) (λ u. field label (λ m. field index (λ y. complete (make (FieldPlace u m y))))) (tag_field t) t (label_field l ∷ index_field i ∷ []) (or_dash_tag-reads t h)
+      ∙ field-reads label (λ m. field index (λ y. complete (make (FieldPlace t m y)))) (label_field l) l (index_field i ∷ []) (label-reads l k).reads
+      ∙ field-reads index (λ y. complete (make (FieldPlace t l y))) (index_field i) i [] (index-reads i j).reads;
   inner = rw (w, (or_dash_tag-reads t h).inner, (label-reads l k).reads.inner, (index-reads i j).reads.inner) refl;
 }
 
@@ -153,7 +153,7 @@ spells (Truth false) h = record { as_call = refl; inner = refl }
 spells (Int type z) h = int_spells type z h
 spells (Standalone n) h = named-spell _ Standalone n h refl refl
 spells (TagHint t) h = record {
-  as_call = field-reads tag (λ u. end (TagHint u)) t t [] (tag-reads t h).reads;
+  as_call = field-reads tag (λ u. complete (TagHint u)) t t [] (tag-reads t h).reads;
   inner = rw (tag-reads t h).reads.inner refl;
 }
 spells (TextBegin n) h = sized-spell _ TextBegin n h refl refl
@@ -198,10 +198,10 @@ all_lists_weaker p q weaker (x ∷ xs) h =
     let (a, b) = and_parts (list_all p x) (list_all (list_all p) xs) h in
     rw (all_weaker p q weaker x a, all_lists_weaker p q weaker xs b) refl
 
-line-spelled : (words : List (List ℕ)) (call : Call) → Spell words call → any_call_of (cut_at 32 (join_with_byte 32 words)) ≡ Some call
+line-spelled : (words : List (List ℕ)) (call : Call) → Spell words call → any_call_of_fields (cut_at 32 (join_with_byte 32 words)) ≡ Some call
 line-spelled [] call s = cc s.as_call
 line-spelled (first ∷ rest) call s =
-    ap any_call_of (cut_joined 32 first rest (all_lists_weaker is_inner (is_not 32) inner_space (first ∷ rest) s.inner)) ∙ s.as_call
+    ap any_call_of_fields (cut_joined 32 first rest (all_lists_weaker is_inner (is_not 32) inner_space (first ∷ rest) s.inner)) ∙ s.as_call
 
 -- a printed call reads back
 pub any_line_of-line : (call : Call) → IsPrintableCall call → any_line_of (line call) ≡ Some call

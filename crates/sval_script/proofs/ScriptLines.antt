@@ -1,14 +1,15 @@
 -- What reading a script knows at each line feed.
 use Rattle.std.specs.Prelude.{◌≡◌, ℕ, ◌+◌, ◌-◌, ◌≤◌, ◌<◌, List, [], ◌∷◌, ◌++◌, Some, None, take, drop, length, refl}
 use Rattle.std.proofs.Common.{arith, sym, ap, ◌∙◌, append-nil, append_assoc}
-use Rattle.std.proofs.lemmas.Bool.{false_from_ne_true, eqb-true}
-use Rattle.std.proofs.lemmas.List.{length-append, length-drop}
+use Rattle.std.proofs.lemmas.List.{length-append, length-take}
 use Rattle.memchr.specs.Find.{IsFirstByte, is_byte}
 use Rattle.sval_label.specs.Calls.{Call}
-use Rattle.sval_script.specs.Lines.{Lines, Good, Bad, line_of, with_call, at_end, lines_from, lines, cut_at}
-use Rattle.sval_script.proofs.Scan.{line-step, line-stop}
+use Rattle.sval_script.specs.Lines.{Lines, Good, Bad, line_of, with_call, after_last, lines_from, lines, cut_at}
+use Rattle.sval_script.proofs.Cut.{cut-some, lines-first}
+use Rattle.sval_script.proofs.FirstCut.{behind_place, one_part, first_part}
 use Rattle.sval_script.specs.declared.line.Line.{Line}
-use Rattle.sval_script.specs.LineCalls.{call_with, calls_of, HoldsTexts, IsMade}
+use Rattle.sval_script.specs.LineCalls.{call_with, calls_with, HoldsTexts}
+use Rattle.sval_script.specs.MadeLines.{IsMade}
 use Rattle.sval_script.proofs.ScriptTexts.{holds-more, calls-more}
 
 -- what stands before the lines that are left
@@ -27,7 +28,7 @@ after_one calls n call (Bad m) = refl
 -- some first lines were read, and the rest of the bytes is left
 pub record IsReadUpTo (bytes rest texts : List ℕ) (made : List Line) : Type 0 where
   pub holds : HoldsTexts texts made
-  pub here : lines bytes ≡ after_calls (calls_of texts made) (lines_from (length made + 1) (cut_at 10 rest))
+  pub here : lines bytes ≡ after_calls (calls_with texts made) (lines_from (length made + 1) (cut_at 10 rest))
   pub count : length made + length rest ≤ length bytes
 
 pub read-start : (bytes : List ℕ) → IsReadUpTo bytes bytes [] []
@@ -36,41 +37,41 @@ read-start bytes = record { holds = refl; here = sym (after_none (lines_from 1 (
 
 module _ (n : ℕ) (rest : List ℕ) where
   at_feed : (k : ℕ) → IsFirstByte (is_byte 10) rest (Some k)
-      → lines_from n (cut_at 10 rest) ≡ with_call n (line_of (take k rest)) (lines_from (n + 1) (cut_at 10 (drop (k + 1) rest)))
+      → lines_from n (cut_at 10 rest) ≡ with_call n (line_of (take k rest)) (lines_from (n + 1) (cut_at 10 (behind_place k rest)))
   at_feed k found =
-      let whole : k - 0 ≡ k = omega arith in
-      rw whole at (line-step n 0 k rest (omega arith) found.0.high (λ j low below. false_from_ne_true _ (found.0.before j low below)) (eqb-true _ 10 found.1))
+      let (next, more, some) = cut-some 10 (behind_place k rest) in
+      ap (lines_from n) (first_part 10 rest k found) ∙ lines-first n (take k rest) next (cut_at 10 (behind_place k rest)) more some
 
-  at_last : IsFirstByte (is_byte 10) rest None → lines_from n (cut_at 10 rest) ≡ at_end n rest
-  at_last none = line-stop n 0 rest (omega arith) (λ j low below. false_from_ne_true _ (none j low below))
+  at_last : IsFirstByte (is_byte 10) rest None → lines_from n (cut_at 10 rest) ≡ after_last n rest
+  at_last none = ap (lines_from n) (one_part 10 rest none)
 
 pub read-step : {bytes rest texts : List ℕ} {made : List Line} (new : List ℕ) (line : Line) (k : ℕ) → IsReadUpTo bytes rest texts made → IsFirstByte (is_byte 10) rest (Some k)
-    → IsMade (line_of (take k rest)) texts new line → IsReadUpTo bytes (drop (k + 1) rest) new (made ++ (line ∷ []))
+    → IsMade (line_of (take k rest)) texts new line → IsReadUpTo bytes (behind_place k rest) new (made ++ (line ∷ []))
 read-step {bytes = bytes} {rest = rest} {texts = texts} {made = made} new line k r found m =
-    let calls = calls_of texts made in
-    let left = lines_from (length made + 1 + 1) (cut_at 10 (drop (k + 1) rest)) in
-    let more : calls_of new (made ++ (line ∷ [])) ≡ calls ++ (call_with m.text line ∷ []) = rw m.stored (calls-more texts m.text made line r.holds m.has_len) in
+    let calls = calls_with texts made in
+    let left = lines_from (length made + 1 + 1) (cut_at 10 (behind_place k rest)) in
+    let more : calls_with new (made ++ (line ∷ [])) ≡ calls ++ (call_with m.text line ∷ []) = rw m.stored (calls-more texts m.text made line r.holds m.has_len) in
     let longer : length (made ++ (line ∷ [])) ≡ length made + 1 = length-append made (line ∷ []) in
     let within = found.0.high in
     record {
       holds = rw m.stored (holds-more texts m.text made line r.holds m.has_len m.is_text);
       here = r.here ∙ ap (after_calls calls) (at_feed (length made + 1) rest k found) ∙ ap (λ spelled. after_calls calls (with_call (length made + 1) spelled left)) m.spells
           ∙ after_one calls (length made + 1) (call_with m.text line) left ∙ rw (more, longer) refl;
-      count = omega (arith, longer, length-drop (k + 1) rest, r.count);
+      count = omega (arith, longer, length-take (length rest - (k + 1)) (drop (k + 1) rest), r.count);
     }
 
 pub read-bad : {bytes rest texts : List ℕ} {made : List Line} (k : ℕ) → IsReadUpTo bytes rest texts made → IsFirstByte (is_byte 10) rest (Some k)
     → line_of (take k rest) ≡ None → lines bytes ≡ Bad (length made + 1)
 read-bad {bytes = bytes} {rest = rest} {texts = texts} {made = made} k r found none =
-    let calls = calls_of texts made in
-    let left = lines_from (length made + 1 + 1) (cut_at 10 (drop (k + 1) rest)) in
+    let calls = calls_with texts made in
+    let left = lines_from (length made + 1 + 1) (cut_at 10 (behind_place k rest)) in
     r.here ∙ ap (after_calls calls) (at_feed (length made + 1) rest k found) ∙ ap (λ spelled. after_calls calls (with_call (length made + 1) spelled left)) none
 
 -- something stands after the last line feed
 pub read-cut : (bytes rest texts : List ℕ) (made : List Line) → IsReadUpTo bytes rest texts made → IsFirstByte (is_byte 10) rest None → 0 < length rest → lines bytes ≡ Bad (length made + 1)
 read-cut bytes [] texts made r none some = absurd (omega arith)
-read-cut bytes (byte ∷ rest) texts made r none some = r.here ∙ ap (after_calls (calls_of texts made)) (at_last (length made + 1) (byte ∷ rest) none)
+read-cut bytes (byte ∷ rest) texts made r none some = r.here ∙ ap (after_calls (calls_with texts made)) (at_last (length made + 1) (byte ∷ rest) none)
 
-pub read-whole : (bytes rest texts : List ℕ) (made : List Line) → IsReadUpTo bytes rest texts made → IsFirstByte (is_byte 10) rest None → length rest ≡ 0 → lines bytes ≡ Good (calls_of texts made)
-read-whole bytes [] texts made r none e = r.here ∙ ap (after_calls (calls_of texts made)) (at_last (length made + 1) [] none) ∙ ap Good (append-nil (calls_of texts made))
+pub read-whole : (bytes rest texts : List ℕ) (made : List Line) → IsReadUpTo bytes rest texts made → IsFirstByte (is_byte 10) rest None → length rest ≡ 0 → lines bytes ≡ Good (calls_with texts made)
+read-whole bytes [] texts made r none e = r.here ∙ ap (after_calls (calls_with texts made)) (at_last (length made + 1) [] none) ∙ ap Good (append-nil (calls_with texts made))
 read-whole bytes (byte ∷ rest) texts made r none e = absurd (omega arith)

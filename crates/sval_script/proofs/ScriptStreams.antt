@@ -1,66 +1,63 @@
 -- What streaming a script knows at each line.
-use Rattle.std.specs.Prelude.{◌≡◌, ℕ, ◌+◌, ◌<◌, false, List, [], ◌∷◌, ◌++◌, take, drop, length, get_or, Result, Ok, Err, refl}
+use Rattle.std.specs.Prelude.{◌≡◌, ℕ, ◌+◌, ◌<◌, List, [], ◌∷◌, ◌++◌, take, drop, length, get_or, refl}
 use Rattle.std.specs.Str.{IsCharBoundary}
 use Rattle.std.proofs.Common.{sym, ap, ◌∙◌, append-nil, append_assoc, add-one}
 use Rattle.std.proofs.Math.Seq.{drop-cons}
 use Rattle.sval_label.specs.Calls.{Call}
-use Rattle.sval_core.specs.Law.{Standing, Law, Emission, Takes, Refuses, Streams, Stops, emits, then_emits}
+use Rattle.sval_core.specs.Values.{makes}
+use Rattle.sval_core.specs.Law.{Standing, Law, Takes, Refuses, Streams, Stops, emits, then_emits}
 use Rattle.sval_core.proofs.Emissions.{streams_one, stops_one, streams_then, stops_first, stops_later}
 use Rattle.sval_script.specs.declared.line.Line.{Line}
-use Rattle.sval_script.specs.LineCalls.{text_len, call_with, calls_of, HoldsTexts}
+use Rattle.sval_script.specs.LineCalls.{own_len, call_with, calls_with, HoldsTexts}
 use Rattle.sval_script.proofs.ScriptTexts.{first_boundary}
-
--- the calls alone
-abbrev pub plain : List Call → Emission
-plain calls = record { calls = calls; refuses = false }
 
 -- some first calls were taken, and these lines with these texts are left
 pub record IsStreamedUpTo {V : Type 0} (law : Law V) (old now : Standing V) (all : List Call) (texts : List ℕ) (left : List Line) : Type 0 where
   pub done : List Call
-  pub all_is : all ≡ done ++ calls_of texts left
+  pub all_is : all ≡ done ++ calls_with texts left
   pub holds : HoldsTexts texts left
-  pub streams : Streams law old (plain done) now
+  pub streams : Streams law old (makes done) now
 
-pub stream-start : {V : Type 0} (law : Law V) (old : Standing V) (texts : List ℕ) (lines : List Line) → HoldsTexts texts lines → IsStreamedUpTo law old old (calls_of texts lines) texts lines
+pub stream-start : {V : Type 0} (law : Law V) (old : Standing V) (texts : List ℕ) (lines : List Line) → HoldsTexts texts lines → IsStreamedUpTo law old old (calls_with texts lines) texts lines
 stream-start law old texts lines h = record { done = []; all_is = refl; holds = h; streams = record { willing = refl; ran = refl; faults = refl; wants = refl } }
 
 here : (lines : List Line) (i : ℕ) (d : Line) → i < length lines → drop i lines ≡ get_or lines i d ∷ drop (i + 1) lines
 here lines i d h = rw add-one (drop-cons lines i d h)
 
 -- what the line's call is, made of the text that was split off
-pub same_call : {made : Call} {text : List ℕ} {len : ℕ} (texts : List ℕ) (line : Line) → made ≡ call_with text line → text ≡ take len texts → len ≡ text_len line
-    → made ≡ call_with (take (text_len line) texts) line
+pub same_call : {made : Call} {text : List ℕ} {len : ℕ} (texts : List ℕ) (line : Line) → made ≡ call_with text line → text ≡ take len texts → len ≡ own_len line
+    → made ≡ call_with (take (own_len line) texts) line
 same_call texts line e f g = e ∙ ap (λ part. call_with part line) (f ∙ ap (λ n. take n texts) g)
 
 pub stream-boundary : {V : Type 0} {law : Law V} {old mid : Standing V} {all : List Call} {texts : List ℕ} (lines : List Line) (i : ℕ) (d : Line) → IsStreamedUpTo law old mid all texts (drop i lines)
-    → i < length lines → IsCharBoundary texts (text_len (get_or lines i d))
+    → i < length lines → IsCharBoundary texts (own_len (get_or lines i d))
 stream-boundary {texts = texts} lines i d s h = first_boundary texts (get_or lines i d) (drop (i + 1) lines) (rw (here lines i d h) at s.holds)
 
 module _ {V : Type 0} {law : Law V} {old mid : Standing V} {all : List Call} {texts : List ℕ} (new : Standing V) (lines : List Line) (i : ℕ) (d : Line) where
-  pub stream-step : IsStreamedUpTo law old mid all texts (drop i lines) → i < length lines → Takes law mid (call_with (take (text_len (get_or lines i d)) texts) (get_or lines i d)) new
-      → IsStreamedUpTo law old new all (drop (text_len (get_or lines i d)) texts) (drop (i + 1) lines)
+  pub stream-step : IsStreamedUpTo law old mid all texts (drop i lines) → i < length lines → Takes law mid (call_with (take (own_len (get_or lines i d)) texts) (get_or lines i d)) new
+      → IsStreamedUpTo law old new all (drop (own_len (get_or lines i d)) texts) (drop (i + 1) lines)
   unfolding emits then_emits
   stream-step s h t =
       let line = get_or lines i d in
-      let call = call_with (take (text_len line) texts) line in
-      let rest = calls_of (drop (text_len line) texts) (drop (i + 1) lines) in
+      let call = call_with (take (own_len line) texts) line in
+      let rest = calls_with (drop (own_len line) texts) (drop (i + 1) lines) in
       record {
         done = s.done ++ (call ∷ []);
-        all_is = s.all_is ∙ ap (λ left. s.done ++ calls_of texts left) (here lines i d h) ∙ sym (append_assoc s.done (call ∷ []) rest);
+        all_is = s.all_is ∙ ap (λ left. s.done ++ calls_with texts left) (here lines i d h) ∙ sym (append_assoc s.done (call ∷ []) rest);
         holds = (rw (here lines i d h) at s.holds).2;
         streams = streams_then s.streams (streams_one t);
       }
 
-  pub stream-stop : IsStreamedUpTo law old mid all texts (drop i lines) → i < length lines → Refuses law mid (call_with (take (text_len (get_or lines i d)) texts) (get_or lines i d)) new
-      → Stops law old (plain all) new
+  pub stream-stop : IsStreamedUpTo law old mid all texts (drop i lines) → i < length lines → Refuses law mid (call_with (take (own_len (get_or lines i d)) texts) (get_or lines i d)) new
+      → Stops law old (makes all) new
   unfolding emits then_emits
   stream-stop s h r =
       let line = get_or lines i d in
-      let call = call_with (take (text_len line) texts) line in
-      let rest = calls_of (drop (text_len line) texts) (drop (i + 1) lines) in
-      let all_is : all ≡ s.done ++ (call ∷ rest) = s.all_is ∙ ap (λ left. s.done ++ calls_of texts left) (here lines i d h) in
-      let stops : Stops law old (plain (s.done ++ (call ∷ rest))) new = stops_later s.streams (stops_first (plain rest) (stops_one r)) in
+      let call = call_with (take (own_len line) texts) line in
+      let rest = calls_with (drop (own_len line) texts) (drop (i + 1) lines) in
+      let all_is : all ≡ s.done ++ (call ∷ rest) = s.all_is ∙ ap (λ left. s.done ++ calls_with texts left) (here lines i d h) in
+      let stops : Stops law old (makes (s.done ++ (call ∷ rest))) new = stops_later s.streams (stops_first (makes rest) (stops_one r)) in
       rw all_is stops
 
-pub stream-end : {V : Type 0} {law : Law V} {old new : Standing V} {all : List Call} {texts : List ℕ} {left : List Line} → IsStreamedUpTo law old new all texts left → left ≡ [] → Streams law old (plain all) new
+pub stream-end : {V : Type 0} {law : Law V} {old new : Standing V} {all : List Call} {texts : List ℕ} {left : List Line} → IsStreamedUpTo law old new all texts left → left ≡ [] → Streams law old (makes all) new
 stream-end s e = let whole = s.all_is ∙ rw e (append-nil s.done) in rw whole s.streams

@@ -7,7 +7,7 @@ use Rattle.sval_label.specs.Calls.{Call, Slot, Name, Label, Index, Tag}
 use Rattle.sval_label.specs.Calls.{Null, Truth, Standalone, TagHint, TextBegin, TextFragment, TextEnd, BinaryBegin, BinaryFragment, BinaryEnd, EnumBegin, EnumEnd, TaggedBegin, TaggedEnd, Begin, End, PartBegin, PartEnd}
 use Rattle.sval_label.specs.Calls.{Seq, Map, Record, Tuple, RecordTuple, Item, Key, Value, Field, Place, FieldPlace}
 use Rattle.sval_label.specs.Calls.{U8, U16, U32, U64, U128, I8, I16, I32, I64, I128}
-use Rattle.sval_script.specs.Lines.{cut_at, keep, integer, or_dash, size, bytes, text, truth, Form, end, field, whole_number, form_of, Lines, Good, with_call, at_end}
+use Rattle.sval_script.specs.Lines.{cut_at, keep, integer, or_dash, size, bytes, text, truth, LineForm, complete, field, whole_number, find_form, Lines, Good, with_call, after_last}
 
 -- ---- the fields of tags, labels and indexes
 
@@ -29,21 +29,21 @@ index field = tagged_parts (λ part. option_and_then (keep is_index) (integer pa
 
 -- ---- the lines
 
-abbrev pub name : (Name → Form) → Form
+abbrev pub name : (Name → LineForm) → LineForm
 name next = field (or_dash tag) (λ t. field (or_dash label) (λ l. field (or_dash index) (λ i. next (record { tag = t; label = l; index = i }))))
 
-abbrev pub record_part : (Slot → Call) → Form
-record_part make = field (or_dash tag) (λ t. field label (λ l. end (make (Field t l))))
+abbrev pub record_part : (Slot → Call) → LineForm
+record_part make = field (or_dash tag) (λ t. field label (λ l. complete (make (Field t l))))
 
-abbrev pub tuple_part : (Slot → Call) → Form
-tuple_part make = field (or_dash tag) (λ t. field index (λ i. end (make (Place t i))))
+abbrev pub tuple_part : (Slot → Call) → LineForm
+tuple_part make = field (or_dash tag) (λ t. field index (λ i. complete (make (Place t i))))
 
-abbrev pub record_tuple_part : (Slot → Call) → Form
-record_tuple_part make = field (or_dash tag) (λ t. field label (λ l. field index (λ i. end (make (FieldPlace t l i)))))
+abbrev pub record_tuple_part : (Slot → Call) → LineForm
+record_tuple_part make = field (or_dash tag) (λ t. field label (λ l. field index (λ i. complete (make (FieldPlace t l i)))))
 
-unfoldable pub all_forms : List (List ℕ × Form)
-all_forms = (codes "null", end Null)
-    ∷ (codes "bool", field truth (λ b. end (Truth b)))
+unfoldable pub all_forms : List (List ℕ × LineForm)
+all_forms = (codes "null", complete Null)
+    ∷ (codes "bool", field truth (λ b. complete (Truth b)))
     ∷ (codes "u8", whole_number U8)
     ∷ (codes "u16", whole_number U16)
     ∷ (codes "u32", whole_number U32)
@@ -54,58 +54,58 @@ all_forms = (codes "null", end Null)
     ∷ (codes "i32", whole_number I32)
     ∷ (codes "i64", whole_number I64)
     ∷ (codes "i128", whole_number I128)
-    ∷ (codes "text_begin", field size (λ n. end (TextBegin n)))
-    ∷ (codes "text_fragment", field text (λ t. end (TextFragment true t)))
-    ∷ (codes "text_fragment_computed", field text (λ t. end (TextFragment false t)))
-    ∷ (codes "text_end", end TextEnd)
-    ∷ (codes "binary_begin", field size (λ n. end (BinaryBegin n)))
-    ∷ (codes "binary_fragment", field bytes (λ b. end (BinaryFragment true b)))
-    ∷ (codes "binary_fragment_computed", field bytes (λ b. end (BinaryFragment false b)))
-    ∷ (codes "binary_end", end BinaryEnd)
-    ∷ (codes "map_begin", field size (λ n. end (Begin Map n)))
-    ∷ (codes "map_key_begin", end (PartBegin Key))
-    ∷ (codes "map_key_end", end (PartEnd Key))
-    ∷ (codes "map_value_begin", end (PartBegin Value))
-    ∷ (codes "map_value_end", end (PartEnd Value))
-    ∷ (codes "map_end", end (End Map))
-    ∷ (codes "seq_begin", field size (λ n. end (Begin Seq n)))
-    ∷ (codes "seq_value_begin", end (PartBegin Item))
-    ∷ (codes "seq_value_end", end (PartEnd Item))
-    ∷ (codes "seq_end", end (End Seq))
-    ∷ (codes "enum_begin", name (λ n. end (EnumBegin n)))
-    ∷ (codes "enum_end", name (λ n. end (EnumEnd n)))
-    ∷ (codes "tagged_begin", name (λ n. end (TaggedBegin n)))
-    ∷ (codes "tagged_end", name (λ n. end (TaggedEnd n)))
-    ∷ (codes "tag", name (λ n. end (Standalone n)))
-    ∷ (codes "tag_hint", field tag (λ t. end (TagHint t)))
-    ∷ (codes "record_begin", name (λ n. field size (λ s. end (Begin (Record n) s))))
+    ∷ (codes "text_begin", field size (λ n. complete (TextBegin n)))
+    ∷ (codes "text_fragment", field text (λ t. complete (TextFragment true t)))
+    ∷ (codes "text_fragment_computed", field text (λ t. complete (TextFragment false t)))
+    ∷ (codes "text_end", complete TextEnd)
+    ∷ (codes "binary_begin", field size (λ n. complete (BinaryBegin n)))
+    ∷ (codes "binary_fragment", field bytes (λ b. complete (BinaryFragment true b)))
+    ∷ (codes "binary_fragment_computed", field bytes (λ b. complete (BinaryFragment false b)))
+    ∷ (codes "binary_end", complete BinaryEnd)
+    ∷ (codes "map_begin", field size (λ n. complete (Begin Map n)))
+    ∷ (codes "map_key_begin", complete (PartBegin Key))
+    ∷ (codes "map_key_end", complete (PartEnd Key))
+    ∷ (codes "map_value_begin", complete (PartBegin Value))
+    ∷ (codes "map_value_end", complete (PartEnd Value))
+    ∷ (codes "map_end", complete (End Map))
+    ∷ (codes "seq_begin", field size (λ n. complete (Begin Seq n)))
+    ∷ (codes "seq_value_begin", complete (PartBegin Item))
+    ∷ (codes "seq_value_end", complete (PartEnd Item))
+    ∷ (codes "seq_end", complete (End Seq))
+    ∷ (codes "enum_begin", name (λ n. complete (EnumBegin n)))
+    ∷ (codes "enum_end", name (λ n. complete (EnumEnd n)))
+    ∷ (codes "tagged_begin", name (λ n. complete (TaggedBegin n)))
+    ∷ (codes "tagged_end", name (λ n. complete (TaggedEnd n)))
+    ∷ (codes "tag", name (λ n. complete (Standalone n)))
+    ∷ (codes "tag_hint", field tag (λ t. complete (TagHint t)))
+    ∷ (codes "record_begin", name (λ n. field size (λ s. complete (Begin (Record n) s))))
     ∷ (codes "record_value_begin", record_part PartBegin)
     ∷ (codes "record_value_end", record_part PartEnd)
-    ∷ (codes "record_end", name (λ n. end (End (Record n))))
-    ∷ (codes "tuple_begin", name (λ n. field size (λ s. end (Begin (Tuple n) s))))
+    ∷ (codes "record_end", name (λ n. complete (End (Record n))))
+    ∷ (codes "tuple_begin", name (λ n. field size (λ s. complete (Begin (Tuple n) s))))
     ∷ (codes "tuple_value_begin", tuple_part PartBegin)
     ∷ (codes "tuple_value_end", tuple_part PartEnd)
-    ∷ (codes "tuple_end", name (λ n. end (End (Tuple n))))
-    ∷ (codes "record_tuple_begin", name (λ n. field size (λ s. end (Begin (RecordTuple n) s))))
+    ∷ (codes "tuple_end", name (λ n. complete (End (Tuple n))))
+    ∷ (codes "record_tuple_begin", name (λ n. field size (λ s. complete (Begin (RecordTuple n) s))))
     ∷ (codes "record_tuple_value_begin", record_tuple_part PartBegin)
     ∷ (codes "record_tuple_value_end", record_tuple_part PartEnd)
-    ∷ (codes "record_tuple_end", name (λ n. end (End (RecordTuple n))))
+    ∷ (codes "record_tuple_end", name (λ n. complete (End (RecordTuple n))))
     ∷ []
 
-abbrev pub any_call_of : List (List ℕ) → Option Call
-any_call_of [] = None
-any_call_of (word ∷ fields) = option_and_then (λ form. form fields) (form_of word all_forms)
+abbrev pub any_call_of_fields : List (List ℕ) → Option Call
+any_call_of_fields [] = None
+any_call_of_fields (word ∷ fields) = option_and_then (λ form. form fields) (find_form word all_forms)
 
 -- the call that a line spells, if any; the line stands without its line feed
 unfoldable pub any_line_of : List ℕ → Option Call
-any_line_of line = any_call_of (cut_at 32 line)
+any_line_of line = any_call_of_fields (cut_at 32 line)
 
 -- ---- a script
 
 -- the first line has the number n
 abbrev pub any_lines_from : ℕ → List (List ℕ) → Lines
 any_lines_from n [] = Good []
-any_lines_from n (rest ∷ []) = at_end n rest
+any_lines_from n (rest ∷ []) = after_last n rest
 any_lines_from n (line ∷ next ∷ more) = with_call n (any_line_of line) (any_lines_from (n + 1) (next ∷ more))
 
 unfoldable pub any_lines : List ℕ → Lines

@@ -3,6 +3,10 @@ pub mod AllLines
 pub mod Printed
 pub mod Canon
 pub mod Laws
+pub mod Words
+pub mod Fields
+pub mod NextFields
+pub mod StoredTexts
 pub mod LineCalls
-pub mod LineFields
-pub mod LineWords
+pub mod MadeLines
+pub mod Readings

@@ -33,6 +33,10 @@ abbrev pub integer : List ℕ → Option ℤ
 integer [] = None
 integer (first ∷ rest) = if first == 45 then option_and_then negative (natural rest) else option_map pos (natural (first ∷ rest))
 
+-- a decimal in the type's range
+abbrev pub whole_number_of : IntType → List ℕ → Option ℤ
+whole_number_of type part = option_and_then (keep (is_of_type type)) (integer part)
+
 -- `-` for none
 abbrev pub or_dash : {A : Type 0} → (List ℕ → Option A) → List ℕ → Option (Option A)
 or_dash read field = if bytes_eq field (codes "-") then Some None else option_map Some (read field)
@@ -54,48 +58,48 @@ truth field = if bytes_eq field (codes "true") then Some true else if bytes_eq f
 -- ---- a line
 
 -- what call the fields of a line spell, if any
-abbrev pub Form : Type 0
-Form = List (List ℕ) → Option Call
+abbrev pub LineForm : Type 0
+LineForm = List (List ℕ) → Option Call
 
 -- no field more
-abbrev pub end : Call → Form
-end call [] = Some call
-end call (field ∷ fields) = None
+abbrev pub complete : Call → LineForm
+complete call [] = Some call
+complete call (field ∷ fields) = None
 
 -- one field, and then what follows
-abbrev pub field : {A : Type 0} → (List ℕ → Option A) → (A → Form) → Form
+abbrev pub field : {A : Type 0} → (List ℕ → Option A) → (A → LineForm) → LineForm
 field read next [] = None
 field read next (first ∷ fields) = option_and_then (λ x. next x fields) (read first)
 
-abbrev pub whole_number : IntType → Form
-whole_number type = field (λ part. option_and_then (keep (is_of_type type)) (integer part)) (λ z. end (Int type z))
+abbrev pub whole_number : IntType → LineForm
+whole_number type = field (whole_number_of type) (λ z. complete (Int type z))
 
-unfoldable pub forms : List (List ℕ × Form)
-forms = (codes "null", end Null)
-    ∷ (codes "bool", field truth (λ b. end (Truth b)))
+unfoldable pub forms : List (List ℕ × LineForm)
+forms = (codes "null", complete Null)
+    ∷ (codes "bool", field truth (λ b. complete (Truth b)))
     ∷ (codes "i64", whole_number I64)
-    ∷ (codes "text_begin", field size (λ n. end (TextBegin n)))
-    ∷ (codes "text_fragment", field text (λ t. end (TextFragment true t)))
-    ∷ (codes "text_fragment_computed", field text (λ t. end (TextFragment false t)))
-    ∷ (codes "text_end", end TextEnd)
-    ∷ (codes "seq_begin", field size (λ n. end (Begin Seq n)))
-    ∷ (codes "seq_value_begin", end (PartBegin Item))
-    ∷ (codes "seq_value_end", end (PartEnd Item))
-    ∷ (codes "seq_end", end (End Seq))
+    ∷ (codes "text_begin", field size (λ n. complete (TextBegin n)))
+    ∷ (codes "text_fragment", field text (λ t. complete (TextFragment true t)))
+    ∷ (codes "text_fragment_computed", field text (λ t. complete (TextFragment false t)))
+    ∷ (codes "text_end", complete TextEnd)
+    ∷ (codes "seq_begin", field size (λ n. complete (Begin Seq n)))
+    ∷ (codes "seq_value_begin", complete (PartBegin Item))
+    ∷ (codes "seq_value_end", complete (PartEnd Item))
+    ∷ (codes "seq_end", complete (End Seq))
     ∷ []
 
 -- the form that stands for the word
-abbrev pub form_of : List ℕ → List (List ℕ × Form) → Option Form
-form_of word [] = None
-form_of word (row ∷ rows) = if bytes_eq word row.0 then Some row.1 else form_of word rows
+abbrev pub find_form : List ℕ → List (List ℕ × LineForm) → Option LineForm
+find_form word [] = None
+find_form word (row ∷ rows) = if bytes_eq word row.0 then Some row.1 else find_form word rows
 
-abbrev pub call_of : List (List ℕ) → Option Call
-call_of [] = None
-call_of (word ∷ fields) = option_and_then (λ form. form fields) (form_of word forms)
+abbrev pub call_of_fields : List (List ℕ) → Option Call
+call_of_fields [] = None
+call_of_fields (word ∷ fields) = option_and_then (λ form. form fields) (find_form word forms)
 
 -- the call that a line spells, if any; the line stands without its line feed
 unfoldable pub line_of : List ℕ → Option Call
-line_of line = call_of (cut_at 32 line)
+line_of line = call_of_fields (cut_at 32 line)
 
 -- ---- a script
 
@@ -111,14 +115,14 @@ with_call n (Some call) (Good calls) = Good (call ∷ calls)
 with_call n (Some call) (Bad m) = Bad m
 
 -- nothing stands after the last line feed
-abbrev pub at_end : ℕ → List ℕ → Lines
-at_end n [] = Good []
-at_end n (byte ∷ rest) = Bad n
+abbrev pub after_last : ℕ → List ℕ → Lines
+after_last n [] = Good []
+after_last n (byte ∷ rest) = Bad n
 
 -- the first line has the number n
 abbrev pub lines_from : ℕ → List (List ℕ) → Lines
 lines_from n [] = Good []
-lines_from n (rest ∷ []) = at_end n rest
+lines_from n (rest ∷ []) = after_last n rest
 lines_from n (line ∷ next ∷ more) = with_call n (line_of line) (lines_from (n + 1) (next ∷ more))
 
 unfoldable pub lines : List ℕ → Lines

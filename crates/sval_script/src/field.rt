@@ -1,17 +1,18 @@
-//! The field that stands after a line's word.
+//! What the fields of a line say.
 
 ghost use Rattle.std.specs.Prelude.{◌≡◌, ◌^◌, nat_lt, None, Some, option_and_then, IfOk, OnOk};
 ghost use Rattle.std.specs.List.{list_all};
 ghost use Rattle.std.specs.Char.{is_ascii_digit};
+ghost use Rattle.std.specs.Result.{result_ok};
+ghost use Rattle.hex.specs.Hex.{decode_of};
 ghost use Rattle.sval_label.specs.Texts as label;
-ghost use Rattle.sval_label.specs.Ranges.{is_of_type};
 ghost use Rattle.sval_label.specs.Calls.{I64};
 ghost use Rattle.sval_script.specs.Lines as script;
-ghost use Rattle.sval_script.specs.LineFields.{Decodes, Stores};
-ghost use Rattle.hex.specs.Hex.{decode_of};
-ghost use Rattle.std.specs.Result.{result_ok};
+ghost use Rattle.sval_script.specs.Words.{type_of};
+ghost use Rattle.sval_script.specs.StoredTexts.{Decodes, StoresText};
 ghost use Rattle.sval_script.specs.declared.field.LineError.TheVariants.{NoMemory};
 
+use crate::word::NumberType;
 use std::alloc::AllocError;
 
 /// Why a line wasn't read.
@@ -70,8 +71,8 @@ fn natural(field: &[u8]) -> Option<u64>
 }
 
 /// A whole number of 64 bits with its sign.
-pub(crate) fn integer(field: &[u8]) -> Option<i64>
-    ensures { result ≡ option_and_then (script.keep (is_of_type I64)) (script.integer field.now) }
+fn integer(field: &[u8]) -> Option<i64>
+    ensures { result ≡ script.whole_number_of I64 field.now }
 {
     match field {
         [b'-', digits @ ..] => match natural(digits)? {
@@ -79,6 +80,15 @@ pub(crate) fn integer(field: &[u8]) -> Option<i64>
             size => 0i64.checked_sub_unsigned(size),
         },
         _ => i64::try_from(natural(field)?).ok(),
+    }
+}
+
+/// A whole number in the type's range.
+pub(crate) fn number(kind: NumberType, field: &[u8]) -> Option<i64>
+    ensures { result ≡ script.whole_number_of (type_of kind) field.now }
+{
+    match kind {
+        NumberType::I64 => integer(field),
     }
 }
 
@@ -104,7 +114,7 @@ fn decode(texts: &mut Vec<u8>, digits: &[u8]) -> Result<(), LineError>
 
 /// Puts the text that a field spells behind the texts before it, and answers how many bytes it has.
 pub(crate) fn store_text(texts: &mut Vec<u8>, field: &[u8]) -> Result<usize, LineError>
-    ensures stored { IfOk result (λ len. Stores field.now texts.old.items texts.new.items len) }
+    ensures stored { IfOk result (λ len. StoresText field.now texts.old.items texts.new.items len) }
     ensures bad { result ≡ Err LineError.Bad → script.text field.now ≡ None }
 {
     let [b'=', digits @ ..] = field else {

@@ -5,8 +5,10 @@
 #![tactic(auto)]
 
 mod field;
+mod fields;
 pub mod laws;
 mod line;
 mod script;
+mod word;
 
 pub use script::{Script, ScriptError};

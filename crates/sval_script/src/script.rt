@@ -1,8 +1,10 @@
 //! Scripts of calls.
 
-ghost use Rattle.std.specs.Prelude.{◌≡◌, ℕ, ◌<◌, ◌^◌, false, IfOk, length};
+ghost use Rattle.std.specs.Prelude.{◌≡◌, ◌⊎◌, ℕ, ◌<◌, ◌^◌, IfOk, length};
+ghost use Rattle.sval_core.specs.Values.{makes};
 ghost use Rattle.sval_script.specs.Lines.{Good, Bad};
 ghost use Rattle.sval_script.specs.Lines as spec;
+ghost use Rattle.sval_script.specs.Readings.{answer_to};
 ghost use Rattle.sval_script.specs.declared.script.ScriptError.TheVariants as error;
 
 use crate::field::LineError;
@@ -42,11 +44,11 @@ impl Model for Script {
     ghost use Rattle.std.specs.Prelude.{List};
     ghost use Rattle.std.specs.String.{string_bytes};
     ghost use Rattle.sval_label.specs.Calls.{Call};
-    ghost use Rattle.sval_script.specs.LineCalls.{calls_of, HoldsTexts};
+    ghost use Rattle.sval_script.specs.LineCalls.{calls_with, HoldsTexts};
 
     ghost Value = { List Call };
 
-    ghost view = { λ script. calls_of (string_bytes script.texts) script.lines.items };
+    ghost view = { λ script. calls_with (string_bytes script.texts) script.lines.items };
 
     ghost invariant = { λ script. HoldsTexts (string_bytes script.texts) script.lines.items };
 }
@@ -61,12 +63,15 @@ impl Script {
     ///
     /// # Errors
     ///
-    /// [`ScriptError::BadLine`] with the number of the first line that spells no call, also where nothing ends the last
-    /// line. [`ScriptError::NoMemory`] where there was no memory for the lines or their texts.
+    /// [`ScriptError::BadLine`] with the number of the first line that spells no call, or that no line feed ends.
+    /// [`ScriptError::NoMemory`] where there was no memory for the lines or their texts, and never for an empty script.
+    /// Each answer comes wherever it is due, unless memory is wanting.
     pub fn read(alloc: Global, bytes: &[u8]) -> Result<Script, ScriptError>
         ensures ok { IfOk result (λ script. spec.lines bytes.now ≡ Good script) }
         ensures few { IfOk result (λ script. length script < 2 ^ 64) }
         ensures bad_line { (n : ℕ) → result ≡ Err (ScriptError.BadLine n) → spec.lines bytes.now ≡ Bad n }
+        ensures no_memory { result ≡ Err ScriptError.NoMemory → 0 < length bytes.now }
+        ensures comes { (result ≡ answer_to (spec.lines bytes.now)) ⊎ (result ≡ Err ScriptError.NoMemory) }
     {
         let mut texts = Vec::new(alloc);
         let mut lines = Vec::new(alloc);
@@ -98,12 +103,12 @@ impl Script {
 }
 
 impl<'v> Value<'v, Lent<'v>> for Script {
-    ghost emission = { λ script. record { calls = script; refuses = false } };
+    ghost emission = { makes };
 
     fn stream<S: Stream<Lent<'v>>>(&'v self, stream: &mut S) -> sval_core::Result {
         let mut texts = self.texts.as_str();
         for line in &self.lines {
-            let (text, rest) = texts.split_at(line.text_len());
+            let (text, rest) = texts.split_at(line.own_len());
             stream.take(line.call(text))?;
             texts = rest;
         }

@@ -11,7 +11,7 @@ pub record Decodes (digits old new : List ℕ) : Type 0 where
   pub stored : new ≡ old ++ bytes
 
 -- the field spells a text, which was put behind the texts before it
-pub record Stores (field old new : List ℕ) (len : ℕ) : Type 0 where
+pub record StoresText (field old new : List ℕ) (len : ℕ) : Type 0 where
   pub text : List ℕ
   pub spells : script.text field ≡ Some text
   pub is_text : IsUtf8 text

@@ -1,0 +1,2 @@
+mod BuiltScripts
+mod AllScripts
