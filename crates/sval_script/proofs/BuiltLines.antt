@@ -3,8 +3,8 @@ use Rattle.std.specs.Prelude.{◌≡◌, ℕ, ◌+◌, Bool, true, false, if◌t
 use Rattle.std.proofs.Common.{sym, ap, ◌∙◌}
 use Rattle.std.proofs.lemmas.Slice.Eq.{bytes_eq-Decides}
 use Rattle.sval_label.specs.Calls.{Call}
-use Rattle.sval_script.specs.Lines.{LineForm, forms, find_form, call_of_fields, line_of, cut_at, Lines, Good, Bad, with_call, lines_from, lines}
-use Rattle.sval_script.specs.AllLines.{all_forms, any_call_of_fields, any_line_of, any_lines_from, any_lines}
+use Rattle.sval_script.specs.Lines.{LineForm, forms, find_form, call_of_fields, call_among, line_of, cut_at, Lines, Good, Bad, with_call, lines_from, lines}
+use Rattle.sval_script.specs.AllLines.{all_forms, any_line_of, any_lines}
 
 -- each row of a table stands in the table of all
 abbrev AreKnown : List (List ℕ × LineForm) → Type 0
@@ -28,7 +28,7 @@ some_form : (fields : List (List ℕ)) (found : Option LineForm) (call : Call) �
 some_form fields None call e = cc e
 some_form fields (Some form) call e = (form, refl, e)
 
-any_of_call : (words : List (List ℕ)) (call : Call) → call_of_fields words ≡ Some call → any_call_of_fields words ≡ Some call
+any_of_call : (words : List (List ℕ)) (call : Call) → call_of_fields words ≡ Some call → call_among all_forms words ≡ Some call
 any_of_call [] call e = cc e
 any_of_call (word ∷ fields) call e =
     let f = some_form fields (find_form word forms) call e in
@@ -50,12 +50,12 @@ begins n None after calls e = cc e
 begins n (Some call) (Bad m) calls e = cc e
 begins n (Some call) (Good rest) calls e = let same : call ∷ rest ≡ calls = cc e in record { call = call; rest = rest; is_call = refl; is_rest = refl; whole = sym same }
 
-any_from : (parts : List (List ℕ)) (n : ℕ) (calls : List Call) → lines_from n parts ≡ Good calls → any_lines_from n parts ≡ Good calls
+any_from : (parts : List (List ℕ)) (n : ℕ) (calls : List Call) → lines_from line_of n parts ≡ Good calls → lines_from any_line_of n parts ≡ Good calls
 any_from [] n calls e = e
 any_from (last ∷ []) n calls e = e
 any_from (first ∷ next ∷ more) n calls e =
-    let b = begins n (line_of first) (lines_from (n + 1) (next ∷ more)) calls e in
-    ap (λ found. with_call n found (any_lines_from (n + 1) (next ∷ more))) (any_of_line first b.call b.is_call)
+    let b = begins n (line_of first) (lines_from line_of (n + 1) (next ∷ more)) calls e in
+    ap (λ found. with_call n found (lines_from any_line_of (n + 1) (next ∷ more))) (any_of_line first b.call b.is_call)
     ∙ ap (with_call n (Some b.call)) (any_from (next ∷ more) (n + 1) b.rest b.is_rest) ∙ ap Good (sym b.whole)
 
 pub built_lines : (script : List ℕ) (calls : List Call) → lines script ≡ Good calls → any_lines script ≡ Good calls

@@ -1,10 +1,11 @@
 -- Bytes that are cut at a byte.
-use Rattle.std.specs.Prelude.{◌≡◌, ℕ, ◌+◌, Bool, true, false, not, ◌==◌, cond, List, [], ◌∷◌, ◌++◌, refl}
+use Rattle.std.specs.Prelude.{◌≡◌, ℕ, ◌+◌, Bool, true, false, not, ◌==◌, cond, List, [], ◌∷◌, ◌++◌, Option, refl}
 use Rattle.std.specs.List.{list_all, onto_first}
 use Rattle.std.proofs.Common.{arith}
 use Rattle.std.proofs.lemmas.Bool.{and_parts}
 use Rattle.std.proofs.lemmas.Bool.Decides.{nat_tests}
-use Rattle.sval_script.specs.Lines.{cut_at, line_of, with_call, lines_from}
+use Rattle.sval_label.specs.Calls.{Call}
+use Rattle.sval_script.specs.Lines.{cut_at, with_call, lines_from}
 
 pub not_true : (b : Bool) → not b ≡ true → b ≡ false
 not_true true h = cc h
@@ -35,6 +36,6 @@ cut-some cut (x ∷ xs) = go (x == cut) (cut_at cut xs)
     go false (part ∷ parts) = (x ∷ part, parts, refl)
 
 -- a first line, where more stands after its line feed
-pub lines-first : (n : ℕ) (first next : List ℕ) (parts more : List (List ℕ)) → parts ≡ next ∷ more
-    → lines_from n (first ∷ parts) ≡ with_call n (line_of first) (lines_from (n + 1) parts)
-lines-first n first next parts more e = rw e refl
+pub lines-first : (read : List ℕ → Option Call) (n : ℕ) (first next : List ℕ) (parts more : List (List ℕ)) → parts ≡ next ∷ more
+    → lines_from read n (first ∷ parts) ≡ with_call n (read first) (lines_from read (n + 1) parts)
+lines-first read n first next parts more e = rw e refl

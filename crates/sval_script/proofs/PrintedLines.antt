@@ -16,9 +16,9 @@ use Rattle.sval_label.specs.Tags.{IsTagName}
 use Rattle.sval_label.specs.Ranges.{is_of_type}
 use Rattle.sval_label.proofs.Decimals.{short_of_type}
 use Rattle.sval_script.specs.Printed.{IsShortSize, IsPrintableLabel, IsPrintableIndex, IsPrintableName, IsPrintableCall, ArePrintable, or_dash_field, size_field, hex_field, tag_field, label_field, index_field, name_fields, type_word, words_of, line, printed}
-use Rattle.sval_script.specs.Lines.{keep, integer, or_dash, size, bytes, text, LineForm, complete, field, whole_number, find_form, cut_at, Good, with_call}
-use Rattle.sval_script.specs.AllLines.{tag, label, index, name, record_part, tuple_part, record_tuple_part, all_forms, any_call_of_fields, any_line_of, any_lines_from, any_lines}
-use Rattle.sval_script.proofs.Cut.{is_not, cut_first, cut-some}
+use Rattle.sval_script.specs.Lines.{keep, integer, or_dash, size, bytes, text, LineForm, complete, field, whole_number, find_form, call_among, cut_at, Good, lines_from}
+use Rattle.sval_script.specs.AllLines.{tag, label, index, name, record_part, tuple_part, record_tuple_part, all_forms, any_line_of, any_lines}
+use Rattle.sval_script.proofs.Cut.{is_not, cut_first, cut-some, lines-first}
 use Rattle.sval_script.proofs.PrintedFields.{integer-signed, clean-signed, all_weaker, cut_joined, clean_inner, inner_space, inner_feed, ReadsField, size-reads, bytes-reads, text-reads, tag-reads, or_dash_tag-reads, label-reads, index-reads, or_dash_label-reads, or_dash_index-reads, is_clean, is_inner}
 
 -- ---- lines
@@ -45,7 +45,7 @@ name_inner n fields h k =
 
 -- the words spell the call, and have neither a space nor a line feed
 pub record Spell (words : List (List ℕ)) (call : Call) : Type 0 where
-  as_call : any_call_of_fields words ≡ Some call
+  as_call : call_among all_forms words ≡ Some call
   inner : are_inner words ≡ true
 
 -- a word with one field, and one with a name
@@ -198,10 +198,10 @@ all_lists_weaker p q weaker (x ∷ xs) h =
     let (a, b) = and_parts (list_all p x) (list_all (list_all p) xs) h in
     rw (all_weaker p q weaker x a, all_lists_weaker p q weaker xs b) refl
 
-line-spelled : (words : List (List ℕ)) (call : Call) → Spell words call → any_call_of_fields (cut_at 32 (join_with_byte 32 words)) ≡ Some call
+line-spelled : (words : List (List ℕ)) (call : Call) → Spell words call → call_among all_forms (cut_at 32 (join_with_byte 32 words)) ≡ Some call
 line-spelled [] call s = cc s.as_call
 line-spelled (first ∷ rest) call s =
-    ap any_call_of_fields (cut_joined 32 first rest (all_lists_weaker is_inner (is_not 32) inner_space (first ∷ rest) s.inner)) ∙ s.as_call
+    ap (call_among all_forms) (cut_joined 32 first rest (all_lists_weaker is_inner (is_not 32) inner_space (first ∷ rest) s.inner)) ∙ s.as_call
 
 -- a printed call reads back
 pub any_line_of-line : (call : Call) → IsPrintableCall call → any_line_of (line call) ≡ Some call
@@ -219,19 +219,14 @@ line_without_feed : (call : Call) → IsPrintableCall call → list_all (is_not 
 unfolding line
 line_without_feed call h = joined_without_feed (words_of call) (all_lists_weaker is_inner (is_not 10) inner_feed (words_of call) (spells call h).inner)
 
--- a first line, where more stands after its line feed
-pub any_lines-first : (n : ℕ) (first next : List ℕ) (parts more : List (List ℕ)) → parts ≡ next ∷ more
-    → any_lines_from n (first ∷ parts) ≡ with_call n (any_line_of first) (any_lines_from (n + 1) parts)
-any_lines-first n first next parts more e = rw e refl
-
-printed-from : (n : ℕ) (calls : List Call) → ArePrintable calls → any_lines_from n (cut_at 10 (printed calls)) ≡ Good calls
+printed-from : (n : ℕ) (calls : List Call) → ArePrintable calls → lines_from any_line_of n (cut_at 10 (printed calls)) ≡ Good calls
 unfolding printed
 printed-from n [] h = refl
 printed-from n (call ∷ calls) h =
     let (next, more, e) = cut-some 10 (printed calls) in
     let after = printed-from (n + 1) calls h.1 in
-    ap (any_lines_from n) (ap (cut_at 10) (append_assoc (line call) (10 ∷ []) (printed calls)) ∙ cut_first 10 (line call) (printed calls) (line_without_feed call h.0))
-    ∙ any_lines-first n (line call) next (cut_at 10 (printed calls)) more e
+    ap (lines_from any_line_of n) (ap (cut_at 10) (append_assoc (line call) (10 ∷ []) (printed calls)) ∙ cut_first 10 (line call) (printed calls) (line_without_feed call h.0))
+    ∙ lines-first any_line_of n (line call) next (cut_at 10 (printed calls)) more e
     ∙ rw (any_line_of-line call h.0, after) refl
 
 -- printed calls read back as these calls

@@ -1,6 +1,6 @@
 -- What reading a script knows at each line feed.
 use Rattle.std.specs.Prelude.{◌≡◌, ℕ, ◌+◌, ◌-◌, ◌≤◌, ◌<◌, List, [], ◌∷◌, ◌++◌, Some, None, take, drop, length, refl}
-use Rattle.std.proofs.Common.{arith, sym, ap, ◌∙◌, append-nil, append_assoc}
+use Rattle.std.proofs.Common.{arith, sym, ap, ◌∙◌, append_assoc}
 use Rattle.std.proofs.lemmas.List.{length-append, length-take}
 use Rattle.memchr.specs.Find.{IsFirstByte, is_byte}
 use Rattle.sval_label.specs.Calls.{Call}
@@ -28,28 +28,28 @@ after_one calls n call (Bad m) = refl
 -- some first lines were read, and the rest of the bytes is left
 pub record IsReadUpTo (bytes rest texts : List ℕ) (made : List Line) : Type 0 where
   pub holds : HoldsTexts texts made
-  pub here : lines bytes ≡ after_calls (calls_with texts made) (lines_from (length made + 1) (cut_at 10 rest))
+  pub here : lines bytes ≡ after_calls (calls_with texts made) (lines_from line_of (length made + 1) (cut_at 10 rest))
   pub count : length made + length rest ≤ length bytes
 
 pub read-start : (bytes : List ℕ) → IsReadUpTo bytes bytes [] []
 unfolding lines
-read-start bytes = record { holds = refl; here = sym (after_none (lines_from 1 (cut_at 10 bytes))); count = omega arith }
+read-start bytes = record { holds = refl; here = sym (after_none (lines_from line_of 1 (cut_at 10 bytes))); count = omega arith }
 
 module _ (n : ℕ) (rest : List ℕ) where
   at_feed : (k : ℕ) → IsFirstByte (is_byte 10) rest (Some k)
-      → lines_from n (cut_at 10 rest) ≡ with_call n (line_of (take k rest)) (lines_from (n + 1) (cut_at 10 (behind_place k rest)))
+      → lines_from line_of n (cut_at 10 rest) ≡ with_call n (line_of (take k rest)) (lines_from line_of (n + 1) (cut_at 10 (behind_place k rest)))
   at_feed k found =
       let (next, more, some) = cut-some 10 (behind_place k rest) in
-      ap (lines_from n) (first_part 10 rest k found) ∙ lines-first n (take k rest) next (cut_at 10 (behind_place k rest)) more some
+      ap (lines_from line_of n) (first_part 10 rest k found) ∙ lines-first line_of n (take k rest) next (cut_at 10 (behind_place k rest)) more some
 
-  at_last : IsFirstByte (is_byte 10) rest None → lines_from n (cut_at 10 rest) ≡ after_last n rest
-  at_last none = ap (lines_from n) (one_part 10 rest none)
+  at_last : IsFirstByte (is_byte 10) rest None → lines_from line_of n (cut_at 10 rest) ≡ after_last n rest
+  at_last none = ap (lines_from line_of n) (one_part 10 rest none)
 
 pub read-step : {bytes rest texts : List ℕ} {made : List Line} (new : List ℕ) (line : Line) (k : ℕ) → IsReadUpTo bytes rest texts made → IsFirstByte (is_byte 10) rest (Some k)
     → IsMade (line_of (take k rest)) texts new line → IsReadUpTo bytes (behind_place k rest) new (made ++ (line ∷ []))
 read-step {bytes = bytes} {rest = rest} {texts = texts} {made = made} new line k r found m =
     let calls = calls_with texts made in
-    let left = lines_from (length made + 1 + 1) (cut_at 10 (behind_place k rest)) in
+    let left = lines_from line_of (length made + 1 + 1) (cut_at 10 (behind_place k rest)) in
     let more : calls_with new (made ++ (line ∷ [])) ≡ calls ++ (call_with m.text line ∷ []) = rw m.stored (calls-more texts m.text made line r.holds m.has_len) in
     let longer : length (made ++ (line ∷ [])) ≡ length made + 1 = length-append made (line ∷ []) in
     let within = found.0.high in
@@ -64,14 +64,10 @@ pub read-bad : {bytes rest texts : List ℕ} {made : List Line} (k : ℕ) → Is
     → line_of (take k rest) ≡ None → lines bytes ≡ Bad (length made + 1)
 read-bad {bytes = bytes} {rest = rest} {texts = texts} {made = made} k r found none =
     let calls = calls_with texts made in
-    let left = lines_from (length made + 1 + 1) (cut_at 10 (behind_place k rest)) in
+    let left = lines_from line_of (length made + 1 + 1) (cut_at 10 (behind_place k rest)) in
     r.here ∙ ap (after_calls calls) (at_feed (length made + 1) rest k found) ∙ ap (λ spelled. after_calls calls (with_call (length made + 1) spelled left)) none
 
 -- something stands after the last line feed
 pub read-cut : (bytes rest texts : List ℕ) (made : List Line) → IsReadUpTo bytes rest texts made → IsFirstByte (is_byte 10) rest None → 0 < length rest → lines bytes ≡ Bad (length made + 1)
 read-cut bytes [] texts made r none some = absurd (omega arith)
 read-cut bytes (byte ∷ rest) texts made r none some = r.here ∙ ap (after_calls (calls_with texts made)) (at_last (length made + 1) (byte ∷ rest) none)
-
-pub read-whole : (bytes rest texts : List ℕ) (made : List Line) → IsReadUpTo bytes rest texts made → IsFirstByte (is_byte 10) rest None → length rest ≡ 0 → lines bytes ≡ Good (calls_with texts made)
-read-whole bytes [] texts made r none e = r.here ∙ ap (after_calls (calls_with texts made)) (at_last (length made + 1) [] none) ∙ ap Good (append-nil (calls_with texts made))
-read-whole bytes (byte ∷ rest) texts made r none e = absurd (omega arith)

@@ -1,7 +1,7 @@
 -- What streaming a script knows at each line.
-use Rattle.std.specs.Prelude.{◌≡◌, ℕ, ◌+◌, ◌<◌, List, [], ◌∷◌, ◌++◌, take, drop, length, get_or, refl}
+use Rattle.std.specs.Prelude.{◌≡◌, ℕ, ◌+◌, ◌<◌, List, [], ◌∷◌, ◌++◌, take, drop, length, get_or}
 use Rattle.std.specs.Str.{IsCharBoundary}
-use Rattle.std.proofs.Common.{sym, ap, ◌∙◌, append-nil, append_assoc, add-one}
+use Rattle.std.proofs.Common.{sym, ap, ◌∙◌, append_assoc, add-one}
 use Rattle.std.proofs.Math.Seq.{drop-cons}
 use Rattle.sval_label.specs.Calls.{Call}
 use Rattle.sval_core.specs.Values.{makes}
@@ -17,9 +17,6 @@ pub record IsStreamedUpTo {V : Type 0} (law : Law V) (old now : Standing V) (all
   pub all_is : all ≡ done ++ calls_with texts left
   pub holds : HoldsTexts texts left
   pub streams : Streams law old (makes done) now
-
-pub stream-start : {V : Type 0} (law : Law V) (old : Standing V) (texts : List ℕ) (lines : List Line) → HoldsTexts texts lines → IsStreamedUpTo law old old (calls_with texts lines) texts lines
-stream-start law old texts lines h = record { done = []; all_is = refl; holds = h; streams = record { willing = refl; ran = refl; faults = refl; wants = refl } }
 
 here : (lines : List Line) (i : ℕ) (d : Line) → i < length lines → drop i lines ≡ get_or lines i d ∷ drop (i + 1) lines
 here lines i d h = rw add-one (drop-cons lines i d h)
@@ -58,6 +55,3 @@ module _ {V : Type 0} {law : Law V} {old mid : Standing V} {all : List Call} {te
       let all_is : all ≡ s.done ++ (call ∷ rest) = s.all_is ∙ ap (λ left. s.done ++ calls_with texts left) (here lines i d h) in
       let stops : Stops law old (makes (s.done ++ (call ∷ rest))) new = stops_later s.streams (stops_first (makes rest) (stops_one r)) in
       rw all_is stops
-
-pub stream-end : {V : Type 0} {law : Law V} {old new : Standing V} {all : List Call} {texts : List ℕ} {left : List Line} → IsStreamedUpTo law old new all texts left → left ≡ [] → Streams law old (makes all) new
-stream-end s e = let whole = s.all_is ∙ rw e (append-nil s.done) in rw whole s.streams

@@ -1,13 +1,13 @@
 -- The lines of all calls, also of those that no program reads yet. A line is a word and then its fields, with one space before each
 -- field.
-use Rattle.std.specs.Prelude.{ℕ, ◌+◌, true, false, List, [], ◌∷◌, Option, Some, None, option_map, option_and_then, codes}
+use Rattle.std.specs.Prelude.{ℕ, true, false, List, [], ◌∷◌, Option, Some, None, option_map, option_and_then, codes}
 use Rattle.sval_label.specs.Tags.{is_tag_name}
 use Rattle.sval_label.specs.Ranges.{is_index}
 use Rattle.sval_label.specs.Calls.{Call, Slot, Name, Label, Index, Tag}
 use Rattle.sval_label.specs.Calls.{Null, Truth, Standalone, TagHint, TextBegin, TextFragment, TextEnd, BinaryBegin, BinaryFragment, BinaryEnd, EnumBegin, EnumEnd, TaggedBegin, TaggedEnd, Begin, End, PartBegin, PartEnd}
 use Rattle.sval_label.specs.Calls.{Seq, Map, Record, Tuple, RecordTuple, Item, Key, Value, Field, Place, FieldPlace}
 use Rattle.sval_label.specs.Calls.{U8, U16, U32, U64, U128, I8, I16, I32, I64, I128}
-use Rattle.sval_script.specs.Lines.{cut_at, keep, integer, or_dash, size, bytes, text, truth, LineForm, complete, field, whole_number, find_form, Lines, Good, with_call, after_last}
+use Rattle.sval_script.specs.Lines.{cut_at, keep, integer, or_dash, size, bytes, text, truth, LineForm, complete, field, whole_number, call_among, Lines, lines_from}
 
 -- ---- the fields of tags, labels and indexes
 
@@ -92,21 +92,10 @@ all_forms = (codes "null", complete Null)
     ∷ (codes "record_tuple_end", name (λ n. complete (End (RecordTuple n))))
     ∷ []
 
-abbrev pub any_call_of_fields : List (List ℕ) → Option Call
-any_call_of_fields [] = None
-any_call_of_fields (word ∷ fields) = option_and_then (λ form. form fields) (find_form word all_forms)
-
 -- the call that a line spells, if any; the line stands without its line feed
 unfoldable pub any_line_of : List ℕ → Option Call
-any_line_of line = any_call_of_fields (cut_at 32 line)
+any_line_of line = call_among all_forms (cut_at 32 line)
 
--- ---- a script
-
--- the first line has the number n
-abbrev pub any_lines_from : ℕ → List (List ℕ) → Lines
-any_lines_from n [] = Good []
-any_lines_from n (rest ∷ []) = after_last n rest
-any_lines_from n (line ∷ next ∷ more) = with_call n (any_line_of line) (any_lines_from (n + 1) (next ∷ more))
-
+-- the calls of a script's lines
 unfoldable pub any_lines : List ℕ → Lines
-any_lines script = any_lines_from 1 (cut_at 10 script)
+any_lines script = lines_from any_line_of 1 (cut_at 10 script)

@@ -93,9 +93,13 @@ abbrev pub find_form : List ℕ → List (List ℕ × LineForm) → Option LineF
 find_form word [] = None
 find_form word (row ∷ rows) = if bytes_eq word row.0 then Some row.1 else find_form word rows
 
+-- the call that a word of the table and its fields spell, if any
+abbrev pub call_among : List (List ℕ × LineForm) → List (List ℕ) → Option Call
+call_among table [] = None
+call_among table (word ∷ fields) = option_and_then (λ form. form fields) (find_form word table)
+
 abbrev pub call_of_fields : List (List ℕ) → Option Call
-call_of_fields [] = None
-call_of_fields (word ∷ fields) = option_and_then (λ form. form fields) (find_form word forms)
+call_of_fields = call_among forms
 
 -- the call that a line spells, if any; the line stands without its line feed
 unfoldable pub line_of : List ℕ → Option Call
@@ -119,11 +123,11 @@ abbrev pub after_last : ℕ → List ℕ → Lines
 after_last n [] = Good []
 after_last n (byte ∷ rest) = Bad n
 
--- the first line has the number n
-abbrev pub lines_from : ℕ → List (List ℕ) → Lines
-lines_from n [] = Good []
-lines_from n (rest ∷ []) = after_last n rest
-lines_from n (line ∷ next ∷ more) = with_call n (line_of line) (lines_from (n + 1) (next ∷ more))
+-- the lines' calls, as each line is read; the first line has the number n
+abbrev pub lines_from : (List ℕ → Option Call) → ℕ → List (List ℕ) → Lines
+lines_from read n [] = Good []
+lines_from read n (rest ∷ []) = after_last n rest
+lines_from read n (line ∷ next ∷ more) = with_call n (read line) (lines_from read (n + 1) (next ∷ more))
 
 unfoldable pub lines : List ℕ → Lines
-lines script = lines_from 1 (cut_at 10 script)
+lines script = lines_from line_of 1 (cut_at 10 script)

@@ -31,9 +31,10 @@ impl<T: Drop> From<AllocFailed<T>> for ScriptError {
     }
 }
 
-/// A script: the calls of its lines, in order.
+/// A script that was read: the calls of its lines, in order.
 ///
-/// The texts stand decoded in one store, one after another in the order of the lines.
+/// It is a value, which makes these calls, lends its texts and never refuses. The texts stand decoded in one store, one
+/// after another in the order of the lines.
 #[derive(Drop)]
 pub struct Script {
     texts: String,

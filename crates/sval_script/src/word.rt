@@ -5,7 +5,7 @@ ghost use Rattle.sval_script.specs.Lines.{forms, find_form};
 ghost use Rattle.sval_script.specs.Words.{form_of_word, word_table, texts_and_words, place_of, word_text_at};
 
 /// What a line begins with. The variants are the forms of lines: the fields that follow.
-#[derive(Clone, Copy, Debug, PartialEq, Eq)]
+#[derive(Clone, Copy, Debug)]
 pub(crate) enum Word {
     /// No field.
     Alone(Alone),
@@ -20,7 +20,7 @@ pub(crate) enum Word {
 }
 
 /// The words that stand alone.
-#[derive(Clone, Copy, Debug, PartialEq, Eq)]
+#[derive(Clone, Copy, Debug)]
 pub(crate) enum Alone {
     Null,
     TextEnd,
@@ -30,20 +30,20 @@ pub(crate) enum Alone {
 }
 
 /// The types of whole numbers.
-#[derive(Clone, Copy, Debug, PartialEq, Eq)]
+#[derive(Clone, Copy, Debug)]
 pub(crate) enum NumberType {
     I64,
 }
 
 /// The words of what begins with a size.
-#[derive(Clone, Copy, Debug, PartialEq, Eq)]
+#[derive(Clone, Copy, Debug)]
 pub(crate) enum Opening {
     TextBegin,
     SeqBegin,
 }
 
 /// How long a fragment lives.
-#[derive(Clone, Copy, Debug, PartialEq, Eq)]
+#[derive(Clone, Copy, Debug)]
 pub(crate) enum Lifetime {
     /// A stream may keep it.
     Borrowed,
@@ -78,7 +78,7 @@ static SLOTS: [u8; 128] = [
     7,
 ];
 
-/// The place of a text: another for each word of the grammar, also for those that are not built yet.
+/// The place of a text: another for each word.
 fn place(text: &[u8]) -> usize
     requires { 0 < length text.now }
     ensures { result ≡ place_of text.now }
