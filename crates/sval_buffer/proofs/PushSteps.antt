@@ -51,10 +51,6 @@ holders-push fragment nodes (newest ∷ older) within row e =
     let place = length (flat_row nodes ++ flat_spine older) in
     ap (λ rest. holders_spine nodes older ++ (newest_place nodes older ∷ rest)) (holders-last fragment newest.nodes row (place + 1) (Some place) e)
 
-length-flat_row : (fragment : HeldBytes) (nodes row : Nodes) → push_last_text fragment nodes ≡ Some row → length (flat_row row) ≡ length (flat_row nodes)
-length-flat_row fragment nodes row e =
-    length-push_flat fragment (flat_row nodes) (flat_row row) (sym (push-flat_row fragment nodes) ∙ ap (option_map flat_row) e)
-
 open-push : (fragment : HeldBytes) (nodes : Nodes) (spine : List Open) (within : Bool) (row : Nodes) → push_last_text fragment (newest_row nodes spine) ≡ Some row
     → (let g = with_row row nodes spine within in open_places g.nodes g.spine) ≡ open_places nodes spine
 open-push fragment nodes [] within row e = refl

@@ -63,9 +63,6 @@ pub record IsWalked {V : Type 0} (law : Law V) (old now : Standing V) (parts : L
   pub still_is : still place gs ≡ still place rest
   pub streams : Streams law old (makes done) now
 
-pub walk-start : {V : Type 0} (law : Law V) (old : Standing V) (parts : List Part) (place : ℕ) (at : Option ℕ) (gs : List Going) → Linked parts at gs → IsWalked law old old parts place at gs
-walk-start law old parts place at gs l = record { rest = gs; done = []; linked = l; ended_is = refl; still_is = refl; streams = streams_nothing law old }
-
 -- the newest container that may go on, as a part
 pub record Newest (parts : List Part) (at : ℕ) (rest : List Going) : Type 0 where
   pub newest : Going
@@ -219,9 +216,6 @@ pub record IsReplayed {V : Type 0} (law : Law V) (old now : Standing V) (parts :
   pub nested : Nested (map stored parts) i gs (map stored (drop i parts)) (map holder (drop i parts))
   pub all_is : pass 0 [] (map stored parts) ≡ done ++ pass i (pendings gs) (map stored (drop i parts))
   pub streams : Streams law old (makes done) now
-
-pub replay-start : {V : Type 0} (law : Law V) (old : Standing V) (parts : List Part) → IsNested parts → IsReplayed law old old parts 0 None
-replay-start law old parts n = record { gs = []; done = []; linked = refl; before = tt; nested = n; all_is = refl; streams = streams_nothing law old }
 
 -- where a container is opened, it is the newest, and else the newest is that of before
 unfoldable pub newest_after : ℕ → FlatKind → Option ℕ → Option ℕ

@@ -120,11 +120,6 @@ abbrev pub IsUnfitBy : Word → Result HeldBytes Word → ErrorKind → Type 0
 IsUnfitBy expected (Ok next) why = IsNoAlloc why
 IsUnfitBy expected (Err actual) why = why ≡ error.Unsupported actual expected
 
--- what an operation leaves, where this is what the step answers
-abbrev pub CollectsBy : Word → Result HeldBytes Word → Result (Unit {0}) ErrorKind → HeldBytes → Type 0
-CollectsBy expected answer (Ok _) held = answer ≡ Ok held
-CollectsBy expected answer (Err why) held = IsUnfitBy expected answer why
-
 -- what a refused call leaves
 pub record IsCollectLeft (expected : Word) (step : CollectStep) (view : Collecting) (call : Call) (left : Collecting) : Type 0 where
   pub why : ErrorKind

@@ -18,7 +18,8 @@ pub(crate) fn replay_parts<'sval, S: Stream<Lent<'sval>>>(
     stream: &mut S,
 ) -> Result
     requires { IsNested parts.now }
-    ensures { Emits S.law result (S.standing stream.old) (makes (pass 0 [] (map stored parts.now))) (S.standing stream.new) }
+    ensures { let calls = pass 0 [] (map stored parts.now) in
+        Emits S.law result (S.standing stream.old) (makes calls) (S.standing stream.new) }
 {
     let mut going = None;
     for (place, part) in parts.iter().enumerate() {
@@ -40,7 +41,8 @@ fn end_before<'sval, S: Stream<Lent<'sval>>>(
     stream: &mut S,
 ) -> Result<Option<usize>>
     requires { IsLinked parts.now going }
-    ensures { (gs : List Going) → Linked parts.now going gs → EndsBefore S.law parts.now place gs (S.standing stream.old) result (S.standing stream.new) }
+    ensures { (gs : List Going) → Linked parts.now going gs
+        → EndsBefore S.law parts.now place gs (S.standing stream.old) result (S.standing stream.new) }
 {
     let mut newest = going;
     while let Some(at) = newest {

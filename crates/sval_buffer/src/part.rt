@@ -64,7 +64,8 @@ impl Begin {
 
     /// Makes the end that belongs to the begin.
     fn stream_end<L: Lending, S: Stream<L>>(self, stream: &mut S) -> sval_core::Result
-        ensures { Emits S.law result (S.standing stream.old) (makes (end_of (begin_call self) ∷ [])) (S.standing stream.new) }
+        ensures { let end = end_of (begin_call self) in
+            Emits S.law result (S.standing stream.old) (makes (end ∷ [])) (S.standing stream.new) }
     {
         match self {
             Begin::Sized(Head::Seq, _) => stream.seq_end(),
@@ -125,7 +126,8 @@ impl<'sval> Part<'sval> {
 
     /// Makes the calls of this part, of a container its begin.
     pub(crate) fn stream_head<S: Stream<Lent<'sval>>>(&self, stream: &mut S) -> sval_core::Result
-        ensures { Emits S.law result (S.standing stream.old) (makes (head_calls (flat_kind self.now.kind))) (S.standing stream.new) }
+        ensures { let calls = head_calls (flat_kind self.now.kind) in
+            Emits S.law result (S.standing stream.old) (makes calls) (S.standing stream.new) }
     {
         match &self.kind {
             PartKind::Single(single) => single.stream(stream),
@@ -136,7 +138,8 @@ impl<'sval> Part<'sval> {
 
     /// Makes the end of this part, if it is a container.
     pub(crate) fn stream_end<S: Stream<Lent<'sval>>>(&self, stream: &mut S) -> sval_core::Result
-        ensures { Emits S.law result (S.standing stream.old) (makes (end_calls (flat_kind self.now.kind))) (S.standing stream.new) }
+        ensures { let calls = end_calls (flat_kind self.now.kind) in
+            Emits S.law result (S.standing stream.old) (makes calls) (S.standing stream.new) }
     {
         match &self.kind {
             PartKind::Container { begin, .. } => begin.stream_end(stream),
@@ -163,8 +166,8 @@ fn push_fragment<'sval>(
     ensures may_fail { OnErr result (IsTrue (push_may_grow (fragment_bytes fragment.entry).borrowed (Some text.old))) }
 {
     let pushed = match fragment {
-        Fragment::Borrowed(text_kept) => text.push_fragment(text_kept),
-        Fragment::Computed(text_copied) => text.push_fragment_computed(text_copied),
+        Fragment::Borrowed(fragment) => text.push_fragment(fragment),
+        Fragment::Computed(fragment) => text.push_fragment_computed(fragment),
     };
     pushed.map_err(|_| NoMemory)
 }

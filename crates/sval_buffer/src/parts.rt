@@ -18,7 +18,7 @@ use std::alloc::Global;
 use std::marker::Model;
 use sval_core::{Call, Fragment, GroupedCall, Lent, Stream};
 
-/// The parts of a captured value, seen as the forest that they are.
+/// The parts of a captured value. `forest_in` reads the forest that they are.
 #[derive(Drop)]
 pub(crate) struct Parts<'sval> {
     parts: Vec<Part<'sval>>,
@@ -81,8 +81,9 @@ impl<'sval> Parts<'sval> {
     }
 
     /// Adds a call that is complete by itself.
-    pub(crate) fn single(&mut self, single: Single) -> Result<(), ErrorKind>
-        ensures { CapturesBy (λ _. true) (λ f. Becomes (add (forest.Single (single_call single)) f)) self.old result self.new }
+    fn single(&mut self, single: Single) -> Result<(), ErrorKind>
+        ensures { let node = forest.Single (single_call single) in
+            CapturesBy (λ _. true) (λ f. Becomes (add node f)) self.old result self.new }
     {
         let part = Part {
             kind: PartKind::Single(single),
@@ -97,8 +98,9 @@ impl<'sval> Parts<'sval> {
     }
 
     /// Begins a text.
-    pub(crate) fn text_begin(&mut self, alloc: Global) -> Result<(), ErrorKind>
-        ensures { CapturesBy (λ _. true) (λ f. Becomes (with_flag true (add (forest.Text no_bytes) f))) self.old result self.new }
+    fn text_begin(&mut self, alloc: Global) -> Result<(), ErrorKind>
+        ensures { let node = forest.Text no_bytes in
+            CapturesBy (λ _. true) (λ f. Becomes (with_flag true (add node f))) self.old result self.new }
     {
         let part = Part {
             kind: PartKind::Text(TextBuf::new(alloc)),
@@ -112,14 +114,14 @@ impl<'sval> Parts<'sval> {
     }
 
     /// Ends a text.
-    pub(crate) fn text_end(&mut self)
+    fn text_end(&mut self)
         ensures { forest_in self.new ≡ with_flag false (forest_in self.old) }
     {
         self.in_fragments = false;
     }
 
     /// Pushes a fragment into the last part.
-    pub(crate) fn push(&mut self, fragment: Fragment<&'sval str, &str>) -> Result<(), ErrorKind>
+    fn push(&mut self, fragment: Fragment<&'sval str, &str>) -> Result<(), ErrorKind>
         ensures { let pushed = fragment_bytes fragment.entry in
             CapturesBy (text_may_grow pushed.borrowed) (push_into_text pushed) self.old result self.new }
     {
@@ -130,7 +132,7 @@ impl<'sval> Parts<'sval> {
     }
 
     /// Begins a container. There is memory for its place before its part is kept.
-    pub(crate) fn begin(&mut self, begin: Begin) -> Result<(), ErrorKind>
+    fn begin(&mut self, begin: Begin) -> Result<(), ErrorKind>
         ensures { CapturesBy (λ _. true) (λ f. Becomes (begun (begin_call begin) f)) self.old result self.new }
     {
         let part = Part {
@@ -149,7 +151,8 @@ impl<'sval> Parts<'sval> {
 
     /// Makes the calls again, or that of no value where there is no part.
     pub(crate) fn replay<S: Stream<Lent<'sval>>>(&self, stream: &mut S) -> sval_core::Result
-        ensures { Emits S.law result (S.standing stream.old) (makes (forest.replayed (forest_in self.now))) (S.standing stream.new) }
+        ensures { let calls = forest.replayed (forest_in self.now) in
+            Emits S.law result (S.standing stream.old) (makes calls) (S.standing stream.new) }
     {
         if self.parts.is_empty() {
             return stream.null();
@@ -180,7 +183,7 @@ impl<'sval> Parts<'sval> {
     }
 
     /// Ends the newest container without an end.
-    pub(crate) fn end(&mut self) -> Result<(), ErrorKind>
+    fn end(&mut self) -> Result<(), ErrorKind>
         ensures { CapturesBy (λ _. false) close_newest self.old result self.new }
     {
         match self.places.pop() {

@@ -26,7 +26,8 @@ impl<'sval> Stream<Lent<'sval>> for Written {
     ghost standing = { λ written. with_wants written.wants };
 
     fn take(&mut self, call: Call<'sval, '_>) -> sval_core::Result
-        ensures { Answers lenient result (with_wants self.old.wants) (lent_call call.entry) (with_wants self.new.wants) }
+        ensures { let taken = lent_call call.entry in
+            Answers lenient result (with_wants self.old.wants) taken (with_wants self.new.wants) }
     {
         if write!(self.text, "{call:?} ").is_err() {
             self.wants = self.wants.saturating_add(1);

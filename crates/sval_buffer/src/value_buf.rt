@@ -6,9 +6,9 @@ ghost use Rattle.sval_core.specs.Trees.{Tree};
 ghost use Rattle.sval_core.specs.Spells.{Spells};
 ghost use Rattle.sval_core.specs.Law.{Answers};
 ghost use Rattle.sval_buffer.specs.Forest as forest;
-ghost use Rattle.sval_buffer.specs.Capture.{Capture, no_calls, wants_after, capture_law, capture_standing};
+ghost use Rattle.sval_buffer.specs.Capture.{Capture, no_calls, wants_after, capture_law};
 ghost use Rattle.sval_core.specs.Values.{makes};
-ghost use Rattle.sval_buffer.specs.SeenBuffers.{capture_of};
+ghost use Rattle.sval_buffer.specs.SeenBuffers.{capture_of, buffer_standing};
 ghost use Rattle.sval_buffer.specs.CapturedValues.{IsCaptured, KeepsTree, IsCollectCause, IsOkOrNoAlloc, cause_by};
 
 use crate::error::{Error, ErrorKind, Word};
@@ -25,7 +25,8 @@ use sval_ref::ValueRef;
 ///
 /// - [`ErrorKind::OutsideContainer`] answers a fragment where the last part isn't a text.
 /// - [`ErrorKind::InvalidValue`] with [`Word::Unbalanced`] answers an end where no container is without its end.
-/// - [`ErrorKind::NoAlloc`] answers a call for which there was no memory.
+/// - [`ErrorKind::NoAlloc`] answers a call for which there was no memory. An end takes none, and neither does a borrowed
+///   fragment onto an empty text.
 ///
 /// After any refusal the buffer holds what it held before.
 ///
@@ -76,7 +77,8 @@ impl<'sval> ValueBuf<'sval> {
     /// - [`ErrorKind::OutsideContainer`] and [`ErrorKind::InvalidValue`] with [`Word::Unbalanced`] come where one of its
     ///   calls is refused so.
     /// - [`ErrorKind::InvalidValue`] with [`Word::FailedToStream`] comes where none is, and the value itself refuses.
-    /// - [`ErrorKind::NoAlloc`] comes where memory was wanting.
+    /// - [`ErrorKind::NoAlloc`] comes where memory was wanting in one of its calls: the calls before it are taken, and so is
+    ///   this one, which may take memory.
     ///
     /// ```
     /// let buffer = ValueBuf::collect(alloc, &value)?;
@@ -86,7 +88,8 @@ impl<'sval> ValueBuf<'sval> {
         ensures ok { IfOk result (λ buffer. IsCaptured (V.emission v.now) (capture_of buffer)) }
         ensures err { IfErr result (λ why. IsCollectCause (V.emission v.now) why) }
         ensures keeps_the_tree { IfOk result (λ buffer. KeepsTree (V.emission v.now) (capture_of buffer).forest) }
-        ensures complete { (tree : Tree) → (V.emission v.now).refuses ≡ false → Spells (V.emission v.now).calls tree → IsOkOrNoAlloc result }
+        ensures complete { let e = V.emission v.now in
+            (tree : Tree) → e.refuses ≡ false → Spells e.calls tree → IsOkOrNoAlloc result }
     {
         ValueBuf::collect_with_capacity(alloc, 0, v)
     }
@@ -103,7 +106,8 @@ impl<'sval> ValueBuf<'sval> {
         ensures ok { IfOk result (λ buffer. IsCaptured (V.emission v.now) (capture_of buffer)) }
         ensures err { IfErr result (λ why. IsCollectCause (V.emission v.now) why) }
         ensures keeps_the_tree { IfOk result (λ buffer. KeepsTree (V.emission v.now) (capture_of buffer).forest) }
-        ensures complete { (tree : Tree) → (V.emission v.now).refuses ≡ false → Spells (V.emission v.now).calls tree → IsOkOrNoAlloc result }
+        ensures complete { let e = V.emission v.now in
+            (tree : Tree) → e.refuses ≡ false → Spells e.calls tree → IsOkOrNoAlloc result }
     {
         let mut buffer: ValueBuf<'sval> = ValueBuf::with_room(alloc, parts);
         match v.stream(&mut buffer) {
@@ -164,10 +168,10 @@ impl<'sval> Stream<Lent<'sval>> for ValueBuf<'sval> {
 
     ghost law = { capture_law };
 
-    ghost standing = { λ buffer. capture_standing (capture_of buffer) };
+    ghost standing = { buffer_standing };
 
     fn take(&mut self, call: Call<'sval, '_>) -> sval_core::Result
-        ensures { Answers capture_law result (capture_standing (capture_of self.old)) (lent_call call.entry) (capture_standing (capture_of self.new)) }
+        ensures { Answers capture_law result (buffer_standing self.old) (lent_call call.entry) (buffer_standing self.new) }
     {
         match self.parts.capture(self.alloc, call) {
             Ok(()) => Ok(()),
