@@ -14,6 +14,7 @@ pub record Capture : Type 0 where
   pub refusal : Option ErrorKind
   pub wants : ℕ
 
+-- what a buffer is that has taken no call since it was new or cleared
 abbrev pub no_calls : ℕ → Capture
 no_calls wants = record { forest = empty_forest; refusal = None; wants = wants }
 
@@ -23,6 +24,7 @@ error_of Unbalanced = error.InvalidValue word.Unbalanced
 error_of OutsideText = error.OutsideContainer word.Text
 error_of OutsideBinary = error.OutsideContainer word.Binary
 
+-- this kind says that memory was wanting
 abbrev pub IsNoAlloc : ErrorKind → Type 0
 IsNoAlloc (error.NoAlloc method) = ⊤
 IsNoAlloc _ = ⊥
@@ -47,6 +49,7 @@ abbrev pub IsCaptureCause : Bool → CaptureAnswer → ErrorKind → Type 0
 IsCaptureCause grows (Becomes next) why = WantsMemory grows why
 IsCaptureCause grows (Rejects misfit) why = why ≡ error_of misfit
 
+-- how often memory was wanting, after a refusal of this kind
 abbrev pub wants_after : ErrorKind → ℕ → ℕ
 wants_after (error.NoAlloc method) wants = one_more wants
 wants_after _ wants = wants
@@ -59,6 +62,7 @@ pub record IsCaptureLeft (view : Capture) (call : Call) (left : Capture) : Type 
   pub cause : IsCaptureCause (may_grow view.forest call) (take view.forest call) why
   pub wants : left.wants ≡ wants_after why view.wants
 
+-- a call is accepted where the forest takes it, leaves what the forest becomes, and moves nothing else
 abbrev pub capture_law : Law Capture
 capture_law = record {
   accepts = λ view call. IsAccepted (take view.forest call);
@@ -66,6 +70,7 @@ capture_law = record {
   stopped = IsCaptureLeft;
 }
 
+-- where a stream stands that is this
 abbrev pub capture_standing : Capture → Standing Capture
 capture_standing capture = record { view = capture; faults = 0; wants = capture.wants }
 

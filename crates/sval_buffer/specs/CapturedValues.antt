@@ -47,6 +47,7 @@ pub record SpellsAgain (f : Forest) (tree : Tree) : Type 0 where
 abbrev pub KeepsTree : Emission → Forest → Type 0
 KeepsTree e f = (tree : Tree) → Spells e.calls tree → SpellsAgain f tree
 
+-- the answer is Ok, or says that memory was wanting
 abbrev pub IsOkOrNoAlloc : {T : Type 0} → Result T ErrorKind → Type 0
 IsOkOrNoAlloc (Ok _) = ⊤
 IsOkOrNoAlloc (Err why) = IsNoAlloc why

@@ -22,14 +22,18 @@ pub record StreamCollects (expected : Word) (step : CollectStep) (collected : Em
   pub on_err : (e : Emission) (start last : Collecting) → start ≡ nothing_collected → Stops (collect_law expected step) (collecting start) e (collecting last)
       → IsDue (collected e) (Err (cause_by last.refusal))
 
+-- the steps of texts answer what is collected of a value as a text
 abbrev pub TextStepsCollect : Type 0
 TextStepsCollect = StepsCollect word.Text text_step text_collected
 
+-- the same of binaries
 abbrev pub BinaryStepsCollect : Type 0
 BinaryStepsCollect = StepsCollect word.Binary binary_step binary_collected
 
+-- and so does a stream that meets them
 abbrev pub TextStreamCollects : Type 0
 TextStreamCollects = StreamCollects word.Text text_step text_collected
 
+-- the same of binaries
 abbrev pub BinaryStreamCollects : Type 0
 BinaryStreamCollects = StreamCollects word.Binary binary_step binary_collected

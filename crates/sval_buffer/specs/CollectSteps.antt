@@ -30,6 +30,7 @@ goes_up IntType.I32 = false
 goes_up IntType.I64 = false
 goes_up _ = true
 
+-- a number that is told as digits
 abbrev pub is_digits : IntType → ℤ → Bool
 is_digits type n = goes_up type && not (is_signed 63 n)
 
@@ -37,10 +38,12 @@ is_digits type n = goes_up type && not (is_signed 63 n)
 abbrev pub own_label : Name → Option Label
 own_label name = if says_none name.tag then None else name.label
 
+-- a label is a fragment, which is borrowed where it is static; none is told as null
 abbrev pub push_label : HeldBytes → Option Label → Result HeldBytes Word
 push_label held (Some label) = push held label.is_static label.text
 push_label held None = Err word.Null
 
+-- what a call does to a text
 abbrev pub text_step : CollectStep
 text_step held Call.Null = Err word.Null
 text_step held (Call.Truth _) = Err word.Boolean
@@ -56,6 +59,7 @@ text_step held (Call.PartBegin _) = Err word.Sequence
 text_step held (Call.PartEnd _) = Err word.Sequence
 text_step held _ = Ok held
 
+-- what a label, or none, is to a buffer for binaries
 abbrev pub word_for_label : Option Label → Word
 word_for_label (Some _) = word.Text
 word_for_label None = word.Null
@@ -72,10 +76,12 @@ begin_part held (Slot.Field _ _) = Err word.Text
 begin_part held (Slot.FieldPlace _ _ _) = Err word.Text
 begin_part held _ = Ok held
 
+-- a number of 8 bits is a byte; each other one is of another kind
 abbrev pub push_number : HeldBytes → IntType → ℤ → Result HeldBytes Word
 push_number held IntType.U8 n = push held false (nat_abs n ∷ [])
 push_number held type n = Err (if is_digits type n then word.Text else word.Integer)
 
+-- what a call does to a binary
 abbrev pub binary_step : CollectStep
 binary_step held Call.Null = Err word.Null
 binary_step held (Call.Truth _) = Err word.Boolean
@@ -108,9 +114,11 @@ pub record Collecting : Type 0 where
   pub refusal : Option ErrorKind
   pub wants : ℕ
 
+-- what a stream is before the first call
 abbrev pub nothing_collected : Collecting
 nothing_collected = record { held = no_bytes; refusal = None; wants = 0 }
 
+-- the content after a step, which stays where the call doesn't fit
 abbrev pub held_by : Result HeldBytes Word → HeldBytes → HeldBytes
 held_by (Ok next) held = next
 held_by (Err actual) held = held
@@ -127,6 +135,7 @@ pub record IsCollectLeft (expected : Word) (step : CollectStep) (view : Collecti
   pub cause : IsUnfitBy expected (step view.held call) why
   pub wants : left.wants ≡ wants_after why view.wants
 
+-- a call is accepted where it fits, leaves the content of its step, and moves nothing else
 abbrev pub collect_law : Word → CollectStep → Law Collecting
 collect_law expected step = record {
   accepts = λ view call. IsOk (step view.held call);
@@ -134,5 +143,6 @@ collect_law expected step = record {
   stopped = IsCollectLeft expected step;
 }
 
+-- where a stream stands that is this
 abbrev pub collecting : Collecting → Standing Collecting
 collecting view = record { view = view; faults = 0; wants = view.wants }

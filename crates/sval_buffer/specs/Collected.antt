@@ -38,6 +38,7 @@ binary_use Call.TextEnd = Unfit word.Text
 binary_use (Call.Begin Head.Map _) = Unfit word.Map
 binary_use _ = Pass
 
+-- what a call is used as, before the pushes of those after it
 abbrev pub before : Use → Result (List HeldBytes) Word → Result (List HeldBytes) Word
 before (Push fragment) (Ok pushes) = Ok (fragment ∷ pushes)
 before (Push fragment) (Err actual) = Err actual

@@ -5,6 +5,7 @@ use Rattle.sval_buffer.specs.declared.error.Word.TheVariants as word
 use Rattle.sval_buffer.specs.declared.error.ErrorKind.{ErrorKind}
 use Rattle.sval_buffer.specs.declared.error.ErrorKind.TheVariants as error
 
+-- what a word says
 abbrev pub word_text : Word → List ℕ
 word_text word.Null = codes "null"
 word_text word.Boolean = codes "boolean"
@@ -17,6 +18,7 @@ word_text word.FailedToStream = codes "the value itself failed to stream"
 word_text word.FormattingFailed = codes "formatting failed"
 word_text word.Unbalanced = codes "unbalanced calls to `begin` and `end`"
 
+-- what an error says
 abbrev pub error_text : ErrorKind → List ℕ
 error_text (error.Unsupported actual expected) = codes "unexpected " ++ (word_text actual ++ (codes ", expected " ++ word_text expected))
 error_text (error.InvalidValue reason) = codes "the value is invalid: " ++ word_text reason

@@ -14,6 +14,7 @@ pub record Built : Type 0 where
   pub row : List Node
   pub spine : List Open
 
+-- a row with these nodes after it
 abbrev pub row_onto : Nodes → List Node → Nodes
 row_onto nodes [] = nodes
 row_onto nodes (node ∷ rest) = row_onto (nodes and node) rest
@@ -24,6 +25,7 @@ front_of n [] = []
 front_of n (node ∷ rest) =
     if nat_lt n (length (flat_node node)) then [] else node ∷ front_of (n - length (flat_node node)) rest
 
+-- the nodes after those that n parts tell
 abbrev pub after : ℕ → List Node → List Node
 after n [] = []
 after n (node ∷ rest) =
@@ -34,6 +36,7 @@ abbrev pub with_holder : Bool → Call → ℕ → Built → Built
 with_holder true begin holds b = record { row = []; spine = b.spine ++ (record { begin = begin; nodes = row_onto none b.row } ∷ []) }
 with_holder false begin holds b = record { row = Container begin (row_onto none (front_of holds b.row)) ∷ after holds b.row; spine = b.spine }
 
+-- the same of any part
 abbrev pub with_part : Bool → FlatKind → ℕ → Built → Built
 with_part is_open (One call) holds b = record { row = Single call ∷ b.row; spine = b.spine }
 with_part is_open (Words held) holds b = record { row = Text held ∷ b.row; spine = b.spine }
@@ -45,6 +48,7 @@ abbrev pub is_open_at : ℕ → List ℕ → Bool
 is_open_at i [] = false
 is_open_at i (place ∷ places) = place == i
 
+-- the places after the one at i, if it is the next
 abbrev pub beyond : ℕ → List ℕ → List ℕ
 beyond i [] = []
 beyond i (place ∷ places) = if place == i then places else place ∷ places
@@ -54,6 +58,7 @@ unfoldable pub built : ℕ → List ℕ → List FlatPart → Built
 built i places [] = record { row = []; spine = [] }
 built i places (p ∷ parts) = with_part (is_open_at i places) p.kind p.holds (built (i + 1) (beyond i places) parts)
 
+-- the forest that parts tell, with the places of the containers without an end and the flag
 unfoldable pub forest_of : List FlatPart → List ℕ → Bool → Forest
 forest_of parts places within =
     let b = built 0 places parts in record { nodes = row_onto none b.row; spine = b.spine; in_fragments = within }

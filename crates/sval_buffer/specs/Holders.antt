@@ -27,5 +27,6 @@ holders_spine nodes (newest ∷ older) =
     let place = length (flat_row nodes ++ flat_spine older) in
     holders_spine nodes older ++ (newest_place nodes older ∷ holders_row (place + 1) (Some place) newest.nodes)
 
+-- the place of what holds each part of a forest
 abbrev pub holders : Forest → List (Option ℕ)
 holders f = holders_spine f.nodes f.spine

@@ -16,6 +16,7 @@ pub record Going : Type 0 where
   pub place : ℕ
   pub pending : Pending
 
+-- these containers without their places
 abbrev pub pendings : List Going → List Pending
 pendings gs = map (λ g. g.pending) gs
 
@@ -31,6 +32,7 @@ opens i holds (flat.Words held) gs = gs
 opens i holds (flat.Bytes held) gs = gs
 opens i holds (flat.Holder begin) gs = record { place = i; pending = record { stop = i + 1 + holds; end = end_of begin } } ∷ gs
 
+-- the place of the newest of them
 abbrev pub top : List Going → Option ℕ
 top [] = None
 top (newest ∷ older) = Some newest.place
@@ -40,10 +42,12 @@ abbrev pub outer_at : ℕ → Option FlatPart → Option ℕ
 outer_at place None = None
 outer_at place (Some p) = if p.holds == 0 then None else Some place
 
+-- the same, by the place of what holds the part
 abbrev pub outer_of : List FlatPart → Option ℕ → Option ℕ
 outer_of whole None = None
 outer_of whole (Some place) = outer_at place (slice_get whole place)
 
+-- there is no such place, or it is below the limit
 abbrev pub IsBelow : Option ℕ → ℕ → Type 0
 IsBelow None limit = ⊤
 IsBelow (Some place) limit = place < limit
@@ -63,9 +67,11 @@ abbrev pub Linked : List Part → Option ℕ → List Going → Type 0
 Linked parts going [] = going ≡ None
 Linked parts going (newest ∷ older) = (link : Link parts going newest) × Linked parts (outer_of (map stored parts) link.part.holder) older
 
+-- some containers go on whose newest stands there
 abbrev pub IsLinked : List Part → Option ℕ → Type 0
 IsLinked parts going = (gs : List Going) × Linked parts going gs
 
+-- all of them end before place i
 abbrev pub AllStop : ℕ → List Going → Type 0
 AllStop i [] = ⊤
 AllStop i (newest ∷ older) = (newest.pending.stop ≤ i) × AllStop i older
@@ -76,6 +82,7 @@ Nested whole i gs [] hs = AllStop i gs
 Nested whole i gs (p ∷ parts) [] = ⊥
 Nested whole i gs (p ∷ parts) (h ∷ hs) = (outer_of whole h ≡ top (still i gs)) × Nested whole (i + 1) (opens i p.holds p.kind (still i gs)) parts hs
 
+-- the holders of all parts are those that replay needs
 abbrev pub IsNested : List Part → Type 0
 IsNested parts = Nested (map stored parts) 0 [] (map stored parts) (map holder parts)
 
@@ -86,6 +93,7 @@ end_calls (flat.Words held) = []
 end_calls (flat.Bytes held) = []
 end_calls (flat.Holder begin) = end_of begin ∷ []
 
+-- this part is a container
 abbrev pub is_holder : FlatKind → Bool
 is_holder (flat.One call) = false
 is_holder (flat.Words held) = false

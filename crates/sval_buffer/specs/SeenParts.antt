@@ -22,28 +22,34 @@ use Rattle.sval_buffer.specs.declared.part.Part.{Part}
 use Rattle.sval_buffer.specs.declared.error.ErrorKind.{ErrorKind}
 use Rattle.sval_buffer.specs.Capture.{WantsMemory, error_of}
 
+-- the call that this is
 abbrev pub single_call : Single → Call
 single_call Null = call.Null
 single_call (Truth b) = call.Truth b
 single_call (Int n) = int_call n
 
+-- the begin that this is
 abbrev pub begin_call : Begin → Call
 begin_call (Sized head size) = call.Begin (seen_head head) size
 begin_call (OfPart slot) = call.PartBegin (seen_slot slot)
 
+-- what a part is
 abbrev pub flat_kind : PartKind → FlatKind
 flat_kind (kind.Single single) = flat.One (single_call single)
 flat_kind (kind.Text held) = flat.Words held
 flat_kind (kind.Container begin holds) = flat.Holder (begin_call begin)
 
+-- the number of parts after it that a part holds
 abbrev pub holds_of : PartKind → ℕ
 holds_of (kind.Single single) = 0
 holds_of (kind.Text held) = 0
 holds_of (kind.Container begin holds) = holds
 
+-- a part as the flat list has it
 abbrev pub stored : Part → FlatPart
 stored p = flat_part (flat_kind p.kind) (holds_of p.kind)
 
+-- the place of what holds a part
 abbrev pub holder : Part → Option ℕ
 holder p = p.holder
 
@@ -53,6 +59,7 @@ pub record TellsForest (parts : List Part) (places : List ℕ) (f : Forest) : Ty
   pub places_are : places ≡ open_places f.nodes f.spine
   pub holders_are : map holder parts ≡ holders f
 
+-- the forest that parts tell
 abbrev pub told : List Part → List ℕ → Bool → Forest
 told parts places within = forest_of (map stored parts) places within
 
@@ -62,6 +69,7 @@ pub record Pushed (old : Part) (fragment : HeldBytes) (new : Part) : Type 0 wher
   pub holds : holds_of new.kind ≡ holds_of old.kind
   pub holder : new.holder ≡ old.holder
 
+-- a fragment with whether it is borrowed
 abbrev pub fragment_bytes : grouped.Fragment (Bor (List ℕ)) (Bor (List ℕ)) → HeldBytes
 fragment_bytes (Borrowed text) = record { borrowed = true; bytes = text.now }
 fragment_bytes (Computed text) = record { borrowed = false; bytes = text.now }
