@@ -171,7 +171,8 @@ impl<'sval> Stream<Lent<'sval>> for ValueBuf<'sval> {
     ghost standing = { buffer_standing };
 
     fn take(&mut self, call: Call<'sval, '_>) -> sval_core::Result
-        ensures { Answers capture_law result (buffer_standing self.old) (lent_call call.entry) (buffer_standing self.new) }
+        ensures { let taken = lent_call call.entry in
+            Answers capture_law result (buffer_standing self.old) taken (buffer_standing self.new) }
     {
         match self.parts.capture(self.alloc, call) {
             Ok(()) => Ok(()),
