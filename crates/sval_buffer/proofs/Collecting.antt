@@ -1,5 +1,5 @@
 -- Which calls a buffer took, and where it stopped.
-use Rattle.std.specs.Prelude.{◌≡◌, ℕ, ◌+◌, ◌≤◌, ◌⊎◌, Bool, true, false, List, [], ◌∷◌, ◌++◌, Option, Some, None, refl}
+use Rattle.std.specs.Prelude.{◌≡◌, ℕ, ◌+◌, ◌≤◌, ◌⊎◌, Bool, true, false, List, [], ◌∷◌, Option, Some, None, refl}
 use Rattle.std.proofs.Common.{sym, ap, ◌∙◌, subst, arith, inl, inr}
 use Rattle.sval_label.specs.Calls.{Call}
 use Rattle.sval_core.specs.Trees.{Tree}
@@ -10,7 +10,7 @@ use Rattle.sval_buffer.specs.declared.error.Word.TheVariants as word
 use Rattle.sval_buffer.specs.declared.error.ErrorKind.{ErrorKind}
 use Rattle.sval_buffer.specs.declared.error.ErrorKind.TheVariants as error
 use Rattle.sval_buffer.specs.Capture.{Capture, no_calls, error_of, IsNoAlloc, IsAccepted, forest_by, IsCaptureCause, wants_after, capture_law, capture_standing}
-use Rattle.sval_buffer.specs.CapturedValues.{IsCaptured, IsCollectCause, SpellsAgain, KeepsTree, cause_by}
+use Rattle.sval_buffer.specs.CapturedValues.{IsCaptured, RunsOutFrom, RunsOut, IsCollectCause, SpellsAgain, KeepsTree, cause_by}
 use Rattle.sval_buffer.proofs.SameTree.{capture_keeps}
 
 -- ---- one call
@@ -52,17 +52,6 @@ ran_holds (call ∷ calls) n v u r = go (take v.forest call) (λ w k. ran_holds 
         → (elim a [ Becomes g ↦ forest_from g (n + 1) calls | Rejects misfit ↦ RefusedAt n misfit ] ≡ Holds u.forest) × (u.refusal ≡ v.refusal)
     go (Becomes g) rest t k = rest (record { forest = g; refusal = v.refusal; wants = v.wants }) k
     go (Rejects misfit) rest t k = absurd t
-
--- memory was wanting in one of the calls, from this forest on and where the first of them has this number
-record RunsOutFrom (f : Forest) (n : ℕ) (calls : List Call) : Type 0 where
-  pub before : List Call
-  pub call : Call
-  pub later : List Call
-  pub calls_are : calls ≡ before ++ (call ∷ later)
-  pub held : Forest
-  pub before_taken : forest_from f n before ≡ Holds held
-  pub accepted : IsAccepted (take held call)
-  pub takes_memory : may_grow held call ≡ true
 
 runs_out_here : (f : Forest) (n : ℕ) (call : Call) (later : List Call) → IsAccepted (take f call) → may_grow f call ≡ true → RunsOutFrom f n (call ∷ later)
 unfolding forest_from
@@ -133,17 +122,8 @@ collected e first last new s =
     let ran = ran_holds e.calls 1 (no_calls 0) last (subst (λ (c : Capture). Ran capture_law c e.calls last) new s.ran) in
     record { willing = s.willing; taken = ran.0; no_refusal = ran.1; wants = s.wants ∙ ap (λ (c : Capture). c.wants) new }
 
-no_alloc_cause : (e : Emission) (why : ErrorKind) → IsNoAlloc why → RunsOutFrom empty_forest 1 e.calls → IsCollectCause e why
-no_alloc_cause e (error.NoAlloc method) h out = record {
-  before = out.before;
-  call = out.call;
-  later = out.later;
-  calls_are = out.calls_are;
-  held = out.held;
-  before_taken = out.before_taken;
-  accepted = out.accepted;
-  takes_memory = out.takes_memory;
-}
+no_alloc_cause : (e : Emission) (why : ErrorKind) → IsNoAlloc why → RunsOut e.calls → IsCollectCause e why
+no_alloc_cause e (error.NoAlloc method) h out = out
 no_alloc_cause e (error.Unsupported actual expected) h out = absurd h
 no_alloc_cause e (error.InvalidValue reason) h out = absurd h
 no_alloc_cause e (error.OutsideContainer method) h out = absurd h

@@ -13,7 +13,7 @@ use Rattle.sval_buffer.specs.declared.part.Part.{Part}
 use Rattle.sval_buffer.specs.SeenParts.{stored, holder, flat_kind, holds_of, TellsForest, Pushed, PartPushes, IsPushCause}
 use Rattle.sval_buffer.specs.declared.error.ErrorKind.{ErrorKind}
 use Rattle.sval_buffer.specs.Capture.{Captures, IsCaptureCause, error_of}
-use Rattle.sval_buffer.proofs.Flat.{map_map, length-push_flat, push-flat_row, push-flat, words_of, last_words, last_words-append, text-flat}
+use Rattle.sval_buffer.proofs.Flat.{map_map, push-flat, words_of, last_words, last_words-append, text-flat}
 use Rattle.sval_buffer.proofs.Steps.{Is, is_told, tells_it, within_it, within-row, nothing}
 
 push-last : (fragment : HeldBytes) (xs : List FlatPart) (y : FlatPart) → push_flat fragment (xs ++ (y ∷ [])) ≡ option_map (λ k. xs ++ (flat_part k y.holds ∷ [])) (flat.push_part fragment y.kind)

@@ -16,7 +16,7 @@ use Rattle.sval_buffer.specs.Replay.{Pending, ended, going, all_ends, head_calls
 use Rattle.sval_core.specs.Values.{makes}
 use Rattle.sval_buffer.specs.declared.part.Part.{Part}
 use Rattle.sval_buffer.specs.SeenParts.{flat_kind, holds_of, stored, holder, TellsForest}
-use Rattle.sval_buffer.specs.Nested.{Going, pendings, still, opens, top, outer_of, IsBelow, Link, Linked, Nested, AllStop, IsNested, end_calls, is_holder, MakesEnds, EndsBefore}
+use Rattle.sval_buffer.specs.Nested.{Going, pendings, still, opens, top, outer_of, IsBelow, Link, Linked, Nested, AllStop, end_calls, is_holder, MakesEnds, EndsBefore}
 
 -- ---- one list of calls after another
 

@@ -4,7 +4,7 @@ use Rattle.sval_label.specs.Calls.{Call}
 use Rattle.sval_core.specs.Trees.{Tree}
 use Rattle.sval_core.specs.Spells.{Spells}
 use Rattle.sval_core.specs.Law.{Emission}
-use Rattle.sval_buffer.specs.Forest.{Forest, Holds, RefusedAt, Unbalanced, OutsideText, OutsideBinary, take, may_grow, forest, replayed, is_complete}
+use Rattle.sval_buffer.specs.Forest.{Forest, Holds, RefusedAt, Unbalanced, OutsideText, OutsideBinary, empty_forest, take, may_grow, forest, forest_from, replayed, is_complete}
 use Rattle.sval_buffer.specs.declared.error.Word.TheVariants as word
 use Rattle.sval_buffer.specs.declared.error.ErrorKind.{ErrorKind}
 use Rattle.sval_buffer.specs.declared.error.ErrorKind.TheVariants as error
@@ -17,16 +17,21 @@ pub record IsCaptured (e : Emission) (buffer : Capture) : Type 0 where
   pub no_refusal : buffer.refusal ≡ None
   pub wants : buffer.wants ≡ 0
 
--- memory was wanting in one of the calls: those before it are taken, and so is this one, which may take memory
-pub record RunsOut (calls : List Call) : Type 0 where
+-- Memory was wanting in one of the calls, where they meet this forest and the first has this number: those before it are
+-- taken, and so is this one, which may take memory.
+pub record RunsOutFrom (start : Forest) (number : ℕ) (calls : List Call) : Type 0 where
   pub before : List Call
   pub call : Call
   pub later : List Call
   pub calls_are : calls ≡ before ++ (call ∷ later)
   pub held : Forest
-  pub before_taken : forest before ≡ Holds held
+  pub before_taken : forest_from start number before ≡ Holds held
   pub accepted : IsAccepted (take held call)
   pub takes_memory : may_grow held call ≡ true
+
+-- the same of calls that meet no part
+abbrev pub RunsOut : List Call → Type 0
+RunsOut calls = RunsOutFrom empty_forest 1 calls
 
 -- one of the calls is refused so, or none is and the value refuses, or memory was wanting in one
 abbrev pub IsCollectCause : Emission → ErrorKind → Type 0
