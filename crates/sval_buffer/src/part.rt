@@ -1,7 +1,8 @@
 //! The parts of a captured value.
 
-ghost use Rattle.std.specs.Prelude.{◌≡◌, [], ◌∷◌, Some, OnErr, IsTrue, is_ok, if◌then◌else◌};
+ghost use Rattle.std.specs.Prelude.{◌≡◌, ℕ, List, [], ◌∷◌, Some, OnErr, IsTrue, is_ok, if◌then◌else◌};
 ghost use Rattle.sval_buffer.specs.Pushes.{pushed};
+ghost use Rattle.sval_label.specs.Grouped.{grouped_call};
 ghost use Rattle.sval_core.specs.Law.{Emits};
 ghost use Rattle.sval_buffer.specs.Replay.{head_calls};
 ghost use Rattle.sval_core.specs.Values.{makes};
@@ -11,7 +12,7 @@ ghost use Rattle.sval_buffer.specs.SeenParts.{PartPushes, fragment_bytes, with_h
 
 use crate::error::{ErrorKind, Word};
 use crate::text_buf::TextBuf;
-use sval_core::{Fragment, Head, Int, Lending, Lent, NoMemory, Slot, Stream};
+use sval_core::{Fragment, GroupedCall, Head, Int, Lending, Lent, NoMemory, Slot, Stream};
 use sval_ref::ValueRef;
 
 /// A call that is complete by itself.
@@ -32,14 +33,14 @@ impl Single {
         }
     }
 
-    /// Makes the call.
-    fn stream<L: Lending, S: Stream<L>>(self, stream: &mut S) -> sval_core::Result
-        ensures { Emits S.law result (S.standing stream.old) (makes (single_call self ∷ [])) (S.standing stream.new) }
+    /// The call.
+    fn call<'c, T>(self) -> GroupedCall<'c, T>
+        ensures { (text : T → List ℕ) → grouped_call text result ≡ single_call self }
     {
         match self {
-            Single::Null => stream.null(),
-            Single::Bool(value) => stream.bool(value),
-            Single::Int(Int::I64(value)) => stream.i64(value),
+            Single::Null => GroupedCall::Null,
+            Single::Bool(value) => GroupedCall::Bool(value),
+            Single::Int(number) => GroupedCall::Int(number),
         }
     }
 }
@@ -52,26 +53,35 @@ pub(crate) enum Begin {
 }
 
 impl Begin {
-    /// Makes the begin.
-    fn stream<L: Lending, S: Stream<L>>(self, stream: &mut S) -> sval_core::Result
-        ensures { Emits S.law result (S.standing stream.old) (makes (begin_call self ∷ [])) (S.standing stream.new) }
+    /// The begin.
+    fn call<'c, T>(self) -> GroupedCall<'c, T>
+        ensures { (text : T → List ℕ) → grouped_call text result ≡ begin_call self }
     {
         match self {
-            Begin::Sized(Head::Seq, size) => stream.seq_begin(size),
-            Begin::Part(Slot::Item) => stream.seq_value_begin(),
+            Begin::Sized(head, size) => GroupedCall::Begin(head, size),
+            Begin::Part(slot) => GroupedCall::PartBegin(slot),
         }
     }
 
-    /// Makes the end that belongs to the begin.
-    fn stream_end<L: Lending, S: Stream<L>>(self, stream: &mut S) -> sval_core::Result
-        ensures { let end = end_of (begin_call self) in
-            Emits S.law result (S.standing stream.old) (makes (end ∷ [])) (S.standing stream.new) }
+    /// The end that belongs to the begin.
+    fn end<'c, T>(self) -> GroupedCall<'c, T>
+        ensures { (text : T → List ℕ) → grouped_call text result ≡ end_of (begin_call self) }
     {
         match self {
-            Begin::Sized(Head::Seq, _) => stream.seq_end(),
-            Begin::Part(Slot::Item) => stream.seq_value_end(),
+            Begin::Sized(head, _) => GroupedCall::End(head),
+            Begin::Part(slot) => GroupedCall::PartEnd(slot),
         }
     }
+}
+
+/// Makes a call in a stream.
+fn make<L: Lending, S: Stream<L>>(
+    call: GroupedCall<'_, L::Text>,
+    stream: &mut S,
+) -> sval_core::Result
+    ensures { Emits S.law result (S.standing stream.old) (makes (grouped_call L.text call.entry ∷ [])) (S.standing stream.new) }
+{
+    stream.take(call.call())
 }
 
 /// What a part is.
@@ -130,9 +140,9 @@ impl<'sval> Part<'sval> {
             Emits S.law result (S.standing stream.old) (makes calls) (S.standing stream.new) }
     {
         match &self.kind {
-            PartKind::Single(single) => single.stream(stream),
+            PartKind::Single(single) => make(single.call(), stream),
             PartKind::Text(text) => text.stream_ref(stream),
-            PartKind::Container { begin, .. } => begin.stream(stream),
+            PartKind::Container { begin, .. } => make(begin.call(), stream),
         }
     }
 
@@ -142,7 +152,7 @@ impl<'sval> Part<'sval> {
             Emits S.law result (S.standing stream.old) (makes calls) (S.standing stream.new) }
     {
         match &self.kind {
-            PartKind::Container { begin, .. } => begin.stream_end(stream),
+            PartKind::Container { begin, .. } => make(begin.end(), stream),
             PartKind::Single(_) | PartKind::Text(_) => Ok(()),
         }
     }

@@ -85,3 +85,26 @@ impl<'c, T> AnyCall<'c, T> {
         }
     }
 }
+
+impl<'c, T> GroupedCall<'c, T> {
+    /// The call that this is: [`AnyCall::grouped`] the other way.
+    pub fn call(self) -> AnyCall<'c, T>
+        ensures { (text : T → List ℕ) → call_of text result ≡ grouped_call text self.entry }
+    {
+        match self {
+            GroupedCall::Null => AnyCall::Null,
+            GroupedCall::Bool(value) => AnyCall::Bool(value),
+            GroupedCall::Int(Int::I64(value)) => AnyCall::I64(value),
+            GroupedCall::TextBegin(size) => AnyCall::TextBegin(size),
+            GroupedCall::TextFragment(Fragment::Borrowed(text)) => AnyCall::TextFragment(text),
+            GroupedCall::TextFragment(Fragment::Computed(text)) => {
+                AnyCall::TextFragmentComputed(text)
+            }
+            GroupedCall::TextEnd => AnyCall::TextEnd,
+            GroupedCall::Begin(Head::Seq, size) => AnyCall::SeqBegin(size),
+            GroupedCall::End(Head::Seq) => AnyCall::SeqEnd,
+            GroupedCall::PartBegin(Slot::Item) => AnyCall::SeqValueBegin,
+            GroupedCall::PartEnd(Slot::Item) => AnyCall::SeqValueEnd,
+        }
+    }
+}
