@@ -6,7 +6,7 @@ use Rattle.std.proofs.Math.Seq.{take-append-add}
 use Rattle.sval_core.specs.Law.{Rose}
 use Rattle.sval_json.specs.declared.sink.SinkError.{SinkError}
 use Rattle.sval_json.specs.declared.sink.SinkError.TheVariants.{Failed, NoMemory}
-use Rattle.sval_json.specs.Sinks.{Told, IsSteady, NoCountFell, IsCounted, appended, AppendsPrefix, less_room, LacksRoom, Appends, AppendsFront, WritesWhole, WritesFront}
+use Rattle.sval_json.specs.Sinks.{Told, IsSteady, NoCountFell, IsCounted, appended, less_room, LacksRoom, Appends, AppendsFront, WritesWhole, WritesFront}
 
 pub appended-appended : (told : Option (List ℕ)) (xs ys : List ℕ) → appended (appended told xs) ys ≡ appended told (xs ++ ys)
 appended-appended None xs ys = refl
@@ -77,10 +77,6 @@ front_after {old} {mid} {new} {whole} xs ys zs a w f = record {
       ap (λ r. xs ++ r) (sym (take-append-le f.count ys zs f.within)) ∙ sym (take-append-add xs (ys ++ zs) f.count) ∙ ap (take (length xs + f.count)) (sym w) in
       subst (λ bytes. Appends old bytes new) taken (appends_both xs (take f.count ys) a f.appends);
 }
-
--- what the text grew by
-pub front_text : {old new : Told} {bytes : List ℕ} → AppendsFront old bytes new → AppendsPrefix old.text new.text bytes
-front_text f = record { count = f.count; within = f.within; text = f.appends.text }
 
 -- ---- the counts
 

@@ -12,7 +12,7 @@ use Rattle.sval_json.specs.Number.{Refusal}
 use Rattle.sval_json.specs.Actions.{Outcome, Action, nothing, continue, ◌then◌}
 use Rattle.sval_json.specs.Steps.{step}
 use Rattle.sval_json.specs.Sinks.{Told, IsSteady, appended, less_room, HasRoom, Appends}
-use Rattle.sval_json.specs.WriterLaw.{Target, WriterView, with_bytes, after_action, HasDone, IsWhy, IsStopped, Does, writer_law, writer_view, writer_standing}
+use Rattle.sval_json.specs.WriterLaw.{Target, WriterView, with_bytes, after_action, HasDone, IsSinkCause, IsStopped, Does, writer_law, writer_view, writer_standing}
 use Rattle.sval_json.proofs.Appending.{appended-appended, appended-nothing, less_room-zero, less_room-less_room, room_for_nothing, room_for_both, lacks_both, front_after, counts_since, counted_since}
 
 -- ---- the sink
@@ -32,7 +32,7 @@ with_bytes-append target xs ys =
 
 -- where the first bytes had room, and the next stopped it, the whole did so
 why_after : (old mid : Target) (new : Told) (why : Option SinkError) (xs ys zs : List ℕ) → Appends old.told xs mid.told → IsSteady old.told mid.told
-    → IsWhy why mid.told ys new → IsWhy why old.told (xs ++ (ys ++ zs)) new
+    → IsSinkCause why mid.told ys new → IsSinkCause why old.told (xs ++ (ys ++ zs)) new
 why_after old mid new None xs ys zs a s w = w
 why_after old mid new (Some why) xs ys zs a s w = (counted_since new why s w.0, λ failed. lacks_both old.told mid.told xs ys zs a (w.1 failed))
 
@@ -44,7 +44,7 @@ stopped_within {part} whole old {mid} {new} xs zs fits e w stop =
     let a : Appends old.target.told xs mid.target.told = record { fits = fits; text = ap (λ t. t.told.text) e; room = ap (λ t. t.told.room) e } in
     let s : IsSteady old.target.told mid.target.told = record { faults = ap (λ t. t.told.faults) e; wants = ap (λ t. t.told.wants) e } in
     record {
-      why = subst (λ bytes. IsWhy new.target.why old.target.told bytes new.target.told) (sym w) (why_after old.target mid.target new.target.told new.target.why xs ys zs a s stop.why);
+      why = subst (λ bytes. IsSinkCause new.target.why old.target.told bytes new.target.told) (sym w) (why_after old.target mid.target new.target.told new.target.why xs ys zs a s stop.why);
       front = front_after xs ys zs a w stop.front;
       counts = counts_since s stop.counts;
       name = stop.name ∙ ap (λ t. t.name) e;
@@ -101,7 +101,7 @@ stopped_later {first} {next} {old} {mid} {new} d stop =
 -- ---- what a call's answer says
 
 cause_of : {K : Type 0} (told : K → Told) (call : Call) (old new : Writer K) (why : Option SinkError) (bytes : List ℕ)
-    → IsWhy why (writer_view told old).target.told bytes (writer_view told new).target.told → HasCause writer_law (writer_view told old) call (writer_standing told old) (writer_standing told new)
+    → IsSinkCause why (writer_view told old).target.told bytes (writer_view told new).target.told → HasCause writer_law (writer_view told old) call (writer_standing told old) (writer_standing told new)
 cause_of told call old new None bytes w = absurd w
 cause_of told call old new (Some Failed) bytes w = inr (inl w.0)
 cause_of told call old new (Some NoMemory) bytes w = inr (inr w.0)

@@ -2,15 +2,11 @@ pub mod Texts
 pub mod Numbers
 pub mod Writing
 pub mod WritingKeys
+pub mod WritingParts
 pub mod WritingValues
 pub mod WritingPlain
 pub mod WrittenOnce
-pub mod WrittenTrees
-pub mod WrittenBeside
-pub mod WrittenNumbers
 pub mod OneValue
-pub mod DenotedTexts
-pub mod FailingTexts
 pub mod Begun
 pub mod Append
 pub mod EscapedString
@@ -23,3 +19,4 @@ pub mod Pieces
 pub mod EscapedPieces
 pub mod Doing
 pub mod Streamed
+mod examples

@@ -18,7 +18,7 @@ use Rattle.sval_json.specs.Actions.{start, nothing}
 use Rattle.sval_json.specs.Number.{Refusal}
 use Rattle.sval_json.specs.Steps.{step, steps, written_in}
 use Rattle.sval_json.specs.declared.writer.Writer.{Writer}
-use Rattle.sval_json.specs.WriterLaw.{WriterView, after_action, HasDone, IsWhy, IsStopped, writer_law, writer_state, writer_view, writer_standing}
+use Rattle.sval_json.specs.WriterLaw.{WriterView, after_action, HasDone, IsSinkCause, IsStopped, writer_law, writer_state, writer_view, writer_standing}
 use Rattle.sval_json.specs.Laws.{IsWrittenAs}
 use Rattle.sval_json.specs.Written.{IsWrittenIn, IsBegunIn, IsTooLongFor, WritesTreeIn, WritesSpelledTree, BeginsSpelledTree, EndsRefused}
 use Rattle.sval_json.proofs.WritingPlain.{spelling_written}
@@ -80,7 +80,7 @@ record IsStoppedBy (found : ErrorKind) (old new : Told) (bytes : List ℕ) : Typ
   io_room : found ≡ IO → LacksRoom old bytes
   no_memory : found ≡ kind.NoMemory → Rose old.wants new.wants
 
-stopped_by : (why : Option SinkError) (old new : Told) (bytes : List ℕ) → IsWhy why old bytes new → IsStoppedBy (error_kind why) old new bytes
+stopped_by : (why : Option SinkError) (old new : Told) (bytes : List ℕ) → IsSinkCause why old bytes new → IsStoppedBy (error_kind why) old new bytes
 stopped_by None old new bytes w = absurd w
 stopped_by (Some Failed) old new bytes w = record { generic = λ e. cc e; io = λ _. w.0; io_room = λ _. w.1 refl; no_memory = λ e. cc e }
 stopped_by (Some NoMemory) old new bytes w = record { generic = λ e. cc e; io = λ e. cc e; io_room = λ e. cc e; no_memory = λ _. w.0 }
@@ -125,8 +125,8 @@ module _ {K : Type 0} (told : K → Told) (e : Emission) (old new : Writer K) (b
       → IsAfterStop old.variants e (error_kind why) old.sink.ghost_name new.sink.ghost_name (told old.sink.now) (told new.sink.now)
   after_failure why is stop =
       let bytes : List ℕ = (steps old.variants e.calls (writer_view told old).state).written in
-      let cause : IsWhy why (writer_view told old).target.told bytes (writer_view told new).target.told =
-      subst (λ why. IsWhy why (writer_view told old).target.told bytes (writer_view told new).target.told) is stop.why in
+      let cause : IsSinkCause why (writer_view told old).target.told bytes (writer_view told new).target.told =
+      subst (λ why. IsSinkCause why (writer_view told old).target.told bytes (writer_view told new).target.told) is stop.why in
       let lacks : LacksRoom (told old.sink.now) bytes → IsTooLongFor (told old.sink.now) old.variants e.calls =
       λ room. subst (λ state. LacksRoom (told old.sink.now) (steps old.variants e.calls state).written) is_start room in
       let by_why = stopped_by why (writer_view told old).target.told (writer_view told new).target.told bytes cause in

@@ -41,12 +41,6 @@ IsCounted NoMemory old new = Rose old.wants new.wants
 abbrev pub appended : Option (List ℕ) → List ℕ → Option (List ℕ)
 appended text bytes = option_map (λ taken. taken ++ bytes) text
 
--- it grows by a prefix of these bytes
-pub record AppendsPrefix (old new : Option (List ℕ)) (bytes : List ℕ) : Type 0 where
-  pub count : ℕ
-  pub within : count ≤ length bytes
-  pub text : new ≡ appended old (take count bytes)
-
 -- a room that is told falls by this number
 abbrev pub less_room : Option ℕ → ℕ → Option ℕ
 less_room room count = option_map (λ left. left - count) room

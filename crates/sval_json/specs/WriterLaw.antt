@@ -46,13 +46,13 @@ pub record HasDone (action : Action) (old new : WriterView) : Type 0 where
   pub view : new ≡ after_action action old
 
 -- why the sink took nothing of what was left of these bytes
-abbrev pub IsWhy : Option SinkError → Told → List ℕ → Told → Type 0
-IsWhy None old bytes new = ⊥
-IsWhy (Some why) old bytes new = IsCounted why old new × (why ≡ Failed → LacksRoom old bytes)
+abbrev pub IsSinkCause : Option SinkError → Told → List ℕ → Told → Type 0
+IsSinkCause None old bytes new = ⊥
+IsSinkCause (Some why) old bytes new = IsCounted why old new × (why ≡ Failed → LacksRoom old bytes)
 
 -- of what the action writes the sink took a first part and then nothing
 pub record IsStopped (action : Action) (old new : WriterView) : Type 0 where
-  pub why : IsWhy new.target.why old.target.told (action old.state).written new.target.told
+  pub why : IsSinkCause new.target.why old.target.told (action old.state).written new.target.told
   pub front : AppendsFront old.target.told (action old.state).written new.target.told
   pub counts : NoCountFell old.target.told new.target.told
   pub name : new.target.name ≡ old.target.name

@@ -11,13 +11,14 @@ use std::io;
 use std::io::Write;
 use std::marker::Model;
 
-/// How often in a row an interrupted call is made again.
-const RETRIES: u32 = 1000;
+/// How often in a row a call is made that is interrupted each time.
+const TRIES: u32 = 1000;
 
 /// A sink over one of std's writers. It tells no text, and each error of the writer is one fault.
 ///
-/// An interrupted call is made again, at most 1,000 times in a row. A writer that takes nothing of a piece that isn't
-/// empty has failed. Where the writer tells what it holds, that grows by the bytes that a call answers, and by no others.
+/// A call that is interrupted is made again, and has failed where that happened 1,000 times in a row. A writer that takes
+/// nothing of a piece that isn't empty has failed. Where the writer tells what it holds, that grows by the bytes that a
+/// call answers, and by no others.
 #[derive(Drop)]
 pub struct RealSink<W> {
     writer: W,
@@ -72,7 +73,7 @@ impl<W: Write> Sink for RealSink<W> {
         ensures last_kept { OnOk result (self.new.last_error ≡ self.old.last_error) }
         ensures last_told { OnErr result (IsSome self.new.last_error) }
     {
-        for _ in 0..RETRIES {
+        for _ in 0..TRIES {
             match self.writer.write(piece) {
                 Ok(0) if !piece.is_empty() => return Err(self.fault(io::ErrorKind::WriteZero)),
                 Ok(count) => return Ok(count),
@@ -93,7 +94,7 @@ impl<W: Write> Sink for RealSink<W> {
         ensures last_kept { OnOk result (self.new.last_error ≡ self.old.last_error) }
         ensures last_told { OnErr result (IsSome self.new.last_error) }
     {
-        for _ in 0..RETRIES {
+        for _ in 0..TRIES {
             match self.writer.flush() {
                 Ok(()) => return Ok(()),
                 Err(error) => {

@@ -14,6 +14,8 @@ struct Late {
     taken: Vec<u8>,
     delay: u32,
     kind: Option<io::ErrorKind>,
+    /// How often it was flushed.
+    flushes: u32,
 }
 
 impl Late {
@@ -22,6 +24,7 @@ impl Late {
             taken: Vec::new(alloc),
             delay,
             kind,
+            flushes: 0,
         }
     }
 }
@@ -46,6 +49,7 @@ impl Write for Late {
                 return Err(io::Error::from(kind));
             }
         }
+        self.flushes = self.flushes.saturating_add(1);
         Ok(())
     }
 }
@@ -89,17 +93,35 @@ fn makes_interrupted_calls_again(rt: HostRuntime) {
 fn flushes_again_after_interrupts(rt: HostRuntime) {
     let interrupted = Some(io::ErrorKind::Interrupted);
     let denied = Some(io::ErrorKind::PermissionDenied);
+    // calls that fail, how they do, the answer, the last error, and how many such calls are left
     let table = [
-        (2, interrupted, Ok(()), None),
-        (5000, interrupted, Err(SinkError::Failed), interrupted),
-        (1, denied, Err(SinkError::Failed), denied),
+        (2, interrupted, Ok(()), None, 0),
+        (999, interrupted, Ok(()), None, 0),
+        (1000, interrupted, Err(SinkError::Failed), interrupted, 0),
+        (5000, interrupted, Err(SinkError::Failed), interrupted, 4000),
+        (2, denied, Err(SinkError::Failed), denied, 1),
     ];
-    for (delay, kind, want, last_error) in table {
+    for (delay, kind, want, last_error, left) in table {
         let mut writer = Late::new(rt.alloc(), delay, kind);
         let mut sink = RealSink::new(&mut writer);
         assert_eq!(rt; sink.flush(), want, "{delay} calls {kind:?}");
         assert_eq!(rt; sink.last_error(), last_error, "{delay} calls {kind:?}");
+        assert_eq!(rt; writer.delay, left, "{delay} calls {kind:?}");
     }
+}
+
+#[test]
+fn flushes_after_a_fault(rt: HostRuntime) {
+    let denied = Some(io::ErrorKind::PermissionDenied);
+    let mut writer = Late::new(rt.alloc(), 1, denied);
+    let mut sink = RealSink::new(&mut writer);
+    assert_eq!(rt; sink.write(b"a"), Err(SinkError::Failed));
+    assert_eq!(rt; sink.flush(), Ok(()));
+    assert_eq!(rt; sink.write(b"b"), Ok(1));
+    assert_eq!(rt; sink.flush(), Ok(()));
+    assert_eq!(rt; sink.last_error(), denied);
+    assert_eq!(rt; writer.flushes, 2);
+    assert_eq!(rt; writer.taken.as_slice(), b"b".as_slice());
 }
 
 #[test]

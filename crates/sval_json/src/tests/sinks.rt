@@ -44,7 +44,13 @@ impl Balky {
 }
 
 impl Sink for Balky {
-    ghost told = { λ sink. record { text = Some sink.taken.bytes; room = None; held = Some 0; faults = sink.faults; wants = sink.taken.wants + sink.wants } };
+    ghost told = { λ sink. record {
+      text = Some sink.taken.bytes;
+      room = None;
+      held = Some 0;
+      faults = sink.faults;
+      wants = sink.taken.wants + sink.wants;
+    } };
 
     fn write(&mut self, piece: &[u8]) -> Result<usize, SinkError> {
         self.calls = self.calls.saturating_add(1);
@@ -63,6 +69,43 @@ impl Sink for Balky {
             self.taken.write(&piece[..1])
         } else {
             self.taken.write(piece)
+        }
+    }
+
+    fn flush(&mut self) -> Result<(), SinkError> {
+        Ok(())
+    }
+}
+
+/// A sink in memory that tells its room.
+#[derive(Drop)]
+struct Narrow {
+    taken: VecSink,
+    room: usize,
+    faults: u64,
+}
+
+impl Sink for Narrow {
+    ghost told = { λ sink. record {
+      text = Some sink.taken.bytes;
+      room = Some sink.room;
+      held = Some 0;
+      faults = sink.faults;
+      wants = sink.taken.wants;
+    } };
+
+    fn write(&mut self, piece: &[u8]) -> Result<usize, SinkError> {
+        if self.room == 0 && !piece.is_empty() {
+            self.faults = self.faults.saturating_add(1);
+            return Err(SinkError::Failed);
+        }
+        let count = piece.len().min(self.room);
+        match self.taken.write(&piece[..count]) {
+            Ok(count) => {
+                self.room -= count;
+                Ok(count)
+            }
+            Err(why) => Err(why),
         }
     }
 
@@ -120,6 +163,33 @@ fn stops_where_a_sink_stops(rt: HostRuntime) {
             assert_eq!(rt; sink.calls, at, "call {at}");
         }
     }
+}
+
+#[test]
+fn fails_where_room_is_lacking(rt: HostRuntime) -> Result<(), Fail> {
+    for room in 0..JSON.len() {
+        let mut sink = Narrow {
+            taken: VecSink::new(rt.alloc()),
+            room,
+            faults: 0,
+        };
+        let answer = stream_to_io_write(&mut sink, &willing(CALLS));
+        assert_eq!(rt;
+            answer.map_err(|error| error.kind()),
+            Err(ErrorKind::IO),
+            "room {room}"
+        );
+        assert_eq!(rt; sink.taken.as_slice(), &JSON[..room], "room {room}");
+    }
+    let mut enough = Narrow {
+        taken: VecSink::new(rt.alloc()),
+        room: JSON.len(),
+        faults: 0,
+    };
+    stream_to_io_write(&mut enough, &willing(CALLS))?;
+    assert_eq!(rt; enough.taken.as_slice(), JSON);
+    assert_eq!(rt; enough.room, 0);
+    Ok(())
 }
 
 #[test]

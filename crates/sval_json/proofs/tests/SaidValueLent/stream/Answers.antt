@@ -1,14 +1,13 @@
-use Rattle.std.proofs.Common.{◌≡◌, ℕ, ◌+◌, ◌<◌, Bool, ◌≤◌, true, false, refl, append-nil, List, [], ◌∷◌, ◌++◌, map, take, drop, length, get_or, sym, ap, ◌∙◌, subst, add-one}
+use Rattle.std.proofs.Common.{◌≡◌, ℕ, ◌+◌, ◌<◌, Bool, ◌≤◌, true, false, refl, append-nil, List, [], ◌∷◌, ◌++◌, map, take, drop, length, get_or, sym, ap, ◌∙◌, subst, add-one, arith}
 use Rattle.std.specs.Borrow.{Bor}
 use Rattle.std.proofs.Math.Seq.{take-suc}
 use Rattle.std.proofs.lemmas.List.{map-append, take-append-drop, take_all}
-use Rattle.std.proofs.lemmas.Result.{err_from_is_err_and}
 use Rattle.sval_label.specs.Calls.{Call}
 use Rattle.sval_label.specs.Made.{lent_call}
 use Rattle.sval_label.specs.declared.call.AnyCall.{AnyCall}
 use Rattle.sval_label.specs.declared.call.AnyCall.TheVariants.{Null}
 use Rattle.sval_core.specs.Law.{Law, Standing, Emission, Takes, Refuses, Streams, Stops, emits, then_emits}
-use Rattle.sval_core.proofs.Emissions.{streams_one, stops_one, streams_then, stops_first, stops_later}
+use Rattle.sval_core.proofs.Emissions.{streams_one, stops_one, streams_then, stops_first, stops_later, passes_on}
 use Rattle.sval_json.proofs.tests.SaidValueLent.stream.Goals as goal
 
 abbrev Said : Type 0
@@ -44,21 +43,20 @@ stopped law old mid new xs refuses i h s t =
 stopped_after : {V : Type 0} (law : Law V) (old new : Standing V) (xs : List Said) (refuses : Bool) (i : ℕ) → length xs ≤ i → refuses ≡ true → Streams law old (said (map lent_call (take i xs)) false) new → Stops law old (said (map lent_call xs) refuses) new
 unfolding emits then_emits
 stopped_after law old new xs refuses i h r s =
-    let last : Stops law new (said [] true) new = record { stopped = (refl, refl) } in
+    let last : Stops law new (said [] true) new = record { stopped = (refl, refl); faults = omega arith; wants = omega arith } in
     let both : Stops law old (said (map lent_call (take i xs) ++ []) true) new = stops_later s last in
     let whole : map lent_call (take i xs) ++ [] ≡ map lent_call xs = append-nil (map lent_call (take i xs)) ∙ ap (λ l. map lent_call l) (take_all i xs h) in
     subst (λ calls. Stops law old (said calls refuses) new) whole (subst (λ b. Stops law old (said (map lent_call (take i xs) ++ []) b) new) (sym r) both)
 
-pub returns-in_err-take-clause-err : goal.returns-in_err-take-clause-err
-returns-in_err-take-clause-err g c =
-    let p = err_from_is_err_and c.from_residual.result c.from_residual.ensures.1 in
-    rw p.1
-    (stopped g.S.Stream.law (g.S.Stream.standing c.args.stream.now) (g.S.Stream.standing c.loop-call.stream) (g.S.Stream.standing c.take.new.self) c.args.self.now.calls.now c.args.self.now.refuses c.loop-call.call-index c.loop-call-test.true c.loop-call.invariant c.in_err-take.ensures.err)
+pub returns-in_err-take : goal.returns-in_err-take
+returns-in_err-take g c =
+    passes_on c.from_residual.result c.from_residual.ensures.0
+    (stopped g.S.Stream.law (g.S.Stream.standing c.args.stream.now) (g.S.Stream.standing c.loop-call.stream) (g.S.Stream.standing c.take.new.self) c.args.self.now.calls.now c.args.self.now.refuses c.loop-call.call-index c.loop-call-test.true c.loop-call.invariant c.in_err-take.ensures)
 
 pub loop-call-preserved : goal.loop-call-preserved
 loop-call-preserved g c =
-    on g.S.Stream.law (g.S.Stream.standing c.args.stream.now) (g.S.Stream.standing c.loop-call.stream) (g.S.Stream.standing c.take.new.self) c.args.self.now.calls.now c.loop-call.call-index c.loop-call-test.true c.loop-call.invariant c.in_ok-take.ensures.ok
+    on g.S.Stream.law (g.S.Stream.standing c.args.stream.now) (g.S.Stream.standing c.loop-call.stream) (g.S.Stream.standing c.take.new.self) c.args.self.now.calls.now c.loop-call.call-index c.loop-call-test.true c.loop-call.invariant c.in_ok-take.ensures
 
-pub returns-then-self-clause-err : goal.returns-then-self-clause-err
-returns-then-self-clause-err g c =
+pub returns-then-self : goal.returns-then-self
+returns-then-self g c =
     stopped_after g.S.Stream.law (g.S.Stream.standing c.args.stream.now) (g.S.Stream.standing c.loop-call.stream) c.args.self.now.calls.now c.args.self.now.refuses c.loop-call.call-index c.loop-call-test.false c.if-self.true c.loop-call.invariant

@@ -1,0 +1,7 @@
+-- Values computed by the definitions.
+mod Spelled
+mod WrittenTrees
+mod WrittenNumbers
+mod WrittenBeside
+mod DenotedTexts
+mod FailingTexts
