@@ -1,18 +1,12 @@
 -- What parts of the writer do, one after another.
-use Rattle.std.specs.Prelude.{◌≡◌, ℕ, ◌≤◌, List, [], ◌++◌, Option, Some, None, IfSome, Result, Ok, Err, length, refl}
-use Rattle.std.proofs.Common.{sym, ap, ◌∙◌, subst, inl, inr, append-nil}
+use Rattle.std.specs.Prelude.{◌≡◌, ℕ, ◌≤◌, List, [], ◌++◌, Option, Some, None, IfSome, length, refl}
+use Rattle.std.proofs.Common.{sym, ap, ◌∙◌, subst, append-nil}
 use Rattle.std.proofs.lemmas.List.{length-append}
-use Rattle.sval_label.specs.declared.error.Error.{Error}
-use Rattle.sval_label.specs.Calls.{Call}
-use Rattle.sval_core.specs.Law.{HasCause, Answers}
 use Rattle.sval_json.specs.declared.sink.SinkError.{SinkError}
-use Rattle.sval_json.specs.declared.sink.SinkError.TheVariants.{Failed, NoMemory}
-use Rattle.sval_json.specs.declared.writer.Writer.{Writer}
 use Rattle.sval_json.specs.Number.{Refusal}
 use Rattle.sval_json.specs.Actions.{Outcome, Action, nothing, continue, ◌then◌}
-use Rattle.sval_json.specs.Steps.{step}
 use Rattle.sval_json.specs.Sinks.{Told, IsSteady, appended, less_room, HasRoom, Appends}
-use Rattle.sval_json.specs.WriterLaw.{Target, WriterView, with_bytes, after_action, HasDone, IsSinkCause, IsStopped, Does, writer_law, writer_view, writer_standing}
+use Rattle.sval_json.specs.WriterLaw.{Target, WriterView, with_bytes, after_action, HasDone, IsSinkCause, IsStopped}
 use Rattle.sval_json.proofs.Appending.{appended-appended, appended-nothing, less_room-zero, less_room-less_room, room_for_nothing, room_for_both, lacks_both, front_after, counts_since, counted_since}
 
 -- ---- the sink
@@ -97,26 +91,3 @@ stopped_later {first} {next} {old} {mid} {new} d stop =
     let whole : ((first then next) old.state).written ≡ one.written ++ ((next one.state).written ++ []) =
     ap (λ o. o.written) (continue_on one.refusal one next d.may.refusal) ∙ ap (λ more. one.written ++ more) (sym (append-nil (next one.state).written)) in
     stopped_within (first then next) old one.written [] d.may.fits refl whole here
-
--- ---- what a call's answer says
-
-cause_of : {K : Type 0} (told : K → Told) (call : Call) (old new : Writer K) (why : Option SinkError) (bytes : List ℕ)
-    → IsSinkCause why (writer_view told old).target.told bytes (writer_view told new).target.told → HasCause writer_law (writer_view told old) call (writer_standing told old) (writer_standing told new)
-cause_of told call old new None bytes w = absurd w
-cause_of told call old new (Some Failed) bytes w = inr (inl w.0)
-cause_of told call old new (Some NoMemory) bytes w = inr (inr w.0)
-
-pub answers : {K : Type 0} (told : K → Told) (old new : Writer K) (r : Result (Unit {0}) Error) (call : Call) → Does (step old.variants call) r (writer_view told old) (writer_view told new)
-    → Answers writer_law r (writer_standing told old) call (writer_standing told new)
-answers told old new (Ok done) call d = record {
-  accepted = d.may;
-  view = d.view;
-  faults = ap (λ view. view.target.told.faults) d.view;
-  wants = ap (λ view. view.target.told.wants) d.view;
-}
-answers told old new (Err refusal) call d = record {
-  cause = cause_of told call old new new.why (step old.variants call (writer_view told old).state).written d.why;
-  left = d;
-  faults = d.counts.faults;
-  wants = d.counts.wants;
-}

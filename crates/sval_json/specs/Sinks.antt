@@ -45,10 +45,11 @@ appended text bytes = option_map (λ taken. taken ++ bytes) text
 abbrev pub less_room : Option ℕ → ℕ → Option ℕ
 less_room room count = option_map (λ left. left - count) room
 
--- where the room is told, these bytes have place in it, or they haven't
+-- where the room is told, these bytes have place in it
 abbrev pub HasRoom : Told → List ℕ → Type 0
 HasRoom told bytes = IfSome told.room (λ left. length bytes ≤ left)
 
+-- where the room is told, these bytes have no place in it
 abbrev pub LacksRoom : Told → List ℕ → Type 0
 LacksRoom told bytes = IfSome told.room (λ left. left < length bytes)
 
@@ -89,6 +90,7 @@ pub record TakesNothing (why : SinkError) (old new : Told) : Type 0 where
   pub declines : Declines why old new
   pub full : why ≡ Failed → IfSome old.room (λ left. left ≡ 0)
 
+-- what a write's answer says
 abbrev pub Writes : Result ℕ SinkError → Told → List ℕ → Told → Type 0
 Writes (Ok count) old piece new = TakesSome count old piece new
 Writes (Err why) old piece new = TakesNothing why old new
@@ -100,6 +102,7 @@ pub record PassesOn (old new : Told) : Type 0 where
   pub room : new.room ≡ old.room
   pub steady : IsSteady old new
 
+-- what a flush's answer says
 abbrev pub Flushes : Result (Unit {0}) SinkError → Told → Told → Type 0
 Flushes (Ok done) old new = PassesOn old new
 Flushes (Err why) old new = Declines why old new
@@ -117,6 +120,7 @@ pub record WritesFront (why : SinkError) (old : Told) (piece : List ℕ) (new : 
   pub full : why ≡ Failed → LacksRoom old piece
   pub counts : NoCountFell old new
 
+-- what the answer of writing a whole piece says
 abbrev pub WritesAll : Result (Unit {0}) SinkError → Told → List ℕ → Told → Type 0
 WritesAll (Ok done) old piece new = WritesWhole old piece new
 WritesAll (Err why) old piece new = WritesFront why old piece new

@@ -62,6 +62,7 @@ abbrev pub Does : Action → Result (Unit {0}) Error → WriterView → WriterVi
 Does action (Ok done) old new = HasDone action old new
 Does action (Err refusal) old new = IsStopped action old new
 
+-- a call is taken where its step refuses nothing and what it writes has room
 abbrev pub writer_law : Law WriterView
 writer_law = record {
   accepts = λ view call. MayDo (step view.style call) view;
@@ -79,8 +80,10 @@ writer_state empty = record { named = false; empty = empty; quoted = true; handl
 abbrev pub target_of : {K : Type 0} → (K → Told) → MutBor K → Option SinkError → Target
 target_of told sink why = record { name = sink.ghost_name; told = record (told sink.now) { held = None }; why = why }
 
+-- the writer as its law sees it; `told` is what the sink tells
 abbrev pub writer_view : {K : Type 0} → (K → Told) → Writer K → WriterView
 writer_view told w = record { style = w.variants; state = writer_state w.empty; target = target_of told w.sink w.why }
 
+-- the same with the two counts of the sink
 abbrev pub writer_standing : {K : Type 0} → (K → Told) → Writer K → Standing WriterView
 writer_standing told w = record { view = writer_view told w; faults = (told w.sink.now).faults; wants = (told w.sink.now).wants }

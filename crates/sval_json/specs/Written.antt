@@ -29,10 +29,11 @@ pub record WritesTreeIn (style : Variants) (tree : Tree) (old new : Told) : Type
   pub shape : json_in style tree ≡ Ok json
   pub appends : Appends old (compact json) new
 
--- if the calls spell a tree, that one's text was taken, or a first part of it
+-- if the calls spell a tree, its text was taken
 abbrev pub WritesSpelledTree : Variants → List Call → Told → Told → Type 0
 WritesSpelledTree style calls old new = (tree : Tree) → Spells calls tree → WritesTreeIn style tree old new
 
+-- if the calls spell a tree, a first part of its text was taken
 abbrev pub BeginsSpelledTree : Variants → List Call → Told → Told → Type 0
 BeginsSpelledTree style calls old new =
     (tree : Tree) (json : Json) → Spells calls tree → json_in style tree ≡ Ok json → AppendsFront old (compact json) new

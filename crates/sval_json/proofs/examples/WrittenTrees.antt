@@ -31,10 +31,10 @@ pub record_tuple : ExampleText Inside record_tuple_calls record_tuple_tree (code
 unfolding digits
 record_tuple = record { spells = ((refl, (refl, (refl, (refl, tt))), (refl, tt, (refl, tt, (refl, tt, tt)))), ((Some 3), _, refl, refl, (_, _, refl, refl, (_, _, refl, refl, (_, _, refl, ((Some 9), (codes "some text") ∷ [], refl, refl, refl), refl))))); json = refl; written = refl; refusal = refl }
 
-abbrev integer_keys_calls : List Call
-integer_keys_calls =
-    Call.Begin Head.Map (Some 2)
-    ∷ Call.PartBegin Slot.Key
+-- the entries of a map, and its end
+abbrev integer_keys_entries : List Call
+integer_keys_entries =
+    Call.PartBegin Slot.Key
     ∷ Call.Int IntType.I32 (pos 0)
     ∷ Call.PartEnd Slot.Key
     ∷ Call.PartBegin Slot.Value
@@ -52,7 +52,7 @@ integer_keys_calls =
 abbrev integer_keys_tree : Tree
 integer_keys_tree = Container Head.Map (part Slot.Key (Int IntType.I32 (pos 0)) (part Slot.Value (Truth false) (part Slot.Key (Int IntType.I32 (pos 1)) (part Slot.Value (Truth true) none))))
 
-integer_keys : ExampleText Inside integer_keys_calls integer_keys_tree (codes "{\"0\":false,\"1\":true}")
+integer_keys : ExampleText Inside (Call.Begin Head.Map (Some 2) ∷ integer_keys_entries) integer_keys_tree (codes "{\"0\":false,\"1\":true}")
 unfolding digits
 integer_keys = record { spells = ((refl, (refl, (refl, (refl, (refl, tt)))), (refl, tt, (refl, tt, (refl, tt, (refl, tt, tt))))), ((Some 2), _, refl, refl, (_, _, refl, refl, (_, _, refl, refl, (_, _, refl, refl, (_, _, refl, refl, refl)))))); json = refl; written = refl; refusal = refl }
 
@@ -258,21 +258,7 @@ binary_as_key = record { spells = ((refl, (refl, (refl, tt)), (refl, tt, (refl, 
 
 -- ---- the one list of calls that is printed of a tree
 
-integer_keys_canonical : calls_of integer_keys_tree ≡ Call.Begin Head.Map None
-    ∷ Call.PartBegin Slot.Key
-    ∷ Call.Int IntType.I32 (pos 0)
-    ∷ Call.PartEnd Slot.Key
-    ∷ Call.PartBegin Slot.Value
-    ∷ Call.Truth false
-    ∷ Call.PartEnd Slot.Value
-    ∷ Call.PartBegin Slot.Key
-    ∷ Call.Int IntType.I32 (pos 1)
-    ∷ Call.PartEnd Slot.Key
-    ∷ Call.PartBegin Slot.Value
-    ∷ Call.Truth true
-    ∷ Call.PartEnd Slot.Value
-    ∷ Call.End Head.Map
-    ∷ []
+integer_keys_canonical : calls_of integer_keys_tree ≡ Call.Begin Head.Map None ∷ integer_keys_entries
 integer_keys_canonical = refl
 
 option_key_canonical : calls_of option_key_tree ≡ Call.Begin Head.Map None
