@@ -62,7 +62,7 @@ pub record IsAfterStop (style : Variants) (e : Emission) (found : ErrorKind) (he
   pub name : holds ≡ held
   pub generic : found ≡ Generic → EndsRefused style e old new
   pub io : found ≡ IO → Rose old.faults new.faults
-  pub io_room : found ≡ IO → IsTooLongFor old style e.calls
+  pub io_room : found ≡ IO → IsTooLongFor style e.calls old
   pub no_memory : found ≡ kind.NoMemory → Rose old.wants new.wants
   pub counts : NoCountFell old new
   pub prefix : IsBegunIn style e.calls old new
@@ -127,7 +127,7 @@ module _ {K : Type 0} (told : K → Told) (e : Emission) (old new : Writer K) (b
       let bytes : List ℕ = (steps old.variants e.calls (writer_view told old).state).written in
       let cause : IsSinkCause why (writer_view told old).target.told bytes (writer_view told new).target.told =
       subst (λ why. IsSinkCause why (writer_view told old).target.told bytes (writer_view told new).target.told) is stop.why in
-      let lacks : LacksRoom (told old.sink.now) bytes → IsTooLongFor (told old.sink.now) old.variants e.calls =
+      let lacks : LacksRoom (told old.sink.now) bytes → IsTooLongFor old.variants e.calls (told old.sink.now) =
       λ room. subst (λ state. LacksRoom (told old.sink.now) (steps old.variants e.calls state).written) is_start room in
       let by_why = stopped_by why (writer_view told old).target.told (writer_view told new).target.told bytes cause in
       record {

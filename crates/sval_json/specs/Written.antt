@@ -20,8 +20,8 @@ abbrev pub IsBegunIn : Variants → List Call → Told → Told → Type 0
 IsBegunIn style calls old new = AppendsFront old (written_in style calls).written new
 
 -- what the steps write has no place in the room that is told
-abbrev pub IsTooLongFor : Told → Variants → List Call → Type 0
-IsTooLongFor old style calls = LacksRoom old (written_in style calls).written
+abbrev pub IsTooLongFor : Variants → List Call → Told → Type 0
+IsTooLongFor style calls old = LacksRoom old (written_in style calls).written
 
 -- the tree has a JSON shape in this style, and exactly the text of that was taken
 pub record WritesTreeIn (style : Variants) (tree : Tree) (old new : Told) : Type 0 where

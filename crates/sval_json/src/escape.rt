@@ -41,7 +41,7 @@ fn plain_bytes(bytes: &[u8]) -> usize
         .unwrap_or(bytes.len())
 }
 
-/// The place of the first byte that is escaped, or the length where there is none: block by block, and then byte by byte.
+/// The place of the first byte that is escaped, or the length where there is none: block by block, then byte by byte.
 fn first_escape(bytes: &[u8]) -> usize
     ensures within { result ≤ length bytes.now }
     ensures plain { AllPass is_plain (take result bytes.now) }

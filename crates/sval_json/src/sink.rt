@@ -21,7 +21,7 @@ pub enum SinkError {
 /// A sink counts its faults and its refusals for want of memory. Neither count ever falls, so an error is one of this
 /// call. What a sink holds back, if it does, it passes on at [`flush`](Sink::flush).
 pub trait Sink {
-    /// What it tells of itself: the bytes that it took, its room, how many of those bytes it holds back, and its counts.
+    /// What it tells of itself: the bytes that it took, its room, how many of those bytes it holds back, its counts.
     ghost told: { Self → Told };
 
     /// Takes the first bytes of a piece and answers how many: at least one, unless the piece is empty. Writing a piece

@@ -3,7 +3,8 @@
 ghost use Rattle.sval_label.specs.Made.{lent_call};
 ghost use Rattle.sval_core.specs.Law.{Answers};
 ghost use Rattle.sval_json.specs.Actions.{write};
-ghost use Rattle.sval_json.specs.Steps.{value_written, opens, closes, quote_if_quoted, text_begins, fragment, item_begins};
+ghost use Rattle.sval_json.specs.Steps.{value_written, opens, closes, item_begins};
+ghost use Rattle.sval_json.specs.Steps.{text_begins, fragment, quote_if_quoted};
 ghost use Rattle.sval_json.specs.WriterLaw.{WriterView, Does, writer_law, writer_view, writer_standing};
 
 use crate::escape::write_escaped;
@@ -111,7 +112,8 @@ impl<'k, 'sval, K: Sink> Stream<Lent<'sval>> for Writer<'k, K> {
     ghost standing = { writer_standing K.told };
 
     fn take(&mut self, call: Call<'sval, '_>) -> Result
-        ensures { Answers writer_law result (writer_standing K.told self.old) (lent_call call.entry) (writer_standing K.told self.new) }
+        ensures { Answers writer_law result
+            (writer_standing K.told self.old) (lent_call call.entry) (writer_standing K.told self.new) }
     {
         match call.grouped() {
             GroupedCall::Null => self.write_value(b"null"),

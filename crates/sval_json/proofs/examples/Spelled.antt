@@ -25,30 +25,39 @@ pub record ExampleRefusal (style : Variants) (calls : List Call) (tree : Tree) (
 
 -- ---- names
 
+-- a label that is not static
 abbrev pub label : List ℕ → Option Tag → Label
 label text tag = record { text = text; tag = tag; is_static = false }
 
+-- an index with its tag
 abbrev pub index : ℤ → Option Tag → Index
 index number tag = record { number = number; tag = tag }
 
+-- a name of these parts
 abbrev pub name : Option Tag → Option Label → Option Index → Name
 name tag label index = record { tag = tag; label = label; index = index }
 
+-- a name of no parts
 abbrev pub unnamed : Name
 unnamed = name None None None
 
+-- a label alone
 abbrev pub named : List ℕ → Name
 named text = name None (Some (label text None)) None
 
+-- an index alone
 abbrev pub numbered : ℤ → Name
 numbered number = name None None (Some (index number None))
 
+-- a tag alone
 abbrev pub tagged_as : Tag → Name
 tagged_as tag = name (Some tag) None None
 
+-- a record's field
 abbrev pub field : List ℕ → Slot
 field text = Slot.Field None (label text None)
 
+-- a record tuple's field, as derived values give it
 abbrev pub field_place : List ℕ → ℤ → Slot
 field_place text number = Slot.FieldPlace None (label text (Some (codes "VALUE_IDENT"))) (index number (Some (codes "VALUE_OFFSET")))
 
@@ -58,6 +67,7 @@ field_place text number = Slot.FieldPlace None (label text (Some (codes "VALUE_I
 abbrev pub tagged_calls : Tag → List (List ℕ) → List Call
 tagged_calls tag pieces = Call.TaggedBegin (tagged_as tag) ∷ Call.TextBegin None ∷ map (Call.TextFragment true) pieces ++ Call.TextEnd ∷ Call.TaggedEnd (tagged_as tag) ∷ []
 
+-- its tree
 abbrev pub tagged_tree : Tag → List ℕ → Tree
 tagged_tree tag text = Tagged (tagged_as tag) (Text text)
 
@@ -65,6 +75,7 @@ tagged_tree tag text = Tagged (tagged_as tag) (Text text)
 abbrev pub key_calls : List Call → List Call
 key_calls inner = Call.Begin Head.Map None ∷ Call.PartBegin Slot.Key ∷ inner ++ Call.PartEnd Slot.Key ∷ Call.PartBegin Slot.Value ∷ Call.Null ∷ Call.PartEnd Slot.Value ∷ Call.End Head.Map ∷ []
 
+-- its tree
 abbrev pub key_tree : Tree → Tree
 key_tree tree = Container Head.Map (part Slot.Key tree (part Slot.Value Null none))
 
@@ -72,5 +83,6 @@ key_tree tree = Container Head.Map (part Slot.Key tree (part Slot.Value Null non
 abbrev pub truth_in_enum_calls : Name → List Call
 truth_in_enum_calls name = Call.EnumBegin (named (codes "E")) ∷ Call.TaggedBegin name ∷ Call.Truth true ∷ Call.TaggedEnd name ∷ Call.EnumEnd (named (codes "E")) ∷ []
 
+-- its tree
 abbrev pub truth_in_enum_tree : Name → Tree
 truth_in_enum_tree name = Enum (named (codes "E")) (Tagged name (Truth true))

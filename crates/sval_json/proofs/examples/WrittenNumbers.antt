@@ -1,63 +1,72 @@
 -- Numbers that are told in pieces: the trees that they spell, and what is written of them.
-use Rattle.std.specs.Prelude.{◌≡◌, ℕ, true, List, [], ◌∷◌, codes, Some, None, refl}
+use Rattle.std.specs.Prelude.{◌≡◌, ℕ, true, false, List, [], ◌∷◌, ◌++◌, codes, map, Some, None, Ok, Err, refl}
 use Rattle.std.specs.Fmt.{digits}
 use Rattle.std.specs.List.{concat}
+use Rattle.std.proofs.Common.{ap}
 use Rattle.sval_label.specs.Calls.{Call}
 use Rattle.sval_core.specs.Trees.{Tree, Text, Tagged, Enum, calls_of}
+use Rattle.sval_core.specs.Spells.{Spells, plain}
 use Rattle.sval_json.specs.declared.style.Variants.TheVariants.{Inside}
+use Rattle.sval_json.specs.Json.{compact}
 use Rattle.sval_json.specs.Number.{InvalidNumber}
+use Rattle.sval_json.specs.Shape.{map_ok, json_in}
+use Rattle.sval_json.specs.Steps.{written_in}
 use Rattle.sval_json.proofs.examples.Spelled.{ExampleText, ExampleRefusal, label, name, named, tagged_as, tagged_calls, tagged_tree}
 
--- a number in these pieces is written so, or is none, and these bytes come before it is refused
-abbrev IsNumber : List (List ℕ) → List ℕ → Type 0
-IsNumber pieces text = ExampleText Inside (tagged_calls (codes "NUMBER") pieces) (tagged_tree (codes "NUMBER") (concat pieces)) text
+-- ---- how a number in pieces is spelled
 
-abbrev IsNoNumber : List (List ℕ) → List ℕ → Type 0
-IsNoNumber pieces bytes = ExampleRefusal Inside (tagged_calls (codes "NUMBER") pieces) (tagged_tree (codes "NUMBER") (concat pieces)) InvalidNumber bytes
+abbrev number_calls : List (List ℕ) → List Call
+number_calls = tagged_calls (codes "NUMBER")
 
-number_in_pieces : IsNumber (codes "-0" ∷ codes "01.5" ∷ codes "0e+3" ∷ []) (codes "-1.50e+3")
+abbrev number_tree : List (List ℕ) → Tree
+number_tree pieces = tagged_tree (codes "NUMBER") (concat pieces)
+
+plain_pieces : (pieces : List (List ℕ)) (rest : List Call) → plain (map (Call.TextFragment true) pieces ++ rest) ≡ map (Call.TextFragment false) pieces ++ plain rest
+plain_pieces [] rest = refl
+plain_pieces (piece ∷ pieces) rest = ap (λ calls. Call.TextFragment false piece ∷ calls) (plain_pieces pieces rest)
+
+number_spelled : (pieces : List (List ℕ)) → Spells (number_calls pieces) (number_tree pieces)
+number_spelled pieces =
+    ((refl, tt, tt), (_, refl, (None, pieces, tt, refl, ap (λ calls. Call.TextBegin None ∷ calls) (plain_pieces pieces (Call.TextEnd ∷ Call.TaggedEnd (tagged_as (codes "NUMBER")) ∷ [])))))
+
+-- a number in these pieces is written so
+record IsNumber (pieces : List (List ℕ)) (text : List ℕ) : Type 0 where
+  is : ExampleText Inside (number_calls pieces) (number_tree pieces) text
+
+-- it is none, and these bytes are written before it is refused
+record IsNoNumber (pieces : List (List ℕ)) (bytes : List ℕ) : Type 0 where
+  is : ExampleRefusal Inside (number_calls pieces) (number_tree pieces) InvalidNumber bytes
+
+number : {pieces : List (List ℕ)} {text : List ℕ} → map_ok compact (json_in Inside (number_tree pieces)) ≡ Ok text → (written_in Inside (number_calls pieces)).written ≡ text
+    → (written_in Inside (number_calls pieces)).refusal ≡ None → IsNumber pieces text
+number {pieces} e f g = record { is = record { spells = number_spelled pieces; json = e; written = f; refusal = g } }
+
+no_number : {pieces : List (List ℕ)} {bytes : List ℕ} → map_ok compact (json_in Inside (number_tree pieces)) ≡ Err InvalidNumber → (written_in Inside (number_calls pieces)).written ≡ bytes
+    → (written_in Inside (number_calls pieces)).refusal ≡ Some InvalidNumber → IsNoNumber pieces bytes
+no_number {pieces} e f g = record { is = record { spells = number_spelled pieces; json = e; written = f; refusal = g } }
+
+-- ---- some numbers, and what is none
+
+numbers :
+    IsNumber (codes "-0" ∷ codes "01.5" ∷ codes "0e+3" ∷ []) (codes "-1.50e+3")
+    × IsNumber (codes "-" ∷ [] ∷ codes "0" ∷ codes "0" ∷ codes "e5" ∷ []) (codes "-0e5")
+    × IsNumber (codes "0e5" ∷ []) (codes "0e5")
+    × IsNumber (codes "-0" ∷ []) (codes "0")
+    × IsNumber (codes "-0.0" ∷ []) (codes "-0.0")
+    × IsNumber (codes "+007" ∷ []) (codes "7")
+    × IsNumber (codes "-inf" ∷ []) (codes "null")
 unfolding digits
-number_in_pieces = record { spells = ((refl, tt, tt), (_, refl, (None, codes "-0" ∷ codes "01.5" ∷ codes "0e+3" ∷ [], tt, refl, refl))); json = refl; written = refl; refusal = refl }
+numbers = (number refl refl refl, number refl refl refl, number refl refl refl, number refl refl refl, number refl refl refl, number refl refl refl, number refl refl refl)
 
-negative_zero_in_pieces : IsNumber (codes "-" ∷ [] ∷ codes "0" ∷ codes "0" ∷ codes "e5" ∷ []) (codes "-0e5")
+no_numbers :
+    IsNoNumber (codes "1." ∷ []) (codes "1.")
+    × IsNoNumber ([] ∷ []) []
+    × IsNoNumber (codes "--1" ∷ []) []
+    × IsNoNumber ((195 ∷ 169 ∷ 48 ∷ []) ∷ []) []
 unfolding digits
-negative_zero_in_pieces = record { spells = ((refl, tt, tt), (_, refl, (None, codes "-" ∷ [] ∷ codes "0" ∷ codes "0" ∷ codes "e5" ∷ [], tt, refl, refl))); json = refl; written = refl; refusal = refl }
+no_numbers = (no_number refl refl refl, no_number refl refl refl, no_number refl refl refl, no_number refl refl refl)
 
-zero_with_exponent : IsNumber (codes "0e5" ∷ []) (codes "0e5")
-unfolding digits
-zero_with_exponent = record { spells = ((refl, tt, tt), (_, refl, (None, codes "0e5" ∷ [], tt, refl, refl))); json = refl; written = refl; refusal = refl }
-
-minus_zero : IsNumber (codes "-0" ∷ []) (codes "0")
-unfolding digits
-minus_zero = record { spells = ((refl, tt, tt), (_, refl, (None, codes "-0" ∷ [], tt, refl, refl))); json = refl; written = refl; refusal = refl }
-
-minus_zero_with_fraction : IsNumber (codes "-0.0" ∷ []) (codes "-0.0")
-unfolding digits
-minus_zero_with_fraction = record { spells = ((refl, tt, tt), (_, refl, (None, codes "-0.0" ∷ [], tt, refl, refl))); json = refl; written = refl; refusal = refl }
-
-plus_and_leading_zeros : IsNumber (codes "+007" ∷ []) (codes "7")
-unfolding digits
-plus_and_leading_zeros = record { spells = ((refl, tt, tt), (_, refl, (None, codes "+007" ∷ [], tt, refl, refl))); json = refl; written = refl; refusal = refl }
-
-minus_infinity : IsNumber (codes "-inf" ∷ []) (codes "null")
-unfolding digits
-minus_infinity = record { spells = ((refl, tt, tt), (_, refl, (None, codes "-inf" ∷ [], tt, refl, refl))); json = refl; written = refl; refusal = refl }
-
-point_without_digits : IsNoNumber (codes "1." ∷ []) (codes "1.")
-unfolding digits
-point_without_digits = record { spells = ((refl, tt, tt), (_, refl, (None, codes "1." ∷ [], tt, refl, refl))); json = refl; written = refl; refusal = refl }
-
-empty_number : IsNoNumber ([] ∷ []) []
-unfolding digits
-empty_number = record { spells = ((refl, tt, tt), (_, refl, (None, [] ∷ [], tt, refl, refl))); json = refl; written = refl; refusal = refl }
-
-two_signs : IsNoNumber (codes "--1" ∷ []) []
-unfolding digits
-two_signs = record { spells = ((refl, tt, tt), (_, refl, (None, codes "--1" ∷ [], tt, refl, refl))); json = refl; written = refl; refusal = refl }
-
-no_ascii_letter : IsNoNumber ((195 ∷ 169 ∷ 48 ∷ []) ∷ []) []
-unfolding digits
-no_ascii_letter = record { spells = ((refl, tt, tt), (_, refl, (None, (195 ∷ 169 ∷ 48 ∷ []) ∷ [], tt, refl, refl))); json = refl; written = refl; refusal = refl }
+-- ---- under a name, in an enum
 
 abbrev named_number_in_enum_calls : List Call
 named_number_in_enum_calls =
