@@ -1,7 +1,7 @@
 -- How what stands between a begin and its end is streamed, and where it stops.
 use Rattle.sval_label.specs.Calls.{Call}
 use Rattle.sval_core.specs.Law.{Standing, Law, Emission, emits, then_emits, Takes, Refuses, Streams, Stops}
-use Rattle.sval_core.proofs.Emissions.{streams_one, stops_one, streams_then, stops_first, stops_later}
+use Rattle.sval_core.proofs.Emissions.{streams_one, stops_one, streams_then, stops_first, stops_later, passes_on}
 use Rattle.sval_core.specs.Values.{between}
 
 pub streams_between : {V : Type 0} {law : Law V} {old inside later new : Standing V} {begin end : Call} {e : Emission}
@@ -21,4 +21,4 @@ pub stops_at_end : {V : Type 0} {law : Law V} {old inside later new : Standing V
 stops_at_end b s r = stops_later (streams_one b) (stops_later s (stops_one r))
 
 -- for functions that stream a value between a begin and its end
-pub ruleset of_between = (streams_between, stops_at_begin, stops_inside, stops_at_end)
+pub ruleset of_between = (streams_between, stops_at_begin, stops_inside, stops_at_end, passes_on)

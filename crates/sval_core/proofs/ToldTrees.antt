@@ -223,11 +223,11 @@ module _ {T : Type 0} (emission : T → Emission) (t : T → Tree) where
   items_tell [] all = no_part_tells
   items_tell (x ∷ xs) all = part_tells Slot.Item (emission x) (parts_emission (λ x. part_emission Slot.Item (emission x)) xs) (t x) (item_parts t xs) all.0 (items_tell xs all.1)
 
-  items_in_order : (xs : List T) → AreInOrder tree.Item (item_parts t xs)
+  pub items_in_order : (xs : List T) → AreInOrder tree.Item (item_parts t xs)
   items_in_order [] = tt
   items_in_order (x ∷ xs) = (refl, items_in_order xs)
 
-  items_count : (xs : List T) → entries (item_parts t xs) ≡ length xs
+  pub items_count : (xs : List T) → entries (item_parts t xs) ≡ length xs
   items_count [] = refl
   items_count (x ∷ xs) = let more = items_count xs in omega arith
 

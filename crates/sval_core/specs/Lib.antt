@@ -9,6 +9,7 @@ pub mod ManyChecker
 pub mod ManyLaws
 pub mod Lenient
 pub mod Names
+pub mod ValueCalls
 pub mod Values
 pub mod ValueTrees
 pub mod ValueLaws

@@ -14,6 +14,42 @@ use sval_label::{AnyCall, Lending, Result};
 /// An implementation writes [`take`](Stream::take) alone; each named call passes the call of its name to it. A call is
 /// refused only where the stream doesn't accept it after those that it has taken, or where one of its counts rose: that
 /// of faults, or that of refusals for want of memory. A call that is taken leaves both counts as they were.
+///
+/// # A stream of your own
+///
+/// It gives its law, and where it stands: one that adds up numbers accepts all calls, and has no count that rises.
+///
+/// ```antt
+/// -- a number is added, and other calls change nothing
+/// abbrev pub added : ℤ → Call → ℤ
+/// added total (Int I64 n) = saturate_signed w64 (total +ℤ n)
+/// added total _ = total
+///
+/// abbrev pub total_law : Law ℤ
+/// total_law = record { accepts = λ _ _. ⊤; after = added; stopped = λ _ _ _. ⊤ }
+/// ```
+///
+/// ```
+/// impl<L: Lending> Stream<L> for Total {
+///     ghost View = { ℤ };
+///
+///     ghost law = { total_law };
+///
+///     ghost standing = { λ total. total_standing total.total };
+///
+///     fn take(&mut self, call: AnyCall<'_, L::Text>) -> Result
+///         ensures { Answers total_law result (total_standing self.old.total) (call_of L.text call.entry) (total_standing self.new.total) }
+///     {
+///         if let GroupedCall::Int(Int::I64(number)) = call.grouped() {
+///             self.total = self.total.saturating_add(number);
+///         }
+///         Ok(())
+///     }
+/// }
+/// ```
+///
+/// After a value the total is then the fold of `added` over the value's calls (`streams_folds` in
+/// `proofs/ValueProofs.antt`). The crate `readings` has this stream, proved.
 pub trait Stream<L: Lending> {
     /// What a stream has taken, as plain data.
     ghost View: { Type 0 };

@@ -8,6 +8,37 @@ use sval_label::{Lending, Result};
 /// What makes calls: the same ones, in the same order, whichever stream takes them.
 ///
 /// A value passes on the first refusal. It refuses by itself only after all its calls, and only if it always does.
+///
+/// # A value of your own
+///
+/// A type says its calls in `specs/`, with the words of `specs/ValueCalls.antt`, and makes them, each with a `?`:
+///
+/// ```antt
+/// -- a text, or a number
+/// abbrev pub reading_calls : Reading → List Call
+/// reading_calls (Note text) = text_calls true (string_bytes text)
+/// reading_calls (Measure n) = Int I64 n ∷ []
+/// ```
+///
+/// ```
+/// impl<'v> Value<'v, Lent<'v>> for Reading {
+///     ghost emission = { λ reading. makes (reading_calls reading) };
+///
+///     fn stream<S: Stream<Lent<'v>>>(&'v self, stream: &mut S) -> Result {
+///         match self {
+///             Reading::Note(text) => {
+///                 stream.text_begin(Some(text.len()))?;
+///                 stream.text_fragment(text.as_str())?;
+///                 stream.text_end()
+///             }
+///             Reading::Measure(number) => stream.i64(*number),
+///         }
+///     }
+/// }
+/// ```
+///
+/// That is proved as it stands. `proofs/ValueProofs.antt` says what a loop over parts wants, and how a value's calls
+/// are shown to spell its tree. The crate `readings` has all of it, proved.
 pub trait Value<'v, L: Lending> {
     /// The calls that it makes, and whether it refuses after them.
     ghost emission: { Self → Emission };

@@ -1,0 +1,51 @@
+//! The total of a value's numbers.
+
+ghost use Rattle.std.specs.Prelude.{◌≡◌, ℤ};
+ghost use Rattle.sval_label.specs.Made.{call_of};
+ghost use Rattle.sval_core.specs.Law.{Answers};
+ghost use Rattle.readings.specs.Totals.{total_law, total_standing, total_of};
+
+use sval_core::{AnyCall, GroupedCall, Int, Lending, Lent, Result, Stream, Value};
+
+/// Adds up the numbers of a value, whatever else it says, and stops at the ends of `i64`.
+#[derive(Drop)]
+struct Total {
+    total: i64,
+}
+
+impl Total {
+    /// What was added up.
+    fn sum(&self) -> i64
+        ensures { result ≡ self.now.total }
+    {
+        self.total
+    }
+}
+
+impl<L: Lending> Stream<L> for Total {
+    ghost View = { ℤ };
+
+    ghost law = { total_law };
+
+    ghost standing = { λ total. total_standing total.total };
+
+    fn take(&mut self, call: AnyCall<'_, L::Text>) -> Result
+        ensures { Answers total_law result (total_standing self.old.total) (call_of L.text call.entry) (total_standing self.new.total) }
+    {
+        if let GroupedCall::Int(Int::I64(number)) = call.grouped() {
+            self.total = self.total.saturating_add(number);
+        }
+        Ok(())
+    }
+}
+
+/// The total of a value's numbers, if it doesn't refuse.
+pub fn total_of<'v, V: Value<'v, Lent<'v>>>(value: &'v V) -> Option<i64>
+    ensures { result ≡ total_of (V.emission value.now) }
+{
+    let mut total = Total { total: 0 };
+    match value.stream(&mut total) {
+        Ok(()) => Some(total.sum()),
+        Err(_) => None,
+    }
+}

@@ -1,0 +1,3 @@
+-- Values that are computed in proofs.
+mod MachineSteps
+mod EmittedValues
