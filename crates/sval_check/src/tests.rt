@@ -1,164 +1,61 @@
-//! Calls and what is said of them.
+//! Each answer once.
 
-ghost use Rattle.std.specs.Prelude.{map};
-ghost use Rattle.sval_label.specs.Made.{lent_call};
+ghost use Rattle.std.specs.Prelude.{[], ◌∷◌, Some, None, false, codes};
+ghost use Rattle.sval_label.specs.Calls.{TextBegin, TextFragment, TextEnd, Begin, Seq};
+ghost use Rattle.sval_core.specs.Values.{makes, fails_after};
 
 use crate::{CheckError, check};
-use std::alloc::Global;
-use sval_core::{Call, Error, Lent, Stream, Value};
+use sval_core::{Lent, Result, Stream, Value, refusal};
 
-/// Makes these calls, and then refuses, if it is to.
-#[derive(Drop)]
-struct Said<'v> {
-    calls: &'v [Call<'v, 'v>],
-    refuses: bool,
+/// A text of two bytes, which says this size.
+struct Text {
+    size: usize,
 }
 
-impl<'v> Value<'v, Lent<'v>> for Said<'v> {
-    ghost emission = { λ said. record { calls = map lent_call said.calls.now; refuses = said.refuses } };
+impl<'v> Value<'v, Lent<'v>> for Text {
+    ghost emission = { λ text. makes (TextBegin (Some text.size) ∷ TextFragment false (codes "ab") ∷ TextEnd ∷ []) };
 
-    fn stream<S: Stream<Lent<'v>>>(&'v self, stream: &mut S) -> sval_core::Result {
-        for call in self.calls {
-            stream.take(*call)?;
-        }
-        if self.refuses {
-            return Err(Error::new());
-        }
-        Ok(())
+    fn stream<S: Stream<Lent<'v>>>(&'v self, stream: &mut S) -> Result {
+        stream.text_begin(Some(self.size))?;
+        stream.text_fragment_computed("ab")?;
+        stream.text_end()
     }
 }
 
-/// What is said of these calls, where no refusal follows.
-fn checked<'v>(alloc: Global, calls: &'v [Call<'v, 'v>]) -> Result<(), CheckError> {
-    check(
-        alloc,
-        &Said {
-            calls,
-            refuses: false,
-        },
-    )
+/// A sequence that doesn't end.
+struct Open {}
+
+impl<'v> Value<'v, Lent<'v>> for Open {
+    ghost emission = { λ _. makes (Begin Seq None ∷ []) };
+
+    fn stream<S: Stream<Lent<'v>>>(&'v self, stream: &mut S) -> Result {
+        stream.seq_begin(None)
+    }
 }
 
-/// The greatest size.
-const GREATEST: Option<usize> = Some(18_446_744_073_709_551_615);
+/// A refusal, and no call.
+struct Refusing {}
 
-#[test]
-fn says_what_calls_spell(rt: HostRuntime) {
-    let table: [(&'static [Call<'static, 'static>], Result<(), CheckError>); 16] = [
-        (&[Call::Null], Ok(())),
-        (&[], Err(CheckError::Unfinished)),
-        (
-            &[Call::Null, Call::Null],
-            Err(CheckError::BadCall { at: 2 }),
-        ),
-        (
-            &[
-                Call::TextBegin(Some(2)),
-                Call::TextFragment("ab"),
-                Call::TextEnd,
-            ],
-            Ok(()),
-        ),
-        (
-            &[
-                Call::TextBegin(Some(1)),
-                Call::TextFragment("ab"),
-                Call::TextEnd,
-            ],
-            Err(CheckError::BadCall { at: 2 }),
-        ),
-        (
-            &[
-                Call::TextBegin(Some(3)),
-                Call::TextFragmentComputed("ab"),
-                Call::TextEnd,
-            ],
-            Err(CheckError::BadCall { at: 3 }),
-        ),
-        (
-            &[
-                Call::TextBegin(None),
-                Call::TextFragment("ab"),
-                Call::TextFragmentComputed("c"),
-                Call::TextEnd,
-            ],
-            Ok(()),
-        ),
-        (
-            &[Call::TextBegin(GREATEST), Call::TextFragment("ab")],
-            Err(CheckError::Unfinished),
-        ),
-        (
-            &[
-                Call::TextBegin(GREATEST),
-                Call::TextFragment("ab"),
-                Call::TextEnd,
-            ],
-            Err(CheckError::BadCall { at: 3 }),
-        ),
-        (
-            &[Call::SeqBegin(GREATEST), Call::SeqValueBegin],
-            Err(CheckError::Unfinished),
-        ),
-        (
-            &[Call::SeqBegin(GREATEST), Call::SeqEnd],
-            Err(CheckError::BadCall { at: 2 }),
-        ),
-        (
-            &[Call::SeqBegin(Some(0)), Call::SeqValueBegin],
-            Err(CheckError::BadCall { at: 2 }),
-        ),
-        (
-            &[Call::SeqBegin(None), Call::SeqValueBegin, Call::SeqValueEnd],
-            Err(CheckError::BadCall { at: 3 }),
-        ),
-        (
-            &[Call::SeqBegin(None), Call::Null],
-            Err(CheckError::BadCall { at: 2 }),
-        ),
-        (&[Call::TextEnd], Err(CheckError::BadCall { at: 1 })),
-        (
-            &[Call::Bool(true), Call::SeqEnd],
-            Err(CheckError::BadCall { at: 2 }),
-        ),
-    ];
-    for (calls, want) in table {
-        assert_eq!(rt; checked(rt.alloc(), calls), want);
+impl<'v> Value<'v, Lent<'v>> for Refusing {
+    ghost emission = { λ _. fails_after [] };
+
+    fn stream<S: Stream<Lent<'v>>>(&'v self, _stream: &mut S) -> Result {
+        refusal()
     }
 }
 
 #[test]
-fn counts_items_at_depth(rt: HostRuntime) {
-    let inner_is_full = [
-        Call::SeqBegin(Some(1)),
-        Call::SeqValueBegin,
-        Call::SeqBegin(Some(1)),
-        Call::SeqValueBegin,
-        Call::I64(-1),
-        Call::SeqValueEnd,
-        Call::SeqEnd,
-        Call::SeqValueEnd,
-        Call::SeqEnd,
-    ];
-    assert_eq!(rt; checked(rt.alloc(), &inner_is_full), Ok(()));
+fn gives_each_answer(rt: HostRuntime) {
+    let alloc = rt.alloc();
+    assert_eq!(rt; check(alloc, &Text { size: 2 }), Ok(()));
     assert_eq!(rt;
-        checked(rt.alloc(), &inner_is_full[..8]),
-        Err(CheckError::Unfinished)
+        check(alloc, &Text { size: 1 }),
+        Err(CheckError::BadCall { at: 2 })
     );
-
-    let mut inner_is_short = inner_is_full;
-    inner_is_short[2] = Call::SeqBegin(Some(2));
     assert_eq!(rt;
-        checked(rt.alloc(), &inner_is_short),
-        Err(CheckError::BadCall { at: 7 })
+        check(alloc, &Text { size: 3 }),
+        Err(CheckError::BadCall { at: 3 })
     );
-}
-
-#[test]
-fn tells_a_value_that_refuses(rt: HostRuntime) {
-    let silent = Said {
-        calls: &[],
-        refuses: true,
-    };
-    assert_eq!(rt; check(rt.alloc(), &silent), Err(CheckError::Refused));
+    assert_eq!(rt; check(alloc, &Open {}), Err(CheckError::Unfinished));
+    assert_eq!(rt; check(alloc, &Refusing {}), Err(CheckError::Refused));
 }

@@ -17,7 +17,7 @@ module _ {V : Type 0} (law : Law V) where
   rose_never before now still below rose = omega (arith, still, below, rose)
 
   module _ (accepts : (v : V) (call : Call) → law.accepts v call) (old new : Standing V) (faults : new.faults ≡ old.faults) (wants : new.wants ≡ old.wants)
-    (few_faults : old.faults < 2 ^ 64 - 1) (few_wants : old.wants < 2 ^ 64 - 1) where
+      (few_faults : old.faults < 2 ^ 64 - 1) (few_wants : old.wants < 2 ^ 64 - 1) where
     no_cause : (v : V) (call : Call) → HasCause law v call old new → ⊥
     no_cause v call (inl never) = never (accepts v call)
     no_cause v call (inr (inl rose)) = rose_never old.faults new.faults faults few_faults rose

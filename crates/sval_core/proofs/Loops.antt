@@ -39,8 +39,8 @@ module _ {T : Type 0} (calls : T → List Call) where
         let later = flat_map calls (drop (i + 1) xs) ++ rest in
         let both : Stops law old (makes (begin ∷ (flat_map calls (take i xs) ++ (calls x ++ later)))) new = stops_later s (stops_first (makes later) t) in
         let whole : flat_map calls xs ++ rest ≡ flat_map calls (take i xs) ++ (calls x ++ later) =
-            ap (λ c. c ++ rest) (around xs i x h is) ∙ append_assoc (flat_map calls (take i xs)) (calls x ++ flat_map calls (drop (i + 1) xs)) rest
-            ∙ ap (λ c. flat_map calls (take i xs) ++ c) (append_assoc (calls x) (flat_map calls (drop (i + 1) xs)) rest) in
+        ap (λ c. c ++ rest) (around xs i x h is) ∙ append_assoc (flat_map calls (take i xs)) (calls x ++ flat_map calls (drop (i + 1) xs)) rest
+        ∙ ap (λ c. flat_map calls (take i xs) ++ c) (append_assoc (calls x) (flat_map calls (drop (i + 1) xs)) rest) in
         rw whole both
 
     -- and after all parts what follows them.

@@ -8,17 +8,14 @@
 -- `Streams law old (makes (begin ∷ flat_map (item_calls calls) (take l.x-index l.x-items))) new`; and on the function that loops
 -- `#[tactic(auto, using(sval_core::proofs::ValueProofs::of_loops))]`.
 pub use Rattle.sval_core.proofs.Loops.{of_loops, streams_next, stops_next, emits_rest}
-
 -- A value that is built of others which may refuse has an emission of `specs/Values.antt`. A function that streams a value between a begin
 -- and its end wants `of_between`, one part after another `of_emissions`. In a loop the five lemmas for parts of `Joining` close one goal each.
 pub use Rattle.sval_core.proofs.Emissions.{of_emissions, passes_on}
 pub use Rattle.sval_core.proofs.Between.{of_between}
 pub use Rattle.sval_core.proofs.Joining.{streams_no_parts, streams_part, stops_at_part, streams_after_parts, stops_after_parts}
-
 -- That the calls spell a tree, where the value gives the sizes: a lemma for each word of `specs/ValueCalls.antt`. Such a value is one whole
 -- value to whoever checks it, and has the text of its tree in JSON.
 pub use Rattle.sval_core.proofs.ToldCalls.{null_call_tells, truth_call_tells, int_call_tells, text_calls_tell, binary_calls_tell, no_calls_tell, part_calls_tell, last_part_tells, container_calls_tell, seq_calls_tell}
-
 -- What a stream of your own has taken after a value: the fold of its law over the value's calls. One that accepts all calls refuses only
 -- where the value does.
 pub use Rattle.sval_core.proofs.Folds.{streams_folds, stops_by_value}

@@ -7,8 +7,6 @@
 pub mod laws;
 pub mod name_laws;
 mod stream;
-#[cfg(test)]
-mod tests;
 mod value;
 pub mod value_laws;
 

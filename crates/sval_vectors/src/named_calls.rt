@@ -2,13 +2,13 @@
 
 ghost use Rattle.std.specs.Prelude.{◌≡◌};
 ghost use Rattle.sval_core.specs.Law.{Answers, emits};
-ghost use Rattle.sval_core.specs.Lenient.{lenient, with_wants};
+ghost use Rattle.sval_vectors.specs.Lenient.{lenient, with_wants};
 ghost use Rattle.sval_label.specs.Calls as call;
 ghost use Rattle.sval_label.specs.Made.{lent_call};
 
-use crate::{Call, Lent, Result, Stream, Value, refusal};
 use std::fmt::Write;
 use std::test::Fail;
+use sval_core::{Call, Lent, Result, Stream, Value, refusal};
 
 /// Writes each call down, and refuses one where memory is wanting.
 #[derive(Drop)]
@@ -43,7 +43,7 @@ struct Nothing {}
 impl<'v> Value<'v, Lent<'v>> for Nothing {
     ghost emission = { λ _. emits call.Null };
 
-    #[tactic(auto, using(crate::proofs::Emissions::streams_one, crate::proofs::Emissions::stops_one))]
+    #[tactic(auto, using(sval_core::proofs::Emissions::streams_one, sval_core::proofs::Emissions::stops_one))]
     fn stream<S: Stream<Lent<'v>>>(&'v self, stream: &mut S) -> Result {
         stream.null()
     }

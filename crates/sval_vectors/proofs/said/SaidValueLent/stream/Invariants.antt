@@ -1,7 +1,7 @@
 use Rattle.std.proofs.Common.{map, take, false}
 use Rattle.sval_label.specs.Made.{lent_call}
 use Rattle.sval_core.specs.Law.{Streams}
-use Rattle.sval_check.proofs.tests.SaidValueLent.stream.Given as goal
+use Rattle.sval_vectors.proofs.said.SaidValueLent.stream.Given as goal
 
 abbrev pub invariant-loop-call : goal.invariant-loop-call
 invariant-loop-call g l =
