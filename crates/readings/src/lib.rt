@@ -23,12 +23,18 @@ ghost use Rattle.sval_core.specs.Values.{makes};
 ghost use Rattle.sval_core.specs.ValueCalls.{item_calls};
 ghost use Rattle.readings.specs.Readings.{reading_calls, readings_calls};
 
+mod json;
+#[cfg(test)]
+mod tests;
 mod total;
+mod unit;
 
+pub use json::to_json;
 use std::alloc::Global;
 use sval_check::{CheckError, check};
 use sval_core::{Lent, Result, Stream, Value};
 pub use total::total_of;
+pub use unit::Unit;
 
 /// A note or a measure.
 #[derive(Drop)]
@@ -63,7 +69,8 @@ impl<'v> Value<'v, Lent<'v>> for Reading {
 
 /// Streams a reading as an item of a sequence.
 fn stream_item<'v, S: Stream<Lent<'v>>>(stream: &mut S, reading: &'v Reading) -> Result
-    ensures { Emits S.law result (S.standing stream.old) (makes (item_calls reading_calls reading.now)) (S.standing stream.new) }
+    ensures { Emits S.law result
+        (S.standing stream.old) (makes (item_calls reading_calls reading.now)) (S.standing stream.new) }
 {
     stream.seq_value_begin()?;
     stream.value(reading)?;

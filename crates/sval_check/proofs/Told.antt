@@ -1,5 +1,5 @@
 -- What a value that tells a tree is answered: whoever checks a value of his own needs no more.
-use Rattle.std.specs.Prelude.{◌≡◌, ◌⊎◌, Ok, Err, IsOkUnless, refl}
+use Rattle.std.specs.Prelude.{◌≡◌, ◌⊎◌, Ok, Err, IsOkUnless}
 use Rattle.std.proofs.Common.{inl, inr}
 use Rattle.sval_core.specs.Trees.{Tree}
 use Rattle.sval_core.specs.Law.{Emission}

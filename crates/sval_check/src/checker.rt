@@ -180,7 +180,8 @@ impl Checker {
     /// Opens a part in the innermost frame, a container, which is `before` now and `after` with it.
     fn open_part(&mut self, slot: Slot, before: Frame, after: Frame) -> Result<(), Why>
         requires { top_of self.old.state.frames ≡ Some (frame_of before) }
-        ensures { StepsBy true (opened (frame_of (Frame.Part slot)) (frame_of after) self.old.state) self.old self.new result }
+        ensures { StepsBy true (opened (frame_of (Frame.Part slot)) (frame_of after) self.old.state)
+            self.old self.new result }
     {
         self.frames.replace_top(after);
         match self.frames.push(Frame::Part(slot)) {
@@ -261,7 +262,8 @@ impl<'sval> Stream<Lent<'sval>> for Checker {
     ghost standing = { checker_standing };
 
     fn take(&mut self, call: Call<'sval, '_>) -> sval_core::Result
-        ensures { Answers checker_law result (checker_standing self.old) (lent_call call.entry) (checker_standing self.new) }
+        ensures { Answers checker_law result
+            (checker_standing self.old) (lent_call call.entry) (checker_standing self.new) }
     {
         match self.step(call) {
             Ok(()) => {

@@ -46,7 +46,8 @@ pub fn check<'v, V: Value<'v, Lent<'v>>>(alloc: Global, value: &'v V) -> Result<
     ensures refused { result ≡ Err CheckError.Refused → OnlyRefuses (V.emission value.now) }
     ensures unfinished { result ≡ Err CheckError.Unfinished → IsUnfinished (V.emission value.now) }
     ensures no_memory { result ≡ Err CheckError.NoMemory → NeedsMemory (V.emission value.now).calls }
-    ensures comes { (due : CheckAnswer) → IsDue (V.emission value.now) due → (result ≡ due) ⊎ (result ≡ Err CheckError.NoMemory) }
+    ensures comes { (due : CheckAnswer) → IsDue (V.emission value.now) due
+        → (result ≡ due) ⊎ (result ≡ Err CheckError.NoMemory) }
 {
     let mut checker = Checker::new(alloc);
     match value.stream(&mut checker) {

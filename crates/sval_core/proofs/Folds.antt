@@ -1,5 +1,5 @@
 -- What a stream has taken after a value, for whoever streams one into a stream of his own.
-use Rattle.std.specs.Prelude.{◌≡◌, ℕ, ◌⊎◌, ◌-◌, ◌^◌, ◌<◌, ◌≤◌, Bool, true, List, [], ◌∷◌, fold, refl}
+use Rattle.std.specs.Prelude.{◌≡◌, ℕ, ◌-◌, ◌^◌, ◌<◌, Bool, true, List, [], ◌∷◌, fold}
 use Rattle.std.proofs.Common.{arith, inl, inr}
 use Rattle.sval_label.specs.Calls.{Call}
 use Rattle.sval_core.specs.Law.{Law, Standing, Emission, HasCause, Rose, Ran, Streams, StoppedIn, Stops}

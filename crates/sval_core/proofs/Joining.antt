@@ -3,10 +3,9 @@ use Rattle.std.specs.Prelude.{◌≡◌, ℕ, ◌+◌, ◌<◌, ◌≤◌, lengt
 use Rattle.std.proofs.Common.{ap, ◌∙◌, sym, subst, append_assoc, append-nil}
 use Rattle.std.proofs.lemmas.List.{take_more, drop_more, take-append-drop, take_all}
 use Rattle.sval_label.specs.Calls.{Call}
-use Rattle.sval_core.specs.Law.{Standing, Law, Emission, silent, emits, then_emits, item_emission, items_emission, Streams, Stops}
+use Rattle.sval_core.specs.Law.{Standing, Law, Emission, silent, emits, then_emits, Streams, Stops}
 use Rattle.sval_core.proofs.Emissions.{streams_then, stops_first, stops_later}
-use Rattle.sval_core.specs.Values.{makes, between, part_emission, parts_emission}
-use Rattle.sval_label.specs.Calls.{Slot}
+use Rattle.sval_core.specs.Values.{makes, between, parts_emission}
 
 abbrev emission_of : List Call → Bool → Emission
 emission_of calls refuses = record { calls = calls; refuses = refuses }
@@ -33,29 +32,10 @@ silent_by calls false = ap (λ calls. emission_of calls false) (append-nil calls
 pub silent_last : (e : Emission) → then_emits e silent ≡ e
 silent_last e = silent_by e.calls e.refuses
 
--- calls one after another, as a lower list of calls is made
-pub makes_more : (call : Call) (calls : List Call) → then_emits (emits call) (makes calls) ≡ makes (call ∷ calls)
-unfolding then_emits emits
-makes_more call calls = refl
-
-pub makes_none : silent ≡ makes []
-unfolding silent
-makes_none = refl
-
-pub makes_joined : (first second : List Call) → then_emits (makes first) (makes second) ≡ makes (first ++ second)
-unfolding then_emits
-makes_joined first second = refl
-
 -- what a willing value makes between two calls
 pub between_is : (begin end : Call) (e : Emission) → e.refuses ≡ false → between begin end e ≡ makes (begin ∷ (e.calls ++ end ∷ []))
 unfolding then_emits emits
 between_is begin end e willing = rw willing refl
-
--- the items of a sequence are its parts
-pub items_are_parts : {T : Type 0} (emission : T → Emission) (xs : List T) → items_emission emission xs ≡ parts_emission (λ x. part_emission Slot.Item (emission x)) xs
-unfolding items_emission item_emission parts_emission
-items_are_parts emission [] = refl
-items_are_parts emission (x ∷ xs) = ap (then_emits (part_emission Slot.Item (emission x))) (items_are_parts emission xs)
 
 module _ {T : Type 0} (emission : T → Emission) where
   pub parts_none : parts_emission emission [] ≡ silent

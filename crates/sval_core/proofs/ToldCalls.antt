@@ -1,6 +1,6 @@
 -- Where a value never refuses and tells its sizes, its calls spell its tree.
 use Rattle.std.specs.Prelude.{◌≡◌, ℕ, ℤ, Bool, List, [], ◌∷◌, ◌++◌, length, flat_map, Some, refl}
-use Rattle.std.proofs.Common.{sym, subst, append-nil}
+use Rattle.std.proofs.Common.{subst, append-nil}
 use Rattle.sval_label.specs.Calls.{Call, Head, Slot, IntType}
 use Rattle.sval_core.specs.Trees as tree
 use Rattle.sval_core.specs.Trees.{Tree, Parts, part, plain_head, plain_slot, first_kind, AreInOrder}

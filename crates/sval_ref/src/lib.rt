@@ -14,16 +14,19 @@ use sval_core::{Lending, Result, Stream};
 /// refuses by itself only after all its calls, and only if it always does.
 ///
 /// ```
-/// impl<'sval> ValueRef<Lent<'sval>> for Name<'sval> {
-///     ghost ref_emission = { λ name. .. };
+/// impl<'sval> ValueRef<Lent<'sval>> for Unit<'sval> {
+///     ghost ref_emission = { λ unit. makes (text_calls true unit.name.now) };
 ///
 ///     fn stream_ref<S: Stream<Lent<'sval>>>(&self, stream: &mut S) -> Result {
-///         stream.text_begin(Some(self.text.len()))?;
-///         stream.text_fragment(self.text)?;
+///         stream.text_begin(Some(self.name.len()))?;
+///         stream.text_fragment(self.name)?;
 ///         stream.text_end()
 ///     }
 /// }
 /// ```
+///
+/// That is proved as it stands; the crate `readings` has it. `proofs/ValueProofs.antt` of `sval_core` says what a loop
+/// wants.
 pub trait ValueRef<L: Lending> {
     /// The calls that it makes, and whether it refuses after them.
     ghost ref_emission: { Self → Emission };

@@ -1,4 +1,3 @@
-use Rattle.std.proofs.Common.{rules, arith}
 use Rattle.sval_core.proofs.Emissions.{passes_on}
 use Rattle.sval_vectors.proofs.SaidCalls.{stops_in_said}
 use Rattle.sval_vectors.proofs.said.SaidValueLent.stream.Goals as goal
