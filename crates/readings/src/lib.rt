@@ -3,7 +3,9 @@
 //! - [`Reading`] and [`Readings`] are values. What they say stands in `specs/Readings.antt`: the list of their calls,
 //!   and the tree that these spell.
 //! - [`check_readings`] answers Ok unless memory is wanting, since the calls spell that tree.
-//! - [`total_of`] streams any value into a stream of this crate's own.
+//! - [`to_json`] gives exactly the text of `specs/Written.antt`, unless memory is wanting.
+//! - [`total_of`] streams any value into a stream of this crate's own, whose law stands in `specs/Totals.antt`.
+//! - [`Unit`] lends its name for longer than it is borrowed itself.
 //!
 //! # What the proofs take
 //!
@@ -11,7 +13,8 @@
 //! 2. The loop over items wants the attribute with `of_loops`, and its invariant
 //!    (`proofs/ReadingsValueLent/stream/Invariants.antt`): the begin and the items so far were streamed.
 //! 3. That the calls spell the tree is a lemma for each kind of reading, and one for the sequence (`proofs/Told.antt`).
-//! 4. What a stream has taken after a value is the fold of its law over the value's calls (`proofs/total`).
+//! 4. What is written is the JSON of that tree, by one equation for each kind of reading (`proofs/Written.antt`).
+//! 5. What a stream has taken after a value is the fold of its law over the value's calls (`proofs/total`).
 //!
 //! All lemmas come from the page `proofs/ValueProofs.antt` of `sval_core`, but for the one on checking, which
 //! `sval_check` has in `proofs/Told.antt`.
@@ -91,7 +94,6 @@ impl<'v> Value<'v, Lent<'v>> for Readings {
 }
 
 /// Checks that readings are one whole value, as they always are.
-#[tactic(auto, using(crate::proofs::Told::readings_tell, sval_check::proofs::Told::told_passes))]
 pub fn check_readings(alloc: Global, readings: &Readings) -> std::result::Result<(), CheckError>
     ensures { IsOkUnless result CheckError.NoMemory }
 {

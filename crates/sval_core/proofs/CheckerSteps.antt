@@ -15,7 +15,7 @@ use Rattle.sval_core.specs.Checker.{Frame, InText, InBinary, InTagged, InEnum, I
 use Rattle.sval_core.specs.CheckerSteps.{Form, OneText, Variant, Other, is_variant, form_of_head, may_hold, admits, take_off, is_used_up, same_kind, may_end, filled, unfilled, value, begin, at_top, text_fragment, text_end, binary_fragment, binary_end, tagged_end, enum_end, end, begun_part, part_begin, part_end, next, goes_on, state_after}
 use Rattle.sval_core.specs.StepLaws.{Goes}
 use Rattle.sval_core.proofs.SameNames.{name_decides, head_decides, slot_decides}
-use Rattle.sval_core.proofs.ToldTrees.{plain_name_twice, plain_head_twice}
+use Rattle.sval_core.proofs.ToldTrees.{plain_name_twice, plain_head_twice, plain_slot_twice}
 
 -- ---- the tests
 
@@ -112,14 +112,6 @@ takes_off (Some due) n rest t =
     takes (nat_le n due) (Some (due - n)) (is_enough n due h) ∙ ap (λ x. Some (Some x)) e ∙ ap (λ x. Some x) (sym t.1)
 
 -- ---- what is plain of a part's place
-
-plain_slot_twice : (slot : Slot) → plain_slot (plain_slot slot) ≡ plain_slot slot
-plain_slot_twice Slot.Item = refl
-plain_slot_twice Slot.Key = refl
-plain_slot_twice Slot.Value = refl
-plain_slot_twice (Slot.Field tag label) = refl
-plain_slot_twice (Slot.Place tag index) = refl
-plain_slot_twice (Slot.FieldPlace tag label index) = refl
 
 same_place_kind : (slot : Slot) → kind_of (plain_slot slot) ≡ kind_of slot
 same_place_kind Slot.Item = refl

@@ -56,7 +56,7 @@ plain_head_twice (Head.Record name) = ap Head.Record (plain_name_twice name)
 plain_head_twice (Head.Tuple name) = ap Head.Tuple (plain_name_twice name)
 plain_head_twice (Head.RecordTuple name) = ap Head.RecordTuple (plain_name_twice name)
 
-plain_slot_twice : (slot : Slot) → plain_slot (plain_slot slot) ≡ plain_slot slot
+pub plain_slot_twice : (slot : Slot) → plain_slot (plain_slot slot) ≡ plain_slot slot
 plain_slot_twice Slot.Item = refl
 plain_slot_twice Slot.Key = refl
 plain_slot_twice Slot.Value = refl
