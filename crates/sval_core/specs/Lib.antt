@@ -7,6 +7,7 @@ pub mod Laws
 pub mod Many
 pub mod ManyChecker
 pub mod ManyLaws
+pub mod Lenient
 pub mod Names
 pub mod ValueCalls
 pub mod Values

@@ -2,7 +2,7 @@
 
 ghost use Rattle.std.specs.Prelude.{◌≡◌};
 ghost use Rattle.sval_core.specs.Law.{Answers, emits};
-ghost use Rattle.sval_vectors.specs.Lenient.{lenient, with_wants};
+ghost use Rattle.sval_core.specs.Lenient.{lenient, with_wants};
 ghost use Rattle.sval_label.specs.Calls as call;
 ghost use Rattle.sval_label.specs.Made.{lent_call};
 

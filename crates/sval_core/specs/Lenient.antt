@@ -1,4 +1,4 @@
--- A law for tests: each call is accepted, and refused only where memory is wanting.
+-- A law that the tests of several crates take: each call is accepted, and refused only where memory is wanting.
 use Rattle.std.specs.Prelude.{ℕ, ⊤}
 use Rattle.sval_core.specs.Law.{Law, Standing}
 
