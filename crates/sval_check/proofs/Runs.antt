@@ -13,7 +13,7 @@ use Rattle.sval_core.proofs.CheckerSteps.{goes_taken, goes_after}
 use Rattle.sval_check.specs.declared.checker.Why.{Why}
 use Rattle.sval_check.specs.declared.checker.Why.TheVariants.{NotViable, NoMemory}
 use Rattle.sval_check.specs.declared.error.CheckError.TheVariants as error
-use Rattle.sval_check.specs.Checking.{Checking, IsCheckerWhy, IsLeft, accepts, checker_law, checker_standing, finish_at, finish_of, cause_by, cause_of}
+use Rattle.sval_check.specs.Checking.{Checking, IsCheckerWhy, IsCheckerLeft, accepts, checker_law, checker_standing, finish_at, finish_of, cause_by, cause_of}
 use Rattle.sval_check.specs.Checks.{IsOneValue, IsFirstBad, OnlyRefuses, IsUnfinished, opens, NeedsMemory}
 
 -- ---- a run with a call in front
@@ -51,7 +51,7 @@ pub record Halts (state : State) (taken : ℕ) (calls : List Call) (last : ℕ) 
   pub stops : (next : State) → RunsFrom state (front ++ (call ∷ [])) next → ⊥
   pub number : last ≡ min (taken + length front) (2 ^ 64 - 1)
 
-halts_here : (v u : Checking) (call : Call) (calls : List Call) → v.taken ≤ 2 ^ 64 - 1 → u.why ≡ Some NotViable → IsLeft v call u → Halts v.state v.taken (call ∷ calls) u.taken
+halts_here : (v u : Checking) (call : Call) (calls : List Call) → v.taken ≤ 2 ^ 64 - 1 → u.why ≡ Some NotViable → IsCheckerLeft v call u → Halts v.state v.taken (call ∷ calls) u.taken
 halts_here v u call calls within e left = record {
   front = [];
   call = call;
@@ -64,7 +64,7 @@ halts_here v u call calls within e left = record {
 }
   where
     never : accepts v call → ⊥
-    never = subst (λ w. IsCheckerWhy w v call u.wants) e left.why
+    never = (subst (λ w. IsCheckerWhy w v call u.wants) e left.why).0
 
 halts_later : (v : Checking) (call : Call) (calls : List Call) (last : ℕ) → v.taken ≤ 2 ^ 64 - 1 → accepts v call → Halts (state_after call v.state) (one_more v.taken) calls last → Halts v.state v.taken (call ∷ calls) last
 halts_later v call calls last within a h = record {
@@ -111,7 +111,7 @@ pub record Wants (state : State) (calls : List Call) : Type 0 where
   pub runs : RunsFrom state (front ++ (call ∷ [])) last
   pub opens : opens call ≡ true
 
-wants_here : (v u : Checking) (call : Call) (calls : List Call) → u.why ≡ Some NoMemory → IsLeft v call u → Wants v.state (call ∷ calls)
+wants_here : (v u : Checking) (call : Call) (calls : List Call) → u.why ≡ Some NoMemory → IsCheckerLeft v call u → Wants v.state (call ∷ calls)
 wants_here v u call calls e left =
     let why = subst (λ w. IsCheckerWhy w v call u.wants) e left.why in
     record { front = []; call = call; rest = calls; whole = refl; last = state_after call v.state; runs = goes_after v.state call why.1; opens = why.0 }

@@ -45,11 +45,11 @@ accepts view call = goes_on view.state call ≡ true
 -- what is kept of a refusal: memory was wanting only where the call is viable and opens a frame
 abbrev pub IsCheckerWhy : Option Why → Checking → Call → ℕ → Type 0
 IsCheckerWhy None view call wants = ⊥
-IsCheckerWhy (Some NotViable) view call wants = accepts view call → ⊥
+IsCheckerWhy (Some NotViable) view call wants = (accepts view call → ⊥) × (wants ≡ view.wants)
 IsCheckerWhy (Some NoMemory) view call wants = (opens call ≡ true) × accepts view call × Rose view.wants wants
 
 -- a call that was refused leaves the state as it was
-pub record IsLeft (view : Checking) (call : Call) (left : Checking) : Type 0 where
+pub record IsCheckerLeft (view : Checking) (call : Call) (left : Checking) : Type 0 where
   pub why : IsCheckerWhy left.why view call left.wants
   pub state : left.state ≡ view.state
   pub taken : left.taken ≡ view.taken
@@ -58,7 +58,7 @@ abbrev pub checker_law : Law Checking
 checker_law = record {
   accepts = accepts;
   after = λ view call. record view { state = state_after call view.state; taken = one_more view.taken };
-  stopped = IsLeft;
+  stopped = IsCheckerLeft;
 }
 
 abbrev pub checker_standing : Checking → Standing Checking
