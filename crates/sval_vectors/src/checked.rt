@@ -7,13 +7,7 @@ use sval_core::Call;
 
 /// What is said of these calls, where no refusal follows.
 fn checked<'v>(alloc: Global, calls: &'v [Call<'v, 'v>]) -> Result<(), CheckError> {
-    check(
-        alloc,
-        &Said {
-            calls,
-            refuses: false,
-        },
-    )
+    check(alloc, &Said::willing(calls))
 }
 
 /// The greatest size.

@@ -8,6 +8,12 @@
 mod checked;
 #[cfg(test)]
 mod named_calls;
+#[cfg(test)]
+mod real_sinks;
 mod said;
+#[cfg(test)]
+mod sinks;
+#[cfg(test)]
+mod written;
 
 pub use said::Said;

@@ -1,6 +1,6 @@
 //! Lists of calls as values.
 
-ghost use Rattle.std.specs.Prelude.{map};
+ghost use Rattle.std.specs.Prelude.{◌≡◌, false, map};
 ghost use Rattle.sval_label.specs.Made.{lent_call};
 
 use sval_core::{Call, Lent, Stream, Value, refusal};
@@ -20,6 +20,19 @@ pub struct Said<'v> {
     pub calls: &'v [Call<'v, 'v>],
     /// Whether a refusal follows them.
     pub refuses: bool,
+}
+
+impl<'v> Said<'v> {
+    /// A value that makes these calls, and doesn't refuse.
+    pub fn willing(calls: &'v [Call<'v, 'v>]) -> Said<'v>
+        ensures calls { result.calls.now ≡ calls.now }
+        ensures willing { result.refuses ≡ false }
+    {
+        Said {
+            calls,
+            refuses: false,
+        }
+    }
 }
 
 impl<'v> Value<'v, Lent<'v>> for Said<'v> {

@@ -2,11 +2,11 @@
 
 ghost use Rattle.std.specs.Prelude.{◌+◌, Some, None};
 
-use super::willing;
-use crate::{ErrorKind, Sink, SinkError, VecSink, stream_to_io_write, write_all};
+use crate::said::Said;
 use std::alloc::Global;
 use std::test::Fail;
 use sval_core::Call;
+use sval_json::{ErrorKind, Sink, SinkError, VecSink, stream_to_io_write, write_all};
 
 /// A sink in memory that counts its calls, and may take one byte a call, or stop at a call.
 #[derive(Drop)]
@@ -137,7 +137,7 @@ const JSON: &[u8] = b"[\"a\\\"\\u0001b\",-12,true]";
 #[test]
 fn writes_the_rest_of_each_piece(rt: HostRuntime) -> Result<(), Fail> {
     let mut sink = Balky::trickling(rt.alloc(), None);
-    stream_to_io_write(&mut sink, &willing(CALLS))?;
+    stream_to_io_write(&mut sink, &Said::willing(CALLS))?;
     assert_eq!(rt; sink.taken.as_slice(), JSON);
     assert_eq!(rt; sink.calls, JSON.len());
     Ok(())
@@ -153,7 +153,7 @@ fn stops_where_a_sink_stops(rt: HostRuntime) {
         for taken in 0..JSON.len() {
             let at = taken + 1;
             let mut sink = Balky::trickling(rt.alloc(), Some((at, stop)));
-            let answer = stream_to_io_write(&mut sink, &willing(CALLS));
+            let answer = stream_to_io_write(&mut sink, &Said::willing(CALLS));
             assert_eq!(rt;
                 answer.map_err(|error| error.kind()),
                 Err(kind),
@@ -173,7 +173,7 @@ fn fails_where_room_is_lacking(rt: HostRuntime) -> Result<(), Fail> {
             room,
             faults: 0,
         };
-        let answer = stream_to_io_write(&mut sink, &willing(CALLS));
+        let answer = stream_to_io_write(&mut sink, &Said::willing(CALLS));
         assert_eq!(rt;
             answer.map_err(|error| error.kind()),
             Err(ErrorKind::IO),
@@ -186,7 +186,7 @@ fn fails_where_room_is_lacking(rt: HostRuntime) -> Result<(), Fail> {
         room: JSON.len(),
         faults: 0,
     };
-    stream_to_io_write(&mut enough, &willing(CALLS))?;
+    stream_to_io_write(&mut enough, &Said::willing(CALLS))?;
     assert_eq!(rt; enough.taken.as_slice(), JSON);
     assert_eq!(rt; enough.room, 0);
     Ok(())
@@ -202,7 +202,7 @@ fn writes_a_run_as_one_piece(rt: HostRuntime) -> Result<(), Fail> {
         Call::TextEnd,
     ];
     let mut sink = Balky::new(rt.alloc());
-    stream_to_io_write(&mut sink, &willing(&calls))?;
+    stream_to_io_write(&mut sink, &Said::willing(&calls))?;
     assert_eq!(rt; sink.calls, 3);
     assert_eq!(rt; sink.taken.as_slice().len(), 69);
     Ok(())

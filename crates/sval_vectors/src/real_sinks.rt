@@ -1,12 +1,12 @@
 //! Std's writers, and writers that work late or never.
 
-use super::willing;
-use crate::{ErrorKind, RealSink, Sink, SinkError, stream_to_io_write};
+use crate::said::Said;
 use std::alloc::Global;
 use std::io;
 use std::io::{Cursor, Write};
 use std::test::Fail;
 use sval_core::Call;
+use sval_json::{ErrorKind, RealSink, Sink, SinkError, stream_to_io_write};
 
 /// A writer whose first calls fail, or take nothing where no kind of error is given.
 #[derive(Drop)]
@@ -72,7 +72,7 @@ fn makes_interrupted_calls_again(rt: HostRuntime) {
     for (delay, kind, last_error, left) in table {
         let mut writer = Late::new(rt.alloc(), delay, kind);
         let mut sink = RealSink::new(&mut writer);
-        let answer = stream_to_io_write(&mut sink, &willing(&[Call::Null]));
+        let answer = stream_to_io_write(&mut sink, &Said::willing(&[Call::Null]));
         let want = match last_error {
             None => Ok(()),
             Some(_) => Err(ErrorKind::IO),
@@ -134,12 +134,15 @@ fn takes_an_empty_piece(rt: HostRuntime) {
 #[test]
 fn writes_to_memory(rt: HostRuntime) -> Result<(), Fail> {
     let mut bytes: Vec<u8> = Vec::new(rt.alloc());
-    stream_to_io_write(&mut RealSink::new(&mut bytes), &willing(&[Call::I64(-7)]))?;
+    stream_to_io_write(
+        &mut RealSink::new(&mut bytes),
+        &Said::willing(&[Call::I64(-7)]),
+    )?;
     assert_eq!(rt; bytes.as_slice(), b"-7".as_slice());
 
     let mut full = Cursor::new([0u8; 4]);
     let mut sink = RealSink::new(&mut full);
-    let answer = stream_to_io_write(&mut sink, &willing(&[Call::Bool(false)]));
+    let answer = stream_to_io_write(&mut sink, &Said::willing(&[Call::Bool(false)]));
     assert_eq!(rt; answer.map_err(|error| error.kind()), Err(ErrorKind::IO));
     assert_eq!(rt; sink.last_error(), Some(io::ErrorKind::WriteZero));
     assert_eq!(rt; full.into_inner(), *b"fals");
