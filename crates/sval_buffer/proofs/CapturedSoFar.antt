@@ -9,6 +9,7 @@ use Rattle.sval_core.specs.Trees as tree
 use Rattle.sval_core.specs.Trees.{Tree, Parts, plain_label, plain_name, plain_head, plain_slot}
 use Rattle.sval_core.specs.Spells.{plain, plain_call, bare_label, bare_index, bare_name, bare_head, bare_slot}
 use Rattle.sval_core.specs.Checker.{Frame, InText, InBinary, InTagged, InEnum, InContainer, InPart}
+use Rattle.sval_core.proofs.ToldTrees.{bare_plain_name, bare_plain_head, bare_plain_slot}
 use Rattle.sval_buffer.specs.Pushes.{HeldBytes}
 use Rattle.sval_buffer.specs.Forest.{Node, Text, Binary, Container, Nodes, none, ◌and◌, Open, Forest, Becomes, take, begun, add, with_flag, end_of, node_calls, row_calls}
 use Rattle.sval_buffer.proofs.JoinedTexts.{is_other, Joins, joins-append, nothing, as_is}
@@ -111,40 +112,18 @@ closed nodes newest older fs past c h e m j =
 
 -- ---- names: the end that replay makes is the end that was taken
 
-pub bare_of_labels : (l : Option Label) → option_map bare_label (option_map plain_label l) ≡ option_map bare_label l
-bare_of_labels None = refl
-bare_of_labels (Some l) = refl
-
-pub bare_of_name : (n : Name) → bare_name (plain_name n) ≡ bare_name n
-bare_of_name n = ap (λ (x : Option Label). let name : Name = record { tag = n.tag; label = x; index = option_map bare_index n.index } in name) (bare_of_labels n.label)
-
-pub bare_of_head : (h : Head) → bare_head (plain_head h) ≡ bare_head h
-bare_of_head Head.Seq = refl
-bare_of_head Head.Map = refl
-bare_of_head (Head.Record n) = ap Head.Record (bare_of_name n)
-bare_of_head (Head.Tuple n) = ap Head.Tuple (bare_of_name n)
-bare_of_head (Head.RecordTuple n) = ap Head.RecordTuple (bare_of_name n)
-
-pub bare_of_slot : (s : Slot) → bare_slot (plain_slot s) ≡ bare_slot s
-bare_of_slot Slot.Item = refl
-bare_of_slot Slot.Key = refl
-bare_of_slot Slot.Value = refl
-bare_of_slot (Slot.Field t l) = refl
-bare_of_slot (Slot.Place t i) = refl
-bare_of_slot (Slot.FieldPlace t l i) = refl
-
 pub tagged_end_is : (first : Call) (name ended : Name) → Fits (InTagged name) first → ended ≡ bare_name name → plain (end_of first ∷ []) ≡ TaggedEnd ended ∷ []
 tagged_end_is first name ended (n, b, p) e =
-    ap (λ x. plain (end_of x ∷ [])) b ∙ ap (λ x. TaggedEnd x ∷ []) (sym (bare_of_name n) ∙ ap bare_name p ∙ sym e)
+    ap (λ x. plain (end_of x ∷ [])) b ∙ ap (λ x. TaggedEnd x ∷ []) (sym (bare_plain_name n) ∙ ap bare_name p ∙ sym e)
 
 pub enum_end_is : (first : Call) (name ended : Name) → Fits (InEnum name) first → ended ≡ bare_name name → plain (end_of first ∷ []) ≡ EnumEnd ended ∷ []
 enum_end_is first name ended (n, b, p) e =
-    ap (λ x. plain (end_of x ∷ [])) b ∙ ap (λ x. EnumEnd x ∷ []) (sym (bare_of_name n) ∙ ap bare_name p ∙ sym e)
+    ap (λ x. plain (end_of x ∷ [])) b ∙ ap (λ x. EnumEnd x ∷ []) (sym (bare_plain_name n) ∙ ap bare_name p ∙ sym e)
 
 pub end_is : (first : Call) (head ended : Head) (kind : tree.Kind) (left : Option ℕ) → Fits (InContainer head kind left) first → ended ≡ bare_head head → plain (end_of first ∷ []) ≡ End ended ∷ []
 end_is first head ended kind left (h, size, b, p) e =
-    ap (λ x. plain (end_of x ∷ [])) b ∙ ap (λ x. End x ∷ []) (sym (bare_of_head h) ∙ ap bare_head p ∙ sym e)
+    ap (λ x. plain (end_of x ∷ [])) b ∙ ap (λ x. End x ∷ []) (sym (bare_plain_head h) ∙ ap bare_head p ∙ sym e)
 
 pub part_end_is : (first : Call) (slot ended : Slot) → Fits (InPart slot) first → ended ≡ bare_slot slot → plain (end_of first ∷ []) ≡ PartEnd ended ∷ []
 part_end_is first slot ended (s, b, p) e =
-    ap (λ x. plain (end_of x ∷ [])) b ∙ ap (λ x. PartEnd x ∷ []) (sym (bare_of_slot s) ∙ ap bare_slot p ∙ sym e)
+    ap (λ x. plain (end_of x ∷ [])) b ∙ ap (λ x. PartEnd x ∷ []) (sym (bare_plain_slot s) ∙ ap bare_slot p ∙ sym e)

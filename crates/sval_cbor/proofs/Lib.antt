@@ -1,5 +1,3 @@
-pub mod PackedTrees
-pub mod WrittenCalls
 pub mod Numbers
 pub mod Packed
 pub mod SameText
@@ -12,3 +10,4 @@ pub mod WritingValues
 pub mod WritingTrees
 pub mod Captured
 pub mod OneByOne
+mod examples

@@ -1,5 +1,4 @@
 pub mod OneTree
-pub mod Bytes
 pub mod Heads
 pub mod LeastHeads
 pub mod RoundTrip
@@ -9,3 +8,4 @@ pub mod Complete
 pub mod OneReading
 pub mod Nearer
 pub mod RealItems
+mod examples

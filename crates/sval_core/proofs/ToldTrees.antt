@@ -64,21 +64,21 @@ plain_slot_twice (Slot.Field tag label) = refl
 plain_slot_twice (Slot.Place tag index) = refl
 plain_slot_twice (Slot.FieldPlace tag label index) = refl
 
-bare_plain_name : (name : Name) → bare_name (plain_name name) ≡ bare_name name
+pub bare_plain_name : (name : Name) → bare_name (plain_name name) ≡ bare_name name
 bare_plain_name name = go name.label
   where
     go : (o : Option Label) → bare_name (record { tag = name.tag; label = option_map plain_label o; index = name.index }) ≡ bare_name (record { tag = name.tag; label = o; index = name.index })
     go None = refl
     go (Some label) = refl
 
-bare_plain_head : (head : Head) → bare_head (plain_head head) ≡ bare_head head
+pub bare_plain_head : (head : Head) → bare_head (plain_head head) ≡ bare_head head
 bare_plain_head Head.Seq = refl
 bare_plain_head Head.Map = refl
 bare_plain_head (Head.Record name) = ap Head.Record (bare_plain_name name)
 bare_plain_head (Head.Tuple name) = ap Head.Tuple (bare_plain_name name)
 bare_plain_head (Head.RecordTuple name) = ap Head.RecordTuple (bare_plain_name name)
 
-bare_plain_slot : (slot : Slot) → bare_slot (plain_slot slot) ≡ bare_slot slot
+pub bare_plain_slot : (slot : Slot) → bare_slot (plain_slot slot) ≡ bare_slot slot
 bare_plain_slot Slot.Item = refl
 bare_plain_slot Slot.Key = refl
 bare_plain_slot Slot.Value = refl

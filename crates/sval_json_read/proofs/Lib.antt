@@ -14,8 +14,6 @@ pub mod Utf8Texts
 pub mod SettledNumbers
 pub mod SettledTrees
 pub mod Documents
-pub mod FailingDocuments
-pub mod ReadDocuments
 pub mod Loop
 pub mod Scans
 pub mod ParsedNumbers
@@ -23,3 +21,4 @@ pub mod RawStrings
 pub mod KeptNodes
 pub mod EscapePlaces
 pub mod WritableTrees
+mod examples

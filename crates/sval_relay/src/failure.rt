@@ -9,9 +9,9 @@ ghost use Rattle.sval_relay.specs.Reports.{report_of};
 
 use crate::reading::ReadError;
 use crate::relay::RelayError;
-use sval_script::ScriptError;
 use itoa::Buffer;
 use sval_json::{Sink, SinkError, write_all};
+use sval_script::ScriptError;
 
 /// Why the program failed: each has a status and a line of its own.
 #[derive(Clone, Copy, Debug, PartialEq, Eq)]

@@ -17,12 +17,12 @@ ghost use Rattle.sval_relay.specs.Serving.{WritesText, Grows, MayLeave, IsAnswer
 ghost use Rattle.sval_relay.specs.Verdict.{Verdict, verdict};
 ghost use Rattle.sval_relay.specs.Verdict as found;
 
-use sval_script::{Script, ScriptError};
 use std::alloc::Global;
 use sval_buffer::ValueBuf;
 use sval_check::{CheckError, check};
 use sval_core::{Lent, Value};
 use sval_json::{ErrorKind, Sink, Variants, stream_to_io_write_with};
+use sval_script::{Script, ScriptError};
 
 /// The ways to serve a script.
 #[derive(Clone, Copy, Debug, PartialEq, Eq)]

@@ -12,10 +12,10 @@ ghost use Rattle.sval_relay.specs.Verdict.{Verdict, verdict, BadLine, BadCall, U
 use crate::failure::Failure;
 use crate::reading::read_all;
 use crate::relay::{Way, serve_script};
-use sval_script::Script;
 use crate::source::Source;
 use std::alloc::Global;
 use sval_json::Sink;
+use sval_script::Script;
 
 /// The way that a word names before `beside`.
 fn beside(word: &str) -> Option<Way>

@@ -1,0 +1,3 @@
+-- What the definitions come to, and used by no program.
+mod PackedTrees
+mod WrittenCalls
