@@ -1,5 +1,7 @@
 //! The writer: a stream that writes JSON to a sink.
 
+ghost use Rattle.std.specs.Fmt.{signed_decimal};
+ghost use Rattle.sval_label.specs.Grouped.{int_number};
 ghost use Rattle.sval_label.specs.Made.{lent_call};
 ghost use Rattle.sval_core.specs.Law.{Answers};
 ghost use Rattle.sval_json.specs.Actions.{write};
@@ -42,6 +44,7 @@ impl<'k, K: Sink> Writer<'k, K> {
     }
 
     /// Writes a part of a text.
+    #[inline(never)]
     fn write_fragment(&mut self, text: &str) -> Result
         ensures { Does (fragment text.now) result (writer_view K.told self.old) (writer_view K.told self.new) }
     {
@@ -60,6 +63,16 @@ impl<'k, K: Sink> Writer<'k, K> {
     {
         self.empty = false;
         self.write(bytes)
+    }
+
+    /// Writes a whole number.
+    #[inline(never)]
+    fn write_int(&mut self, number: Int) -> Result
+        ensures { Does (value_written (signed_decimal (int_number number))) result (writer_view K.told self.old) (writer_view K.told self.new) }
+    {
+        match number {
+            Int::I64(number) => self.write_value(Buffer::new().format(number).as_bytes()),
+        }
     }
 
     /// Opens what other values may stand in.
@@ -119,9 +132,7 @@ impl<'k, 'sval, K: Sink> Stream<Lent<'sval>> for Writer<'k, K> {
             GroupedCall::Null => self.write_value(b"null"),
             GroupedCall::Bool(true) => self.write_value(b"true"),
             GroupedCall::Bool(false) => self.write_value(b"false"),
-            GroupedCall::Int(Int::I64(number)) => {
-                self.write_value(Buffer::new().format(number).as_bytes())
-            }
+            GroupedCall::Int(number) => self.write_int(number),
             GroupedCall::TextBegin(_) => self.begin_text(),
             GroupedCall::TextFragment(Fragment::Borrowed(text) | Fragment::Computed(text)) => {
                 self.write_fragment(text)

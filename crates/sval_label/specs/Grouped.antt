@@ -1,5 +1,5 @@
 -- What a call in its group says.
-use Rattle.std.specs.Prelude.{ℕ, List, true, false}
+use Rattle.std.specs.Prelude.{ℕ, ℤ, List, true, false}
 use Rattle.std.specs.Borrow.{Bor}
 use Rattle.sval_label.specs.declared.grouped.Int as made_int
 use Rattle.sval_label.specs.declared.grouped.Int.TheVariants as int
@@ -13,6 +13,11 @@ use Rattle.sval_label.specs.declared.grouped.GroupedCall.{GroupedCall}
 use Rattle.sval_label.specs.declared.grouped.GroupedCall.TheVariants as grouped
 use Rattle.sval_label.specs.Calls as calls
 
+-- its number
+abbrev pub int_number : made_int.Int → ℤ
+int_number (int.I64 n) = n
+
+-- the call of a whole number
 abbrev pub int_call : made_int.Int → calls.Call
 int_call (int.I64 n) = calls.Int calls.I64 n
 

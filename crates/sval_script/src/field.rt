@@ -113,6 +113,7 @@ fn decode(texts: &mut Vec<u8>, digits: &[u8]) -> Result<(), LineError>
 }
 
 /// Puts the text that a field spells behind the texts before it, and answers how many bytes it has.
+#[inline(never)]
 pub(crate) fn store_text(texts: &mut Vec<u8>, field: &[u8]) -> Result<usize, LineError>
     ensures stored { IfOk result (λ len. StoresText field.now texts.old.items texts.new.items len) }
     ensures bad { result ≡ Err LineError.Bad → script.text field.now ≡ None }
