@@ -1,9 +1,8 @@
-pub mod OneVerdict
-pub mod ManyVerdicts
-pub mod ManyLefts
-mod ManyRows
+pub mod Verdicts
+pub mod LeftTexts
 pub mod ReadParts
-pub mod Served
-pub mod StatusLemmas
-pub mod Diagnoses
-mod WorkedScripts
+pub mod Writing
+pub mod RelayAnswers
+pub mod RunAnswers
+pub mod Telling
+mod examples

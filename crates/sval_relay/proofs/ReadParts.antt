@@ -1,10 +1,10 @@
 -- An input that is read part by part.
-use Rattle.std.specs.Prelude.{◌≡◌, ℕ, zero, suc, ◌∷◌, ◌+◌, ◌^◌, ◌≤◌, List, [], ◌++◌, take, drop, length, Option, Some, None, IfSome, refl}
+use Rattle.std.specs.Prelude.{◌≡◌, ℕ, zero, suc, ◌∷◌, ◌+◌, ◌^◌, ◌<◌, ◌≤◌, List, [], ◌++◌, take, drop, length, Option, Some, None, IfSome, refl}
 use Rattle.std.proofs.Common.{sym, ap, ◌∙◌, subst, arith, append_assoc}
 use Rattle.std.proofs.lemmas.List.{length-drop, length-take-le, length-append, drop-drop, take-append-le, take_all}
-use Rattle.std.proofs.Math.Seq.{take-add, take-append-add, take-append_seam}
-use Rattle.sval_relay.specs.Sources.{TakesFirst, Gives}
-use Rattle.sval_relay.specs.Reading.{IsLong}
+use Rattle.std.proofs.Math.Seq.{drop-nil, take-add, take-append-add, take-append_seam}
+use Rattle.sval_relay.specs.Sources.{Supply, TakesFirst, Gives}
+use Rattle.sval_relay.specs.Inputs.{TakesAll, TakesOneMore}
 
 -- some first bytes were read, and the others are left
 pub record IsRead (all : List ℕ) (new : Option (List ℕ)) (bytes : List ℕ) : Type 0 where
@@ -16,11 +16,11 @@ abbrev pub IsPartlyRead : Option (List ℕ) → Option (List ℕ) → List ℕ �
 IsPartlyRead old new bytes = IfSome old (λ all. IsRead all new bytes)
 
 -- what one part more leaves
-pub read_on : (old mid new : Option (List ℕ)) (xs b : List ℕ) (n : ℕ) → IsPartlyRead old mid xs → Gives mid new n b → IsPartlyRead old new (xs ++ take n b)
+pub read_on : (old : Option (List ℕ)) (mid new : Supply) (xs b : List ℕ) (n : ℕ) → IsPartlyRead old mid.left xs → Gives n mid b new → IsPartlyRead old new.left (xs ++ take n b)
 read_on None mid new xs b n p g = tt
 read_on (Some all) mid new xs b n p g =
     let k = length xs in
-    let t : TakesFirst (drop (length xs) all) new n b = subst (λ m. Gives m new n b) p.left g in
+    let t : TakesFirst (drop (length xs) all) n b new.left = subst (λ m. IfSome m (λ rest. TakesFirst rest n b new.left)) p.left g.taken in
     let room : k + n ≤ length all = omega (arith, t.there, length-drop k all, p.there) in
     let part : take n b ≡ take n (drop k all) = t.taken in
     let size : length (take n b) ≡ n = ap length part ∙ length-take-le n (drop k all) t.there in
@@ -31,11 +31,25 @@ read_on (Some all) mid new xs b n p g =
       left = t.left ∙ ap (λ x. Some x) (drop-drop n k all ∙ ap (λ m. drop m all) (sym total));
     }
 
+-- where nothing more came, all was read
+pub read_whole : (old : Option (List ℕ)) (mid new : Supply) (xs b : List ℕ) (n : ℕ) → IsPartlyRead old mid.left xs → Gives n mid b new → n ≡ 0 → 0 < length b → IfSome old (λ all. TakesAll all xs new.left)
+read_whole None mid new xs b n p g none some = tt
+read_whole (Some all) mid new xs b n p g none some =
+    let k = length xs in
+    let t : TakesFirst (drop (length xs) all) n b new.left = subst (λ m. IfSome m (λ rest. TakesFirst rest n b new.left)) p.left g.taken in
+    let over : drop (length xs) all ≡ [] = subst (λ m. IfSome m (λ rest. rest ≡ [])) p.left (g.end none some) in
+    let size : length (drop k all) ≡ 0 = ap length over in
+    let reached : length all ≤ k = omega (arith, length-drop k all, size) in
+    record {
+      all = p.taken ∙ take_all k all reached;
+      left = t.left ∙ ap Some (ap (drop n) over ∙ drop-nil n);
+    }
+
 -- a byte more than the limit was taken
-pub read_long : (old mid new : Option (List ℕ)) (xs b : List ℕ) (n : ℕ) → IsPartlyRead old mid xs → length xs ≡ 2 ^ 24 → Gives mid new n b → n ≡ 1 → IsLong old new
+pub read_long : (old : Option (List ℕ)) (mid new : Supply) (xs b : List ℕ) (n : ℕ) → IsPartlyRead old mid.left xs → length xs ≡ 2 ^ 24 → Gives n mid b new → n ≡ 1 → IfSome old (λ all. TakesOneMore all new.left)
 read_long None mid new xs b n p e g one = tt
 read_long (Some all) mid new xs b n p e g one =
-    let t : TakesFirst (drop (length xs) all) new n b = subst (λ m. Gives m new n b) p.left g in
+    let t : TakesFirst (drop (length xs) all) n b new.left = subst (λ m. IfSome m (λ rest. TakesFirst rest n b new.left)) p.left g.taken in
     let room : length xs + n ≤ length all = omega (arith, t.there, length-drop (length xs) all, p.there) in
     let place : length xs + n ≡ 2 ^ 24 + 1 = omega arith in
     record {

@@ -1,17 +1,58 @@
 -- The laws of verdicts, as facts.
-use Rattle.std.specs.Prelude.{◌≡◌, ℕ, List}
-use Rattle.sval_relay.specs.declared.relay.Way.{Way}
-use Rattle.sval_relay.specs.declared.relay.Way.TheVariants.{Direct, Buffered, DirectBeside, BufferedBeside}
-use Rattle.sval_relay.specs.Verdict.{Verdict, verdict}
+use Rattle.std.specs.Prelude.{◌≡◌, ℕ, Bool, List, [], ◌∷◌}
+use Rattle.sval_label.specs.Calls.{Call}
+use Rattle.sval_core.specs.Trees.{Tree}
+use Rattle.sval_core.specs.Spells.{Spells}
+use Rattle.sval_core.specs.Many.{AreEnds}
+use Rattle.sval_json.specs.declared.style.Variants.{Variants}
+use Rattle.sval_json.specs.Steps.{written_in}
+use Rattle.sval_script.specs.Canon.{canon_all}
+use Rattle.sval_relay.specs.declared.way.Way.{Way}
+use Rattle.sval_relay.specs.declared.way.Way.TheVariants.{Direct, Buffered, DirectBeside, BufferedBeside}
+use Rattle.sval_relay.specs.Verdict.{Verdict, Text, BadLine, BadCall, Unfinished, Asked, JsonIn, Script, asked_in, trees_verdict, IsVerdictOn}
+use Rattle.sval_relay.specs.Leavings.{left, written_slices, IsLeft}
 
--- each script has one verdict in each way, and no second one
+-- whatever is asked for, each script has one verdict, and no second one
 abbrev pub OneVerdict : Type 0
-OneVerdict = (script : List ℕ) (way : Way) → (answer : Verdict) × verdict script way answer × ((other : Verdict) → verdict script way other → answer ≡ other)
+OneVerdict =
+    (script : List ℕ) (asked : Asked) (many : Bool)
+    → (answer : Verdict) × IsVerdictOn answer script asked many × ((other : Verdict) → IsVerdictOn other script asked many → answer ≡ other)
 
--- the two ways have the same verdict on every script
+-- two ways have the same verdict on every script, where one value and where many values may come
 abbrev pub Agree : Way → Way → Type 0
-Agree direct buffered = (script : List ℕ) (answer other : Verdict) → verdict script direct answer → verdict script buffered other → answer ≡ other
+Agree way other =
+    (script : List ℕ) (many : Bool) (first second : Verdict)
+    → IsVerdictOn first script (asked_in way) many → IsVerdictOn second script (asked_in other) many → first ≡ second
 
--- the two ways of JSON have the same verdict, in each style of variants
+-- the two ways of JSON do, in each style of variants
 abbrev pub BothJsonWaysAgree : Type 0
 BothJsonWaysAgree = Agree Direct Buffered × Agree DirectBeside BufferedBeside
+
+-- a script leaves one text
+abbrev pub OneTextLeft : Type 0
+OneTextLeft =
+    (script : List ℕ) (asked : Asked) (many : Bool)
+    → (bytes : List ℕ) × IsLeft asked many script bytes × ((other : List ℕ) → IsLeft asked many script other → bytes ≡ other)
+
+-- it is the verdict's text, where the verdict is one, and nothing where the script spells no whole values
+abbrev pub LeftByVerdict : Type 0
+LeftByVerdict =
+    (script bytes : List ℕ) (asked : Asked) (many : Bool) → IsLeft asked many script bytes
+    → ((text : List ℕ) → IsVerdictOn (Text text) script asked many → bytes ≡ text)
+    × ((n : ℕ) → IsVerdictOn (BadLine n) script asked many → bytes ≡ [])
+    × ((n : ℕ) → IsVerdictOn (BadCall n) script asked many → bytes ≡ [])
+    × (IsVerdictOn Unfinished script asked many → bytes ≡ [])
+
+-- what a tree leaves is what the writer's steps write for any calls that spell it
+abbrev pub LeftIsWritten : Type 0
+LeftIsWritten =
+    (style : Variants) (calls : List Call) (tree : Tree) → Spells calls tree → left (JsonIn style) [] (tree ∷ []) ≡ (written_in style calls).written
+
+-- where the calls between the ends of trees go to the writer, one tree's after the other, what is written is what the trees leave
+abbrev pub SlicesLeaveTrees : Type 0
+SlicesLeaveTrees =
+    (style : Variants) (calls : List Call) (trees : List Tree) (ends end : List ℕ) → AreEnds calls trees ends → written_slices style end 0 ends calls ≡ left (JsonIn style) end trees
+
+-- where scripts are asked for, the text is that of the trees' canonical scripts, one after another
+abbrev pub ScriptsAreCanonical : Type 0
+ScriptsAreCanonical = (many : Bool) (trees : List Tree) → trees_verdict Script many trees ≡ Text (canon_all trees)

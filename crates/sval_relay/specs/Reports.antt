@@ -1,22 +1,25 @@
 -- What the third device is told.
-use Rattle.std.specs.Prelude.{◌≡◌, ℕ, ◌==◌, List, [], ◌∷◌, ◌++◌, Option, codes, decimal, if◌then◌else◌}
-use Rattle.sval_json.specs.Sinks.{appended, AppendsPrefix}
-use Rattle.sval_relay.specs.declared.relay.Way.{Way}
+use Rattle.std.specs.Prelude.{◌≡◌, ℕ, ◌==◌, List, [], ◌∷◌, ◌++◌, String, Result, Ok, Err, codes, decimal, if◌then◌else◌}
+use Rattle.sval_json.specs.Sinks.{Told, IsQuiet, NoCountFell, Appends, AppendsFront}
+use Rattle.sval_relay.specs.declared.status.TheConstants.{USAGE, BAD_LINE, BAD_CALL, UNFINISHED, WRITE, READ, NO_MEMORY, TOO_LONG}
+use Rattle.sval_relay.specs.declared.relaying.RelayError.TheVariants as answer
 use Rattle.sval_relay.specs.declared.failure.Failure.{Failure}
 use Rattle.sval_relay.specs.declared.failure.Failure.TheVariants as failure
-use Rattle.sval_relay.specs.Verdict.{BadLine, BadCall, verdict}
-use Rattle.sval_relay.specs.Running.{OnScript}
+use Rattle.sval_relay.specs.Sources.{Supply}
+use Rattle.sval_relay.specs.Ways.{OnAsked}
+use Rattle.sval_relay.specs.Verdict.{BadLine, BadCall, IsVerdict}
+use Rattle.sval_relay.specs.Statuses.{status_of_failure}
 
 -- the line for each status; those for 3 and 4 name a line of the script by its number
 abbrev pub reports : ℕ → List (ℕ × List ℕ)
-reports number = (2, codes "usage: sval_relay direct [beside]|buffered [beside]|calls|made N\n")
-    ∷ (3, codes "line " ++ decimal number ++ codes ": not a call\n")
-    ∷ (4, codes "line " ++ decimal number ++ codes ": no value goes on with this call\n")
-    ∷ (5, codes "the calls are not one whole value\n")
-    ∷ (8, codes "write fault\n")
-    ∷ (9, codes "read fault\n")
-    ∷ (10, codes "out of memory\n")
-    ∷ (11, codes "the input is longer than 16777216 bytes\n")
+reports number = (USAGE, codes "usage: sval_relay direct [beside]|buffered [beside]|calls|made N\n")
+    ∷ (BAD_LINE, codes "line " ++ decimal number ++ codes ": not a call\n")
+    ∷ (BAD_CALL, codes "line " ++ decimal number ++ codes ": no value goes on with this call\n")
+    ∷ (UNFINISHED, codes "the calls are not one whole value\n")
+    ∷ (WRITE, codes "write fault\n")
+    ∷ (READ, codes "read fault\n")
+    ∷ (NO_MEMORY, codes "out of memory\n")
+    ∷ (TOO_LONG, codes "the input is longer than 16777216 bytes\n")
     ∷ []
 
 abbrev pub report_among : ℕ → List (ℕ × List ℕ) → List ℕ
@@ -27,22 +30,29 @@ report_among status (row ∷ rows) = if row.0 == status then row.1 else report_a
 abbrev pub report : ℕ → ℕ → List ℕ
 report status number = report_among status (reports number)
 
--- the line of a failure
-abbrev pub report_of : Failure → List ℕ
-report_of failure.Usage = report 2 0
-report_of (failure.BadLine n) = report 3 n
-report_of (failure.BadCall n) = report 4 n
-report_of failure.Unfinished = report 5 0
-report_of failure.Write = report 8 0
-report_of failure.Read = report 9 0
-report_of failure.NoMemory = report 10 0
-report_of failure.TooLong = report 11 0
+-- the line of the script that a failure names, if it names one
+abbrev pub line_named : Failure → ℕ
+line_named (failure.Relay (answer.BadLine n)) = n
+line_named (failure.Relay (answer.BadCall n)) = n
+line_named _ = 0
 
--- the status's line was told, which for statuses 3 and 4 names the line that the verdict names: whole where the third device was
--- quiet, and else a prefix of it
-pub record Reports (way : Option Way) (input : Option (List ℕ)) (status : ℕ) (quiet : Type 0) (old new : Option (List ℕ)) : Type 0 where
+-- the line that is told: a failure's, and none where there is no failure
+abbrev pub report_of : Failure → List ℕ
+report_of why = report (status_of_failure why) (line_named why)
+
+abbrev pub line_of_result : Result (Unit {0}) Failure → List ℕ
+line_of_result (Ok done) = []
+line_of_result (Err why) = report_of why
+
+-- a first part of the line was taken, and all of it where no count rose
+pub record TellsLine (old : Told) (line : List ℕ) (new : Told) : Type 0 where
+  pub front : AppendsFront old line new
+  pub whole : IsQuiet old new → Appends old line new
+  pub counts : NoCountFell old new
+
+-- the status's line was told, which for the statuses 3 and 4 names the line that the verdict names
+pub record Reports {A : Type 0} (words : List (String A)) (input : Supply) (status : ℕ) (old new : Told) : Type 0 where
   pub line : ℕ
-  pub bad_line : status ≡ 3 → OnScript way input (λ w s. verdict s w (BadLine line))
-  pub bad_call : status ≡ 4 → OnScript way input (λ w s. verdict s w (BadCall line))
-  pub prefix : AppendsPrefix old new (report status line)
-  pub whole : quiet → new ≡ appended old (report status line)
+  pub bad_line : status ≡ BAD_LINE → OnAsked words input (IsVerdict (BadLine line))
+  pub bad_call : status ≡ BAD_CALL → OnAsked words input (IsVerdict (BadCall line))
+  pub tells : TellsLine old (report status line) new

@@ -1,15 +1,17 @@
--- What a script has to give, in each way of reading it.
-use Rattle.std.specs.Prelude.{◌≡◌, ℕ, ◌+◌, List, [], ◌∷◌, ◌++◌, length, Result, Ok, Err}
+-- What a script has to give.
+use Rattle.std.specs.Prelude.{◌≡◌, ℕ, ◌+◌, Bool, true, false, List, [], ◌∷◌, ◌++◌, length, Result, Ok, Err}
 use Rattle.sval_label.specs.Calls.{Call}
 use Rattle.sval_core.specs.Trees.{Tree}
 use Rattle.sval_core.specs.Spells.{Spells, IsViable}
-use Rattle.sval_json.specs.Json.{Json, compact}
+use Rattle.sval_core.specs.Many.{SpellsAll, IsViableAll}
+use Rattle.sval_json.specs.Json.{compact}
 use Rattle.sval_json.specs.Number.{Refusal, InvalidKey, InvalidNumber}
-use Rattle.sval_json.specs.declared.style.Variants.TheVariants.{Inside, Beside}
-use Rattle.sval_json.specs.Shape.{json_in}
+use Rattle.sval_json.specs.declared.style.Variants.{Variants}
+use Rattle.sval_json.specs.Shape.{json_in, on_ok, map_ok}
 use Rattle.sval_script.specs.Lines.{Lines, Good, Bad, lines}
-use Rattle.sval_relay.specs.declared.relay.Way.{Way}
-use Rattle.sval_relay.specs.declared.relay.Way.TheVariants.{Direct, Buffered, DirectBeside, BufferedBeside}
+use Rattle.sval_script.specs.Canon.{canon}
+use Rattle.sval_relay.specs.declared.way.Way.{Way}
+use Rattle.sval_relay.specs.Ways.{style_of}
 
 -- the first bad line, or the first call that no value goes on with, each counted from 1; calls that are no whole value; a map's key
 -- that is no text; a number that is none; or the text
@@ -21,29 +23,80 @@ pub data Verdict : Type 0 where
   Number : Verdict
   Text : List ℕ → Verdict
 
-abbrev pub json_verdict : Result Json Refusal → Verdict
-json_verdict (Ok json) = Text (compact json)
-json_verdict (Err InvalidKey) = Key
-json_verdict (Err InvalidNumber) = Number
+-- what is asked for of each tree: its JSON in a style of variants, or its canonical script
+pub data Asked : Type 0 where
+  JsonIn : Variants → Asked
+  Script : Asked
 
--- what a whole tree gives: its JSON in the way's style of variants
-abbrev pub tree_verdict : Way → Tree → Verdict
-tree_verdict Direct tree = json_verdict (json_in Inside tree)
-tree_verdict Buffered tree = json_verdict (json_in Inside tree)
-tree_verdict DirectBeside tree = json_verdict (json_in Beside tree)
-tree_verdict BufferedBeside tree = json_verdict (json_in Beside tree)
+-- ---- what trees give
 
--- what a list of calls gives
-pub data IsOfCalls : List Call → Way → Verdict → Type 0 where
-  bad_call : {calls : List Call} {way : Way} (front : List Call) (call : Call) (rest : List Call) → calls ≡ front ++ (call ∷ rest)
-      → IsViable front → (IsViable (front ++ (call ∷ [])) → ⊥) → IsOfCalls calls way (BadCall (length front + 1))
-  unfinished : {calls : List Call} {way : Way} → IsViable calls → ((tree : Tree) → Spells calls tree → ⊥) → IsOfCalls calls way Unfinished
-  whole : {calls : List Call} {way : Way} (tree : Tree) → Spells calls tree → IsOfCalls calls way (tree_verdict way tree)
+abbrev pub tree_text : Asked → Tree → Result (List ℕ) Refusal
+tree_text (JsonIn style) tree = map_ok compact (json_in style tree)
+tree_text Script tree = Ok (canon tree)
 
-abbrev pub IsOfLines : Lines → Way → Verdict → Type 0
-IsOfLines (Bad n) way answer = answer ≡ BadLine n
-IsOfLines (Good calls) way answer = IsOfCalls calls way answer
+-- what ends each tree's text: a line feed where many values may come, and nothing after a script
+abbrev pub ending : Asked → Bool → List ℕ
+ending (JsonIn style) true = 10 ∷ []
+ending (JsonIn style) false = []
+ending Script many = []
 
--- the script's verdict in this way is this answer
-abbrev pub verdict : List ℕ → Way → Verdict → Type 0
-verdict script way answer = IsOfLines (lines script) way answer
+-- the trees' texts, each with its ending, or the refusal of the first tree that is refused
+abbrev pub texts : Asked → List ℕ → List Tree → Result (List ℕ) Refusal
+texts asked end [] = Ok []
+texts asked end (tree ∷ trees) = on_ok (tree_text asked tree) (λ text. map_ok (λ more. text ++ (end ++ more)) (texts asked end trees))
+
+abbrev pub text_verdict : Result (List ℕ) Refusal → Verdict
+text_verdict (Ok text) = Text text
+text_verdict (Err InvalidKey) = Key
+text_verdict (Err InvalidNumber) = Number
+
+abbrev pub trees_verdict : Asked → Bool → List Tree → Verdict
+trees_verdict asked many trees = text_verdict (texts asked (ending asked many) trees)
+
+-- ---- what a script gives, where it has to spell one value, and where it may spell many
+
+-- some further calls complete these: to one value, or to a list of values
+abbrev pub CanGoOn : Bool → List Call → Type 0
+CanGoOn false calls = IsViable calls
+CanGoOn true calls = IsViableAll calls
+
+-- the calls spell these trees: one, or a list
+abbrev pub SpellTrees : Bool → List Call → List Tree → Type 0
+SpellTrees false calls trees = (tree : Tree) × (trees ≡ tree ∷ []) × Spells calls tree
+SpellTrees true calls trees = SpellsAll calls trees
+
+-- the first call that no value, or no list of values, goes on with, counted from 1; calls that are not whole; or what the trees give
+pub data IsOfCalls : List Call → Asked → Bool → Verdict → Type 0 where
+  bad_call : {calls : List Call} {asked : Asked} {many : Bool} (front : List Call) (call : Call) (rest : List Call) → calls ≡ front ++ (call ∷ rest)
+      → CanGoOn many front → (CanGoOn many (front ++ (call ∷ [])) → ⊥) → IsOfCalls calls asked many (BadCall (length front + 1))
+  unfinished : {calls : List Call} {asked : Asked} {many : Bool} → CanGoOn many calls → ((trees : List Tree) → SpellTrees many calls trees → ⊥)
+      → IsOfCalls calls asked many Unfinished
+  whole : {calls : List Call} {asked : Asked} {many : Bool} (trees : List Tree) → SpellTrees many calls trees → IsOfCalls calls asked many (trees_verdict asked many trees)
+
+abbrev pub IsOfLines : Lines → Asked → Bool → Verdict → Type 0
+IsOfLines (Bad n) asked many answer = answer ≡ BadLine n
+IsOfLines (Good calls) asked many answer = IsOfCalls calls asked many answer
+
+-- this answer is the script's verdict, where this is asked for
+abbrev pub IsVerdictOn : Verdict → List ℕ → Asked → Bool → Type 0
+IsVerdictOn answer script asked many = IsOfLines (lines script) asked many answer
+
+-- ---- what a way asks for: the JSON of one value
+
+abbrev pub asked_in : Way → Asked
+asked_in way = JsonIn (style_of way)
+
+-- this answer is the script's verdict in this way
+abbrev pub IsVerdict : Verdict → List ℕ → Way → Type 0
+IsVerdict answer script way = IsVerdictOn answer script (asked_in way) false
+
+-- some line is none, or no value goes on with the call of some line
+abbrev pub HasBadLine : List ℕ → Way → Type 0
+HasBadLine script way = (line : ℕ) × IsVerdict (BadLine line) script way
+
+abbrev pub HasBadCall : List ℕ → Way → Type 0
+HasBadCall script way = (line : ℕ) × IsVerdict (BadCall line) script way
+
+-- a fact on the script's verdict
+abbrev pub OnVerdict : (Verdict → Type 0) → List ℕ → Way → Type 0
+OnVerdict P script way = (answer : Verdict) → IsVerdict answer script way → P answer

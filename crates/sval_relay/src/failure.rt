@@ -1,108 +1,90 @@
 //! Why the program failed.
 
-ghost use Rattle.std.specs.Prelude.{◌≡◌, ◌++◌, OnOk, OnErr, codes, decimal};
-ghost use Rattle.sval_core.specs.Law.{Rose};
-ghost use Rattle.sval_json.specs.Sinks.{appended, AppendsPrefix};
-ghost use Rattle.sval_relay.specs.Answers.{of_script};
-ghost use Rattle.sval_relay.specs.Failing.{status_of_failure, of_reading, of_relaying, of_sink};
-ghost use Rattle.sval_relay.specs.Reports.{report_of};
+ghost use Rattle.std.specs.Prelude.{◌≡◌, ◌++◌, Err, codes, decimal};
+ghost use Rattle.sval_json.specs.Sinks.{WritesAll};
+ghost use Rattle.sval_relay.specs.Relays.{of_script, of_sink};
+ghost use Rattle.sval_relay.specs.Reports.{TellsLine, report_of, line_of_result};
+ghost use Rattle.sval_relay.specs.Statuses.{status_of, status_of_failure};
 
 use crate::reading::ReadError;
-use crate::relay::RelayError;
+use crate::relaying::RelayError;
+use crate::status;
 use itoa::Buffer;
 use sval_json::{Sink, SinkError, write_all};
 use sval_script::ScriptError;
 
-/// Why the program failed: each has a status and a line of its own.
+/// Why the program failed: each failure has a status and a line.
 #[derive(Clone, Copy, Debug, PartialEq, Eq)]
 pub(crate) enum Failure {
     /// The words are no form.
     Usage,
-    /// This line is no call.
-    BadLine { line: u64 },
-    /// No value goes on with the call of this line.
-    BadCall { line: u64 },
-    /// The calls are not one whole value.
-    Unfinished,
-    /// The output failed.
-    Write,
-    /// The input failed.
-    Read,
-    /// Memory was wanting.
-    NoMemory,
-    /// The input is longer than is kept.
-    TooLong,
+    /// The input wasn't read.
+    Input(ReadError),
+    /// The script that it is wasn't served.
+    Relay(RelayError),
 }
 
 impl From<ReadError> for Failure {
-    ghost from_gives = { λ error failure. failure ≡ of_reading error };
+    ghost use Rattle.sval_relay.specs.declared.failure.Failure.TheVariants.{Input};
+
+    ghost from_gives = { λ error failure. failure ≡ Input error };
 
     fn from(error: ReadError) -> Failure {
-        match error {
-            ReadError::Fault => Failure::Read,
-            ReadError::TooLong => Failure::TooLong,
-            ReadError::NoMemory => Failure::NoMemory,
-        }
-    }
-}
-
-impl From<ScriptError> for Failure {
-    ghost from_gives = { λ error failure. failure ≡ of_relaying (of_script error) };
-
-    fn from(error: ScriptError) -> Failure {
-        Failure::from(RelayError::from(error))
+        Failure::Input(error)
     }
 }
 
 impl From<RelayError> for Failure {
-    ghost from_gives = { λ error failure. failure ≡ of_relaying error };
+    ghost use Rattle.sval_relay.specs.declared.failure.Failure.TheVariants.{Relay};
+
+    ghost from_gives = { λ error failure. failure ≡ Relay error };
 
     fn from(error: RelayError) -> Failure {
-        match error {
-            RelayError::BadLine { line } => Failure::BadLine { line },
-            RelayError::BadCall { line } => Failure::BadCall { line },
-            RelayError::Unfinished => Failure::Unfinished,
-            RelayError::Write => Failure::Write,
-            RelayError::NoMemory => Failure::NoMemory,
-        }
+        Failure::Relay(error)
+    }
+}
+
+impl From<ScriptError> for Failure {
+    ghost use Rattle.sval_relay.specs.declared.failure.Failure.TheVariants.{Relay};
+
+    ghost from_gives = { λ error failure. failure ≡ Relay (of_script error) };
+
+    fn from(error: ScriptError) -> Failure {
+        Failure::Relay(error.into())
     }
 }
 
 impl From<SinkError> for Failure {
-    ghost from_gives = { λ error failure. failure ≡ of_sink error };
+    ghost use Rattle.sval_relay.specs.declared.failure.Failure.TheVariants.{Relay};
+
+    ghost from_gives = { λ error failure. failure ≡ Relay (of_sink error) };
 
     fn from(error: SinkError) -> Failure {
-        match error {
-            SinkError::Failed => Failure::Write,
-            SinkError::NoMemory => Failure::NoMemory,
-        }
+        Failure::Relay(error.into())
     }
 }
 
 impl Failure {
     /// The program's status.
-    pub(crate) fn status(&self) -> u8
+    fn status(&self) -> u8
         ensures { result ≡ status_of_failure self.now }
     {
         match self {
-            Failure::Usage => 2,
-            Failure::BadLine { .. } => 3,
-            Failure::BadCall { .. } => 4,
-            Failure::Unfinished => 5,
-            Failure::Write => 8,
-            Failure::Read => 9,
-            Failure::NoMemory => 10,
-            Failure::TooLong => 11,
+            Failure::Usage => status::USAGE,
+            Failure::Input(ReadError::Fault) => status::READ,
+            Failure::Input(ReadError::TooLong) => status::TOO_LONG,
+            Failure::Input(ReadError::NoMemory) => status::NO_MEMORY,
+            Failure::Relay(RelayError::BadLine { .. }) => status::BAD_LINE,
+            Failure::Relay(RelayError::BadCall { .. }) => status::BAD_CALL,
+            Failure::Relay(RelayError::Unfinished) => status::UNFINISHED,
+            Failure::Relay(RelayError::Write) => status::WRITE,
+            Failure::Relay(RelayError::NoMemory) => status::NO_MEMORY,
         }
     }
 
     /// Writes this failure's line, and passes it on.
-    pub(crate) fn report<D: Sink>(&self, diag: &mut D) -> Result<(), SinkError>
-        ensures whole { OnOk result (D.text diag.new ≡ appended (D.text diag.old) (report_of self.now)) }
-        ensures steady { OnOk result ((D.faults diag.new ≡ D.faults diag.old) × (D.wants diag.new ≡ D.wants diag.old)) }
-        ensures failed { result ≡ Err SinkError.Failed → Rose (D.faults diag.old) (D.faults diag.new) }
-        ensures no_memory { result ≡ Err SinkError.NoMemory → Rose (D.wants diag.old) (D.wants diag.new) }
-        ensures prefix { AppendsPrefix (D.text diag.old) (D.text diag.new) (report_of self.now) }
+    fn report<D: Sink>(&self, diag: &mut D) -> Result<(), SinkError>
+        ensures { TellsLine (D.told diag.old) (report_of self.now) (D.told diag.new) }
     {
         self.write_line(diag)?;
         diag.flush()
@@ -110,41 +92,55 @@ impl Failure {
 
     /// Writes this failure's line.
     fn write_line<D: Sink>(&self, diag: &mut D) -> Result<(), SinkError>
-        ensures whole { OnOk result (D.text diag.new ≡ appended (D.text diag.old) (report_of self.now)) }
-        ensures steady { OnOk result ((D.faults diag.new ≡ D.faults diag.old) × (D.wants diag.new ≡ D.wants diag.old)) }
-        ensures failed { result ≡ Err SinkError.Failed → Rose (D.faults diag.old) (D.faults diag.new) }
-        ensures no_memory { result ≡ Err SinkError.NoMemory → Rose (D.wants diag.old) (D.wants diag.new) }
-        ensures prefix { OnErr result (AppendsPrefix (D.text diag.old) (D.text diag.new) (report_of self.now)) }
+        ensures { WritesAll result (D.told diag.old) (report_of self.now) (D.told diag.new) }
     {
         match self {
-            Failure::Usage => {
-                write_all(
-                    diag,
-                    b"usage: sval_relay direct [beside]|buffered [beside]|calls|made N\n",
-                )
+            Failure::Usage => write_all(
+                diag,
+                b"usage: sval_relay direct [beside]|buffered [beside]|calls|made N\n",
+            ),
+            Failure::Input(ReadError::Fault) => write_all(diag, b"read fault\n"),
+            Failure::Input(ReadError::NoMemory) => write_all(diag, b"out of memory\n"),
+            Failure::Input(ReadError::TooLong) => {
+                write_all(diag, b"the input is longer than 16777216 bytes\n")
             }
-            Failure::BadLine { line } => write_at(diag, *line, b": not a call\n"),
-            Failure::BadCall { line } => {
+            Failure::Relay(RelayError::BadLine { line }) => write_at(
+                diag,
+                *line,
+                b": not a call\n",
+            ),
+            Failure::Relay(RelayError::BadCall { line }) => {
                 write_at(diag, *line, b": no value goes on with this call\n")
             }
-            Failure::Unfinished => write_all(diag, b"the calls are not one whole value\n"),
-            Failure::Write => write_all(diag, b"write fault\n"),
-            Failure::Read => write_all(diag, b"read fault\n"),
-            Failure::NoMemory => write_all(diag, b"out of memory\n"),
-            Failure::TooLong => write_all(diag, b"the input is longer than 16777216 bytes\n"),
+            Failure::Relay(RelayError::Unfinished) => {
+                write_all(diag, b"the calls are not one whole value\n")
+            }
+            Failure::Relay(RelayError::Write) => write_all(diag, b"write fault\n"),
+            Failure::Relay(RelayError::NoMemory) => write_all(diag, b"out of memory\n"),
         }
     }
 }
 
 /// Writes what is wrong at a line.
 fn write_at<D: Sink>(diag: &mut D, line: u64, what: &[u8]) -> Result<(), SinkError>
-    ensures whole { OnOk result (D.text diag.new ≡ appended (D.text diag.old) (codes "line " ++ decimal line ++ what.now)) }
-    ensures steady { OnOk result ((D.faults diag.new ≡ D.faults diag.old) × (D.wants diag.new ≡ D.wants diag.old)) }
-    ensures failed { result ≡ Err SinkError.Failed → Rose (D.faults diag.old) (D.faults diag.new) }
-    ensures no_memory { result ≡ Err SinkError.NoMemory → Rose (D.wants diag.old) (D.wants diag.new) }
-    ensures prefix { OnErr result (AppendsPrefix (D.text diag.old) (D.text diag.new) (codes "line " ++ decimal line ++ what.now)) }
+    ensures { WritesAll result (D.told diag.old) (codes "line " ++ decimal line ++ what.now) (D.told diag.new) }
 {
     write_all(diag, b"line ")?;
     write_all(diag, Buffer::new().format(line).as_bytes())?;
     write_all(diag, what)
+}
+
+/// Tells the third device how the program ended, and answers the status.
+pub(crate) fn conclude<D: Sink>(ended: Result<(), Failure>, diag: &mut D) -> u8
+    ensures status { result ≡ status_of ended }
+    ensures tells { TellsLine (D.told diag.old) (line_of_result ended) (D.told diag.new) }
+{
+    match ended {
+        Ok(()) => status::DONE,
+        Err(failure) => {
+            // Nothing is left to tell where even this fails.
+            let _ = failure.report(diag);
+            failure.status()
+        }
+    }
 }

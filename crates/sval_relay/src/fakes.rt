@@ -1,6 +1,7 @@
 //! Devices for tests, which give and take little at a time, and fail where they are told to.
 
-ghost use Rattle.std.specs.Prelude.{◌≡◌, ◌+◌, ◌-◌, ◌^◌, ◌++◌, [], None, Some, min};
+ghost use Rattle.std.specs.Prelude.{◌≡◌, ◌≤◌, ◌++◌, None, Some, length};
+ghost use Rattle.sval_core.specs.Law.{one_more};
 
 use crate::source::{Source, SourceError};
 use std::alloc::Global;
@@ -31,9 +32,7 @@ impl<'a> FaultySource<'a> {
 }
 
 impl<'a> Source for FaultySource<'a> {
-    ghost left = { λ _. None };
-
-    ghost faults = { λ source. source.faults };
+    ghost told = { λ source. record { left = None; faults = source.faults } };
 
     fn read(&mut self, buffer: &mut [u8]) -> Result<usize, SourceError> {
         self.calls = self.calls.saturating_add(1);
@@ -57,9 +56,7 @@ pub(crate) struct LineFeeds {
 }
 
 impl Source for LineFeeds {
-    ghost left = { λ _. None };
-
-    ghost faults = { λ _. 0 };
+    ghost told = { λ _. record { left = None; faults = 0 } };
 
     fn read(&mut self, buffer: &mut [u8]) -> Result<usize, SourceError> {
         let count = buffer.len().min(self.left);
@@ -96,7 +93,8 @@ impl FaultySink {
 
     fn fault(&mut self) -> SinkError
         ensures failed { result ≡ SinkError.Failed }
-        ensures counted { self.new ≡ record self.old { faults = min (self.old.faults + 1) (2 ^ 64 - 1) } }
+        ensures counted { self.new ≡ record self.old { faults = one_more self.old.faults } }
+        ensures kept { self.old.faults ≤ self.new.faults }
     {
         self.faults = self.faults.saturating_add(1);
         SinkError::Failed
@@ -104,11 +102,13 @@ impl FaultySink {
 }
 
 impl Sink for FaultySink {
-    ghost text = { λ sink. Some sink.taken.items };
-
-    ghost faults = { λ sink. sink.faults };
-
-    ghost wants = { λ sink. sink.wants };
+    ghost told = { λ sink. record {
+      text = Some sink.taken.items;
+      room = None;
+      held = Some 0;
+      faults = sink.faults;
+      wants = sink.wants;
+    } };
 
     fn write(&mut self, piece: &[u8]) -> Result<usize, SinkError> {
         let Some(byte) = piece.first() else {
@@ -155,13 +155,13 @@ impl HoldingSink {
 }
 
 impl Sink for HoldingSink {
-    ghost text = { λ sink. Some (sink.passed.items ++ sink.held.items) };
-
-    ghost faults = { λ _. 0 };
-
-    ghost wants = { λ sink. sink.wants };
-
-    ghost flushed = { λ sink. sink.held.items ≡ [] };
+    ghost told = { λ sink. record {
+      text = Some (sink.passed.items ++ sink.held.items);
+      room = None;
+      held = Some (length sink.held.items);
+      faults = 0;
+      wants = sink.wants;
+    } };
 
     fn write(&mut self, piece: &[u8]) -> Result<usize, SinkError> {
         match self.held.extend_from_slice(piece) {

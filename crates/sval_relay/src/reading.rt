@@ -1,10 +1,9 @@
 //! Reads a source to its end.
 
-ghost use Rattle.std.specs.Prelude.{◌≡◌, ℕ, ◌<◌, ◌≤◌, ◌^◌, [], Some, IfOk, IfSome, OnOk, length};
-ghost use Rattle.sval_core.specs.Law.{Rose};
-ghost use Rattle.sval_relay.specs.Reading.{IsWhole, IsLong};
+ghost use Rattle.std.specs.Prelude.{◌≡◌, ◌≤◌, ◌^◌, IfOk, IfErr};
+ghost use Rattle.sval_relay.specs.Inputs.{ReadsWhole, StopsReading};
 
-use crate::source::Source;
+use crate::source::{Source, SourceError};
 use std::alloc::{AllocError, Global};
 
 /// The greatest number of bytes that are kept of an input.
@@ -34,31 +33,35 @@ impl From<AllocError> for ReadError {
     }
 }
 
+impl From<SourceError> for ReadError {
+    ghost use Rattle.sval_relay.specs.declared.reading.ReadError.TheVariants.{Fault};
+
+    ghost from_gives = { λ _ error. error ≡ Fault };
+
+    fn from(_error: SourceError) -> ReadError {
+        ReadError::Fault
+    }
+}
+
 /// Reads a source to its end, and no further than one byte past the limit.
 pub(crate) fn read_all<I: Source>(alloc: Global, input: &mut I) -> Result<Vec<u8>, ReadError>
-    ensures whole { IfOk result (λ bytes. IsWhole (I.left input.old) (I.left input.new) bytes.items) }
-    ensures short { IfOk result (λ bytes. length bytes.items ≤ 2 ^ 24) }
-    ensures steady { OnOk result (I.faults input.new ≡ I.faults input.old) }
-    ensures fault { result ≡ Err ReadError.Fault → Rose (I.faults input.old) (I.faults input.new) }
-    ensures long { result ≡ Err ReadError.TooLong → IsLong (I.left input.old) (I.left input.new) }
+    ensures ok { IfOk result (λ bytes. ReadsWhole (I.told input.old) bytes.items (I.told input.new)) }
+    ensures err { IfErr result (λ why. StopsReading why (I.told input.old) (I.told input.new)) }
 {
     let mut bytes = Vec::new(alloc);
     while bytes.len() < LIMIT {
         let start = bytes.len();
         let room = CHUNK.min(LIMIT - start);
         bytes.resize(start + room, 0)?;
-        let Ok(count) = input.read(&mut bytes[start..]) else {
-            return Err(ReadError::Fault);
-        };
+        let count = input.read(&mut bytes[start..])?;
         bytes.truncate(start + count);
         if count == 0 {
             return Ok(bytes);
         }
     }
     let mut probe = [0u8; 1];
-    match input.read(&mut probe) {
-        Ok(0) => Ok(bytes),
-        Ok(_) => Err(ReadError::TooLong),
-        Err(_) => Err(ReadError::Fault),
+    match input.read(&mut probe)? {
+        0 => Ok(bytes),
+        _ => Err(ReadError::TooLong),
     }
 }

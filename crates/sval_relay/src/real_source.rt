@@ -1,9 +1,10 @@
 //! The source over std's readers: the trusted edge.
 
-ghost use Rattle.std.specs.Prelude.{◌≡◌, ◌+◌, ◌-◌, ◌^◌, ◌≤◌, None, IfOk, OnOk, OnErr, min, length};
+ghost use Rattle.std.specs.Prelude.{◌≡◌, ◌≤◌, OnErr};
 ghost use Rattle.std.specs.Io.KnownBytes.{ReadConsumes};
-ghost use Rattle.sval_core.specs.Law.{Rose};
-ghost use Rattle.sval_relay.specs.OverReader.{OverReader};
+ghost use Rattle.sval_core.specs.Law.{one_more};
+ghost use Rattle.sval_relay.specs.OverReader.{OverReader, over_reader_told};
+ghost use Rattle.sval_relay.specs.Sources.{ReadsInto};
 
 use crate::source::{Source, SourceError};
 use std::io;
@@ -15,8 +16,8 @@ const RETRIES: u32 = 1000;
 
 /// A source over one of std's readers. It doesn't tell what it has left, and each error of the reader is one fault.
 ///
-/// An interrupted call is made again, at most 1,000 times in a row. Where the reader tells what it has left, a call takes
-/// just the bytes that it answers from the front of that.
+/// An interrupted call is made again, at most 1,000 times in a row. Where the reader tells what it has left, a call
+/// takes just the bytes that it answers from the front of that.
 #[derive(Drop)]
 pub struct RealSource<R> {
     reader: R,
@@ -39,7 +40,8 @@ impl<R> RealSource<R> {
 
     /// Counts a fault.
     fn fault(&mut self) -> SourceError
-        ensures { self.new ≡ record self.old { faults = min (self.old.faults + 1) (2 ^ 64 - 1) } }
+        ensures counted { self.new ≡ record self.old { faults = one_more self.old.faults } }
+        ensures kept { self.old.faults ≤ self.new.faults }
     {
         self.faults = self.faults.saturating_add(1);
         SourceError::Failed
@@ -47,14 +49,11 @@ impl<R> RealSource<R> {
 }
 
 impl<R: Read> Source for RealSource<R> {
-    ghost left = { λ _. None };
-
-    ghost faults = { λ source. source.faults };
+    ghost told = { over_reader_told };
 
     fn read(&mut self, buffer: &mut [u8]) -> Result<usize, SourceError>
-        ensures within { IfOk result (λ count. count ≤ length buffer.old) }
-        ensures steady { OnOk result (self.new.faults ≡ self.old.faults) }
-        ensures failed { OnErr result (Rose self.old.faults self.new.faults) }
+        ensures reads { ReadsInto result (over_reader_told self.old) buffer.new (over_reader_told self.new) }
+        ensures once { OnErr result (self.new.faults ≡ one_more self.old.faults) }
         ensures passed_on { ReadConsumes (R.remaining self.old.reader) (R.remaining self.new.reader) result buffer.new }
     {
         for _ in 0..RETRIES {

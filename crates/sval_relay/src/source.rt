@@ -1,8 +1,7 @@
 //! Where a script is read from.
 
-ghost use Rattle.std.specs.Prelude.{◌≡◌, ℕ, ◌<◌, ◌≤◌, List, Option, Some, IfOk, OnOk, OnErr, length};
-ghost use Rattle.sval_core.specs.Law.{Rose};
-ghost use Rattle.sval_relay.specs.Sources.{Gives, IsSpent};
+ghost use Rattle.std.specs.Prelude.{◌≡◌, ℕ, List, Ok, min, length};
+ghost use Rattle.sval_relay.specs.Sources.{Supply, ReadsInto, in_memory};
 
 use std::marker::Model;
 
@@ -13,28 +12,42 @@ pub enum SourceError {
     Failed,
 }
 
-/// What bytes are read from, part by part. A source counts its faults, and the count never falls.
+/// What bytes are read from, part by part. A source counts its faults, and the count never falls: so an error is one of
+/// this call.
+///
+/// ```
+/// /// The bytes that are left of a source.
+/// fn count_bytes<I: Source>(source: &mut I) -> Result<usize, SourceError> {
+///     let mut buffer = [0; 512];
+///     let mut total = 0;
+///     loop {
+///         match source.read(&mut buffer)? {
+///             0 => return Ok(total),
+///             count => total += count,
+///         }
+///     }
+/// }
+/// ```
 pub trait Source {
-    /// The bytes that it has left, where it tells them.
-    ghost left: { Self → Option (List ℕ) };
-
-    /// How often it failed.
-    ghost faults: { Self → ℕ };
+    /// What it tells of itself: the bytes that it has left, where it tells them, and how often it failed.
+    ghost told: { Self → Supply };
 
     /// Takes some of the bytes that are left into the front of the buffer, and answers how many. None for a buffer that
     /// isn't empty means that nothing is left.
     ///
     /// [`SourceError::Failed`] comes only where the count of faults rose, and leaves what is left.
     fn read(&mut self, buffer: &mut [u8]) -> Result<usize, SourceError>
-        ensures within { IfOk result (λ count. count ≤ length buffer.old) }
-        ensures taken { IfOk result (λ count. Gives (left self.old) (left self.new) count buffer.new) }
-        ensures end { IfOk result (λ count. count ≡ 0 → 0 < length buffer.old → IsSpent (left self.old)) }
-        ensures steady { OnOk result (faults self.new ≡ faults self.old) }
-        ensures failed { OnErr result (Rose (faults self.old) (faults self.new)) }
-        ensures kept { OnErr result (left self.new ≡ left self.old) };
+        ensures { ReadsInto result (told self.old) buffer.new (told self.new) };
 }
 
 /// A source in memory, which never fails.
+///
+/// ```
+/// let mut source = MemSource::new(b"null\n");
+/// let mut buffer = [0; 8];
+/// assert_eq!(rt; source.read(&mut buffer), Ok(5));
+/// assert_eq!(rt; source.read(&mut buffer), Ok(0));
+/// ```
 #[derive(Drop)]
 pub struct MemSource<'a> {
     bytes: &'a [u8],
@@ -56,11 +69,13 @@ impl<'a> MemSource<'a> {
 }
 
 impl<'a> Source for MemSource<'a> {
-    ghost left = { λ source. Some source };
+    ghost told = { in_memory };
 
-    ghost faults = { λ _. 0 };
-
-    fn read(&mut self, buffer: &mut [u8]) -> Result<usize, SourceError> {
+    /// Gives all that fits.
+    fn read(&mut self, buffer: &mut [u8]) -> Result<usize, SourceError>
+        ensures reads { ReadsInto result (in_memory self.old) buffer.new (in_memory self.new) }
+        ensures all { result ≡ Ok (min (length buffer.old) (length self.old)) }
+    {
         let count = buffer.len().min(self.bytes.len());
         let (given, left) = self.bytes.split_at(count);
         buffer[..count].copy_from_slice(given);

@@ -51,6 +51,24 @@ fn errors_of_readers(rt: HostRuntime) {
     }
 }
 
+/// How many calls of the reader a read that fails makes: one, or 1,000 where it is interrupted.
+#[test]
+fn calls_of_readers(rt: HostRuntime) {
+    let table = [
+        (io::ErrorKind::Interrupted, 1000),
+        (io::ErrorKind::PermissionDenied, 1),
+        (io::ErrorKind::WouldBlock, 1),
+        (io::ErrorKind::TimedOut, 1),
+    ];
+    for (error, calls) in table {
+        let mut reader = Failing { error, times: 5000 };
+        let mut source = RealSource::new(&mut reader);
+        assert_eq!(rt; source.read(&mut [0; 4]), Err(SourceError::Failed));
+        drop(source);
+        assert_eq!(rt; reader.times, 5000 - calls, "at {error:?}");
+    }
+}
+
 /// What is read after a fault is what is left.
 #[test]
 fn reads_after_a_fault(rt: HostRuntime) {

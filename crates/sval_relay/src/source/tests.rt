@@ -1,6 +1,7 @@
 //! Reading memory.
 
 use super::{MemSource, Source};
+use std::test::Fail;
 
 #[test]
 fn reads_part_by_part(rt: HostRuntime) {
@@ -13,4 +14,16 @@ fn reads_part_by_part(rt: HostRuntime) {
     assert_eq!(rt; buffer, *b"dec");
     assert_eq!(rt; source.read(&mut buffer), Ok(0));
     assert_eq!(rt; source.read(&mut buffer), Ok(0));
+}
+
+/// All that fits is given at once.
+#[test]
+fn reads_long_parts(rt: HostRuntime) -> Result<(), Fail> {
+    let alloc = rt.alloc();
+    let bytes = vec![in alloc; 7; 100_000]?;
+    let mut buffer = vec![in alloc; 0; 100_001]?;
+    let mut source = MemSource::new(&bytes);
+    assert_eq!(rt; source.read(&mut buffer), Ok(100_000));
+    assert_eq!(rt; source.read(&mut buffer), Ok(0));
+    Ok(())
 }

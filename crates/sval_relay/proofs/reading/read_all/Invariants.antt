@@ -4,9 +4,9 @@ use Rattle.sval_relay.proofs.reading.read_all.Given as goal
 
 abbrev pub invariant-loop-bytes : goal.invariant-loop-bytes
 invariant-loop-bytes g l = record {
-  read : IsPartlyRead (g.I.Source.left l.initial.input) (g.I.Source.left l.input) l.bytes.items;
+  read : IsPartlyRead (g.I.Source.told l.initial.input).left (g.I.Source.told l.input).left l.bytes.items;
   short : vec_len l.bytes ≤ 2 ^ 24;
-  faults : g.I.Source.faults l.input ≡ g.I.Source.faults l.initial.input;
+  faults : (g.I.Source.told l.input).faults ≡ (g.I.Source.told l.initial.input).faults;
 }
 
 abbrev pub decreases-loop-bytes : goal.decreases-loop-bytes

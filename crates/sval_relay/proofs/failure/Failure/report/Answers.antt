@@ -1,7 +1,5 @@
-use Rattle.std.proofs.Common.{◌∙◌}
-use Rattle.sval_relay.specs.Reports.{report_of}
-use Rattle.sval_relay.proofs.Served.{whole_text}
+use Rattle.sval_relay.proofs.Telling.{tells_whole}
 use Rattle.sval_relay.proofs.failure.Failure.report.Goals as goal
 
-pub returns-clause-prefix : goal.returns-clause-prefix
-returns-clause-prefix g c = whole_text (report_of c.args.self.now) (c.flush.ensures.kept ∙ c.in_ok-write_line.ensures.whole)
+pub returns : goal.returns
+returns g c = tells_whole c.flush.result c.in_ok-write_line.ensures c.flush.ensures

@@ -1,0 +1,40 @@
+-- What the third device is told: a line in its pieces, and the line of how the program ended.
+use Rattle.std.specs.Prelude.{◌≡◌, ℕ, List, [], ◌++◌, Result, Ok, Err, refl}
+use Rattle.std.proofs.Common.{sym, ap, subst, ◌∙◌, append-nil, append_assoc}
+use Rattle.sval_json.specs.declared.sink.SinkError.{SinkError}
+use Rattle.sval_json.specs.declared.sink.SinkError.TheVariants.{Failed, NoMemory}
+use Rattle.sval_json.specs.Sinks.{Told, WritesWhole, WritesFront, WritesAll, Flushes}
+use Rattle.sval_json.proofs.Appending.{appends_nothing, all_is_front, steady_counts, counts_since, writes_nothing, writes_both, stops_after}
+use Rattle.sval_relay.specs.Reports.{TellsLine}
+use Rattle.sval_relay.proofs.Writing.{counts_stay, front_of_nothing, appends_kept}
+
+-- ---- a line that names a line of the script is written in three pieces
+
+pub stops_in_word : {old new : Told} {why : SinkError} (word digits what : List ℕ) → WritesFront why old word new → WritesFront why old (word ++ (digits ++ what)) new
+stops_in_word {old} word digits what f = stops_after [] word (digits ++ what) (writes_nothing old) refl f
+
+pub stops_in_number : {old mid new : Told} {why : SinkError} (word digits piece what : List ℕ) → piece ≡ digits → WritesWhole old word mid → WritesFront why mid piece new → WritesFront why old (word ++ (digits ++ what)) new
+stops_in_number {mid = mid} {new = new} {why = why} word digits piece what e w f = stops_after word digits what w refl (subst (λ bytes. WritesFront why mid bytes new) e f)
+
+-- ---- the whole line, passed on or not, or a first part of it
+
+pub tells_nothing : (told : Told) → TellsLine told [] told
+tells_nothing told = record { front = front_of_nothing told []; whole = λ quiet. appends_nothing told; counts = counts_stay told }
+
+pub tells_whole : {old mid new : Told} {line : List ℕ} (flushed : Result (Unit {0}) SinkError) → WritesWhole old line mid → Flushes flushed mid new → TellsLine old line new
+tells_whole {line = line} (Ok done) w f =
+    let all = appends_kept w.appends f.text f.room in
+    record { front = all_is_front line all; whole = λ quiet. all; counts = counts_since w.steady (steady_counts f.steady) }
+tells_whole {line = line} (Err why) w f =
+    let all = appends_kept w.appends f.text f.room in
+    record { front = all_is_front line all; whole = λ quiet. all; counts = counts_since w.steady f.counts }
+
+pub tells_front : {old new : Told} {line : List ℕ} (why : SinkError) → WritesFront why old line new → TellsLine old line new
+tells_front Failed f = record { front = f.front; whole = λ quiet. absurd (quiet.faults f.cause); counts = f.counts }
+tells_front NoMemory f = record { front = f.front; whole = λ quiet. absurd (quiet.wants f.cause); counts = f.counts }
+
+pub ends_line : {old mid last : Told} (new : Told) (r : Result (Unit {0}) SinkError) (word digits piece what : List ℕ) → piece ≡ digits → WritesWhole old word mid → WritesWhole mid piece last → WritesAll r last what new
+    → WritesAll r old (word ++ (digits ++ what)) new
+ends_line {mid = mid} {last = last} new (Ok done) word digits piece what e w d f = writes_both word (digits ++ what) w (writes_both digits what (subst (λ bytes. WritesWhole mid bytes last) e d) f)
+ends_line {mid = mid} {last = last} new (Err why) word digits piece what e w d f =
+    stops_after (word ++ digits) what [] (writes_both word digits w (subst (λ bytes. WritesWhole mid bytes last) e d)) (sym (append_assoc word digits what) ∙ ap (λ rest. word ++ digits ++ rest) (sym (append-nil what))) f

@@ -1,0 +1,2 @@
+mod ManyValues
+mod WorkedScripts

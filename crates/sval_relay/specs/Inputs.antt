@@ -1,0 +1,48 @@
+-- What reading an input to its end makes of its source.
+use Rattle.std.specs.Prelude.{◌≡◌, ℕ, ◌+◌, ◌<◌, ◌≤◌, ◌^◌, List, [], drop, length, Option, Some, IfSome}
+use Rattle.sval_core.specs.Law.{Rose}
+use Rattle.sval_relay.specs.declared.reading.ReadError.{ReadError}
+use Rattle.sval_relay.specs.declared.reading.ReadError.TheVariants.{Fault, TooLong}
+use Rattle.sval_relay.specs.declared.way.Way.{Way}
+use Rattle.sval_relay.specs.Sources.{Supply}
+
+-- an input of at most 16,777,216 bytes, which is kept whole
+abbrev pub IsShort : List ℕ → Type 0
+IsShort input = length input ≤ 2 ^ 24
+
+-- a fact on an input that is short, and on one that isn't
+abbrev pub OnShort : (List ℕ → Way → Type 0) → List ℕ → Way → Type 0
+OnShort P input way = IsShort input → P input way
+
+abbrev pub OnLong : Type 0 → List ℕ → Way → Type 0
+OnLong P input way = 2 ^ 24 < length input → P
+
+-- nothing is left, where the source told what it had
+abbrev pub IsSpent : Supply → Supply → Type 0
+IsSpent old new = IfSome old.left (λ all. new.left ≡ Some [])
+
+-- the bytes are all that was left, and nothing is left now
+pub record TakesAll (whole bytes : List ℕ) (rest : Option (List ℕ)) : Type 0 where
+  pub all : bytes ≡ whole
+  pub left : rest ≡ Some []
+
+-- the input was read whole: these are its bytes, where the source tells them, and no fault was counted
+pub record ReadsWhole (old : Supply) (bytes : List ℕ) (new : Supply) : Type 0 where
+  pub taken : IfSome old.left (λ all. TakesAll all bytes new.left)
+  pub short : IsShort bytes
+  pub faults : new.faults ≡ old.faults
+
+-- there were more than 16,777,216 bytes, and one more than these was taken
+pub record TakesOneMore (whole : List ℕ) (rest : Option (List ℕ)) : Type 0 where
+  pub long : 2 ^ 24 < length whole
+  pub left : rest ≡ Some (drop (2 ^ 24 + 1) whole)
+
+-- it is so, where the source tells what it has left
+abbrev pub IsTooLong : Supply → Supply → Type 0
+IsTooLong old new = IfSome old.left (λ all. TakesOneMore all new.left)
+
+-- reading stopped, and this is why
+pub record StopsReading (why : ReadError) (old new : Supply) : Type 0 where
+  pub fault : why ≡ Fault → Rose old.faults new.faults
+  pub long : why ≡ TooLong → IsTooLong old new
+  pub faults : old.faults ≤ new.faults

@@ -1,0 +1,53 @@
+-- What is left on a sink of a script, where it has to spell one value, and where it may spell many.
+use Rattle.std.specs.Prelude.{◌≡◌, ℕ, Bool, List, [], ◌∷◌, ◌++◌, Option, Some, None, Result, Ok, Err}
+use Rattle.sval_label.specs.Calls.{Call}
+use Rattle.sval_core.specs.Trees.{Tree, calls_of}
+use Rattle.sval_core.specs.Many.{slice}
+use Rattle.sval_json.specs.Number.{Refusal}
+use Rattle.sval_json.specs.declared.style.Variants.{Variants}
+use Rattle.sval_json.specs.Steps.{written_in}
+use Rattle.sval_script.specs.Lines.{Lines, Good, Bad, lines}
+use Rattle.sval_relay.specs.Verdict.{Asked, JsonIn, Script, tree_text, ending, SpellTrees}
+
+-- of a tree that is refused the bytes that the writer's steps write for its calls, which are the same for all of its spellings
+abbrev pub refused_bytes : Asked → Tree → List ℕ
+refused_bytes (JsonIn style) tree = (written_in style (calls_of tree)).written
+refused_bytes Script tree = []
+
+-- a tree's text with its ending, and what the trees after it leave; or what a refusal leaves
+abbrev pub with_text : Result (List ℕ) Refusal → List ℕ → List ℕ → List ℕ → List ℕ
+with_text (Ok text) end later refused = text ++ (end ++ later)
+with_text (Err why) end later refused = refused
+
+-- what writing the trees leaves, up to the first one that is refused
+abbrev pub left : Asked → List ℕ → List Tree → List ℕ
+left asked end [] = []
+left asked end (tree ∷ trees) = with_text (tree_text asked tree) end (left asked end trees) (refused_bytes asked tree)
+
+-- ---- the same, tree by tree
+
+-- what the writer's steps write for a tree's calls, and if none of them was refused its ending and what comes later
+abbrev pub with_rest : Option Refusal → List ℕ → List ℕ → List ℕ → List ℕ
+with_rest None bytes end later = bytes ++ (end ++ later)
+with_rest (Some why) bytes end later = bytes
+
+-- what is written where the calls between the ends of trees go to the writer, one tree's after the other
+abbrev pub written_slices : Variants → List ℕ → ℕ → List ℕ → List Call → List ℕ
+written_slices style end from [] calls = []
+written_slices style end from (to ∷ ends) calls =
+    with_rest (written_in style (slice from to calls)).refusal (written_in style (slice from to calls)).written end (written_slices style end to ends calls)
+
+-- ---- of a script
+
+-- what is written for a script over devices that don't fail: what its trees leave, and nothing where it spells none
+abbrev pub IsLeftByCalls : Asked → Bool → List Call → List ℕ → Type 0
+IsLeftByCalls asked many calls bytes =
+    ((trees : List Tree) → SpellTrees many calls trees → bytes ≡ left asked (ending asked many) trees)
+    × (((trees : List Tree) → SpellTrees many calls trees → ⊥) → bytes ≡ [])
+
+abbrev pub IsLeftByLines : Asked → Bool → Lines → List ℕ → Type 0
+IsLeftByLines asked many (Bad n) bytes = bytes ≡ []
+IsLeftByLines asked many (Good calls) bytes = IsLeftByCalls asked many calls bytes
+
+abbrev pub IsLeft : Asked → Bool → List ℕ → List ℕ → Type 0
+IsLeft asked many script bytes = IsLeftByLines asked many (lines script) bytes

@@ -1,0 +1,60 @@
+-- The program's statuses: which there are, and which failure has which.
+use Rattle.std.specs.Prelude.{◌≡◌, ℕ, ◌==◌, ◌⊎◌, Bool, List, [], ◌∷◌, Result, Ok, Err}
+use Rattle.std.specs.List.{list_any}
+use Rattle.sval_relay.specs.declared.status.TheConstants.{DONE, USAGE, BAD_LINE, BAD_CALL, UNFINISHED, WRITE, READ, NO_MEMORY, TOO_LONG}
+use Rattle.sval_relay.specs.declared.reading.ReadError.TheVariants as reading
+use Rattle.sval_relay.specs.declared.relaying.RelayError.{RelayError}
+use Rattle.sval_relay.specs.declared.relaying.RelayError.TheVariants as answer
+use Rattle.sval_relay.specs.declared.failure.Failure.{Failure}
+use Rattle.sval_relay.specs.declared.failure.Failure.TheVariants as failure
+use Rattle.sval_relay.specs.Verdict.{Verdict, BadLine, BadCall, Unfinished, Key, Number, Text}
+
+abbrev pub is_among : ℕ → List ℕ → Bool
+is_among status statuses = list_any (λ s. s == status) statuses
+
+-- the statuses there are
+abbrev pub is_status : ℕ → Bool
+is_status status = is_among status (DONE ∷ USAGE ∷ BAD_LINE ∷ BAD_CALL ∷ UNFINISHED ∷ WRITE ∷ READ ∷ NO_MEMORY ∷ TOO_LONG ∷ [])
+
+-- those that come before anything is written
+abbrev pub is_unwritten : ℕ → Bool
+is_unwritten status = is_among status (USAGE ∷ BAD_LINE ∷ BAD_CALL ∷ UNFINISHED ∷ READ ∷ TOO_LONG ∷ [])
+
+-- those that come after the input was read to its end
+abbrev pub is_read : ℕ → Bool
+is_read status = is_among status (DONE ∷ BAD_LINE ∷ BAD_CALL ∷ UNFINISHED ∷ [])
+
+-- the status that is due. The calls that are built have none of the last two verdicts
+abbrev pub IsStatusOf : Verdict → ℕ → Type 0
+IsStatusOf (BadLine n) status = status ≡ BAD_LINE
+IsStatusOf (BadCall n) status = status ≡ BAD_CALL
+IsStatusOf Unfinished status = status ≡ UNFINISHED
+IsStatusOf (Text text) status = status ≡ DONE
+IsStatusOf Key status = ⊥
+IsStatusOf Number status = ⊥
+
+-- it came, or memory was wanting
+abbrev pub IsStatusDue : ℕ → Verdict → Type 0
+IsStatusDue status answer = IsStatusOf answer status ⊎ (status ≡ NO_MEMORY)
+
+abbrev pub status_of_answer : RelayError → ℕ
+status_of_answer (answer.BadLine n) = BAD_LINE
+status_of_answer (answer.BadCall n) = BAD_CALL
+status_of_answer answer.Unfinished = UNFINISHED
+status_of_answer answer.Write = WRITE
+status_of_answer answer.NoMemory = NO_MEMORY
+
+abbrev pub status_of_relayed : Result (Unit {0}) RelayError → ℕ
+status_of_relayed (Ok done) = DONE
+status_of_relayed (Err why) = status_of_answer why
+
+abbrev pub status_of_failure : Failure → ℕ
+status_of_failure failure.Usage = USAGE
+status_of_failure (failure.Input reading.Fault) = READ
+status_of_failure (failure.Input reading.TooLong) = TOO_LONG
+status_of_failure (failure.Input reading.NoMemory) = NO_MEMORY
+status_of_failure (failure.Relay why) = status_of_answer why
+
+abbrev pub status_of : Result (Unit {0}) Failure → ℕ
+status_of (Ok done) = DONE
+status_of (Err why) = status_of_failure why

@@ -1,0 +1,88 @@
+//! What serving one script answers and writes.
+
+use super::{RelayError, relay};
+use crate::Way;
+use crate::fakes::FaultySink;
+use std::test::Fail;
+use sval_buffer::ValueBuf;
+use sval_core::{Call, Stream};
+use sval_json::{VecSink, stream_to_io_write};
+
+#[test]
+fn answers(rt: HostRuntime) -> Result<(), Fail> {
+    let alloc = rt.alloc();
+    let table: [(&'static str, Result<(), RelayError>, &'static str); 7] = [
+        ("nul\n", Err(RelayError::BadLine { line: 1 }), ""),
+        ("null\nnull\n", Err(RelayError::BadCall { line: 2 }), ""),
+        (
+            "null\nnull\nnul\n",
+            Err(RelayError::BadLine { line: 3 }),
+            "",
+        ),
+        ("", Err(RelayError::Unfinished), ""),
+        ("seq_begin -\n", Err(RelayError::Unfinished), ""),
+        ("null\n", Ok(()), "null"),
+        (
+            "seq_begin -\nseq_value_begin\ntext_begin 1\ntext_fragment =61\ntext_end\nseq_value_end\nseq_end\n",
+            Ok(()),
+            "[\"a\"]",
+        ),
+    ];
+    for (script, wanted, text) in table {
+        for way in [
+            Way::Direct,
+            Way::Buffered,
+            Way::DirectBeside,
+            Way::BufferedBeside,
+        ] {
+            let mut out = VecSink::new(alloc);
+            let answer = relay(alloc, script.as_bytes(), way, &mut out);
+            assert_eq!(rt; answer, wanted, "{way:?} at {script:?}");
+            assert_eq!(rt; out.as_slice(), text.as_bytes(), "{way:?} at {script:?}");
+        }
+    }
+    Ok(())
+}
+
+#[test]
+fn appends(rt: HostRuntime) -> Result<(), Fail> {
+    let alloc = rt.alloc();
+    let mut out = VecSink::new(alloc);
+    relay(alloc, b"bool true\n", Way::Direct, &mut out)?;
+    relay(alloc, b"i64 -9\n", Way::Buffered, &mut out)?;
+    assert_eq!(rt; out.as_slice(), b"true-9".as_slice());
+    Ok(())
+}
+
+#[test]
+fn a_write_that_fails(rt: HostRuntime) -> Result<(), Fail> {
+    let alloc = rt.alloc();
+    let mut out = FaultySink::new(alloc, 3, true);
+    let answer = relay(alloc, b"bool true\n", Way::Direct, &mut out);
+    assert_eq!(rt; answer, Err(RelayError::Write));
+    assert_eq!(rt; out.taken.as_slice(), b"tr".as_slice());
+    Ok(())
+}
+
+/// What is written of calls that are no whole value, after they were captured.
+#[test]
+fn captured_parts(rt: HostRuntime) -> Result<(), Fail> {
+    let alloc = rt.alloc();
+    let table: [(&'static [Call<'static, 'static>], bool, &'static str); 3] = [
+        (&[Call::SeqBegin(None), Call::Null], false, "[]null"),
+        (&[Call::SeqEnd], true, "null"),
+        (&[], false, "null"),
+    ];
+    for (calls, refused, text) in table {
+        let mut buffer: ValueBuf<'static> = ValueBuf::new(alloc);
+        for call in calls {
+            let _answer = buffer.take(*call);
+        }
+        let mut out = VecSink::new(alloc);
+        assert!(rt; stream_to_io_write(&mut out, &buffer).is_ok());
+        assert_eq!(rt; out.as_slice(), text.as_bytes());
+        assert!(rt; !buffer.is_complete());
+        assert_eq!(rt; buffer.into_err().is_some(), refused);
+    }
+    Ok(())
+}

@@ -1,0 +1,28 @@
+//! The statuses that the program ends with.
+
+/// The JSON of the script's value was written.
+pub const DONE: u8 = 0;
+
+/// The words are no form. Nothing was read.
+pub const USAGE: u8 = 2;
+
+/// A line of the script is no call.
+pub const BAD_LINE: u8 = 3;
+
+/// No value goes on with the call of a line.
+pub const BAD_CALL: u8 = 4;
+
+/// The calls are not one whole value.
+pub const UNFINISHED: u8 = 5;
+
+/// The output failed.
+pub const WRITE: u8 = 8;
+
+/// The input failed.
+pub const READ: u8 = 9;
+
+/// Memory was wanting.
+pub const NO_MEMORY: u8 = 10;
+
+/// The input is longer than is kept.
+pub const TOO_LONG: u8 = 11;
