@@ -12,7 +12,7 @@ use Rattle.sval_relay.specs.Statuses.{status_of_failure}
 
 -- the line for each status; those for 3 and 4 name a line of the script by its number
 abbrev pub reports : ℕ → List (ℕ × List ℕ)
-reports number = (USAGE, codes "usage: sval_relay direct [beside]|buffered [beside]|calls|made N\n")
+reports number = (USAGE, codes "usage: sval_relay direct [beside] [lines]|buffered [beside] [lines]|calls [lines]|made N\n")
     ∷ (BAD_LINE, codes "line " ++ decimal number ++ codes ": not a call\n")
     ∷ (BAD_CALL, codes "line " ++ decimal number ++ codes ": no value goes on with this call\n")
     ∷ (UNFINISHED, codes "the calls are not one whole value\n")

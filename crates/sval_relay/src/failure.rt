@@ -97,7 +97,7 @@ impl Failure {
         match self {
             Failure::Usage => write_all(
                 diag,
-                b"usage: sval_relay direct [beside]|buffered [beside]|calls|made N\n",
+                b"usage: sval_relay direct [beside] [lines]|buffered [beside] [lines]|calls [lines]|made N\n",
             ),
             Failure::Input(ReadError::Fault) => write_all(diag, b"read fault\n"),
             Failure::Input(ReadError::NoMemory) => write_all(diag, b"out of memory\n"),

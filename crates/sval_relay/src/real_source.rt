@@ -11,13 +11,13 @@ use std::io;
 use std::io::Read;
 use std::marker::Model;
 
-/// How often in a row an interrupted call is made again.
-const RETRIES: u32 = 1000;
+/// How often in a row a call is made that is interrupted each time.
+const TRIES: u32 = 1000;
 
 /// A source over one of std's readers. It doesn't tell what it has left, and each error of the reader is one fault.
 ///
-/// An interrupted call is made again, at most 1,000 times in a row. Where the reader tells what it has left, a call
-/// takes just the bytes that it answers from the front of that.
+/// A call that is interrupted is made again, and has failed where that happened 1,000 times in a row. Where the reader
+/// tells what it has left, a call takes just the bytes that it answers from the front of that.
 #[derive(Drop)]
 pub struct RealSource<R> {
     reader: R,
@@ -56,7 +56,7 @@ impl<R: Read> Source for RealSource<R> {
         ensures once { OnErr result (self.new.faults ≡ one_more self.old.faults) }
         ensures passed_on { ReadConsumes (R.remaining self.old.reader) (R.remaining self.new.reader) result buffer.new }
     {
-        for _ in 0..RETRIES {
+        for _ in 0..TRIES {
             match self.reader.read(buffer) {
                 Ok(count) => return Ok(count),
                 Err(error) => {

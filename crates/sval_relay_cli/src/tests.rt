@@ -38,7 +38,8 @@ impl Env for Process {
 #[test]
 fn words_of_a_process(rt: HostRuntime) -> Result<(), Fail> {
     let alloc = rt.alloc();
-    let usage = "usage: sval_relay direct [beside]|buffered [beside]|calls|made N\n";
+    let usage =
+        "usage: sval_relay direct [beside] [lines]|buffered [beside] [lines]|calls [lines]|made N\n";
     let table: [(&'static [&'static [u8]], u8, &'static str, &'static str); 7] = [
         (&[b"sval_relay", b"direct"], 0, "null", ""),
         (&[b"sval_relay", b"buffered", b"beside"], 0, "null", ""),

@@ -47,7 +47,7 @@ no_forms = (refl, refl, refl, refl, refl)
 
 -- ---- what the third device is told
 
-usage : report 2 0 ≡ codes "usage: sval_relay direct [beside]|buffered [beside]|calls|made N\n"
+usage : report 2 0 ≡ codes "usage: sval_relay direct [beside] [lines]|buffered [beside] [lines]|calls [lines]|made N\n"
 usage = refl
 
 lines_that_are_named : (report 3 1 ≡ codes "line 1: not a call\n") × (report 4 120 ≡ codes "line 120: no value goes on with this call\n")

@@ -62,7 +62,8 @@ fn words(alloc: Global, text: &str) -> Result<Vec<String>, AllocError> {
 #[test]
 fn statuses(rt: HostRuntime) -> Result<(), Fail> {
     let alloc = rt.alloc();
-    let usage = "usage: sval_relay direct [beside]|buffered [beside]|calls|made N\n";
+    let usage =
+        "usage: sval_relay direct [beside] [lines]|buffered [beside] [lines]|calls [lines]|made N\n";
     let table: [(&'static str, &'static str, u8, &'static str, &'static str); 9] = [
         ("direct", "bool true\n", 0, "true", ""),
         ("buffered beside", "i64 -7\n", 0, "-7", ""),

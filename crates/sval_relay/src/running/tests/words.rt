@@ -51,7 +51,7 @@ fn no_form(rt: HostRuntime) -> Result<(), Fail> {
         assert!(rt; out.as_slice().is_empty(), "at {texts:?}");
         assert_eq!(rt;
             diag.as_slice(),
-            b"usage: sval_relay direct [beside]|buffered [beside]|calls|made N\n".as_slice()
+            b"usage: sval_relay direct [beside] [lines]|buffered [beside] [lines]|calls [lines]|made N\n".as_slice()
         );
     }
     Ok(())
