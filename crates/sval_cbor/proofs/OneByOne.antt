@@ -2,7 +2,7 @@
 use Rattle.std.specs.Prelude.{◌≡◌, ℕ, List, [], ◌∷◌, ◌++◌, Ok, Err}
 use Rattle.std.proofs.Common.{sym, ap, ◌∙◌, append_assoc, append-nil}
 use Rattle.sval_label.specs.Calls.{Call}
-use Rattle.sval_cbor.specs.Packs.{Refusal, on_ok}
+use Rattle.sval_cbor.specs.Packs.{PackRefusal, on_ok}
 use Rattle.sval_cbor.specs.Writing.{State, start, step, written_from, written, Went, at_start, onward}
 use Rattle.sval_cbor.proofs.WritingPlain.{prepend, prepend_nothing, prepend_twice}
 
@@ -16,6 +16,6 @@ goes_on (onward {calls = calls} {bytes = bytes} {state = state} {done = done} ca
 pub taken_written : (calls : List Call) (bytes : List ℕ) (state : State) → Went calls bytes state → written calls ≡ Ok bytes
 taken_written calls bytes state went = ap written (sym (append-nil calls)) ∙ goes_on went [] ∙ ap Ok (append-nil bytes)
 
-pub refused_written : (calls more : List Call) (bytes : List ℕ) (state : State) (call : Call) (why : Refusal) → Went calls bytes state → step call state ≡ Err why → written (calls ++ call ∷ more) ≡ Err why
+pub refused_written : (calls more : List Call) (bytes : List ℕ) (state : State) (call : Call) (why : PackRefusal) → Went calls bytes state → step call state ≡ Err why → written (calls ++ call ∷ more) ≡ Err why
 refused_written calls more bytes state call why went e =
     goes_on went (call ∷ more) ∙ ap (λ r. prepend bytes (on_ok r (λ done. prepend done.bytes (written_from more done.state)))) e

@@ -24,7 +24,7 @@ use Rattle.sval_json.specs.Grammar.{without_minus}
 use Rattle.sval_json.proofs.Append.{front_and_rest}
 use Rattle.sval_json.proofs.Texts.{normal_twice}
 use Rattle.sval_json.proofs.NumberTexts.{ascii_utf8, number_utf8, signed_number, normal_form}
-use Rattle.sval_cbor.specs.Packs.{Refusal, NotInteger, on_ok, map_ok, has_128_bits, is_whole, number_pack, tagged_pack, is_raw, key_bytes, pack_key_as, pack_key, packs, packed_items, packed_pairs, pack_of}
+use Rattle.sval_cbor.specs.Packs.{PackRefusal, NotInteger, on_ok, map_ok, has_128_bits, is_whole, number_pack, tagged_pack, is_raw, key_bytes, pack_key_as, pack_key, packs, packed_items, packed_pairs, pack_of}
 use Rattle.sval_cbor.specs.Premises.{IsShortText, IsShortLabel, IsShortName, IsShort, AreShort}
 use Rattle.sval_cbor.proofs.Numbers.{short_of_128, whole_back}
 
@@ -61,11 +61,11 @@ abbrev pub IfOk : {T E : Type 0} → (T → Type 0) → Result T E → Type 0
 IfOk P (Ok x) = P x
 IfOk P (Err why) = ⊤
 
-if_map : {T U : Type 0} (P : T → Type 0) (Q : U → Type 0) (f : T → U) (r : Result T Refusal) → ((x : T) → P x → Q (f x)) → IfOk P r → IfOk Q (map_ok f r)
+if_map : {T U : Type 0} (P : T → Type 0) (Q : U → Type 0) (f : T → U) (r : Result T PackRefusal) → ((x : T) → P x → Q (f x)) → IfOk P r → IfOk Q (map_ok f r)
 if_map P Q f (Ok x) g h = g x h
 if_map P Q f (Err why) g h = tt
 
-if_on : {T U : Type 0} (P : T → Type 0) (Q : U → Type 0) (f : T → Result U Refusal) (r : Result T Refusal) → ((x : T) → P x → IfOk Q (f x)) → IfOk P r → IfOk Q (on_ok r f)
+if_on : {T U : Type 0} (P : T → Type 0) (Q : U → Type 0) (f : T → Result U PackRefusal) (r : Result T PackRefusal) → ((x : T) → P x → IfOk Q (f x)) → IfOk P r → IfOk Q (on_ok r f)
 if_on P Q f (Ok x) g h = g x h
 if_on P Q f (Err why) g h = tt
 
@@ -227,7 +227,7 @@ whole_packed text out e w = elim (normal_form text out e) [
   | inr word ↦ absurd (no_word out word w)
 ]
 
-number_by : (a b : Bool) (text out : List ℕ) → normal text ≡ Ok out → is_whole out ≡ b → IfOk IsPacked (let r : Result Json Refusal = if a then Ok shape.null else if b then Ok (shape.number out) else Err NotInteger in r)
+number_by : (a b : Bool) (text out : List ℕ) → normal text ≡ Ok out → is_whole out ≡ b → IfOk IsPacked (let r : Result Json PackRefusal = if a then Ok shape.null else if b then Ok (shape.number out) else Err NotInteger in r)
 number_by true b text out e w = tt
 number_by false true text out e w = whole_packed text out e w
 number_by false false text out e w = tt
@@ -236,7 +236,7 @@ number_packed : (text : List ℕ) (r : Result (List ℕ) json.Refusal) → norma
 number_packed text (Ok out) e = number_by (bytes_eq out (codes "null")) (is_whole out) text out e refl
 number_packed text (Err why) e = tt
 
-tagged_packed : (kind : TextKind) (tree : Tree) (r : Result Json Refusal) → IfOk IsPacked r → IfOk IsPacked (tagged_pack kind tree r)
+tagged_packed : (kind : TextKind) (tree : Tree) (r : Result Json PackRefusal) → IfOk IsPacked r → IfOk IsPacked (tagged_pack kind tree r)
 tagged_packed Number (Text bytes) r h = number_packed bytes (normal bytes) refl
 tagged_packed JsonText (Text bytes) r h = tt
 tagged_packed JsonValue (Text bytes) r h = tt

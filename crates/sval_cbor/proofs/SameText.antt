@@ -21,22 +21,22 @@ use Rattle.sval_json.specs.Promises.{KeepsLabelPromise}
 use Rattle.sval_json.proofs.Append.{number_bytes}
 use Rattle.sval_json.proofs.EscapedPieces.{escaped-plain}
 use Rattle.sval_json.proofs.NumberTexts.{normal_form}
-use Rattle.sval_cbor.specs.Packs.{Refusal, NotInteger, on_ok, map_ok, is_whole, number_pack, tagged_pack, is_raw_kind, is_raw, key_bytes, pack_key_as, pack_key, packs, packed_items, packed_pairs, pack_of}
+use Rattle.sval_cbor.specs.Packs.{PackRefusal, NotInteger, on_ok, map_ok, is_whole, number_pack, tagged_pack, is_raw_kind, is_raw, key_bytes, pack_key_as, pack_key, packs, packed_items, packed_pairs, pack_of}
 use Rattle.sval_cbor.specs.Premises.{HasPlainIdentifiers, HavePlainIdentifiers}
 
 -- where the first is no refusal, neither is the second, and what they are stands in this relation
-abbrev Agree : {T : Type 0} → (T → T → Type 0) → Result T Refusal → Result T json.Refusal → Type 0
+abbrev Agree : {T : Type 0} → (T → T → Type 0) → Result T PackRefusal → Result T json.Refusal → Type 0
 Agree R (Ok x) (Ok y) = R x y
 Agree R (Ok x) (Err why) = ⊥
 Agree R (Err why) _ = ⊤
 
-agree_map : {T U : Type 0} (R : T → T → Type 0) (S : U → U → Type 0) (f g : T → U) (p : Result T Refusal) (q : Result T json.Refusal)
+agree_map : {T U : Type 0} (R : T → T → Type 0) (S : U → U → Type 0) (f g : T → U) (p : Result T PackRefusal) (q : Result T json.Refusal)
     → ((x y : T) → R x y → S (f x) (g y)) → Agree R p q → Agree S (map_ok f p) (json_shape.map_ok g q)
 agree_map R S f g (Ok x) (Ok y) h a = h x y a
 agree_map R S f g (Ok x) (Err why) h a = a
 agree_map R S f g (Err why) q h a = tt
 
-agree_on : {T U : Type 0} (R : T → T → Type 0) (S : U → U → Type 0) (f : T → Result U Refusal) (g : T → Result U json.Refusal) (p : Result T Refusal) (q : Result T json.Refusal)
+agree_on : {T U : Type 0} (R : T → T → Type 0) (S : U → U → Type 0) (f : T → Result U PackRefusal) (g : T → Result U json.Refusal) (p : Result T PackRefusal) (q : Result T json.Refusal)
     → ((x y : T) → R x y → Agree S (f x) (g y)) → Agree R p q → Agree S (on_ok p f) (json_shape.on_ok q g)
 agree_on R S f g (Ok x) (Ok y) h a = h x y a
 agree_on R S f g (Ok x) (Err why) h a = absurd a
@@ -78,7 +78,7 @@ same_wrap false name one other h = h
 -- ---- numbers as text
 
 number_by : (a b : Bool) (out : List ℕ) → bytes_eq out (codes "null") ≡ a
-    → Agree SameText (let r : Result Json Refusal = if a then Ok shape.null else if b then Ok (shape.number out) else Err NotInteger in r) (Ok (shape.raw out))
+    → Agree SameText (let r : Result Json PackRefusal = if a then Ok shape.null else if b then Ok (shape.number out) else Err NotInteger in r) (Ok (shape.raw out))
 number_by true b out e = let f : out ≡ codes "null" = (bytes_eq-Decides out (codes "null")).0 e in sym f
 number_by false true out e = refl
 number_by false false out e = tt
@@ -87,7 +87,7 @@ number_agrees : (r : Result (List ℕ) json.Refusal) → Agree SameText (number_
 number_agrees (Ok out) = number_by (bytes_eq out (codes "null")) (is_whole out) out refl
 number_agrees (Err why) = tt
 
-tagged_agrees : (kind : TextKind) (tree : Tree) (p : Result Json Refusal) (q : Result Json json.Refusal) → Agree SameText p q → Agree SameText (tagged_pack kind tree p) (tagged_json kind tree q)
+tagged_agrees : (kind : TextKind) (tree : Tree) (p : Result Json PackRefusal) (q : Result Json json.Refusal) → Agree SameText p q → Agree SameText (tagged_pack kind tree p) (tagged_json kind tree q)
 tagged_agrees Number (Text bytes) p q h = number_agrees (normal bytes)
 tagged_agrees JsonText (Text bytes) p q h = tt
 tagged_agrees JsonValue (Text bytes) p q h = tt

@@ -7,7 +7,7 @@ use Rattle.sval_json.specs.Json as shape
 use Rattle.sval_json.specs.Json.{Key, escaped_key, Json, Items, no_item, item, Pairs, no_pair, pair}
 use Rattle.sval_json.specs.declared.style.Variants.TheVariants.{Inside}
 use Rattle.sval_json.specs.Shape.{handle, own, wrap_in, wrap, byte_items}
-use Rattle.sval_cbor.specs.Packs.{Refusal, on_ok, map_ok, tagged_pack, packs, packed_items, packed_pairs}
+use Rattle.sval_cbor.specs.Packs.{PackRefusal, on_ok, map_ok, tagged_pack, packs, packed_items, packed_pairs}
 use Rattle.sval_cbor.specs.Cbor.{string, cbor, cbor_items, cbor_pairs}
 use Rattle.sval_cbor.specs.Writing.{Place, Elsewhere, Begun, Ended, State, at, opening, after_handle, enum_end}
 use Rattle.sval_cbor.proofs.WritingPlain.{prepend, prepend_twice, and_then, bare_handle}
@@ -30,7 +30,7 @@ name_of (Container (Head.RecordTuple name) _) = name
 name_of _ = nameless
 
 -- what it packs to without that name
-abbrev pub body : Tree → Result Json Refusal
+abbrev pub body : Tree → Result Json PackRefusal
 body (Tagged name tree) = tagged_pack (text_kind name.tag) tree (packs tree false)
 body (EmptyEnum name) = Ok (own name)
 body (Enum name tree) = packs tree true
@@ -45,16 +45,16 @@ front (Some bytes) variant = if variant then 0xbf ∷ string 3 bytes else []
 front None variant = []
 
 -- what is written of a tree before its enum ends
-abbrev pub unclosed : Tree → Bool → Result (List ℕ) Refusal
+abbrev pub unclosed : Tree → Bool → Result (List ℕ) PackRefusal
 unclosed t variant = map_ok (λ json. front (handle (name_of t)) variant ++ cbor json) (body t)
 
 -- ---- results
 
-map_twice : {T U V : Type 0} (f : T → U) (g : U → V) (r : Result T Refusal) → map_ok g (map_ok f r) ≡ map_ok (λ x. g (f x)) r
+map_twice : {T U V : Type 0} (f : T → U) (g : U → V) (r : Result T PackRefusal) → map_ok g (map_ok f r) ≡ map_ok (λ x. g (f x)) r
 map_twice f g (Ok x) = refl
 map_twice f g (Err why) = refl
 
-map_same : {T : Type 0} (f : T → T) → ((x : T) → f x ≡ x) → (r : Result T Refusal) → map_ok f r ≡ r
+map_same : {T : Type 0} (f : T → T) → ((x : T) → f x ≡ x) → (r : Result T PackRefusal) → map_ok f r ≡ r
 map_same f h (Ok x) = ap Ok (h x)
 map_same f h (Err why) = refl
 
@@ -62,7 +62,7 @@ nameless_wrap : (variant : Bool) (j : Json) → wrap Inside variant nameless j �
 nameless_wrap true j = refl
 nameless_wrap false j = refl
 
-leaf_packs : (variant : Bool) (r : Result Json Refusal) → r ≡ map_ok (wrap Inside variant nameless) r
+leaf_packs : (variant : Bool) (r : Result Json PackRefusal) → r ≡ map_ok (wrap Inside variant nameless) r
 leaf_packs variant r = sym (map_same (wrap Inside variant nameless) (nameless_wrap variant) r)
 
 pub packs_body : (t : Tree) (variant : Bool) → packs t variant ≡ map_ok (wrap Inside variant (name_of t)) (body t)
@@ -85,7 +85,7 @@ no_front : (h : Option (List ℕ)) (bytes : List ℕ) → front h false ++ bytes
 no_front (Some x) bytes = refl
 no_front None bytes = refl
 
-same_map : {T U : Type 0} (f g : T → U) → ((x : T) → f x ≡ g x) → (r : Result T Refusal) → map_ok f r ≡ map_ok g r
+same_map : {T U : Type 0} (f g : T → U) → ((x : T) → f x ≡ g x) → (r : Result T PackRefusal) → map_ok f r ≡ map_ok g r
 same_map f g h (Ok x) = ap Ok (h x)
 same_map f g h (Err why) = refl
 
@@ -95,7 +95,7 @@ unclosed_plain t =
     same_map (λ json. front (handle (name_of t)) false ++ cbor json) cbor (λ json. no_front (handle (name_of t)) (cbor json)) (body t)
     ∙ ap (map_ok cbor) (sym (packs_body t false ∙ map_same (wrap Inside false (name_of t)) (λ json. refl) (body t)))
 
-pub value_opening : (h : Option (List ℕ)) (place : Place) → opening h place false ≡ (let r : Result (List ℕ) Refusal = Ok (front h (is_begun place)) in r)
+pub value_opening : (h : Option (List ℕ)) (place : Place) → opening h place false ≡ (let r : Result (List ℕ) PackRefusal = Ok (front h (is_begun place)) in r)
 value_opening (Some bytes) Begun = refl
 value_opening (Some bytes) Elsewhere = refl
 value_opening (Some bytes) Ended = refl
@@ -105,28 +105,28 @@ value_opening None Ended = refl
 
 -- ---- frames: a first byte, what is within, and the break
 
-framed : {T : Type 0} (first : ℕ) (bytes_of : T → List ℕ) (made : List ℕ) (r : Result T Refusal) (q : Result (List ℕ) Refusal)
+framed : {T : Type 0} (first : ℕ) (bytes_of : T → List ℕ) (made : List ℕ) (r : Result T PackRefusal) (q : Result (List ℕ) PackRefusal)
     → prepend (made ++ (first ∷ [])) (and_then (map_ok bytes_of r) (prepend (0xff ∷ []) q)) ≡ and_then (map_ok (λ row. made ++ (first ∷ bytes_of row ++ (0xff ∷ []))) r) q
 framed first bytes_of made (Ok row) q =
     ap (prepend (made ++ (first ∷ []))) (prepend_twice (bytes_of row) (0xff ∷ []) q) ∙ prepend_twice (made ++ (first ∷ [])) (bytes_of row ++ (0xff ∷ [])) q
     ∙ ap (λ x. prepend x q) (append_assoc made (first ∷ []) (bytes_of row ++ (0xff ∷ [])))
 framed first bytes_of made (Err why) q = refl
 
-pub array_framed : (made : List ℕ) (r : Result Items Refusal) (q : Result (List ℕ) Refusal)
+pub array_framed : (made : List ℕ) (r : Result Items PackRefusal) (q : Result (List ℕ) PackRefusal)
     → prepend (made ++ (0x9f ∷ [])) (and_then (map_ok cbor_items r) (prepend (0xff ∷ []) q)) ≡ and_then (map_ok (λ json. made ++ cbor json) (map_ok shape.array r)) q
 array_framed made r q = framed 0x9f cbor_items made r q ∙ ap (λ x. and_then x q) (sym (map_twice shape.array (λ json. made ++ cbor json) r))
 
-pub object_framed : (made : List ℕ) (r : Result Pairs Refusal) (q : Result (List ℕ) Refusal)
+pub object_framed : (made : List ℕ) (r : Result Pairs PackRefusal) (q : Result (List ℕ) PackRefusal)
     → prepend (made ++ (0xbf ∷ [])) (and_then (map_ok cbor_pairs r) (prepend (0xff ∷ []) q)) ≡ and_then (map_ok (λ json. made ++ cbor json) (map_ok shape.object r)) q
 object_framed made r q = framed 0xbf cbor_pairs made r q ∙ ap (λ x. and_then x q) (sym (map_twice shape.object (λ json. made ++ cbor json) r))
 
-pub items_joined : (p : Result Json Refusal) (r : Result Items Refusal) (q : Result (List ℕ) Refusal)
+pub items_joined : (p : Result Json PackRefusal) (r : Result Items PackRefusal) (q : Result (List ℕ) PackRefusal)
     → and_then (map_ok cbor p) (and_then (map_ok cbor_items r) q) ≡ and_then (map_ok cbor_items (on_ok p (λ json. map_ok (item json) r))) q
 items_joined (Ok json) (Ok row) q = prepend_twice (cbor json) (cbor_items row) q
 items_joined (Ok json) (Err why) q = refl
 items_joined (Err why) r q = refl
 
-pub pairs_joined : (k : Result Key Refusal) (p : Result Json Refusal) (r : Result Pairs Refusal) (q : Result (List ℕ) Refusal)
+pub pairs_joined : (k : Result Key PackRefusal) (p : Result Json PackRefusal) (r : Result Pairs PackRefusal) (q : Result (List ℕ) PackRefusal)
     → and_then (map_ok key_string k) (and_then (map_ok cbor p) (and_then (map_ok cbor_pairs r) q)) ≡ and_then (map_ok cbor_pairs (on_ok k (λ key. on_ok p (λ json. map_ok (pair key json) r)))) q
 pairs_joined (Ok k) (Ok json) (Ok row) q =
     prepend_twice (key_string k) (cbor json) (prepend (cbor_pairs row) q) ∙ prepend_twice (key_string k ++ cbor json) (cbor_pairs row) q
@@ -144,7 +144,7 @@ wrapped_bytes : (h : Option (List ℕ)) (json : Json) → cbor (wrap_in Inside h
 wrapped_bytes (Some bytes) json = ap (λ x. 0xbf ∷ x ++ (0xff ∷ [])) (append-nil (string 3 bytes ++ cbor json))
 wrapped_bytes None json = sym (append-nil (cbor json))
 
-pub enum_closed : (made : List ℕ) (h : Option (List ℕ)) (r : Result Json Refusal) (q : Result (List ℕ) Refusal)
+pub enum_closed : (made : List ℕ) (h : Option (List ℕ)) (r : Result Json PackRefusal) (q : Result (List ℕ) PackRefusal)
     → prepend (made ++ []) (and_then (map_ok (λ json. front h true ++ cbor json) r) (prepend (closing (after_handle h)) q)) ≡ and_then (map_ok (λ json. made ++ cbor json) (map_ok (wrap_in Inside h) r)) q
 enum_closed made h (Ok json) q =
     ap (prepend (made ++ [])) (prepend_twice (front h true ++ cbor json) (closing (after_handle h)) q ∙ ap (λ x. prepend x q) (sym (wrapped_bytes h json)))

@@ -9,7 +9,7 @@ use Rattle.sval_json.specs.Number as json
 use Rattle.sval_json.specs.Number.{is_negative, is_number, is_word, without_zeros, with_sign, normal}
 use Rattle.sval_json.specs.Digits.{digits_of, after_digits, without_sign}
 use Rattle.sval_json.specs.Shape.{map_ok as json_map_ok, handle, own, is_wrapped, tagged_key, bare_text, key}
-use Rattle.sval_cbor.specs.Packs.{Refusal, BadKey, RawJson, on_ok, map_ok, is_raw_kind, is_raw, key_bytes, pack_key_as}
+use Rattle.sval_cbor.specs.Packs.{PackRefusal, BadKey, RawJson, on_ok, map_ok, is_raw_kind, is_raw, key_bytes, pack_key_as}
 use Rattle.sval_cbor.specs.Cbor.{string}
 use Rattle.sval_cbor.specs.Writing.{Place, Elsewhere, Begun, Ended, State, at, Step, writes, number_key, opening, after_handle, enum_end, tagged_begins, written_from, HaveWholeTexts}
 use Rattle.sval_cbor.proofs.WritingPlain.{prepend, prepend_nothing, and_then, bare_own}
@@ -23,7 +23,7 @@ is_begun Begun = true
 is_begun _ = false
 
 -- what a key is written as, which may stand directly in an enum
-abbrev pub key_result : Tree → Bool → Result (List ℕ) Refusal
+abbrev pub key_result : Tree → Bool → Result (List ℕ) PackRefusal
 key_result t variant = map_ok key_string (pack_key_as (key t variant) (is_raw t))
 
 -- the place after a tree
@@ -40,13 +40,13 @@ abbrev in_key : Place → State
 in_key place = at place true false
 
 -- the first refusal, or the rest
-abbrev pub rest_of : List Call → Result Step Refusal → Result (List ℕ) Refusal
+abbrev pub rest_of : List Call → Result Step PackRefusal → Result (List ℕ) PackRefusal
 rest_of calls r = on_ok r (λ done. prepend done.bytes (written_from calls done.state))
 
-pub and_nothing : (r q : Result (List ℕ) Refusal) → and_then r (prepend [] q) ≡ and_then r q
+pub and_nothing : (r q : Result (List ℕ) PackRefusal) → and_then r (prepend [] q) ≡ and_then r q
 and_nothing r q = ap (and_then r) (prepend_nothing q)
 
-key_opening : (h : Option (List ℕ)) (place : Place) → opening h place true ≡ (let r : Result (List ℕ) Refusal = if is_begun place && is_some h then Err BadKey else Ok [] in r)
+key_opening : (h : Option (List ℕ)) (place : Place) → opening h place true ≡ (let r : Result (List ℕ) PackRefusal = if is_begun place && is_some h then Err BadKey else Ok [] in r)
 key_opening (Some bytes) Begun = refl
 key_opening (Some bytes) Elsewhere = refl
 key_opening (Some bytes) Ended = refl
@@ -86,7 +86,7 @@ number_keyed text (Ok out) e = refl
 number_keyed text (Err why) e = ap (λ x. map_ok key_string (pack_key_as (Err x) false)) (sym (normal_err text why e))
 
 -- the calls of a text that stands for a number, in a key
-number_ended : (r : Result (List ℕ) Refusal) (name : Name) (rest : List Call)
+number_ended : (r : Result (List ℕ) PackRefusal) (name : Name) (rest : List Call)
     → rest_of (Call.TextEnd ∷ Call.TaggedEnd name ∷ rest) (on_ok r (λ made. writes made (at Elsewhere true true))) ≡ and_then r (written_from rest (in_key (after_handle (handle name))))
 number_ended (Ok made) name rest = let q = written_from rest (in_key (after_handle (handle name))) in ap (prepend made) (prepend_nothing (prepend [] q) ∙ prepend_nothing q)
 number_ended (Err why) name rest = refl
@@ -100,10 +100,10 @@ number_calls text calls name rest w =
 -- ---- tagged keys
 
 -- a key under a tag, where its name opens nothing
-abbrev tagged_result : Bool → TextKind → Tree → Result (List ℕ) Refusal
+abbrev tagged_result : Bool → TextKind → Tree → Result (List ℕ) PackRefusal
 tagged_result wrapped kind tree = map_ok key_string (pack_key_as (if wrapped then Err json.InvalidKey else tagged_key kind tree (key tree false)) (is_raw_kind kind || is_raw tree))
 
-abbrev opened_key : Bool → Result (List ℕ) Refusal
+abbrev opened_key : Bool → Result (List ℕ) PackRefusal
 opened_key b = if b then Err BadKey else Ok []
 
 ordinary_key : (b : Bool) (tree : Tree) (inner : List Call) (name : Name) (rest : List Call)
@@ -119,15 +119,15 @@ numeric_key false text inner name rest w =
     prepend_nothing (written_from inner (at Elsewhere true true)) ∙ number_calls text inner name rest w
     ∙ ap (λ r. and_then r (written_from rest (in_key (after_handle (handle name))))) (number_keyed text (normal text) refl)
 
-raw_text_key : (b : Bool) (text : List ℕ) (inner rest : List Call) (q : Result (List ℕ) Refusal) → rest_of inner (on_ok (opened_key b) (λ front. Err RawJson)) ≡ and_then (tagged_result b JsonText (Text text)) q
+raw_text_key : (b : Bool) (text : List ℕ) (inner rest : List Call) (q : Result (List ℕ) PackRefusal) → rest_of inner (on_ok (opened_key b) (λ front. Err RawJson)) ≡ and_then (tagged_result b JsonText (Text text)) q
 raw_text_key true text inner rest q = refl
 raw_text_key false text inner rest q = refl
 
-raw_number_key : (b : Bool) (text : List ℕ) (inner rest : List Call) (q : Result (List ℕ) Refusal) → rest_of inner (on_ok (opened_key b) (λ front. Err RawJson)) ≡ and_then (tagged_result b JsonNumber (Text text)) q
+raw_number_key : (b : Bool) (text : List ℕ) (inner rest : List Call) (q : Result (List ℕ) PackRefusal) → rest_of inner (on_ok (opened_key b) (λ front. Err RawJson)) ≡ and_then (tagged_result b JsonNumber (Text text)) q
 raw_number_key true text inner rest q = refl
 raw_number_key false text inner rest q = refl
 
-raw_value_key : (b : Bool) (text : List ℕ) (q : Result (List ℕ) Refusal) → (let r : Result (List ℕ) Refusal = Err BadKey in r) ≡ and_then (tagged_result b JsonValue (Text text)) q
+raw_value_key : (b : Bool) (text : List ℕ) (q : Result (List ℕ) PackRefusal) → (let r : Result (List ℕ) PackRefusal = Err BadKey in r) ≡ and_then (tagged_result b JsonValue (Text text)) q
 raw_value_key true text q = refl
 raw_value_key false text q = refl
 
@@ -153,7 +153,7 @@ tagged_written kind name tree inner rest place m s w h = absurd m
 
 -- ---- enums
 
-abbrev enum_result : Bool → Result Key json.Refusal → Bool → Result (List ℕ) Refusal
+abbrev enum_result : Bool → Result Key json.Refusal → Bool → Result (List ℕ) PackRefusal
 enum_result wrapped k raw = map_ok key_string (pack_key_as (if wrapped then Err json.InvalidKey else k) raw)
 
 empty_enum_by : (b : Bool) (name : Name) (rest : List Call)

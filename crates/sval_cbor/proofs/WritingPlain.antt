@@ -8,25 +8,25 @@ use Rattle.sval_core.specs.Spells.{plain, plain_call, bare_label, bare_index, ba
 use Rattle.sval_json.specs.Json.{Json}
 use Rattle.sval_json.specs.Shape.{handle, handle_of, is_none_tag, label_or_index, own}
 use Rattle.sval_json.proofs.Writing.{handle_bare}
-use Rattle.sval_cbor.specs.Packs.{Refusal, RawJson, on_ok, map_ok}
+use Rattle.sval_cbor.specs.Packs.{PackRefusal, RawJson, on_ok, map_ok}
 use Rattle.sval_cbor.specs.Writing.{Elsewhere, Begun, State, Step, writes, unless_key, opening, opens, after_handle, after_name, enum_end, tagged_begins, json_step, step, written_from, Progress, NoText, NoFragment, OneFragment, progress, are_whole}
 use Rattle.sval_json.proofs.WritingPlain.{handle_plain}
 
 -- ---- bytes in front of others
 
-abbrev pub prepend : List ℕ → Result (List ℕ) Refusal → Result (List ℕ) Refusal
+abbrev pub prepend : List ℕ → Result (List ℕ) PackRefusal → Result (List ℕ) PackRefusal
 prepend bytes r = map_ok (λ more. bytes ++ more) r
 
-pub prepend_nothing : (r : Result (List ℕ) Refusal) → prepend [] r ≡ r
+pub prepend_nothing : (r : Result (List ℕ) PackRefusal) → prepend [] r ≡ r
 prepend_nothing (Ok x) = refl
 prepend_nothing (Err why) = refl
 
-pub prepend_twice : (a b : List ℕ) (r : Result (List ℕ) Refusal) → prepend a (prepend b r) ≡ prepend (a ++ b) r
+pub prepend_twice : (a b : List ℕ) (r : Result (List ℕ) PackRefusal) → prepend a (prepend b r) ≡ prepend (a ++ b) r
 prepend_twice a b (Ok x) = ap Ok (sym (append_assoc a b x))
 prepend_twice a b (Err why) = refl
 
 -- what is written, and then the rest
-abbrev pub and_then : Result (List ℕ) Refusal → Result (List ℕ) Refusal → Result (List ℕ) Refusal
+abbrev pub and_then : Result (List ℕ) PackRefusal → Result (List ℕ) PackRefusal → Result (List ℕ) PackRefusal
 and_then first rest = on_ok first (λ bytes. prepend bytes rest)
 
 -- ---- names
@@ -98,10 +98,10 @@ same_step (Call.PartEnd Slot.Item) state = refl
 same_step (Call.PartEnd _) state = refl
 same_step _ state = refl
 
-abbrev with_rest : List Call → Result Step Refusal → Result (List ℕ) Refusal
+abbrev with_rest : List Call → Result Step PackRefusal → Result (List ℕ) PackRefusal
 with_rest calls r = on_ok r (λ done. prepend done.bytes (written_from calls done.state))
 
-same_rest : (calls other : List Call) → ((state : State) → written_from calls state ≡ written_from other state) → (r : Result Step Refusal) → with_rest calls r ≡ with_rest other r
+same_rest : (calls other : List Call) → ((state : State) → written_from calls state ≡ written_from other state) → (r : Result Step PackRefusal) → with_rest calls r ≡ with_rest other r
 same_rest calls other h (Ok done) = ap (prepend done.bytes) (h done.state)
 same_rest calls other h (Err why) = refl
 

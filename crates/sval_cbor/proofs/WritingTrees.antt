@@ -6,7 +6,7 @@ use Rattle.sval_core.specs.Trees.{Tree, Null, Truth, Int, Text, Binary, Standalo
 use Rattle.sval_core.specs.Spells.{Says, SayParts, bare_name, bare_slot, plain, Spells}
 use Rattle.sval_json.specs.Json.{escaped_key, item, pair}
 use Rattle.sval_json.specs.Shape.{handle}
-use Rattle.sval_cbor.specs.Packs.{Refusal, on_ok, map_ok, pack_key, packs, packed_items, packed_pairs, pack_of}
+use Rattle.sval_cbor.specs.Packs.{PackRefusal, on_ok, map_ok, pack_key, packs, packed_items, packed_pairs, pack_of}
 use Rattle.sval_cbor.specs.Cbor.{string, cbor, cbor_items, cbor_pairs}
 use Rattle.sval_cbor.specs.Writing.{Place, Elsewhere, Begun, at, start, after_handle, written_from, written, NoText, HaveWholeTexts}
 use Rattle.sval_cbor.proofs.WritingPlain.{prepend, prepend_nothing, and_then, written_plain, whole_plain}
@@ -22,7 +22,7 @@ abbrev PairsAreWritten : Parts → List Call → List Call → Type 0
 PairsAreWritten parts calls rest = written_from calls (in_value Elsewhere) ≡ and_then (map_ok cbor_pairs (packed_pairs parts)) (written_from rest (in_value Elsewhere))
 
 -- a value, its part's end, and then others
-value_part : (tree : Tree) (inner ended last : List Call) (q : Result (List ℕ) Refusal) → IsWritten tree inner ended Elsewhere
+value_part : (tree : Tree) (inner ended last : List Call) (q : Result (List ℕ) PackRefusal) → IsWritten tree inner ended Elsewhere
     → written_from ended (in_value (after tree)) ≡ prepend [] (written_from last (in_value Elsewhere)) → written_from last (in_value Elsewhere) ≡ q
     → written_from inner (in_value Elsewhere) ≡ and_then (map_ok cbor (packs tree false)) q
 value_part tree inner ended last q h e r =
@@ -166,7 +166,7 @@ mutual
   pairs_written parts calls rest s w g q = absurd q
 
 -- with nothing after it
-alone : (r : Result (List ℕ) Refusal) → and_then r (Ok []) ≡ r
+alone : (r : Result (List ℕ) PackRefusal) → and_then r (Ok []) ≡ r
 alone (Ok bytes) = ap Ok (append-nil bytes)
 alone (Err why) = refl
 

@@ -9,7 +9,7 @@ use Rattle.sval_json.specs.Json as shape
 use Rattle.sval_json.specs.Json.{escaped_key, Json, Items, no_item, item, Pairs, no_pair, pair}
 use Rattle.sval_json.specs.Number.{normal}
 use Rattle.sval_json.specs.Shape.{handle, own, byte_items}
-use Rattle.sval_cbor.specs.Packs.{Refusal, RawJson, on_ok, map_ok, number_pack, tagged_pack, packs}
+use Rattle.sval_cbor.specs.Packs.{PackRefusal, RawJson, on_ok, map_ok, number_pack, tagged_pack, packs}
 use Rattle.sval_cbor.specs.Cbor.{string, cbor, cbor_items}
 use Rattle.sval_cbor.specs.Writing.{Place, Elsewhere, Begun, State, at, writes, opening, after_handle, tagged_begins, written_from, HaveWholeTexts}
 use Rattle.sval_cbor.proofs.WritingPlain.{prepend, prepend_nothing, prepend_twice, and_then, bare_own}
@@ -42,7 +42,7 @@ binary_value bytes calls rest place w =
 
 -- ---- tagged values
 
-number_ended : (r : Result (List ℕ) Refusal) (name : Name) (rest : List Call)
+number_ended : (r : Result (List ℕ) PackRefusal) (name : Name) (rest : List Call)
     → rest_of (Call.TextEnd ∷ Call.TaggedEnd name ∷ rest) (on_ok r (λ made. writes made (at Elsewhere false true))) ≡ and_then r (written_from rest (in_value (after_handle (handle name))))
 number_ended (Ok made) name rest = let q = written_from rest (in_value (after_handle (handle name))) in ap (prepend made) (prepend_nothing (prepend [] q) ∙ prepend_nothing q)
 number_ended (Err why) name rest = refl
@@ -54,7 +54,7 @@ number_calls text calls name rest w =
     ∙ number_ended (map_ok cbor (number_pack (normal text))) name rest
 
 -- bytes in front of what a shape is written as
-fronted : (made : List ℕ) (r : Result Json Refusal) (q : Result (List ℕ) Refusal) → prepend (made ++ []) (and_then (map_ok cbor r) q) ≡ and_then (map_ok (λ json. made ++ cbor json) r) q
+fronted : (made : List ℕ) (r : Result Json PackRefusal) (q : Result (List ℕ) PackRefusal) → prepend (made ++ []) (and_then (map_ok cbor r) q) ≡ and_then (map_ok (λ json. made ++ cbor json) r) q
 fronted made (Ok json) q = prepend_twice (made ++ []) (cbor json) q ∙ ap (λ x. prepend (x ++ cbor json) q) (append-nil made)
 fronted made (Err why) q = refl
 
@@ -63,7 +63,7 @@ TaggedIsWritten kind name tree inner rest place =
     rest_of inner (tagged_begins kind name (in_value place))
     ≡ and_then (map_ok (λ json. front (handle name) (is_begun place) ++ cbor json) (tagged_pack kind tree (packs tree false))) (written_from rest (in_value (after_handle (handle (bare_name name)))))
 
-raw_refused : (name : Name) (inner : List Call) (place : Place) → rest_of inner (on_ok (opening (handle name) place false) (λ made. Err RawJson)) ≡ (let r : Result (List ℕ) Refusal = Err RawJson in r)
+raw_refused : (name : Name) (inner : List Call) (place : Place) → rest_of inner (on_ok (opening (handle name) place false) (λ made. Err RawJson)) ≡ (let r : Result (List ℕ) PackRefusal = Err RawJson in r)
 raw_refused name inner place = ap (λ r. rest_of inner (on_ok r (λ made. Err RawJson))) (value_opening (handle name) place)
 
 pub tagged_written : (kind : TextKind) (name : Name) (tree : Tree) (inner rest : List Call) (place : Place) → MayHold kind tree → Says tree inner (Call.TaggedEnd (bare_name name) ∷ rest) → HaveWholeTexts inner

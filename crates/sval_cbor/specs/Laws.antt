@@ -8,7 +8,7 @@ use Rattle.sval_core.specs.Real.{IsReal}
 use Rattle.sval_json.specs.Json.{Json, compact}
 use Rattle.sval_json.specs.Shape.{json_of}
 use Rattle.sval_buffer.specs.Forest.{Forest, Holds, forest, replayed}
-use Rattle.sval_cbor.specs.Packs.{Refusal, map_ok, pack_of}
+use Rattle.sval_cbor.specs.Packs.{PackRefusal, map_ok, pack_of}
 use Rattle.sval_cbor.specs.Cbor.{cbor}
 use Rattle.sval_cbor.specs.Writing.{State, step, written, Went, HaveWholeTexts}
 use Rattle.sval_cbor.specs.Premises.{IsShort, HasPlainIdentifiers}
@@ -40,5 +40,5 @@ TakenCallsAreWritten = (calls : List Call) (bytes : List ℕ) (state : State) �
 
 -- and where the next call is refused, so are all calls that begin so
 abbrev pub RefusedCallRefuses : Type 0
-RefusedCallRefuses = (calls more : List Call) (bytes : List ℕ) (state : State) (call : Call) (why : Refusal) → Went calls bytes state → step call state ≡ Err why
+RefusedCallRefuses = (calls more : List Call) (bytes : List ℕ) (state : State) (call : Call) (why : PackRefusal) → Went calls bytes state → step call state ≡ Err why
     → written (calls ++ call ∷ more) ≡ Err why

@@ -15,19 +15,19 @@ use Rattle.sval_json.specs.Shape.{own, wrap, byte_items, key}
 use Rattle.sval_json.specs.Grammar.{without_minus}
 
 -- why a tree has no such shape: a key that is no text, a number that is none, raw JSON, a number that is not whole or needs more than 128 bits
-pub data Refusal : Type 0 where
-  BadKey : Refusal
-  BadNumber : Refusal
-  RawJson : Refusal
-  NotInteger : Refusal
+pub data PackRefusal : Type 0 where
+  BadKey : PackRefusal
+  BadNumber : PackRefusal
+  RawJson : PackRefusal
+  NotInteger : PackRefusal
 
 -- the rest of the work on a value, unless it was refused
-abbrev pub on_ok : {T U : Type 0} → Result T Refusal → (T → Result U Refusal) → Result U Refusal
+abbrev pub on_ok : {T U : Type 0} → Result T PackRefusal → (T → Result U PackRefusal) → Result U PackRefusal
 on_ok (Ok value) rest = rest value
 on_ok (Err refusal) rest = Err refusal
 
 -- a change of the value, unless it was refused
-abbrev pub map_ok : {T U : Type 0} → (T → U) → Result T Refusal → Result U Refusal
+abbrev pub map_ok : {T U : Type 0} → (T → U) → Result T PackRefusal → Result U PackRefusal
 map_ok change result = on_ok result (λ value. Ok (change value))
 
 -- from -2 ^ 127 to 2 ^ 128 - 1
@@ -39,12 +39,12 @@ abbrev pub is_whole : List ℕ → Bool
 is_whole digits = is_empty (after_digits (without_minus digits)) && has_128_bits (signed_digits_value 10 digits)
 
 -- text that stands for a number, by its normal form; what is no number there is `null`
-abbrev pub number_pack : Result (List ℕ) json.Refusal → Result Json Refusal
+abbrev pub number_pack : Result (List ℕ) json.Refusal → Result Json PackRefusal
 number_pack (Ok digits) = if bytes_eq digits (codes "null") then Ok null else if is_whole digits then Ok (number digits) else Err NotInteger
 number_pack (Err _) = Err BadNumber
 
 -- text under the tags that say how it is meant; other values under a tag are packed as ever
-abbrev pub tagged_pack : TextKind → Tree → Result Json Refusal → Result Json Refusal
+abbrev pub tagged_pack : TextKind → Tree → Result Json PackRefusal → Result Json PackRefusal
 tagged_pack Number (Text bytes) _ = number_pack (normal bytes)
 tagged_pack JsonText (Text _) _ = Err RawJson
 tagged_pack JsonValue (Text _) _ = Err RawJson
@@ -69,18 +69,18 @@ key_bytes (escaped_key bytes) = bytes
 key_bytes (raw_key bytes) = bytes
 
 -- a key that is no text is refused first, and then one that is raw
-abbrev pub pack_key_as : Result Key json.Refusal → Bool → Result Key Refusal
+abbrev pub pack_key_as : Result Key json.Refusal → Bool → Result Key PackRefusal
 pack_key_as (Err json.InvalidKey) _ = Err BadKey
 pack_key_as (Err json.InvalidNumber) raw = if raw then Err RawJson else Err BadNumber
 pack_key_as (Ok k) raw = if raw then Err RawJson else Ok (escaped_key (key_bytes k))
 
 -- what a map's key packs to
-abbrev pub pack_key : Tree → Result Key Refusal
+abbrev pub pack_key : Tree → Result Key PackRefusal
 pack_key tree = pack_key_as (key tree false) (is_raw tree)
 
 abbrev mutual
   -- the shape of a tree that CBOR can hold; `variant` says that it stands directly in an enum
-  pub packs : Tree → Bool → Result Json Refusal
+  pub packs : Tree → Bool → Result Json PackRefusal
   packs Null _ = Ok null
   packs (Truth b) _ = Ok (truth b)
   packs (Int _ n) _ = Ok (number (signed_decimal n))
@@ -96,17 +96,17 @@ abbrev mutual
   packs (Container (Head.Tuple name) parts) variant = map_ok (λ places. wrap Inside variant name (array places)) (packed_items parts)
   packs (Container (Head.RecordTuple name) parts) variant = map_ok (λ fields. wrap Inside variant name (object fields)) (packed_pairs parts)
 
-  pub packed_items : Parts → Result Items Refusal
+  pub packed_items : Parts → Result Items PackRefusal
   packed_items none = Ok no_item
   packed_items (part _ tree parts) = on_ok (packs tree false) (λ json. map_ok (item json) (packed_items parts))
 
   -- a map's key and value, or a field by its label, is a pair
-  pub packed_pairs : Parts → Result Pairs Refusal
+  pub packed_pairs : Parts → Result Pairs PackRefusal
   packed_pairs (part Slot.Key name (part _ tree parts)) = on_ok (pack_key name) (λ k. on_ok (packs tree false) (λ json. map_ok (pair k json) (packed_pairs parts)))
   packed_pairs (part (Slot.Field _ label) tree parts) = on_ok (packs tree false) (λ json. map_ok (pair (escaped_key label.text) json) (packed_pairs parts))
   packed_pairs (part (Slot.FieldPlace _ label _) tree parts) = on_ok (packs tree false) (λ json. map_ok (pair (escaped_key label.text) json) (packed_pairs parts))
   packed_pairs _ = Ok no_pair
 
 -- the shape of a whole tree
-abbrev pub pack_of : Tree → Result Json Refusal
+abbrev pub pack_of : Tree → Result Json PackRefusal
 pack_of tree = packs tree false

@@ -13,7 +13,7 @@ use Rattle.sval_core.proofs.CheckerSteps.{goes_taken, goes_after}
 use Rattle.sval_check.specs.declared.checker.Why.{Why}
 use Rattle.sval_check.specs.declared.checker.Why.TheVariants.{NotViable, NoMemory}
 use Rattle.sval_check.specs.declared.error.CheckError.TheVariants as error
-use Rattle.sval_check.specs.Checking.{Checking, IsCheckerWhy, IsCheckerLeft, accepts, checker_law, checker_standing, finish_at, finish_of, cause_by, cause_of}
+use Rattle.sval_check.specs.Checking.{Checking, IsCheckerWhy, IsCheckerLeft, CheckerAccepts, checker_law, checker_standing, finish_at, finish_of, cause_by, cause_of}
 use Rattle.sval_check.specs.Checks.{IsOneValue, IsFirstBad, OnlyRefuses, IsUnfinished, opens, NeedsMemory}
 
 -- ---- a run with a call in front
@@ -63,10 +63,10 @@ halts_here v u call calls within e left = record {
   number = omega (arith, within, left.taken);
 }
   where
-    never : accepts v call → ⊥
+    never : CheckerAccepts v call → ⊥
     never = (subst (λ w. IsCheckerWhy w v call u.wants) e left.why).0
 
-halts_later : (v : Checking) (call : Call) (calls : List Call) (last : ℕ) → v.taken ≤ 2 ^ 64 - 1 → accepts v call → Halts (state_after call v.state) (one_more v.taken) calls last → Halts v.state v.taken (call ∷ calls) last
+halts_later : (v : Checking) (call : Call) (calls : List Call) (last : ℕ) → v.taken ≤ 2 ^ 64 - 1 → CheckerAccepts v call → Halts (state_after call v.state) (one_more v.taken) calls last → Halts v.state v.taken (call ∷ calls) last
 halts_later v call calls last within a h = record {
   front = call ∷ h.front;
   call = h.call;
@@ -116,7 +116,7 @@ wants_here v u call calls e left =
     let why = subst (λ w. IsCheckerWhy w v call u.wants) e left.why in
     record { front = []; call = call; rest = calls; whole = refl; last = state_after call v.state; runs = goes_after v.state call why.1; opens = why.0 }
 
-wants_later : (v : Checking) (call : Call) (calls : List Call) → accepts v call → Wants (state_after call v.state) calls → Wants v.state (call ∷ calls)
+wants_later : (v : Checking) (call : Call) (calls : List Call) → CheckerAccepts v call → Wants (state_after call v.state) calls → Wants v.state (call ∷ calls)
 wants_later v call calls a w = record {
   front = call ∷ w.front;
   call = w.call;

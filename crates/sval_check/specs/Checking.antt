@@ -39,14 +39,14 @@ wants_after NotViable wants = wants
 wants_after NoMemory wants = one_more wants
 
 -- the call is viable after those that were taken
-abbrev pub accepts : Checking → Call → Type 0
-accepts view call = goes_on view.state call ≡ true
+abbrev pub CheckerAccepts : Checking → Call → Type 0
+CheckerAccepts view call = goes_on view.state call ≡ true
 
 -- what is kept of a refusal: memory was wanting only where the call is viable and opens a frame
 abbrev pub IsCheckerWhy : Option Why → Checking → Call → ℕ → Type 0
 IsCheckerWhy None view call wants = ⊥
-IsCheckerWhy (Some NotViable) view call wants = (accepts view call → ⊥) × (wants ≡ view.wants)
-IsCheckerWhy (Some NoMemory) view call wants = (opens call ≡ true) × accepts view call × Rose view.wants wants
+IsCheckerWhy (Some NotViable) view call wants = (CheckerAccepts view call → ⊥) × (wants ≡ view.wants)
+IsCheckerWhy (Some NoMemory) view call wants = (opens call ≡ true) × CheckerAccepts view call × Rose view.wants wants
 
 -- a call that was refused leaves the state as it was
 pub record IsCheckerLeft (view : Checking) (call : Call) (left : Checking) : Type 0 where
@@ -56,7 +56,7 @@ pub record IsCheckerLeft (view : Checking) (call : Call) (left : Checking) : Typ
 
 abbrev pub checker_law : Law Checking
 checker_law = record {
-  accepts = accepts;
+  accepts = CheckerAccepts;
   after = λ view call. record view { state = state_after call view.state; taken = one_more view.taken };
   stopped = IsCheckerLeft;
 }
