@@ -69,6 +69,7 @@ impl<W: Write> Sink for RealSink<W> {
     fn write(&mut self, piece: &[u8]) -> Result<usize, SinkError>
         ensures writes { Writes result (over_writer_told self.old) piece.now (over_writer_told self.new) }
         ensures failed { OnErr result (result ≡ Err SinkError.Failed) }
+        ensures once { OnErr result (self.new.faults ≡ one_more self.old.faults) }
         ensures passed_on { WriteAppends (W.contents self.old.writer) (W.contents self.new.writer) result piece.now }
         ensures last_kept { OnOk result (self.new.last_error ≡ self.old.last_error) }
         ensures last_told { OnErr result (IsSome self.new.last_error) }
@@ -90,6 +91,7 @@ impl<W: Write> Sink for RealSink<W> {
     fn flush(&mut self) -> Result<(), SinkError>
         ensures flushes { Flushes result (over_writer_told self.old) (over_writer_told self.new) }
         ensures failed { OnErr result (result ≡ Err SinkError.Failed) }
+        ensures once { OnErr result (self.new.faults ≡ one_more self.old.faults) }
         ensures passed_on { Keeps (W.contents self.old.writer) (W.contents self.new.writer) }
         ensures last_kept { OnOk result (self.new.last_error ≡ self.old.last_error) }
         ensures last_told { OnErr result (IsSome self.new.last_error) }

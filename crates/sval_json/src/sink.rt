@@ -1,6 +1,7 @@
 //! Where JSON is written to.
 
-ghost use Rattle.std.specs.Prelude.{◌≡◌, [], IfOk, length};
+ghost use Rattle.std.specs.Prelude.{◌≡◌, [], IfOk, OnErr, length};
+ghost use Rattle.sval_core.specs.Law.{one_more};
 ghost use Rattle.sval_json.specs.Sinks.{Told, Writes, Flushes, WritesAll};
 ghost use Rattle.sval_json.specs.Taken.{Taken, taken_told};
 
@@ -106,6 +107,7 @@ impl Sink for VecSink {
     fn write(&mut self, piece: &[u8]) -> Result<usize, SinkError>
         ensures all { IfOk result (λ count. count ≡ length piece.now) }
         ensures writes { Writes result (taken_told self.old) piece.now (taken_told self.new) }
+        ensures once { OnErr result (self.new.wants ≡ one_more self.old.wants) }
     {
         match self.bytes.extend_from_slice(piece) {
             Ok(()) => Ok(piece.len()),

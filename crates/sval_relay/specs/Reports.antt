@@ -1,6 +1,6 @@
 -- What the third device is told.
-use Rattle.std.specs.Prelude.{◌≡◌, ℕ, ◌==◌, List, [], ◌∷◌, ◌++◌, String, Result, Ok, Err, codes, decimal, if◌then◌else◌}
-use Rattle.sval_json.specs.Sinks.{Told, IsQuiet, NoCountFell, Appends, AppendsFront}
+use Rattle.std.specs.Prelude.{◌≡◌, ℕ, ◌<◌, ◌==◌, length, List, [], ◌∷◌, ◌++◌, String, Result, Ok, Err, codes, decimal, if◌then◌else◌}
+use Rattle.sval_json.specs.Sinks.{Told, IsQuiet, NoCountFell, HoldsNothing, Appends, AppendsFront}
 use Rattle.sval_relay.specs.declared.status.TheConstants.{USAGE, BAD_LINE, BAD_CALL, UNFINISHED, WRITE, READ, NO_MEMORY, TOO_LONG}
 use Rattle.sval_relay.specs.declared.relaying.RelayError.TheVariants as answer
 use Rattle.sval_relay.specs.declared.failure.Failure.{Failure}
@@ -44,10 +44,11 @@ abbrev pub line_of_result : Result (Unit {0}) Failure → List ℕ
 line_of_result (Ok done) = []
 line_of_result (Err why) = report_of why
 
--- a first part of the line was taken, and all of it where no count rose
+-- a first part of the line was taken; where no count rose all of it was, and none of it is held back
 pub record TellsLine (old : Told) (line : List ℕ) (new : Told) : Type 0 where
   pub front : AppendsFront old line new
   pub whole : IsQuiet old new → Appends old line new
+  pub passed_on : IsQuiet old new → 0 < length line → HoldsNothing new
   pub counts : NoCountFell old new
 
 -- the status's line was told, which for the statuses 3 and 4 names the line that the verdict names

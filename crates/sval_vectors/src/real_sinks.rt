@@ -14,6 +14,8 @@ struct Late {
     taken: Vec<u8>,
     delay: u32,
     kind: Option<io::ErrorKind>,
+    /// How often it took a piece.
+    pieces: u32,
     /// How often it was flushed.
     flushes: u32,
 }
@@ -24,6 +26,7 @@ impl Late {
             taken: Vec::new(alloc),
             delay,
             kind,
+            pieces: 0,
             flushes: 0,
         }
     }
@@ -39,6 +42,7 @@ impl Write for Late {
             };
         }
         self.taken.extend_from_slice(piece)?;
+        self.pieces = self.pieces.saturating_add(1);
         Ok(piece.len())
     }
 
@@ -58,6 +62,9 @@ impl Write for Late {
 fn makes_interrupted_calls_again(rt: HostRuntime) {
     let interrupted = Some(io::ErrorKind::Interrupted);
     let denied = Some(io::ErrorKind::PermissionDenied);
+    let blocked = Some(io::ErrorKind::WouldBlock);
+    let late = Some(io::ErrorKind::TimedOut);
+    let broken = Some(io::ErrorKind::BrokenPipe);
     let nothing = Some(io::ErrorKind::WriteZero);
     // calls that come to nothing, how they do, the last error, and how many such calls are left
     let table = [
@@ -67,6 +74,9 @@ fn makes_interrupted_calls_again(rt: HostRuntime) {
         (1000, interrupted, interrupted, 0),
         (5000, interrupted, interrupted, 4000),
         (2, denied, denied, 1),
+        (2, blocked, blocked, 1),
+        (2, late, late, 1),
+        (2, broken, broken, 1),
         (2, None, nothing, 1),
     ];
     for (delay, kind, last_error, left) in table {
@@ -93,6 +103,8 @@ fn makes_interrupted_calls_again(rt: HostRuntime) {
 fn flushes_again_after_interrupts(rt: HostRuntime) {
     let interrupted = Some(io::ErrorKind::Interrupted);
     let denied = Some(io::ErrorKind::PermissionDenied);
+    let blocked = Some(io::ErrorKind::WouldBlock);
+    let late = Some(io::ErrorKind::TimedOut);
     // calls that fail, how they do, the answer, the last error, and how many such calls are left
     let table = [
         (2, interrupted, Ok(()), None, 0),
@@ -100,6 +112,8 @@ fn flushes_again_after_interrupts(rt: HostRuntime) {
         (1000, interrupted, Err(SinkError::Failed), interrupted, 0),
         (5000, interrupted, Err(SinkError::Failed), interrupted, 4000),
         (2, denied, Err(SinkError::Failed), denied, 1),
+        (2, blocked, Err(SinkError::Failed), blocked, 1),
+        (2, late, Err(SinkError::Failed), late, 1),
     ];
     for (delay, kind, want, last_error, left) in table {
         let mut writer = Late::new(rt.alloc(), delay, kind);
@@ -122,6 +136,16 @@ fn flushes_after_a_fault(rt: HostRuntime) {
     assert_eq!(rt; sink.last_error(), denied);
     assert_eq!(rt; writer.flushes, 2);
     assert_eq!(rt; writer.taken.as_slice(), b"b".as_slice());
+}
+
+/// A piece is passed to the writer whole, by one call.
+#[test]
+fn passes_a_piece_whole(rt: HostRuntime) -> Result<(), Fail> {
+    let piece = vec![in rt.alloc(); b'a'; 100_000]?;
+    let mut writer = Late::new(rt.alloc(), 0, None);
+    assert_eq!(rt; RealSink::new(&mut writer).write(piece.as_slice()), Ok(100_000));
+    assert_eq!(rt; writer.pieces, 1);
+    Ok(())
 }
 
 #[test]

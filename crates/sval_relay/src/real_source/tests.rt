@@ -69,6 +69,16 @@ fn calls_of_readers(rt: HostRuntime) {
     }
 }
 
+/// A read asks the reader for all that has room.
+#[test]
+fn fills_the_buffer(rt: HostRuntime) {
+    let mut bytes: &[u8] = &[b'a'; 10_000];
+    let mut source = RealSource::new(&mut bytes);
+    assert_eq!(rt; source.read(&mut [0; 9_000]), Ok(9_000));
+    assert_eq!(rt; source.read(&mut [0; 9_000]), Ok(1_000));
+    assert_eq!(rt; source.read(&mut [0; 9_000]), Ok(0));
+}
+
 /// What is read after a fault is what is left.
 #[test]
 fn reads_after_a_fault(rt: HostRuntime) {

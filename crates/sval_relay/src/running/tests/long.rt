@@ -79,9 +79,11 @@ fn many_lines(rt: HostRuntime) -> Result<(), Fail> {
     }
     assert!(rt; script.len() > 9_999_999);
     script.extend_from_slice(b"seq_end\n")?;
-    let ran = run_script(alloc, "buffered", &script)?;
-    assert_eq!(rt; ran.status, 0);
-    assert_eq!(rt; ran.out.len(), 5 * items + 1);
+    for way in WAYS {
+        let ran = run_script(alloc, way, &script)?;
+        assert_eq!(rt; ran.status, 0, "{way}");
+        assert_eq!(rt; ran.out.len(), 5 * items + 1, "{way}");
+    }
     Ok(())
 }
 

@@ -43,6 +43,10 @@ fn empty_texts(rt: HostRuntime) -> Result<(), Fail> {
             "text_begin 0\ntext_fragment =\ntext_fragment_computed =\ntext_end\n",
             Json("\"\""),
         ),
+        (
+            "text_begin 1\ntext_fragment =61\ntext_fragment_computed =\ntext_fragment =\ntext_end\n",
+            Json("\"a\""),
+        ),
     ];
     try_rows(&rt, rt.alloc(), &rows)
 }
