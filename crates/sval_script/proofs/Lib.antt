@@ -5,7 +5,8 @@ pub mod BuiltLines
 pub mod CanonicalScripts
 pub mod Tables
 pub mod WordTable
-pub mod FirstCut
+pub mod FirstFields
+pub mod FieldsRead
 pub mod FieldNumbers
 pub mod FieldTexts
 pub mod ScriptLines

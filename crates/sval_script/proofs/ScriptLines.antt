@@ -1,15 +1,15 @@
 -- What reading a script knows at each line feed.
-use Rattle.std.specs.Prelude.{◌≡◌, ℕ, ◌+◌, ◌-◌, ◌≤◌, ◌<◌, List, [], ◌∷◌, ◌++◌, Some, None, take, drop, length, refl}
+use Rattle.std.specs.Prelude.{◌≡◌, ℕ, ◌+◌, ◌≤◌, ◌<◌, Bool, true, false, ◌==◌, if◌then◌else◌, List, [], ◌∷◌, ◌++◌, Option, Some, None, MatchOption, option_map, length, refl}
 use Rattle.std.proofs.Common.{arith, sym, ap, ◌∙◌, append_assoc}
-use Rattle.std.proofs.lemmas.List.{length-append, length-take}
-use Rattle.memchr.specs.Find.{IsFirstByte, is_byte}
+use Rattle.std.proofs.lemmas.List.{length-append}
 use Rattle.sval_label.specs.Calls.{Call}
-use Rattle.sval_script.specs.Lines.{Lines, Good, Bad, line_of, with_call, after_last, lines_from, lines, cut_at}
-use Rattle.sval_script.proofs.Cut.{cut-some, lines-first}
-use Rattle.sval_script.proofs.FirstCut.{behind_place, one_part, first_part}
-use Rattle.sval_script.specs.declared.line.Line.{Line}
+use Rattle.sval_script.specs.Lines.{Lines, Good, Bad, line_of, call_of_fields, with_call, after_last, lines_from, lines, cut_at}
+use Rattle.sval_script.specs.Fields.{cut_line}
+use Rattle.sval_script.specs.NextFields.{call_before, first_call}
 use Rattle.sval_script.specs.LineCalls.{call_with, calls_with, HoldsTexts}
 use Rattle.sval_script.specs.MadeLines.{IsMade}
+use Rattle.sval_script.specs.declared.line.Line.{Line}
+use Rattle.sval_script.proofs.Cut.{cut-some, lines-first}
 use Rattle.sval_script.proofs.ScriptTexts.{holds-more, calls-more}
 
 -- what stands before the lines that are left
@@ -35,39 +35,84 @@ pub read-start : (bytes : List ℕ) → IsReadUpTo bytes bytes [] []
 unfolding lines
 read-start bytes = record { holds = refl; here = sym (after_none (lines_from line_of 1 (cut_at 10 bytes))); count = omega arith }
 
-module _ (n : ℕ) (rest : List ℕ) where
-  at_feed : (k : ℕ) → IsFirstByte (is_byte 10) rest (Some k)
-      → lines_from line_of n (cut_at 10 rest) ≡ with_call n (line_of (take k rest)) (lines_from line_of (n + 1) (cut_at 10 (behind_place k rest)))
-  at_feed k found =
-      let (next, more, some) = cut-some 10 (behind_place k rest) in
-      ap (lines_from line_of n) (first_part 10 rest k found) ∙ lines-first line_of n (take k rest) next (cut_at 10 (behind_place k rest)) more some
+-- the line that bytes begin with is the first of their parts
+first_part : (rest : List ℕ) → MatchOption (cut_line rest) (cut_at 10 rest ≡ rest ∷ []) (λ line. (cut_at 10 rest ≡ line.0 ∷ cut_at 10 line.1) × (length line.1 < length rest))
+first_part [] = refl
+first_part (byte ∷ rest) = by_feed (byte == 10) (cut_line rest) refl (first_part rest)
+  where
+    by_feed : (b : Bool) (line : Option (List ℕ × List ℕ)) → (byte == 10) ≡ b
+        → MatchOption line (cut_at 10 rest ≡ rest ∷ []) (λ l. (cut_at 10 rest ≡ l.0 ∷ cut_at 10 l.1) × (length l.1 < length rest))
+        → MatchOption (if b then Some ([], rest) else option_map (λ (l : List ℕ × List ℕ). let pair : List ℕ × List ℕ = (byte ∷ l.0, l.1) in pair) line) (cut_at 10 (byte ∷ rest) ≡ (byte ∷ rest) ∷ [])
+        (λ l. (cut_at 10 (byte ∷ rest) ≡ l.0 ∷ cut_at 10 l.1) × (length l.1 < length (byte ∷ rest)))
+    by_feed true line is later = (rw is refl, omega arith)
+    by_feed false None is later = rw (is, later) refl
+    by_feed false (Some l) is (cut, shorter) = (rw (is, cut) refl, omega arith)
 
-  at_last : IsFirstByte (is_byte 10) rest None → lines_from line_of n (cut_at 10 rest) ≡ after_last n rest
-  at_last none = ap (lines_from line_of n) (one_part 10 rest none)
+spelled : (made : Option Call) (behind : List ℕ) (call : Call) (rest : List ℕ) → option_map (λ c. let pair : Call × List ℕ = (c, behind) in pair) made ≡ Some (call, rest)
+    → (made ≡ Some call) × (behind ≡ rest)
+spelled None behind call rest e = cc e
+spelled (Some c) behind call rest e =
+    let same : (c ≡ call) × (behind ≡ rest) = grind arith in
+    (ap Some same.0, same.1)
 
-pub read-step : {bytes rest texts : List ℕ} {made : List Line} (new : List ℕ) (line : Line) (k : ℕ) → IsReadUpTo bytes rest texts made → IsFirstByte (is_byte 10) rest (Some k)
-    → IsMade (line_of (take k rest)) texts new line → IsReadUpTo bytes (behind_place k rest) new (made ++ (line ∷ []))
-read-step {bytes = bytes} {rest = rest} {texts = texts} {made = made} new line k r found m =
+unspelled : (made : Option Call) (behind : List ℕ) → option_map (λ c. let pair : Call × List ℕ = (c, behind) in pair) made ≡ None → made ≡ None
+unspelled None behind e = refl
+unspelled (Some c) behind e = cc e
+
+-- the lines from one that spells a call
+at_call : (n : ℕ) (rest behind : List ℕ) (call : Call) → first_call rest ≡ Some (call, behind)
+    → (lines_from line_of n (cut_at 10 rest) ≡ with_call n (Some call) (lines_from line_of (n + 1) (cut_at 10 behind))) × (length behind < length rest)
+unfolding line_of
+at_call n rest behind call e = by_line (cut_line rest) (first_part rest) e
+  where
+    by_line : (line : Option (List ℕ × List ℕ)) → MatchOption line (cut_at 10 rest ≡ rest ∷ []) (λ l. (cut_at 10 rest ≡ l.0 ∷ cut_at 10 l.1) × (length l.1 < length rest))
+        → call_before call_of_fields (option_map (λ (l : List ℕ × List ℕ). let pair : List (List ℕ) × List ℕ = (cut_at 32 l.0, l.1) in pair) line) ≡ Some (call, behind)
+        → (lines_from line_of n (cut_at 10 rest) ≡ with_call n (Some call) (lines_from line_of (n + 1) (cut_at 10 behind))) × (length behind < length rest)
+    by_line None cut e = cc e
+    by_line (Some l) (cut, shorter) e =
+        let (is, same) = spelled (call_of_fields (cut_at 32 l.0)) l.1 call behind e in
+        let (next, more, some) = cut-some 10 l.1 in
+        let spells : line_of l.0 ≡ Some call = is in (
+          ap (lines_from line_of n) cut ∙ lines-first line_of n l.0 next (cut_at 10 l.1) more some ∙ ap (λ made. with_call n made (lines_from line_of (n + 1) (cut_at 10 l.1))) spells
+              ∙ ap (λ left. with_call n (Some call) (lines_from line_of (n + 1) (cut_at 10 left))) same,
+          rw (← same) shorter,
+        )
+
+-- the lines from one that spells none, or that nothing ends
+at_none : (n : ℕ) (rest : List ℕ) → first_call rest ≡ None → 0 < length rest → lines_from line_of n (cut_at 10 rest) ≡ Bad n
+unfolding line_of
+at_none n rest e some = by_line (cut_line rest) (first_part rest) e
+  where
+    unended : (bytes : List ℕ) → 0 < length bytes → after_last n bytes ≡ Bad n
+    unended [] h = absurd (omega arith)
+    unended (byte ∷ bytes) h = refl
+
+    by_line : (line : Option (List ℕ × List ℕ)) → MatchOption line (cut_at 10 rest ≡ rest ∷ []) (λ l. (cut_at 10 rest ≡ l.0 ∷ cut_at 10 l.1) × (length l.1 < length rest))
+        → call_before call_of_fields (option_map (λ (l : List ℕ × List ℕ). let pair : List (List ℕ) × List ℕ = (cut_at 32 l.0, l.1) in pair) line) ≡ None
+        → lines_from line_of n (cut_at 10 rest) ≡ Bad n
+    by_line None cut e = ap (lines_from line_of n) cut ∙ unended rest some
+    by_line (Some l) (cut, shorter) e =
+        let (next, more, some) = cut-some 10 l.1 in
+        let spells : line_of l.0 ≡ None = unspelled (call_of_fields (cut_at 32 l.0)) l.1 e in
+        ap (lines_from line_of n) cut ∙ lines-first line_of n l.0 next (cut_at 10 l.1) more some ∙ ap (λ made. with_call n made (lines_from line_of (n + 1) (cut_at 10 l.1))) spells
+
+pub read-step : {bytes rest texts : List ℕ} {made : List Line} (new : List ℕ) (line : Line) (behind : List ℕ) → IsReadUpTo bytes rest texts made
+    → IsMade (first_call rest) behind texts new line → IsReadUpTo bytes behind new (made ++ (line ∷ []))
+read-step {bytes = bytes} {rest = rest} {texts = texts} {made = made} new line behind r m =
     let calls = calls_with texts made in
-    let left = lines_from line_of (length made + 1 + 1) (cut_at 10 (behind_place k rest)) in
+    let left = lines_from line_of (length made + 1 + 1) (cut_at 10 behind) in
     let more : calls_with new (made ++ (line ∷ [])) ≡ calls ++ (call_with m.text line ∷ []) = rw m.stored (calls-more texts m.text made line r.holds m.has_len) in
     let longer : length (made ++ (line ∷ [])) ≡ length made + 1 = length-append made (line ∷ []) in
-    let within = found.0.high in
+    let (here, shorter) = at_call (length made + 1) rest behind (call_with m.text line) m.spells in
     record {
       holds = rw m.stored (holds-more texts m.text made line r.holds m.has_len m.is_text);
-      here = r.here ∙ ap (after_calls calls) (at_feed (length made + 1) rest k found) ∙ ap (λ spelled. after_calls calls (with_call (length made + 1) spelled left)) m.spells
-          ∙ after_one calls (length made + 1) (call_with m.text line) left ∙ rw (more, longer) refl;
-      count = omega (arith, longer, length-take (length rest - (k + 1)) (drop (k + 1) rest), r.count);
+      here = r.here ∙ ap (after_calls calls) here ∙ after_one calls (length made + 1) (call_with m.text line) left ∙ rw (more, longer) refl;
+      count = omega (arith, longer, r.count);
     }
 
-pub read-bad : {bytes rest texts : List ℕ} {made : List Line} (k : ℕ) → IsReadUpTo bytes rest texts made → IsFirstByte (is_byte 10) rest (Some k)
-    → line_of (take k rest) ≡ None → lines bytes ≡ Bad (length made + 1)
-read-bad {bytes = bytes} {rest = rest} {texts = texts} {made = made} k r found none =
-    let calls = calls_with texts made in
-    let left = lines_from line_of (length made + 1 + 1) (cut_at 10 (behind_place k rest)) in
-    r.here ∙ ap (after_calls calls) (at_feed (length made + 1) rest k found) ∙ ap (λ spelled. after_calls calls (with_call (length made + 1) spelled left)) none
+pub read-shorter : (rest texts new : List ℕ) (line : Line) (behind : List ℕ) → IsMade (first_call rest) behind texts new line → length behind < length rest
+read-shorter rest texts new line behind m = (at_call 1 rest behind (call_with m.text line) m.spells).1
 
--- something stands after the last line feed
-pub read-cut : (bytes rest texts : List ℕ) (made : List Line) → IsReadUpTo bytes rest texts made → IsFirstByte (is_byte 10) rest None → 0 < length rest → lines bytes ≡ Bad (length made + 1)
-read-cut bytes [] texts made r none some = absurd (omega arith)
-read-cut bytes (byte ∷ rest) texts made r none some = r.here ∙ ap (after_calls (calls_with texts made)) (at_last (length made + 1) (byte ∷ rest) none)
+pub read-bad : {bytes rest texts : List ℕ} {made : List Line} → IsReadUpTo bytes rest texts made → first_call rest ≡ None → 0 < length rest → lines bytes ≡ Bad (length made + 1)
+read-bad {bytes = bytes} {rest = rest} {texts = texts} {made = made} r none some =
+    r.here ∙ ap (after_calls (calls_with texts made)) (at_none (length made + 1) rest none some)

@@ -1,13 +1,20 @@
--- What a cursor over a line's fields stands for.
-use Rattle.std.specs.Prelude.{ℕ, List, [], Option, Some, None}
-use Rattle.std.specs.Borrow.{Bor}
+-- What a cursor over the fields of a script's line stands for.
+use Rattle.std.specs.Prelude.{ℕ, ◌==◌, List, [], ◌∷◌, Option, Some, None, option_map, if◌then◌else◌}
 use Rattle.sval_script.specs.Lines.{cut_at}
 use Rattle.sval_script.specs.declared.fields.Fields.TheInside.{Inside}
 
--- the fields of what is left of a line
-abbrev pub fields_of : Option (Bor (List ℕ)) → List (List ℕ)
-fields_of None = []
-fields_of (Some rest) = cut_at 32 rest.now
+-- the fields that are left of a line, and what stands behind its line feed, if one ends it
+abbrev pub LineLeft : Type 0
+LineLeft = Option (List (List ℕ) × List ℕ)
 
-abbrev pub fields_left : Inside → List (List ℕ)
-fields_left fields = fields_of fields.rest
+-- the bytes before the first line feed, and those behind it
+abbrev pub cut_line : List ℕ → Option (List ℕ × List ℕ)
+cut_line [] = None
+cut_line (byte ∷ bytes) = if byte == 10 then Some ([], bytes) else option_map (λ line. (byte ∷ line.0, line.1)) (cut_line bytes)
+
+-- the line that a script begins with
+abbrev pub line_ahead : List ℕ → LineLeft
+line_ahead script = option_map (λ line. (cut_at 32 line.0, line.1)) (cut_line script)
+
+abbrev pub line_left : Inside → LineLeft
+line_left fields = if fields.is_over then Some ([], fields.rest.now) else line_ahead fields.rest.now

@@ -1,31 +1,56 @@
 -- What the next field of a line says, seen by whatever follows it.
-use Rattle.std.specs.Prelude.{◌≡◌, ℕ, List, ◌++◌, Option, None, MatchOption, length}
+use Rattle.std.specs.Prelude.{◌≡◌, ℕ, ⊤, List, [], ◌∷◌, ◌++◌, Option, Some, None, MatchOption, length, option_map}
+use Rattle.std.specs.Borrow.{Bor}
 use Rattle.std.specs.Str.{IsUtf8}
+use Rattle.sval_label.specs.Calls.{Call}
 use Rattle.sval_script.specs.Lines as script
-use Rattle.sval_script.specs.Lines.{LineForm, field, call_of_fields}
+use Rattle.sval_script.specs.Lines.{LineForm, field, complete, call_of_fields}
+use Rattle.sval_script.specs.Fields.{LineLeft, line_ahead}
 use Rattle.sval_script.specs.Words.{form_of_word}
 use Rattle.sval_script.specs.declared.word.Word.{Word}
 
--- the next field says x, and these fields are left
-abbrev pub NextIs : {A : Type 0} → (List ℕ → Option A) → List (List ℕ) → List (List ℕ) → A → Type 0
-NextIs {A = A} read fields rest x = (next : A → LineForm) → field read next fields ≡ next x rest
+-- the line has this field before its others
+abbrev pub with_field : List ℕ → LineLeft → LineLeft
+with_field first = option_map (λ line. (first ∷ line.0, line.1))
+
+-- no line feed ends the line, or no field is left of it
+abbrev pub NoField : LineLeft → Type 0
+NoField line = MatchOption line ⊤ (λ found. found.0 ≡ [])
+
+-- the call that a line's fields spell, and what stands behind the line
+abbrev pub call_before : LineForm → LineLeft → Option (Call × List ℕ)
+call_before form None = None
+call_before form (Some (fields, behind)) = option_map (λ call. (call, behind)) (form fields)
+
+-- the call of the line that a script begins with, and what stands behind the line
+abbrev pub first_call : List ℕ → Option (Call × List ℕ)
+first_call bytes = call_before call_of_fields (line_ahead bytes)
+
+-- what stands behind a line without fields
+abbrev pub EndsBefore : LineLeft → Option (Bor (List ℕ)) → Type 0
+EndsBefore line behind = (call : Call) → call_before (complete call) line ≡ option_map (λ rest. (call, rest.now)) behind
+
+-- the next field says x, and this is left
+abbrev pub NextIs : {A : Type 0} → (List ℕ → Option A) → LineLeft → LineLeft → A → Type 0
+NextIs {A = A} read line rest x = (next : A → LineForm) → call_before (field read next) line ≡ call_before (next x) rest
 
 -- there is no next field, or it says nothing
-abbrev pub NoNext : {A : Type 0} → (List ℕ → Option A) → List (List ℕ) → Type 0
-NoNext {A = A} read fields = (next : A → LineForm) → field read next fields ≡ None
+abbrev pub NoNext : {A : Type 0} → (List ℕ → Option A) → LineLeft → Type 0
+NoNext {A = A} read line = (next : A → LineForm) → call_before (field read next) line ≡ None
 
 -- what was read of the next field
-abbrev pub ReadsNext : {A : Type 0} → (List ℕ → Option A) → List (List ℕ) → List (List ℕ) → Option A → Type 0
-ReadsNext read fields rest made = MatchOption made (NoNext read fields) (λ x. NextIs read fields rest x)
+abbrev pub ReadsNext : {A : Type 0} → (List ℕ → Option A) → LineLeft → LineLeft → Option A → Type 0
+ReadsNext read line rest made = MatchOption made (NoNext read line) (λ x. NextIs read line rest x)
 
 -- what was read of the first field, a word
-abbrev pub ReadsWord : List (List ℕ) → List (List ℕ) → Option Word → Type 0
-ReadsWord fields rest made = MatchOption made (call_of_fields fields ≡ None) (λ word. call_of_fields fields ≡ form_of_word word rest)
+abbrev pub ReadsWord : LineLeft → LineLeft → Option Word → Type 0
+ReadsWord line rest made =
+    MatchOption made (call_before call_of_fields line ≡ None) (λ word. call_before call_of_fields line ≡ call_before (form_of_word word) rest)
 
 -- the next field says a text, which was put behind the texts before it
-pub record StoresNext (fields rest : List (List ℕ)) (old new : List ℕ) (len : ℕ) : Type 0 where
+pub record StoresNext (line rest : LineLeft) (old new : List ℕ) (len : ℕ) : Type 0 where
   pub text : List ℕ
-  pub spells : NextIs script.text fields rest text
+  pub spells : NextIs script.text line rest text
   pub is_text : IsUtf8 text
   pub stored : new ≡ old ++ text
   pub has_len : length text ≡ len

@@ -1,57 +1,70 @@
 //! The fields of a line.
 
-ghost use Rattle.std.specs.Prelude.{◌≡◌, [], ◌∷◌, IfOk, MatchOption};
-ghost use Rattle.sval_script.specs.Lines.{cut_at, whole_number_of};
+ghost use Rattle.std.specs.Prelude.{◌≡◌, IfOk, MatchOption};
+ghost use Rattle.sval_script.specs.Lines.{whole_number_of};
 ghost use Rattle.sval_script.specs.Lines as script;
 ghost use Rattle.sval_script.specs.Words.{type_of};
-ghost use Rattle.sval_script.specs.NextFields.{ReadsWord, ReadsNext, NoNext, StoresNext};
+ghost use Rattle.sval_script.specs.Fields.{line_ahead};
+ghost use Rattle.sval_script.specs.NextFields.{NoField, with_field, EndsBefore, ReadsWord, ReadsNext, NoNext, StoresNext};
 
 use crate::field::{LineError, number, size, store_text, truth};
 use crate::word::{NumberType, Word};
-use memchr::memchr;
+use memchr::memchr2;
 use std::marker::Model;
 
-/// The fields of a line that are left, with one space between each two.
+/// What is left of a script, of whose first line the fields are read one after another.
 #[derive(Drop)]
 pub(crate) struct Fields<'a> {
-    rest: Option<&'a [u8]>,
+    /// The bytes behind the fields that were read.
+    rest: &'a [u8],
+    /// Whether the line feed of the line was read.
+    is_over: bool,
 }
 
 impl<'a> Model for Fields<'a> {
-    ghost use Rattle.std.specs.Prelude.{ℕ, List};
-    ghost use Rattle.sval_script.specs.Fields.{fields_left};
+    ghost use Rattle.sval_script.specs.Fields.{LineLeft, line_left};
 
-    ghost Value = { List (List ℕ) };
+    ghost Value = { LineLeft };
 
-    ghost view = { fields_left };
+    ghost view = { line_left };
 }
 
 impl<'a> Fields<'a> {
-    /// All of a line, of which the first is its word.
-    pub(crate) fn new(line: &'a [u8]) -> Fields<'a>
-        ensures { result ≡ cut_at 32 line.now }
+    /// The line that a script begins with, whose first field is its word.
+    pub(crate) fn new(script: &'a [u8]) -> Fields<'a>
+        ensures { result ≡ line_ahead script.now }
     {
-        Fields { rest: Some(line) }
+        Fields {
+            rest: script,
+            is_over: false,
+        }
     }
 
     /// The next field.
     pub(crate) fn next(&mut self) -> Option<&'a [u8]>
-        ensures { MatchOption result ((self.old ≡ []) × (self.new ≡ [])) (λ field. self.old ≡ field.now ∷ self.new) }
+        ensures { MatchOption result (NoField self.old) (λ field. self.old ≡ with_field field.now self.new) }
     {
-        let rest = self.rest?;
-        match memchr(b' ', rest) {
-            None => {
-                self.rest = None;
-                Some(rest)
-            }
-            Some(end) => {
-                self.rest = Some(&rest[end + 1..]);
-                Some(&rest[..end])
-            }
+        if self.is_over {
+            return None;
         }
+        let Some(end) = memchr2(b' ', b'\n', self.rest) else {
+            return None;
+        };
+        let field = &self.rest[..end];
+        self.is_over = self.rest[end] == b'\n';
+        self.rest = &self.rest[end + 1..];
+        Some(field)
+    }
+
+    /// What stands behind the line, if all of its fields were read.
+    pub(crate) fn end(&self) -> Option<&'a [u8]>
+        ensures { EndsBefore self.now result }
+    {
+        if self.is_over { Some(self.rest) } else { None }
     }
 
     /// The next field, a word.
+    #[tactic(auto, using(crate::proofs::FieldsRead::no_word_read, crate::proofs::FieldsRead::word_read))]
     pub(crate) fn word(&mut self) -> Option<Word>
         ensures { ReadsWord self.old self.new result }
     {
@@ -59,6 +72,7 @@ impl<'a> Fields<'a> {
     }
 
     /// The next field, a truth value.
+    #[tactic(auto, using(crate::proofs::FieldsRead::none_read, crate::proofs::FieldsRead::field_read))]
     pub(crate) fn truth(&mut self) -> Option<bool>
         ensures { ReadsNext script.truth self.old self.new result }
     {
@@ -66,6 +80,7 @@ impl<'a> Fields<'a> {
     }
 
     /// The next field, a whole number in the type's range.
+    #[tactic(auto, using(crate::proofs::FieldsRead::none_read, crate::proofs::FieldsRead::field_read))]
     pub(crate) fn number(&mut self, kind: NumberType) -> Option<i64>
         ensures { ReadsNext (whole_number_of (type_of kind)) self.old self.new result }
     {
@@ -73,6 +88,7 @@ impl<'a> Fields<'a> {
     }
 
     /// The next field, a size, or `-` where there is none.
+    #[tactic(auto, using(crate::proofs::FieldsRead::none_read, crate::proofs::FieldsRead::field_read))]
     pub(crate) fn size(&mut self) -> Option<Option<usize>>
         ensures { ReadsNext script.size self.old self.new result }
     {

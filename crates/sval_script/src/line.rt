@@ -2,7 +2,7 @@
 
 ghost use Rattle.std.specs.Prelude.{◌≡◌, None, IfOk};
 ghost use Rattle.sval_label.specs.Made.{lent_call};
-ghost use Rattle.sval_script.specs.Lines.{line_of};
+ghost use Rattle.sval_script.specs.NextFields.{call_before, first_call};
 ghost use Rattle.sval_script.specs.Words.{alone_call, opening_call, form_of_word};
 ghost use Rattle.sval_script.specs.LineCalls.{own_len, call_with};
 ghost use Rattle.sval_script.specs.MadeLines.{MakesLine, IsMade};
@@ -87,7 +87,7 @@ impl Word {
     /// Reads the fields behind the word.
     fn read_fields(self, texts: &mut Vec<u8>, fields: &mut Fields) -> Result<Line, LineError>
         ensures made { IfOk result (λ line. MakesLine self fields.old fields.new texts.old.items texts.new.items line) }
-        ensures bad { result ≡ Err LineError.Bad → form_of_word self fields.old ≡ None }
+        ensures bad { result ≡ Err LineError.Bad → call_before (form_of_word self) fields.old ≡ None }
     {
         match self {
             Word::Alone(word) => Ok(Line::Alone(word)),
@@ -104,19 +104,19 @@ impl Word {
     }
 }
 
-/// Reads a line, which stands without its line feed. Its text goes behind the texts before it.
-#[tactic(auto, unfolding(crate::specs::Lines::line_of))]
-pub(crate) fn read_line(texts: &mut Vec<u8>, line: &[u8]) -> Result<Line, LineError>
-    ensures made { IfOk result (λ made. IsMade (line_of line.now) texts.old.items texts.new.items made) }
-    ensures bad { result ≡ Err LineError.Bad → line_of line.now ≡ None }
+/// Reads the line that a script begins with. Its text goes behind the texts before it. Answers also what stands behind it.
+pub(crate) fn read_line<'a>(
+    texts: &mut Vec<u8>,
+    script: &'a [u8],
+) -> Result<(Line, &'a [u8]), LineError>
+    ensures made { IfOk result (λ made. IsMade (first_call script.now) made.1.now texts.old.items texts.new.items made.0) }
+    ensures bad { result ≡ Err LineError.Bad → first_call script.now ≡ None }
 {
-    let mut fields = Fields::new(line);
-    let Some(word) = fields.word() else {
-        return Err(LineError::Bad);
-    };
+    let mut fields = Fields::new(script);
+    let word = fields.word().ok_or(LineError::Bad)?;
     let made = word.read_fields(texts, &mut fields)?;
-    match fields.next() {
-        None => Ok(made),
-        Some(_) => Err(LineError::Bad),
+    match fields.end() {
+        Some(rest) => Ok((made, rest)),
+        None => Err(LineError::Bad),
     }
 }

@@ -9,7 +9,6 @@ ghost use Rattle.sval_script.specs.declared.script.ScriptError.TheVariants as er
 
 use crate::field::LineError;
 use crate::line::{Line, read_line};
-use memchr::memchr;
 use std::alloc::{AllocFailed, Global};
 use std::marker::Model;
 use sval_core::{Lent, Stream, Value};
@@ -77,18 +76,15 @@ impl Script {
         let mut texts = Vec::new(alloc);
         let mut lines = Vec::new(alloc);
         let mut rest = bytes;
-        while let Some(end) = memchr(b'\n', rest) {
+        while !rest.is_empty() {
             let line = lines.len() as u64 + 1;
-            match read_line(&mut texts, &rest[..end]) {
-                Ok(made) => lines.push(made)?,
+            let (made, behind) = match read_line(&mut texts, rest) {
+                Ok(read) => read,
                 Err(LineError::Bad) => return Err(ScriptError::BadLine { line }),
                 Err(LineError::NoMemory) => return Err(ScriptError::NoMemory),
-            }
-            rest = &rest[end + 1..];
-        }
-        if !rest.is_empty() {
-            let line = lines.len() as u64 + 1;
-            return Err(ScriptError::BadLine { line });
+            };
+            lines.push(made)?;
+            rest = behind;
         }
         // SAFETY: each text was found to be UTF-8 when it was read.
         let texts = unsafe { String::from_utf8_unchecked(texts) };

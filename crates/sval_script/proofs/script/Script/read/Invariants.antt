@@ -2,8 +2,8 @@ use Rattle.std.proofs.Common.{length}
 use Rattle.sval_script.proofs.ScriptLines.{IsReadUpTo}
 use Rattle.sval_script.proofs.script.Script.read.Given as goal
 
-abbrev pub invariant-loop-end : goal.invariant-loop-end
-invariant-loop-end l = IsReadUpTo l.bytes l.rest l.texts.items l.lines.items
+abbrev pub invariant-loop-rest : goal.invariant-loop-rest
+invariant-loop-rest l = IsReadUpTo l.bytes l.rest l.texts.items l.lines.items
 
-abbrev pub decreases-loop-end : goal.decreases-loop-end
-decreases-loop-end l = length l.rest
+abbrev pub decreases-loop-rest : goal.decreases-loop-rest
+decreases-loop-rest l = length l.rest
