@@ -5,7 +5,8 @@ ghost use Rattle.sval_script.specs.Lines.{whole_number_of};
 ghost use Rattle.sval_script.specs.Lines as script;
 ghost use Rattle.sval_script.specs.Words.{type_of};
 ghost use Rattle.sval_script.specs.Fields.{line_ahead};
-ghost use Rattle.sval_script.specs.NextFields.{NoField, with_field, EndsBefore, ReadsWord, ReadsNext, NoNext, StoresNext};
+ghost use Rattle.sval_script.specs.NextFields.{NoField, with_field, EndsBefore};
+ghost use Rattle.sval_script.specs.NextFields.{ReadsWord, ReadsNext, NoNext, StoresNext};
 
 use crate::field::{LineError, number, size, store_text, truth};
 use crate::word::{NumberType, Word};

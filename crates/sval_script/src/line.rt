@@ -104,12 +104,13 @@ impl Word {
     }
 }
 
-/// Reads the line that a script begins with. Its text goes behind the texts before it. Answers also what stands behind it.
+/// Reads the line that a script begins with, and answers also what stands behind it. Its text goes behind the texts
+/// before it.
 pub(crate) fn read_line<'a>(
     texts: &mut Vec<u8>,
     script: &'a [u8],
 ) -> Result<(Line, &'a [u8]), LineError>
-    ensures made { IfOk result (λ made. IsMade (first_call script.now) made.1.now texts.old.items texts.new.items made.0) }
+    ensures made { IfOk result (λ got. IsMade (first_call script.now) got.1.now texts.old.items texts.new.items got.0) }
     ensures bad { result ≡ Err LineError.Bad → first_call script.now ≡ None }
 {
     let mut fields = Fields::new(script);
