@@ -143,7 +143,10 @@ fn flushes_after_a_fault(rt: HostRuntime) {
 fn passes_a_piece_whole(rt: HostRuntime) -> Result<(), Fail> {
     let piece = vec![in rt.alloc(); b'a'; 100_000]?;
     let mut writer = Late::new(rt.alloc(), 0, None);
-    assert_eq!(rt; RealSink::new(&mut writer).write(piece.as_slice()), Ok(100_000));
+    assert_eq!(rt;
+        RealSink::new(&mut writer).write(piece.as_slice()),
+        Ok(100_000)
+    );
     assert_eq!(rt; writer.pieces, 1);
     Ok(())
 }
