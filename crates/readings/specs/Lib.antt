@@ -1,3 +1,4 @@
 pub mod Readings
 pub mod Totals
 pub mod Written
+pub mod Reports

@@ -5,6 +5,7 @@
 //! - [`check_readings`] answers Ok unless memory is wanting, since the calls spell that tree.
 //! - [`to_json`] gives exactly the text of `specs/Written.antt`, unless memory is wanting.
 //! - [`total_of`] streams any value into a stream of this crate's own, whose law stands in `specs/Totals.antt`.
+//! - [`Report`] is a value of unlike parts, of which one is another value.
 //! - [`Unit`] lends its name for longer than it is borrowed itself.
 //!
 //! # What the proofs take
@@ -12,12 +13,14 @@
 //! 1. A value of calls one after another, and the function that streams one item, are proved as they stand.
 //! 2. The loop over items wants the attribute with `of_loops`, and its invariant
 //!    (`proofs/ReadingsValueLent/stream/Invariants.antt`): the begin and the items so far were streamed.
-//! 3. That the calls spell the tree is a lemma for each kind of reading, and one for the sequence (`proofs/Told.antt`).
-//! 4. What is written is the JSON of that tree, by one equation for each kind of reading (`proofs/Written.antt`).
-//! 5. What a stream has taken after a value is the fold of its law over the value's calls (`proofs/total`).
+//! 3. Of unlike parts each is streamed by a function of its own, whose clause has a word of `specs/Reports.antt`; the
+//!    functions that join them want the attribute with `of_between` or `of_emissions`, and no answers.
+//! 4. That the calls spell the tree is a lemma for each kind of reading, and one for the sequence (`proofs/Told.antt`).
+//! 5. What is written is the JSON of that tree, by one equation for each kind of reading (`proofs/Written.antt`).
+//! 6. What a stream has taken after a value is the fold of its law over the value's calls (`proofs/total`).
 //!
-//! All lemmas come from the page `proofs/ValueProofs.antt` of `sval_core`, but for the one on checking, which
-//! `sval_check` has in `proofs/Told.antt`.
+//! All lemmas come from the page `proofs/ValueProofs.antt` of `sval_core`, but for those on checking and on writing, which
+//! `sval_check` and `sval_json` have in `proofs/Told.antt`.
 #![tactic(auto)]
 
 ghost use Rattle.std.specs.Prelude.{IsOkUnless};
@@ -27,12 +30,14 @@ ghost use Rattle.sval_core.specs.ValueCalls.{item_calls};
 ghost use Rattle.readings.specs.Readings.{reading_calls, readings_calls};
 
 mod json;
+mod report;
 #[cfg(test)]
 mod tests;
 mod total;
 mod unit;
 
 pub use json::to_json;
+pub use report::Report;
 use std::alloc::Global;
 use sval_check::{CheckError, check};
 use sval_core::{Lent, Result, Stream, Value};

@@ -1,6 +1,6 @@
 //! Readings that are checked, added up, written and captured.
 
-use crate::{Reading, Readings, check_readings, to_json, total_of};
+use crate::{Reading, Readings, Report, check_readings, to_json, total_of};
 use std::alloc::{AllocError, Global};
 use std::test::Fail;
 use sval_buffer::ValueBuf;
@@ -28,6 +28,20 @@ fn serves_readings(rt: HostRuntime) -> Result<(), Fail> {
     let captured = ValueBuf::collect(alloc, &readings)?;
     let mut sink = VecSink::new(alloc);
     stream_to_io_write(&mut sink, &captured)?;
+    assert_eq!(rt; sink.as_slice(), json.as_bytes());
+    Ok(())
+}
+
+#[test]
+fn writes_a_report(rt: HostRuntime) -> Result<(), Fail> {
+    let alloc = rt.alloc();
+    let report = Report {
+        title: String::from_str(alloc, "tea")?,
+        readings: three_readings(alloc)?,
+    };
+    let mut sink = VecSink::new(alloc);
+    stream_to_io_write(&mut sink, &report)?;
+    let json = "[\"tea\",[\"tea \\\"green\\\"\",-95,100]]";
     assert_eq!(rt; sink.as_slice(), json.as_bytes());
     Ok(())
 }

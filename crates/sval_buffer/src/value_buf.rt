@@ -72,7 +72,8 @@ impl<'sval> ValueBuf<'sval> {
         buffer
     }
 
-    /// Captures a value.
+    /// Captures a value. Of one whose calls spell a tree it fails only where memory was wanting, and what it holds makes
+    /// calls that spell the same tree.
     ///
     /// - [`ErrorKind::OutsideContainer`] and [`ErrorKind::InvalidValue`] with [`Word::Unbalanced`] come where one of its
     ///   calls is refused so.

@@ -31,7 +31,8 @@ use sval_core::{Lent, Value};
 /// - [`CheckError::NoMemory`] comes where memory was wanting for a call that begins something, and only where this call
 ///   can be completed.
 ///
-/// The four cases exclude each other, and each has its answer wherever it stands, unless memory was wanting.
+/// The four cases exclude each other, and each has its answer wherever it stands, unless memory was wanting. So a value
+/// whose calls spell a tree gives `Ok` or `NoMemory`, which is the lemma `told_passes` of `proofs/Told.antt`.
 ///
 /// ```
 /// match check(alloc, &value) {

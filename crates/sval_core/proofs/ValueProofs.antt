@@ -8,8 +8,16 @@
 -- `Streams law old (makes (begin ∷ flat_map (item_calls calls) (take l.x-index l.x-items))) new`; and on the function that loops
 -- `#[tactic(auto, using(sval_core::proofs::ValueProofs::of_loops))]`.
 pub use Rattle.sval_core.proofs.Loops.{of_loops, streams_next, stops_next, emits_rest}
--- A value that is built of others which may refuse has an emission of `specs/Values.antt`. A function that streams a value between a begin
--- and its end wants `of_between`, one part after another `of_emissions`. In a loop the five lemmas for parts of `Joining` close one goal each.
+--
+-- A loop over numbers reads one as `get_or xs i (pos 0)`, where the lemmas ask for `get_or xs i x`: std's `get_or_default` makes the one of
+-- the other, in answers of their own for the loop's two goals, which `streams_next` and `stops_next` prove.
+--
+-- A value of unlike parts, or of others that may refuse, has an emission of `specs/Values.antt`: `part_emission` and `container_emission`
+-- round emissions that `then_emits` joins. Stream each part by a function of its own, and give what it makes a word that is `unfoldable`,
+-- opened on that function alone by `unfolding(crate::specs::Module::word)`: where a clause has `makes ..` or an abbreviation in place of a
+-- word, that computes away, and the rulesets find nothing to join. Then a function that streams a value between a begin and its end wants
+-- `using(.. of_between)`, and one part after another `using(.. of_emissions)`. `unfolding then_emits emits` turns such an emission into the
+-- calls that the lemmas on trees below speak of. In a loop the five lemmas for parts of `Joining` close one goal each.
 pub use Rattle.sval_core.proofs.Emissions.{of_emissions, passes_on}
 pub use Rattle.sval_core.proofs.Between.{of_between}
 pub use Rattle.sval_core.proofs.Joining.{streams_no_parts, streams_part, stops_at_part, streams_after_parts, stops_after_parts}

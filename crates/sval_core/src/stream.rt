@@ -62,6 +62,8 @@ pub trait Stream<L: Lending> {
     ghost standing: { Self → Standing View };
 
     /// Takes a call, or refuses it.
+    ///
+    /// An implementation writes this clause out, at its own law and standing: the checker can't copy it from here.
     fn take(&mut self, call: AnyCall<'_, L::Text>) -> Result
         ensures { Answers law result (standing self.old) (call_of L.text call.entry) (standing self.new) };
 

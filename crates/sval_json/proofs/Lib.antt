@@ -19,4 +19,5 @@ pub mod Pieces
 pub mod EscapedPieces
 pub mod Doing
 pub mod Streamed
+pub mod Told
 mod examples
