@@ -79,7 +79,8 @@ fn make<L: Lending, S: Stream<L>>(
     call: GroupedCall<'_, L::Text>,
     stream: &mut S,
 ) -> sval_core::Result
-    ensures { Emits S.law result (S.standing stream.old) (makes (grouped_call L.text call.entry ∷ [])) (S.standing stream.new) }
+    ensures { let made = grouped_call L.text call.entry in
+        Emits S.law result (S.standing stream.old) (makes (made ∷ [])) (S.standing stream.new) }
 {
     stream.take(call.call())
 }

@@ -36,9 +36,11 @@ impl<'sval> Model for Parts<'sval> {
 
     ghost use Rattle.sval_buffer.specs.SeenParts.{stored, told, TellsForest};
 
-    ghost view = { λ p. record { parts = map stored p.parts.items; places = p.places.items; in_fragments = p.in_fragments } };
+    ghost view = { λ p.
+        record { parts = map stored p.parts.items; places = p.places.items; in_fragments = p.in_fragments } };
 
-    ghost invariant = { λ p. TellsForest p.parts.items p.places.items (told p.parts.items p.places.items p.in_fragments) };
+    ghost invariant = { λ p.
+        TellsForest p.parts.items p.places.items (told p.parts.items p.places.items p.in_fragments) };
 }
 
 impl<'sval> Parts<'sval> {

@@ -68,7 +68,8 @@ impl<'k, K: Sink> Writer<'k, K> {
     /// Writes a whole number.
     #[inline(never)]
     fn write_int(&mut self, number: Int) -> Result
-        ensures { Does (value_written (signed_decimal (int_number number))) result (writer_view K.told self.old) (writer_view K.told self.new) }
+        ensures { Does (value_written (signed_decimal (int_number number))) result
+            (writer_view K.told self.old) (writer_view K.told self.new) }
     {
         match number {
             Int::I64(number) => self.write_value(Buffer::new().format(number).as_bytes()),

@@ -135,7 +135,8 @@ impl<'v> Stream<Lent<'v>> for Record {
     ghost standing = { λ said. with_wants said.wants };
 
     fn take(&mut self, call: Call<'v, '_>) -> sval_core::Result
-        ensures { Answers lenient result (with_wants self.old.wants) (lent_call call.entry) (with_wants self.new.wants) }
+        ensures { Answers lenient result
+            (with_wants self.old.wants) (lent_call call.entry) (with_wants self.new.wants) }
     {
         match write!(self.text, "{call:?} ") {
             Ok(()) => Ok(()),
