@@ -18,8 +18,7 @@ pub record Checking : Type 0 where
   pub why : Option Why
   pub wants : ℕ
 
--- The answer to a call of which the machine makes this, and which opens a frame or doesn't: it was taken, or isn't viable, or is viable and
--- memory was wanting for the frame. A call that was refused leaves all as it was.
+-- what a call's answer says, of which the machine makes this: it was taken, isn't viable, or memory was wanting for the frame that it opens
 abbrev pub StepsBy : (opening : Bool) → Option State → Checking → Checking → Result (Unit {0}) Why → Type 0
 StepsBy opening after old new (Ok done) = (after ≡ Some new.state) × (new ≡ record old { state = new.state })
 StepsBy opening after old new (Err NotViable) = (after ≡ None) × (new ≡ old)

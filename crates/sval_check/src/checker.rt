@@ -43,8 +43,12 @@ pub(crate) struct Checker {
 impl Model for Checker {
     ghost Value = { Checking };
 
-    ghost view = { λ c.
-        record { state = record { filled = c.filled; frames = c.frames }; taken = c.taken; why = c.why; wants = c.wants } };
+    ghost view = { λ c. record {
+      state = record { filled = c.filled; frames = c.frames };
+      taken = c.taken;
+      why = c.why;
+      wants = c.wants;
+    } };
 }
 
 /// What is left of a size where `count` of it come, if that is not too many.

@@ -43,7 +43,8 @@ use sval_core::{Lent, Value};
 /// ```
 pub fn check<'v, V: Value<'v, Lent<'v>>>(alloc: Global, value: &'v V) -> Result<(), CheckError>
     ensures ok { OnOk result (IsOneValue (V.emission value.now)) }
-    ensures bad_call { (at : ℕ) → result ≡ Err (CheckError.BadCall at) → IsFirstBad (V.emission value.now).calls at }
+    ensures bad_call { (at : ℕ) → result ≡ Err (CheckError.BadCall at)
+        → IsFirstBad (V.emission value.now).calls at }
     ensures refused { result ≡ Err CheckError.Refused → OnlyRefuses (V.emission value.now) }
     ensures unfinished { result ≡ Err CheckError.Unfinished → IsUnfinished (V.emission value.now) }
     ensures no_memory { result ≡ Err CheckError.NoMemory → NeedsMemory (V.emission value.now).calls }

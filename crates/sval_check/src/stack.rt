@@ -70,7 +70,8 @@ impl Stack {
 
     /// Puts another frame in place of the innermost one, if there is one.
     pub(crate) fn replace_top(&mut self, frame: Frame)
-        ensures { (top : machine.Frame) → top_of self.old ≡ Some top → self.new ≡ frame_of frame ∷ below self.old }
+        ensures { (top : machine.Frame) → top_of self.old ≡ Some top
+            → self.new ≡ frame_of frame ∷ below self.old }
     {
         if let Some(top) = self.frames.last_mut() {
             *top = frame;

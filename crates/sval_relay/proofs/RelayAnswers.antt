@@ -1,6 +1,6 @@
 -- From what reading, checking and writing a script answered to what serving it answers.
-use Rattle.std.specs.Prelude.{◌≡◌, ℕ, ◌+◌, ◌<◌, ◌^◌, ◌⊎◌, true, List, ◌∷◌, length, Result, Ok, Err, refl}
-use Rattle.std.proofs.Common.{ap, ◌∙◌, subst, arith, inl, inr}
+use Rattle.std.specs.Prelude.{◌≡◌, ℕ, ◌+◌, ◌<◌, ◌^◌, ◌⊎◌, true, List, ◌∷◌, length, String, Option, Some, Result, Ok, Err, refl}
+use Rattle.std.proofs.Common.{ap, ◌∙◌, sym, subst, arith, inl, inr}
 use Rattle.std.proofs.lemmas.List.{length-append}
 use Rattle.sval_label.specs.Calls.{Call}
 use Rattle.sval_core.specs.Law.{Emission, Rose}
@@ -21,9 +21,12 @@ use Rattle.sval_script.specs.Lines.{Good, Bad, lines}
 use Rattle.sval_relay.specs.declared.way.Way.{Way}
 use Rattle.sval_relay.specs.declared.relaying.RelayError.{RelayError}
 use Rattle.sval_relay.specs.declared.relaying.RelayError.TheVariants as answer
-use Rattle.sval_relay.specs.Ways.{style_of}
+use Rattle.sval_relay.specs.Sources.{Supply}
+use Rattle.sval_relay.specs.Inputs.{ReadsWhole}
+use Rattle.sval_relay.specs.Ways.{way_of, style_of}
 use Rattle.sval_relay.specs.Verdict.{Verdict, BadLine, BadCall, Unfinished, Text, IsVerdict, OnVerdict}
 use Rattle.sval_relay.specs.Relays.{of_script, of_sink, is_of_script, WritesText, Grows, MayLeave, IsOwnWant, IsCauseOf, IsAnswerTo, WritesJson, Relays}
+use Rattle.sval_relay.specs.Serves.{IsServed}
 use Rattle.sval_relay.proofs.Verdicts.{of_each, json_verdict, verdict_bad_line, verdict_bad_call, verdict_unfinished, verdict_tree}
 use Rattle.sval_relay.proofs.Writing.{counts_stay, grows_by_nothing, may_stay, appends_kept}
 
@@ -169,3 +172,16 @@ relays_held told script way old mid new why r d =
     by_cause : (e : SinkError) → IsCounted e (told old) (told new) → IsReason (of_sink e) told script way old new
     by_cause sink.Failed c = c
     by_cause sink.NoMemory c = inr c
+
+-- ---- what serving the input answered
+
+-- the script that was served is the input that was kept
+pub served : {A I K : Type 0} {source : I → Supply} {sink : K → Told} {words : List (String A)} {result : Result (Unit {0}) RelayError} {before after : I} {old new : K} {way : Way} {script kept : List ℕ}
+    → way_of words ≡ Some way → script ≡ kept → ReadsWhole (source before) kept (source after) → Relays sink script way result old new → IsServed source sink words result before after old new
+served {way = way} {script = script} asked same reads relays = record {
+  way = way;
+  asked = asked;
+  script = script;
+  reads = rw same reads;
+  relays = relays;
+}

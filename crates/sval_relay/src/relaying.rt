@@ -97,7 +97,8 @@ pub(crate) fn serve_script<K: Sink>(
     out: &mut K,
 ) -> Result<(), RelayError>
     requires few { length script.now < 2 ^ 64 }
-    ensures { (bytes : List ℕ) → lines bytes ≡ Good script.now → Relays K.told bytes way result out.old out.new }
+    ensures { (bytes : List ℕ) → lines bytes ≡ Good script.now
+        → Relays K.told bytes way result out.old out.new }
 {
     match check(alloc, script) {
         Ok(()) => {}

@@ -85,7 +85,8 @@ pub fn run<I: Source, K: Sink, D: Sink>(
 
     // Each status comes only where it is so.
     ensures usage { (result ≡ USAGE) ↔ (way_of words.now ≡ None) }
-    ensures done { result ≡ DONE → OnAsked words.now (I.told input.old) (WritesText (K.told out.old) (K.told out.new)) }
+    ensures done { result ≡ DONE
+        → OnAsked words.now (I.told input.old) (WritesText (K.told out.old) (K.told out.new)) }
     ensures flushed { result ≡ DONE → HoldsNothing (K.told out.new) }
     ensures bad_line { result ≡ BAD_LINE → OnAsked words.now (I.told input.old) HasBadLine }
     ensures bad_call { result ≡ BAD_CALL → OnAsked words.now (I.told input.old) HasBadCall }

@@ -86,7 +86,8 @@ impl Line {
 impl Word {
     /// Reads the fields behind the word.
     fn read_fields(self, texts: &mut Vec<u8>, fields: &mut Fields) -> Result<Line, LineError>
-        ensures made { IfOk result (λ line. MakesLine self fields.old fields.new texts.old.items texts.new.items line) }
+        ensures made { IfOk result (λ line.
+            MakesLine self fields.old fields.new texts.old.items texts.new.items line) }
         ensures bad { result ≡ Err LineError.Bad → call_before (form_of_word self) fields.old ≡ None }
     {
         match self {
@@ -110,7 +111,8 @@ pub(crate) fn read_line<'a>(
     texts: &mut Vec<u8>,
     script: &'a [u8],
 ) -> Result<(Line, &'a [u8]), LineError>
-    ensures made { IfOk result (λ got. IsMade (first_call script.now) got.1.now texts.old.items texts.new.items got.0) }
+    ensures made { IfOk result (λ got.
+        IsMade (first_call script.now) got.1.now texts.old.items texts.new.items got.0) }
     ensures bad { result ≡ Err LineError.Bad → first_call script.now ≡ None }
 {
     let mut fields = Fields::new(script);

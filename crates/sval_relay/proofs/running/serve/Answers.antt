@@ -1,56 +1,35 @@
-use Rattle.std.proofs.Common.{rules, ◌≡◌, sym, subst, Some}
+use Rattle.std.proofs.Common.{rules, ◌≡◌, Some}
 use Rattle.std.proofs.lemmas.Result.{err_from_is_err_and}
-use Rattle.sval_relay.specs.Inputs.{ReadsWhole}
 use Rattle.sval_relay.specs.Ways.{way_of}
-use Rattle.sval_relay.proofs.RelayAnswers.{relays_unread, relays_flushed, relays_held}
+use Rattle.sval_relay.proofs.RelayAnswers.{relays_unread, relays_flushed, relays_held, served}
 use Rattle.sval_relay.proofs.running.serve.Goals as goal
 
 pub returns-in_err-script : goal.returns-in_err-script
 returns-in_err-script g c =
     let p = err_from_is_err_and c.from_residual-in_err-script.result c.from_residual-in_err-script.ensures.1 in
     let asked : way_of c.args.words.now ≡ Some c.in_ok-way.way = search rules in
-    rw (p.1, p.2) (record {
-      way = c.in_ok-way.way;
-      asked = asked;
-      script = c.as_slice.result.now;
-      reads = subst (λ bytes. ReadsWhole (g.I.Source.told c.args.input.now) bytes (g.I.Source.told c.read_all.new.input)) (sym c.as_slice.ensures.value) c.in_ok-bytes.ensures.ok;
-      relays = relays_unread g.K.Sink.told c.as_slice.result.now c.in_ok-way.way c.args.out.now c.in_err-script.field-0.0 c.in_err-script.ensures.bad_line;
-    })
+    rw (p.1, p.2) (served asked c.as_slice.ensures.value c.in_ok-bytes.ensures.ok
+    (relays_unread g.K.Sink.told c.as_slice.result.now c.in_ok-way.way c.args.out.now c.in_err-script.field-0.0 c.in_err-script.ensures.bad_line))
 
 pub returns-in_err-serve_script : goal.returns-in_err-serve_script
 returns-in_err-serve_script g c =
     let p = err_from_is_err_and c.from_residual-in_err-serve_script.result c.from_residual-in_err-serve_script.ensures.1 in
     let asked : way_of c.args.words.now ≡ Some c.in_ok-way.way = search rules in
-    rw (p.1, p.2) (record {
-      way = c.in_ok-way.way;
-      asked = asked;
-      script = c.as_slice.result.now;
-      reads = subst (λ bytes. ReadsWhole (g.I.Source.told c.args.input.now) bytes (g.I.Source.told c.read_all.new.input)) (sym c.as_slice.ensures.value) c.in_ok-bytes.ensures.ok;
-      relays = c.in_err-serve_script.ensures c.as_slice.result.now c.in_ok-script.ensures.ok;
-    })
+    rw (p.1, p.2) (served asked c.as_slice.ensures.value c.in_ok-bytes.ensures.ok (c.in_err-serve_script.ensures c.as_slice.result.now c.in_ok-script.ensures.ok))
 
 pub returns-in_err-flush : goal.returns-in_err-flush
 returns-in_err-flush g c =
     let p = err_from_is_err_and c.from_residual-in_err-flush.result c.from_residual-in_err-flush.ensures.1 in
     let asked : way_of c.args.words.now ≡ Some c.in_ok-way.way = search rules in
-    rw (p.1, p.2) (record {
-      way = c.in_ok-way.way;
-      asked = asked;
-      script = c.as_slice.result.now;
-      reads = subst (λ bytes. ReadsWhole (g.I.Source.told c.args.input.now) bytes (g.I.Source.told c.read_all.new.input)) (sym c.as_slice.ensures.value) c.in_ok-bytes.ensures.ok;
-      relays = relays_held g.K.Sink.told c.as_slice.result.now c.in_ok-way.way c.args.out.now c.serve_script.new.out c.flush.new.self c.in_err-flush.field-0.0
-          (c.in_ok-serve_script.ensures c.as_slice.result.now c.in_ok-script.ensures.ok) c.in_err-flush.ensures;
-    })
+    rw (p.1, p.2) (served asked c.as_slice.ensures.value c.in_ok-bytes.ensures.ok
+    (relays_held g.K.Sink.told c.as_slice.result.now c.in_ok-way.way c.args.out.now c.serve_script.new.out c.flush.new.self c.in_err-flush.field-0.0
+    (c.in_ok-serve_script.ensures c.as_slice.result.now c.in_ok-script.ensures.ok) c.in_err-flush.ensures))
 
 pub returns : goal.returns
 returns g c =
     let asked : way_of c.args.words.now ≡ Some c.in_ok-way.way = search rules in (
-      record {
-        way = c.in_ok-way.way;
-        asked = asked;
-        script = c.as_slice.result.now;
-        reads = subst (λ bytes. ReadsWhole (g.I.Source.told c.args.input.now) bytes (g.I.Source.told c.read_all.new.input)) (sym c.as_slice.ensures.value) c.in_ok-bytes.ensures.ok;
-        relays = relays_flushed g.K.Sink.told c.as_slice.result.now c.in_ok-way.way c.args.out.now c.serve_script.new.out c.flush.new.self (c.in_ok-serve_script.ensures c.as_slice.result.now c.in_ok-script.ensures.ok) c.in_ok-flush.ensures;
-      },
+      served asked c.as_slice.ensures.value c.in_ok-bytes.ensures.ok
+          (relays_flushed g.K.Sink.told c.as_slice.result.now c.in_ok-way.way c.args.out.now c.serve_script.new.out c.flush.new.self (c.in_ok-serve_script.ensures c.as_slice.result.now c.in_ok-script.ensures.ok)
+          c.in_ok-flush.ensures),
       c.in_ok-flush.ensures.flushed,
     )
