@@ -4,15 +4,17 @@
 //! calls spells stands in `specs/Trees.antt` and `specs/Spells.antt`, and [`laws`] has what holds of it.
 #![tactic(auto)]
 
+mod computed;
 pub mod laws;
 pub mod name_laws;
 mod stream;
 mod value;
 pub mod value_laws;
 
+pub use computed::Computed;
 pub use stream::Stream;
 pub use sval_label::{
-    AnyCall, Call, Error, Fragment, GroupedCall, Head, Int, Lending, Lent, NoMemory, Result, Slot,
-    refusal,
+    AnyCall, Call, Error, Fragment, GroupedCall, Head, Index, Int, Label, Lending, Lent, Name,
+    NoMemory, Result, Slot, Tag, refusal, tags,
 };
 pub use value::Value;

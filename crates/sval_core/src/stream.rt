@@ -1,13 +1,16 @@
 //! What takes calls.
 
-ghost use Rattle.std.specs.Prelude.{true, false};
+ghost use Rattle.std.specs.Prelude.{true, false, pos};
 ghost use Rattle.sval_label.specs.Made.{call_of};
-ghost use Rattle.sval_label.specs.Calls.{Truth, Int, I64, TextBegin, TextFragment, TextEnd, Begin, End, PartBegin, PartEnd, Seq, Item};
 ghost use Rattle.sval_label.specs.Calls as call;
-ghost use Rattle.sval_core.specs.Law.{Law, Standing, Answers, Emits};
+ghost use Rattle.sval_label.specs.SeenTags.{seen_tag};
+ghost use Rattle.sval_label.specs.SeenIndex.{seen_index};
+ghost use Rattle.sval_label.specs.SeenName.{seen_option_tag, name_of};
+ghost use Rattle.sval_core.specs.Law.{Law, Standing, Answers, Emits, as_computed};
 
+use crate::computed::Computed;
 use crate::value::Value;
-use sval_label::{AnyCall, Lending, Result};
+use sval_label::{AnyCall, Index, Label, Lending, Lent, Name, Result, Tag};
 
 /// What takes calls, one by one.
 ///
@@ -37,9 +40,9 @@ use sval_label::{AnyCall, Lending, Result};
 ///
 ///     ghost standing = { λ total. total_standing total.total };
 ///
-///     fn take(&mut self, call: AnyCall<'_, L::Text>) -> Result
+///     fn take(&mut self, call: AnyCall<'_, L::Text, L::Bytes>) -> Result
 ///         ensures { Answers total_law result
-///             (total_standing self.old.total) (call_of L.text call.entry) (total_standing self.new.total) }
+///             (total_standing self.old.total) (call_of L.text L.bytes call.entry) (total_standing self.new.total) }
 ///     {
 ///         if let GroupedCall::Int(Int::I64(number)) = call.grouped() {
 ///             self.total = self.total.saturating_add(number);
@@ -64,8 +67,8 @@ pub trait Stream<L: Lending> {
     /// Takes a call, or refuses it.
     ///
     /// An implementation writes this clause out, at its own law and standing: the checker can't copy it from here.
-    fn take(&mut self, call: AnyCall<'_, L::Text>) -> Result
-        ensures { Answers law result (standing self.old) (call_of L.text call.entry) (standing self.new) };
+    fn take(&mut self, call: AnyCall<'_, L::Text, L::Bytes>) -> Result
+        ensures { Answers law result (standing self.old) (call_of L.text L.bytes call.entry) (standing self.new) };
 
     /// No value.
     final fn null(&mut self) -> Result
@@ -76,72 +79,440 @@ pub trait Stream<L: Lending> {
 
     /// A truth value.
     final fn bool(&mut self, value: bool) -> Result
-        ensures { Answers law result (standing self.old) (Truth value) (standing self.new) }
+        ensures { Answers law result (standing self.old) (call.Truth value) (standing self.new) }
     {
         self.take(AnyCall::Bool(value))
     }
 
+    /// A whole number of 8 bits.
+    final fn u8(&mut self, value: u8) -> Result
+        ensures { Answers law result (standing self.old)
+            (call.Int call.U8 (pos value)) (standing self.new) }
+    {
+        self.take(AnyCall::U8(value))
+    }
+
+    /// A whole number of 16 bits.
+    final fn u16(&mut self, value: u16) -> Result
+        ensures { Answers law result (standing self.old)
+            (call.Int call.U16 (pos value)) (standing self.new) }
+    {
+        self.take(AnyCall::U16(value))
+    }
+
+    /// A whole number of 32 bits.
+    final fn u32(&mut self, value: u32) -> Result
+        ensures { Answers law result (standing self.old)
+            (call.Int call.U32 (pos value)) (standing self.new) }
+    {
+        self.take(AnyCall::U32(value))
+    }
+
+    /// A whole number of 64 bits.
+    final fn u64(&mut self, value: u64) -> Result
+        ensures { Answers law result (standing self.old)
+            (call.Int call.U64 (pos value)) (standing self.new) }
+    {
+        self.take(AnyCall::U64(value))
+    }
+
+    /// A whole number of 128 bits.
+    final fn u128(&mut self, value: u128) -> Result
+        ensures { Answers law result (standing self.old)
+            (call.Int call.U128 (pos value)) (standing self.new) }
+    {
+        self.take(AnyCall::U128(value))
+    }
+
+    /// A whole number of 8 bits with its sign.
+    final fn i8(&mut self, value: i8) -> Result
+        ensures { Answers law result (standing self.old)
+            (call.Int call.I8 value) (standing self.new) }
+    {
+        self.take(AnyCall::I8(value))
+    }
+
+    /// A whole number of 16 bits with its sign.
+    final fn i16(&mut self, value: i16) -> Result
+        ensures { Answers law result (standing self.old)
+            (call.Int call.I16 value) (standing self.new) }
+    {
+        self.take(AnyCall::I16(value))
+    }
+
+    /// A whole number of 32 bits with its sign.
+    final fn i32(&mut self, value: i32) -> Result
+        ensures { Answers law result (standing self.old)
+            (call.Int call.I32 value) (standing self.new) }
+    {
+        self.take(AnyCall::I32(value))
+    }
+
     /// A whole number of 64 bits with its sign.
     final fn i64(&mut self, value: i64) -> Result
-        ensures { Answers law result (standing self.old) (Int I64 value) (standing self.new) }
+        ensures { Answers law result (standing self.old)
+            (call.Int call.I64 value) (standing self.new) }
     {
         self.take(AnyCall::I64(value))
     }
 
+    /// A whole number of 128 bits with its sign.
+    final fn i128(&mut self, value: i128) -> Result
+        ensures { Answers law result (standing self.old)
+            (call.Int call.I128 value) (standing self.new) }
+    {
+        self.take(AnyCall::I128(value))
+    }
+
     /// A text begins, of `size` bytes where that is given.
     final fn text_begin(&mut self, size: Option<usize>) -> Result
-        ensures { Answers law result (standing self.old) (TextBegin size) (standing self.new) }
+        ensures { Answers law result (standing self.old) (call.TextBegin size) (standing self.new) }
     {
         self.take(AnyCall::TextBegin(size))
     }
 
     /// A part of a text, which this stream may keep.
     final fn text_fragment(&mut self, fragment: L::Text) -> Result
-        ensures { Answers law result (standing self.old) (TextFragment true (L.text fragment)) (standing self.new) }
+        ensures { Answers law result (standing self.old)
+            (call.TextFragment true (L.text fragment)) (standing self.new) }
     {
         self.take(AnyCall::TextFragment(fragment))
     }
 
     /// A part of a text, which lives for the call alone.
     final fn text_fragment_computed(&mut self, fragment: &str) -> Result
-        ensures { Answers law result (standing self.old) (TextFragment false fragment.now) (standing self.new) }
+        ensures { Answers law result (standing self.old)
+            (call.TextFragment false fragment.now) (standing self.new) }
     {
         self.take(AnyCall::TextFragmentComputed(fragment))
     }
 
     /// A text ends.
     final fn text_end(&mut self) -> Result
-        ensures { Answers law result (standing self.old) TextEnd (standing self.new) }
+        ensures { Answers law result (standing self.old) call.TextEnd (standing self.new) }
     {
         self.take(AnyCall::TextEnd)
     }
 
+    /// A binary begins, of `size` bytes where that is given.
+    final fn binary_begin(&mut self, size: Option<usize>) -> Result
+        ensures { Answers law result (standing self.old)
+            (call.BinaryBegin size) (standing self.new) }
+    {
+        self.take(AnyCall::BinaryBegin(size))
+    }
+
+    /// A part of a binary, which this stream may keep.
+    final fn binary_fragment(&mut self, fragment: L::Bytes) -> Result
+        ensures { Answers law result (standing self.old)
+            (call.BinaryFragment true (L.bytes fragment)) (standing self.new) }
+    {
+        self.take(AnyCall::BinaryFragment(fragment))
+    }
+
+    /// A part of a binary, which lives for the call alone.
+    final fn binary_fragment_computed(&mut self, fragment: &[u8]) -> Result
+        ensures { Answers law result (standing self.old)
+            (call.BinaryFragment false fragment.now) (standing self.new) }
+    {
+        self.take(AnyCall::BinaryFragmentComputed(fragment))
+    }
+
+    /// A binary ends.
+    final fn binary_end(&mut self) -> Result
+        ensures { Answers law result (standing self.old) call.BinaryEnd (standing self.new) }
+    {
+        self.take(AnyCall::BinaryEnd)
+    }
+
+    /// A map begins, of `size` entries where that is given.
+    final fn map_begin(&mut self, size: Option<usize>) -> Result
+        ensures { Answers law result (standing self.old)
+            (call.Begin call.Map size) (standing self.new) }
+    {
+        self.take(AnyCall::MapBegin(size))
+    }
+
+    /// A key of a map begins.
+    final fn map_key_begin(&mut self) -> Result
+        ensures { Answers law result (standing self.old)
+            (call.PartBegin call.Key) (standing self.new) }
+    {
+        self.take(AnyCall::MapKeyBegin)
+    }
+
+    /// A key of a map ends.
+    final fn map_key_end(&mut self) -> Result
+        ensures { Answers law result (standing self.old)
+            (call.PartEnd call.Key) (standing self.new) }
+    {
+        self.take(AnyCall::MapKeyEnd)
+    }
+
+    /// A value of a map begins.
+    final fn map_value_begin(&mut self) -> Result
+        ensures { Answers law result (standing self.old)
+            (call.PartBegin call.Value) (standing self.new) }
+    {
+        self.take(AnyCall::MapValueBegin)
+    }
+
+    /// A value of a map ends.
+    final fn map_value_end(&mut self) -> Result
+        ensures { Answers law result (standing self.old)
+            (call.PartEnd call.Value) (standing self.new) }
+    {
+        self.take(AnyCall::MapValueEnd)
+    }
+
+    /// A map ends.
+    final fn map_end(&mut self) -> Result
+        ensures { Answers law result (standing self.old) (call.End call.Map) (standing self.new) }
+    {
+        self.take(AnyCall::MapEnd)
+    }
+
     /// A sequence begins, of `size` items where that is given.
     final fn seq_begin(&mut self, size: Option<usize>) -> Result
-        ensures { Answers law result (standing self.old) (Begin Seq size) (standing self.new) }
+        ensures { Answers law result (standing self.old)
+            (call.Begin call.Seq size) (standing self.new) }
     {
         self.take(AnyCall::SeqBegin(size))
     }
 
     /// An item of a sequence begins.
     final fn seq_value_begin(&mut self) -> Result
-        ensures { Answers law result (standing self.old) (PartBegin Item) (standing self.new) }
+        ensures { Answers law result (standing self.old)
+            (call.PartBegin call.Item) (standing self.new) }
     {
         self.take(AnyCall::SeqValueBegin)
     }
 
     /// An item of a sequence ends.
     final fn seq_value_end(&mut self) -> Result
-        ensures { Answers law result (standing self.old) (PartEnd Item) (standing self.new) }
+        ensures { Answers law result (standing self.old)
+            (call.PartEnd call.Item) (standing self.new) }
     {
         self.take(AnyCall::SeqValueEnd)
     }
 
     /// A sequence ends.
     final fn seq_end(&mut self) -> Result
-        ensures { Answers law result (standing self.old) (End Seq) (standing self.new) }
+        ensures { Answers law result (standing self.old) (call.End call.Seq) (standing self.new) }
     {
         self.take(AnyCall::SeqEnd)
+    }
+
+    /// An enum begins.
+    final fn enum_begin(
+        &mut self,
+        tag: Option<&Tag>,
+        label: Option<&Label>,
+        index: Option<&Index>,
+    ) -> Result
+        ensures { Answers law result (standing self.old)
+            (call.EnumBegin (name_of tag.entry label.entry index.entry)) (standing self.new) }
+    {
+        self.take(AnyCall::EnumBegin(Name { tag, label, index }))
+    }
+
+    /// An enum ends.
+    final fn enum_end(
+        &mut self,
+        tag: Option<&Tag>,
+        label: Option<&Label>,
+        index: Option<&Index>,
+    ) -> Result
+        ensures { Answers law result (standing self.old)
+            (call.EnumEnd (name_of tag.entry label.entry index.entry)) (standing self.new) }
+    {
+        self.take(AnyCall::EnumEnd(Name { tag, label, index }))
+    }
+
+    /// A value with a name of its own begins.
+    final fn tagged_begin(
+        &mut self,
+        tag: Option<&Tag>,
+        label: Option<&Label>,
+        index: Option<&Index>,
+    ) -> Result
+        ensures { Answers law result (standing self.old)
+            (call.TaggedBegin (name_of tag.entry label.entry index.entry)) (standing self.new) }
+    {
+        self.take(AnyCall::TaggedBegin(Name { tag, label, index }))
+    }
+
+    /// A value with a name of its own ends.
+    final fn tagged_end(
+        &mut self,
+        tag: Option<&Tag>,
+        label: Option<&Label>,
+        index: Option<&Index>,
+    ) -> Result
+        ensures { Answers law result (standing self.old)
+            (call.TaggedEnd (name_of tag.entry label.entry index.entry)) (standing self.new) }
+    {
+        self.take(AnyCall::TaggedEnd(Name { tag, label, index }))
+    }
+
+    /// A name that is a value.
+    final fn tag(
+        &mut self,
+        tag: Option<&Tag>,
+        label: Option<&Label>,
+        index: Option<&Index>,
+    ) -> Result
+        ensures { Answers law result (standing self.old)
+            (call.Standalone (name_of tag.entry label.entry index.entry)) (standing self.new) }
+    {
+        self.take(AnyCall::Tag(Name { tag, label, index }))
+    }
+
+    /// A hint of what the value around it is for.
+    final fn tag_hint(&mut self, tag: &Tag) -> Result
+        ensures { Answers law result (standing self.old)
+            (call.TagHint (seen_tag tag.now)) (standing self.new) }
+    {
+        self.take(AnyCall::TagHint(tag))
+    }
+
+    /// A record begins, of `size` fields where that is given.
+    final fn record_begin(
+        &mut self,
+        tag: Option<&Tag>,
+        label: Option<&Label>,
+        index: Option<&Index>,
+        size: Option<usize>,
+    ) -> Result
+        ensures { Answers law result (standing self.old)
+            (call.Begin (call.Record (name_of tag.entry label.entry index.entry)) size) (standing self.new) }
+    {
+        self.take(AnyCall::RecordBegin(Name { tag, label, index }, size))
+    }
+
+    /// A field of a record begins.
+    final fn record_value_begin(&mut self, tag: Option<&Tag>, label: &Label) -> Result
+        ensures { Answers law result (standing self.old)
+            (call.PartBegin (call.Field (seen_option_tag tag.entry) label.now)) (standing self.new) }
+    {
+        self.take(AnyCall::RecordValueBegin(tag, label))
+    }
+
+    /// A field of a record ends.
+    final fn record_value_end(&mut self, tag: Option<&Tag>, label: &Label) -> Result
+        ensures { Answers law result (standing self.old)
+            (call.PartEnd (call.Field (seen_option_tag tag.entry) label.now)) (standing self.new) }
+    {
+        self.take(AnyCall::RecordValueEnd(tag, label))
+    }
+
+    /// A record ends.
+    final fn record_end(
+        &mut self,
+        tag: Option<&Tag>,
+        label: Option<&Label>,
+        index: Option<&Index>,
+    ) -> Result
+        ensures { Answers law result (standing self.old)
+            (call.End (call.Record (name_of tag.entry label.entry index.entry))) (standing self.new) }
+    {
+        self.take(AnyCall::RecordEnd(Name { tag, label, index }))
+    }
+
+    /// A tuple begins, of `size` fields where that is given.
+    final fn tuple_begin(
+        &mut self,
+        tag: Option<&Tag>,
+        label: Option<&Label>,
+        index: Option<&Index>,
+        size: Option<usize>,
+    ) -> Result
+        ensures { Answers law result (standing self.old)
+            (call.Begin (call.Tuple (name_of tag.entry label.entry index.entry)) size) (standing self.new) }
+    {
+        self.take(AnyCall::TupleBegin(Name { tag, label, index }, size))
+    }
+
+    /// A field of a tuple begins.
+    final fn tuple_value_begin(&mut self, tag: Option<&Tag>, index: &Index) -> Result
+        ensures { Answers law result (standing self.old)
+            (call.PartBegin (call.Place (seen_option_tag tag.entry) (seen_index index.now))) (standing self.new) }
+    {
+        self.take(AnyCall::TupleValueBegin(tag, index))
+    }
+
+    /// A field of a tuple ends.
+    final fn tuple_value_end(&mut self, tag: Option<&Tag>, index: &Index) -> Result
+        ensures { Answers law result (standing self.old)
+            (call.PartEnd (call.Place (seen_option_tag tag.entry) (seen_index index.now))) (standing self.new) }
+    {
+        self.take(AnyCall::TupleValueEnd(tag, index))
+    }
+
+    /// A tuple ends.
+    final fn tuple_end(
+        &mut self,
+        tag: Option<&Tag>,
+        label: Option<&Label>,
+        index: Option<&Index>,
+    ) -> Result
+        ensures { Answers law result (standing self.old)
+            (call.End (call.Tuple (name_of tag.entry label.entry index.entry))) (standing self.new) }
+    {
+        self.take(AnyCall::TupleEnd(Name { tag, label, index }))
+    }
+
+    /// A record that is a tuple too begins, of `size` fields where that is given.
+    final fn record_tuple_begin(
+        &mut self,
+        tag: Option<&Tag>,
+        label: Option<&Label>,
+        index: Option<&Index>,
+        size: Option<usize>,
+    ) -> Result
+        ensures { Answers law result (standing self.old)
+            (call.Begin (call.RecordTuple (name_of tag.entry label.entry index.entry)) size) (standing self.new) }
+    {
+        self.take(AnyCall::RecordTupleBegin(Name { tag, label, index }, size))
+    }
+
+    /// A field of a record that is a tuple too begins.
+    final fn record_tuple_value_begin(
+        &mut self,
+        tag: Option<&Tag>,
+        label: &Label,
+        index: &Index,
+    ) -> Result
+        ensures { Answers law result (standing self.old)
+            (call.PartBegin (call.FieldPlace (seen_option_tag tag.entry) label.now (seen_index index.now))) (standing self.new) }
+    {
+        self.take(AnyCall::RecordTupleValueBegin(tag, label, index))
+    }
+
+    /// A field of a record that is a tuple too ends.
+    final fn record_tuple_value_end(
+        &mut self,
+        tag: Option<&Tag>,
+        label: &Label,
+        index: &Index,
+    ) -> Result
+        ensures { Answers law result (standing self.old)
+            (call.PartEnd (call.FieldPlace (seen_option_tag tag.entry) label.now (seen_index index.now))) (standing self.new) }
+    {
+        self.take(AnyCall::RecordTupleValueEnd(tag, label, index))
+    }
+
+    /// A record that is a tuple too ends.
+    final fn record_tuple_end(
+        &mut self,
+        tag: Option<&Tag>,
+        label: Option<&Label>,
+        index: Option<&Index>,
+    ) -> Result
+        ensures { Answers law result (standing self.old)
+            (call.End (call.RecordTuple (name_of tag.entry label.entry index.entry))) (standing self.new) }
+    {
+        self.take(AnyCall::RecordTupleEnd(Name { tag, label, index }))
     }
 
     /// Streams a value into this stream.
@@ -149,5 +520,18 @@ pub trait Stream<L: Lending> {
         ensures { Emits law result (standing self.old) (V.emission v.now) (standing self.new) }
     {
         v.stream(self)
+    }
+
+    /// Streams a value into this stream, which may keep nothing of it.
+    final fn value_computed<'v, V: Value<'v, Lent<'v>>>(&mut self, v: &'v V) -> Result
+    where
+        Self: Sized,
+        ensures { Emits law result (standing self.old) (as_computed (V.emission v.now)) (standing self.new) }
+    {
+        let mut computed = Computed::new(self);
+        match v.stream(&mut computed) {
+            Ok(()) => Ok(()),
+            Err(error) => Err(error),
+        }
     }
 }

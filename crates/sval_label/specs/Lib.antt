@@ -2,6 +2,10 @@ pub mod Texts
 pub mod Calls
 pub mod Tags
 pub mod Ranges
+pub mod SeenTags
+pub mod SeenLabel
+pub mod SeenIndex
+pub mod SeenName
 pub mod Made
 pub mod Grouped
 pub mod Equalities

@@ -7,10 +7,19 @@
 mod call;
 mod error;
 mod grouped;
+mod index;
+mod label;
 pub mod laws;
+mod name;
+mod tag;
+pub mod tags;
 #[cfg(test)]
 mod tests;
 
 pub use call::{AnyCall, Call, Lending, Lent};
 pub use error::{Error, NoMemory, Result, refusal};
 pub use grouped::{Fragment, GroupedCall, Head, Int, Slot};
+pub use index::Index;
+pub use label::Label;
+pub use name::Name;
+pub use tag::Tag;

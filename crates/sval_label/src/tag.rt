@@ -1,0 +1,19 @@
+//! Hints on calls.
+
+ghost use Rattle.std.specs.Prelude.{◌≡◌};
+
+/// A hint of what a label, an index or a value is for, by a text that those who know it agree on.
+#[derive(Clone, Copy, Debug, PartialEq, Eq)]
+pub struct Tag {
+    /// What it is known by.
+    pub text: &'static str,
+}
+
+impl Tag {
+    /// The tag that is known by a text.
+    pub fn new(text: &'static str) -> Tag
+        ensures { result.text.now ≡ text.now }
+    {
+        Tag { text }
+    }
+}
