@@ -8,29 +8,85 @@ LIMIT = 1 << 24
 TEXT_BYTES = 7_000_000
 PIECE = 1024
 RECORDS = 50_000
+EVENTS = 12_000
 LEVELS = 100_000
 
 
+def hexed(text):
+    return "=" + text.encode().hex()
+
+
 def records():
-    """A sequence of many records, each a sequence of a number and a text in two fragments."""
+    """A sequence of records of a number and a text in two fragments."""
     lines = [f"seq_begin {RECORDS}"]
     for number in range(RECORDS):
-        digits = str(number).encode().hex()
         lines += [
             "seq_value_begin",
-            "seq_begin 2",
-            "seq_value_begin",
-            f"i64 {number}",
-            "seq_value_end",
-            "seq_value_begin",
+            "record_begin - - - 2",
+            f"record_value_begin - {hexed('id')}:VALUE_IDENT",
+            f"u64 {number}",
+            f"record_value_end - {hexed('id')}:VALUE_IDENT",
+            f"record_value_begin - {hexed('name')}:VALUE_IDENT",
             "text_begin -",
             "text_fragment =6e",
-            f"text_fragment_computed ={digits}",
+            f"text_fragment_computed {hexed(str(number))}",
             "text_end",
-            "seq_value_end",
-            "seq_end",
+            f"record_value_end - {hexed('name')}:VALUE_IDENT",
+            "record_end - - -",
             "seq_value_end",
         ]
+    lines.append("seq_end")
+    return lines
+
+
+LEVEL_NAMES = ["Trace", "Debug", "Info", "Warn", "Error"]
+
+
+def name(tag, label, index):
+    """The fields of a name whose label is an identifier and whose index is a place."""
+    place = "-" if index is None else f"{index}:VALUE_OFFSET"
+    return f"{tag} {hexed(label)}:VALUE_IDENT {place}"
+
+
+def optional(number):
+    """A number that may not be there."""
+    if number is None:
+        return ["tag " + name("RUST_OPTION_NONE", "None", 0)]
+    some = name("RUST_OPTION_SOME", "Some", 1)
+    return ["tagged_begin " + some, f"u64 {number}", "tagged_end " + some]
+
+
+def short_text(*pieces):
+    size = sum(len(piece.encode()) for piece in pieces)
+    return [f"text_begin {size}", *("text_fragment " + hexed(piece) for piece in pieces), "text_end"]
+
+
+def event(number):
+    """A log event: a record that is a tuple too, with its time, level, message, user and error."""
+    level = number % 5
+    fields = {
+        "ts": short_text(f"2026-01-02T03:{number // 60 % 60:02}:{number % 60:02}Z"),
+        "lvl": [
+            "enum_begin " + name("-", "Level", None),
+            "tag " + name("-", LEVEL_NAMES[level], level),
+            "enum_end " + name("-", "Level", None),
+        ],
+        "msg": short_text("request served in", f" {number * 7 % 1000} ms"),
+        "user": optional(number * 7919 % 100_000 if number % 4 else None),
+        "err": optional(500 if number % 9 == 0 else None),
+    }
+    lines = [f"record_tuple_begin {name('-', 'Event', None)} {len(fields)}"]
+    for place, (label, value) in enumerate(fields.items()):
+        field = name("-", label, place)
+        lines += [f"record_tuple_value_begin {field}", *value, f"record_tuple_value_end {field}"]
+    return [*lines, "record_tuple_end " + name("-", "Event", None)]
+
+
+def log():
+    """A sequence of log events."""
+    lines = ["seq_begin -"]
+    for number in range(EVENTS):
+        lines += ["seq_value_begin", *event(number), "seq_value_end"]
     lines.append("seq_end")
     return lines
 
@@ -66,6 +122,7 @@ def main():
     clean = letters(TEXT_BYTES)
     scripts = {
         "records": records(),
+        "log": log(),
         "text_clean": text(clean),
         "text_escapes": text(with_escapes(clean, 16)),
         "nested": nested(),

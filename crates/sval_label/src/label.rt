@@ -1,4 +1,4 @@
-//! Names in texts.
+//! Names as texts.
 
 ghost use Rattle.std.specs.Prelude.{◌≡◌, None, Some, true, false, IfOk, IfSome, IsOk, string_bytes, option_map, is_some};
 ghost use Rattle.std.specs.Bool.{OnTrue};
@@ -18,9 +18,15 @@ enum LabelText<'computed> {
     Owned(String),
 }
 
-/// A name in a text, as that of a field, a variant or a type.
+/// A name as a text: that of a field, a variant or a type.
 ///
-/// Labels are equal, and hash alike, by their texts alone.
+/// It is seen as its text, its tag and whether it is static. Labels are equal, and hash alike, by their texts alone.
+///
+/// ```
+/// let label = Label::new("id").with_tag(&tags::VALUE_IDENT);
+/// assert_eq!(rt; label.as_str(), "id");
+/// assert!(rt; label == Label::new_computed("id"));
+/// ```
 #[derive(Drop, Debug)]
 pub struct Label<'computed> {
     text: LabelText<'computed>,
@@ -38,7 +44,7 @@ impl<'computed> Model for Label<'computed> {
 }
 
 impl<'computed> Label<'computed> {
-    /// A label that lives as long as the program.
+    /// A static label: its text lives as long as the program.
     pub fn new(label: &'static str) -> Label<'computed>
         ensures { result ≡ record { text = label.now; tag = None; is_static = true } }
     {
@@ -48,7 +54,7 @@ impl<'computed> Label<'computed> {
         }
     }
 
-    /// A label that lives as long as the text that it is computed from.
+    /// A label over a text that lives for `'computed`. It isn't static.
     pub fn new_computed(label: &'computed str) -> Label<'computed>
         ensures { result ≡ record { text = label.now; tag = None; is_static = false } }
     {
@@ -58,7 +64,7 @@ impl<'computed> Label<'computed> {
         }
     }
 
-    /// A label that owns its text. It takes no memory.
+    /// A label that owns its text. It isn't static, and it takes no memory.
     pub fn new_owned(label: String) -> Label<'static>
         ensures { result ≡ record { text = string_bytes label; tag = None; is_static = false } }
     {
@@ -79,7 +85,7 @@ impl<'computed> Label<'computed> {
         }
     }
 
-    /// The text, where it lives as long as the program.
+    /// The text, exactly where this label is static.
     pub fn as_static_str(&self) -> Option<&'static str>
         ensures exactly { is_some result ≡ self.now.is_static }
         ensures text { IfSome result (λ text. text.now ≡ self.now.text) }
@@ -90,7 +96,7 @@ impl<'computed> Label<'computed> {
         }
     }
 
-    /// This label with a tag.
+    /// This label with this tag, in place of its own if it had one.
     pub fn with_tag(self, tag: &Tag) -> Self
         ensures { result ≡ record self.entry { tag = Some (seen_tag tag.now) } }
     {
@@ -100,14 +106,16 @@ impl<'computed> Label<'computed> {
         }
     }
 
-    /// The tag.
+    /// The tag, if it has one.
     pub fn tag(&self) -> Option<&Tag>
         ensures { option_map seen_ref_tag result ≡ self.now.tag }
     {
         self.tag.as_ref()
     }
 
-    /// This label with a text that it owns, unless it is static.
+    /// This label with a text that it owns, or the same static one: of the same text, tag and staticness.
+    ///
+    /// [`NoMemory`] comes only where memory was wanting for the text, and never for a static label, which takes none.
     pub fn to_owned(&self, alloc: Global) -> Result<Label<'static>, NoMemory>
         ensures same { IfOk result (λ label. label ≡ self.now) }
         ensures static_needs_none { OnTrue self.now.is_static (IsOk result) }
@@ -123,7 +131,7 @@ impl<'computed> Label<'computed> {
         })
     }
 
-    /// As [`Label::to_owned`].
+    /// The same as [`Label::to_owned`].
     pub fn try_to_owned(&self, alloc: Global) -> Result<Label<'static>, NoMemory>
         ensures same { IfOk result (λ label. label ≡ self.now) }
         ensures static_needs_none { OnTrue self.now.is_static (IsOk result) }
@@ -131,7 +139,7 @@ impl<'computed> Label<'computed> {
         self.to_owned(alloc)
     }
 
-    /// As [`Label::to_owned`], for a label that lives no longer than this one.
+    /// The same as [`Label::to_owned`], as a label of the same lifetime.
     pub fn try_clone(&self, alloc: Global) -> Result<Label<'computed>, NoMemory>
         ensures same { IfOk result (λ label. label ≡ self.now) }
         ensures static_needs_none { OnTrue self.now.is_static (IsOk result) }

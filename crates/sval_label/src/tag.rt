@@ -3,6 +3,8 @@
 ghost use Rattle.std.specs.Prelude.{◌≡◌};
 
 /// A hint of what a label, an index or a value is for, by a text that those who know it agree on.
+///
+/// Two tags are equal exactly if their texts are. [`tags`](crate::tags) has those that this framework knows.
 #[derive(Clone, Copy, Debug, PartialEq, Eq)]
 pub struct Tag {
     /// What it is known by.

@@ -1,4 +1,4 @@
-//! The tags that this framework knows.
+//! The tags that this framework knows. The text of each is its name.
 
 use crate::tag::Tag;
 
