@@ -29,9 +29,9 @@ impl<L: Lending> Stream<L> for Total {
 
     ghost standing = { λ total. total_standing total.total };
 
-    fn take(&mut self, call: AnyCall<'_, L::Text>) -> Result
-        ensures { Answers total_law result
-            (total_standing self.old.total) (call_of L.text call.entry) (total_standing self.new.total) }
+    fn take(&mut self, call: AnyCall<'_, L::Text, L::Bytes>) -> Result
+        ensures { Answers total_law result (total_standing self.old.total)
+            (call_of L.text L.bytes call.entry) (total_standing self.new.total) }
     {
         if let GroupedCall::Int(Int::I64(number)) = call.grouped() {
             self.total = self.total.saturating_add(number);

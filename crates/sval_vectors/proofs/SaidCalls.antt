@@ -11,7 +11,7 @@ use Rattle.sval_core.specs.Law.{Law, Standing, Emission, Takes, Refuses, Streams
 use Rattle.sval_core.proofs.Emissions.{streams_one, stops_one, streams_then, stops_first, stops_later, passes_on}
 
 abbrev Said : Type 0
-Said = AnyCall (Bor (List ℕ))
+Said = AnyCall (Bor (List ℕ)) (Bor (List ℕ))
 
 abbrev said : List Call → Bool → Emission
 said calls refuses = record { calls = calls; refuses = refuses }

@@ -12,6 +12,8 @@ mod named_calls;
 mod real_sinks;
 mod said;
 #[cfg(test)]
+mod scripts;
+#[cfg(test)]
 mod sinks;
 #[cfg(test)]
 mod written;
