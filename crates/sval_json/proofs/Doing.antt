@@ -2,12 +2,13 @@
 use Rattle.std.specs.Prelude.{◌≡◌, ℕ, ◌≤◌, List, [], ◌++◌, Option, Some, None, IfSome, length, refl}
 use Rattle.std.proofs.Common.{sym, ap, ◌∙◌, subst, append-nil}
 use Rattle.std.proofs.lemmas.List.{length-append}
-use Rattle.sval_json.specs.declared.sink.SinkError.{SinkError}
+use Rattle.sval_json.specs.declared.error.Stop.{Stop}
+use Rattle.sval_json.specs.declared.error.Stop.TheVariants.{Step, Sink}
 use Rattle.sval_json.specs.Number.{Refusal}
 use Rattle.sval_json.specs.Actions.{Outcome, Action, nothing, continue, ◌then◌}
-use Rattle.sval_json.specs.Sinks.{Told, IsSteady, appended, less_room, HasRoom, Appends}
-use Rattle.sval_json.specs.WriterLaw.{Target, WriterView, with_bytes, after_action, HasDone, IsSinkCause, IsStopped}
-use Rattle.sval_json.proofs.Appending.{appended-appended, appended-nothing, less_room-zero, less_room-less_room, room_for_nothing, room_for_both, lacks_both, front_after, counts_since, counted_since}
+use Rattle.sval_json.specs.Sinks.{Told, appended, less_room, HasRoom, WritesWhole}
+use Rattle.sval_json.specs.WriterLaw.{Target, WriterView, with_bytes, after_action, HasDone, IsLeftBy, IsStopped}
+use Rattle.sval_json.proofs.Appending.{appended-appended, appended-nothing, less_room-zero, less_room-less_room, room_for_nothing, room_for_both, writes_both, stops_after}
 
 -- ---- the sink
 
@@ -24,23 +25,30 @@ with_bytes-append target xs ys =
     ap (λ text. with_both target text (less_room (less_room target.told.room (length xs)) (length ys))) (appended-appended target.told.text xs ys)
     ∙ ap (with_both target (appended target.told.text (xs ++ ys))) (less_room-less_room target.told.room (length xs) (length ys) ∙ ap (less_room target.told.room) (sym (length-append xs ys)))
 
--- where the first bytes had room, and the next stopped it, the whole did so
-why_after : (old mid : Target) (new : Told) (why : Option SinkError) (xs ys zs : List ℕ) → Appends old.told xs mid.told → IsSteady old.told mid.told
-    → IsSinkCause why mid.told ys new → IsSinkCause why old.told (xs ++ (ys ++ zs)) new
-why_after old mid new None xs ys zs a s w = w
-why_after old mid new (Some why) xs ys zs a s w = (counted_since new why s w.0, λ failed. lacks_both old.told mid.told xs ys zs a (w.1 failed))
+-- what ends a whole as it ends a part of it: the part's refusal is that of the whole, and nothing is written after it
+abbrev pub Ends : Option Refusal → Option Refusal → List ℕ → Type 0
+Ends part whole zs = (why : Refusal) → part ≡ Some why → (zs ≡ []) × (whole ≡ Some why)
+
+-- after some first bytes a part was left so, and so the whole was
+left_after : {old mid : Told} (new : Told) {all : List ℕ} (part whole : Option Refusal) (why : Option Stop) (xs ys zs : List ℕ) → WritesWhole old xs mid → all ≡ xs ++ (ys ++ zs) → Ends part whole zs
+    → IsLeftBy why part ys mid new → IsLeftBy why whole all old new
+left_after new part whole None xs ys zs w e ends left = absurd left
+left_after {old = old} new {all = all} part whole (Some (Step why)) xs ys zs w e ends left =
+    let end = ends why left.0 in
+    let same : all ≡ xs ++ ys = e ∙ ap (λ more. xs ++ (ys ++ more)) end.0 ∙ ap (λ more. xs ++ more) (append-nil ys) in
+    (end.1, subst (λ bytes. WritesWhole old bytes new) (sym same) (writes_both xs ys w left.1))
+left_after new part whole (Some (Sink why)) xs ys zs w e ends left = stops_after xs ys zs w e left
 
 -- after some first bytes a part was stopped, and so the whole was
-stopped_within : {part : Action} (whole : Action) (old : WriterView) {mid new : WriterView} (xs zs : List ℕ) → HasRoom old.target.told xs → mid.target ≡ with_bytes xs old.target
-    → (whole old.state).written ≡ xs ++ ((part mid.state).written ++ zs) → IsStopped part mid new → IsStopped whole old new
-stopped_within {part} whole old {mid} {new} xs zs fits e w stop =
-    let ys : List ℕ = (part mid.state).written in
-    let a : Appends old.target.told xs mid.target.told = record { fits = fits; text = ap (λ t. t.told.text) e; room = ap (λ t. t.told.room) e } in
-    let s : IsSteady old.target.told mid.target.told = record { faults = ap (λ t. t.told.faults) e; wants = ap (λ t. t.told.wants) e } in
+pub stopped_within : {part : Action} (whole : Action) (old : WriterView) {mid new : WriterView} (xs zs : List ℕ) → HasRoom old.target.told xs → mid.target ≡ with_bytes xs old.target
+    → (whole old.state).written ≡ xs ++ ((part mid.state).written ++ zs) → Ends (part mid.state).refusal (whole old.state).refusal zs → IsStopped part mid new → IsStopped whole old new
+stopped_within {part} whole old {mid} {new} xs zs fits e w ends stop =
+    let first : WritesWhole old.target.told xs mid.target.told = record {
+      appends = record { fits = fits; text = ap (λ t. t.told.text) e; room = ap (λ t. t.told.room) e };
+      steady = record { faults = ap (λ t. t.told.faults) e; wants = ap (λ t. t.told.wants) e };
+    } in
     record {
-      why = subst (λ bytes. IsSinkCause new.target.why old.target.told bytes new.target.told) (sym w) (why_after old.target mid.target new.target.told new.target.why xs ys zs a s stop.why);
-      front = front_after xs ys zs a w stop.front;
-      counts = counts_since s stop.counts;
+      left = left_after new.target.told (part mid.state).refusal (whole old.state).refusal new.target.why xs (part mid.state).written zs first w ends stop.left;
       name = stop.name ∙ ap (λ t. t.name) e;
     }
 
@@ -74,20 +82,21 @@ done_then {first} {next} {old} {mid} {new} d e =
       view = second.view ∙ sym (after_then first next old d.may.refusal);
     }
 
--- what the first of two actions writes stands at the front
-written_first : (o : Option Refusal) (done : Outcome) (next : Action) → (more : List ℕ) × ((continue o done next).written ≡ [] ++ (done.written ++ more))
-written_first (Some why) done next = ([], sym (append-nil done.written))
-written_first None done next = ((next done.state).written, refl)
+-- what the first of two actions writes stands at the front, and its refusal ends both
+first_of_two : (o : Option Refusal) (done : Outcome) (next : Action) → done.refusal ≡ o → (more : List ℕ) × ((continue o done next).written ≡ [] ++ (done.written ++ more)) × Ends done.refusal (continue o done next).refusal more
+first_of_two (Some why) done next e = ([], sym (append-nil done.written), λ other is. (refl, is))
+first_of_two None done next e = ((next done.state).written, refl, λ other is. let none : None ≡ Some other = sym e ∙ is in cc none)
 
 pub stopped_first : {first : Action} {old new : WriterView} (next : Action) → IsStopped first old new → IsStopped (first then next) old new
 stopped_first {first} {old} next stop =
-    let more = written_first (first old.state).refusal (first old.state) next in
-    stopped_within (first then next) old [] more.0 (room_for_nothing old.target.told.room) (sym (with_bytes-nothing old.target)) more.1 stop
+    let two = first_of_two (first old.state).refusal (first old.state) next refl in
+    stopped_within (first then next) old [] two.0 (room_for_nothing old.target.told.room) (sym (with_bytes-nothing old.target)) two.1 two.2 stop
 
 pub stopped_later : {first next : Action} {old mid new : WriterView} → HasDone first old mid → IsStopped next mid new → IsStopped (first then next) old new
 stopped_later {first} {next} {old} {mid} {new} d stop =
     let one : Outcome = first old.state in
     let here : IsStopped next (after_action first old) new = subst (λ view. IsStopped next view new) d.view stop in
+    let on = continue_on one.refusal one next d.may.refusal in
     let whole : ((first then next) old.state).written ≡ one.written ++ ((next one.state).written ++ []) =
-    ap (λ o. o.written) (continue_on one.refusal one next d.may.refusal) ∙ ap (λ more. one.written ++ more) (sym (append-nil (next one.state).written)) in
-    stopped_within (first then next) old one.written [] d.may.fits refl whole here
+    ap (λ o. o.written) on ∙ ap (λ more. one.written ++ more) (sym (append-nil (next one.state).written)) in
+    stopped_within (first then next) old one.written [] d.may.fits refl whole (λ why is. (refl, ap (λ o. o.refusal) on ∙ is)) here

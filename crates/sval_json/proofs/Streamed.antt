@@ -3,25 +3,29 @@ use Rattle.std.specs.Prelude.{◌≡◌, ℕ, Bool, true, List, [], ◌∷◌, O
 use Rattle.std.proofs.Common.{sym, ap, ◌∙◌, subst, inl, inr}
 use Rattle.sval_label.specs.Calls.{Call}
 use Rattle.sval_core.specs.Trees.{Tree}
+use Rattle.sval_core.specs.Real.{IsReal}
 use Rattle.sval_core.specs.Law.{Standing, Emission, Ran, Streams, StoppedIn, Stops, Rose}
 use Rattle.sval_json.specs.declared.style.Variants.{Variants}
-use Rattle.sval_json.specs.declared.sink.SinkError.{SinkError}
 use Rattle.sval_json.specs.declared.sink.SinkError.TheVariants.{Failed, NoMemory}
 use Rattle.sval_json.specs.declared.error.ErrorKind.{ErrorKind}
 use Rattle.sval_json.specs.declared.error.ErrorKind.TheVariants.{Generic, IO}
 use Rattle.sval_json.specs.declared.error.ErrorKind.TheVariants as kind
-use Rattle.sval_json.specs.ErrorKinds.{error_kind}
+use Rattle.sval_json.specs.declared.error.Stop.{Stop}
+use Rattle.sval_json.specs.declared.error.Stop.TheVariants.{Step, Sink}
+use Rattle.sval_json.specs.ErrorKinds.{refusal_kind, error_kind}
 use Rattle.sval_json.specs.Json.{Json}
 use Rattle.sval_json.specs.Shape.{json_in}
-use Rattle.sval_json.specs.Sinks.{Told, IsSteady, NoCountFell, IsQuiet, LacksRoom, Appends, AppendsFront}
+use Rattle.sval_json.specs.Sinks.{Told, IsSteady, NoCountFell, IsQuiet, Appends, AppendsFront}
 use Rattle.sval_json.specs.Actions.{start, nothing}
-use Rattle.sval_json.specs.Number.{Refusal}
+use Rattle.sval_json.specs.Number.{Refusal, InvalidKey, InvalidNumber}
 use Rattle.sval_json.specs.Steps.{step, steps, written_in}
 use Rattle.sval_json.specs.declared.writer.Writer.{Writer}
-use Rattle.sval_json.specs.WriterLaw.{WriterView, after_action, HasDone, IsSinkCause, IsStopped, writer_law, writer_state, writer_view, writer_standing}
+use Rattle.sval_json.specs.WriterLaw.{WriterView, after_action, HasDone, IsLeftBy, IsStopped, writer_law, writer_state, writer_view, writer_standing}
 use Rattle.sval_json.specs.Laws.{IsWrittenAs}
-use Rattle.sval_json.specs.Written.{IsWrittenIn, IsBegunIn, IsTooLongFor, WritesTreeIn, WritesSpelledTree, BeginsSpelledTree, EndsRefused}
+use Rattle.sval_json.specs.Promises.{KeepsPromises}
+use Rattle.sval_json.specs.Written.{IsWrittenIn, IsBegunIn, IsRefusedIn, IsTooLongFor, WritesTreeIn, WritesSpelledTree, WritesValueIn, WritesSpelledValue, RefusesSpelledTree, BeginsSpelledTree, EndsRefused}
 use Rattle.sval_json.proofs.WritingPlain.{spelling_written}
+use Rattle.sval_json.proofs.Meaning.{text_means}
 use Rattle.sval_json.proofs.Appending.{all_is_front, steady_counts}
 use Rattle.sval_json.proofs.Doing.{nothing_done, done_then, stopped_first, stopped_later}
 
@@ -31,7 +35,7 @@ pub ran_as : (calls : List Call) (old new : WriterView) → Ran writer_law old c
 ran_as [] old new e = subst (HasDone nothing old) (sym e) (nothing_done old)
 ran_as (call ∷ calls) old new r = done_then (record { may = r.0; view = refl }) (ran_as calls (after_action (step old.style call) old) new r.1)
 
--- all calls were taken and the value refused, or the sink took a first part
+-- all calls were taken and the value refused, or the writer was stopped in one of them
 pub data Ending (old : WriterView) (e : Emission) (new : WriterView) : Type 0 where
   refused : e.refuses ≡ true → HasDone (steps old.style e.calls) old new → Ending old e new
   failed : IsStopped (steps old.style e.calls) old new → Ending old e new
@@ -61,29 +65,82 @@ pub record IsAfter (style : Variants) (calls : List Call) (held holds : ℕ) (ol
 pub record IsAfterStop (style : Variants) (e : Emission) (found : ErrorKind) (held holds : ℕ) (old new : Told) : Type 0 where
   pub name : holds ≡ held
   pub generic : found ≡ Generic → EndsRefused style e old new
+  pub refused : (why : Refusal) → found ≡ refusal_kind why → IsRefusedIn style why e.calls old new
   pub io : found ≡ IO → Rose old.faults new.faults
   pub io_room : found ≡ IO → IsTooLongFor style e.calls old
   pub no_memory : found ≡ kind.NoMemory → Rose old.wants new.wants
   pub counts : NoCountFell old new
   pub prefix : IsBegunIn style e.calls old new
 
-apart : {found : ErrorKind} → found ≡ Generic → found ≡ IO → ⊥
-apart e f = cc
+-- the writer's own refusals are apart from each other and from all else
+refusal_apart : (why : Refusal) → (refusal_kind why ≡ Generic → ⊥) × (refusal_kind why ≡ IO → ⊥) × (refusal_kind why ≡ kind.NoMemory → ⊥)
+refusal_apart InvalidKey = (λ f. cc f, λ f. cc f, λ f. cc f)
+refusal_apart InvalidNumber = (λ f. cc f, λ f. cc f, λ f. cc f)
 
-apart_memory : {found : ErrorKind} → found ≡ Generic → found ≡ kind.NoMemory → ⊥
-apart_memory e f = cc
+one_refusal : (why other : Refusal) → refusal_kind why ≡ refusal_kind other → why ≡ other
+one_refusal InvalidKey InvalidKey e = refl
+one_refusal InvalidKey InvalidNumber e = cc e
+one_refusal InvalidNumber InvalidKey e = cc e
+one_refusal InvalidNumber InvalidNumber e = refl
 
--- what a sink that stopped within some bytes says of its answer
-record IsStoppedBy (found : ErrorKind) (old new : Told) (bytes : List ℕ) : Type 0 where
-  generic : found ≡ Generic → ⊥
-  io : found ≡ IO → Rose old.faults new.faults
-  io_room : found ≡ IO → LacksRoom old bytes
-  no_memory : found ≡ kind.NoMemory → Rose old.wants new.wants
+module _ (style : Variants) (e : Emission) (held holds : ℕ) (old new : Told) (name : holds ≡ held) where
+  -- a step refused
+  after_own : (why : Refusal) → IsRefusedIn style why e.calls old new → IsAfterStop style e (refusal_kind why) held holds old new
+  after_own why r =
+      let apart = refusal_apart why in
+      record {
+        name = name;
+        generic = λ f. absurd (apart.0 f);
+        refused = λ other f. subst (λ w. IsRefusedIn style w e.calls old new) (one_refusal why other f) r;
+        io = λ f. absurd (apart.1 f);
+        io_room = λ f. absurd (apart.1 f);
+        no_memory = λ f. absurd (apart.2 f);
+        counts = steady_counts r.steady;
+        prefix = all_is_front (written_in style e.calls).written r.appends;
+      }
 
-stopped_by : (why : Option SinkError) (old new : Told) (bytes : List ℕ) → IsSinkCause why old bytes new → IsStoppedBy (error_kind why) old new bytes
-stopped_by None old new bytes w = absurd w
-stopped_by (Some Failed) old new bytes w = record { generic = λ e. cc e; io = λ _. w.0; io_room = λ _. w.1 refl; no_memory = λ e. cc e }
-stopped_by (Some NoMemory) old new bytes w = record { generic = λ e. cc e; io = λ e. cc e; io_room = λ e. cc e; no_memory = λ _. w.0 }
+  -- the value refused
+  after_itself : EndsRefused style e old new → IsAfterStop style e Generic held holds old new
+  after_itself r = record {
+    name = name;
+    generic = λ f. r;
+    refused = λ other f. absurd ((refusal_apart other).0 (sym f));
+    io = λ f. cc f;
+    io_room = λ f. cc f;
+    no_memory = λ f. cc f;
+    counts = steady_counts r.steady;
+    prefix = all_is_front (written_in style e.calls).written r.written.appends;
+  }
+
+  -- the writer was stopped, and its sink left so, but for what that holds back
+  after_left : (why : Option Stop) → IsLeftBy why (written_in style e.calls).refusal (written_in style e.calls).written (record old { held = None }) (record new { held = None })
+      → IsAfterStop style e (error_kind why) held holds old new
+  after_left None left = absurd left
+  after_left (Some (Step why)) left = after_own why (record {
+    refusal = left.0;
+    appends = record { fits = left.1.appends.fits; text = left.1.appends.text; room = left.1.appends.room };
+    steady = record { faults = left.1.steady.faults; wants = left.1.steady.wants };
+  })
+  after_left (Some (Sink Failed)) left = record {
+    name = name;
+    generic = λ f. cc f;
+    refused = λ other f. absurd ((refusal_apart other).1 (sym f));
+    io = λ f. left.cause;
+    io_room = λ f. left.full refl;
+    no_memory = λ f. cc f;
+    counts = record { faults = left.counts.faults; wants = left.counts.wants };
+    prefix = record { count = left.front.count; within = left.front.within; appends = record { fits = left.front.appends.fits; text = left.front.appends.text; room = left.front.appends.room } };
+  }
+  after_left (Some (Sink NoMemory)) left = record {
+    name = name;
+    generic = λ f. cc f;
+    refused = λ other f. absurd ((refusal_apart other).2 (sym f));
+    io = λ f. cc f;
+    io_room = λ f. cc f;
+    no_memory = λ f. left.cause;
+    counts = record { faults = left.counts.faults; wants = left.counts.wants };
+    prefix = record { count = left.front.count; within = left.front.within; appends = record { fits = left.front.appends.fits; text = left.front.appends.text; room = left.front.appends.room } };
+  }
 
 module _ {K : Type 0} (told : K → Told) (e : Emission) (old new : Writer K) (begins : old.empty ≡ true) where
   is_start : (writer_view told old).state ≡ start
@@ -111,38 +168,14 @@ module _ {K : Type 0} (told : K → Told) (e : Emission) (old new : Writer K) (b
   after_refusal r none d =
       let after = after_done d in
       let is : error_kind new.why ≡ Generic = ap error_kind none in
-      record {
-        name = after.name;
-        generic = λ _. record { refuses = r; written = after.written; steady = after.steady };
-        io = λ f. absurd (apart is f);
-        io_room = λ f. absurd (apart is f);
-        no_memory = λ f. absurd (apart_memory is f);
-        counts = steady_counts after.steady;
-        prefix = all_is_front (written_in old.variants e.calls).written after.written.appends;
-      }
+      subst (λ found. IsAfterStop old.variants e found old.sink.ghost_name new.sink.ghost_name (told old.sink.now) (told new.sink.now)) (sym is)
+      (after_itself old.variants e old.sink.ghost_name new.sink.ghost_name (told old.sink.now) (told new.sink.now) after.name (record { refuses = r; written = after.written; steady = after.steady }))
 
-  after_failure : (why : Option SinkError) → new.why ≡ why → IsStopped (steps old.variants e.calls) (writer_view told old) (writer_view told new)
-      → IsAfterStop old.variants e (error_kind why) old.sink.ghost_name new.sink.ghost_name (told old.sink.now) (told new.sink.now)
-  after_failure why is stop =
-      let bytes : List ℕ = (steps old.variants e.calls (writer_view told old).state).written in
-      let cause : IsSinkCause why (writer_view told old).target.told bytes (writer_view told new).target.told =
-      subst (λ why. IsSinkCause why (writer_view told old).target.told bytes (writer_view told new).target.told) is stop.why in
-      let lacks : LacksRoom (told old.sink.now) bytes → IsTooLongFor old.variants e.calls (told old.sink.now) =
-      λ room. subst (λ state. LacksRoom (told old.sink.now) (steps old.variants e.calls state).written) is_start room in
-      let by_why = stopped_by why (writer_view told old).target.told (writer_view told new).target.told bytes cause in
-      record {
-        name = stop.name;
-        generic = λ f. absurd (by_why.generic f);
-        io = by_why.io;
-        io_room = λ f. lacks (by_why.io_room f);
-        no_memory = by_why.no_memory;
-        counts = record { faults = stop.counts.faults; wants = stop.counts.wants };
-        prefix = subst (λ state. AppendsFront (told old.sink.now) (steps old.variants e.calls state).written (told new.sink.now)) is_start (record {
-          count = stop.front.count;
-          within = stop.front.within;
-          appends = record { fits = stop.front.appends.fits; text = stop.front.appends.text; room = stop.front.appends.room };
-        });
-      }
+  after_failure : IsStopped (steps old.variants e.calls) (writer_view told old) (writer_view told new)
+      → IsAfterStop old.variants e (error_kind new.why) old.sink.ghost_name new.sink.ghost_name (told old.sink.now) (told new.sink.now)
+  after_failure stop =
+      after_left old.variants e old.sink.ghost_name new.sink.ghost_name (told old.sink.now) (told new.sink.now) stop.name new.why
+      (subst (λ state. IsLeftBy new.why (steps old.variants e.calls state).refusal (steps old.variants e.calls state).written (writer_view told old).target.told (writer_view told new).target.told) is_start stop.left)
 
   pub after_stops : {found : ErrorKind} → old.why ≡ None → found ≡ error_kind new.why → Stops writer_law (writer_standing told old) e (writer_standing told new)
       → IsAfterStop old.variants e found old.sink.ghost_name new.sink.ghost_name (told old.sink.now) (told new.sink.now)
@@ -152,15 +185,35 @@ module _ {K : Type 0} (told : K → Told) (e : Emission) (old new : Writer K) (b
     where
       by_ending : Ending (writer_view told old) e (writer_view told new) → IsAfterStop old.variants e (error_kind new.why) old.sink.ghost_name new.sink.ghost_name (told old.sink.now) (told new.sink.now)
       by_ending (refused r d) = after_refusal r (ap (λ v. v.target.why) d.view ∙ none) d
-      by_ending (failed stop) = after_failure new.why refl stop
+      by_ending (failed stop) = after_failure stop
 
--- where neither count rose, only the value itself is left as a cause
-pub is_generic : {style : Variants} {e : Emission} {found : ErrorKind} {held holds : ℕ} {old new : Told} → IsAfterStop style e found held holds old new → IsQuiet old new → found ≡ Generic
-is_generic {found = found} after quiet = by_kind found refl
+-- where neither count rose, the value itself is left as a cause, or a step that refuses
+pub is_generic : {style : Variants} {e : Emission} {found : ErrorKind} {held holds : ℕ} {old new : Told} → IsAfterStop style e found held holds old new → (written_in style e.calls).refusal ≡ None → IsQuiet old new
+    → found ≡ Generic
+is_generic {style = style} {e = e} {found = found} after none quiet = by_kind found refl
   where
+    not_refused : (why : Refusal) → found ≡ refusal_kind why → ⊥
+    not_refused why is = let some : None ≡ Some why = sym none ∙ (after.refused why is).refusal in cc some
+
     by_kind : (k : ErrorKind) → found ≡ k → found ≡ Generic
     by_kind Generic is = is
     by_kind IO is = absurd (quiet.faults (after.io is))
+    by_kind kind.InvalidKey is = absurd (not_refused InvalidKey is)
+    by_kind kind.InvalidNumber is = absurd (not_refused InvalidNumber is)
+    by_kind kind.NoMemory is = absurd (quiet.wants (after.no_memory is))
+
+pub is_refused : {style : Variants} {e : Emission} {found : ErrorKind} {held holds : ℕ} {old new : Told} → IsAfterStop style e found held holds old new → (why : Refusal) → (written_in style e.calls).refusal ≡ Some why
+    → IsQuiet old new → found ≡ refusal_kind why
+is_refused {style = style} {e = e} {found = found} after why some quiet = by_kind found refl
+  where
+    same : (other : Refusal) → found ≡ refusal_kind other → found ≡ refusal_kind why
+    same other is = let both : Some other ≡ Some why = sym (after.refused other is).refusal ∙ some in let one : other ≡ why = cc both in is ∙ ap refusal_kind one
+
+    by_kind : (k : ErrorKind) → found ≡ k → found ≡ refusal_kind why
+    by_kind Generic is = let none : Some why ≡ None = sym some ∙ (after.generic is).written.refusal in cc none
+    by_kind IO is = absurd (quiet.faults (after.io is))
+    by_kind kind.InvalidKey is = same InvalidKey is
+    by_kind kind.InvalidNumber is = same InvalidNumber is
     by_kind kind.NoMemory is = absurd (quiet.wants (after.no_memory is))
 
 -- ---- where the calls spell a tree
@@ -172,6 +225,26 @@ written_tree style tree (Err why) is w done = let e = w in let f = done.refusal 
 
 pub writes_spelled : {old new : Told} {style : Variants} {calls : List Call} → IsWrittenIn style calls old new → WritesSpelledTree style calls old new
 writes_spelled {style = style} {calls = calls} done tree s = written_tree style tree (json_in style tree) refl (spelling_written style calls tree s) done
+
+-- the text of a tree denotes what is meant
+written_value : {old new : Told} (style : Variants) (tree : Tree) → WritesTreeIn style tree old new → IsReal tree → KeepsPromises tree → WritesValueIn style tree old new
+written_value style tree done real promises =
+    let meant = text_means style tree done.json real promises done.shape in
+    record { json = done.json; shape = done.shape; value = meant.0; is = meant.1; appends = done.appends }
+
+pub values_spelled : {old new : Told} {style : Variants} {calls : List Call} → IsWrittenIn style calls old new → WritesSpelledValue style calls old new
+values_spelled {style = style} done tree s real promises = written_value style tree (writes_spelled done tree s) real promises
+
+refused_tree : (style : Variants) (tree : Tree) (found : Result Json Refusal) (refusal : Option Refusal) (why : Refusal) → refusal ≡ Some why → json_in style tree ≡ found
+    → ((json : Json) → found ≡ Ok json → refusal ≡ None) → ((other : Refusal) → found ≡ Err other → refusal ≡ Some other) → json_in style tree ≡ Err why
+refused_tree style tree (Ok json) refusal why some is on_json on_refusal = let none : Some why ≡ None = sym some ∙ on_json json refl in cc none
+refused_tree style tree (Err other) refusal why some is on_json on_refusal = let both : Some other ≡ Some why = sym (on_refusal other refl) ∙ some in let one : other ≡ why = cc both in is ∙ ap Err one
+
+pub refuses_spelled : {old new : Told} {style : Variants} {why : Refusal} {calls : List Call} → IsRefusedIn style why calls old new → RefusesSpelledTree style why calls
+refuses_spelled {style = style} {why = why} {calls = calls} r tree s =
+    let w = spelling_written style calls tree s in
+    refused_tree style tree (json_in style tree) (written_in style calls).refusal why r.refusal refl
+    (λ json is. (subst (λ found. IsWrittenAs found (written_in style calls)) is w).1) (λ other is. subst (λ found. IsWrittenAs found (written_in style calls)) is w)
 
 pub begins_spelled : {old new : Told} (style : Variants) (calls : List Call) → IsBegunIn style calls old new → BeginsSpelledTree style calls old new
 begins_spelled {old} {new} style calls front tree json s is =

@@ -4,15 +4,30 @@ use Rattle.sval_json.specs.declared.sink.SinkError.{SinkError}
 use Rattle.sval_json.specs.declared.sink.SinkError.TheVariants.{Failed, NoMemory}
 use Rattle.sval_json.specs.declared.error.ErrorKind.{ErrorKind}
 use Rattle.sval_json.specs.declared.error.ErrorKind.TheVariants as kind
+use Rattle.sval_json.specs.declared.error.Stop.{Stop}
+use Rattle.sval_json.specs.declared.error.Stop.TheVariants.{Step, Sink}
+use Rattle.sval_json.specs.Number.{Refusal, InvalidKey, InvalidNumber}
 
--- what stops a value: the sink, or else the value itself
-abbrev pub error_kind : Option SinkError → ErrorKind
+-- where the writer's step refuses
+abbrev pub refusal_kind : Refusal → ErrorKind
+refusal_kind InvalidKey = kind.InvalidKey
+refusal_kind InvalidNumber = kind.InvalidNumber
+
+-- where the sink refuses
+abbrev pub sink_kind : SinkError → ErrorKind
+sink_kind Failed = kind.IO
+sink_kind NoMemory = kind.NoMemory
+
+-- what stops a value: the writer's step, the sink, or else the value itself
+abbrev pub error_kind : Option Stop → ErrorKind
 error_kind None = kind.Generic
-error_kind (Some Failed) = kind.IO
-error_kind (Some NoMemory) = kind.NoMemory
+error_kind (Some (Step why)) = refusal_kind why
+error_kind (Some (Sink why)) = sink_kind why
 
 -- what an error says
 abbrev pub error_text : ErrorKind → List ℕ
 error_text kind.Generic = codes "an error occurred serializing a value to JSON"
 error_text kind.IO = codes "failed to write JSON"
+error_text kind.InvalidKey = codes "attempt to serialize a non-string key"
+error_text kind.InvalidNumber = codes "attempt to serialize an invalid number"
 error_text kind.NoMemory = codes "cannot allocate for JSON"

@@ -3,19 +3,20 @@ use Rattle.std.specs.Prelude.{◌≡◌, ℕ, Bool, false, true, List, Option, S
 use Rattle.std.specs.Borrow.{MutBor}
 use Rattle.sval_label.specs.declared.error.Error.{Error}
 use Rattle.sval_core.specs.Law.{Law, Standing}
-use Rattle.sval_json.specs.declared.sink.SinkError.{SinkError}
-use Rattle.sval_json.specs.declared.sink.SinkError.TheVariants.{Failed}
+use Rattle.sval_json.specs.declared.error.Stop.{Stop}
+use Rattle.sval_json.specs.declared.error.Stop.TheVariants.{Step, Sink}
 use Rattle.sval_json.specs.declared.style.Variants.{Variants}
 use Rattle.sval_json.specs.declared.writer.Writer.{Writer}
 use Rattle.sval_json.specs.Actions.{State, escapes, Action}
 use Rattle.sval_json.specs.Steps.{step}
-use Rattle.sval_json.specs.Sinks.{Told, appended, less_room, HasRoom, LacksRoom, AppendsFront, IsCounted, NoCountFell}
+use Rattle.sval_json.specs.Number.{Refusal}
+use Rattle.sval_json.specs.Sinks.{Told, appended, less_room, HasRoom, WritesWhole, WritesFront}
 
--- the sink that a writer writes to: which one, what it tells but for what it holds back, and why it took nothing, if it did so
+-- the sink that a writer writes to: which one, what it tells but for what it holds back, and what stopped the writer, if something did
 pub record Target : Type 0 where
   pub name : ℕ
   pub told : Told
-  pub why : Option SinkError
+  pub why : Option Stop
 
 -- what the writer has taken, as a stream: its style of variants, the state of the steps, and the sink
 pub record WriterView : Type 0 where
@@ -45,19 +46,18 @@ pub record HasDone (action : Action) (old new : WriterView) : Type 0 where
   pub may : MayDo action old
   pub view : new ≡ after_action action old
 
--- why the sink took nothing of what was left of these bytes
-abbrev pub IsSinkCause : Option SinkError → Told → List ℕ → Told → Type 0
-IsSinkCause None old bytes new = ⊥
-IsSinkCause (Some why) old bytes new = IsCounted why old new × (why ≡ Failed → LacksRoom old bytes)
+-- what the sink took of these bytes, by what stopped the writer: all, where its own step refuses; a first part, where the sink does
+abbrev pub IsLeftBy : Option Stop → Option Refusal → List ℕ → Told → Told → Type 0
+IsLeftBy None refusal bytes old new = ⊥
+IsLeftBy (Some (Step why)) refusal bytes old new = (refusal ≡ Some why) × WritesWhole old bytes new
+IsLeftBy (Some (Sink why)) refusal bytes old new = WritesFront why old bytes new
 
--- of what the action writes the sink took a first part and then nothing
+-- the action was stopped, and what it writes was left so
 pub record IsStopped (action : Action) (old new : WriterView) : Type 0 where
-  pub why : IsSinkCause new.target.why old.target.told (action old.state).written new.target.told
-  pub front : AppendsFront old.target.told (action old.state).written new.target.told
-  pub counts : NoCountFell old.target.told new.target.told
+  pub left : IsLeftBy new.target.why (action old.state).refusal (action old.state).written old.target.told new.target.told
   pub name : new.target.name ≡ old.target.name
 
--- what the answer of a part of the writer says: it did the action, or the sink stopped it
+-- what the answer of a part of the writer says: it did the action, or was stopped in it
 abbrev pub Does : Action → Result (Unit {0}) Error → WriterView → WriterView → Type 0
 Does action (Ok done) old new = HasDone action old new
 Does action (Err refusal) old new = IsStopped action old new
@@ -77,7 +77,7 @@ abbrev pub writer_state : Bool → State
 writer_state empty = record { named = false; empty = empty; quoted = true; handler = escapes }
 
 -- `told` is what the sink tells
-abbrev pub target_of : {K : Type 0} → (K → Told) → MutBor K → Option SinkError → Target
+abbrev pub target_of : {K : Type 0} → (K → Told) → MutBor K → Option Stop → Target
 target_of told sink why = record { name = sink.ghost_name; told = record (told sink.now) { held = None }; why = why }
 
 -- the writer as its law sees it; `told` is what the sink tells

@@ -1,14 +1,19 @@
 -- What streaming a value to JSON leaves of a sink.
-use Rattle.std.specs.Prelude.{◌≡◌, true, List, None, Ok}
+use Rattle.std.specs.Prelude.{◌≡◌, true, List, None, Some, Ok, Err}
 use Rattle.sval_label.specs.Calls.{Call}
 use Rattle.sval_core.specs.Law.{Emission}
 use Rattle.sval_core.specs.Spells.{Spells}
 use Rattle.sval_core.specs.Trees.{Tree}
+use Rattle.sval_core.specs.Real.{IsReal}
 use Rattle.sval_json.specs.declared.style.Variants.{Variants}
 use Rattle.sval_json.specs.Json.{Json, compact}
 use Rattle.sval_json.specs.Shape.{json_in}
+use Rattle.sval_json.specs.Number.{Refusal}
 use Rattle.sval_json.specs.Sinks.{Told, IsSteady, Appends, AppendsFront, LacksRoom}
 use Rattle.sval_json.specs.Steps.{written_in}
+use Rattle.sval_json.specs.Grammar.{JsonValue}
+use Rattle.sval_json.specs.Promises.{KeepsPromises}
+use Rattle.sval_json.specs.Laws.{IsTheValueOf}
 
 -- no step refuses a call, and exactly what the steps write in this style was taken
 pub record IsWrittenIn (style : Variants) (calls : List Call) (old new : Told) : Type 0 where
@@ -18,6 +23,12 @@ pub record IsWrittenIn (style : Variants) (calls : List Call) (old new : Told) :
 -- a first part of what the steps write was taken
 abbrev pub IsBegunIn : Variants → List Call → Told → Told → Type 0
 IsBegunIn style calls old new = AppendsFront old (written_in style calls).written new
+
+-- a step refuses a call for this cause, and exactly what the steps write up to there was taken
+pub record IsRefusedIn (style : Variants) (why : Refusal) (calls : List Call) (old new : Told) : Type 0 where
+  pub refusal : (written_in style calls).refusal ≡ Some why
+  pub appends : Appends old (written_in style calls).written new
+  pub steady : IsSteady old new
 
 -- what the steps write has no place in the room that is told
 abbrev pub IsTooLongFor : Variants → List Call → Told → Type 0
@@ -32,6 +43,23 @@ pub record WritesTreeIn (style : Variants) (tree : Tree) (old new : Told) : Type
 -- if the calls spell a tree, its text was taken
 abbrev pub WritesSpelledTree : Variants → List Call → Told → Told → Type 0
 WritesSpelledTree style calls old new = (tree : Tree) → Spells calls tree → WritesTreeIn style tree old new
+
+-- exactly the text of the tree's JSON was taken, which denotes the one value that this JSON means, and no other
+pub record WritesValueIn (style : Variants) (tree : Tree) (old new : Told) : Type 0 where
+  pub json : Json
+  pub shape : json_in style tree ≡ Ok json
+  pub value : JsonValue
+  pub is : IsTheValueOf json value
+  pub appends : Appends old (compact json) new
+
+-- if the calls spell a real tree that keeps its promises, the text that was taken denotes what is meant
+abbrev pub WritesSpelledValue : Variants → List Call → Told → Told → Type 0
+WritesSpelledValue style calls old new =
+    (tree : Tree) → Spells calls tree → IsReal tree → KeepsPromises tree → WritesValueIn style tree old new
+
+-- if the calls spell a tree, it has no JSON, for this cause
+abbrev pub RefusesSpelledTree : Variants → Refusal → List Call → Type 0
+RefusesSpelledTree style why calls = (tree : Tree) → Spells calls tree → json_in style tree ≡ Err why
 
 -- if the calls spell a tree, a first part of its text was taken
 abbrev pub BeginsSpelledTree : Variants → List Call → Told → Told → Type 0

@@ -14,8 +14,30 @@ pub enum ErrorKind {
     Generic,
     /// The sink failed.
     IO,
+    /// What stands in the place of a map's key can't be one.
+    InvalidKey,
+    /// Text that stands for a number is none.
+    InvalidNumber,
     /// The sink had no memory.
     NoMemory,
+}
+
+/// Why a step of the writer refuses a call.
+#[derive(Clone, Copy, Debug, PartialEq, Eq)]
+pub(crate) enum Refusal {
+    /// A key that is no text.
+    InvalidKey,
+    /// A number that is none.
+    InvalidNumber,
+}
+
+/// What stopped the writer.
+#[derive(Clone, Copy, Debug, PartialEq, Eq)]
+pub(crate) enum Stop {
+    /// Its own step.
+    Step(Refusal),
+    /// The sink.
+    Sink(SinkError),
 }
 
 /// Why JSON wasn't written, or not whole.
@@ -33,14 +55,16 @@ impl Model for Error {
 }
 
 impl Error {
-    /// What stopped a value: the sink, or else the value itself.
-    pub(crate) fn of(why: Option<SinkError>) -> Error
+    /// What stopped a value: the writer, or else the value itself.
+    pub(crate) fn of(why: Option<Stop>) -> Error
         ensures { result ≡ error_kind why }
     {
         let kind = match why {
             None => ErrorKind::Generic,
-            Some(SinkError::Failed) => ErrorKind::IO,
-            Some(SinkError::NoMemory) => ErrorKind::NoMemory,
+            Some(Stop::Step(Refusal::InvalidKey)) => ErrorKind::InvalidKey,
+            Some(Stop::Step(Refusal::InvalidNumber)) => ErrorKind::InvalidNumber,
+            Some(Stop::Sink(SinkError::Failed)) => ErrorKind::IO,
+            Some(Stop::Sink(SinkError::NoMemory)) => ErrorKind::NoMemory,
         };
         Error { kind }
     }
@@ -63,6 +87,8 @@ impl fmt::Display for Error {
         f.write_str(match self.kind {
             ErrorKind::Generic => "an error occurred serializing a value to JSON",
             ErrorKind::IO => "failed to write JSON",
+            ErrorKind::InvalidKey => "attempt to serialize a non-string key",
+            ErrorKind::InvalidNumber => "attempt to serialize an invalid number",
             ErrorKind::NoMemory => "cannot allocate for JSON",
         })
     }

@@ -1,11 +1,15 @@
 //! Values written to a sink.
 
-ghost use Rattle.std.specs.Prelude.{◌≡◌, None, true, false, OnOk, OnErr};
+ghost use Rattle.std.specs.Prelude.{◌≡◌, None, Some, true, false, OnOk, OnErr};
 ghost use Rattle.sval_core.specs.Law.{Rose};
 ghost use Rattle.sval_json.specs.declared.style.Variants.TheVariants.{Inside};
+ghost use Rattle.sval_json.specs.ErrorKinds.{refusal_kind};
+ghost use Rattle.sval_json.specs.Number.{Refusal, InvalidKey, InvalidNumber};
 ghost use Rattle.sval_json.specs.Sinks.{IsSteady, IsQuiet, NoCountFell};
-ghost use Rattle.sval_json.specs.Written.{IsWrittenIn, IsBegunIn, IsTooLongFor, RefusesItself, EndsRefused};
-ghost use Rattle.sval_json.specs.Written.{WritesSpelledTree, BeginsSpelledTree};
+ghost use Rattle.sval_json.specs.Steps.{written_in};
+ghost use Rattle.sval_json.specs.Written.{IsWrittenIn, IsBegunIn, IsTooLongFor, IsRefusedIn};
+ghost use Rattle.sval_json.specs.Written.{RefusesItself, EndsRefused};
+ghost use Rattle.sval_json.specs.Written.{WritesSpelledTree, WritesSpelledValue, RefusesSpelledTree, BeginsSpelledTree};
 
 use crate::error::{Error, ErrorKind};
 use crate::sink::Sink;
@@ -16,24 +20,33 @@ use sval_core::{Lent, Value};
 /// Streams a value to a sink as JSON, without white space.
 ///
 /// On `Ok` it appended what the steps of `specs/Steps.antt` write for the value's calls. Where these calls spell a
-/// tree, that is the text of the tree's JSON, however the calls cut its texts.
-///
-/// [`ErrorKind::Generic`] comes where the value itself refuses, after all that its calls write, and it always comes
-/// there unless a count of the sink rose. [`ErrorKind::IO`] comes only where the sink's count of faults rose, and never
-/// where the sink tells room for all that the steps write. [`ErrorKind::NoMemory`] comes only where its count of wants
-/// rose. After either the sink took a first part of that. No count ever falls. This call takes no memory itself.
+/// tree, that is the text of the tree's JSON, however the calls cut its texts. Where raw texts and identifiers in it
+/// are what their tags promise, the text denotes the one value that this JSON means, and no other.
 ///
 /// ```
 /// let mut sink = VecSink::new(alloc);
 /// stream_to_io_write(&mut sink, &value)?;
 /// assert_eq!(rt; sink.as_slice(), b"[-7,\"a\"]".as_slice());
 /// ```
+///
+/// # Errors
+///
+/// [`ErrorKind::InvalidKey`] and [`ErrorKind::InvalidNumber`] come where a step refuses a call for that cause, after
+/// all that the steps write up to there; where the calls spell a tree, it has no JSON for that cause.
+/// [`ErrorKind::Generic`] comes where the value itself refuses, after all that its calls write. Each of the three
+/// always comes where it is so, unless a count of the sink rose.
+///
+/// [`ErrorKind::IO`] comes only where the sink's count of faults rose, and never where the sink tells room for all that
+/// the steps write. [`ErrorKind::NoMemory`] comes only where its count of wants rose. After either the sink took a
+/// first part of that. No count ever falls. This call takes no memory itself.
 pub fn stream_to_io_write<'v, K: Sink, V: Value<'v, Lent<'v>>>(
     out: &mut K,
     v: &'v V,
 ) -> Result<(), Error>
     ensures written { OnOk result (IsWrittenIn Inside (V.emission v.now).calls (K.told out.old) (K.told out.new)) }
     ensures tree { OnOk result (WritesSpelledTree Inside (V.emission v.now).calls (K.told out.old) (K.told out.new)) }
+    ensures denotes { OnOk result
+        (WritesSpelledValue Inside (V.emission v.now).calls (K.told out.old) (K.told out.new)) }
     ensures willing { OnOk result ((V.emission v.now).refuses ≡ false) }
     ensures steady { OnOk result (IsSteady (K.told out.old) (K.told out.new)) }
 
@@ -41,6 +54,14 @@ pub fn stream_to_io_write<'v, K: Sink, V: Value<'v, Lent<'v>>>(
         → result ≡ Err ErrorKind.Generic }
     ensures generic { result ≡ Err ErrorKind.Generic
         → EndsRefused Inside (V.emission v.now) (K.told out.old) (K.told out.new) }
+    ensures refused_comes { (why : Refusal) → (written_in Inside (V.emission v.now).calls).refusal ≡ Some why
+        → IsQuiet (K.told out.old) (K.told out.new) → result ≡ Err (refusal_kind why) }
+    ensures invalid_key { result ≡ Err ErrorKind.InvalidKey
+        → IsRefusedIn Inside InvalidKey (V.emission v.now).calls (K.told out.old) (K.told out.new) }
+    ensures invalid_number { result ≡ Err ErrorKind.InvalidNumber
+        → IsRefusedIn Inside InvalidNumber (V.emission v.now).calls (K.told out.old) (K.told out.new) }
+    ensures tree_refused { (why : Refusal) → result ≡ Err (refusal_kind why)
+        → RefusesSpelledTree Inside why (V.emission v.now).calls }
     ensures io { result ≡ Err ErrorKind.IO → Rose (K.told out.old).faults (K.told out.new).faults }
     ensures io_room { result ≡ Err ErrorKind.IO → IsTooLongFor Inside (V.emission v.now).calls (K.told out.old) }
     ensures no_memory { result ≡ Err ErrorKind.NoMemory → Rose (K.told out.old).wants (K.told out.new).wants }
@@ -69,6 +90,8 @@ pub fn stream_to_io_write_with<'v, K: Sink, V: Value<'v, Lent<'v>>>(
 ) -> Result<(), Error>
     ensures written { OnOk result (IsWrittenIn variants (V.emission v.now).calls (K.told out.old) (K.told out.new)) }
     ensures tree { OnOk result (WritesSpelledTree variants (V.emission v.now).calls (K.told out.old) (K.told out.new)) }
+    ensures denotes { OnOk result
+        (WritesSpelledValue variants (V.emission v.now).calls (K.told out.old) (K.told out.new)) }
     ensures willing { OnOk result ((V.emission v.now).refuses ≡ false) }
     ensures steady { OnOk result (IsSteady (K.told out.old) (K.told out.new)) }
 
@@ -76,6 +99,14 @@ pub fn stream_to_io_write_with<'v, K: Sink, V: Value<'v, Lent<'v>>>(
         → result ≡ Err ErrorKind.Generic }
     ensures generic { result ≡ Err ErrorKind.Generic
         → EndsRefused variants (V.emission v.now) (K.told out.old) (K.told out.new) }
+    ensures refused_comes { (why : Refusal) → (written_in variants (V.emission v.now).calls).refusal ≡ Some why
+        → IsQuiet (K.told out.old) (K.told out.new) → result ≡ Err (refusal_kind why) }
+    ensures invalid_key { result ≡ Err ErrorKind.InvalidKey
+        → IsRefusedIn variants InvalidKey (V.emission v.now).calls (K.told out.old) (K.told out.new) }
+    ensures invalid_number { result ≡ Err ErrorKind.InvalidNumber
+        → IsRefusedIn variants InvalidNumber (V.emission v.now).calls (K.told out.old) (K.told out.new) }
+    ensures tree_refused { (why : Refusal) → result ≡ Err (refusal_kind why)
+        → RefusesSpelledTree variants why (V.emission v.now).calls }
     ensures io { result ≡ Err ErrorKind.IO → Rose (K.told out.old).faults (K.told out.new).faults }
     ensures io_room { result ≡ Err ErrorKind.IO → IsTooLongFor variants (V.emission v.now).calls (K.told out.old) }
     ensures no_memory { result ≡ Err ErrorKind.NoMemory → Rose (K.told out.old).wants (K.told out.new).wants }

@@ -9,15 +9,16 @@ ghost use Rattle.sval_json.specs.Steps.{value_written, opens, closes, item_begin
 ghost use Rattle.sval_json.specs.Steps.{text_begins, fragment, quote_if_quoted};
 ghost use Rattle.sval_json.specs.WriterLaw.{WriterView, Does, writer_law, writer_view, writer_standing};
 
+use crate::error::Stop;
 use crate::escape::write_escaped;
-use crate::sink::{Sink, SinkError, write_all};
+use crate::sink::{Sink, write_all};
 use crate::style::Variants;
 use itoa::Buffer;
 use sval_core::{Call, Error, Fragment, GroupedCall, Head, Int, Lent, Result, Slot, Stream};
 
 /// Writes JSON to a sink.
 ///
-/// Each method does the action of the steps that its clause names, or a first part of it where the sink stops.
+/// Each method does the action of the steps that its clause names, or a first part of it where something stops it.
 #[derive(Drop)]
 pub(crate) struct Writer<'k, K: Sink> {
     pub(crate) sink: &'k mut K,
@@ -25,8 +26,8 @@ pub(crate) struct Writer<'k, K: Sink> {
     pub(crate) variants: Variants,
     /// Nothing stands yet in what was begun last.
     pub(crate) empty: bool,
-    /// Why the sink took nothing, if it did so.
-    pub(crate) why: Option<SinkError>,
+    /// What stopped it, if something did.
+    pub(crate) why: Option<Stop>,
 }
 
 impl<'k, K: Sink> Writer<'k, K> {
@@ -37,7 +38,7 @@ impl<'k, K: Sink> Writer<'k, K> {
         match write_all(self.sink, bytes) {
             Ok(()) => Ok(()),
             Err(why) => {
-                self.why = Some(why);
+                self.why = Some(Stop::Sink(why));
                 Err(Error::new())
             }
         }
@@ -51,7 +52,7 @@ impl<'k, K: Sink> Writer<'k, K> {
         match write_escaped(self.sink, text.as_bytes()) {
             Ok(()) => Ok(()),
             Err(why) => {
-                self.why = Some(why);
+                self.why = Some(Stop::Sink(why));
                 Err(Error::new())
             }
         }

@@ -1,5 +1,6 @@
 use Rattle.std.proofs.Common.{refl, rules, true, None}
-use Rattle.sval_json.proofs.Streamed.{after_streams, after_stops, is_generic, writes_spelled, begins_spelled}
+use Rattle.sval_json.proofs.Streamed.{after_streams, after_stops, is_generic, is_refused, writes_spelled, values_spelled, refuses_spelled, begins_spelled}
+use Rattle.sval_json.specs.Number.{InvalidKey, InvalidNumber}
 use Rattle.sval_json.proofs.to_io.stream_to_io_write_with.Goals as goal
 
 -- the writer began with the sink that was handed in, under a name of its own
@@ -9,10 +10,15 @@ returns-in-Ok g c =
     record {
       written = search rules;
       tree = λ tree spells. let whole = writes_spelled after.written tree spells in search rules;
+      denotes = λ tree spells real promises. let whole = values_spelled after.written tree spells real promises in search rules;
       willing = search rules;
       steady = search rules;
       generic_comes = λ itself _. let willing = c.in-Ok.ensures.willing in let refuses = itself.refuses in cc;
       generic = search rules;
+      refused_comes = λ why refused _. let none = after.written.refusal in cc;
+      invalid_key = search rules;
+      invalid_number = search rules;
+      tree_refused = λ why is. cc;
       io = search rules;
       io_room = search rules;
       no_memory = search rules;
@@ -27,10 +33,15 @@ returns-in-Err g c =
     record {
       written = search rules;
       tree = search rules;
+      denotes = search rules;
       willing = search rules;
       steady = search rules;
-      generic_comes = λ itself quiet. let is = is_generic after (search rules) in cc;
+      generic_comes = λ itself quiet. let is = is_generic after itself.refusal (search rules) in cc;
       generic = λ is. let ended = after.generic cc in search rules;
+      refused_comes = λ why refused quiet. let is = is_refused after why refused (search rules) in cc;
+      invalid_key = λ is. let refused = after.refused InvalidKey cc in search rules;
+      invalid_number = λ is. let refused = after.refused InvalidNumber cc in search rules;
+      tree_refused = λ why is tree spells. refuses_spelled (after.refused why cc) tree spells;
       io = λ is. let rose = after.io cc in search rules;
       io_room = λ is. let room = after.io_room cc in search rules;
       no_memory = λ is. let rose = after.no_memory cc in search rules;
