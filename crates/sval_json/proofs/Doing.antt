@@ -5,6 +5,7 @@ use Rattle.std.proofs.lemmas.List.{length-append}
 use Rattle.sval_json.specs.declared.error.Stop.{Stop}
 use Rattle.sval_json.specs.declared.error.Stop.TheVariants.{Step, Sink}
 use Rattle.sval_json.specs.Number.{Refusal}
+use Rattle.sval_json.specs.ErrorKinds.{seen_refusal}
 use Rattle.sval_json.specs.Actions.{Outcome, Action, nothing, continue, ◌then◌}
 use Rattle.sval_json.specs.Sinks.{Told, appended, less_room, HasRoom, WritesWhole}
 use Rattle.sval_json.specs.WriterLaw.{Target, WriterView, with_bytes, after_action, HasDone, IsLeftBy, IsStopped}
@@ -34,7 +35,7 @@ left_after : {old mid : Told} (new : Told) {all : List ℕ} (part whole : Option
     → IsLeftBy why part ys mid new → IsLeftBy why whole all old new
 left_after new part whole None xs ys zs w e ends left = absurd left
 left_after {old = old} new {all = all} part whole (Some (Step why)) xs ys zs w e ends left =
-    let end = ends why left.0 in
+    let end = ends (seen_refusal why) left.0 in
     let same : all ≡ xs ++ ys = e ∙ ap (λ more. xs ++ (ys ++ more)) end.0 ∙ ap (λ more. xs ++ more) (append-nil ys) in
     (end.1, subst (λ bytes. WritesWhole old bytes new) (sym same) (writes_both xs ys w left.1))
 left_after new part whole (Some (Sink why)) xs ys zs w e ends left = stops_after xs ys zs w e left

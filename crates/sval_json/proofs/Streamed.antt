@@ -12,7 +12,7 @@ use Rattle.sval_json.specs.declared.error.ErrorKind.TheVariants.{Generic, IO}
 use Rattle.sval_json.specs.declared.error.ErrorKind.TheVariants as kind
 use Rattle.sval_json.specs.declared.error.Stop.{Stop}
 use Rattle.sval_json.specs.declared.error.Stop.TheVariants.{Step, Sink}
-use Rattle.sval_json.specs.ErrorKinds.{refusal_kind, error_kind}
+use Rattle.sval_json.specs.ErrorKinds.{seen_refusal, refusal_kind, error_kind}
 use Rattle.sval_json.specs.Json.{Json}
 use Rattle.sval_json.specs.Shape.{json_in}
 use Rattle.sval_json.specs.Sinks.{Told, IsSteady, NoCountFell, IsQuiet, Appends, AppendsFront}
@@ -116,7 +116,7 @@ module _ (style : Variants) (e : Emission) (held holds : ℕ) (old new : Told) (
   after_left : (why : Option Stop) → IsLeftBy why (written_in style e.calls).refusal (written_in style e.calls).written (record old { held = None }) (record new { held = None })
       → IsAfterStop style e (error_kind why) held holds old new
   after_left None left = absurd left
-  after_left (Some (Step why)) left = after_own why (record {
+  after_left (Some (Step why)) left = after_own (seen_refusal why) (record {
     refusal = left.0;
     appends = record { fits = left.1.appends.fits; text = left.1.appends.text; room = left.1.appends.room };
     steady = record { faults = left.1.steady.faults; wants = left.1.steady.wants };

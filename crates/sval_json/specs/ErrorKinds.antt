@@ -4,9 +4,16 @@ use Rattle.sval_json.specs.declared.sink.SinkError.{SinkError}
 use Rattle.sval_json.specs.declared.sink.SinkError.TheVariants.{Failed, NoMemory}
 use Rattle.sval_json.specs.declared.error.ErrorKind.{ErrorKind}
 use Rattle.sval_json.specs.declared.error.ErrorKind.TheVariants as kind
+use Rattle.sval_json.specs.declared.error.Refusal as code
+use Rattle.sval_json.specs.declared.error.Refusal.TheVariants as refusal
 use Rattle.sval_json.specs.declared.error.Stop.{Stop}
 use Rattle.sval_json.specs.declared.error.Stop.TheVariants.{Step, Sink}
 use Rattle.sval_json.specs.Number.{Refusal, InvalidKey, InvalidNumber}
+
+-- a refusal of the code, as the steps say it
+abbrev pub seen_refusal : code.Refusal → Refusal
+seen_refusal refusal.InvalidKey = InvalidKey
+seen_refusal refusal.InvalidNumber = InvalidNumber
 
 -- where the writer's step refuses
 abbrev pub refusal_kind : Refusal → ErrorKind
@@ -21,7 +28,7 @@ sink_kind NoMemory = kind.NoMemory
 -- what stops a value: the writer's step, the sink, or else the value itself
 abbrev pub error_kind : Option Stop → ErrorKind
 error_kind None = kind.Generic
-error_kind (Some (Step why)) = refusal_kind why
+error_kind (Some (Step why)) = refusal_kind (seen_refusal why)
 error_kind (Some (Sink why)) = sink_kind why
 
 -- what an error says

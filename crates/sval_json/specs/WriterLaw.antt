@@ -10,6 +10,7 @@ use Rattle.sval_json.specs.declared.writer.Writer.{Writer}
 use Rattle.sval_json.specs.Actions.{State, escapes, Action}
 use Rattle.sval_json.specs.Steps.{step}
 use Rattle.sval_json.specs.Number.{Refusal}
+use Rattle.sval_json.specs.ErrorKinds.{seen_refusal}
 use Rattle.sval_json.specs.Sinks.{Told, appended, less_room, HasRoom, WritesWhole, WritesFront}
 
 -- the sink that a writer writes to: which one, what it tells but for what it holds back, and what stopped the writer, if something did
@@ -49,7 +50,7 @@ pub record HasDone (action : Action) (old new : WriterView) : Type 0 where
 -- what the sink took of these bytes, by what stopped the writer: all, where its own step refuses; a first part, where the sink does
 abbrev pub IsLeftBy : Option Stop → Option Refusal → List ℕ → Told → Told → Type 0
 IsLeftBy None refusal bytes old new = ⊥
-IsLeftBy (Some (Step why)) refusal bytes old new = (refusal ≡ Some why) × WritesWhole old bytes new
+IsLeftBy (Some (Step why)) refusal bytes old new = (refusal ≡ Some (seen_refusal why)) × WritesWhole old bytes new
 IsLeftBy (Some (Sink why)) refusal bytes old new = WritesFront why old bytes new
 
 -- the action was stopped, and what it writes was left so
