@@ -17,8 +17,8 @@ use Rattle.sval_json.specs.Steps.{written_in}
 use Rattle.sval_json.proofs.WrittenOnce.{written_once}
 use Rattle.sval_json.proofs.WritingPlain.{spelling_written}
 use Rattle.sval_script.specs.Lines.{Lines, Good, Bad, lines}
-use Rattle.sval_relay.specs.Verdict.{Verdict, BadLine, BadCall, Unfinished, Text, Asked, JsonIn, tree_text, ending, texts, text_verdict, SpellTrees, IsOfCalls, bad_call, unfinished, whole, IsOfLines, IsVerdictOn}
-use Rattle.sval_relay.specs.Leavings.{with_rest, written_slices, refused_bytes, with_text, left, IsLeftByCalls, IsLeftByLines, IsLeft}
+use Rattle.sval_relay.specs.Verdict.{Verdict, BadLine, BadCall, Unfinished, Key, Number, Text, Asked, JsonIn, tree_text, tree_written, with_text, left, ending, texts, text_verdict, SpellTrees, IsOfCalls, bad_call, unfinished, whole, IsOfLines, IsVerdictOn}
+use Rattle.sval_relay.specs.Leavings.{with_rest, written_slices, IsLeftByCalls, IsLeftByLines, IsLeft}
 use Rattle.sval_relay.proofs.Verdicts.{Found, found_bad, found_open, found_whole, found, one_spelled, not_whole}
 
 -- ---- the texts of trees that are not refused are what they leave
@@ -28,15 +28,10 @@ texts_left asked end [] text e = let same : [] ≡ text = cc e in same
 texts_left asked end (tree ∷ trees) text e = by_tree (λ more h. texts_left asked end trees more h) (tree_text asked tree) (texts asked end trees) refl e
   where
     by_tree : ((more : List ℕ) → texts asked end trees ≡ Ok more → left asked end trees ≡ more) → (first later : Result (List ℕ) Refusal) → texts asked end trees ≡ later
-        → on_ok first (λ t. map_ok (λ more. t ++ (end ++ more)) later) ≡ Ok text → with_text first end (left asked end trees) (refused_bytes asked tree) ≡ text
+        → on_ok first (λ t. map_ok (λ more. t ++ (end ++ more)) later) ≡ Ok text → with_text first end (left asked end trees) (tree_written asked tree) ≡ text
     by_tree next (Ok first) (Ok more) h k = let same : first ++ (end ++ more) ≡ text = cc k in ap (λ x. first ++ (end ++ x)) (next more h) ∙ same
     by_tree next (Ok first) (Err why) h k = cc k
     by_tree next (Err why) later h k = cc k
-
-verdict_is : (found : Result (List ℕ) Refusal) (text : List ℕ) → text_verdict found ≡ Text text → found ≡ Ok text
-verdict_is (Ok found) text e = let same : found ≡ text = cc e in ap Ok same
-verdict_is (Err InvalidKey) text e = cc e
-verdict_is (Err InvalidNumber) text e = cc e
 
 -- ---- one text is left
 
@@ -64,34 +59,38 @@ one_text_left script asked many = left_by_lines asked many (lines script)
 
 -- ---- it is the verdict's
 
--- what is left by a verdict: its text, and nothing where values are not whole
+-- what is left by a verdict: its bytes, and nothing where values are not whole
 abbrev MayBeLeft : Verdict → List ℕ → Type 0
 MayBeLeft (Text text) bytes = bytes ≡ text
 MayBeLeft (BadLine n) bytes = bytes ≡ []
 MayBeLeft (BadCall n) bytes = bytes ≡ []
 MayBeLeft Unfinished bytes = bytes ≡ []
-MayBeLeft _ bytes = Unit {0}
+MayBeLeft (Key written) bytes = bytes ≡ written
+MayBeLeft (Number written) bytes = bytes ≡ written
 
-left_by_trees : (found : Result (List ℕ) Refusal) (bytes : List ℕ) → ((text : List ℕ) → found ≡ Ok text → bytes ≡ text) → MayBeLeft (text_verdict found) bytes
-left_by_trees (Ok text) bytes h = h text refl
-left_by_trees (Err InvalidKey) bytes h = tt
-left_by_trees (Err InvalidNumber) bytes h = tt
+left_by_trees : (found : Result (List ℕ) Refusal) (written bytes : List ℕ) → bytes ≡ written → ((text : List ℕ) → found ≡ Ok text → written ≡ text) → MayBeLeft (text_verdict found written) bytes
+left_by_trees (Ok text) written bytes e h = e ∙ h text refl
+left_by_trees (Err InvalidKey) written bytes e h = e
+left_by_trees (Err InvalidNumber) written bytes e h = e
 
 left_by_calls : {calls : List Call} {asked : Asked} {many : Bool} {answer : Verdict} (bytes : List ℕ) → IsOfCalls calls asked many answer → IsLeftByCalls asked many calls bytes → MayBeLeft answer bytes
 left_by_calls {calls} {many = many} bytes (bad_call front call rest e v n) h = h.1 (not_whole many calls front rest call e n)
 left_by_calls bytes (unfinished v none) h = h.1 none
 left_by_calls {asked = asked} {many = many} bytes (whole trees s) h =
-    left_by_trees (texts asked (ending asked many) trees) bytes (λ text e. h.0 trees s ∙ texts_left asked (ending asked many) trees text e)
+    left_by_trees (texts asked (ending asked many) trees) (left asked (ending asked many) trees) bytes (h.0 trees s) (λ text e. texts_left asked (ending asked many) trees text e)
 
 left_by_answer : (read : Lines) (asked : Asked) (many : Bool) (answer : Verdict) (bytes : List ℕ) → IsOfLines read asked many answer → IsLeftByLines asked many read bytes → MayBeLeft answer bytes
 left_by_answer (Bad n) asked many answer bytes v h = subst (λ x. MayBeLeft x bytes) (sym v) h
 left_by_answer (Good calls) asked many answer bytes v h = left_by_calls bytes v h
 
 pub left_by_verdict : (script bytes : List ℕ) (asked : Asked) (many : Bool) → IsLeft asked many script bytes
-    → ((text : List ℕ) → IsVerdictOn (Text text) script asked many → bytes ≡ text) × ((n : ℕ) → IsVerdictOn (BadLine n) script asked many → bytes ≡ [])
+    → ((text : List ℕ) → IsVerdictOn (Text text) script asked many → bytes ≡ text) × ((written : List ℕ) → IsVerdictOn (Key written) script asked many → bytes ≡ written)
+    × ((written : List ℕ) → IsVerdictOn (Number written) script asked many → bytes ≡ written) × ((n : ℕ) → IsVerdictOn (BadLine n) script asked many → bytes ≡ [])
     × ((n : ℕ) → IsVerdictOn (BadCall n) script asked many → bytes ≡ []) × (IsVerdictOn Unfinished script asked many → bytes ≡ [])
 left_by_verdict script bytes asked many h = (
   λ text v. left_by_answer (lines script) asked many (Text text) bytes v h,
+  λ written v. left_by_answer (lines script) asked many (Key written) bytes v h,
+  λ written v. left_by_answer (lines script) asked many (Number written) bytes v h,
   λ n v. left_by_answer (lines script) asked many (BadLine n) bytes v h,
   λ n v. left_by_answer (lines script) asked many (BadCall n) bytes v h,
   λ v. left_by_answer (lines script) asked many Unfinished bytes v h,

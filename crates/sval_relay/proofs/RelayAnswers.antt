@@ -1,5 +1,5 @@
 -- From what reading, checking and writing a script answered to what serving it answers.
-use Rattle.std.specs.Prelude.{◌≡◌, ℕ, ◌+◌, ◌<◌, ◌^◌, ◌⊎◌, true, List, ◌∷◌, length, String, Option, Some, Result, Ok, Err, refl}
+use Rattle.std.specs.Prelude.{◌≡◌, ℕ, ◌+◌, ◌<◌, ◌^◌, ◌⊎◌, true, List, ◌∷◌, length, String, Some, Result, Ok, Err, refl}
 use Rattle.std.proofs.Common.{ap, ◌∙◌, sym, subst, arith, inl, inr}
 use Rattle.std.proofs.lemmas.List.{length-append}
 use Rattle.sval_label.specs.Calls.{Call}
@@ -12,8 +12,8 @@ use Rattle.sval_json.specs.declared.sink.SinkError.TheVariants as sink
 use Rattle.sval_json.specs.Json.{Json, compact}
 use Rattle.sval_json.specs.Number.{Refusal, InvalidKey, InvalidNumber}
 use Rattle.sval_json.specs.Shape.{json_in}
-use Rattle.sval_json.specs.Sinks.{Told, IsSteady, NoCountFell, IsCounted, PassesOn, Declines}
-use Rattle.sval_json.specs.Written.{WritesTreeIn, BeginsSpelledTree}
+use Rattle.sval_json.specs.Sinks.{Told, IsSteady, NoCountFell, AppendsFront, IsCounted, PassesOn, Declines}
+use Rattle.sval_json.specs.Written.{WritesTreeIn, WritesSpelledValue}
 use Rattle.sval_json.proofs.Appending.{all_is_front, steady_both, steady_counts, counts_since, counted_since}
 use Rattle.sval_script.specs.declared.script.ScriptError.{ScriptError}
 use Rattle.sval_script.specs.declared.script.ScriptError.TheVariants as reading
@@ -24,11 +24,11 @@ use Rattle.sval_relay.specs.declared.relaying.RelayError.TheVariants as answer
 use Rattle.sval_relay.specs.Sources.{Supply}
 use Rattle.sval_relay.specs.Inputs.{ReadsWhole}
 use Rattle.sval_relay.specs.Ways.{way_of, style_of}
-use Rattle.sval_relay.specs.Verdict.{Verdict, BadLine, BadCall, Unfinished, Text, IsVerdict, OnVerdict}
-use Rattle.sval_relay.specs.Relays.{of_script, of_sink, is_of_script, WritesText, Grows, MayLeave, IsOwnWant, IsCauseOf, IsAnswerTo, WritesJson, Relays}
+use Rattle.sval_relay.specs.Verdict.{Verdict, BadLine, BadCall, Unfinished, Key, Number, Text, asked_in, tree_written, IsVerdict, OnVerdict}
+use Rattle.sval_relay.specs.Relays.{of_script, of_sink, is_of_script, WritesText, Grows, MayLeave, WritesValue, WritesUpTo, IsOwnWant, RefusesTree, IsCauseOf, BeginsTree, IsAnswerTo, WritesJson, Relays}
 use Rattle.sval_relay.specs.Serves.{IsServed}
 use Rattle.sval_relay.proofs.Verdicts.{of_each, json_verdict, verdict_bad_line, verdict_bad_call, verdict_unfinished, verdict_tree}
-use Rattle.sval_relay.proofs.Writing.{counts_stay, grows_by_nothing, may_stay, appends_kept}
+use Rattle.sval_relay.proofs.Writing.{counts_stay, grows_by_nothing, grows_by_front, may_stay, appends_kept, value_kept, written_of_json}
 
 -- ---- what each answer of the parts says of the script
 
@@ -52,6 +52,8 @@ abbrev IsReason : {K : Type 0} → RelayError → (K → Told) → List ℕ → 
 IsReason (answer.BadLine n) told script way old new = IsVerdict (BadLine n) script way × (new ≡ old)
 IsReason (answer.BadCall n) told script way old new = IsVerdict (BadCall n) script way × (new ≡ old)
 IsReason answer.Unfinished told script way old new = IsVerdict Unfinished script way × (new ≡ old)
+IsReason answer.InvalidKey told script way old new = WritesUpTo Key (told old) (told new) script way
+IsReason answer.InvalidNumber told script way old new = WritesUpTo Number (told old) (told new) script way
 IsReason answer.Write told script way old new = Rose (told old).faults (told new).faults
 IsReason answer.NoMemory told script way old new = IsOwnWant told old new
 
@@ -59,9 +61,12 @@ relays_stopped : {K : Type 0} (told : K → Told) (script : List ℕ) (way : Way
     → Grows (told old) (told new) → NoCountFell (told old) (told new) → Relays told script way (Err why) old new
 relays_stopped {K} told script way old new why reason leaves grows counts = record {
   done = λ f. cc f;
+  denotes = λ f. cc f;
   bad_line = λ n f. (at (answer.BadLine n) (cc f)).0;
   bad_call = λ n f. (at (answer.BadCall n) (cc f)).0;
   unfinished = λ f. (at answer.Unfinished (cc f)).0;
+  invalid_key = λ f. at answer.InvalidKey (cc f);
+  invalid_number = λ f. at answer.InvalidNumber (cc f);
   write = λ f. at answer.Write (cc f);
   own_want = λ f. at answer.NoMemory (cc f);
   comes = comes why reason;
@@ -79,6 +84,8 @@ relays_stopped {K} told script way old new why reason leaves grows counts = reco
     comes (answer.BadLine n) r quiet = due script way (BadLine n) _ r.0 refl
     comes (answer.BadCall n) r quiet = due script way (BadCall n) _ r.0 refl
     comes answer.Unfinished r quiet = due script way Unfinished _ r.0 refl
+    comes answer.InvalidKey r quiet = due script way (Key r.written) _ r.is refl
+    comes answer.InvalidNumber r quiet = due script way (Number r.written) _ r.is refl
     comes answer.Write r quiet = absurd (quiet r)
     comes answer.NoMemory r quiet = λ found is. inr refl
 
@@ -86,6 +93,8 @@ relays_stopped {K} told script way old new why reason leaves grows counts = reco
     untouched (answer.BadLine n) r h = r.1
     untouched (answer.BadCall n) r h = r.1
     untouched answer.Unfinished r h = r.1
+    untouched answer.InvalidKey r h = cc h
+    untouched answer.InvalidNumber r h = cc h
     untouched answer.Write r h = cc h
     untouched answer.NoMemory r h = cc h
 
@@ -105,12 +114,16 @@ relays_unread told script way out reading.NoMemory bad = relays_refused told scr
 all_may_stay : {old new : Told} {script : List ℕ} {way : Way} → WritesText old new script way → OnVerdict (MayLeave old new) script way
 all_may_stay {old} {new} {script} {way} w = of_each script way (Text w.text) (MayLeave old new) w.is (all_is_front w.text w.appends)
 
-relays_text : {K : Type 0} (told : K → Told) (script : List ℕ) (way : Way) (old new : K) → WritesText (told old) (told new) script way → IsSteady (told old) (told new) → Relays told script way (Ok tt) old new
-relays_text told script way old new w s = record {
+relays_text : {K : Type 0} (told : K → Told) (script : List ℕ) (way : Way) (old new : K) → WritesText (told old) (told new) script way → WritesValue (told old) (told new) script way → IsSteady (told old) (told new)
+    → Relays told script way (Ok tt) old new
+relays_text told script way old new w v s = record {
   done = λ f. w;
+  denotes = λ f. v;
   bad_line = λ m f. cc f;
   bad_call = λ m f. cc f;
   unfinished = λ f. cc f;
+  invalid_key = λ f. cc f;
+  invalid_number = λ f. cc f;
   write = λ f. cc f;
   own_want = λ f. cc f;
   comes = λ quiet. due script way (Text w.text) _ w.is refl;
@@ -126,31 +139,46 @@ relays_text told script way old new w s = record {
 writes_text : {old new : Told} (script : List ℕ) (way : Way) (calls : List Call) (tree : Tree) → lines script ≡ Good calls → Spells calls tree → WritesTreeIn (style_of way) tree old new → WritesText old new script way
 writes_text script way calls tree is spells done = record {
   text = compact done.json;
-  is = subst (λ found. IsVerdict (json_verdict found) script way) done.shape (verdict_tree script way calls tree is spells);
+  is = subst (λ found. IsVerdict (json_verdict found (tree_written (asked_in way) tree)) script way) done.shape (verdict_tree script way calls tree is spells);
   appends = done.appends;
 }
 
-front_may_stay : {old new : Told} (script : List ℕ) (way : Way) (calls : List Call) (tree : Tree) → lines script ≡ Good calls → Spells calls tree → BeginsSpelledTree (style_of way) calls old new → Grows old new
+writes_value : {old new : Told} (script : List ℕ) (way : Way) (calls : List Call) → lines script ≡ Good calls → WritesSpelledValue (style_of way) calls old new → WritesValue old new script way
+writes_value {old} {new} script way calls is done others other = let e : Good calls ≡ Good others = sym is ∙ other in let same : calls ≡ others = cc e in subst (λ x. WritesSpelledValue (style_of way) x old new) same done
+
+-- the tree was refused
+writes_up_to : {old new : Told} (script : List ℕ) (way : Way) (calls : List Call) (tree : Tree) (why : Refusal) → lines script ≡ Good calls → Spells calls tree → RefusesTree (style_of way) why tree old new
+    → (refusal : List ℕ → Verdict) → ((written : List ℕ) → json_verdict (Err why) written ≡ refusal written) → WritesUpTo refusal old new script way
+writes_up_to script way calls tree why is spells r refusal same = record {
+  written = tree_written (asked_in way) tree;
+  is = subst (λ found. IsVerdict found script way) (ap (λ found. json_verdict found (tree_written (asked_in way) tree)) r.shape ∙ same (tree_written (asked_in way) tree)) (verdict_tree script way calls tree is spells);
+  appends = r.appends;
+  steady = r.steady;
+}
+
+front_may_stay : {old new : Told} (script : List ℕ) (way : Way) (calls : List Call) (tree : Tree) → lines script ≡ Good calls → Spells calls tree → BeginsTree (style_of way) calls old new
     → OnVerdict (MayLeave old new) script way
-front_may_stay {old} {new} script way calls tree is spells begun grows =
-    of_each script way (json_verdict (json_in (style_of way) tree)) (MayLeave old new) (verdict_tree script way calls tree is spells) (by_shape (json_in (style_of way) tree) refl)
+front_may_stay {old} {new} script way calls tree is spells begun =
+    of_each script way (json_verdict (json_in (style_of way) tree) (tree_written (asked_in way) tree)) (MayLeave old new) (verdict_tree script way calls tree is spells) (by_shape (json_in (style_of way) tree) refl)
   where
-    by_shape : (found : Result Json Refusal) → json_in (style_of way) tree ≡ found → MayLeave old new (json_verdict found)
-    by_shape (Ok json) shape = begun tree json spells shape
-    by_shape (Err InvalidKey) shape = grows
-    by_shape (Err InvalidNumber) shape = grows
+    by_shape : (found : Result Json Refusal) → json_in (style_of way) tree ≡ found → MayLeave old new (json_verdict found (tree_written (asked_in way) tree))
+    by_shape (Ok json) shape = subst (λ bytes. AppendsFront old bytes new) (written_of_json (style_of way) tree json spells.0 shape) (begun tree spells)
+    by_shape (Err InvalidKey) shape = begun tree spells
+    by_shape (Err InvalidNumber) shape = begun tree spells
 
 pub relays_written : {K : Type 0} (told : K → Told) (script : List ℕ) (way : Way) (calls : List Call) (old new : K) (result : Result (Unit {0}) RelayError) → (tree : Tree) × Spells calls tree → lines script ≡ Good calls
     → WritesJson result told (style_of way) calls old new → Relays told script way result old new
 relays_written told script way calls old new (Ok done) spelled is w =
-    relays_text told script way old new (writes_text script way calls spelled.0 is spelled.1 (w.tree spelled.0 spelled.1)) w.steady
+    relays_text told script way old new (writes_text script way calls spelled.0 is spelled.1 (w.tree spelled.0 spelled.1)) (writes_value script way calls is w.value) w.steady
 relays_written told script way calls old new (Err why) spelled is w =
-    relays_stopped told script way old new why (by_cause why w.cause) (front_may_stay script way calls spelled.0 is spelled.1 w.tree w.grows) w.grows w.counts
+    relays_stopped told script way old new why (by_cause why w.cause) (front_may_stay script way calls spelled.0 is spelled.1 w.begins) (grows_by_front (w.begins spelled.0 spelled.1)) w.counts
   where
-    by_cause : (e : RelayError) → IsCauseOf e told old new → IsReason e told script way old new
+    by_cause : (e : RelayError) → IsCauseOf e (style_of way) calls told old new → IsReason e told script way old new
     by_cause (answer.BadLine n) c = absurd c
     by_cause (answer.BadCall n) c = absurd c
     by_cause answer.Unfinished c = absurd c
+    by_cause answer.InvalidKey c = writes_up_to script way calls spelled.0 InvalidKey is spelled.1 (c spelled.0 spelled.1) Key (λ written. refl)
+    by_cause answer.InvalidNumber c = writes_up_to script way calls spelled.0 InvalidNumber is spelled.1 (c spelled.0 spelled.1) Number (λ written. refl)
     by_cause answer.Write c = c
     by_cause answer.NoMemory c = c
 
@@ -159,7 +187,7 @@ relays_written told script way calls old new (Err why) spelled is w =
 pub relays_flushed : {K : Type 0} (told : K → Told) (script : List ℕ) (way : Way) (old mid new : K) → Relays told script way (Ok tt) old mid → PassesOn (told mid) (told new) → Relays told script way (Ok tt) old new
 relays_flushed told script way old mid new r p =
     let w = r.done refl in
-    relays_text told script way old new (record { text = w.text; is = w.is; appends = appends_kept w.appends p.text p.room }) (steady_both (r.steady refl) p.steady)
+    relays_text told script way old new (record { text = w.text; is = w.is; appends = appends_kept w.appends p.text p.room }) (value_kept script way (r.denotes refl) p.text p.room) (steady_both (r.steady refl) p.steady)
 
 pub relays_held : {K : Type 0} (told : K → Told) (script : List ℕ) (way : Way) (old mid new : K) (why : SinkError) → Relays told script way (Ok tt) old mid → Declines why (told mid) (told new)
     → Relays told script way (Err (of_sink why)) old new

@@ -1,8 +1,9 @@
 -- From what serving the input says to what each status says.
-use Rattle.std.specs.Prelude.{◌≡◌, ℕ, ◌⊎◌, List, String, Option, Some, None, Result, Ok, Err, IfSome, refl}
+use Rattle.std.specs.Prelude.{◌≡◌, ℕ, true, ◌⊎◌, List, String, Option, Some, None, Result, Ok, Err, IfSome, refl}
 use Rattle.std.proofs.Common.{sym, ap, ◌∙◌, subst, arith, inl, inr}
 use Rattle.sval_core.specs.Law.{Rose}
 use Rattle.sval_json.specs.Sinks.{Told, IsSteady}
+use Rattle.sval_json.proofs.Appending.{steady_alone}
 use Rattle.sval_relay.specs.declared.status.TheConstants.{DONE, USAGE, BAD_LINE, BAD_CALL, NO_MEMORY, TOO_LONG}
 use Rattle.sval_relay.specs.declared.way.Way.{Way}
 use Rattle.sval_relay.specs.declared.reading.ReadError.TheVariants.{Fault, TooLong}
@@ -15,8 +16,8 @@ use Rattle.sval_relay.specs.Sources.{Supply}
 use Rattle.sval_relay.specs.Inputs.{OnShort, TakesAll, TakesOneMore}
 use Rattle.sval_relay.specs.Ways.{way_of, OnBoth, OnAsked}
 use Rattle.sval_relay.specs.Verdict.{Verdict, BadLine, BadCall, Unfinished, Key, Number, Text, HasBadLine, HasBadCall, OnVerdict}
-use Rattle.sval_relay.specs.Relays.{Grows, MayLeave, IsAnswerTo}
-use Rattle.sval_relay.specs.Statuses.{IsStatusOf, IsStatusDue, status_of_relayed, status_of}
+use Rattle.sval_relay.specs.Relays.{WritesValue, Grows, MayLeave, IsAnswerTo}
+use Rattle.sval_relay.specs.Statuses.{is_read, IsStatusOf, IsStatusDue, status_of_relayed, status_of}
 use Rattle.sval_relay.specs.Serves.{IsServed, Serves}
 use Rattle.sval_relay.proofs.Writing.{grows_by_nothing, may_stay}
 
@@ -61,44 +62,63 @@ on_served k P s p = on_both (way_of k.words) (k.source k.before).left P (λ scri
 
 -- a fact on each way to end
 by_end : (P : Result (Unit {0}) Failure → Type 0) → P (Ok tt) → P (Err Usage) → P (Err (Input Fault)) → P (Err (Input TooLong)) → P (Err (Input reading.NoMemory))
-    → ((n : ℕ) → P (Err (Relay (answer.BadLine n)))) → ((n : ℕ) → P (Err (Relay (answer.BadCall n)))) → P (Err (Relay answer.Unfinished)) → P (Err (Relay answer.Write)) → P (Err (Relay answer.NoMemory))
+    → ((n : ℕ) → P (Err (Relay (answer.BadLine n)))) → ((n : ℕ) → P (Err (Relay (answer.BadCall n)))) → P (Err (Relay answer.Unfinished)) → P (Err (Relay answer.InvalidKey)) → P (Err (Relay answer.InvalidNumber)) → P (Err (Relay answer.Write)) → P (Err (Relay answer.NoMemory))
     → (r : Result (Unit {0}) Failure) → P r
-by_end P done usage fault long none bad_line bad_call unfinished write no_memory (Ok u) = done
-by_end P done usage fault long none bad_line bad_call unfinished write no_memory (Err Usage) = usage
-by_end P done usage fault long none bad_line bad_call unfinished write no_memory (Err (Input Fault)) = fault
-by_end P done usage fault long none bad_line bad_call unfinished write no_memory (Err (Input TooLong)) = long
-by_end P done usage fault long none bad_line bad_call unfinished write no_memory (Err (Input reading.NoMemory)) = none
-by_end P done usage fault long none bad_line bad_call unfinished write no_memory (Err (Relay (answer.BadLine n))) = bad_line n
-by_end P done usage fault long none bad_line bad_call unfinished write no_memory (Err (Relay (answer.BadCall n))) = bad_call n
-by_end P done usage fault long none bad_line bad_call unfinished write no_memory (Err (Relay answer.Unfinished)) = unfinished
-by_end P done usage fault long none bad_line bad_call unfinished write no_memory (Err (Relay answer.Write)) = write
-by_end P done usage fault long none bad_line bad_call unfinished write no_memory (Err (Relay answer.NoMemory)) = no_memory
+by_end P done usage fault long none bad_line bad_call unfinished key number write no_memory (Ok u) = done
+by_end P done usage fault long none bad_line bad_call unfinished key number write no_memory (Err Usage) = usage
+by_end P done usage fault long none bad_line bad_call unfinished key number write no_memory (Err (Input Fault)) = fault
+by_end P done usage fault long none bad_line bad_call unfinished key number write no_memory (Err (Input TooLong)) = long
+by_end P done usage fault long none bad_line bad_call unfinished key number write no_memory (Err (Input reading.NoMemory)) = none
+by_end P done usage fault long none bad_line bad_call unfinished key number write no_memory (Err (Relay (answer.BadLine n))) = bad_line n
+by_end P done usage fault long none bad_line bad_call unfinished key number write no_memory (Err (Relay (answer.BadCall n))) = bad_call n
+by_end P done usage fault long none bad_line bad_call unfinished key number write no_memory (Err (Relay answer.Unfinished)) = unfinished
+by_end P done usage fault long none bad_line bad_call unfinished key number write no_memory (Err (Relay answer.InvalidKey)) = key
+by_end P done usage fault long none bad_line bad_call unfinished key number write no_memory (Err (Relay answer.InvalidNumber)) = number
+by_end P done usage fault long none bad_line bad_call unfinished key number write no_memory (Err (Relay answer.Write)) = write
+by_end P done usage fault long none bad_line bad_call unfinished key number write no_memory (Err (Relay answer.NoMemory)) = no_memory
 
 at_done : (r : Result (Unit {0}) Failure) → status_of r ≡ DONE → r ≡ Ok tt
 at_done r = by_end (λ r. status_of r ≡ DONE → r ≡ Ok tt)
     (λ e. refl) (λ e. absurd (omega arith)) (λ e. absurd (omega arith)) (λ e. absurd (omega arith)) (λ e. absurd (omega arith))
-    (λ n. λ e. absurd (omega arith)) (λ n. λ e. absurd (omega arith)) (λ e. absurd (omega arith)) (λ e. absurd (omega arith)) (λ e. absurd (omega arith)) r
+    (λ n. λ e. absurd (omega arith)) (λ n. λ e. absurd (omega arith)) (λ e. absurd (omega arith)) (λ e. absurd (omega arith)) (λ e. absurd (omega arith)) (λ e. absurd (omega arith)) (λ e. absurd (omega arith)) r
 
 at_bad_line : (r : Result (Unit {0}) Failure) → status_of r ≡ BAD_LINE → (n : ℕ) × (r ≡ Err (Relay (answer.BadLine n)))
 at_bad_line r = by_end (λ r. status_of r ≡ BAD_LINE → (n : ℕ) × (r ≡ Err (Relay (answer.BadLine n))))
     (λ e. absurd (omega arith)) (λ e. absurd (omega arith)) (λ e. absurd (omega arith)) (λ e. absurd (omega arith)) (λ e. absurd (omega arith))
-    (λ n. λ e. (n, refl)) (λ n. λ e. absurd (omega arith)) (λ e. absurd (omega arith)) (λ e. absurd (omega arith)) (λ e. absurd (omega arith)) r
+    (λ n. λ e. (n, refl)) (λ n. λ e. absurd (omega arith)) (λ e. absurd (omega arith)) (λ e. absurd (omega arith)) (λ e. absurd (omega arith)) (λ e. absurd (omega arith)) (λ e. absurd (omega arith)) r
 
 at_bad_call : (r : Result (Unit {0}) Failure) → status_of r ≡ BAD_CALL → (n : ℕ) × (r ≡ Err (Relay (answer.BadCall n)))
 at_bad_call r = by_end (λ r. status_of r ≡ BAD_CALL → (n : ℕ) × (r ≡ Err (Relay (answer.BadCall n))))
     (λ e. absurd (omega arith)) (λ e. absurd (omega arith)) (λ e. absurd (omega arith)) (λ e. absurd (omega arith)) (λ e. absurd (omega arith))
-    (λ n. λ e. absurd (omega arith)) (λ n. λ e. (n, refl)) (λ e. absurd (omega arith)) (λ e. absurd (omega arith)) (λ e. absurd (omega arith)) r
+    (λ n. λ e. absurd (omega arith)) (λ n. λ e. (n, refl)) (λ e. absurd (omega arith)) (λ e. absurd (omega arith)) (λ e. absurd (omega arith)) (λ e. absurd (omega arith)) (λ e. absurd (omega arith)) r
 
 -- ---- what each status says
 
-pub steady : {A I K : Type 0} (k : Case A I K) (r : Result (Unit {0}) Failure) → Ran k r → status_of r ≡ DONE → ((k.source k.after).faults ≡ (k.source k.before).faults) × IsSteady (k.sink k.old) (k.sink k.new)
-steady k r ran e = let s = subst (Ran k) (at_done r e) ran in (s.0.reads.faults, s.0.relays.steady refl)
+steady_same : {A I K : Type 0} (k : Case A I K) → k.new ≡ k.old → IsSteady (k.sink k.old) (k.sink k.new)
+steady_same k same = subst (λ out. IsSteady (k.sink k.old) (k.sink out)) (sym same) (steady_alone (k.sink k.old))
+
+pub steady : {A I K : Type 0} (k : Case A I K) (r : Result (Unit {0}) Failure) → Ran k r → is_read (status_of r) ≡ true → ((k.source k.after).faults ≡ (k.source k.before).faults) × IsSteady (k.sink k.old) (k.sink k.new)
+steady k (Ok u) ran e = (ran.0.reads.faults, ran.0.relays.steady refl)
+steady k (Err Usage) ran e = cc e
+steady k (Err (Input Fault)) ran e = cc e
+steady k (Err (Input TooLong)) ran e = cc e
+steady k (Err (Input reading.NoMemory)) ran e = cc e
+steady k (Err (Relay (answer.BadLine n))) ran e = (ran.reads.faults, steady_same k (ran.relays.untouched refl))
+steady k (Err (Relay (answer.BadCall n))) ran e = (ran.reads.faults, steady_same k (ran.relays.untouched refl))
+steady k (Err (Relay answer.Unfinished)) ran e = (ran.reads.faults, steady_same k (ran.relays.untouched refl))
+steady k (Err (Relay answer.InvalidKey)) ran e = (ran.reads.faults, (ran.relays.invalid_key refl).steady)
+steady k (Err (Relay answer.InvalidNumber)) ran e = (ran.reads.faults, (ran.relays.invalid_number refl).steady)
+steady k (Err (Relay answer.Write)) ran e = cc e
+steady k (Err (Relay answer.NoMemory)) ran e = cc e
 
 pub bad_line : {A I K : Type 0} (k : Case A I K) (r : Result (Unit {0}) Failure) → Ran k r → status_of r ≡ BAD_LINE → OnAsked k.words (k.source k.before) HasBadLine
 bad_line k r ran e = let f = at_bad_line r e in let s = subst (Ran k) f.1 ran in on_served k HasBadLine s (f.0, s.relays.bad_line f.0 refl)
 
 pub bad_call : {A I K : Type 0} (k : Case A I K) (r : Result (Unit {0}) Failure) → Ran k r → status_of r ≡ BAD_CALL → OnAsked k.words (k.source k.before) HasBadCall
 bad_call k r ran e = let f = at_bad_call r e in let s = subst (Ran k) f.1 ran in on_served k HasBadCall s (f.0, s.relays.bad_call f.0 refl)
+
+pub denotes : {A I K : Type 0} (k : Case A I K) (r : Result (Unit {0}) Failure) → Ran k r → status_of r ≡ DONE → OnAsked k.words (k.source k.before) (WritesValue (k.sink k.old) (k.sink k.new))
+denotes k r ran e = let s = subst (Ran k) (at_done r e) ran in on_served k (WritesValue (k.sink k.old) (k.sink k.new)) s.0 (s.0.relays.denotes refl)
 
 -- ---- the status that is due
 
@@ -107,8 +127,8 @@ answered (BadLine n) result h = ap status_of_relayed h
 answered (BadCall n) result h = ap status_of_relayed h
 answered Unfinished result h = ap status_of_relayed h
 answered (Text text) result h = ap status_of_relayed h
-answered Key result h = h
-answered Number result h = h
+answered (Key written) result h = ap status_of_relayed h
+answered (Number written) result h = ap status_of_relayed h
 
 answered_or : (found : Verdict) (result : Result (Unit {0}) RelayError) → IsAnswerTo found result ⊎ (result ≡ Err answer.NoMemory) → IsStatusDue (status_of_relayed result) found
 answered_or found result (inl h) = inl (answered found result h)

@@ -22,7 +22,7 @@ use Rattle.sval_script.specs.Lines.{Lines, Good, Bad, lines}
 use Rattle.sval_script.specs.Canon.{canon, canon_all}
 use Rattle.sval_relay.specs.declared.way.Way.{Way}
 use Rattle.sval_relay.specs.Ways.{style_of}
-use Rattle.sval_relay.specs.Verdict.{Verdict, BadLine, BadCall, Unfinished, Key, Number, Text, Asked, JsonIn, Script, asked_in, texts, text_verdict, trees_verdict, CanGoOn, SpellTrees, IsOfCalls, bad_call, unfinished, whole, IsOfLines, IsVerdictOn, IsVerdict, OnVerdict}
+use Rattle.sval_relay.specs.Verdict.{Verdict, BadLine, BadCall, Unfinished, Key, Number, Text, Asked, JsonIn, Script, asked_in, texts, tree_written, with_text, left, text_verdict, trees_verdict, CanGoOn, SpellTrees, IsOfCalls, bad_call, unfinished, whole, IsOfLines, IsVerdictOn, IsVerdict, OnVerdict}
 use Rattle.sval_relay.specs.Laws.{BothJsonWaysAgree}
 
 -- ---- there is a verdict
@@ -128,16 +128,17 @@ both_json_ways_agree = (
 
 -- ---- one value's JSON
 
--- what a tree gives that has this JSON, or none
-abbrev pub json_verdict : Result Json Refusal → Verdict
-json_verdict (Ok json) = Text (compact json)
-json_verdict (Err InvalidKey) = Key
-json_verdict (Err InvalidNumber) = Number
+-- what a tree gives that has this JSON, or none, and of which so much is written
+abbrev pub json_verdict : Result Json Refusal → List ℕ → Verdict
+json_verdict (Ok json) written = Text (compact json)
+json_verdict (Err InvalidKey) written = Key written
+json_verdict (Err InvalidNumber) written = Number written
 
-one_json : (json : Result Json Refusal) → text_verdict (on_ok (map_ok compact json) (λ text. map_ok (λ more. text ++ ([] ++ more)) (Ok []))) ≡ json_verdict json
-one_json (Ok json) = ap Text (append-nil (compact json))
-one_json (Err InvalidKey) = refl
-one_json (Err InvalidNumber) = refl
+one_json : (json : Result Json Refusal) (written : List ℕ)
+    → text_verdict (on_ok (map_ok compact json) (λ text. map_ok (λ more. text ++ ([] ++ more)) (Ok []))) (with_text (map_ok compact json) [] [] written) ≡ json_verdict json written
+one_json (Ok json) written = ap Text (append-nil (compact json))
+one_json (Err InvalidKey) written = refl
+one_json (Err InvalidNumber) written = refl
 
 pub verdict_bad_line : (script : List ℕ) (way : Way) (n : ℕ) → lines script ≡ Bad n → IsVerdict (BadLine n) script way
 verdict_bad_line script way n e = subst (λ found. IsOfLines found (asked_in way) false (BadLine n)) (sym e) refl
@@ -152,9 +153,9 @@ verdict_bad_call script way front rest call e v n = verdict_of_calls script way 
 pub verdict_unfinished : (script : List ℕ) (way : Way) (calls : List Call) → lines script ≡ Good calls → IsViable calls → ((tree : Tree) → Spells calls tree → ⊥) → IsVerdict Unfinished script way
 verdict_unfinished script way calls e viable none = verdict_of_calls script way calls Unfinished e (unfinished viable (λ trees s. none s.0 s.2))
 
-pub verdict_tree : (script : List ℕ) (way : Way) (calls : List Call) (tree : Tree) → lines script ≡ Good calls → Spells calls tree → IsVerdict (json_verdict (json_in (style_of way) tree)) script way
+pub verdict_tree : (script : List ℕ) (way : Way) (calls : List Call) (tree : Tree) → lines script ≡ Good calls → Spells calls tree → IsVerdict (json_verdict (json_in (style_of way) tree) (tree_written (asked_in way) tree)) script way
 verdict_tree script way calls tree e spells =
-    subst (λ answer. IsVerdict answer script way) (one_json (json_in (style_of way) tree)) (verdict_of_calls script way calls _ e (whole (tree ∷ []) (tree, refl, spells)))
+    subst (λ answer. IsVerdict answer script way) (one_json (json_in (style_of way) tree) (tree_written (asked_in way) tree)) (verdict_of_calls script way calls _ e (whole (tree ∷ []) (tree, refl, spells)))
 
 -- ---- scripts
 
@@ -163,4 +164,4 @@ script_texts [] = refl
 script_texts (t ∷ ts) = ap (map_ok (λ more. canon t ++ more)) (script_texts ts)
 
 pub scripts_are_canonical : (many : Bool) (trees : List Tree) → trees_verdict Script many trees ≡ Text (canon_all trees)
-scripts_are_canonical many trees = ap text_verdict (script_texts trees)
+scripts_are_canonical many trees = ap (λ found. text_verdict found (left Script [] trees)) (script_texts trees)

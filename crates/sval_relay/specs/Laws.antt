@@ -9,8 +9,8 @@ use Rattle.sval_json.specs.Steps.{written_in}
 use Rattle.sval_script.specs.Canon.{canon_all}
 use Rattle.sval_relay.specs.declared.way.Way.{Way}
 use Rattle.sval_relay.specs.declared.way.Way.TheVariants.{Direct, Buffered, DirectBeside, BufferedBeside}
-use Rattle.sval_relay.specs.Verdict.{Verdict, Text, BadLine, BadCall, Unfinished, Asked, JsonIn, Script, asked_in, trees_verdict, IsVerdictOn}
-use Rattle.sval_relay.specs.Leavings.{left, written_slices, IsLeft}
+use Rattle.sval_relay.specs.Verdict.{Verdict, Text, BadLine, BadCall, Unfinished, Key, Number, Asked, JsonIn, Script, asked_in, left, trees_verdict, IsVerdictOn}
+use Rattle.sval_relay.specs.Leavings.{written_slices, IsLeft}
 
 -- whatever is asked for, each script has one verdict, and no second one
 abbrev pub OneVerdict : Type 0
@@ -34,11 +34,13 @@ OneTextLeft =
     (script : List ℕ) (asked : Asked) (many : Bool)
     → (bytes : List ℕ) × IsLeft asked many script bytes × ((other : List ℕ) → IsLeft asked many script other → bytes ≡ other)
 
--- it is the verdict's text, where the verdict is one, and nothing where the script spells no whole values
+-- it is what the verdict says: its text, or what is written up to a refusal; and nothing where the script spells no whole values
 abbrev pub LeftByVerdict : Type 0
 LeftByVerdict =
     (script bytes : List ℕ) (asked : Asked) (many : Bool) → IsLeft asked many script bytes
     → ((text : List ℕ) → IsVerdictOn (Text text) script asked many → bytes ≡ text)
+    × ((written : List ℕ) → IsVerdictOn (Key written) script asked many → bytes ≡ written)
+    × ((written : List ℕ) → IsVerdictOn (Number written) script asked many → bytes ≡ written)
     × ((n : ℕ) → IsVerdictOn (BadLine n) script asked many → bytes ≡ [])
     × ((n : ℕ) → IsVerdictOn (BadCall n) script asked many → bytes ≡ [])
     × (IsVerdictOn Unfinished script asked many → bytes ≡ [])

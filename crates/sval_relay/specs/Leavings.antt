@@ -1,30 +1,15 @@
 -- What is left on a sink of a script, where it has to spell one value, and where it may spell many.
-use Rattle.std.specs.Prelude.{◌≡◌, ℕ, Bool, List, [], ◌∷◌, ◌++◌, Option, Some, None, Result, Ok, Err}
+use Rattle.std.specs.Prelude.{◌≡◌, ℕ, Bool, List, [], ◌∷◌, ◌++◌, Option, Some, None}
 use Rattle.sval_label.specs.Calls.{Call}
-use Rattle.sval_core.specs.Trees.{Tree, calls_of}
+use Rattle.sval_core.specs.Trees.{Tree}
 use Rattle.sval_core.specs.Many.{slice}
 use Rattle.sval_json.specs.Number.{Refusal}
 use Rattle.sval_json.specs.declared.style.Variants.{Variants}
 use Rattle.sval_json.specs.Steps.{written_in}
 use Rattle.sval_script.specs.Lines.{Lines, Good, Bad, lines}
-use Rattle.sval_relay.specs.Verdict.{Asked, JsonIn, Script, tree_text, ending, SpellTrees}
+use Rattle.sval_relay.specs.Verdict.{Asked, left, ending, SpellTrees}
 
--- of a tree that is refused the bytes that the writer's steps write for its calls, which are the same for all of its spellings
-abbrev pub refused_bytes : Asked → Tree → List ℕ
-refused_bytes (JsonIn style) tree = (written_in style (calls_of tree)).written
-refused_bytes Script tree = []
-
--- a tree's text with its ending, and what the trees after it leave; or what a refusal leaves
-abbrev pub with_text : Result (List ℕ) Refusal → List ℕ → List ℕ → List ℕ → List ℕ
-with_text (Ok text) end later refused = text ++ (end ++ later)
-with_text (Err why) end later refused = refused
-
--- what writing the trees leaves, up to the first one that is refused
-abbrev pub left : Asked → List ℕ → List Tree → List ℕ
-left asked end [] = []
-left asked end (tree ∷ trees) = with_text (tree_text asked tree) end (left asked end trees) (refused_bytes asked tree)
-
--- ---- the same, tree by tree
+-- ---- tree by tree
 
 -- what the writer's steps write for a tree's calls, and if none of them was refused its ending and what comes later
 abbrev pub with_rest : Option Refusal → List ℕ → List ℕ → List ℕ → List ℕ

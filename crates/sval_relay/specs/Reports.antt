@@ -1,7 +1,7 @@
 -- What the third device is told.
 use Rattle.std.specs.Prelude.{◌≡◌, ℕ, ◌<◌, ◌==◌, length, List, [], ◌∷◌, ◌++◌, String, Result, Ok, Err, codes, decimal, if◌then◌else◌}
 use Rattle.sval_json.specs.Sinks.{Told, IsQuiet, NoCountFell, HoldsNothing, Appends, AppendsFront}
-use Rattle.sval_relay.specs.declared.status.TheConstants.{USAGE, BAD_LINE, BAD_CALL, UNFINISHED, WRITE, READ, NO_MEMORY, TOO_LONG}
+use Rattle.sval_relay.specs.declared.status.TheConstants.{USAGE, BAD_LINE, BAD_CALL, UNFINISHED, INVALID_KEY, INVALID_NUMBER, WRITE, READ, NO_MEMORY, TOO_LONG}
 use Rattle.sval_relay.specs.declared.relaying.RelayError.TheVariants as answer
 use Rattle.sval_relay.specs.declared.failure.Failure.{Failure}
 use Rattle.sval_relay.specs.declared.failure.Failure.TheVariants as failure
@@ -16,6 +16,8 @@ reports number = (USAGE, codes "usage: sval_relay direct [beside] [lines]|buffer
     ∷ (BAD_LINE, codes "line " ++ decimal number ++ codes ": not a call\n")
     ∷ (BAD_CALL, codes "line " ++ decimal number ++ codes ": no value goes on with this call\n")
     ∷ (UNFINISHED, codes "the calls are not one whole value\n")
+    ∷ (INVALID_KEY, codes "attempt to serialize a non-string key\n")
+    ∷ (INVALID_NUMBER, codes "attempt to serialize an invalid number\n")
     ∷ (WRITE, codes "write fault\n")
     ∷ (READ, codes "read fault\n")
     ∷ (NO_MEMORY, codes "out of memory\n")

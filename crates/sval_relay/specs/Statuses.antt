@@ -1,7 +1,7 @@
 -- The program's statuses: which there are, and which failure has which.
 use Rattle.std.specs.Prelude.{◌≡◌, ℕ, ◌==◌, ◌⊎◌, Bool, List, [], ◌∷◌, Result, Ok, Err}
 use Rattle.std.specs.List.{list_any}
-use Rattle.sval_relay.specs.declared.status.TheConstants.{DONE, USAGE, BAD_LINE, BAD_CALL, UNFINISHED, WRITE, READ, NO_MEMORY, TOO_LONG}
+use Rattle.sval_relay.specs.declared.status.TheConstants.{DONE, USAGE, BAD_LINE, BAD_CALL, UNFINISHED, INVALID_KEY, INVALID_NUMBER, WRITE, READ, NO_MEMORY, TOO_LONG}
 use Rattle.sval_relay.specs.declared.reading.ReadError.TheVariants as reading
 use Rattle.sval_relay.specs.declared.relaying.RelayError.{RelayError}
 use Rattle.sval_relay.specs.declared.relaying.RelayError.TheVariants as answer
@@ -14,7 +14,7 @@ is_among status statuses = list_any (λ s. s == status) statuses
 
 -- the statuses there are
 abbrev pub is_status : ℕ → Bool
-is_status status = is_among status (DONE ∷ USAGE ∷ BAD_LINE ∷ BAD_CALL ∷ UNFINISHED ∷ WRITE ∷ READ ∷ NO_MEMORY ∷ TOO_LONG ∷ [])
+is_status status = is_among status (DONE ∷ USAGE ∷ BAD_LINE ∷ BAD_CALL ∷ UNFINISHED ∷ INVALID_KEY ∷ INVALID_NUMBER ∷ WRITE ∷ READ ∷ NO_MEMORY ∷ TOO_LONG ∷ [])
 
 -- those that come before anything is written
 abbrev pub is_unwritten : ℕ → Bool
@@ -22,16 +22,16 @@ is_unwritten status = is_among status (USAGE ∷ BAD_LINE ∷ BAD_CALL ∷ UNFIN
 
 -- those that come after the input was read to its end
 abbrev pub is_read : ℕ → Bool
-is_read status = is_among status (DONE ∷ BAD_LINE ∷ BAD_CALL ∷ UNFINISHED ∷ [])
+is_read status = is_among status (DONE ∷ BAD_LINE ∷ BAD_CALL ∷ UNFINISHED ∷ INVALID_KEY ∷ INVALID_NUMBER ∷ [])
 
--- the status that is due. The calls that are built have none of the last two verdicts
+-- the status that is due
 abbrev pub IsStatusOf : Verdict → ℕ → Type 0
 IsStatusOf (BadLine n) status = status ≡ BAD_LINE
 IsStatusOf (BadCall n) status = status ≡ BAD_CALL
 IsStatusOf Unfinished status = status ≡ UNFINISHED
 IsStatusOf (Text text) status = status ≡ DONE
-IsStatusOf Key status = ⊥
-IsStatusOf Number status = ⊥
+IsStatusOf (Key written) status = status ≡ INVALID_KEY
+IsStatusOf (Number written) status = status ≡ INVALID_NUMBER
 
 -- it came, or memory was wanting
 abbrev pub IsStatusDue : ℕ → Verdict → Type 0
@@ -41,6 +41,8 @@ abbrev pub status_of_answer : RelayError → ℕ
 status_of_answer (answer.BadLine n) = BAD_LINE
 status_of_answer (answer.BadCall n) = BAD_CALL
 status_of_answer answer.Unfinished = UNFINISHED
+status_of_answer answer.InvalidKey = INVALID_KEY
+status_of_answer answer.InvalidNumber = INVALID_NUMBER
 status_of_answer answer.Write = WRITE
 status_of_answer answer.NoMemory = NO_MEMORY
 

@@ -1,26 +1,27 @@
 -- What a script has to give.
 use Rattle.std.specs.Prelude.{◌≡◌, ℕ, ◌+◌, Bool, true, false, List, [], ◌∷◌, ◌++◌, length, Result, Ok, Err}
 use Rattle.sval_label.specs.Calls.{Call}
-use Rattle.sval_core.specs.Trees.{Tree}
+use Rattle.sval_core.specs.Trees.{Tree, calls_of}
 use Rattle.sval_core.specs.Spells.{Spells, IsViable}
 use Rattle.sval_core.specs.Many.{SpellsAll, IsViableAll}
 use Rattle.sval_json.specs.Json.{compact}
 use Rattle.sval_json.specs.Number.{Refusal, InvalidKey, InvalidNumber}
 use Rattle.sval_json.specs.declared.style.Variants.{Variants}
 use Rattle.sval_json.specs.Shape.{json_in, on_ok, map_ok}
+use Rattle.sval_json.specs.Steps.{written_in}
 use Rattle.sval_script.specs.Lines.{Lines, Good, Bad, lines}
 use Rattle.sval_script.specs.Canon.{canon}
 use Rattle.sval_relay.specs.declared.way.Way.{Way}
 use Rattle.sval_relay.specs.Ways.{style_of}
 
 -- the first bad line, or the first call that no value goes on with, each counted from 1; calls that are no whole value; a map's key
--- that is no text; a number that is none; or the text
+-- that is no text, or a number that is none, each with what is written up to it; or the text
 pub data Verdict : Type 0 where
   BadLine : ℕ → Verdict
   BadCall : ℕ → Verdict
   Unfinished : Verdict
-  Key : Verdict
-  Number : Verdict
+  Key : List ℕ → Verdict
+  Number : List ℕ → Verdict
   Text : List ℕ → Verdict
 
 -- what is asked for of each tree: its JSON in a style of variants, or its canonical script
@@ -45,13 +46,28 @@ abbrev pub texts : Asked → List ℕ → List Tree → Result (List ℕ) Refusa
 texts asked end [] = Ok []
 texts asked end (tree ∷ trees) = on_ok (tree_text asked tree) (λ text. map_ok (λ more. text ++ (end ++ more)) (texts asked end trees))
 
-abbrev pub text_verdict : Result (List ℕ) Refusal → Verdict
-text_verdict (Ok text) = Text text
-text_verdict (Err InvalidKey) = Key
-text_verdict (Err InvalidNumber) = Number
+-- what the writer's steps write for a tree, up to the first refusal, which is the same for all calls that spell it
+abbrev pub tree_written : Asked → Tree → List ℕ
+tree_written (JsonIn style) tree = (written_in style (calls_of tree)).written
+tree_written Script tree = []
+
+-- a tree's text with its ending, and what the trees after it leave; or what was written of the tree, where it is refused
+abbrev pub with_text : Result (List ℕ) Refusal → List ℕ → List ℕ → List ℕ → List ℕ
+with_text (Ok text) end later written = text ++ (end ++ later)
+with_text (Err why) end later written = written
+
+-- what writing the trees leaves, up to the first one that is refused
+abbrev pub left : Asked → List ℕ → List Tree → List ℕ
+left asked end [] = []
+left asked end (tree ∷ trees) = with_text (tree_text asked tree) end (left asked end trees) (tree_written asked tree)
+
+abbrev pub text_verdict : Result (List ℕ) Refusal → List ℕ → Verdict
+text_verdict (Ok text) left = Text text
+text_verdict (Err InvalidKey) left = Key left
+text_verdict (Err InvalidNumber) left = Number left
 
 abbrev pub trees_verdict : Asked → Bool → List Tree → Verdict
-trees_verdict asked many trees = text_verdict (texts asked (ending asked many) trees)
+trees_verdict asked many trees = text_verdict (texts asked (ending asked many) trees) (left asked (ending asked many) trees)
 
 -- ---- what a script gives, where it has to spell one value, and where it may spell many
 

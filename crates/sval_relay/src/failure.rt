@@ -77,6 +77,8 @@ impl Failure {
             Failure::Relay(RelayError::BadLine { .. }) => status::BAD_LINE,
             Failure::Relay(RelayError::BadCall { .. }) => status::BAD_CALL,
             Failure::Relay(RelayError::Unfinished) => status::UNFINISHED,
+            Failure::Relay(RelayError::InvalidKey) => status::INVALID_KEY,
+            Failure::Relay(RelayError::InvalidNumber) => status::INVALID_NUMBER,
             Failure::Relay(RelayError::Write) => status::WRITE,
             Failure::Relay(RelayError::NoMemory) => status::NO_MEMORY,
         }
@@ -114,6 +116,12 @@ impl Failure {
             }
             Failure::Relay(RelayError::Unfinished) => {
                 write_all(diag, b"the calls are not one whole value\n")
+            }
+            Failure::Relay(RelayError::InvalidKey) => {
+                write_all(diag, b"attempt to serialize a non-string key\n")
+            }
+            Failure::Relay(RelayError::InvalidNumber) => {
+                write_all(diag, b"attempt to serialize an invalid number\n")
             }
             Failure::Relay(RelayError::Write) => write_all(diag, b"write fault\n"),
             Failure::Relay(RelayError::NoMemory) => write_all(diag, b"out of memory\n"),

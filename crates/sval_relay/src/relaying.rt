@@ -32,6 +32,10 @@ pub enum RelayError {
     },
     /// The calls are not one whole value.
     Unfinished,
+    /// What stands in the place of a map's key can't be one.
+    InvalidKey,
+    /// Text that stands for a number is none.
+    InvalidNumber,
     /// The sink failed.
     Write,
     /// Memory was wanting.
@@ -67,8 +71,9 @@ impl From<SinkError> for RelayError {
 /// Serves one script that stands in memory: reads its lines, checks their calls, and writes the JSON of the one value
 /// that they spell.
 ///
-/// On `Ok` the sink took exactly that JSON's text. Where the sink counted no fault, the answer is the one that the
-/// script's verdict asks for, unless memory was wanting. A script may have any length. The sink isn't flushed.
+/// On `Ok` the sink took exactly that JSON's text. Where raw texts and identifiers are what their tags promise, that
+/// text denotes the one value that is meant. Where the sink counted no fault, the answer is the one that the script's
+/// verdict asks for, unless memory was wanting. A script may have any length. The sink isn't flushed.
 ///
 /// ```
 /// let mut sink = VecSink::new(alloc);
@@ -79,9 +84,11 @@ impl From<SinkError> for RelayError {
 /// # Errors
 ///
 /// [`RelayError::BadLine`], [`RelayError::BadCall`] and [`RelayError::Unfinished`] come only where the script is so, in
-/// this order, and leave the sink as it was. [`RelayError::Write`] comes only where the sink's count of faults rose.
-/// [`RelayError::NoMemory`] leaves the sink as it was, unless the sink's own count of wants rose. After `Write`, and after
-/// `NoMemory` where that count rose, a first part of the text may have been taken.
+/// this order, and leave the sink as it was. [`RelayError::InvalidKey`] and [`RelayError::InvalidNumber`] come only
+/// where the value has no JSON for that cause, the first from left to right; the sink took exactly what is written up
+/// to there. [`RelayError::Write`] comes only where the sink's count of faults rose. [`RelayError::NoMemory`] leaves
+/// the sink as it was, unless the sink's own count of wants rose. After `Write`, and after `NoMemory` where that count
+/// rose, a first part of what is due may have been taken.
 pub fn relay<K: Sink>(alloc: Global, script: &[u8], way: Way, out: &mut K) -> Result<(), RelayError>
     ensures { Relays K.told script.now way result out.old out.new }
 {
@@ -161,6 +168,8 @@ fn write_json<'v, K: Sink, V: Value<'v, Lent<'v>>>(
         Ok(()) => Ok(()),
         Err(error) => match error.kind() {
             ErrorKind::IO => Err(RelayError::Write),
+            ErrorKind::InvalidKey => Err(RelayError::InvalidKey),
+            ErrorKind::InvalidNumber => Err(RelayError::InvalidNumber),
             ErrorKind::NoMemory => Err(RelayError::NoMemory),
             ErrorKind::Generic => unreachable!("the value doesn't refuse"),
         },

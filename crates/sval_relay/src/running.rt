@@ -5,8 +5,8 @@ ghost use Rattle.sval_core.specs.Law.{Rose};
 ghost use Rattle.sval_json.specs.Sinks.{HoldsNothing, IsSteady, NoCountFell};
 ghost use Rattle.sval_relay.specs.Inputs.{OnShort, OnLong, IsSpent, IsTooLong};
 ghost use Rattle.sval_relay.specs.Ways.{way_of, OnAsked};
-ghost use Rattle.sval_relay.specs.Verdict.{Unfinished, IsVerdict, HasBadLine, HasBadCall, OnVerdict};
-ghost use Rattle.sval_relay.specs.Relays.{WritesText, Grows, MayLeave, IsOwnWant};
+ghost use Rattle.sval_relay.specs.Verdict.{Unfinished, Key, Number, IsVerdict, HasBadLine, HasBadCall, OnVerdict};
+ghost use Rattle.sval_relay.specs.Relays.{WritesText, WritesValue, WritesUpTo, Grows, MayLeave, IsOwnWant};
 ghost use Rattle.sval_relay.specs.Statuses.{is_status, is_unwritten, is_read, IsStatusDue};
 ghost use Rattle.sval_relay.specs.Serves.{Serves};
 ghost use Rattle.sval_relay.specs.Reports.{Reports};
@@ -16,7 +16,8 @@ use crate::reading::read_all;
 use crate::relaying::serve_script;
 use crate::source::Source;
 use crate::status::{
-    BAD_CALL, BAD_LINE, DONE, NO_MEMORY, READ, TOO_LONG, UNFINISHED, USAGE, WRITE,
+    BAD_CALL, BAD_LINE, DONE, INVALID_KEY, INVALID_NUMBER, NO_MEMORY, READ, TOO_LONG, UNFINISHED,
+    USAGE, WRITE,
 };
 use crate::way::named_way;
 use std::alloc::Global;
@@ -58,6 +59,8 @@ fn serve<I: Source, K: Sink>(
 /// | 3 | a line is no call |
 /// | 4 | no value goes on with the call of a line |
 /// | 5 | the calls are not one whole value |
+/// | 6 | what stands in the place of a map's key can't be one; the sink took what is written up to there |
+/// | 7 | text that stands for a number is none; the sink took what is written up to there |
 /// | 8 | only where the output failed |
 /// | 9 | only where the input failed |
 /// | 10 | memory was wanting |
@@ -87,10 +90,16 @@ pub fn run<I: Source, K: Sink, D: Sink>(
     ensures usage { (result ≡ USAGE) ↔ (way_of words.now ≡ None) }
     ensures done { result ≡ DONE
         → OnAsked words.now (I.told input.old) (WritesText (K.told out.old) (K.told out.new)) }
+    ensures denotes { result ≡ DONE
+        → OnAsked words.now (I.told input.old) (WritesValue (K.told out.old) (K.told out.new)) }
     ensures flushed { result ≡ DONE → HoldsNothing (K.told out.new) }
     ensures bad_line { result ≡ BAD_LINE → OnAsked words.now (I.told input.old) HasBadLine }
     ensures bad_call { result ≡ BAD_CALL → OnAsked words.now (I.told input.old) HasBadCall }
     ensures unfinished { result ≡ UNFINISHED → OnAsked words.now (I.told input.old) (IsVerdict Unfinished) }
+    ensures invalid_key { result ≡ INVALID_KEY
+        → OnAsked words.now (I.told input.old) (WritesUpTo Key (K.told out.old) (K.told out.new)) }
+    ensures invalid_number { result ≡ INVALID_NUMBER
+        → OnAsked words.now (I.told input.old) (WritesUpTo Number (K.told out.old) (K.told out.new)) }
     ensures write { result ≡ WRITE → Rose (K.told out.old).faults (K.told out.new).faults }
     ensures read { result ≡ READ → Rose (I.told input.old).faults (I.told input.new).faults }
     ensures own_want { result ≡ NO_MEMORY → IsOwnWant K.told out.old out.new }
@@ -115,7 +124,7 @@ pub fn run<I: Source, K: Sink, D: Sink>(
     ensures spent { is_read result ≡ true → IsSpent (I.told input.old) (I.told input.new) }
 
     // The counts.
-    ensures steady { result ≡ DONE → ((I.told input.new).faults ≡ (I.told input.old).faults)
+    ensures steady { is_read result ≡ true → ((I.told input.new).faults ≡ (I.told input.old).faults)
         × IsSteady (K.told out.old) (K.told out.new) }
     ensures counts { ((I.told input.old).faults ≤ (I.told input.new).faults)
         × NoCountFell (K.told out.old) (K.told out.new) }

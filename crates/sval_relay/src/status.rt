@@ -15,6 +15,12 @@ pub const BAD_CALL: u8 = 4;
 /// The calls are not one whole value.
 pub const UNFINISHED: u8 = 5;
 
+/// What stands in the place of a map's key can't be one.
+pub const INVALID_KEY: u8 = 6;
+
+/// Text that stands for a number is none.
+pub const INVALID_NUMBER: u8 = 7;
+
 /// The output failed.
 pub const WRITE: u8 = 8;
 

@@ -1,4 +1,7 @@
 //! The program `sval_relay`: reads a script of calls, and writes the JSON of the value that they spell.
+//!
+//! It ends with one of the statuses of [`sval_relay::run`], which is one of [`sval_relay::status`], or with 17 where its
+//! words can't be had.
 #![tactic(auto)]
 
 ghost use Rattle.std.specs.Prelude.{◌≡◌, ◌≢◌, ◌⊎◌, true};

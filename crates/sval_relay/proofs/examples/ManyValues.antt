@@ -16,8 +16,7 @@ use Rattle.sval_core.proofs.ListsOfTrees.{not_completed}
 use Rattle.sval_script.specs.Lines.{lines, line_of, forms}
 use Rattle.sval_script.specs.Printed.{printed, line}
 use Rattle.sval_relay.specs.declared.way.Way.TheVariants.{Direct, Buffered}
-use Rattle.sval_relay.specs.Verdict.{BadCall, Unfinished, Key, Text, Script, asked_in, trees_verdict, ending, IsOfCalls, bad_call, unfinished, whole, IsVerdictOn}
-use Rattle.sval_relay.specs.Leavings.{left}
+use Rattle.sval_relay.specs.Verdict.{BadCall, Unfinished, Key, Text, Script, asked_in, left, trees_verdict, ending, IsOfCalls, bad_call, unfinished, whole, IsVerdictOn}
 
 -- a null and a truth value, each with its line feed
 two_lines : IsVerdictOn (Text (codes "null\ntrue\n")) (codes "null\nbool true\n") (asked_in Direct) true
@@ -64,7 +63,7 @@ two_texts = whole null_and_sequence null_and_sequence_spelled
 abbrev sequence_as_key : Tree
 sequence_as_key = Container Head.Map (part Slot.Key (Container Head.Seq none) (part Slot.Value Null none))
 
-refused_second : (trees_verdict (asked_in Direct) true (Int call.I64 (pos 1) ∷ sequence_as_key ∷ []) ≡ Key)
+refused_second : (trees_verdict (asked_in Direct) true (Int call.I64 (pos 1) ∷ sequence_as_key ∷ []) ≡ Key (codes "1\n{\""))
     × (left (asked_in Direct) (ending (asked_in Direct) true) (Int call.I64 (pos 1) ∷ sequence_as_key ∷ []) ≡ codes "1\n{\"")
 unfolding digits
 refused_second = (refl, refl)
@@ -74,7 +73,7 @@ map_calls =
     call.Begin Head.Map None ∷ call.PartBegin Slot.Key ∷ call.Begin Head.Seq None ∷ call.End Head.Seq ∷ call.PartEnd Slot.Key
     ∷ call.PartBegin Slot.Value ∷ call.Null ∷ call.PartEnd Slot.Value ∷ call.End Head.Map ∷ []
 
-refused_second_calls : IsOfCalls (call.Int call.I64 (pos 1) ∷ map_calls) (asked_in Direct) true Key
+refused_second_calls : IsOfCalls (call.Int call.I64 (pos 1) ∷ map_calls) (asked_in Direct) true (Key (codes "1\n{\""))
 unfolding digits
 refused_second_calls = whole (Int call.I64 (pos 1) ∷ sequence_as_key ∷ []) (
   call.Int call.I64 (pos 1) ∷ [],

@@ -1,9 +1,9 @@
-use Rattle.std.proofs.Common.{◌∙◌, sym, subst}
+use Rattle.std.proofs.Common.{◌≡◌, ◌∙◌, true, sym, subst}
 use Rattle.std.specs.declared.alloc.Global.{Global}
 use Rattle.sval_relay.specs.Inputs.{OnShort}
 use Rattle.sval_relay.specs.Ways.{OnAsked}
 use Rattle.sval_relay.specs.Verdict.{OnVerdict}
-use Rattle.sval_relay.specs.Statuses.{IsStatusDue}
+use Rattle.sval_relay.specs.Statuses.{is_read, IsStatusDue}
 use Rattle.sval_relay.proofs.RunAnswers.{Case}
 use Rattle.sval_relay.proofs.RunAnswers as answers
 use Rattle.sval_relay.proofs.running.run.Given as given
@@ -21,6 +21,9 @@ case_of g c = record {
   new = c.serve-served.new.out;
 }
 
+pub returns-clause-denotes : goal.returns-clause-denotes
+returns-clause-denotes g c = λ e. answers.denotes (case_of g c) c.serve-served.result c.serve-served.ensures (sym c.conclude.ensures.status ∙ e)
+
 pub returns-clause-bad_line : goal.returns-clause-bad_line
 returns-clause-bad_line g c = λ e. answers.bad_line (case_of g c) c.serve-served.result c.serve-served.ensures (sym c.conclude.ensures.status ∙ e)
 
@@ -28,7 +31,8 @@ pub returns-clause-bad_call : goal.returns-clause-bad_call
 returns-clause-bad_call g c = λ e. answers.bad_call (case_of g c) c.serve-served.result c.serve-served.ensures (sym c.conclude.ensures.status ∙ e)
 
 pub returns-clause-steady : goal.returns-clause-steady
-returns-clause-steady g c = λ e. answers.steady (case_of g c) c.serve-served.result c.serve-served.ensures (sym c.conclude.ensures.status ∙ e)
+returns-clause-steady g c = λ e.
+    answers.steady (case_of g c) c.serve-served.result c.serve-served.ensures (subst (λ status. is_read status ≡ true) c.conclude.ensures.status e)
 
 pub returns-clause-leaves : goal.returns-clause-leaves
 returns-clause-leaves g c = answers.leaves (case_of g c) c.serve-served.result c.serve-served.ensures
