@@ -1,5 +1,6 @@
 pub mod Texts
 pub mod Numbers
+pub mod Readings
 pub mod Writing
 pub mod WritingKeys
 pub mod WritingParts

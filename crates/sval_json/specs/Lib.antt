@@ -2,6 +2,7 @@ pub mod Escape
 pub mod Json
 pub mod Digits
 pub mod Number
+pub mod SeenNumber
 pub mod Shape
 pub mod Actions
 pub mod Steps

@@ -4,6 +4,7 @@
 mod error;
 mod escape;
 pub mod laws;
+mod number;
 mod real;
 mod sink;
 mod style;
