@@ -19,6 +19,7 @@ pub mod Appending
 pub mod Pieces
 pub mod EscapedPieces
 pub mod Doing
+pub mod Combined
 pub mod Streamed
 pub mod Told
 mod examples

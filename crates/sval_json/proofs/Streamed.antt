@@ -142,10 +142,7 @@ module _ (style : Variants) (e : Emission) (held holds : ℕ) (old new : Told) (
     prefix = record { count = left.front.count; within = left.front.within; appends = record { fits = left.front.appends.fits; text = left.front.appends.text; room = left.front.appends.room } };
   }
 
-module _ {K : Type 0} (told : K → Told) (e : Emission) (old new : Writer K) (begins : old.empty ≡ true) where
-  is_start : (writer_view told old).state ≡ start
-  is_start = ap writer_state begins
-
+module _ {K : Type 0} (told : K → Told) (e : Emission) (old new : Writer K) (is_start : writer_state old ≡ start) where
   after_done : HasDone (steps old.variants e.calls) (writer_view told old) (writer_view told new) → IsAfter old.variants e.calls old.sink.ghost_name new.sink.ghost_name (told old.sink.now) (told new.sink.now)
   after_done d = record {
     name = ap (λ v. v.target.name) d.view;

@@ -6,6 +6,7 @@ pub mod SeenNumber
 pub mod Shape
 pub mod Actions
 pub mod Steps
+pub mod SeenWriter
 pub mod Grammar
 pub mod Means
 pub mod Promises

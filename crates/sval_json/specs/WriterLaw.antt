@@ -1,5 +1,5 @@
 -- The JSON writer as a stream: its law is that it meets the steps.
-use Rattle.std.specs.Prelude.{◌≡◌, ℕ, Bool, false, true, List, Option, Some, None, Result, Ok, Err, length}
+use Rattle.std.specs.Prelude.{◌≡◌, ℕ, List, Option, Some, None, Result, Ok, Err, length}
 use Rattle.std.specs.Borrow.{MutBor}
 use Rattle.sval_label.specs.declared.error.Error.{Error}
 use Rattle.sval_core.specs.Law.{Law, Standing}
@@ -7,7 +7,8 @@ use Rattle.sval_json.specs.declared.error.Stop.{Stop}
 use Rattle.sval_json.specs.declared.error.Stop.TheVariants.{Step, Sink}
 use Rattle.sval_json.specs.declared.style.Variants.{Variants}
 use Rattle.sval_json.specs.declared.writer.Writer.{Writer}
-use Rattle.sval_json.specs.Actions.{State, escapes, Action}
+use Rattle.sval_json.specs.Actions.{State, Action}
+use Rattle.sval_json.specs.SeenWriter.{seen_handler}
 use Rattle.sval_json.specs.Steps.{step}
 use Rattle.sval_json.specs.Number.{Refusal}
 use Rattle.sval_json.specs.ErrorKinds.{seen_refusal}
@@ -63,6 +64,10 @@ abbrev pub Does : Action → Result (Unit {0}) Error → WriterView → WriterVi
 Does action (Ok done) old new = HasDone action old new
 Does action (Err refusal) old new = IsStopped action old new
 
+-- the state was changed so, and nothing else
+abbrev pub IsOnlySet : (State → State) → WriterView → WriterView → Type 0
+IsOnlySet change old new = new ≡ record old { state = change old.state }
+
 -- a call is taken where its step refuses nothing and what it writes has room
 abbrev pub writer_law : Law WriterView
 writer_law = record {
@@ -73,9 +78,9 @@ writer_law = record {
 
 -- ---- the writer in code
 
--- the state of the steps outside keys, enums and tagged values: whether nothing stands yet in what was begun last
-abbrev pub writer_state : Bool → State
-writer_state empty = record { named = false; empty = empty; quoted = true; handler = escapes }
+-- the state of the steps
+abbrev pub writer_state : {K : Type 0} → Writer K → State
+writer_state w = record { named = w.named; empty = w.empty; quoted = w.quoted; handler = seen_handler w.handler }
 
 -- `told` is what the sink tells
 abbrev pub target_of : {K : Type 0} → (K → Told) → MutBor K → Option Stop → Target
@@ -83,7 +88,7 @@ target_of told sink why = record { name = sink.ghost_name; told = record (told s
 
 -- the writer as its law sees it; `told` is what the sink tells
 abbrev pub writer_view : {K : Type 0} → (K → Told) → Writer K → WriterView
-writer_view told w = record { style = w.variants; state = writer_state w.empty; target = target_of told w.sink w.why }
+writer_view told w = record { style = w.variants; state = writer_state w; target = target_of told w.sink w.why }
 
 -- the same with the two counts of the sink
 abbrev pub writer_standing : {K : Type 0} → (K → Told) → Writer K → Standing WriterView

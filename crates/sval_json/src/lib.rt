@@ -8,6 +8,7 @@ mod number;
 mod real;
 mod sink;
 mod style;
+pub mod tags;
 #[cfg(test)]
 mod tests;
 mod to_io;

@@ -14,7 +14,7 @@ ghost use Rattle.sval_json.specs.Written.{WritesSpelledTree, WritesSpelledValue,
 use crate::error::{Error, ErrorKind};
 use crate::sink::Sink;
 use crate::style::Variants;
-use crate::writer::Writer;
+use crate::writer::{Handler, Writer};
 use sval_core::{Lent, Value};
 
 /// Streams a value to a sink as JSON, without white space.
@@ -118,7 +118,10 @@ pub fn stream_to_io_write_with<'v, K: Sink, V: Value<'v, Lent<'v>>>(
     let mut writer = Writer {
         sink: out,
         variants,
+        named: false,
         empty: true,
+        quoted: true,
+        handler: Handler::Escapes,
         why: None,
     };
     let streamed = v.stream(&mut writer);

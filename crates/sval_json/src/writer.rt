@@ -1,20 +1,39 @@
 //! The writer: a stream that writes JSON to a sink.
 
+mod marks;
+mod names;
+mod parts;
+mod tagged;
+mod texts;
+
+ghost use Rattle.std.specs.Prelude.{◌≡◌};
 ghost use Rattle.std.specs.Fmt.{signed_decimal};
 ghost use Rattle.sval_label.specs.Grouped.{int_number};
 ghost use Rattle.sval_label.specs.Made.{lent_call};
 ghost use Rattle.sval_core.specs.Law.{Answers};
-ghost use Rattle.sval_json.specs.Actions.{write};
-ghost use Rattle.sval_json.specs.Steps.{value_written, opens, closes, item_begins};
-ghost use Rattle.sval_json.specs.Steps.{text_begins, fragment, quote_if_quoted};
+ghost use Rattle.sval_json.specs.Escape.{escaped};
+ghost use Rattle.sval_json.specs.Actions.{write, refuse};
+ghost use Rattle.sval_json.specs.Steps.{value_written, refuse_in_key, opens, closes};
 ghost use Rattle.sval_json.specs.WriterLaw.{WriterView, Does, writer_law, writer_view, writer_standing};
 
-use crate::error::Stop;
+use crate::error::{Refusal, Stop};
 use crate::escape::write_escaped;
+use crate::number::NumberMachine;
 use crate::sink::{Sink, write_all};
 use crate::style::Variants;
 use itoa::Buffer;
-use sval_core::{Call, Error, Fragment, GroupedCall, Head, Int, Lent, Result, Slot, Stream};
+use sval_core::{Call, Error, Fragment, GroupedCall, Int, Lent, Result, Stream};
+
+/// What happens to the fragments of a text.
+#[derive(Clone, Copy)]
+pub(crate) enum Handler {
+    /// They are escaped.
+    Escapes,
+    /// They stand as they are.
+    Copies,
+    /// A number goes on with them.
+    Reads(NumberMachine),
+}
 
 /// Writes JSON to a sink.
 ///
@@ -24,8 +43,14 @@ pub(crate) struct Writer<'k, K: Sink> {
     pub(crate) sink: &'k mut K,
     /// How a variant's name is written.
     pub(crate) variants: Variants,
+    /// A variant's name may be due, or a variant that stands in an object was just ended.
+    pub(crate) named: bool,
     /// Nothing stands yet in what was begun last.
     pub(crate) empty: bool,
+    /// A text brings its quotes, which it does not in a key or in a number.
+    pub(crate) quoted: bool,
+    /// What happens to the fragments of a text.
+    pub(crate) handler: Handler,
     /// What stopped it, if something did.
     pub(crate) why: Option<Stop>,
 }
@@ -44,18 +69,35 @@ impl<'k, K: Sink> Writer<'k, K> {
         }
     }
 
-    /// Writes a part of a text.
-    #[inline(never)]
-    fn write_fragment(&mut self, text: &str) -> Result
-        ensures { Does (fragment text.now) result (writer_view K.told self.old) (writer_view K.told self.new) }
+    /// Writes a text as it stands between quotes.
+    fn write_escaped(&mut self, text: &[u8]) -> Result
+        ensures { Does (write (escaped text.now)) result (writer_view K.told self.old) (writer_view K.told self.new) }
     {
-        match write_escaped(self.sink, text.as_bytes()) {
+        match write_escaped(self.sink, text) {
             Ok(()) => Ok(()),
             Err(why) => {
                 self.why = Some(Stop::Sink(why));
                 Err(Error::new())
             }
         }
+    }
+
+    /// Refuses a call.
+    fn refuse(&mut self, why: Refusal) -> Result
+        ensures { Does (refuse why) result (writer_view K.told self.old) (writer_view K.told self.new) }
+    {
+        self.why = Some(Stop::Step(why));
+        Err(Error::new())
+    }
+
+    /// Refuses what can't stand in a key.
+    fn refuse_in_key(&mut self) -> Result
+        ensures { Does refuse_in_key result (writer_view K.told self.old) (writer_view K.told self.new) }
+    {
+        if self.quoted {
+            return Ok(());
+        }
+        self.refuse(Refusal::InvalidKey)
     }
 
     /// Writes a simple value.
@@ -72,15 +114,15 @@ impl<'k, K: Sink> Writer<'k, K> {
         ensures { Does (value_written (signed_decimal (int_number number))) result
             (writer_view K.told self.old) (writer_view K.told self.new) }
     {
-        match number {
-            Int::I64(number) => self.write_value(Buffer::new().format(number).as_bytes()),
-        }
+        let mut buffer = Buffer::new();
+        self.write_value(format_int(&mut buffer, number).as_bytes())
     }
 
     /// Opens what other values may stand in.
     fn open(&mut self, bracket: &[u8]) -> Result
         ensures { Does (opens bracket.now) result (writer_view K.told self.old) (writer_view K.told self.new) }
     {
+        self.refuse_in_key()?;
         self.empty = true;
         self.write(bracket)
     }
@@ -92,30 +134,23 @@ impl<'k, K: Sink> Writer<'k, K> {
         self.empty = false;
         self.write(bracket)
     }
+}
 
-    /// Writes the quote of a text.
-    fn quote(&mut self) -> Result
-        ensures { Does quote_if_quoted result (writer_view K.told self.old) (writer_view K.told self.new) }
-    {
-        self.write(b"\"")
-    }
-
-    /// Begins a text.
-    fn begin_text(&mut self) -> Result
-        ensures { Does text_begins result (writer_view K.told self.old) (writer_view K.told self.new) }
-    {
-        self.empty = false;
-        self.quote()
-    }
-
-    /// Begins an item: with a comma, unless it is the first.
-    fn begin_item(&mut self) -> Result
-        ensures { Does item_begins result (writer_view K.told self.old) (writer_view K.told self.new) }
-    {
-        if self.empty {
-            return Ok(());
-        }
-        self.write(b",")
+/// The digits of a whole number.
+fn format_int(buffer: &mut Buffer, number: Int) -> &str
+    ensures { result.now ≡ signed_decimal (int_number number) }
+{
+    match number {
+        Int::U8(number) => buffer.format(number),
+        Int::U16(number) => buffer.format(number),
+        Int::U32(number) => buffer.format(number),
+        Int::U64(number) => buffer.format(number),
+        Int::U128(number) => buffer.format(number),
+        Int::I8(number) => buffer.format(number),
+        Int::I16(number) => buffer.format(number),
+        Int::I32(number) => buffer.format(number),
+        Int::I64(number) => buffer.format(number),
+        Int::I128(number) => buffer.format(number),
     }
 }
 
@@ -140,10 +175,21 @@ impl<'k, 'sval, K: Sink> Stream<Lent<'sval>> for Writer<'k, K> {
                 self.write_fragment(text)
             }
             GroupedCall::TextEnd => self.quote(),
-            GroupedCall::Begin(Head::Seq, _) => self.open(b"["),
-            GroupedCall::End(Head::Seq) => self.close(b"]"),
-            GroupedCall::PartBegin(Slot::Item) => self.begin_item(),
-            GroupedCall::PartEnd(Slot::Item) => Ok(()),
+            GroupedCall::BinaryBegin(_) => self.open(b"["),
+            GroupedCall::BinaryFragment(Fragment::Borrowed(bytes) | Fragment::Computed(bytes)) => {
+                self.write_bytes(bytes)
+            }
+            GroupedCall::BinaryEnd => self.close(b"]"),
+            GroupedCall::EnumBegin(name) => self.begin_enum(&name),
+            GroupedCall::EnumEnd(name) => self.end_enum(&name),
+            GroupedCall::TaggedBegin(name) => self.begin_tagged(&name),
+            GroupedCall::TaggedEnd(name) => self.end_tagged(&name),
+            GroupedCall::Tag(name) => self.write_name(&name),
+            GroupedCall::TagHint(_) => Ok(()),
+            GroupedCall::Begin(head, _) => self.begin_container(head),
+            GroupedCall::End(head) => self.end_container(head),
+            GroupedCall::PartBegin(slot) => self.begin_part(slot),
+            GroupedCall::PartEnd(slot) => self.end_part(slot),
         }
     }
 }

@@ -1,4 +1,5 @@
-use Rattle.std.proofs.Common.{refl, rules, true, None}
+use Rattle.std.proofs.Common.{refl, rules, true, false, None}
+use Rattle.sval_json.specs.declared.writer.Handler.TheVariants.{Escapes}
 use Rattle.sval_json.proofs.Streamed.{after_streams, after_stops, is_generic, is_refused, writes_spelled, values_spelled, refuses_spelled, begins_spelled}
 use Rattle.sval_json.specs.Number.{InvalidKey, InvalidNumber}
 use Rattle.sval_json.proofs.to_io.stream_to_io_write_with.Goals as goal
@@ -6,7 +7,7 @@ use Rattle.sval_json.proofs.to_io.stream_to_io_write_with.Goals as goal
 -- the writer began with the sink that was handed in, under a name of its own
 pub returns-in-Ok : goal.returns-in-Ok
 returns-in-Ok g c =
-    let after = after_streams g.K.Sink.told (g.V.Value.emission c.args.v.now) (record { sink = record c.args.out { ghost_name = _ }; variants = c.args.variants; empty = true; why = None }) c.stream-streamed.new.stream refl c.in-Ok.ensures in
+    let after = after_streams g.K.Sink.told (g.V.Value.emission c.args.v.now) (record { sink = record c.args.out { ghost_name = _ }; variants = c.args.variants; named = false; empty = true; quoted = true; handler = Escapes; why = None }) c.stream-streamed.new.stream refl c.in-Ok.ensures in
     record {
       written = search rules;
       tree = λ tree spells. let whole = writes_spelled after.written tree spells in search rules;
@@ -29,7 +30,7 @@ returns-in-Ok g c =
 
 pub returns-in-Err : goal.returns-in-Err
 returns-in-Err g c =
-    let after = after_stops g.K.Sink.told (g.V.Value.emission c.args.v.now) (record { sink = record c.args.out { ghost_name = _ }; variants = c.args.variants; empty = true; why = None }) c.stream-streamed.new.stream refl {found = c.of.result} refl c.of.ensures c.in-Err.ensures in
+    let after = after_stops g.K.Sink.told (g.V.Value.emission c.args.v.now) (record { sink = record c.args.out { ghost_name = _ }; variants = c.args.variants; named = false; empty = true; quoted = true; handler = Escapes; why = None }) c.stream-streamed.new.stream refl {found = c.of.result} refl c.of.ensures c.in-Err.ensures in
     record {
       written = search rules;
       tree = search rules;

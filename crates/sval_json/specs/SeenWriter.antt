@@ -1,0 +1,28 @@
+-- What the writer in code is seen as.
+use Rattle.std.specs.Prelude.{Option, option_map}
+use Rattle.std.specs.Borrow.{Bor}
+use Rattle.sval_label.specs.declared.index.Index as program_index
+use Rattle.sval_label.specs.Calls.{Index}
+use Rattle.sval_label.specs.SeenIndex.{seen_index}
+use Rattle.sval_core.specs.Trees.{TextKind, Ordinary, Number, JsonValue, JsonText, JsonNumber}
+use Rattle.sval_json.specs.declared.writer.Handler as program
+use Rattle.sval_json.specs.declared.writer.Handler.TheVariants as handler
+use Rattle.sval_json.specs.declared.writer.marks.TextKind as program_kind
+use Rattle.sval_json.specs.declared.writer.marks.TextKind.TheVariants as kind
+use Rattle.sval_json.specs.Actions.{Handler, escapes, copies, reads}
+use Rattle.sval_json.specs.SeenNumber.{seen_machine}
+
+abbrev pub seen_handler : program.Handler → Handler
+seen_handler handler.Escapes = escapes
+seen_handler handler.Copies = copies
+seen_handler (handler.Reads machine) = reads (seen_machine machine)
+
+abbrev pub seen_kind : program_kind.TextKind → TextKind
+seen_kind kind.Ordinary = Ordinary
+seen_kind kind.Number = Number
+seen_kind kind.JsonValue = JsonValue
+seen_kind kind.JsonText = JsonText
+seen_kind kind.JsonNumber = JsonNumber
+
+abbrev pub seen_option_index : Option (Bor program_index.Index) → Option Index
+seen_option_index index = option_map (λ index. seen_index index.now) index

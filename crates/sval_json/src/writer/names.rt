@@ -1,0 +1,171 @@
+//! Names, before a variant's value and by themselves.
+
+ghost use Rattle.std.specs.Prelude.{◌≡◌, ◌++◌, None, Some, is_some, option_map, codes};
+ghost use Rattle.std.specs.Fmt.{signed_decimal};
+ghost use Rattle.sval_label.specs.Calls.{EnumBegin, EnumEnd};
+ghost use Rattle.sval_label.specs.SeenName.{seen_name};
+ghost use Rattle.sval_json.specs.Actions.{write, when, ◌then◌};
+ghost use Rattle.sval_json.specs.Escape.{escaped};
+ghost use Rattle.sval_json.specs.Shape.{handle, handle_of, is_none_tag};
+ghost use Rattle.sval_json.specs.Steps.{refuse_in_key, opens_handle, name_step, closes};
+ghost use Rattle.sval_json.specs.Steps.{label_step, own_step, standalone_step};
+ghost use Rattle.sval_json.specs.Steps.{step};
+ghost use Rattle.sval_json.specs.SeenWriter.{seen_option_index};
+ghost use Rattle.sval_json.specs.WriterLaw.{Does, writer_view};
+
+use crate::sink::Sink;
+use crate::style::Variants;
+use crate::writer::Writer;
+use crate::writer::marks::is_none;
+use itoa::Buffer;
+use sval_core::{Index, Name, Result};
+
+/// The number of an index that stands for a name, where it fits.
+fn number_of(index: Option<&Index>) -> Option<i64>
+    ensures { option_map signed_decimal result ≡ handle_of None (seen_option_index index.entry) }
+{
+    match index {
+        Some(index) => index.to_i64(),
+        None => None,
+    }
+}
+
+/// Whether something stands for a name in front of a value.
+pub(crate) fn has_handle(name: &Name) -> bool
+    ensures { result ≡ is_some (handle (seen_name name.now)) }
+{
+    name.label.is_some() || number_of(name.index).is_some()
+}
+
+impl<'k, K: Sink> Writer<'k, K> {
+    /// Opens an object with an escaped text between others, where no key is due.
+    fn open_between(&mut self, before: &[u8], text: &[u8], after: &[u8]) -> Result
+        ensures { Does (refuse_in_key then write (before.now ++ escaped text.now ++ after.now)) result
+            (writer_view K.told self.old) (writer_view K.told self.new) }
+    {
+        self.refuse_in_key()?;
+        self.write(before)?;
+        self.write_escaped(text)?;
+        self.write(after)
+    }
+
+    /// Opens the object that a variant stands in, up to its value.
+    fn open_variant(&mut self, handle: &[u8]) -> Result
+        ensures { Does (opens_handle self.old.variants (Some handle.now)) result
+            (writer_view K.told self.old) (writer_view K.told self.new) }
+    {
+        match self.variants {
+            Variants::Inside => self.open_between(b"{\"", handle, b"\":"),
+            Variants::Beside => self.open_between(b"{\"variant\":\"", handle, b"\",\"value\":"),
+        }
+    }
+
+    /// Opens the object that a variant of this name stands in, if it has a handle.
+    fn open_handle(&mut self, name: &Name) -> Result
+        ensures { Does (opens_handle self.old.variants (handle (seen_name name.now))) result
+            (writer_view K.told self.old) (writer_view K.told self.new) }
+    {
+        if let Some(label) = name.label {
+            return self.open_variant(label.as_str().as_bytes());
+        }
+        match number_of(name.index) {
+            Some(number) => self.open_variant(Buffer::new().format(number).as_bytes()),
+            None => Ok(()),
+        }
+    }
+
+    /// Gives a name to what begins, where one is due.
+    pub(crate) fn begin_named(&mut self, name: &Name) -> Result
+        ensures { Does (name_step self.old.variants (handle (seen_name name.now))) result
+            (writer_view K.told self.old) (writer_view K.told self.new) }
+    {
+        if self.named {
+            self.open_handle(name)?;
+            self.named = false;
+        }
+        Ok(())
+    }
+
+    /// Writes the number of an index, or `null`.
+    fn write_index(&mut self, index: Option<&Index>) -> Result
+        ensures { Does (label_step None (handle_of None (seen_option_index index.entry))) result
+            (writer_view K.told self.old) (writer_view K.told self.new) }
+    {
+        match number_of(index) {
+            Some(number) => self.write_value(Buffer::new().format(number).as_bytes()),
+            None => self.write_value(b"null"),
+        }
+    }
+
+    /// Writes what stands for a name by itself.
+    fn write_own(&mut self, name: &Name) -> Result
+        ensures { let n = seen_name name.now in
+            Does (own_step (is_none_tag n.tag) n.label (handle_of None n.index)) result
+            (writer_view K.told self.old) (writer_view K.told self.new) }
+    {
+        if is_none(name.tag) {
+            return self.write_value(b"null");
+        }
+        match name.label {
+            Some(label) => self.write_text(label.as_str()),
+            None => self.write_index(name.index),
+        }
+    }
+
+    /// Writes a name by itself.
+    #[inline(never)]
+    pub(crate) fn write_name(&mut self, name: &Name) -> Result
+        ensures { Does (standalone_step (seen_name name.now)) result
+            (writer_view K.told self.old) (writer_view K.told self.new) }
+    {
+        self.named = false;
+        self.empty = false;
+        self.write_own(name)
+    }
+
+    /// Writes the name of what ends, where nothing stands in that.
+    pub(crate) fn write_name_if_empty(&mut self, name: &Name) -> Result
+        ensures { Does (when (λ state. state.empty) (standalone_step (seen_name name.now))) result
+            (writer_view K.told self.old) (writer_view K.told self.new) }
+    {
+        if self.empty {
+            return self.write_name(name);
+        }
+        Ok(())
+    }
+
+    /// Closes the object that a variant stands in, if it does.
+    fn close_variant(&mut self) -> Result
+        ensures { Does (when (λ state. state.named) (closes (codes "}"))) result
+            (writer_view K.told self.old) (writer_view K.told self.new) }
+    {
+        if self.named {
+            return self.close(b"}");
+        }
+        Ok(())
+    }
+
+    /// Begins an enum.
+    #[inline(never)]
+    pub(crate) fn begin_enum(&mut self, name: &Name) -> Result
+        ensures { Does (step self.old.variants (EnumBegin (seen_name name.now))) result
+            (writer_view K.told self.old) (writer_view K.told self.new) }
+    {
+        self.begin_named(name)?;
+        self.named = true;
+        self.empty = true;
+        Ok(())
+    }
+
+    /// Ends an enum.
+    #[inline(never)]
+    pub(crate) fn end_enum(&mut self, name: &Name) -> Result
+        ensures { Does (step self.old.variants (EnumEnd (seen_name name.now))) result
+            (writer_view K.told self.old) (writer_view K.told self.new) }
+    {
+        self.write_name_if_empty(name)?;
+        self.close_variant()?;
+        self.named = has_handle(name);
+        Ok(())
+    }
+}

@@ -1,0 +1,156 @@
+//! Containers and their parts.
+
+ghost use Rattle.std.specs.Prelude.{◌++◌, codes};
+ghost use Rattle.sval_label.specs.Calls as call;
+ghost use Rattle.sval_label.specs.Grouped.{seen_head, seen_slot};
+ghost use Rattle.sval_label.specs.SeenName.{seen_name};
+ghost use Rattle.sval_json.specs.Actions.{write, ◌then◌, ◌sets◌};
+ghost use Rattle.sval_json.specs.Steps.{container_begins, container_ends, part_begins, part_ends};
+ghost use Rattle.sval_json.specs.Steps.{opens, closes, name_step, after_name, item_begins, field_begins, label_text};
+ghost use Rattle.sval_json.specs.Shape.{handle};
+ghost use Rattle.sval_json.specs.WriterLaw.{Does, writer_view};
+
+use crate::sink::Sink;
+use crate::writer::Writer;
+use crate::writer::marks::is_ident;
+use crate::writer::names::has_handle;
+use sval_core::{Head, Label, Name, Result, Slot};
+
+impl<'k, K: Sink> Writer<'k, K> {
+    /// Opens a container under its name, where that is due.
+    #[inline(never)]
+    fn open_named(&mut self, name: &Name, bracket: &[u8]) -> Result
+        ensures { Does (name_step self.old.variants (handle (seen_name name.now)) then opens bracket.now) result
+            (writer_view K.told self.old) (writer_view K.told self.new) }
+    {
+        self.begin_named(name)?;
+        self.open(bracket)
+    }
+
+    /// Closes a container that has a name.
+    #[inline(never)]
+    fn close_named(&mut self, name: &Name, bracket: &[u8]) -> Result
+        ensures { Does (closes bracket.now sets after_name (seen_name name.now)) result
+            (writer_view K.told self.old) (writer_view K.told self.new) }
+    {
+        self.close(bracket)?;
+        self.named = has_handle(name);
+        Ok(())
+    }
+
+    /// Begins a container.
+    pub(crate) fn begin_container(&mut self, head: Head) -> Result
+        ensures { Does (container_begins self.old.variants (seen_head head.entry)) result
+            (writer_view K.told self.old) (writer_view K.told self.new) }
+    {
+        match head {
+            Head::Seq => self.open(b"["),
+            Head::Map => self.open(b"{"),
+            Head::Record(name) => self.open_named(&name, b"{"),
+            Head::Tuple(name) => self.open_named(&name, b"["),
+            Head::RecordTuple(name) => self.open_named(&name, b"{"),
+        }
+    }
+
+    /// Ends a container.
+    pub(crate) fn end_container(&mut self, head: Head) -> Result
+        ensures { Does (container_ends (seen_head head.entry)) result
+            (writer_view K.told self.old) (writer_view K.told self.new) }
+    {
+        match head {
+            Head::Seq => self.close(b"]"),
+            Head::Map => self.close(b"}"),
+            Head::Record(name) => self.close_named(&name, b"}"),
+            Head::Tuple(name) => self.close_named(&name, b"]"),
+            Head::RecordTuple(name) => self.close_named(&name, b"}"),
+        }
+    }
+
+    /// Begins an item: with a comma, unless it is the first.
+    pub(crate) fn begin_item(&mut self) -> Result
+        ensures { Does item_begins result (writer_view K.told self.old) (writer_view K.told self.new) }
+    {
+        self.named = false;
+        if self.empty {
+            return Ok(());
+        }
+        self.write(b",")
+    }
+
+    /// Begins what has a key, up to the key's text.
+    fn open_key(&mut self) -> Result
+        ensures { Does (item_begins then write (codes "\"")) result
+            (writer_view K.told self.old) (writer_view K.told self.new) }
+    {
+        self.named = false;
+        if self.empty {
+            return self.write(b"\"");
+        }
+        self.write(b",\"")
+    }
+
+    /// Begins a key of a map.
+    fn begin_key(&mut self) -> Result
+        ensures { Does (part_begins call.Key) result (writer_view K.told self.old) (writer_view K.told self.new) }
+    {
+        self.open_key()?;
+        self.quoted = false;
+        Ok(())
+    }
+
+    /// Ends a key of a map.
+    fn end_key(&mut self) -> Result
+        ensures { Does (part_ends call.Key) result (writer_view K.told self.old) (writer_view K.told self.new) }
+    {
+        self.write(b"\":")?;
+        self.quoted = true;
+        self.named = false;
+        Ok(())
+    }
+
+    /// Writes a label between the quotes of a key.
+    fn write_label(&mut self, label: &Label) -> Result
+        ensures { Does (write (label_text label.now)) result
+            (writer_view K.told self.old) (writer_view K.told self.new) }
+    {
+        if is_ident(label.tag()) {
+            return self.write(label.as_str().as_bytes());
+        }
+        self.write_escaped(label.as_str().as_bytes())
+    }
+
+    /// Begins a field.
+    #[inline(never)]
+    fn begin_field(&mut self, label: &Label) -> Result
+        ensures { Does (field_begins label.now) result (writer_view K.told self.old) (writer_view K.told self.new) }
+    {
+        self.open_key()?;
+        self.write_label(label)?;
+        self.write(b"\":")
+    }
+
+    /// Begins a part of a container.
+    pub(crate) fn begin_part(&mut self, slot: Slot) -> Result
+        ensures { Does (part_begins (seen_slot slot.entry)) result
+            (writer_view K.told self.old) (writer_view K.told self.new) }
+    {
+        match slot {
+            Slot::Item | Slot::Place(_, _) => self.begin_item(),
+            Slot::Key => self.begin_key(),
+            Slot::Value => Ok(()),
+            Slot::Field(_, label) => self.begin_field(label),
+            Slot::FieldPlace(_, label, _) => self.begin_field(label),
+        }
+    }
+
+    /// Ends a part of a container.
+    pub(crate) fn end_part(&mut self, slot: Slot) -> Result
+        ensures { Does (part_ends (seen_slot slot.entry)) result
+            (writer_view K.told self.old) (writer_view K.told self.new) }
+    {
+        match slot {
+            Slot::Key => self.end_key(),
+            _ => Ok(()),
+        }
+    }
+}

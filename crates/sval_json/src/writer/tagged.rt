@@ -1,0 +1,120 @@
+//! Tagged values.
+
+ghost use Rattle.std.specs.Prelude.{option_map};
+ghost use Rattle.sval_label.specs.Calls.{TaggedBegin, TaggedEnd};
+ghost use Rattle.sval_label.specs.SeenName.{seen_name};
+ghost use Rattle.sval_json.specs.SeenWriter.{seen_kind};
+ghost use Rattle.sval_json.specs.Steps.{step, refuses_key, begins_tagged, ends_tagged, number_is_over, number_ends};
+ghost use Rattle.sval_json.specs.WriterLaw.{Does, IsOnlySet, writer_view};
+
+use crate::error::Refusal;
+use crate::number::NumberMachine;
+use crate::sink::Sink;
+use crate::writer::marks::{TextKind, text_kind};
+use crate::writer::names::has_handle;
+use crate::writer::{Handler, Writer};
+use sval_core::{Name, Result};
+
+impl<'k, K: Sink> Writer<'k, K> {
+    /// Refuses the JSON of a value in a key.
+    fn refuse_value_in_key(&mut self, kind: TextKind) -> Result
+        ensures { Does (refuses_key (seen_kind kind)) result
+            (writer_view K.told self.old) (writer_view K.told self.new) }
+    {
+        match kind {
+            TextKind::JsonValue => self.refuse_in_key(),
+            _ => Ok(()),
+        }
+    }
+
+    /// Takes the text that comes as one of this kind.
+    fn begin_kind(&mut self, kind: TextKind)
+        ensures { IsOnlySet (begins_tagged (seen_kind kind))
+            (writer_view K.told self.old) (writer_view K.told self.new) }
+    {
+        match kind {
+            TextKind::Ordinary => {}
+            TextKind::JsonText => self.handler = Handler::Copies,
+            TextKind::JsonValue | TextKind::JsonNumber => {
+                self.quoted = false;
+                self.handler = Handler::Copies;
+            }
+            TextKind::Number => {
+                self.quoted = false;
+                if let Handler::Escapes = self.handler {
+                    self.handler = Handler::Reads(NumberMachine::new());
+                }
+            }
+        }
+    }
+
+    /// Takes texts as they are again, after one of this kind.
+    fn end_kind(&mut self, kind: TextKind) -> Result
+        ensures { Does (ends_tagged (seen_kind kind)) result
+            (writer_view K.told self.old) (writer_view K.told self.new) }
+    {
+        match kind {
+            TextKind::Ordinary => Ok(()),
+            TextKind::JsonText => {
+                self.handler = Handler::Escapes;
+                Ok(())
+            }
+            TextKind::JsonValue | TextKind::JsonNumber => {
+                self.handler = Handler::Escapes;
+                self.quoted = true;
+                Ok(())
+            }
+            TextKind::Number => self.end_number(),
+        }
+    }
+
+    /// Ends a number: writes its last bytes, or refuses it.
+    fn end_number(&mut self) -> Result
+        ensures { Does number_is_over result (writer_view K.told self.old) (writer_view K.told self.new) }
+    {
+        let handler = self.handler;
+        self.handler = Handler::Escapes;
+        self.quoted = true;
+        match handler {
+            Handler::Reads(machine) => self.write_last(machine.end()),
+            _ => Ok(()),
+        }
+    }
+
+    /// Writes the last bytes of a number, or refuses it.
+    fn write_last(&mut self, last: Option<&[u8]>) -> Result
+        ensures { Does (number_ends (option_map (λ bytes. bytes.now) last.entry)) result
+            (writer_view K.told self.old) (writer_view K.told self.new) }
+    {
+        match last {
+            Some(bytes) => self.write(bytes),
+            None => self.refuse(Refusal::InvalidNumber),
+        }
+    }
+
+    /// Begins a tagged value.
+    #[inline(never)]
+    pub(crate) fn begin_tagged(&mut self, name: &Name) -> Result
+        ensures { Does (step self.old.variants (TaggedBegin (seen_name name.now))) result
+            (writer_view K.told self.old) (writer_view K.told self.new) }
+    {
+        let kind = text_kind(name.tag);
+        self.refuse_value_in_key(kind)?;
+        self.begin_named(name)?;
+        self.begin_kind(kind);
+        self.empty = true;
+        Ok(())
+    }
+
+    /// Ends a tagged value.
+    #[inline(never)]
+    pub(crate) fn end_tagged(&mut self, name: &Name) -> Result
+        ensures { Does (step self.old.variants (TaggedEnd (seen_name name.now))) result
+            (writer_view K.told self.old) (writer_view K.told self.new) }
+    {
+        self.end_kind(text_kind(name.tag))?;
+        self.write_name_if_empty(name)?;
+        self.named = has_handle(name);
+        Ok(())
+    }
+}
