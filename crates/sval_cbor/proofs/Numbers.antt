@@ -14,9 +14,8 @@ use Rattle.std.proofs.lemmas.Fmt.{decimal_is_IsNumeral_wide, decimal_digit, deci
 use Rattle.sval_label.specs.Texts.{is_empty, is_decimal}
 use Rattle.sval_label.specs.Ranges.{is_unsigned, is_signed}
 use Rattle.sval_label.proofs.Decimals.{IsShort, short-unsigned, short-signed}
-use Rattle.sval_json.specs.Digits.{digits_of, after_digits, minus, is_tail}
+use Rattle.sval_json.specs.Digits.{digits_of, after_digits, minus, is_tail, without_minus, is_json_number}
 use Rattle.sval_json.specs.Number.{normal}
-use Rattle.sval_json.specs.Grammar.{without_minus, is_json_number}
 use Rattle.sval_json.specs.Json.{number}
 use Rattle.sval_cbor.specs.Packs.{has_128_bits, is_whole}
 use Rattle.sval_cbor.specs.Cbor.{integer, cbor}

@@ -15,13 +15,12 @@ use Rattle.sval_core.specs.Trees.{Tree, Null, Truth, Int, Text, Binary, Standalo
 use Rattle.sval_core.specs.Real.{IsRealLabel, IsRealName, IsInRange, AreInRange, IsReal}
 use Rattle.sval_json.specs.Json as shape
 use Rattle.sval_json.specs.Json.{Key, escaped_key, raw_key, Json, Items, no_item, item, Pairs, no_pair, pair}
-use Rattle.sval_json.specs.Digits.{minus, zero_digit, digits_of, after_digits, without_sign}
+use Rattle.sval_json.specs.Digits.{minus, zero_digit, digits_of, after_digits, without_sign, without_minus}
 use Rattle.sval_json.specs.Number as json
 use Rattle.sval_json.specs.Number.{is_negative, is_number, is_word, without_zeros, with_sign, normal}
 use Rattle.sval_json.specs.declared.style.Variants.TheVariants.{Inside}
 use Rattle.sval_json.specs.Shape.{index_text, handle_of, handle, label_or_index, is_none_tag, own, wrap_in, wrap, is_wrapped, map_ok as json_map_ok, tagged_key, bare_text, key, byte_items}
-use Rattle.sval_json.specs.Grammar.{without_minus}
-use Rattle.sval_json.proofs.Append.{front_and_rest}
+use Rattle.sval_json.proofs.NumberGrammar.{front_and_rest, number_tested}
 use Rattle.sval_json.proofs.Texts.{normal_twice}
 use Rattle.sval_json.proofs.NumberTexts.{ascii_utf8, number_utf8, signed_number, normal_form}
 use Rattle.sval_cbor.specs.Packs.{PackRefusal, NotInteger, on_ok, map_ok, has_128_bits, is_whole, number_pack, tagged_pack, is_raw, key_bytes, pack_key_as, pack_key, packs, packed_items, packed_pairs, pack_of}
@@ -223,7 +222,7 @@ no_word out e w = let f : is_whole (codes "null") ≡ true = rw e at w in cc f
 
 whole_packed : (text out : List ℕ) → normal text ≡ Ok out → is_whole out ≡ true → IsPackedNumber out
 whole_packed text out e w = elim (normal_form text out e) [
-  | inl j ↦ (signed_digits_value 10 out, sym (whole_back out (normal_twice text out e) j w), (and_parts (is_empty (after_digits (without_minus out))) (has_128_bits (signed_digits_value 10 out)) w).1)
+  | inl j ↦ (signed_digits_value 10 out, sym (whole_back out (normal_twice text out e) (number_tested j) w), (and_parts (is_empty (after_digits (without_minus out))) (has_128_bits (signed_digits_value 10 out)) w).1)
   | inr word ↦ absurd (no_word out word w)
 ]
 

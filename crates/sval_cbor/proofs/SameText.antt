@@ -18,7 +18,7 @@ use Rattle.sval_json.specs.Shape as json_shape
 use Rattle.sval_json.specs.Shape.{handle, own, wrap_in, wrap, is_wrapped, is_identifier, field_key, tagged_json, tagged_key, bare_text, key, byte_items, items, pairs, json_of}
 use Rattle.sval_json.specs.Grammar.{is_number_byte}
 use Rattle.sval_json.specs.Promises.{KeepsLabelPromise}
-use Rattle.sval_json.proofs.Append.{number_bytes}
+use Rattle.sval_json.proofs.NumberGrammar.{number_bytes}
 use Rattle.sval_json.proofs.EscapedPieces.{escaped-plain}
 use Rattle.sval_json.proofs.NumberTexts.{normal_form}
 use Rattle.sval_cbor.specs.Packs.{PackRefusal, NotInteger, on_ok, map_ok, is_whole, number_pack, tagged_pack, is_raw_kind, is_raw, key_bytes, pack_key_as, pack_key, packs, packed_items, packed_pairs, pack_of}

@@ -7,12 +7,11 @@ use Rattle.sval_label.specs.Texts.{is_empty}
 use Rattle.sval_label.specs.Ranges.{is_unsigned, is_signed}
 use Rattle.sval_core.specs.Trees.{Tree, Null, Truth, Int, Text, Binary, Standalone, Tagged, EmptyEnum, Enum, Container, Parts, none, part, TextKind, Number, JsonValue, JsonText, JsonNumber, text_kind}
 use Rattle.sval_json.specs.Json.{Key, escaped_key, raw_key, Json, null, truth, number, text, array, object, Items, no_item, item, Pairs, no_pair, pair}
-use Rattle.sval_json.specs.Digits.{after_digits}
+use Rattle.sval_json.specs.Digits.{after_digits, without_minus}
 use Rattle.sval_json.specs.Number as json
 use Rattle.sval_json.specs.Number.{normal}
 use Rattle.sval_json.specs.declared.style.Variants.TheVariants.{Inside}
 use Rattle.sval_json.specs.Shape.{own, wrap, byte_items, key}
-use Rattle.sval_json.specs.Grammar.{without_minus}
 
 -- why a tree has no such shape: a key that is no text, a number that is none, raw JSON, a number that is not whole or needs more than 128 bits
 pub data PackRefusal : Type 0 where

@@ -7,6 +7,7 @@ pub mod WritingParts
 pub mod WritingValues
 pub mod WritingPlain
 pub mod WrittenOnce
+pub mod NumberGrammar
 pub mod OneValue
 pub mod Begun
 pub mod Append

@@ -3,5 +3,6 @@ mod Spelled
 mod WrittenTrees
 mod WrittenNumbers
 mod WrittenBeside
+mod GrammarNumbers
 mod DenotedTexts
 mod FailingTexts

@@ -6,8 +6,7 @@ use Rattle.std.specs.Str.{all_ascii_digits}
 use Rattle.std.proofs.Common.{sym, arith}
 use Rattle.std.proofs.lemmas.Bool.Decides.{nat_tests}
 use Rattle.sval_label.specs.Texts.{is_empty, is_decimal}
-use Rattle.sval_json.specs.Digits.{minus, point, zero_digit, is_sign, is_exponent_mark, digits_of, after_digits, has_digit, without_sign, is_exponent, is_tail}
-use Rattle.sval_json.specs.Grammar.{is_json_number}
+use Rattle.sval_json.specs.Digits.{minus, point, zero_digit, is_sign, is_exponent_mark, digits_of, after_digits, has_digit, without_sign, is_exponent, is_tail, is_json_number}
 use Rattle.sval_json_read.specs.Numbers.{Phase, Minus, Zero, Whole, Point, Fraction, Mark, Sign, Power, may_end, when, first_digit, first_phase, exponent_begins, tail_begins, next_phase}
 
 -- the texts that complete a number, by what of it was read

@@ -11,9 +11,8 @@ use mir.Syntax.{w64}
 use Rattle.sval_label.specs.Calls.{I64}
 use Rattle.sval_label.specs.Ranges.{is_of_type}
 use Rattle.sval_label.specs.Texts.{is_empty, is_decimal}
-use Rattle.sval_json.specs.Digits.{minus, digits_of, after_digits}
-use Rattle.sval_json.specs.Grammar.{is_json_number}
-use Rattle.sval_json.proofs.Append.{all_in_front}
+use Rattle.sval_json.specs.Digits.{minus, digits_of, after_digits, is_json_number}
+use Rattle.sval_json.proofs.NumberGrammar.{all_in_front}
 use Rattle.sval_json_read.specs.Trees.{is_whole, whole_value, fits_i64}
 use Rattle.sval_json_read.proofs.SettledNumbers.{IsUnsigned, Signed, negative, positive, signed, some_digits, whole_digits, no_number_there, digit_first}
 use Rattle.sval_json.proofs.NumberTexts.{decimal_digits}

@@ -1,8 +1,9 @@
 -- The machine reads each text that denotes a value, and gives its tokens.
 use Rattle.std.specs.Prelude.{◌≡◌, ℕ, Bool, true, false, cond, List, [], ◌∷◌, ◌++◌, Option, Some, None, option_and_then, option_map, refl}
 use Rattle.std.proofs.Common.{sym, ap, ◌∙◌, append_assoc}
-use Rattle.sval_json.specs.Digits.{front, after_front}
-use Rattle.sval_json.specs.Grammar.{JsonValue, Values, Members, after_space, is_number_byte, is_json_number, IsValue, null, truth, falsehood, number, string, empty_array, array, empty_object, object, AreValues, last_value, more_values, AreMembers, last_member, more_members, Denotes}
+use Rattle.sval_json.specs.Digits.{front, after_front, is_json_number}
+use Rattle.sval_json.specs.Grammar.{JsonValue, Values, Members, after_space, is_number_byte, IsValue, null, truth, falsehood, number, string, empty_array, array, empty_object, object, AreValues, last_value, more_values, AreMembers, last_member, more_members, Denotes}
+use Rattle.sval_json.proofs.NumberGrammar.{number_run, run_tested}
 use Rattle.sval_json_read.specs.Tokens as token
 use Rattle.sval_json_read.specs.Tokens.{Place, Alone, Item, Key, Value, Placed, at, between_quotes, tokens_of, item_tokens, pair_tokens}
 use Rattle.sval_json_read.specs.Numbers.{Phase, first_phase}
@@ -49,7 +50,7 @@ first_is_any : {bytes rest : List ℕ} {value : JsonValue} (opened : List Opened
 first_is_any opened tokens null = refl
 first_is_any opened tokens truth = refl
 first_is_any opened tokens falsehood = refl
-first_is_any opened tokens (number {bytes = bytes} h) = first_number opened tokens bytes h
+first_is_any opened tokens (number {bytes = bytes} e n r) = first_number opened tokens bytes (run_tested _ e n r)
 first_is_any opened tokens (string s) = refl
 first_is_any opened tokens (empty_array e) = refl
 first_is_any opened tokens (array v) = refl
@@ -101,7 +102,11 @@ mutual
   value-run null opened tokens = refl
   value-run truth opened tokens = refl
   value-run falsehood opened tokens = refl
-  value-run (number {bytes = bytes} h) opened tokens = number_read opened tokens bytes h
+  value-run (number {bytes = bytes} {text = text} {rest = rest} e n r) opened tokens =
+      let run = number_run e n r in
+      number_read opened tokens bytes (run_tested _ e n r)
+      ∙ ap (λ x. read_from (at_state Next opened (tokens ++ (at (place_in opened) (token.Number x) ∷ []))) (after_front is_number_byte bytes)) run.run
+      ∙ ap (λ x. read_from (at_state Next opened (tokens ++ (at (place_in opened) (token.Number text) ∷ []))) x) run.after
   value-run (string s) opened tokens = string-run false opened tokens [] s
   value-run (empty_array {bytes = bytes} {rest = rest} e) opened tokens =
       skip_to_item (Array ∷ opened) (tokens ++ (at (place_in opened) token.BeginArray ∷ [])) bytes

@@ -14,11 +14,10 @@ use Rattle.std.proofs.lemmas.Str.Parse.{numerals_by_value, tells_all_ascii_digit
 use Rattle.sval_label.specs.Calls.{I64}
 use Rattle.sval_label.specs.Ranges.{is_of_type}
 use Rattle.sval_label.specs.Texts.{is_empty, is_decimal}
-use Rattle.sval_json.specs.Digits.{minus, zero_digit, is_sign, digits_of, after_digits, has_digit, without_sign, is_tail}
+use Rattle.sval_json.specs.Digits.{minus, zero_digit, is_sign, digits_of, after_digits, has_digit, without_sign, is_tail, without_minus, is_json_number}
 use Rattle.sval_json.specs.Number.{Refusal, is_number, without_zeros, with_sign, normal, normal_after}
-use Rattle.sval_json.specs.Grammar.{without_minus, is_json_number}
 use Rattle.sval_json_read.specs.Trees.{is_whole, whole_value, fits_i64, settled_number}
-use Rattle.sval_json.proofs.Append.{front_and_rest}
+use Rattle.sval_json.proofs.NumberGrammar.{front_and_rest}
 use Rattle.sval_json.proofs.NumberTexts.{decimal_digits}
 use Rattle.sval_json_read.proofs.StringSteps.{below}
 

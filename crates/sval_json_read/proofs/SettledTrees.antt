@@ -14,10 +14,12 @@ use Rattle.sval_json.specs.declared.style.Variants.TheVariants.{Inside}
 use Rattle.sval_json.specs.Shape.{on_ok, map_ok, json_of, items, pairs}
 use Rattle.sval_json.specs.Shape as writes
 use Rattle.sval_json.specs.Grammar as json
-use Rattle.sval_json.specs.Grammar.{JsonValue, Values, no_values, a_value, Members, no_members, a_member, is_json_number, Denotes}
+use Rattle.sval_json.specs.Digits.{is_json_number}
+use Rattle.sval_json.specs.Grammar.{JsonValue, Values, no_values, a_value, Members, no_members, a_member, Denotes}
 use Rattle.sval_json.specs.Means.{Means, null, truth, number, escaped_text, raw, array, object, MeanItems, no_more_items, one_item, MeanPairs, no_more_pairs, one_pair, plain_key}
 use Rattle.sval_json.specs.Promises.{KeepsPromises, KeepPromises}
 use Rattle.sval_json.specs.Laws.{IsTheValueOf}
+use Rattle.sval_json.proofs.NumberGrammar.{tested_number}
 use Rattle.sval_json.proofs.NumberTexts.{number_utf8, number_denotes}
 use Rattle.sval_json.proofs.Meaning.{text_means}
 use Rattle.sval_json_read.specs.Trees.{is_whole, whole_value, fits_i64, number_name, number_tree, tree_of, items_of, entries_of, settled_number, settled, settled_values, settled_members}
@@ -32,7 +34,7 @@ number_in_range text h = go (fits_i64 text) refl
   where
     go : (b : Bool) → fits_i64 text ≡ b → IsInRange (cond b (Tree.Int I64 (whole_value text)) (Tree.Tagged number_name (Text text)))
     go true e = (and_parts (is_whole text) (is_of_type I64 (whole_value text)) e).1
-    go false e = ((tt, tt), number_utf8 text h)
+    go false e = ((tt, tt), number_utf8 text (tested_number text h))
 
 mutual
   in_range : (v : JsonValue) → IsProper v → IsInRange (tree_of v)
@@ -145,7 +147,7 @@ number_means text h = go (fits_i64 text) refl
   where
     go : (b : Bool) → fits_i64 text ≡ b → Means (cond b (shape.number (signed_decimal (whole_value text))) (shape.raw text)) (json.Number (settled_number text))
     go true e = subst (λ x. Means (shape.number (signed_decimal (whole_value text))) (json.Number x)) (fits-written text h e) number
-    go false e = subst (λ x. Means (shape.raw text) (json.Number x)) (sym (other-settled text e)) (raw (number_denotes text h))
+    go false e = subst (λ x. Means (shape.raw text) (json.Number x)) (sym (other-settled text e)) (raw (number_denotes text (tested_number text h)))
 
 mutual
   means : (v : JsonValue) → IsProper v → Means (written v) (settled v)

@@ -3,9 +3,10 @@ use Rattle.std.specs.Prelude.{◌≡◌, ℕ, Bool, true, false, cond, ◌==◌,
 use Rattle.std.specs.Char.{is_ascii_digit}
 use Rattle.std.proofs.Common.{sym, ap, subst, ◌∙◌, arith}
 use Rattle.std.proofs.lemmas.Bool.Decides.{nat_tests}
-use Rattle.sval_json.specs.Digits.{minus, zero_digit, front, after_front}
+use Rattle.sval_json.specs.Digits.{minus, zero_digit, front, after_front, is_json_number}
 use Rattle.sval_json.specs.Grammar as json
-use Rattle.sval_json.specs.Grammar.{JsonValue, after_space, is_space, is_number_byte, is_json_number, IsValue, Denotes}
+use Rattle.sval_json.specs.Grammar.{JsonValue, after_space, is_space, is_number_byte, IsValue, Denotes}
+use Rattle.sval_json.proofs.NumberGrammar.{run_value}
 use Rattle.sval_json_read.specs.Tokens.{Token, Placed, at, Alone}
 use Rattle.sval_json_read.specs.Tokens as token
 use Rattle.sval_json_read.specs.Numbers.{Phase, Minus, Zero, Whole, when, first_phase, next_phase, may_end}
@@ -125,7 +126,7 @@ number_then byte bytes read opened phase e (in_number h s) =
     let b = first_number_byte byte phase e in
     let n : is_json_number (front is_number_byte (byte ∷ bytes)) ≡ true =
     ap is_json_number (number_front byte bytes b) ∙ first-completes byte (front is_number_byte bytes) ∙ ap (λ o. completes_after o (front is_number_byte bytes)) e ∙ h in
-    value_then (json.number n) (subst (Ends opened) (sym (number_after byte bytes b)) s)
+    value_then (run_value n) (subst (Ends opened) (sym (number_after byte bytes b)) s)
 
 number_begun : (byte : ℕ) (bytes : List ℕ) (opened : List Opened) (tokens : List Placed) (o : Option Phase) → first_phase byte ≡ o
     → OnStep (option_map (λ phase. record { expected = InNumber phase (byte ∷ []); opened = opened; tokens = tokens }) o) bytes → ValueThen opened (byte ∷ bytes)

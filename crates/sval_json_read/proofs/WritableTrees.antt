@@ -1,12 +1,11 @@
 -- A script can spell the tree of a text whose length has 64 bits.
 use Rattle.std.specs.Prelude.{◌≡◌, ℕ, ◌+◌, ◌^◌, ◌<◌, ◌≤◌, Bool, true, false, cond, List, [], ◌∷◌, ◌++◌, length, refl, ⊤}
 use Rattle.std.specs.Char.{encode_utf8}
-use Rattle.std.proofs.Common.{ap, arith, length-append}
+use Rattle.std.proofs.Common.{ap, ◌∙◌, arith, length-append}
 use Rattle.std.proofs.lemmas.Str.{length-encode, len_utf8_bounds}
 use Rattle.sval_label.specs.Calls.{I64}
 use Rattle.sval_core.specs.Trees.{Tree, Text}
 use Rattle.sval_core.specs.Real.{IsWritable, AreWritable, IsPrintable}
-use Rattle.sval_json.specs.Digits.{front, after_front}
 use Rattle.sval_json.specs.Grammar as json
 use Rattle.sval_json.specs.Grammar.{JsonValue, Values, no_values, a_value, Members, no_members, a_member, after_space, is_space, is_number_byte, pair_of, IsString, close, unescaped, escape, unit, pair, IsValue, null, truth, falsehood, number, string, empty_array, array, empty_object, object, AreValues, last_value, more_values, AreMembers, last_member, more_members, Denotes}
 use Rattle.sval_json_read.specs.Trees.{whole_value, fits_i64, number_name, number_tree, tree_of, items_of, entries_of}
@@ -29,15 +28,6 @@ spaces_length [] = omega arith
 spaces_length (byte ∷ bytes) = go (is_space byte) (spaces_length bytes)
   where
     go : (b : Bool) → length (after_space bytes) ≤ length bytes → length (cond b (after_space bytes) (byte ∷ bytes)) ≤ length (byte ∷ bytes)
-    go true h = omega arith
-    go false h = omega arith
-
-number_length : (bytes : List ℕ) → length (front is_number_byte bytes) + length (after_front is_number_byte bytes) ≤ length bytes
-number_length [] = omega arith
-number_length (byte ∷ bytes) = go (is_number_byte byte) (number_length bytes)
-  where
-    go : (b : Bool) → length (front is_number_byte bytes) + length (after_front is_number_byte bytes) ≤ length bytes
-        → length (cond b (byte ∷ front is_number_byte bytes) []) + length (cond b (after_front is_number_byte bytes) (byte ∷ bytes)) ≤ length (byte ∷ bytes)
     go true h = omega arith
     go false h = omega arith
 
@@ -66,7 +56,7 @@ mutual
   value_shorter n null l = (tt, omega arith)
   value_shorter n truth l = (tt, omega arith)
   value_shorter n falsehood l = (tt, omega arith)
-  value_shorter n (number {bytes = bytes} h) l = let k = number_length bytes in (omega arith, omega arith)
+  value_shorter n (number {text = text} {rest = rest} e m r) l = let k = ap length e ∙ length-append text rest in (omega arith, omega arith)
   value_shorter n (string s) l = let k = string_length s in (omega arith, omega arith)
   value_shorter n (empty_array {bytes = bytes} {rest = rest} e) l = let k = mark_length bytes 93 rest e in (tt, omega arith)
   value_shorter n (array {bytes = bytes} vs) l = let k = spaces_length bytes in row_shorter n vs (omega arith)

@@ -2,7 +2,8 @@
 use Rattle.std.specs.Prelude.{◌≡◌, ℕ, ◌+◌, ◌*◌, true, false, List, [], ◌∷◌, get_or, Some, ⊤}
 use Rattle.std.specs.Char.{digit_value}
 use Rattle.std.specs.List.{AllByRecursion}
-use Rattle.sval_json.specs.Grammar.{is_json_number, is_unescaped, escaped_byte, code_unit, is_high_surrogate, is_low_surrogate, is_surrogate}
+use Rattle.sval_json.specs.Digits.{is_json_number}
+use Rattle.sval_json.specs.Grammar.{is_unescaped, escaped_byte, code_unit, is_high_surrogate, is_low_surrogate, is_surrogate}
 use Rattle.sval_json_read.specs.Tokens as token
 use Rattle.sval_json_read.specs.Tokens.{Token, Placed}
 

@@ -1,8 +1,7 @@
 -- The flat list of a text's tokens, each with the place that it stands in.
 use Rattle.std.specs.Prelude.{ℕ, Bool, true, false, List, [], ◌∷◌, ◌++◌}
-use Rattle.sval_json.specs.Digits.{front}
 use Rattle.sval_json.specs.Grammar as json
-use Rattle.sval_json.specs.Grammar.{JsonValue, Values, Members, is_number_byte, IsString, close, unescaped, escape, unit, pair, IsValue, AreValues, last_value, more_values, AreMembers, last_member, more_members}
+use Rattle.sval_json.specs.Grammar.{JsonValue, Values, Members, IsString, close, unescaped, escape, unit, pair, IsValue, AreValues, last_value, more_values, AreMembers, last_member, more_members}
 
 -- by itself, an item of an array, or the key or the value of a pair of an object
 pub data Place : Type 0 where
@@ -45,7 +44,7 @@ abbrev mutual
   tokens_of place json.null = at place Null ∷ []
   tokens_of place json.truth = at place (Truth true) ∷ []
   tokens_of place json.falsehood = at place (Truth false) ∷ []
-  tokens_of place (json.number {bytes = bytes} _) = at place (Number (front is_number_byte bytes)) ∷ []
+  tokens_of place (json.number {text = text} _ _ _) = at place (Number text) ∷ []
   tokens_of place (json.string string) = at place (Text (between_quotes string)) ∷ []
   tokens_of place (json.empty_array _) = at place BeginArray ∷ at place EndArray ∷ []
   tokens_of place (json.array values) = at place BeginArray ∷ (item_tokens values ++ (at place EndArray ∷ []))

@@ -7,10 +7,10 @@ use Rattle.sval_label.specs.Ranges.{is_of_type}
 use Rattle.sval_label.specs.Texts.{is_empty}
 use Rattle.sval_core.specs.Names.{number_tag, tag_alone}
 use Rattle.sval_core.specs.Trees.{Tree, Null, Truth, Int, Text, Tagged, Container, Parts, none, part}
-use Rattle.sval_json.specs.Digits.{digits_of, after_digits}
+use Rattle.sval_json.specs.Digits.{digits_of, after_digits, without_minus}
 use Rattle.sval_json.specs.Number.{is_negative}
 use Rattle.sval_json.specs.Grammar as json
-use Rattle.sval_json.specs.Grammar.{JsonValue, Values, no_values, a_value, Members, no_members, a_member, without_minus}
+use Rattle.sval_json.specs.Grammar.{JsonValue, Values, no_values, a_value, Members, no_members, a_member}
 
 -- a number without fraction and exponent, and its value
 abbrev pub is_whole : List ℕ → Bool

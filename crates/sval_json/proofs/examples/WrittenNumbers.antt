@@ -30,39 +30,39 @@ number_spelled pieces =
     ((refl, tt, tt), (_, refl, (None, pieces, tt, refl, ap (λ calls. Call.TextBegin None ∷ calls) (plain_pieces pieces (Call.TextEnd ∷ Call.TaggedEnd (tagged_as (codes "NUMBER")) ∷ [])))))
 
 -- a number in these pieces is written so
-record IsNumber (pieces : List (List ℕ)) (text : List ℕ) : Type 0 where
+record WritesNumber (pieces : List (List ℕ)) (text : List ℕ) : Type 0 where
   is : ExampleText Inside (number_calls pieces) (number_tree pieces) text
 
 -- it is none, and these bytes are written before it is refused
-record IsNoNumber (pieces : List (List ℕ)) (bytes : List ℕ) : Type 0 where
+record RefusesNumber (pieces : List (List ℕ)) (bytes : List ℕ) : Type 0 where
   is : ExampleRefusal Inside (number_calls pieces) (number_tree pieces) InvalidNumber bytes
 
 number : {pieces : List (List ℕ)} {text : List ℕ} → map_ok compact (json_in Inside (number_tree pieces)) ≡ Ok text → (written_in Inside (number_calls pieces)).written ≡ text
-    → (written_in Inside (number_calls pieces)).refusal ≡ None → IsNumber pieces text
+    → (written_in Inside (number_calls pieces)).refusal ≡ None → WritesNumber pieces text
 number {pieces} e f g = record { is = record { spells = number_spelled pieces; json = e; written = f; refusal = g } }
 
 no_number : {pieces : List (List ℕ)} {bytes : List ℕ} → map_ok compact (json_in Inside (number_tree pieces)) ≡ Err InvalidNumber → (written_in Inside (number_calls pieces)).written ≡ bytes
-    → (written_in Inside (number_calls pieces)).refusal ≡ Some InvalidNumber → IsNoNumber pieces bytes
+    → (written_in Inside (number_calls pieces)).refusal ≡ Some InvalidNumber → RefusesNumber pieces bytes
 no_number {pieces} e f g = record { is = record { spells = number_spelled pieces; json = e; written = f; refusal = g } }
 
 -- ---- some numbers, and what is none
 
 numbers :
-    IsNumber (codes "-0" ∷ codes "01.5" ∷ codes "0e+3" ∷ []) (codes "-1.50e+3")
-    × IsNumber (codes "-" ∷ [] ∷ codes "0" ∷ codes "0" ∷ codes "e5" ∷ []) (codes "-0e5")
-    × IsNumber (codes "0e5" ∷ []) (codes "0e5")
-    × IsNumber (codes "-0" ∷ []) (codes "0")
-    × IsNumber (codes "-0.0" ∷ []) (codes "-0.0")
-    × IsNumber (codes "+007" ∷ []) (codes "7")
-    × IsNumber (codes "-inf" ∷ []) (codes "null")
+    WritesNumber (codes "-0" ∷ codes "01.5" ∷ codes "0e+3" ∷ []) (codes "-1.50e+3")
+    × WritesNumber (codes "-" ∷ [] ∷ codes "0" ∷ codes "0" ∷ codes "e5" ∷ []) (codes "-0e5")
+    × WritesNumber (codes "0e5" ∷ []) (codes "0e5")
+    × WritesNumber (codes "-0" ∷ []) (codes "0")
+    × WritesNumber (codes "-0.0" ∷ []) (codes "-0.0")
+    × WritesNumber (codes "+007" ∷ []) (codes "7")
+    × WritesNumber (codes "-inf" ∷ []) (codes "null")
 unfolding digits
 numbers = (number refl refl refl, number refl refl refl, number refl refl refl, number refl refl refl, number refl refl refl, number refl refl refl, number refl refl refl)
 
 no_numbers :
-    IsNoNumber (codes "1." ∷ []) (codes "1.")
-    × IsNoNumber ([] ∷ []) []
-    × IsNoNumber (codes "--1" ∷ []) []
-    × IsNoNumber ((195 ∷ 169 ∷ 48 ∷ []) ∷ []) []
+    RefusesNumber (codes "1." ∷ []) (codes "1.")
+    × RefusesNumber ([] ∷ []) []
+    × RefusesNumber (codes "--1" ∷ []) []
+    × RefusesNumber ((195 ∷ 169 ∷ 48 ∷ []) ∷ []) []
 unfolding digits
 no_numbers = (no_number refl refl refl, no_number refl refl refl, no_number refl refl refl, no_number refl refl refl)
 

@@ -7,6 +7,7 @@ use Rattle.sval_json.specs.Json.{compact}
 use Rattle.sval_json.specs.Shape.{map_ok, json_of}
 use Rattle.sval_json.specs.Grammar as json
 use Rattle.sval_json.specs.Grammar.{JsonValue, no_values, a_value, no_members, a_member, close, unescaped, unit, IsValue, number, string, array, last_value, more_values, object, last_member}
+use Rattle.sval_json.proofs.NumberGrammar.{run_value}
 use Rattle.sval_json_read.specs.Trees.{number_name, tree_of, settled}
 use Rattle.sval_json_read.specs.Tokens.{Alone, Item, Key, Value, Placed, at, Null, Truth, Number, Text, BeginArray, EndArray, BeginObject, EndObject, tokens_of}
 use Rattle.sval_json_read.specs.Calls.{run, escape, pieces, text_calls, document_calls}
@@ -47,7 +48,7 @@ abbrev mixed_is_value : IsValue (codes "{\"a\" : [1, -0, 1.50e+3, \"x\\u0041\\n\
 unfolding encode_utf8
 mixed_is_value =
     object (last_member (unescaped refl close) refl
-    (array (more_values (number refl) refl (more_values (number refl) refl (more_values (number refl) refl
+    (array (more_values (run_value refl) refl (more_values (run_value refl) refl (more_values (run_value refl) refl
     (last_value (string (unescaped refl (unit refl refl (json.escape refl close)))) refl)))))
     refl)
 
