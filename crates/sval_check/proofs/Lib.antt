@@ -1,4 +1,4 @@
-pub mod Stacks
+pub mod Tops
 pub mod Runs
 pub mod OneAnswer
 pub mod ManyAnswers

@@ -1,9 +1,8 @@
 -- The law of the checker as a stream: it takes a call where the machine does.
-use Rattle.std.specs.Prelude.{◌≡◌, ℕ, Bool, true, List, [], ◌∷◌, Option, Some, None, is_some, Result, Ok, Err}
+use Rattle.std.specs.Prelude.{◌≡◌, ℕ, Bool, true, List, [], Option, Some, None, is_some, Result, Ok, Err}
 use Rattle.sval_label.specs.Calls.{Call}
 use Rattle.sval_core.specs.Law.{Law, Standing, one_more, Rose}
 use Rattle.sval_core.specs.Checker.{Frame, State}
-use Rattle.sval_core.specs.Stacks.{below}
 use Rattle.sval_core.specs.CheckerSteps.{next, goes_on, state_after}
 use Rattle.sval_check.specs.Checks.{opens}
 use Rattle.sval_check.specs.declared.checker.Why.{Why}
@@ -23,10 +22,6 @@ abbrev pub StepsBy : (opening : Bool) → Option State → Checking → Checking
 StepsBy opening after old new (Ok done) = (after ≡ Some new.state) × (new ≡ record old { state = new.state })
 StepsBy opening after old new (Err NotViable) = (after ≡ None) × (new ≡ old)
 StepsBy opening after old new (Err NoMemory) = (opening ≡ true) × (is_some after ≡ true) × (new ≡ old)
-
--- the state with this innermost frame, and a part in it
-abbrev pub opened : (part innermost : Frame) → State → Option State
-opened part innermost s = Some (record s { frames = part ∷ innermost ∷ below s.frames })
 
 -- the same for a call, of which the machine makes what `next` says
 abbrev pub StepsOn : Call → Checking → Checking → Result (Unit {0}) Why → Type 0

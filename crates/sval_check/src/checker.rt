@@ -2,18 +2,19 @@
 
 ghost use Rattle.std.specs.Prelude.{◌≡◌, Option, Some, None, [], ◌∷◌, length, true, false, ◌≤◌};
 ghost use Rattle.sval_label.specs.Made.{lent_call};
+ghost use Rattle.sval_label.specs.SeenName.{seen_name};
 ghost use Rattle.sval_label.specs.Grouped.{seen_head, seen_slot};
 ghost use Rattle.sval_core.specs.Law.{Answers};
-ghost use Rattle.sval_core.specs.Stacks.{top_of, below};
-ghost use Rattle.sval_core.specs.CheckerSteps.{Form, Other, take_off, is_used_up, unfilled, has_room, value, begin, at_top, text_fragment, text_end, end, part_begin, part_end};
-ghost use Rattle.sval_check.specs.Frames.{frame_of};
-ghost use Rattle.sval_check.specs.Checking.{Checking, StepsBy, StepsOn, opened, checker_law, checker_standing, finish_of, cause_of, wants_after};
+ghost use Rattle.sval_core.specs.CheckerSteps.{unfilled, has_room, form_of_head, value, begin, at_top, tagged_end, enum_end, end, part_begin, part_end};
+ghost use Rattle.sval_check.specs.Frames.{begun_frame, seen_form, content_fragment, content_end};
+ghost use Rattle.sval_check.specs.Checking.{Checking, StepsBy, StepsOn, checker_law, checker_standing, finish_of, cause_of, wants_after};
 
 use crate::error::CheckError;
-use crate::stack::{Frame, Stack};
+use crate::frame::{Begin, Content, Form};
+use crate::stack::Stack;
 use std::alloc::Global;
 use std::marker::Model;
-use sval_core::{Call, Error, Fragment, GroupedCall, Head, Lent, Slot, Stream};
+use sval_core::{Call, Error, Fragment, GroupedCall, Head, Lent, Name, Slot, Stream};
 
 /// Why a call was refused.
 #[derive(Clone, Copy, PartialEq, Eq)]
@@ -51,23 +52,13 @@ impl Model for Checker {
     } };
 }
 
-/// What is left of a size where `count` of it come, if that is not too many.
-fn take_off(left: Option<usize>, count: usize) -> Option<Option<usize>>
-    ensures { result ≡ take_off left count }
+/// The form of a container.
+fn form_of(head: Head<'_>) -> Form
+    ensures { seen_form result ≡ form_of_head (seen_head head.entry) }
 {
-    match left {
-        None => Some(None),
-        Some(due) => due.checked_sub(count).map(Some),
-    }
-}
-
-/// Of a size nothing is still to come, if it was given.
-fn is_used_up(left: Option<usize>) -> bool
-    ensures { result ≡ is_used_up left }
-{
-    match left {
-        None => true,
-        Some(due) => due == 0,
+    match head {
+        Head::Seq | Head::Map => Form::Other,
+        Head::Record(_) | Head::Tuple(_) | Head::RecordTuple(_) => Form::Variant,
     }
 }
 
@@ -89,9 +80,10 @@ impl Checker {
     pub(crate) fn finish(&self) -> Result<(), CheckError>
         ensures { result ≡ finish_of self.now }
     {
-        match self.frames.top() {
-            None if self.filled => Ok(()),
-            _ => Err(CheckError::Unfinished),
+        if self.filled && self.frames.is_empty() {
+            Ok(())
+        } else {
+            Err(CheckError::Unfinished)
         }
     }
 
@@ -108,21 +100,18 @@ impl Checker {
         }
     }
 
-    /// A value may begin here.
-    fn has_room(&self) -> bool
-        ensures { (form : Form) → result ≡ has_room form self.now.state }
+    /// A value of this form may begin here.
+    fn has_room(&self, form: Form) -> bool
+        ensures { result ≡ has_room (seen_form form) self.now.state }
     {
-        match self.frames.top() {
-            None | Some(Frame::Part(_)) => !self.filled,
-            Some(Frame::Text(_) | Frame::Container(_, _)) => false,
-        }
+        !self.filled && self.frames.admits(form)
     }
 
     /// Takes a value that is one call.
-    fn value(&mut self) -> Result<(), Why>
-        ensures { StepsBy false (value Other self.old.state) self.old self.new result }
+    fn value(&mut self, form: Form) -> Result<(), Why>
+        ensures { StepsBy false (value (seen_form form) self.old.state) self.old self.new result }
     {
-        if !self.has_room() {
+        if !self.has_room(form) {
             return Err(Why::NotViable);
         }
         self.filled = true;
@@ -130,103 +119,103 @@ impl Checker {
     }
 
     /// Takes the begin of a value.
-    fn begin(&mut self, frame: Frame) -> Result<(), Why>
-        ensures { (form : Form) → StepsBy true (begin form (frame_of frame) self.old.state) self.old self.new result }
+    fn begin(&mut self, form: Form, call: Begin<'_>) -> Result<(), Why>
+        ensures { StepsBy true (begin (seen_form form) (begun_frame call.entry) self.old.state)
+            self.old self.new result }
     {
-        if !self.has_room() {
+        if !self.has_room(form) {
             return Err(Why::NotViable);
         }
-        self.frames.push(frame).map_err(|_| Why::NoMemory)
+        self.frames.push(call).map_err(|_| Why::NoMemory)
     }
 
-    /// Takes so many bytes of a text.
-    fn text_fragment(&mut self, size: usize) -> Result<(), Why>
-        ensures { StepsBy false (at_top (text_fragment size) self.old.state) self.old self.new result }
+    /// Takes so many bytes of a text or binary.
+    fn fragment(&mut self, content: Content, size: usize) -> Result<(), Why>
+        ensures { StepsBy false (at_top (content_fragment content size) self.old.state) self.old self.new result }
     {
-        match self.frames.top() {
-            Some(Frame::Text(left)) if !self.filled => {
-                let rest = take_off(left, size).ok_or(Why::NotViable)?;
-                self.frames.replace_top(Frame::Text(rest));
-                Ok(())
-            }
-            _ => Err(Why::NotViable),
+        if self.filled {
+            return Err(Why::NotViable);
         }
+        let left = self
+            .frames
+            .content_rest(content, size)
+            .ok_or(Why::NotViable)?;
+        self.frames.set_left(content, left);
+        Ok(())
     }
 
-    /// Takes a text's end.
-    fn text_end(&mut self) -> Result<(), Why>
-        ensures { StepsBy false (at_top text_end self.old.state) self.old self.new result }
+    /// Takes the end of a text or binary.
+    fn content_end(&mut self, content: Content) -> Result<(), Why>
+        ensures { StepsBy false (at_top (content_end content) self.old.state) self.old self.new result }
     {
-        match self.frames.top() {
-            Some(Frame::Text(left)) if !self.filled && is_used_up(left) => {
-                self.frames.pop();
-                self.filled = true;
-                Ok(())
-            }
-            _ => Err(Why::NotViable),
+        if self.filled || !self.frames.content_ends(content) {
+            return Err(Why::NotViable);
         }
+        self.frames.pop();
+        self.filled = true;
+        Ok(())
+    }
+
+    /// Takes the end of a value with a name of its own.
+    fn tagged_end(&mut self, name: Name<'_>) -> Result<(), Why>
+        ensures { StepsBy false (at_top (tagged_end (seen_name name.entry)) self.old.state)
+            self.old self.new result }
+    {
+        if !self.filled || !self.frames.is_tagged(name) {
+            return Err(Why::NotViable);
+        }
+        self.frames.pop();
+        Ok(())
+    }
+
+    /// Takes an enum's end.
+    fn enum_end(&mut self, name: Name<'_>) -> Result<(), Why>
+        ensures { StepsBy false (at_top (enum_end (seen_name name.entry)) self.old.state)
+            self.old self.new result }
+    {
+        if !self.frames.is_enum(name) {
+            return Err(Why::NotViable);
+        }
+        self.frames.pop();
+        self.filled = true;
+        Ok(())
     }
 
     /// Takes a container's end.
-    fn end(&mut self, head: Head) -> Result<(), Why>
-        ensures { StepsBy false (at_top (end (seen_head head)) self.old.state) self.old self.new result }
+    fn end(&mut self, head: Head<'_>) -> Result<(), Why>
+        ensures { StepsBy false (at_top (end (seen_head head.entry)) self.old.state) self.old self.new result }
     {
-        match self.frames.top() {
-            Some(Frame::Container(begun, left))
-                if !self.filled && begun == head && is_used_up(left) => {
-                self.frames.pop();
-                self.filled = true;
-                Ok(())
-            }
-            _ => Err(Why::NotViable),
+        if self.filled || !self.frames.ends(head) {
+            return Err(Why::NotViable);
         }
-    }
-
-    /// Opens a part in the innermost frame, a container, which is `before` now and `after` with it.
-    fn open_part(&mut self, slot: Slot, before: Frame, after: Frame) -> Result<(), Why>
-        requires { top_of self.old.state.frames ≡ Some (frame_of before) }
-        ensures { StepsBy true (opened (frame_of (Frame.Part slot)) (frame_of after) self.old.state)
-            self.old self.new result }
-    {
-        self.frames.replace_top(after);
-        match self.frames.push(Frame::Part(slot)) {
-            Ok(()) => Ok(()),
-            Err(_) => {
-                self.frames.replace_top(before);
-                Err(Why::NoMemory)
-            }
-        }
+        self.frames.pop();
+        self.filled = true;
+        Ok(())
     }
 
     /// Takes a part's begin.
-    fn part_begin(&mut self, slot: Slot) -> Result<(), Why>
-        ensures { StepsBy true (at_top (part_begin (seen_slot slot)) self.old.state) self.old self.new result }
+    fn part_begin(&mut self, slot: Slot<'_>) -> Result<(), Why>
+        ensures { StepsBy true (at_top (part_begin (seen_slot slot.entry)) self.old.state)
+            self.old self.new result }
     {
-        match self.frames.top() {
-            Some(Frame::Container(head, left)) if !self.filled => {
-                let rest = take_off(left, 1).ok_or(Why::NotViable)?;
-                self.open_part(
-                    slot,
-                    Frame::Container(head, left),
-                    Frame::Container(head, rest),
-                )
-            }
-            _ => Err(Why::NotViable),
+        if self.filled {
+            return Err(Why::NotViable);
         }
+        let left = self.frames.part_rest(slot).ok_or(Why::NotViable)?;
+        self.frames.open_part(slot, left).map_err(|_| Why::NoMemory)
     }
 
     /// Takes a part's end.
-    fn part_end(&mut self, slot: Slot) -> Result<(), Why>
-        ensures { StepsBy false (at_top (part_end (seen_slot slot)) self.old.state) self.old self.new result }
+    fn part_end(&mut self, slot: Slot<'_>) -> Result<(), Why>
+        ensures { StepsBy false (at_top (part_end (seen_slot slot.entry)) self.old.state)
+            self.old self.new result }
     {
-        match self.frames.top() {
-            Some(Frame::Part(begun)) if self.filled && begun == slot => {
-                self.frames.pop();
-                self.filled = false;
-                Ok(())
-            }
-            _ => Err(Why::NotViable),
+        if !self.filled || !self.frames.is_slot(slot) {
+            return Err(Why::NotViable);
         }
+        self.frames.pop();
+        self.filled = false;
+        Ok(())
     }
 
     /// Takes a call, or says why not.
@@ -234,13 +223,28 @@ impl Checker {
         ensures { StepsOn (lent_call call.entry) self.old self.new result }
     {
         match call.grouped() {
-            GroupedCall::Null | GroupedCall::Bool(_) | GroupedCall::Int(_) => self.value(),
-            GroupedCall::TextBegin(size) => self.begin(Frame::Text(size)),
-            GroupedCall::TextFragment(Fragment::Borrowed(text) | Fragment::Computed(text)) => {
-                self.text_fragment(text.len())
+            GroupedCall::Null | GroupedCall::Bool(_) | GroupedCall::Int(_) => {
+                self.value(Form::Other)
             }
-            GroupedCall::TextEnd => self.text_end(),
-            GroupedCall::Begin(head, size) => self.begin(Frame::Container(head, size)),
+            GroupedCall::Tag(_) => self.value(Form::Variant),
+            GroupedCall::TagHint(_) => Ok(()),
+            GroupedCall::TextBegin(size) => self.begin(Form::Text, Begin::Text(size)),
+            GroupedCall::TextFragment(Fragment::Borrowed(text) | Fragment::Computed(text)) => {
+                self.fragment(Content::Text, text.len())
+            }
+            GroupedCall::TextEnd => self.content_end(Content::Text),
+            GroupedCall::BinaryBegin(size) => self.begin(Form::Other, Begin::Binary(size)),
+            GroupedCall::BinaryFragment(Fragment::Borrowed(bytes) | Fragment::Computed(bytes)) => {
+                self.fragment(Content::Binary, bytes.len())
+            }
+            GroupedCall::BinaryEnd => self.content_end(Content::Binary),
+            GroupedCall::EnumBegin(name) => self.begin(Form::Variant, Begin::Enum(name)),
+            GroupedCall::EnumEnd(name) => self.enum_end(name),
+            GroupedCall::TaggedBegin(name) => self.begin(Form::Variant, Begin::Tagged(name)),
+            GroupedCall::TaggedEnd(name) => self.tagged_end(name),
+            GroupedCall::Begin(head, size) => {
+                self.begin(form_of(head), Begin::Container(head, size))
+            }
             GroupedCall::End(head) => self.end(head),
             GroupedCall::PartBegin(slot) => self.part_begin(slot),
             GroupedCall::PartEnd(slot) => self.part_end(slot),

@@ -9,7 +9,10 @@ ghost use Rattle.sval_check.specs.Checks.{IsOneValue, IsFirstBad, OnlyRefuses, I
 
 mod checker;
 mod error;
+mod frame;
 pub mod laws;
+mod left;
+mod names;
 mod stack;
 #[cfg(test)]
 mod tests;

@@ -1,40 +1,64 @@
 //! What has begun and has no end yet.
 
-ghost use Rattle.std.specs.Prelude.{◌≡◌, List, [], ◌∷◌, ◌++◌, is_ok, if◌then◌else◌, Some, option_map};
-ghost use Rattle.std.specs.Option.{option_to_list};
-ghost use Rattle.sval_core.specs.Checker as machine;
+ghost use Rattle.std.specs.Prelude.{◌≡◌, List, [], ◌∷◌, is_ok, is_none, if◌then◌else◌, Some, None, reverse, true, false, Bool};
+ghost use Rattle.sval_label.specs.SeenName.{seen_name};
+ghost use Rattle.sval_label.specs.Grouped.{seen_head, seen_slot};
+ghost use Rattle.sval_core.specs.Trees.{plain_slot};
+ghost use Rattle.sval_core.specs.Checker.{InPart};
+ghost use Rattle.sval_core.specs.CheckerSteps.{Form, OneText, Variant, Other, admits};
 ghost use Rattle.sval_core.specs.Stacks.{top_of, below};
-ghost use Rattle.sval_check.specs.Frames.{frame_of};
+ghost use Rattle.sval_check.specs.Frames.{begun_frame, seen_form, is_tagged, is_enum, is_slot, ends, content_ends, content_rest, part_rest, with_left, with_rest, with_part, with_next, on_top};
 
+use crate::frame::{Begin, Content, Form, Frame};
+use crate::left::{is_used_up, take_off};
+use crate::names::Names;
 use std::alloc::Global;
 use std::marker::Model;
-use sval_core::{Head, NoMemory, Slot};
+use sval_core::{Head, Name, NoMemory, Slot};
 
-/// What has begun and has no end yet; of a size that was given, what is still to come.
-#[derive(Clone, Copy)]
-pub(crate) enum Frame {
-    /// In a text: its bytes that are still to come.
-    Text(Option<usize>),
-    /// In a container: its entries that are still to come.
-    Container(Head, Option<usize>),
-    /// In a part of a container.
-    Part(Slot),
-}
-
-/// The frames that are open, seen as the machine's, the innermost first.
+/// All that is open, seen as the machine's frames, the innermost first.
 #[derive(Drop)]
 pub(crate) struct Stack {
     frames: Vec<Frame>,
+    /// What those frames that are named began with.
+    names: Names,
 }
 
 impl Model for Stack {
-    ghost use Rattle.std.specs.Prelude.{List, reverse, map};
+    ghost use Rattle.std.specs.Prelude.{◌≡◌, List, reverse, true};
     ghost use Rattle.sval_core.specs.Checker.{Frame};
-    ghost use Rattle.sval_check.specs.Frames.{frame_of};
+    ghost use Rattle.sval_check.specs.Frames.{frames_over, are_named};
 
     ghost Value = { List Frame };
 
-    ghost view = { λ stack. map frame_of (reverse stack.frames.items) };
+    ghost view = { λ stack. frames_over (reverse stack.frames.items) stack.names };
+
+    ghost invariant = { λ stack. are_named (reverse stack.frames.items) (reverse stack.names.begun.items) ≡ true };
+}
+
+/// The innermost frame.
+fn innermost(frames: &[Frame]) -> Option<Frame>
+    ensures { top_of (reverse frames.now) ≡ result }
+{
+    frames.last().copied()
+}
+
+/// Puts a part into the innermost frame, a container of whose entries so many are still to come with it.
+fn advance(frames: &mut [Frame], left: Option<usize>)
+    ensures { reverse frames.new ≡ on_top (with_next left) (reverse frames.old) }
+{
+    if let Some(top) = frames.last_mut() {
+        *top = top.advanced(left);
+    }
+}
+
+/// Puts what is still to come of a text or binary into the innermost frame, if it is in one.
+fn set_left(frames: &mut [Frame], content: Content, left: Option<usize>)
+    ensures { reverse frames.new ≡ on_top (with_rest content left) (reverse frames.old) }
+{
+    if let Some(top) = frames.last_mut() {
+        *top = top.with_left(content, left);
+    }
 }
 
 impl Stack {
@@ -44,37 +68,147 @@ impl Stack {
     {
         Stack {
             frames: Vec::new(alloc),
+            names: Names::new(alloc),
         }
     }
 
-    /// The innermost frame.
-    pub(crate) fn top(&self) -> Option<Frame>
-        ensures { top_of self.now ≡ option_map frame_of result }
+    /// Nothing is open.
+    #[tactic(auto, using(crate::proofs::Tops::none_open))]
+    pub(crate) fn is_empty(&self) -> bool
+        ensures { result ≡ is_none (top_of self.now) }
     {
-        self.frames.last().copied()
+        innermost(&self.frames).is_none()
+    }
+
+    /// A value of this form may begin directly in the innermost frame, or outside all.
+    pub(crate) fn admits(&self, form: Form) -> bool
+        ensures { result ≡ admits (top_of self.now) (seen_form form) }
+    {
+        match innermost(&self.frames) {
+            None | Some(Frame::Item | Frame::Key | Frame::Value) => true,
+            Some(Frame::Named(_)) => self.names.admit(form),
+            _ => false,
+        }
+    }
+
+    /// What is still to come of a text or binary in which the innermost frame is, after so many bytes.
+    pub(crate) fn content_rest(&self, content: Content, size: usize) -> Option<Option<usize>>
+        ensures { result ≡ content_rest content size (top_of self.now) }
+    {
+        match (innermost(&self.frames), content) {
+            (Some(Frame::Text(left)), Content::Text)
+            | (Some(Frame::Binary(left)), Content::Binary) => take_off(left, size),
+            _ => None,
+        }
+    }
+
+    /// The innermost frame is in a text or binary, of which nothing is still to come.
+    pub(crate) fn content_ends(&self, content: Content) -> bool
+        ensures { result ≡ content_ends content (top_of self.now) }
+    {
+        match (innermost(&self.frames), content) {
+            (Some(Frame::Text(left)), Content::Text)
+            | (Some(Frame::Binary(left)), Content::Binary) => is_used_up(left),
+            _ => false,
+        }
+    }
+
+    /// The innermost frame is in a value with a name of its own, which is this name.
+    pub(crate) fn is_tagged(&self, name: Name<'_>) -> bool
+        ensures { result ≡ is_tagged (top_of self.now) (seen_name name.entry) }
+    {
+        match innermost(&self.frames) {
+            Some(Frame::Named(_)) => self.names.is_tagged(name),
+            _ => false,
+        }
+    }
+
+    /// The innermost frame is in an enum of this name.
+    pub(crate) fn is_enum(&self, name: Name<'_>) -> bool
+        ensures { result ≡ is_enum (top_of self.now) (seen_name name.entry) }
+    {
+        match innermost(&self.frames) {
+            Some(Frame::Named(_)) => self.names.is_enum(name),
+            _ => false,
+        }
+    }
+
+    /// The innermost frame is in a container that may end with this head.
+    pub(crate) fn ends(&self, head: Head<'_>) -> bool
+        ensures { result ≡ ends (top_of self.now) (seen_head head.entry) }
+    {
+        match innermost(&self.frames) {
+            Some(Frame::Seq(left)) => matches!(head, Head::Seq) && is_used_up(left),
+            Some(Frame::Map(left)) => matches!(head, Head::Map) && is_used_up(left),
+            Some(Frame::Named(left)) => self.names.is_head(head) && is_used_up(left),
+            _ => false,
+        }
+    }
+
+    /// What is still to come of a container in which the innermost frame is, after a part at this place.
+    pub(crate) fn part_rest(&self, slot: Slot<'_>) -> Option<Option<usize>>
+        ensures { result ≡ part_rest (seen_slot slot.entry) (top_of self.now) }
+    {
+        match innermost(&self.frames) {
+            Some(Frame::Seq(left)) if matches!(slot, Slot::Item) => take_off(left, 1),
+            Some(Frame::Map(left)) if matches!(slot, Slot::Key) => take_off(left, 1),
+            Some(Frame::Entry(left)) if matches!(slot, Slot::Value) => Some(left),
+            Some(Frame::Named(left)) if self.names.has_parts(slot) => take_off(left, 1),
+            _ => None,
+        }
+    }
+
+    /// The innermost frame is in a part at this place.
+    pub(crate) fn is_slot(&self, slot: Slot<'_>) -> bool
+        ensures { result ≡ is_slot (top_of self.now) (seen_slot slot.entry) }
+    {
+        match innermost(&self.frames) {
+            Some(Frame::Item) => matches!(slot, Slot::Item),
+            Some(Frame::Key) => matches!(slot, Slot::Key),
+            Some(Frame::Value) => matches!(slot, Slot::Value),
+            Some(Frame::Named(_)) => self.names.is_slot(slot),
+            _ => false,
+        }
     }
 
     /// Opens a frame in the innermost one.
-    pub(crate) fn push(&mut self, frame: Frame) -> Result<(), NoMemory>
-        ensures { self.new ≡ (if is_ok result then frame_of frame ∷ self.old else self.old) }
+    pub(crate) fn push(&mut self, begin: Begin<'_>) -> Result<(), NoMemory>
+        ensures { self.new ≡ (if is_ok result then begun_frame begin.entry ∷ self.old else self.old) }
     {
-        self.frames.push(frame).map_err(|_| NoMemory)
+        if self.frames.reserve(1).is_err() {
+            return Err(NoMemory);
+        }
+        let frame = self.names.keep(begin)?;
+        self.frames.push_reserved(frame);
+        Ok(())
+    }
+
+    /// Opens a part in the innermost frame, a container of whose entries so many are still to come with it.
+    pub(crate) fn open_part(&mut self, slot: Slot<'_>, left: Option<usize>) -> Result<(), NoMemory>
+        ensures { self.new ≡ (if is_ok result then with_part (seen_slot slot.entry) left self.old else self.old) }
+    {
+        if self.frames.reserve(1).is_err() {
+            return Err(NoMemory);
+        }
+        let part = self.names.keep(Begin::Part(slot))?;
+        advance(&mut self.frames, left);
+        self.frames.push_reserved(part);
+        Ok(())
     }
 
     /// Closes the innermost frame, if there is one.
     pub(crate) fn pop(&mut self)
         ensures { self.new ≡ below self.old }
     {
-        self.frames.pop();
+        if let Some(Frame::Named(_)) = self.frames.pop() {
+            self.names.pop();
+        }
     }
 
-    /// Puts another frame in place of the innermost one, if there is one.
-    pub(crate) fn replace_top(&mut self, frame: Frame)
-        ensures { (top : machine.Frame) → top_of self.old ≡ Some top
-            → self.new ≡ frame_of frame ∷ below self.old }
+    /// Puts what is still to come of a text or binary into the innermost frame, if it is in one.
+    pub(crate) fn set_left(&mut self, content: Content, left: Option<usize>)
+        ensures { self.new ≡ with_left content left self.old }
     {
-        if let Some(top) = self.frames.last_mut() {
-            *top = frame;
-        }
+        set_left(&mut self.frames, content, left);
     }
 }

@@ -1,0 +1,94 @@
+//! What has begun and has no end yet, in short.
+
+ghost use Rattle.std.specs.Prelude.{◌≡◌};
+ghost use Rattle.sval_check.specs.Frames.{with_next, with_rest};
+
+use sval_core::{Head, Name, Slot};
+
+/// What has begun and has no end yet; of a size that was given, what is still to come.
+///
+/// It is small, since there may be very many. What a name says stands in [`crate::names::Names`].
+#[derive(Clone, Copy)]
+pub(crate) enum Frame {
+    /// In a text: its bytes that are still to come.
+    Text(Option<usize>),
+    /// In a binary: its bytes that are still to come.
+    Binary(Option<usize>),
+    /// In a sequence: its items that are still to come.
+    Seq(Option<usize>),
+    /// In a map where a key comes next: its entries that are still to come.
+    Map(Option<usize>),
+    /// In a map where the value of a key comes next: its entries that are still to come.
+    Entry(Option<usize>),
+    /// In an item of a sequence.
+    Item,
+    /// In a key of a map.
+    Key,
+    /// In a value of a map.
+    Value,
+    /// In what says a name: of a container its entries that are still to come.
+    Named(Option<usize>),
+}
+
+impl Frame {
+    /// This frame with one more part, where it is a container of whose entries so many are still to come with it.
+    pub(crate) fn advanced(self, left: Option<usize>) -> Frame
+        ensures { result ≡ with_next left self }
+    {
+        match self {
+            Frame::Seq(_) => Frame::Seq(left),
+            Frame::Map(_) => Frame::Entry(left),
+            Frame::Entry(_) => Frame::Map(left),
+            Frame::Named(_) => Frame::Named(left),
+            _ => self,
+        }
+    }
+
+    /// This frame with another rest, where it is in such a content.
+    pub(crate) fn with_left(self, content: Content, left: Option<usize>) -> Frame
+        ensures { result ≡ with_rest content left self }
+    {
+        match (self, content) {
+            (Frame::Text(_), Content::Text) => Frame::Text(left),
+            (Frame::Binary(_), Content::Binary) => Frame::Binary(left),
+            _ => self,
+        }
+    }
+}
+
+/// A call that begins what has an end.
+#[derive(Clone, Copy)]
+pub(crate) enum Begin<'c> {
+    /// Of a text.
+    Text(Option<usize>),
+    /// Of a binary.
+    Binary(Option<usize>),
+    /// Of a value with a name of its own.
+    Tagged(Name<'c>),
+    /// Of an enum.
+    Enum(Name<'c>),
+    /// Of a container.
+    Container(Head<'c>, Option<usize>),
+    /// Of a container's part.
+    Part(Slot<'c>),
+}
+
+/// What comes in fragments.
+#[derive(Clone, Copy)]
+pub(crate) enum Content {
+    /// A text.
+    Text,
+    /// A binary.
+    Binary,
+}
+
+/// What is told apart of a value that begins.
+#[derive(Clone, Copy)]
+pub(crate) enum Form {
+    /// It is a text.
+    Text,
+    /// It is what an enum may hold.
+    Variant,
+    /// It is neither.
+    Other,
+}

@@ -1,0 +1,389 @@
+//! The names that begins say, kept until their ends.
+
+ghost use Rattle.std.specs.Prelude.{reverse, None, ◌≡◌, ℕ, List, Ok, Err, true, false, length, option_map, Some, is_ok, if◌then◌else◌, ◌++◌, ◌∷◌, [], OnOk};
+ghost use Rattle.sval_label.specs.SeenTags.{seen_tag};
+ghost use Rattle.sval_label.specs.SeenIndex.{seen_index};
+ghost use Rattle.sval_label.specs.SeenName.{seen_option_tag, seen_name};
+ghost use Rattle.sval_label.specs.Grouped.{seen_head, seen_slot};
+ghost use Rattle.sval_label.specs.Equalities as equal;
+ghost use Rattle.sval_core.specs.Trees.{plain_name, plain_label, text_kind};
+ghost use Rattle.sval_core.specs.SameNames as same;
+ghost use Rattle.sval_core.specs.CheckerSteps.{Form, admits, may_hold};
+ghost use Rattle.sval_check.specs.declared.frame.Begin.TheVariants as begin;
+ghost use Rattle.sval_check.specs.declared.names.Named as declared_named;
+ghost use Rattle.sval_core.specs.Stacks.{top_of};
+ghost use Rattle.sval_check.specs.Kept.{texts_around, kept_label, kept_name, name_size, named_size, named_frame, text_of_label};
+ghost use Rattle.sval_check.specs.Frames.{begun_frame, named_top, Keeps, seen_form, is_tagged, is_enum, is_head, is_slot, has_parts, means_text};
+
+use crate::frame::{Begin, Form, Frame};
+use std::alloc::Global;
+use sval_core::{Head, Index, Label, Name, NoMemory, Slot, Tag};
+
+/// A label that is kept; its text stands among the others.
+#[derive(Clone, Copy)]
+pub(crate) struct KeptLabel {
+    size: usize,
+    tag: Option<Tag>,
+}
+
+/// A name that is kept.
+#[derive(Clone, Copy)]
+pub(crate) struct KeptName {
+    tag: Option<Tag>,
+    label: Option<KeptLabel>,
+    index: Option<Index>,
+}
+
+/// A begin that says a name.
+#[derive(Clone, Copy)]
+pub(crate) enum Named {
+    /// Of a value with a name of its own.
+    Tagged(KeptName),
+    /// Of an enum.
+    Enum(KeptName),
+    /// Of a record.
+    Record(KeptName),
+    /// Of a tuple.
+    Tuple(KeptName),
+    /// Of a record that is a tuple too.
+    RecordTuple(KeptName),
+    /// Of a field of a record.
+    Field(Option<Tag>, KeptLabel),
+    /// Of a field of a tuple.
+    Place(Option<Tag>, Index),
+    /// Of a field of a record that is a tuple too.
+    FieldPlace(Option<Tag>, KeptLabel, Index),
+}
+
+/// The begins that said a name and have no end yet.
+#[derive(Drop)]
+pub(crate) struct Names {
+    begun: Vec<Named>,
+    /// The texts of their labels, one after another.
+    texts: Vec<u8>,
+}
+
+impl KeptLabel {
+    /// What is kept of a label.
+    fn of(label: &Label<'_>) -> KeptLabel
+        ensures label { kept_label label.now.text result ≡ plain_label label.now }
+        ensures size { result.size ≡ length label.now.text }
+    {
+        KeptLabel {
+            size: label.as_str().len(),
+            tag: label.tag().copied(),
+        }
+    }
+}
+
+impl KeptName {
+    /// What is kept of a name.
+    fn of(name: Name<'_>) -> KeptName
+        ensures name { kept_name (text_of_label (seen_name name.entry).label) result ≡ plain_name (seen_name name.entry) }
+        ensures size { name_size result ≡ length (text_of_label (seen_name name.entry).label) }
+    {
+        KeptName {
+            tag: name.tag.copied(),
+            label: name.label.map(KeptLabel::of),
+            index: name.index.copied(),
+        }
+    }
+
+    /// How many bytes of text it has.
+    fn size(self) -> usize
+        ensures { result ≡ name_size self }
+    {
+        match self.label {
+            Some(label) => label.size,
+            None => 0,
+        }
+    }
+}
+
+impl Named {
+    /// How many bytes of text it has.
+    fn size(self) -> usize
+        ensures { result ≡ named_size self }
+    {
+        match self {
+            Named::Tagged(name)
+            | Named::Enum(name)
+            | Named::Record(name)
+            | Named::Tuple(name)
+            | Named::RecordTuple(name) => name.size(),
+            Named::Field(_, label) | Named::FieldPlace(_, label, _) => label.size,
+            Named::Place(_, _) => 0,
+        }
+    }
+}
+
+/// The text of a label, or an empty one where there is none.
+fn text_of<'c>(label: Option<&'c Label<'c>>) -> &'c str
+    ensures { result.now ≡ text_of_label (option_map (λ label. label.now) label.entry) }
+{
+    match label {
+        Some(label) => label.as_str(),
+        None => "",
+    }
+}
+
+impl Names {
+    /// No name, which takes no memory yet.
+    pub(crate) fn new(alloc: Global) -> Self
+        ensures begun { result.begun.items ≡ [] }
+        ensures texts { result.texts.items ≡ [] }
+    {
+        Names {
+            begun: Vec::new(alloc),
+            texts: Vec::new(alloc),
+        }
+    }
+
+    /// Keeps a begin with its label's text, and gives its frame, of which so much is still to come.
+    fn push(&mut self, named: Named, text: &str, left: Option<usize>) -> Result<Frame, NoMemory>
+        requires { named_size named ≡ length text.now }
+        ensures { Keeps self.old self.new (named_frame text.now named left) result }
+    {
+        if self.begun.reserve(1).is_err()
+            || self.texts.extend_from_slice(text.as_bytes()).is_err()
+        {
+            return Err(NoMemory);
+        }
+        self.begun.push_reserved(named);
+        Ok(Frame::Named(left))
+    }
+
+    /// Keeps a begin, and gives its frame.
+    pub(crate) fn keep(&mut self, begin: Begin<'_>) -> Result<Frame, NoMemory>
+        ensures { Keeps self.old self.new (begun_frame begin.entry) result }
+    {
+        match begin {
+            Begin::Text(size) => Ok(Frame::Text(size)),
+            Begin::Binary(size) => Ok(Frame::Binary(size)),
+            Begin::Tagged(name) => {
+                self.push(Named::Tagged(KeptName::of(name)), text_of(name.label), None)
+            }
+            Begin::Enum(name) => {
+                self.push(Named::Enum(KeptName::of(name)), text_of(name.label), None)
+            }
+            Begin::Container(head, size) => self.keep_head(head, size),
+            Begin::Part(slot) => self.keep_slot(slot),
+        }
+    }
+
+    /// Keeps the begin of a container.
+    fn keep_head(&mut self, head: Head<'_>, size: Option<usize>) -> Result<Frame, NoMemory>
+        ensures { Keeps self.old self.new (begun_frame (Begin.Container head.entry size)) result }
+    {
+        match head {
+            Head::Seq => Ok(Frame::Seq(size)),
+            Head::Map => Ok(Frame::Map(size)),
+            Head::Record(name) => {
+                self.push(Named::Record(KeptName::of(name)), text_of(name.label), size)
+            }
+            Head::Tuple(name) => {
+                self.push(Named::Tuple(KeptName::of(name)), text_of(name.label), size)
+            }
+            Head::RecordTuple(name) => {
+                self.push(
+                    Named::RecordTuple(KeptName::of(name)),
+                    text_of(name.label),
+                    size,
+                )
+            }
+        }
+    }
+
+    /// Keeps the begin of a container's part.
+    fn keep_slot(&mut self, slot: Slot<'_>) -> Result<Frame, NoMemory>
+        ensures { Keeps self.old self.new (begun_frame (Begin.Part slot.entry)) result }
+    {
+        match slot {
+            Slot::Item => Ok(Frame::Item),
+            Slot::Key => Ok(Frame::Key),
+            Slot::Value => Ok(Frame::Value),
+            Slot::Field(tag, label) => {
+                self.push(
+                    Named::Field(tag.copied(), KeptLabel::of(label)),
+                    label.as_str(),
+                    None,
+                )
+            }
+            Slot::Place(tag, index) => self.push(Named::Place(tag.copied(), *index), "", None),
+            Slot::FieldPlace(tag, label, index) => self.push(
+                Named::FieldPlace(tag.copied(), KeptLabel::of(label), *index),
+                label.as_str(),
+                None,
+            ),
+        }
+    }
+
+    /// Keeps what the innermost begin with a name said no longer.
+    pub(crate) fn pop(&mut self)
+        ensures { (named : Named) (around : List Named) → reverse self.old.begun.items ≡ named ∷ around
+            → (reverse self.new.begun.items ≡ around)
+            × (self.new.texts.items ≡ texts_around named self.old.texts.items) }
+    {
+        if let Some(named) = self.begun.pop() {
+            let before = self.texts.len().saturating_sub(named.size());
+            self.texts.truncate(before);
+        }
+    }
+
+    /// The innermost begin with a name, if there is one.
+    fn top(&self) -> Option<Named>
+        ensures { top_of (reverse self.now.begun.items) ≡ result }
+    {
+        self.begun.last().copied()
+    }
+
+    /// A value of this form may begin directly in the innermost begin with a name, if there is one.
+    pub(crate) fn admit(&self, form: Form) -> bool
+        ensures { result ≡ admits (named_top self.now None) (seen_form form) }
+    {
+        match self.top() {
+            None | Some(Named::Field(_, _) | Named::Place(_, _) | Named::FieldPlace(_, _, _)) => {
+                true
+            }
+            Some(Named::Tagged(name)) => may_hold(name.tag, form),
+            Some(Named::Enum(_)) => matches!(form, Form::Variant),
+            Some(Named::Record(_) | Named::Tuple(_) | Named::RecordTuple(_)) => false,
+        }
+    }
+
+    /// The innermost begin with a name is that of a container which has parts at such places.
+    pub(crate) fn has_parts(&self, slot: Slot<'_>) -> bool
+        ensures { result ≡ has_parts (named_top self.now None) (seen_slot slot.entry) }
+    {
+        matches!(
+            (self.top(), slot),
+            (Some(Named::Record(_)), Slot::Field(_, _))
+                | (Some(Named::Tuple(_)), Slot::Place(_, _))
+                | (Some(Named::RecordTuple(_)), Slot::FieldPlace(_, _, _))
+        )
+    }
+
+    /// The innermost begin with a name is that of a tagged value of this name.
+    pub(crate) fn is_tagged(&self, name: Name<'_>) -> bool
+        ensures { result ≡ is_tagged (named_top self.now None) (seen_name name.entry) }
+    {
+        match self.top() {
+            Some(Named::Tagged(begun)) => self.is_name(begun, name),
+            _ => false,
+        }
+    }
+
+    /// The innermost begin with a name is that of an enum of this name.
+    pub(crate) fn is_enum(&self, name: Name<'_>) -> bool
+        ensures { result ≡ is_enum (named_top self.now None) (seen_name name.entry) }
+    {
+        match self.top() {
+            Some(Named::Enum(begun)) => self.is_name(begun, name),
+            _ => false,
+        }
+    }
+
+    /// The innermost begin with a name is that of a container of this head.
+    pub(crate) fn is_head(&self, head: Head<'_>) -> bool
+        ensures { result ≡ is_head (named_top self.now None) (seen_head head.entry) }
+    {
+        match (self.top(), head) {
+            (Some(Named::Record(begun)), Head::Record(name))
+            | (Some(Named::Tuple(begun)), Head::Tuple(name))
+            | (Some(Named::RecordTuple(begun)), Head::RecordTuple(name)) => {
+                self.is_name(begun, name)
+            }
+            _ => false,
+        }
+    }
+
+    /// The innermost begin with a name is that of a part at this place.
+    pub(crate) fn is_slot(&self, slot: Slot<'_>) -> bool
+        ensures { result ≡ is_slot (named_top self.now None) (seen_slot slot.entry) }
+    {
+        match (self.top(), slot) {
+            (Some(Named::Field(begun, kept)), Slot::Field(tag, label)) => {
+                same_tag(tag, begun) && self.is_label(kept, label)
+            }
+            (Some(Named::Place(begun, place)), Slot::Place(tag, index)) => {
+                same_tag(tag, begun) && *index == place
+            }
+            (Some(Named::FieldPlace(begun, kept, place)), Slot::FieldPlace(tag, label, index)) => {
+                same_tag(tag, begun) && self.is_label(kept, label) && *index == place
+            }
+            _ => false,
+        }
+    }
+
+    /// A name is the one that was kept last.
+    fn is_name(&self, begun: KeptName, name: Name<'_>) -> bool
+        ensures { result ≡ same.same_name (seen_name name.entry) (kept_name self.now.texts.items begun) }
+    {
+        same_tag(name.tag, begun.tag)
+            && self.is_option_label(begun.label, name.label)
+            && same_index(name.index, begun.index)
+    }
+
+    /// A label, or none, is the one that was kept last.
+    fn is_option_label(&self, begun: Option<KeptLabel>, label: Option<&Label<'_>>) -> bool
+        ensures { result ≡ same.same_option equal.same_label (option_map (λ label. label.now) label.entry)
+            (option_map (kept_label self.now.texts.items) begun) }
+    {
+        match (begun, label) {
+            (None, None) => true,
+            (Some(begun), Some(label)) => self.is_label(begun, label),
+            _ => false,
+        }
+    }
+
+    /// A label is the one that was kept last.
+    fn is_label(&self, begun: KeptLabel, label: &Label<'_>) -> bool
+        ensures { result ≡ equal.same_label label.now (kept_label self.now.texts.items begun) }
+    {
+        let start = self.texts.len().saturating_sub(begun.size);
+        label.as_str().as_bytes() == &self.texts[start..]
+    }
+}
+
+/// A value of this form may begin directly under a tag.
+fn may_hold(tag: Option<Tag>, form: Form) -> bool
+    ensures { result ≡ may_hold (text_kind (option_map seen_tag tag)) (seen_form form) }
+{
+    match tag {
+        Some(tag) if means_text(tag) => matches!(form, Form::Text),
+        _ => true,
+    }
+}
+
+/// Text is meant in a way of its own under a tag.
+fn means_text(tag: Tag) -> bool
+    ensures { result ≡ means_text (text_kind (Some (seen_tag tag))) }
+{
+    tag.text == "NUMBER"
+        || tag.text == "JSON_VALUE"
+        || tag.text == "JSON_TEXT"
+        || tag.text == "JSON_NUMBER"
+}
+
+/// Two tags are both absent, or equal.
+fn same_tag(ended: Option<&Tag>, begun: Option<Tag>) -> bool
+    ensures { result ≡ same.same_option equal.same_tag (seen_option_tag ended.entry) (option_map seen_tag begun) }
+{
+    match (ended, begun) {
+        (None, None) => true,
+        (Some(ended), Some(begun)) => ended.text == begun.text,
+        _ => false,
+    }
+}
+
+/// Two indexes are both absent, or equal.
+fn same_index(ended: Option<&Index>, begun: Option<Index>) -> bool
+    ensures { result ≡ same.same_option equal.same_index
+        (option_map (λ index. seen_index index.now) ended.entry) (option_map seen_index begun) }
+{
+    match (ended, begun) {
+        (None, None) => true,
+        (Some(ended), Some(begun)) => *ended == begun,
+        _ => false,
+    }
+}
