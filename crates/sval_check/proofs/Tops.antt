@@ -9,10 +9,11 @@ use Rattle.sval_core.specs.CheckerSteps.{take_off, is_used_up}
 use Rattle.sval_core.specs.Stacks.{top_of}
 use Rattle.sval_check.specs.declared.frame.Frame.{Frame}
 use Rattle.sval_check.specs.declared.frame.Frame.TheVariants as frame
-use Rattle.sval_check.specs.declared.names.Named.{Named}
-use Rattle.sval_check.specs.declared.names.Named.TheVariants as named
+use Rattle.sval_check.specs.declared.kept.Named.{Named}
+use Rattle.sval_check.specs.declared.kept.Named.TheVariants as named
 use Rattle.sval_check.specs.Kept.{named_frame}
-use Rattle.sval_check.specs.Frames.{frames_of, are_named, is_head, is_slot, ends, has_parts, part_rest, on_top}
+use Rattle.sval_check.specs.Frames.{frames_of, are_named}
+use Rattle.sval_check.specs.Tops.{is_head, is_slot, ends, has_parts, part_rest, on_top}
 
 -- the frame of the innermost begin with a name, if there is one
 abbrev pub frame_at : List ℕ → Option ℕ → List Named → Option machine.Frame

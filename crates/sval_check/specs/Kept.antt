@@ -1,14 +1,14 @@
 -- What is kept of names.
-use Rattle.std.specs.Prelude.{ℕ, ◌-◌, List, [], length, take, drop, Option, Some, None, option_map, false}
+use Rattle.std.specs.Prelude.{ℕ, ◌-◌, List, [], length, take, drop, Option, Some, None, option_map, Bool, true, false}
 use Rattle.sval_label.specs.Calls.{Label, Name, Record, Tuple, RecordTuple, Field, Place, FieldPlace}
 use Rattle.sval_label.specs.SeenTags.{seen_tag}
 use Rattle.sval_label.specs.SeenIndex.{seen_index}
 use Rattle.sval_core.specs.Trees as kind
 use Rattle.sval_core.specs.Checker.{Frame, InTagged, InEnum, InContainer, InPart}
-use Rattle.sval_check.specs.declared.names.KeptLabel.{KeptLabel}
-use Rattle.sval_check.specs.declared.names.KeptName.{KeptName}
-use Rattle.sval_check.specs.declared.names.Named.{Named}
-use Rattle.sval_check.specs.declared.names.Named.TheVariants as named
+use Rattle.sval_check.specs.declared.kept.KeptLabel.{KeptLabel}
+use Rattle.sval_check.specs.declared.kept.KeptName.{KeptName}
+use Rattle.sval_check.specs.declared.kept.Named.{Named}
+use Rattle.sval_check.specs.declared.kept.Named.TheVariants as named
 
 -- a label: its text is the last of the texts
 abbrev pub kept_label : List ℕ → KeptLabel → Label
@@ -54,3 +54,8 @@ text_of_label (Some label) = label.text
 -- the texts without the label's
 abbrev pub texts_around : Named → List ℕ → List ℕ
 texts_around n texts = take (length texts - named_size n) texts
+
+-- text under a tag of this kind is meant in a way of its own
+abbrev pub means_text : kind.TextKind → Bool
+means_text kind.Ordinary = false
+means_text other = true

@@ -1,13 +1,16 @@
 //! The machine that takes the calls which can still be completed.
 
-ghost use Rattle.std.specs.Prelude.{◌≡◌, Option, Some, None, [], ◌∷◌, length, true, false, ◌≤◌};
+ghost use Rattle.std.specs.Prelude.{◌≡◌, ◌≤◌, true, false, [], Some, None};
 ghost use Rattle.sval_label.specs.Made.{lent_call};
 ghost use Rattle.sval_label.specs.SeenName.{seen_name};
 ghost use Rattle.sval_label.specs.Grouped.{seen_head, seen_slot};
 ghost use Rattle.sval_core.specs.Law.{Answers};
-ghost use Rattle.sval_core.specs.CheckerSteps.{unfilled, has_room, form_of_head, value, begin, at_top, tagged_end, enum_end, end, part_begin, part_end};
-ghost use Rattle.sval_check.specs.Frames.{begun_frame, seen_form, content_fragment, content_end};
-ghost use Rattle.sval_check.specs.Checking.{Checking, StepsBy, StepsOn, checker_law, checker_standing, finish_of, cause_of, wants_after};
+ghost use Rattle.sval_core.specs.CheckerSteps.{unfilled, has_room, form_of_head, value, begin, at_top};
+ghost use Rattle.sval_core.specs.CheckerSteps.{tagged_end, enum_end, end, part_begin, part_end};
+ghost use Rattle.sval_check.specs.Frames.{begun_frame, seen_form};
+ghost use Rattle.sval_check.specs.Tops.{content_fragment, content_end};
+ghost use Rattle.sval_check.specs.Checking.{Checking, StepsBy, StepsOn, checker_law, checker_standing};
+ghost use Rattle.sval_check.specs.Checking.{finish_of, cause_of, wants_after};
 
 use crate::error::CheckError;
 use crate::frame::{Begin, Content, Form};

@@ -1,7 +1,7 @@
 //! What has begun and has no end yet, in short.
 
 ghost use Rattle.std.specs.Prelude.{◌≡◌};
-ghost use Rattle.sval_check.specs.Frames.{with_next, with_rest};
+ghost use Rattle.sval_check.specs.Tops.{with_next, with_rest};
 
 use sval_core::{Head, Name, Slot};
 

@@ -10,6 +10,7 @@ ghost use Rattle.sval_check.specs.Checks.{IsOneValue, IsFirstBad, OnlyRefuses, I
 mod checker;
 mod error;
 mod frame;
+mod kept;
 pub mod laws;
 mod left;
 mod names;

@@ -1,59 +1,20 @@
 //! The names that begins say, kept until their ends.
 
-ghost use Rattle.std.specs.Prelude.{reverse, None, ◌≡◌, ℕ, List, Ok, Err, true, false, length, option_map, Some, is_ok, if◌then◌else◌, ◌++◌, ◌∷◌, [], OnOk};
-ghost use Rattle.sval_label.specs.SeenTags.{seen_tag};
-ghost use Rattle.sval_label.specs.SeenIndex.{seen_index};
-ghost use Rattle.sval_label.specs.SeenName.{seen_option_tag, seen_name};
+ghost use Rattle.std.specs.Prelude.{◌≡◌, List, [], ◌∷◌, reverse, length, option_map, None};
+ghost use Rattle.sval_label.specs.SeenName.{seen_name};
 ghost use Rattle.sval_label.specs.Grouped.{seen_head, seen_slot};
 ghost use Rattle.sval_label.specs.Equalities as equal;
-ghost use Rattle.sval_core.specs.Trees.{plain_name, plain_label, text_kind};
 ghost use Rattle.sval_core.specs.SameNames as same;
-ghost use Rattle.sval_core.specs.CheckerSteps.{Form, admits, may_hold};
-ghost use Rattle.sval_check.specs.declared.frame.Begin.TheVariants as begin;
-ghost use Rattle.sval_check.specs.declared.names.Named as declared_named;
+ghost use Rattle.sval_core.specs.CheckerSteps.{admits};
 ghost use Rattle.sval_core.specs.Stacks.{top_of};
-ghost use Rattle.sval_check.specs.Kept.{texts_around, kept_label, kept_name, name_size, named_size, named_frame, text_of_label};
-ghost use Rattle.sval_check.specs.Frames.{begun_frame, named_top, Keeps, seen_form, is_tagged, is_enum, is_head, is_slot, has_parts, means_text};
+ghost use Rattle.sval_check.specs.Kept.{kept_label, kept_name, named_size, named_frame, texts_around};
+ghost use Rattle.sval_check.specs.Frames.{begun_frame, named_top, Keeps, seen_form};
+ghost use Rattle.sval_check.specs.Tops.{is_tagged, is_enum, is_head, is_slot, has_parts};
 
 use crate::frame::{Begin, Form, Frame};
+use crate::kept::{KeptLabel, KeptName, Named, may_hold, same_index, same_tag, text_of};
 use std::alloc::Global;
-use sval_core::{Head, Index, Label, Name, NoMemory, Slot, Tag};
-
-/// A label that is kept; its text stands among the others.
-#[derive(Clone, Copy)]
-pub(crate) struct KeptLabel {
-    size: usize,
-    tag: Option<Tag>,
-}
-
-/// A name that is kept.
-#[derive(Clone, Copy)]
-pub(crate) struct KeptName {
-    tag: Option<Tag>,
-    label: Option<KeptLabel>,
-    index: Option<Index>,
-}
-
-/// A begin that says a name.
-#[derive(Clone, Copy)]
-pub(crate) enum Named {
-    /// Of a value with a name of its own.
-    Tagged(KeptName),
-    /// Of an enum.
-    Enum(KeptName),
-    /// Of a record.
-    Record(KeptName),
-    /// Of a tuple.
-    Tuple(KeptName),
-    /// Of a record that is a tuple too.
-    RecordTuple(KeptName),
-    /// Of a field of a record.
-    Field(Option<Tag>, KeptLabel),
-    /// Of a field of a tuple.
-    Place(Option<Tag>, Index),
-    /// Of a field of a record that is a tuple too.
-    FieldPlace(Option<Tag>, KeptLabel, Index),
-}
+use sval_core::{Head, Label, Name, NoMemory, Slot};
 
 /// The begins that said a name and have no end yet.
 #[derive(Drop)]
@@ -61,70 +22,6 @@ pub(crate) struct Names {
     begun: Vec<Named>,
     /// The texts of their labels, one after another.
     texts: Vec<u8>,
-}
-
-impl KeptLabel {
-    /// What is kept of a label.
-    fn of(label: &Label<'_>) -> KeptLabel
-        ensures label { kept_label label.now.text result ≡ plain_label label.now }
-        ensures size { result.size ≡ length label.now.text }
-    {
-        KeptLabel {
-            size: label.as_str().len(),
-            tag: label.tag().copied(),
-        }
-    }
-}
-
-impl KeptName {
-    /// What is kept of a name.
-    fn of(name: Name<'_>) -> KeptName
-        ensures name { kept_name (text_of_label (seen_name name.entry).label) result ≡ plain_name (seen_name name.entry) }
-        ensures size { name_size result ≡ length (text_of_label (seen_name name.entry).label) }
-    {
-        KeptName {
-            tag: name.tag.copied(),
-            label: name.label.map(KeptLabel::of),
-            index: name.index.copied(),
-        }
-    }
-
-    /// How many bytes of text it has.
-    fn size(self) -> usize
-        ensures { result ≡ name_size self }
-    {
-        match self.label {
-            Some(label) => label.size,
-            None => 0,
-        }
-    }
-}
-
-impl Named {
-    /// How many bytes of text it has.
-    fn size(self) -> usize
-        ensures { result ≡ named_size self }
-    {
-        match self {
-            Named::Tagged(name)
-            | Named::Enum(name)
-            | Named::Record(name)
-            | Named::Tuple(name)
-            | Named::RecordTuple(name) => name.size(),
-            Named::Field(_, label) | Named::FieldPlace(_, label, _) => label.size,
-            Named::Place(_, _) => 0,
-        }
-    }
-}
-
-/// The text of a label, or an empty one where there is none.
-fn text_of<'c>(label: Option<&'c Label<'c>>) -> &'c str
-    ensures { result.now ≡ text_of_label (option_map (λ label. label.now) label.entry) }
-{
-    match label {
-        Some(label) => label.as_str(),
-        None => "",
-    }
 }
 
 impl Names {
@@ -342,48 +239,5 @@ impl Names {
     {
         let start = self.texts.len().saturating_sub(begun.size);
         label.as_str().as_bytes() == &self.texts[start..]
-    }
-}
-
-/// A value of this form may begin directly under a tag.
-fn may_hold(tag: Option<Tag>, form: Form) -> bool
-    ensures { result ≡ may_hold (text_kind (option_map seen_tag tag)) (seen_form form) }
-{
-    match tag {
-        Some(tag) if means_text(tag) => matches!(form, Form::Text),
-        _ => true,
-    }
-}
-
-/// Text is meant in a way of its own under a tag.
-fn means_text(tag: Tag) -> bool
-    ensures { result ≡ means_text (text_kind (Some (seen_tag tag))) }
-{
-    tag.text == "NUMBER"
-        || tag.text == "JSON_VALUE"
-        || tag.text == "JSON_TEXT"
-        || tag.text == "JSON_NUMBER"
-}
-
-/// Two tags are both absent, or equal.
-fn same_tag(ended: Option<&Tag>, begun: Option<Tag>) -> bool
-    ensures { result ≡ same.same_option equal.same_tag (seen_option_tag ended.entry) (option_map seen_tag begun) }
-{
-    match (ended, begun) {
-        (None, None) => true,
-        (Some(ended), Some(begun)) => ended.text == begun.text,
-        _ => false,
-    }
-}
-
-/// Two indexes are both absent, or equal.
-fn same_index(ended: Option<&Index>, begun: Option<Index>) -> bool
-    ensures { result ≡ same.same_option equal.same_index
-        (option_map (λ index. seen_index index.now) ended.entry) (option_map seen_index begun) }
-{
-    match (ended, begun) {
-        (None, None) => true,
-        (Some(ended), Some(begun)) => *ended == begun,
-        _ => false,
     }
 }

@@ -1,13 +1,13 @@
 //! What has begun and has no end yet.
 
-ghost use Rattle.std.specs.Prelude.{◌≡◌, List, [], ◌∷◌, is_ok, is_none, if◌then◌else◌, Some, None, reverse, true, false, Bool};
+ghost use Rattle.std.specs.Prelude.{◌≡◌, [], ◌∷◌, reverse, is_ok, is_none, if◌then◌else◌};
 ghost use Rattle.sval_label.specs.SeenName.{seen_name};
 ghost use Rattle.sval_label.specs.Grouped.{seen_head, seen_slot};
-ghost use Rattle.sval_core.specs.Trees.{plain_slot};
-ghost use Rattle.sval_core.specs.Checker.{InPart};
-ghost use Rattle.sval_core.specs.CheckerSteps.{Form, OneText, Variant, Other, admits};
+ghost use Rattle.sval_core.specs.CheckerSteps.{admits};
 ghost use Rattle.sval_core.specs.Stacks.{top_of, below};
-ghost use Rattle.sval_check.specs.Frames.{begun_frame, seen_form, is_tagged, is_enum, is_slot, ends, content_ends, content_rest, part_rest, with_left, with_rest, with_part, with_next, on_top};
+ghost use Rattle.sval_check.specs.Frames.{begun_frame, seen_form};
+ghost use Rattle.sval_check.specs.Tops.{is_tagged, is_enum, is_slot, ends, content_ends, content_rest, part_rest};
+ghost use Rattle.sval_check.specs.Tops.{with_left, with_rest, with_part, with_next, on_top};
 
 use crate::frame::{Begin, Content, Form, Frame};
 use crate::left::{is_used_up, take_off};

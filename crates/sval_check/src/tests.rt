@@ -1,11 +1,13 @@
-//! Each answer once.
+//! Each answer once, and the ends of each kind of begin.
 
 ghost use Rattle.std.specs.Prelude.{[], ◌∷◌, Some, None, false, codes};
 ghost use Rattle.sval_label.specs.Calls.{TextBegin, TextFragment, TextEnd, Begin, Seq};
 ghost use Rattle.sval_core.specs.Values.{makes, fails_after};
 
+use crate::checker::Checker;
 use crate::{CheckError, check};
-use sval_core::{Lent, Result, Stream, Value, refusal};
+use std::alloc::Global;
+use sval_core::{AnyCall, Call, Index, Label, Lent, Name, Result, Stream, Value, refusal, tags};
 
 /// A text of two bytes, which says this size.
 struct Text {
@@ -13,7 +15,8 @@ struct Text {
 }
 
 impl<'v> Value<'v, Lent<'v>> for Text {
-    ghost emission = { λ text. makes (TextBegin (Some text.size) ∷ TextFragment false (codes "ab") ∷ TextEnd ∷ []) };
+    ghost emission = { λ text.
+        makes (TextBegin (Some text.size) ∷ TextFragment false (codes "ab") ∷ TextEnd ∷ []) };
 
     fn stream<S: Stream<Lent<'v>>>(&'v self, stream: &mut S) -> Result {
         stream.text_begin(Some(self.size))?;
@@ -58,4 +61,138 @@ fn gives_each_answer(rt: HostRuntime) {
     );
     assert_eq!(rt; check(alloc, &Open {}), Err(CheckError::Unfinished));
     assert_eq!(rt; check(alloc, &Refusing {}), Err(CheckError::Refused));
+}
+
+/// How many of the calls are taken before one is refused.
+fn taken(alloc: Global, calls: &[Call<'_, '_>]) -> usize {
+    let mut checker = Checker::new(alloc);
+    let mut count = 0;
+    for call in calls {
+        if checker.take(*call).is_err() {
+            return count;
+        }
+        count = count.saturating_add(1);
+    }
+    count
+}
+
+#[test]
+fn counts_bytes_and_entries(rt: HostRuntime) {
+    let alloc = rt.alloc();
+    let bytes: &[u8] = &[1, 2];
+    let binary = [
+        AnyCall::BinaryBegin(Some(2)),
+        AnyCall::BinaryFragmentComputed(bytes),
+        AnyCall::BinaryEnd,
+        AnyCall::Null,
+    ];
+    assert_eq!(rt; taken(alloc, &binary), 3);
+    let map = [
+        AnyCall::MapBegin(Some(1)),
+        AnyCall::MapKeyBegin,
+        AnyCall::Null,
+        AnyCall::MapKeyEnd,
+        AnyCall::MapValueBegin,
+        AnyCall::U8(1),
+        AnyCall::MapValueEnd,
+        AnyCall::MapEnd,
+    ];
+    assert_eq!(rt; taken(alloc, &map), 8);
+    let key_alone = [
+        AnyCall::MapBegin(None),
+        AnyCall::MapKeyBegin,
+        AnyCall::Null,
+        AnyCall::MapKeyEnd,
+        AnyCall::MapEnd,
+    ];
+    assert_eq!(rt; taken(alloc, &key_alone), 4);
+}
+
+/// How many calls of a record with one field are taken, which begins and ends with these labels.
+fn taken_of_record<'c>(alloc: Global, begun: &'c Label<'c>, ended: &'c Label<'c>) -> usize {
+    let name = Name {
+        tag: None,
+        label: None,
+        index: None,
+    };
+    let calls = [
+        AnyCall::RecordBegin(name, Some(1)),
+        AnyCall::RecordValueBegin(None, begun),
+        AnyCall::Null,
+        AnyCall::RecordValueEnd(None, ended),
+        AnyCall::RecordEnd(name),
+    ];
+    taken(alloc, &calls)
+}
+
+#[test]
+fn compares_labels_by_their_texts(rt: HostRuntime) {
+    let alloc = rt.alloc();
+    let begun = Label::new("field").with_tag(&tags::VALUE_IDENT);
+    assert_eq!(rt;
+        taken_of_record(alloc, &begun, &Label::new_computed("field")),
+        5
+    );
+    assert_eq!(rt; taken_of_record(alloc, &begun, &Label::new("other")), 3);
+}
+
+/// How many calls of a tuple with one field are taken, which begins and ends with these indexes.
+fn taken_of_tuple<'c>(alloc: Global, begun: &'c Index, ended: &'c Index) -> usize {
+    let name = Name {
+        tag: None,
+        label: None,
+        index: Some(begun),
+    };
+    let calls = [
+        AnyCall::TupleBegin(name, Some(1)),
+        AnyCall::TupleValueBegin(None, begun),
+        AnyCall::Null,
+        AnyCall::TupleValueEnd(None, ended),
+        AnyCall::TupleEnd(name),
+    ];
+    taken(alloc, &calls)
+}
+
+#[test]
+fn compares_indexes_by_their_numbers(rt: HostRuntime) {
+    let alloc = rt.alloc();
+    let begun = Index::new(1);
+    let tagged = Index::new(1).with_tag(&tags::VALUE_OFFSET);
+    assert_eq!(rt; taken_of_tuple(alloc, &begun, &tagged), 5);
+    assert_eq!(rt; taken_of_tuple(alloc, &begun, &Index::new(2)), 3);
+}
+
+#[test]
+fn looks_into_enums_and_tagged_values(rt: HostRuntime) {
+    let alloc = rt.alloc();
+    let number = Name {
+        tag: Some(&tags::NUMBER),
+        label: None,
+        index: None,
+    };
+    let whole = [
+        AnyCall::EnumBegin(number),
+        AnyCall::TagHint(&tags::NUMBER),
+        AnyCall::TaggedBegin(number),
+        AnyCall::TextBegin(None),
+        AnyCall::TextEnd,
+        AnyCall::TaggedEnd(number),
+        AnyCall::EnumEnd(number),
+    ];
+    assert_eq!(rt; taken(alloc, &whole), 7);
+    assert_eq!(rt;
+        taken(alloc, &[AnyCall::TaggedBegin(number), AnyCall::Null]),
+        1
+    );
+    assert_eq!(rt;
+        taken(
+            alloc,
+            &[AnyCall::EnumBegin(number), AnyCall::SeqBegin(None)]
+        ),
+        1
+    );
+    assert_eq!(rt;
+        taken(alloc, &[AnyCall::EnumBegin(number), AnyCall::Tag(number)]),
+        2
+    );
 }

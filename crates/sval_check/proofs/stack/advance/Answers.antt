@@ -1,4 +1,4 @@
-use Rattle.sval_check.specs.Frames.{with_next}
+use Rattle.sval_check.specs.Tops.{with_next}
 use Rattle.sval_check.proofs.Tops.{changed}
 use Rattle.sval_check.proofs.stack.advance.Goals as goal
 

@@ -1,4 +1,4 @@
-use Rattle.sval_check.specs.Frames.{with_rest}
+use Rattle.sval_check.specs.Tops.{with_rest}
 use Rattle.sval_check.proofs.Tops.{changed}
 use Rattle.sval_check.proofs.stack.set_left.Goals as goal
 

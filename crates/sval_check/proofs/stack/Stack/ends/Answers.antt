@@ -2,7 +2,7 @@ use Rattle.std.proofs.Common.{◌∙◌, ◌&&◌, Some, sym, ap, reverse}
 use Rattle.sval_label.specs.Grouped.{seen_head}
 use Rattle.sval_core.specs.CheckerSteps.{is_used_up}
 use Rattle.sval_core.specs.Stacks.{top_of}
-use Rattle.sval_check.specs.Frames.{ends}
+use Rattle.sval_check.specs.Tops.{ends}
 use Rattle.sval_check.proofs.Tops.{head_is}
 use Rattle.sval_check.proofs.stack.Stack.ends.Goals as goal
 

@@ -1,7 +1,7 @@
 use Rattle.std.proofs.Common.{◌∙◌, Some, ap, reverse}
 use Rattle.sval_label.specs.Grouped.{seen_slot}
 use Rattle.sval_core.specs.Stacks.{top_of}
-use Rattle.sval_check.specs.Frames.{is_slot}
+use Rattle.sval_check.specs.Tops.{is_slot}
 use Rattle.sval_check.proofs.Tops.{slot_is}
 use Rattle.sval_check.proofs.stack.Stack.is_slot.Goals as goal
 

@@ -2,7 +2,7 @@ use Rattle.std.proofs.Common.{◌∙◌, if◌then◌else◌, None, Some, sym, a
 use Rattle.sval_label.specs.Grouped.{seen_slot}
 use Rattle.sval_core.specs.CheckerSteps.{take_off}
 use Rattle.sval_core.specs.Stacks.{top_of}
-use Rattle.sval_check.specs.Frames.{part_rest}
+use Rattle.sval_check.specs.Tops.{part_rest}
 use Rattle.sval_check.proofs.Tops.{rest_is}
 use Rattle.sval_check.proofs.stack.Stack.part_rest.Goals as goal
 

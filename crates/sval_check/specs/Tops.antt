@@ -1,0 +1,100 @@
+-- What is asked of the innermost frame, and what becomes of it.
+use Rattle.std.specs.Prelude.{ℕ, if◌then◌else◌, ◌&&◌, Bool, false, List, [], ◌∷◌, Option, Some, None}
+use Rattle.sval_label.specs.Calls.{Name, Head, Slot}
+use Rattle.sval_core.specs.Trees.{plain_slot, next_kind, kind_of}
+use Rattle.sval_core.specs.SameNames.{same_name, same_head, same_slot}
+use Rattle.sval_core.specs.Spells.{new_entries}
+use Rattle.sval_core.specs.Checker as machine
+use Rattle.sval_core.specs.Checker.{InText, InBinary, InTagged, InEnum, InContainer, InPart}
+use Rattle.sval_core.specs.CheckerSteps as steps
+use Rattle.sval_core.specs.CheckerSteps.{take_off, is_used_up, same_kind, may_end}
+use Rattle.sval_check.specs.declared.frame.Frame.{Frame}
+use Rattle.sval_check.specs.declared.frame.Frame.TheVariants as frame
+use Rattle.sval_check.specs.declared.frame.Content.{Content}
+use Rattle.sval_check.specs.declared.frame.Content.TheVariants as content
+
+-- an end's name is that of its begin
+abbrev pub is_tagged : Option machine.Frame → Name → Bool
+is_tagged (Some (InTagged name)) ended = same_name ended name
+is_tagged top ended = false
+
+abbrev pub is_enum : Option machine.Frame → Name → Bool
+is_enum (Some (InEnum name)) ended = same_name ended name
+is_enum top ended = false
+
+abbrev pub is_head : Option machine.Frame → Head → Bool
+is_head (Some (InContainer head kind left)) ended = same_head ended head
+is_head top ended = false
+
+abbrev pub is_slot : Option machine.Frame → Slot → Bool
+is_slot (Some (InPart slot)) ended = same_slot ended slot
+is_slot top ended = false
+
+-- a container has parts at such places
+abbrev pub has_parts : Option machine.Frame → Slot → Bool
+has_parts (Some (InContainer head kind left)) slot = same_kind (kind_of slot) kind
+has_parts top slot = false
+
+-- a container may end with this head
+abbrev pub ends : Option machine.Frame → Head → Bool
+ends (Some (InContainer head kind left)) ended = same_head ended head && (may_end kind && is_used_up left)
+ends top ended = false
+
+-- a text or binary may end
+abbrev pub content_ends : Content → Option machine.Frame → Bool
+content_ends content.Text (Some (InText left)) = is_used_up left
+content_ends content.Binary (Some (InBinary left)) = is_used_up left
+content_ends content top = false
+
+-- what is still to come of a text or binary after so many bytes, if that is not too many
+abbrev pub content_rest : Content → ℕ → Option machine.Frame → Option (Option ℕ)
+content_rest content.Text n (Some (InText left)) = take_off left n
+content_rest content.Binary n (Some (InBinary left)) = take_off left n
+content_rest content n top = None
+
+-- what is still to come of a container after a part at this place, if it may come
+abbrev pub part_rest : Slot → Option machine.Frame → Option (Option ℕ)
+part_rest slot (Some (InContainer head kind left)) = if same_kind (kind_of slot) kind then take_off left (new_entries slot) else None
+part_rest slot top = None
+
+-- a text or binary of which so much is still to come
+abbrev pub with_left : Content → Option ℕ → List machine.Frame → List machine.Frame
+with_left content.Text left (InText _ ∷ around) = InText left ∷ around
+with_left content.Binary left (InBinary _ ∷ around) = InBinary left ∷ around
+with_left content left frames = frames
+
+-- a container of which so much is still to come after its next part
+abbrev pub after_part : Option ℕ → List machine.Frame → List machine.Frame
+after_part left (InContainer head kind _ ∷ around) = InContainer head (next_kind kind) left ∷ around
+after_part left frames = frames
+
+-- the same with this part open in it
+abbrev pub with_part : Slot → Option ℕ → List machine.Frame → List machine.Frame
+with_part slot left frames = InPart (plain_slot slot) ∷ after_part left frames
+
+-- the same of the checker's own frames
+abbrev pub with_next : Option ℕ → Frame → Frame
+with_next left (frame.Seq _) = frame.Seq left
+with_next left (frame.Map _) = frame.Entry left
+with_next left (frame.Entry _) = frame.Map left
+with_next left (frame.Named _) = frame.Named left
+with_next left kept = kept
+
+abbrev pub with_rest : Content → Option ℕ → Frame → Frame
+with_rest content.Text left (frame.Text _) = frame.Text left
+with_rest content.Binary left (frame.Binary _) = frame.Binary left
+with_rest content left kept = kept
+
+-- a stack with its innermost changed
+abbrev pub on_top : {A : Type 0} → (A → A) → List A → List A
+on_top f [] = []
+on_top f (top ∷ around) = f top ∷ around
+
+-- the rows of the machine for a text and for a binary
+abbrev pub content_fragment : Content → ℕ → steps.Step
+content_fragment content.Text = steps.text_fragment
+content_fragment content.Binary = steps.binary_fragment
+
+abbrev pub content_end : Content → steps.Step
+content_end content.Text = steps.text_end
+content_end content.Binary = steps.binary_end
