@@ -16,7 +16,7 @@ use Rattle.sval_json.specs.Number.{normal}
 use Rattle.sval_json.specs.declared.style.Variants.TheVariants.{Inside}
 use Rattle.sval_json.specs.Shape as json_shape
 use Rattle.sval_json.specs.Shape.{handle, own, wrap_in, wrap, is_wrapped, is_identifier, field_key, tagged_json, tagged_key, bare_text, key, byte_items, items, pairs, json_of}
-use Rattle.sval_json.specs.Grammar.{is_number_byte}
+use Rattle.sval_json.specs.Digits.{is_number_byte}
 use Rattle.sval_json.specs.Promises.{KeepsLabelPromise}
 use Rattle.sval_json.proofs.NumberGrammar.{number_bytes}
 use Rattle.sval_json.proofs.EscapedPieces.{escaped-plain}

@@ -10,9 +10,9 @@ use Rattle.std.proofs.lemmas.Bool.{and_parts}
 use Rattle.std.proofs.lemmas.Bool.Decides.{nat_tests}
 use Rattle.std.proofs.lemmas.List.Folds.{list_all-append}
 use Rattle.sval_label.specs.Texts.{is_empty, is_decimal}
-use Rattle.sval_json.specs.Digits.{is_sign, is_exponent_mark, front, after_front, digits_of, after_digits, has_digit, without_sign, is_exponent, is_tail, without_minus, is_json_number}
+use Rattle.sval_json.specs.Digits.{is_sign, is_exponent_mark, front, after_front, digits_of, after_digits, has_digit, without_sign, is_exponent, is_tail, without_minus, is_json_number, is_number_byte, starts_number}
 use Rattle.sval_json.specs.Grammar as grammar
-use Rattle.sval_json.specs.Grammar.{Number, IsInt, nonzero, IsFrac, no_frac, frac, IsExp, no_exp, exp, signed_exp, IsNumber, unsigned, signed, is_number_byte, starts_number, IsValue, number}
+use Rattle.sval_json.specs.Grammar.{Number, IsInt, nonzero, IsFrac, no_frac, frac, IsExp, no_exp, exp, signed_exp, IsNumber, unsigned, signed, IsValue, number, is_space, after_space}
 use Rattle.sval_json.specs.Laws.{IsLongestRun}
 
 -- ---- the front that passes a test
@@ -313,7 +313,14 @@ number_run {bytes} {text} {rest} e n r =
 pub run_tested : {bytes text : List ℕ} (rest : List ℕ) → bytes ≡ text ++ rest → IsNumber text → starts_number rest ≡ false → is_json_number (front is_number_byte bytes) ≡ true
 run_tested rest e n r = let run = number_run e n r in ap is_json_number run.run ∙ run.tested
 
-pub run_ends : (bytes : List ℕ) → starts_number (after_front is_number_byte bytes) ≡ false
+-- the longest run, where it passes the test, is a value
+abbrev pub run_value : {bytes : List ℕ} → IsTrue (is_json_number (front is_number_byte bytes)) → IsValue bytes (Number (front is_number_byte bytes)) (after_front is_number_byte bytes)
+run_value {bytes} h = number (sym (front_and_rest is_number_byte bytes)) (tested_number (front is_number_byte bytes) h)
+
+pub numbers_are_runs : (bytes text rest : List ℕ) → IsValue bytes (Number text) rest × (starts_number rest ≡ false) → IsLongestRun bytes text rest
+numbers_are_runs bytes text rest (number e n, r) = number_run e n r
+
+run_ends : (bytes : List ℕ) → starts_number (after_front is_number_byte bytes) ≡ false
 run_ends [] = refl
 run_ends (byte ∷ bytes) = go (is_number_byte byte) refl (run_ends bytes)
   where
@@ -321,14 +328,45 @@ run_ends (byte ∷ bytes) = go (is_number_byte byte) refl (run_ends bytes)
     go true e h = h
     go false e h = e
 
--- the longest run, where it passes the test, is a value
-abbrev pub run_value : {bytes : List ℕ} → IsTrue (is_json_number (front is_number_byte bytes)) → IsValue bytes (Number (front is_number_byte bytes)) (after_front is_number_byte bytes)
-run_value {bytes} h = number (sym (front_and_rest is_number_byte bytes)) (tested_number (front is_number_byte bytes) h) (run_ends bytes)
-
-pub numbers_are_runs : (bytes text rest : List ℕ) → IsValue bytes (Number text) rest → IsLongestRun bytes text rest
-numbers_are_runs bytes text rest (number e n r) = number_run e n r
-
-pub runs_are_numbers : (bytes text rest : List ℕ) → IsLongestRun bytes text rest → IsValue bytes (Number text) rest
+pub runs_are_numbers : (bytes text rest : List ℕ) → IsLongestRun bytes text rest → IsValue bytes (Number text) rest × (starts_number rest ≡ false)
 runs_are_numbers bytes text rest run =
     let h : is_json_number (front is_number_byte bytes) ≡ true = ap is_json_number run.run ∙ run.tested in
-    subst (λ x. IsValue bytes (Number x) rest) run.run (subst (λ x. IsValue bytes (Number (front is_number_byte bytes)) x) run.after (run_value h))
+    (subst (λ x. IsValue bytes (Number x) rest) run.run (subst (λ x. IsValue bytes (Number (front is_number_byte bytes)) x) run.after (run_value h)), ap starts_number (sym run.after) ∙ run_ends bytes)
+
+-- ---- what a number begins with, and what follows a value
+
+-- a minus or a digit
+abbrev pub starts_as_number : List ℕ → Bool
+starts_as_number [] = false
+starts_as_number (byte ∷ _) = (byte == 45) || is_ascii_digit byte
+
+number_starts : {text : List ℕ} (rest : List ℕ) → IsNumber text → starts_as_number (text ++ rest) ≡ true
+number_starts rest (unsigned grammar.zero f x) = refl
+number_starts rest (unsigned (nonzero {first = first} r a) f x) = or_true (first == 45) (is_ascii_digit first) (range_digit first r)
+number_starts rest (signed i f x) = refl
+
+pub number_first : {bytes text : List ℕ} (rest : List ℕ) → bytes ≡ text ++ rest → IsNumber text → starts_as_number bytes ≡ true
+number_first rest e n = ap starts_as_number e ∙ number_starts rest n
+
+space_apart : (byte : ℕ) → is_space byte ≡ true → is_number_byte byte ≡ false
+space_apart byte h = grind (arith, nat_tests)
+
+-- no number goes on with it
+pub record EndsNumber (rest : List ℕ) : Type 0 where
+  pub ends : starts_number rest ≡ false
+
+pub mark_follows : {after rest : List ℕ} {byte : ℕ} → after_space after ≡ byte ∷ rest → is_number_byte byte ≡ false → EndsNumber after
+mark_follows {after = []} e h = record { ends = refl }
+mark_follows {after = first ∷ after} {rest} {byte} e h = record { ends = go (is_space first) refl e }
+  where
+    go : (b : Bool) → is_space first ≡ b → cond b (after_space after) (first ∷ after) ≡ byte ∷ rest → is_number_byte first ≡ false
+    go true s f = space_apart first s
+    go false s f = let same : first ≡ byte = cc in ap is_number_byte same ∙ h
+
+pub end_follows : {after : List ℕ} → after_space after ≡ [] → EndsNumber after
+end_follows {after = []} e = record { ends = refl }
+end_follows {after = first ∷ after} e = record { ends = go (is_space first) refl e }
+  where
+    go : (b : Bool) → is_space first ≡ b → cond b (after_space after) (first ∷ after) ≡ [] → is_number_byte first ≡ false
+    go true s f = space_apart first s
+    go false s f = cc f

@@ -6,7 +6,8 @@ use Rattle.std.proofs.Common.{sym, ap, subst, arith, inl, inr}
 use Rattle.std.proofs.lemmas.Bool.{cases_lt, and_parts}
 use Rattle.std.proofs.lemmas.Bool.Decides.{nat_tests}
 use Rattle.std.proofs.lemmas.Str.{IsCharBoundary-start, IsCharBoundary-after_ascii}
-use Rattle.sval_json.specs.Grammar.{is_space, is_number_byte, escaped_byte}
+use Rattle.sval_json.specs.Digits.{is_number_byte}
+use Rattle.sval_json.specs.Grammar.{is_space, escaped_byte}
 use Rattle.sval_json_read.specs.Numbers.{Phase, first_phase, may_end}
 use Rattle.sval_json_read.specs.Strings.{Within, Plain, Backslash, Unit, UnitD, ThreeLeft, TwoLeft, OneLeft, HighTwoLeft, HighOneLeft, High, LowBackslash, LowUnit, LowD, LowTwoLeft, LowOneLeft, next_within}
 use Rattle.sval_json_read.specs.Reader.{Opened, Array, Object, Expected, AValue, FirstItem, FirstKey, NextKey, Colon, Next, Letter, InNumber, InString, State, begins, goes_on, follows, number_ends, step_in, step, taken_from}

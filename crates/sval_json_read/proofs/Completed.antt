@@ -3,9 +3,9 @@ use Rattle.std.specs.Prelude.{◌≡◌, ℕ, Bool, true, false, cond, ◌&&◌,
 use Rattle.std.specs.List.{list_all}
 use Rattle.std.proofs.Common.{ap, ◌∙◌}
 use Rattle.std.proofs.lemmas.Bool.{and_parts, and_from}
-use Rattle.sval_json.specs.Digits.{front, after_front}
+use Rattle.sval_json.specs.Digits.{front, after_front, is_number_byte}
 use Rattle.sval_json.specs.Grammar as json
-use Rattle.sval_json.specs.Grammar.{is_space, is_number_byte, close}
+use Rattle.sval_json.specs.Grammar.{is_space, close}
 use Rattle.sval_json_read.specs.Tokens.{Placed, Token}
 use Rattle.sval_json_read.specs.Tokens as token
 use Rattle.sval_json_read.specs.Numbers.{Phase, Minus, Zero, Whole, Point, Fraction, Mark, Sign, Power, first_phase, next_phase, may_end}

@@ -6,7 +6,7 @@ use Rattle.std.proofs.lemmas.Bool.{and_parts}
 use Rattle.std.proofs.lemmas.Bool.Decides.{nat_tests}
 use Rattle.std.proofs.lemmas.Str.{IsUtf8-encode}
 use Rattle.sval_json.specs.Grammar as json
-use Rattle.sval_json.specs.Grammar.{JsonValue, Values, Members, is_number_byte, is_unescaped, escaped_byte, code_unit, is_high_surrogate, is_low_surrogate, is_surrogate, pair_of, IsString, IsValue, AreValues, AreMembers, last_value, more_values, last_member, more_members}
+use Rattle.sval_json.specs.Grammar.{JsonValue, Values, Members, is_unescaped, escaped_byte, code_unit, is_high_surrogate, is_low_surrogate, is_surrogate, pair_of, IsString, IsValue, AreValues, AreMembers, last_value, more_values, last_member, more_members}
 use Rattle.sval_json.proofs.NumberGrammar.{number_tested}
 use Rattle.sval_json_read.specs.Tokens as token
 use Rattle.sval_json_read.specs.Tokens.{Place, Alone, Item, Value, Token, Placed, at, between_quotes, tokens_of, item_tokens, pair_tokens}
@@ -34,7 +34,7 @@ mutual
   value_tokens place json.null = (tt, tt)
   value_tokens place json.truth = (tt, tt)
   value_tokens place json.falsehood = (tt, tt)
-  value_tokens place (json.number e n r) = (number_tested n, tt)
+  value_tokens place (json.number e n) = (number_tested n, tt)
   value_tokens place (json.string s) = (between-raw s, tt)
   value_tokens place (json.empty_array e) = (tt, (tt, tt))
   value_tokens place (json.array vs) = (tt, all_append (item_tokens vs) (at place token.EndArray ∷ []) (items_tokens vs) (tt, tt))

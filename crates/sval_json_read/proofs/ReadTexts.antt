@@ -1,9 +1,11 @@
 -- The machine reads each text that denotes a value, and gives its tokens.
-use Rattle.std.specs.Prelude.{◌≡◌, ℕ, Bool, true, false, cond, List, [], ◌∷◌, ◌++◌, Option, Some, None, option_and_then, option_map, refl}
-use Rattle.std.proofs.Common.{sym, ap, ◌∙◌, append_assoc}
-use Rattle.sval_json.specs.Digits.{front, after_front, is_json_number}
-use Rattle.sval_json.specs.Grammar.{JsonValue, Values, Members, after_space, is_number_byte, IsValue, null, truth, falsehood, number, string, empty_array, array, empty_object, object, AreValues, last_value, more_values, AreMembers, last_member, more_members, Denotes}
-use Rattle.sval_json.proofs.NumberGrammar.{number_run, run_tested}
+use Rattle.std.specs.Prelude.{◌≡◌, ℕ, Bool, true, false, cond, List, [], ◌∷◌, ◌++◌, Option, Some, None, option_and_then, option_map, refl, ◌==◌, ◌||◌}
+use Rattle.std.specs.Char.{is_ascii_digit}
+use Rattle.std.proofs.Common.{sym, ap, ◌∙◌, append_assoc, arith}
+use Rattle.std.proofs.lemmas.Bool.Decides.{nat_tests}
+use Rattle.sval_json.specs.Digits.{front, after_front, is_json_number, is_number_byte}
+use Rattle.sval_json.specs.Grammar.{JsonValue, Values, Members, after_space, IsValue, null, truth, falsehood, number, string, empty_array, array, empty_object, object, AreValues, last_value, more_values, AreMembers, last_member, more_members, Denotes}
+use Rattle.sval_json.proofs.NumberGrammar.{number_run, run_tested, starts_as_number, number_first, mark_follows, end_follows, EndsNumber}
 use Rattle.sval_json_read.specs.Tokens as token
 use Rattle.sval_json_read.specs.Tokens.{Place, Alone, Item, Key, Value, Placed, at, between_quotes, tokens_of, item_tokens, pair_tokens}
 use Rattle.sval_json_read.specs.Numbers.{Phase, first_phase}
@@ -35,22 +37,20 @@ number_read opened tokens (byte ∷ bytes) h = go (is_number_byte byte) refl h
     go false e k = cc k
 
 -- where a value begins, the first item is read as any
-first_number : (opened : List Opened) (tokens : List Placed) (bytes : List ℕ) → is_json_number (front is_number_byte bytes) ≡ true
+digit_or_minus : (byte : ℕ) → ((byte == 45) || is_ascii_digit byte) ≡ true → is_number_byte byte ≡ true
+digit_or_minus byte h = grind (arith, nat_tests)
+
+first_number : (opened : List Opened) (tokens : List Placed) (bytes : List ℕ) → starts_as_number bytes ≡ true
     → read_from (at_state FirstItem opened tokens) bytes ≡ read_from (at_state AValue opened tokens) bytes
 first_number opened tokens [] h = refl
-first_number opened tokens (byte ∷ bytes) h = go (is_number_byte byte) refl h
-  where
-    go : (b : Bool) → is_number_byte byte ≡ b → is_json_number (cond b (byte ∷ front is_number_byte bytes) []) ≡ true
-        → read_from (at_state FirstItem opened tokens) (byte ∷ bytes) ≡ read_from (at_state AValue opened tokens) (byte ∷ bytes)
-    go true e k = ap (option_and_then (λ next. read_from next bytes)) (first_item_number opened tokens byte e)
-    go false e k = cc k
+first_number opened tokens (byte ∷ bytes) h = ap (option_and_then (λ next. read_from next bytes)) (first_item_number opened tokens byte (digit_or_minus byte h))
 
 first_is_any : {bytes rest : List ℕ} {value : JsonValue} (opened : List Opened) (tokens : List Placed) → IsValue bytes value rest
     → read_from (at_state FirstItem opened tokens) bytes ≡ read_from (at_state AValue opened tokens) bytes
 first_is_any opened tokens null = refl
 first_is_any opened tokens truth = refl
 first_is_any opened tokens falsehood = refl
-first_is_any opened tokens (number {bytes = bytes} e n r) = first_number opened tokens bytes (run_tested _ e n r)
+first_is_any opened tokens (number {bytes = bytes} e n) = first_number opened tokens bytes (number_first _ e n)
 first_is_any opened tokens (string s) = refl
 first_is_any opened tokens (empty_array e) = refl
 first_is_any opened tokens (array v) = refl
@@ -97,31 +97,31 @@ pair_and_more tokens value more k e = ap (λ x. x ++ (e ∷ [])) (append_assoc (
 -- ---- values
 
 mutual
-  pub value-run : {bytes rest : List ℕ} {value : JsonValue} (v : IsValue bytes value rest) (opened : List Opened) (tokens : List Placed)
+  pub value-run : {bytes rest : List ℕ} {value : JsonValue} (v : IsValue bytes value rest) → EndsNumber rest → (opened : List Opened) (tokens : List Placed)
       → read_from (at_state AValue opened tokens) bytes ≡ read_from (at_state Next opened (tokens ++ tokens_of (place_in opened) v)) rest
-  value-run null opened tokens = refl
-  value-run truth opened tokens = refl
-  value-run falsehood opened tokens = refl
-  value-run (number {bytes = bytes} {text = text} {rest = rest} e n r) opened tokens =
-      let run = number_run e n r in
-      number_read opened tokens bytes (run_tested _ e n r)
+  value-run null r opened tokens = refl
+  value-run truth r opened tokens = refl
+  value-run falsehood r opened tokens = refl
+  value-run (number {bytes = bytes} {text = text} {rest = rest} e n) r opened tokens =
+      let run = number_run e n r.ends in
+      number_read opened tokens bytes (run_tested _ e n r.ends)
       ∙ ap (λ x. read_from (at_state Next opened (tokens ++ (at (place_in opened) (token.Number x) ∷ []))) (after_front is_number_byte bytes)) run.run
       ∙ ap (λ x. read_from (at_state Next opened (tokens ++ (at (place_in opened) (token.Number text) ∷ []))) x) run.after
-  value-run (string s) opened tokens = string-run false opened tokens [] s
-  value-run (empty_array {bytes = bytes} {rest = rest} e) opened tokens =
+  value-run (string s) r opened tokens = string-run false opened tokens [] s
+  value-run (empty_array {bytes = bytes} {rest = rest} e) r opened tokens =
       skip_to_item (Array ∷ opened) (tokens ++ (at (place_in opened) token.BeginArray ∷ [])) bytes
       ∙ ap (read_from (at_state FirstItem (Array ∷ opened) (tokens ++ (at (place_in opened) token.BeginArray ∷ [])))) e
       ∙ same_tokens opened rest (append_assoc tokens (at (place_in opened) token.BeginArray ∷ []) (at (place_in opened) token.EndArray ∷ []))
-  value-run (array {bytes = bytes} {rest = rest} vs) opened tokens =
+  value-run (array {bytes = bytes} {rest = rest} vs) r opened tokens =
       skip_to_item (Array ∷ opened) (tokens ++ (at (place_in opened) token.BeginArray ∷ [])) bytes
       ∙ first_of_row (Array ∷ opened) (tokens ++ (at (place_in opened) token.BeginArray ∷ [])) vs
       ∙ items-run vs opened (tokens ++ (at (place_in opened) token.BeginArray ∷ []))
       ∙ same_tokens opened rest (begun_and_ended tokens (item_tokens vs) (at (place_in opened) token.BeginArray) (at (place_in opened) token.EndArray))
-  value-run (empty_object {bytes = bytes} {rest = rest} e) opened tokens =
+  value-run (empty_object {bytes = bytes} {rest = rest} e) r opened tokens =
       skip_to_key (Object ∷ opened) (tokens ++ (at (place_in opened) token.BeginObject ∷ [])) bytes
       ∙ ap (read_from (at_state FirstKey (Object ∷ opened) (tokens ++ (at (place_in opened) token.BeginObject ∷ [])))) e
       ∙ same_tokens opened rest (append_assoc tokens (at (place_in opened) token.BeginObject ∷ []) (at (place_in opened) token.EndObject ∷ []))
-  value-run (object {bytes = bytes} {rest = rest} vs) opened tokens =
+  value-run (object {bytes = bytes} {rest = rest} vs) r opened tokens =
       skip_to_key (Object ∷ opened) (tokens ++ (at (place_in opened) token.BeginObject ∷ [])) bytes
       ∙ first_of_pairs (Object ∷ opened) (tokens ++ (at (place_in opened) token.BeginObject ∷ [])) vs
       ∙ pairs-run vs opened (tokens ++ (at (place_in opened) token.BeginObject ∷ []))
@@ -130,9 +130,9 @@ mutual
   items-run : {bytes rest : List ℕ} {values : Values} (v : AreValues bytes values rest) (opened : List Opened) (tokens : List Placed)
       → read_from (at_state AValue (Array ∷ opened) tokens) bytes ≡ read_from (at_state Next opened ((tokens ++ item_tokens v) ++ (at (place_in opened) token.EndArray ∷ []))) rest
   items-run (last_value {after = after} {rest = rest} v e) opened tokens =
-      value-run v (Array ∷ opened) tokens ∙ to_byte (Array ∷ opened) (tokens ++ tokens_of Item v) after 93 rest e
+      value-run v (mark_follows e refl) (Array ∷ opened) tokens ∙ to_byte (Array ∷ opened) (tokens ++ tokens_of Item v) after 93 rest e
   items-run (more_values {after = after} {next = next} {rest = rest} v e vs) opened tokens =
-      value-run v (Array ∷ opened) tokens ∙ to_byte (Array ∷ opened) (tokens ++ tokens_of Item v) after 44 next e
+      value-run v (mark_follows e refl) (Array ∷ opened) tokens ∙ to_byte (Array ∷ opened) (tokens ++ tokens_of Item v) after 44 next e
       ∙ skip_to_value (Array ∷ opened) (tokens ++ tokens_of Item v) next ∙ items-run vs opened (tokens ++ tokens_of Item v)
       ∙ same_tokens opened rest (one_and_more tokens (tokens_of Item v) (item_tokens vs) (at (place_in opened) token.EndArray))
 
@@ -141,13 +141,13 @@ mutual
   pairs-run (last_member {colon = colon} {next = next} {after = after} {rest = rest} k c v e) opened tokens =
       string-run true (Object ∷ opened) tokens [] k
       ∙ to_value (Object ∷ opened) (tokens ++ (at Key (token.Text (between_quotes k)) ∷ [])) colon next c
-      ∙ value-run v (Object ∷ opened) (tokens ++ (at Key (token.Text (between_quotes k)) ∷ []))
+      ∙ value-run v (mark_follows e refl) (Object ∷ opened) (tokens ++ (at Key (token.Text (between_quotes k)) ∷ []))
       ∙ to_byte (Object ∷ opened) ((tokens ++ (at Key (token.Text (between_quotes k)) ∷ [])) ++ tokens_of Value v) after 125 rest e
       ∙ same_tokens opened rest (key_and_value tokens (tokens_of Value v) (at Key (token.Text (between_quotes k))) (at (place_in opened) token.EndObject))
   pairs-run (more_members {colon = colon} {next = next} {after = after} {more = more} {rest = rest} k c v e vs) opened tokens =
       string-run true (Object ∷ opened) tokens [] k
       ∙ to_value (Object ∷ opened) (tokens ++ (at Key (token.Text (between_quotes k)) ∷ [])) colon next c
-      ∙ value-run v (Object ∷ opened) (tokens ++ (at Key (token.Text (between_quotes k)) ∷ []))
+      ∙ value-run v (mark_follows e refl) (Object ∷ opened) (tokens ++ (at Key (token.Text (between_quotes k)) ∷ []))
       ∙ to_byte (Object ∷ opened) ((tokens ++ (at Key (token.Text (between_quotes k)) ∷ [])) ++ tokens_of Value v) after 44 more e
       ∙ skip_to_next_key (Object ∷ opened) ((tokens ++ (at Key (token.Text (between_quotes k)) ∷ [])) ++ tokens_of Value v) more
       ∙ pairs-run vs opened ((tokens ++ (at Key (token.Text (between_quotes k)) ∷ [])) ++ tokens_of Value v)
@@ -156,5 +156,5 @@ mutual
 -- the tokens of a text that denotes a value
 pub denoted-read : {bytes : List ℕ} {value : JsonValue} (d : Denotes bytes value) → read bytes ≡ Some (tokens_of Alone d.is_value)
 denoted-read {bytes} d =
-    sym (read_from-after bytes start) ∙ skip_to_value [] [] bytes ∙ value-run d.is_value [] []
+    sym (read_from-after bytes start) ∙ skip_to_value [] [] bytes ∙ value-run d.is_value (end_follows d.at_end) [] []
     ∙ skip_to_next [] (tokens_of Alone d.is_value) d.rest ∙ ap (read_from (at_state Next [] (tokens_of Alone d.is_value))) d.at_end

@@ -2,8 +2,8 @@
 use Rattle.std.specs.Prelude.{◌≡◌, ℕ, Bool, true, false, cond, ◌==◌, List, [], ◌∷◌, ◌++◌, Option, Some, None, option_and_then, option_map, refl}
 use Rattle.std.proofs.Common.{sym, ap, ◌∙◌, arith, append_assoc, append-nil}
 use Rattle.std.proofs.lemmas.Bool.Decides.{nat_tests}
-use Rattle.sval_json.specs.Digits.{front, after_front}
-use Rattle.sval_json.specs.Grammar.{after_space, is_space, is_number_byte}
+use Rattle.sval_json.specs.Digits.{front, after_front, is_number_byte}
+use Rattle.sval_json.specs.Grammar.{after_space, is_space}
 use Rattle.sval_json_read.specs.Tokens as token
 use Rattle.sval_json_read.specs.Tokens.{Placed, at, between_quotes}
 use Rattle.sval_json_read.specs.Numbers.{Phase, first_phase, next_phase, may_end}

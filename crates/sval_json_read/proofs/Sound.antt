@@ -3,9 +3,9 @@ use Rattle.std.specs.Prelude.{◌≡◌, ℕ, Bool, true, false, cond, ◌==◌,
 use Rattle.std.specs.Char.{is_ascii_digit}
 use Rattle.std.proofs.Common.{sym, ap, subst, ◌∙◌, arith}
 use Rattle.std.proofs.lemmas.Bool.Decides.{nat_tests}
-use Rattle.sval_json.specs.Digits.{minus, zero_digit, front, after_front, is_json_number}
+use Rattle.sval_json.specs.Digits.{minus, zero_digit, front, after_front, is_json_number, is_number_byte}
 use Rattle.sval_json.specs.Grammar as json
-use Rattle.sval_json.specs.Grammar.{JsonValue, after_space, is_space, is_number_byte, IsValue, Denotes}
+use Rattle.sval_json.specs.Grammar.{JsonValue, after_space, is_space, IsValue, Denotes}
 use Rattle.sval_json.proofs.NumberGrammar.{run_value}
 use Rattle.sval_json_read.specs.Tokens.{Token, Placed, at, Alone}
 use Rattle.sval_json_read.specs.Tokens as token

@@ -6,7 +6,7 @@ use Rattle.sval_label.specs.Calls.{Call, Slot, Head, I64}
 use Rattle.sval_core.specs.Trees.{Tree, Text, Parts, none, part as in_row, IsGood, AreGood, AreInOrder, Kind}
 use Rattle.sval_core.specs.Spells.{Says, SayParts, Spells, plain}
 use Rattle.sval_json.specs.Grammar as json
-use Rattle.sval_json.specs.Grammar.{JsonValue, Values, no_values, a_value, Members, no_members, a_member, is_number_byte, IsString, IsValue, null, truth, falsehood, number, string, empty_array, array, empty_object, object, AreValues, last_value, more_values, AreMembers, last_member, more_members, Denotes}
+use Rattle.sval_json.specs.Grammar.{JsonValue, Values, no_values, a_value, Members, no_members, a_member, IsString, IsValue, null, truth, falsehood, number, string, empty_array, array, empty_object, object, AreValues, last_value, more_values, AreMembers, last_member, more_members, Denotes}
 use Rattle.sval_json_read.specs.Trees.{fits_i64, whole_value, number_name, number_tree, tree_of, items_of, entries_of}
 use Rattle.sval_json_read.specs.Tokens as token
 use Rattle.sval_json_read.specs.Tokens.{Place, Alone, Item, Key, Value, Token, Placed, at, between_quotes, tokens_of, item_tokens, pair_tokens}
@@ -160,7 +160,7 @@ mutual
   value_says place null more = leaf place Tree.Null (Call.Null ∷ []) more refl
   value_says place truth more = leaf place (Tree.Truth true) (Call.Truth true ∷ []) more refl
   value_says place falsehood more = leaf place (Tree.Truth false) (Call.Truth false ∷ []) more refl
-  value_says place (number {text = text} e n r) more = leaf place (number_tree text) (number_calls text) more (number_says text (place_ends place ++ more))
+  value_says place (number {text = text} e n) more = leaf place (number_tree text) (number_calls text) more (number_says text (place_ends place ++ more))
   value_says place (string {text = text} s) more = leaf place (Text text) (text_calls (between_quotes s)) more (text_says s (place_ends place ++ more))
   value_says place (empty_array e) more = array_says place no_values [] more (λ rest. refl)
   value_says place (array {values = row} vs) more = array_says place row (item_tokens vs) more (λ rest. items_say vs rest)

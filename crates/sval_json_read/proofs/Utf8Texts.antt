@@ -6,11 +6,11 @@ use Rattle.std.proofs.lemmas.Bool.{cases_lt}
 use Rattle.std.proofs.lemmas.Bool.Decides.{nat_tests}
 use Rattle.std.proofs.lemmas.Str.{IsUtf8-append, IsUtf8-take, IsUtf8-drop, IsUtf8-encode, IsUtf8-past_char, IsCharBoundary-before_ascii, IsCharBoundary-from_take, encode_ascii}
 use Rattle.std.proofs.lemmas.List.{get_or-append-add}
-use Rattle.sval_json.specs.Digits.{after_front, is_json_number}
+use Rattle.sval_json.specs.Digits.{is_json_number}
 use Rattle.sval_json.specs.Grammar as json
-use Rattle.sval_json.specs.Grammar.{JsonValue, Values, no_values, a_value, Members, no_members, a_member, after_space, is_space, is_number_byte, is_unescaped, escaped_byte, code_unit, is_high_surrogate, is_low_surrogate, is_surrogate, pair_of, IsString, close, unescaped, escape, unit, pair, IsValue, null, truth, falsehood, number, string, empty_array, array, empty_object, object, AreValues, last_value, more_values, AreMembers, last_member, more_members, Denotes}
-use Rattle.sval_json.proofs.NumberGrammar.{number_tested, number_run}
-use Rattle.sval_json.proofs.NumberTexts.{ascii_utf8}
+use Rattle.sval_json.specs.Grammar.{JsonValue, Values, no_values, a_value, Members, no_members, a_member, after_space, is_space, is_unescaped, escaped_byte, code_unit, is_high_surrogate, is_low_surrogate, is_surrogate, pair_of, IsString, close, unescaped, escape, unit, pair, IsValue, null, truth, falsehood, number, string, empty_array, array, empty_object, object, AreValues, last_value, more_values, AreMembers, last_member, more_members, Denotes}
+use Rattle.sval_json.proofs.NumberGrammar.{number_tested}
+use Rattle.sval_json.proofs.NumberTexts.{ascii_utf8, number_utf8}
 use Rattle.sval_json_read.specs.Strings.{is_hex}
 use Rattle.sval_json_read.proofs.Boundaries.{no_value, no_escape}
 use Rattle.sval_json_read.proofs.StringSteps.{is_hex_below}
@@ -127,23 +127,12 @@ string_utf8 before (pair {a = a} {b = b} {c = c} {d = d} {e = e} {f = f} {g = g}
 space_low : (byte : ℕ) → is_space byte ≡ true → byte < 128
 space_low byte h = grind (arith, nat_tests)
 
-number_low : (byte : ℕ) → is_number_byte byte ≡ true → byte < 128
-number_low byte h = grind (arith, nat_tests)
-
 spaces_utf8 : (bytes : List ℕ) → IsUtf8 bytes → IsUtf8 (after_space bytes)
 spaces_utf8 [] u = u
 spaces_utf8 (byte ∷ bytes) u = go (is_space byte) refl (spaces_utf8 bytes)
   where
     go : (s : Bool) → is_space byte ≡ s → (IsUtf8 bytes → IsUtf8 (after_space bytes)) → IsUtf8 (cond s (after_space bytes) (byte ∷ bytes))
     go true e f = f (after_ascii byte bytes (space_low byte e) u)
-    go false e f = u
-
-number_utf8 : (bytes : List ℕ) → IsUtf8 bytes → IsUtf8 (after_front is_number_byte bytes)
-number_utf8 [] u = u
-number_utf8 (byte ∷ bytes) u = go (is_number_byte byte) refl (number_utf8 bytes)
-  where
-    go : (s : Bool) → is_number_byte byte ≡ s → (IsUtf8 bytes → IsUtf8 (after_front is_number_byte bytes)) → IsUtf8 (cond s (after_front is_number_byte bytes) (byte ∷ bytes))
-    go true e f = f (after_ascii byte bytes (number_low byte e) u)
     go false e f = u
 
 -- behind white space and one ASCII byte
@@ -175,7 +164,7 @@ mutual
   value_proper (null {rest = rest}) u = (tt, word_utf8 (codes "null") rest (ascii_utf8 (codes "null") refl) u)
   value_proper (truth {rest = rest}) u = (tt, word_utf8 (codes "true") rest (ascii_utf8 (codes "true") refl) u)
   value_proper (falsehood {rest = rest}) u = (tt, word_utf8 (codes "false") rest (ascii_utf8 (codes "false") refl) u)
-  value_proper (number {bytes = bytes} e n r) u = (number_tested n, subst IsUtf8 (number_run e n r).after (number_utf8 bytes u))
+  value_proper (number {text = text} {rest = rest} e n) u = (number_tested n, word_utf8 text rest (number_utf8 text n) (subst IsUtf8 e u))
   value_proper (string {bytes = bytes} s) u = string_utf8 [] s (after_ascii 34 bytes (omega arith) u)
   value_proper (empty_array {bytes = bytes} {rest = rest} e) u = (tt, after_mark bytes 93 rest (omega arith) e (after_ascii 91 bytes (omega arith) u))
   value_proper (array {bytes = bytes} vs) u = row_proper vs (spaces_utf8 bytes (after_ascii 91 bytes (omega arith) u))

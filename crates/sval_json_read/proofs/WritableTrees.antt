@@ -7,7 +7,7 @@ use Rattle.sval_label.specs.Calls.{I64}
 use Rattle.sval_core.specs.Trees.{Tree, Text}
 use Rattle.sval_core.specs.Real.{IsWritable, AreWritable, IsPrintable}
 use Rattle.sval_json.specs.Grammar as json
-use Rattle.sval_json.specs.Grammar.{JsonValue, Values, no_values, a_value, Members, no_members, a_member, after_space, is_space, is_number_byte, pair_of, IsString, close, unescaped, escape, unit, pair, IsValue, null, truth, falsehood, number, string, empty_array, array, empty_object, object, AreValues, last_value, more_values, AreMembers, last_member, more_members, Denotes}
+use Rattle.sval_json.specs.Grammar.{JsonValue, Values, no_values, a_value, Members, no_members, a_member, after_space, is_space, pair_of, IsString, close, unescaped, escape, unit, pair, IsValue, null, truth, falsehood, number, string, empty_array, array, empty_object, object, AreValues, last_value, more_values, AreMembers, last_member, more_members, Denotes}
 use Rattle.sval_json_read.specs.Trees.{whole_value, fits_i64, number_name, number_tree, tree_of, items_of, entries_of}
 use Rattle.sval_json_read.proofs.SettledTrees.{denoted-real}
 
@@ -56,7 +56,7 @@ mutual
   value_shorter n null l = (tt, omega arith)
   value_shorter n truth l = (tt, omega arith)
   value_shorter n falsehood l = (tt, omega arith)
-  value_shorter n (number {text = text} {rest = rest} e m r) l = let k = ap length e ∙ length-append text rest in (omega arith, omega arith)
+  value_shorter n (number {text = text} {rest = rest} e m) l = let k = ap length e ∙ length-append text rest in (omega arith, omega arith)
   value_shorter n (string s) l = let k = string_length s in (omega arith, omega arith)
   value_shorter n (empty_array {bytes = bytes} {rest = rest} e) l = let k = mark_length bytes 93 rest e in (tt, omega arith)
   value_shorter n (array {bytes = bytes} vs) l = let k = spaces_length bytes in row_shorter n vs (omega arith)

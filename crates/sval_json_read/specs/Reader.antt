@@ -1,7 +1,8 @@
 -- The machine that reads a text byte by byte, with a stack in place of recursion.
 use Rattle.std.specs.Prelude.{ℕ, zero, suc, Bool, true, false, ◌==◌, if◌then◌else◌, List, [], ◌∷◌, ◌++◌, codes, Option, Some, None, option_and_then, option_map}
 use Rattle.std.specs.Option.{option_map_or}
-use Rattle.sval_json.specs.Grammar.{is_space, is_number_byte}
+use Rattle.sval_json.specs.Digits.{is_number_byte}
+use Rattle.sval_json.specs.Grammar.{is_space}
 use Rattle.sval_json_read.specs.Tokens as token
 use Rattle.sval_json_read.specs.Tokens.{Place, Alone, Item, Key, Value, Token, Placed, at}
 use Rattle.sval_json_read.specs.Numbers.{Phase, first_phase, next_phase, may_end}

@@ -44,7 +44,7 @@ abbrev mutual
   tokens_of place json.null = at place Null ∷ []
   tokens_of place json.truth = at place (Truth true) ∷ []
   tokens_of place json.falsehood = at place (Truth false) ∷ []
-  tokens_of place (json.number {text = text} _ _ _) = at place (Number text) ∷ []
+  tokens_of place (json.number {text = text} _ _) = at place (Number text) ∷ []
   tokens_of place (json.string string) = at place (Text (between_quotes string)) ∷ []
   tokens_of place (json.empty_array _) = at place BeginArray ∷ at place EndArray ∷ []
   tokens_of place (json.array values) = at place BeginArray ∷ (item_tokens values ++ (at place EndArray ∷ []))

@@ -32,7 +32,7 @@ with_tails = (
 
 -- a number in front of a comma
 before_comma : IsValue (codes "-12.50,0") (Number (codes "-12.50")) (codes ",0")
-before_comma = number refl (signed twelve half no_exp) refl
+before_comma = number refl (signed twelve half no_exp)
 
 -- ---- refused
 
