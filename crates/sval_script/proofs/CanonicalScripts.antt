@@ -11,11 +11,10 @@ use Rattle.sval_core.specs.Real.{IsRealLabel, IsRealIndex, IsRealName, IsRealSlo
 use Rattle.sval_core.specs.Many.{SpellsAll}
 use Rattle.sval_core.proofs.Spellings.{calls_of-spells, spells_one}
 use Rattle.sval_core.proofs.ManySpellings.{one_list}
-use Rattle.sval_script.specs.Lines.{Good}
-use Rattle.sval_script.specs.AllLines.{any_lines}
+use Rattle.sval_script.specs.Lines.{Good, lines}
 use Rattle.sval_script.specs.Printed.{printed, line, IsPrintableLabel, IsPrintableIndex, IsPrintableName, IsPrintableHead, IsPrintableSlot, ArePrintable}
 use Rattle.sval_script.specs.Canon.{canon, canon_all}
-use Rattle.sval_script.proofs.PrintedLines.{any_lines-printed}
+use Rattle.sval_script.proofs.PrintedLines.{lines-printed}
 
 printable_label : (l : Label) → plain_label l ≡ l → IsRealLabel l → IsTagName l.tag → IsPrintableLabel l
 printable_label l p r t = record { utf8 = is_utf8-from_IsUtf8 l.text r; hint = t; not_static = sym (ap (λ x. x.is_static) p) }
@@ -76,15 +75,15 @@ mutual
       let s = printable_slot slot g.0 r.0 w.0 in
       (s, printable_then tree (Call.PartEnd slot ∷ part_calls_then parts rest) g.1 r.1 w.1 (s, parts_printable parts rest g.2 r.2 w.2 m))
 
-pub canon-reads_back : (t : Tree) → IsPrintable t → any_lines (canon t) ≡ Good (calls_of t)
-canon-reads_back t p = any_lines-printed (calls_of t) (printable_then t [] p.0.0 p.0.1 p.1 tt)
+pub canon-reads_back : (t : Tree) → IsPrintable t → lines (canon t) ≡ Good (calls_of t)
+canon-reads_back t p = lines-printed (calls_of t) (printable_then t [] p.0.0 p.0.1 p.1 tt)
 
 same_calls : (a b : List Call) → Good a ≡ Good b → a ≡ b
 same_calls a b e = cc e
 
 pub canon-one_tree : (t u : Tree) → IsPrintable t → IsPrintable u → canon t ≡ canon u → t ≡ u
 canon-one_tree t u p q e =
-    let same = same_calls (calls_of t) (calls_of u) (sym (canon-reads_back t p) ∙ ap any_lines e ∙ canon-reads_back u q) in
+    let same = same_calls (calls_of t) (calls_of u) (sym (canon-reads_back t p) ∙ ap lines e ∙ canon-reads_back u q) in
     spells_one (calls_of t) t u (calls_of-spells t p.0.0) (rw same (calls_of-spells u q.0.0))
 
 -- ---- lists of trees
@@ -115,10 +114,10 @@ all_calls-spell : (trees : List Tree) → AllByRecursion IsPrintable trees → S
 all_calls-spell [] p = refl
 all_calls-spell (t ∷ ts) p = (calls_of t, all_calls ts, refl, calls_of-spells t p.0.0.0, all_calls-spell ts p.1)
 
-pub canons-read_back : (trees : List Tree) → AllByRecursion IsPrintable trees → any_lines (canon_all trees) ≡ Good (all_calls trees)
-canons-read_back trees p = ap any_lines (canon_all-printed trees) ∙ any_lines-printed (all_calls trees) (all_printable trees p)
+pub canons-read_back : (trees : List Tree) → AllByRecursion IsPrintable trees → lines (canon_all trees) ≡ Good (all_calls trees)
+canons-read_back trees p = ap lines (canon_all-printed trees) ∙ lines-printed (all_calls trees) (all_printable trees p)
 
 pub canons-one_list : (trees others : List Tree) → AllByRecursion IsPrintable trees → AllByRecursion IsPrintable others → canon_all trees ≡ canon_all others → trees ≡ others
 canons-one_list trees others p q e =
-    let same = same_calls (all_calls trees) (all_calls others) (sym (canons-read_back trees p) ∙ ap any_lines e ∙ canons-read_back others q) in
+    let same = same_calls (all_calls trees) (all_calls others) (sym (canons-read_back trees p) ∙ ap lines e ∙ canons-read_back others q) in
     one_list (all_calls trees) trees others (all_calls-spell trees p) (rw same (all_calls-spell others q))

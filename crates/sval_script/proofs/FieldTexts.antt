@@ -1,21 +1,18 @@
 -- Texts of fields, as they are put into the store.
-use Rattle.std.specs.Prelude.{◌≡◌, ℕ, ◌-◌, false, List, [], ◌∷◌, ◌++◌, length, take, drop, get_or, None, refl}
+use Rattle.std.specs.Prelude.{◌≡◌, ℕ, ◌+◌, ◌-◌, false, List, [], ◌∷◌, ◌++◌, length, take, drop, get_or, None, refl}
 use Rattle.std.specs.Result.{result_ok}
 use Rattle.std.specs.Str.{IsUtf8, is_utf8}
 use Rattle.std.proofs.Common.{arith, sym, ap, ◌∙◌, subst}
 use Rattle.std.proofs.lemmas.Bool.{false_from_ne_true}
-use Rattle.std.proofs.lemmas.List.{take_all, length-drop}
+use Rattle.std.proofs.lemmas.List.{take_rest, length-append}
 use Rattle.std.proofs.lemmas.Str.{IsUtf8-from_is_utf8, is_utf8-from_IsUtf8}
 use Rattle.hex.specs.Hex.{decode_of}
 use Rattle.sval_script.specs.Lines.{bytes, text}
-use Rattle.sval_script.specs.StoredTexts.{Decodes, StoresText}
+use Rattle.sval_script.specs.FieldValues.{Decodes, StoresText, StoresBytes}
 
 drop_length : (xs ys : List ℕ) → drop (length xs) (xs ++ ys) ≡ ys
 drop_length [] ys = refl
 drop_length (x ∷ xs) ys = drop_length xs ys
-
-take_rest : (xs : List ℕ) (n : ℕ) → take (length xs - n) (drop n xs) ≡ drop n xs
-take_rest xs n = take_all (length xs - n) (drop n xs) (omega (arith, length-drop n xs))
 
 -- what stands behind `=`
 bytes_behind : (field digits : List ℕ) → get_or field 0 0 ≡ 61 → digits ≡ take (length field - 1) (drop 1 field) → bytes field ≡ result_ok (decode_of digits)
@@ -36,9 +33,9 @@ text_stored field digits old new stored part start h e d s same f u =
     let made = behind digits old new stored part start d s same f in
     let v : IsUtf8 d.bytes = subst IsUtf8 made u in
     record {
-      text = d.bytes;
+      bytes = d.bytes;
       spells = rw (bytes_behind field digits h e, d.spells, is_utf8-from_IsUtf8 d.bytes v) refl;
-      is_text = v;
+      is_good = v;
       stored = d.stored;
       has_len = ap length (sym made);
     }
@@ -49,3 +46,16 @@ text_refused field digits old new stored part start h e d s same f u =
     let made = behind digits old new stored part start d s same f in
     let v : is_utf8 d.bytes ≡ false = false_from_ne_true (is_utf8 d.bytes) (λ t. u (subst IsUtf8 (sym made) (IsUtf8-from_is_utf8 d.bytes t))) in
     rw (bytes_behind field digits h e, d.spells, v) refl
+
+pub bytes_stored : (field digits old new : List ℕ) (start len : ℕ) → get_or field 0 0 ≡ 61 → digits ≡ take (length field - 1) (drop 1 field)
+    → Decodes digits old new → start ≡ length old → len ≡ length new - start → StoresBytes field old new len
+bytes_stored field digits old new start len h e d s l = record {
+  bytes = d.bytes;
+  spells = rw (bytes_behind field digits h e, d.spells) refl;
+  is_good = tt;
+  stored = d.stored;
+  has_len = let whole : length new ≡ length old + length d.bytes = ap length d.stored ∙ length-append old d.bytes in omega arith;
+}
+
+pub bytes_refused : (field digits : List ℕ) → get_or field 0 0 ≡ 61 → digits ≡ take (length field - 1) (drop 1 field) → result_ok (decode_of digits) ≡ None → bytes field ≡ None
+bytes_refused field digits h e none = bytes_behind field digits h e ∙ none

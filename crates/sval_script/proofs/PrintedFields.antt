@@ -22,8 +22,7 @@ use Rattle.sval_label.specs.Tags.{tag_names, is_tag_name}
 use Rattle.sval_label.specs.Ranges.{is_index}
 use Rattle.sval_label.proofs.Decimals.{IsPlain, decimal_plain, is_decimal-plain, IsShort, short_index}
 use Rattle.sval_script.specs.Printed.{IsPrintableLabel, IsPrintableIndex, or_dash_field, size_field, hex_field, tag_field, hint_text, label_field, index_field}
-use Rattle.sval_script.specs.Lines.{keep, natural, negative, integer, or_dash, size, bytes, text, cut_at}
-use Rattle.sval_script.specs.AllLines.{tag, tagged_parts, label, index}
+use Rattle.sval_script.specs.Lines.{keep, natural, negative, integer, or_dash, size, bytes, text, cut_at, tag, tagged_parts, label, index}
 use Rattle.sval_script.proofs.Cut.{not_true, is_not, cut_none, cut_first}
 
 -- ---- decimals

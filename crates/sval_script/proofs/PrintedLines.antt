@@ -17,7 +17,7 @@ use Rattle.sval_label.specs.Ranges.{is_of_type}
 use Rattle.sval_label.proofs.Decimals.{short_of_type}
 use Rattle.sval_script.specs.Printed.{IsShortSize, IsPrintableLabel, IsPrintableIndex, IsPrintableName, IsPrintableCall, ArePrintable, or_dash_field, size_field, hex_field, tag_field, label_field, index_field, name_fields, type_word, words_of, line, printed}
 use Rattle.sval_script.specs.Lines.{keep, integer, or_dash, size, bytes, text, LineForm, complete, field, whole_number, find_form, call_among, cut_at, Good, lines_from}
-use Rattle.sval_script.specs.AllLines.{tag, label, index, name, record_part, tuple_part, record_tuple_part, all_forms, any_line_of, any_lines}
+use Rattle.sval_script.specs.Lines.{tag, label, index, name, record_part, tuple_part, record_tuple_part, forms, line_of, lines}
 use Rattle.sval_script.proofs.Cut.{is_not, cut_first, cut-some, lines-first}
 use Rattle.sval_script.proofs.PrintedFields.{integer-signed, clean-signed, all_weaker, cut_joined, clean_inner, inner_space, inner_feed, ReadsField, size-reads, bytes-reads, text-reads, tag-reads, or_dash_tag-reads, label-reads, index-reads, or_dash_label-reads, or_dash_index-reads, is_clean, is_inner}
 
@@ -45,7 +45,7 @@ name_inner n fields h k =
 
 -- the words spell the call, and have neither a space nor a line feed
 pub record Spell (words : List (List ℕ)) (call : Call) : Type 0 where
-  as_call : call_among all_forms words ≡ Some call
+  as_call : call_among forms words ≡ Some call
   inner : are_inner words ≡ true
 
 -- a word with one field, and one with a name
@@ -53,21 +53,21 @@ abbrev one_field : List ℕ → List (List ℕ)
 one_field part = part ∷ []
 
 sized-spell : (word : List ℕ) (make : Option ℕ → Call) (n : Option ℕ) → IsShortSize n → list_all is_inner word ≡ true
-    → find_form word all_forms ≡ Some (field size (λ k. complete (make k))) → Spell (word ∷ size_field n ∷ []) (make n)
+    → find_form word forms ≡ Some (field size (λ k. complete (make k))) → Spell (word ∷ size_field n ∷ []) (make n)
 sized-spell word make n h w e = record {
   as_call = ap (option_and_then (λ form. form (size_field n ∷ []))) e ∙ field-reads size (λ k. complete (make k)) (size_field n) n [] (size-reads n h);
   inner = rw (w, (size-reads n h).inner) refl;
 }
 
 named-spell : (word : List ℕ) (make : Name → Call) (n : Name) → IsPrintableName n → list_all is_inner word ≡ true
-    → find_form word all_forms ≡ Some (name (λ m. complete (make m))) → Spell (word ∷ name_fields n) (make n)
+    → find_form word forms ≡ Some (name (λ m. complete (make m))) → Spell (word ∷ name_fields n) (make n)
 named-spell word make n h w e = record {
   as_call = ap (option_and_then (λ form. form (name_fields n))) e ∙ name-reads (λ m. complete (make m)) n [] h;
   inner = rw (w, name_inner n [] h refl) refl;
 }
 
 head-spell : (word : List ℕ) (make : Name → Head) (n : Name) (s : Option ℕ) → IsPrintableName n → IsShortSize s → list_all is_inner word ≡ true
-    → find_form word all_forms ≡ Some (name (λ m. field size (λ k. complete (Begin (make m) k)))) → Spell (word ∷ (name_fields n ++ (size_field s ∷ []))) (Begin (make n) s)
+    → find_form word forms ≡ Some (name (λ m. field size (λ k. complete (Begin (make m) k)))) → Spell (word ∷ (name_fields n ++ (size_field s ∷ []))) (Begin (make n) s)
 head-spell word make n s h k w e = record {
   as_call = ap (option_and_then (λ form. form (name_fields n ++ (size_field s ∷ [])))) e
       ∙ name-reads (λ m. field size (λ j. complete (Begin (make m) j))) n (size_field s ∷ []) h
@@ -76,21 +76,21 @@ head-spell word make n s h k w e = record {
 }
 
 text-spell : (word : List ℕ) (make : List ℕ → Call) (xs : List ℕ) → is_utf8 xs ≡ true → list_all is_inner word ≡ true
-    → find_form word all_forms ≡ Some (field text (λ t. complete (make t))) → Spell (word ∷ hex_field xs ∷ []) (make xs)
+    → find_form word forms ≡ Some (field text (λ t. complete (make t))) → Spell (word ∷ hex_field xs ∷ []) (make xs)
 text-spell word make xs u w e = record {
   as_call = ap (option_and_then (λ form. form (hex_field xs ∷ []))) e ∙ field-reads text (λ t. complete (make t)) (hex_field xs) xs [] (text-reads xs u);
   inner = rw (w, (text-reads xs u).inner) refl;
 }
 
 bytes-spell : (word : List ℕ) (make : List ℕ → Call) (xs : List ℕ) → IsBytes xs → list_all is_inner word ≡ true
-    → find_form word all_forms ≡ Some (field bytes (λ t. complete (make t))) → Spell (word ∷ hex_field xs ∷ []) (make xs)
+    → find_form word forms ≡ Some (field bytes (λ t. complete (make t))) → Spell (word ∷ hex_field xs ∷ []) (make xs)
 bytes-spell word make xs h w e = record {
   as_call = ap (option_and_then (λ form. form (hex_field xs ∷ []))) e ∙ field-reads bytes (λ t. complete (make t)) (hex_field xs) xs [] (bytes-reads xs h);
   inner = rw (w, (bytes-reads xs h).inner) refl;
 }
 
 int-spell : (word : List ℕ) (type : IntType) (z : ℤ) → is_of_type type z ≡ true → list_all is_inner word ≡ true
-    → find_form word all_forms ≡ Some (whole_number type) → Spell (word ∷ signed_decimal z ∷ []) (Int type z)
+    → find_form word forms ≡ Some (whole_number type) → Spell (word ∷ signed_decimal z ∷ []) (Int type z)
 int-spell word type z h w e =
     let short = short_of_type type z h in
     let r : ReadsField (λ part. option_and_then (keep (is_of_type type)) (integer part)) (signed_decimal z) z = record {
@@ -103,7 +103,7 @@ int-spell word type z h w e =
     }
 
 int_spells : (type : IntType) (z : ℤ) → is_of_type type z ≡ true → Spell (type_word type ∷ signed_decimal z ∷ []) (Int type z)
-unfolding all_forms
+unfolding forms
 int_spells U8 z h = int-spell _ U8 z h refl refl
 int_spells U16 z h = int-spell _ U16 z h refl refl
 int_spells U32 z h = int-spell _ U32 z h refl refl
@@ -116,7 +116,7 @@ int_spells I64 z h = int-spell _ I64 z h refl refl
 int_spells I128 z h = int-spell _ I128 z h refl refl
 
 field-spell : (word : List ℕ) (make : Slot → Call) (t : Option Tag) (l : Label) → IsTagName t → IsPrintableLabel l → list_all is_inner word ≡ true
-    → find_form word all_forms ≡ Some (record_part make) → Spell (word ∷ tag_field t ∷ label_field l ∷ []) (make (Field t l))
+    → find_form word forms ≡ Some (record_part make) → Spell (word ∷ tag_field t ∷ label_field l ∷ []) (make (Field t l))
 field-spell word make t l h k w e = record {
   as_call = ap (option_and_then (λ form. form (tag_field t ∷ label_field l ∷ []))) e
       ∙ field-reads (or_dash tag) (λ u. field label (λ m. complete (make (Field u m)))) (tag_field t) t (label_field l ∷ []) (or_dash_tag-reads t h)
@@ -125,7 +125,7 @@ field-spell word make t l h k w e = record {
 }
 
 place-spell : (word : List ℕ) (make : Slot → Call) (t : Option Tag) (i : Index) → IsTagName t → IsPrintableIndex i → list_all is_inner word ≡ true
-    → find_form word all_forms ≡ Some (tuple_part make) → Spell (word ∷ tag_field t ∷ index_field i ∷ []) (make (Place t i))
+    → find_form word forms ≡ Some (tuple_part make) → Spell (word ∷ tag_field t ∷ index_field i ∷ []) (make (Place t i))
 place-spell word make t i h k w e = record {
   as_call = ap (option_and_then (λ form. form (tag_field t ∷ index_field i ∷ []))) e
       ∙ field-reads (or_dash tag) (λ u. field index (λ j. complete (make (Place u j)))) (tag_field t) t (index_field i ∷ []) (or_dash_tag-reads t h)
@@ -134,7 +134,7 @@ place-spell word make t i h k w e = record {
 }
 
 field_place-spell : (word : List ℕ) (make : Slot → Call) (t : Option Tag) (l : Label) (i : Index) → IsTagName t → IsPrintableLabel l → IsPrintableIndex i
-    → list_all is_inner word ≡ true → find_form word all_forms ≡ Some (record_tuple_part make)
+    → list_all is_inner word ≡ true → find_form word forms ≡ Some (record_tuple_part make)
     → Spell (word ∷ tag_field t ∷ label_field l ∷ index_field i ∷ []) (make (FieldPlace t l i))
 field_place-spell word make t l i h k j w e = record {
   as_call = ap (option_and_then (λ form. form (tag_field t ∷ label_field l ∷ index_field i ∷ []))) e
@@ -146,7 +146,7 @@ field_place-spell word make t l i h k j w e = record {
 
 -- the words of a printable call spell it
 spells : (call : Call) → IsPrintableCall call → Spell (words_of call) call
-unfolding all_forms
+unfolding forms
 spells Null h = record { as_call = refl; inner = refl }
 spells (Truth true) h = record { as_call = refl; inner = refl }
 spells (Truth false) h = record { as_call = refl; inner = refl }
@@ -198,15 +198,15 @@ all_lists_weaker p q weaker (x ∷ xs) h =
     let (a, b) = and_parts (list_all p x) (list_all (list_all p) xs) h in
     rw (all_weaker p q weaker x a, all_lists_weaker p q weaker xs b) refl
 
-line-spelled : (words : List (List ℕ)) (call : Call) → Spell words call → call_among all_forms (cut_at 32 (join_with_byte 32 words)) ≡ Some call
+line-spelled : (words : List (List ℕ)) (call : Call) → Spell words call → call_among forms (cut_at 32 (join_with_byte 32 words)) ≡ Some call
 line-spelled [] call s = cc s.as_call
 line-spelled (first ∷ rest) call s =
-    ap (call_among all_forms) (cut_joined 32 first rest (all_lists_weaker is_inner (is_not 32) inner_space (first ∷ rest) s.inner)) ∙ s.as_call
+    ap (call_among forms) (cut_joined 32 first rest (all_lists_weaker is_inner (is_not 32) inner_space (first ∷ rest) s.inner)) ∙ s.as_call
 
 -- a printed call reads back
-pub any_line_of-line : (call : Call) → IsPrintableCall call → any_line_of (line call) ≡ Some call
-unfolding any_line_of line
-any_line_of-line call h = line-spelled (words_of call) call (spells call h)
+pub line_of-line : (call : Call) → IsPrintableCall call → line_of (line call) ≡ Some call
+unfolding line_of line
+line_of-line call h = line-spelled (words_of call) call (spells call h)
 
 joined_without_feed : (words : List (List ℕ)) → list_all (list_all (is_not 10)) words ≡ true → list_all (is_not 10) (join_with_byte 32 words) ≡ true
 joined_without_feed [] h = refl
@@ -219,17 +219,17 @@ line_without_feed : (call : Call) → IsPrintableCall call → list_all (is_not 
 unfolding line
 line_without_feed call h = joined_without_feed (words_of call) (all_lists_weaker is_inner (is_not 10) inner_feed (words_of call) (spells call h).inner)
 
-printed-from : (n : ℕ) (calls : List Call) → ArePrintable calls → lines_from any_line_of n (cut_at 10 (printed calls)) ≡ Good calls
+printed-from : (n : ℕ) (calls : List Call) → ArePrintable calls → lines_from line_of n (cut_at 10 (printed calls)) ≡ Good calls
 unfolding printed
 printed-from n [] h = refl
 printed-from n (call ∷ calls) h =
     let (next, more, e) = cut-some 10 (printed calls) in
     let after = printed-from (n + 1) calls h.1 in
-    ap (lines_from any_line_of n) (ap (cut_at 10) (append_assoc (line call) (10 ∷ []) (printed calls)) ∙ cut_first 10 (line call) (printed calls) (line_without_feed call h.0))
-    ∙ lines-first any_line_of n (line call) next (cut_at 10 (printed calls)) more e
-    ∙ rw (any_line_of-line call h.0, after) refl
+    ap (lines_from line_of n) (ap (cut_at 10) (append_assoc (line call) (10 ∷ []) (printed calls)) ∙ cut_first 10 (line call) (printed calls) (line_without_feed call h.0))
+    ∙ lines-first line_of n (line call) next (cut_at 10 (printed calls)) more e
+    ∙ rw (line_of-line call h.0, after) refl
 
 -- printed calls read back as these calls
-pub any_lines-printed : (calls : List Call) → ArePrintable calls → any_lines (printed calls) ≡ Good calls
-unfolding any_lines
-any_lines-printed calls h = printed-from 1 calls h
+pub lines-printed : (calls : List Call) → ArePrintable calls → lines (printed calls) ≡ Good calls
+unfolding lines
+lines-printed calls h = printed-from 1 calls h

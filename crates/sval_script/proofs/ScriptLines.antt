@@ -6,7 +6,7 @@ use Rattle.sval_label.specs.Calls.{Call}
 use Rattle.sval_script.specs.Lines.{Lines, Good, Bad, line_of, call_of_fields, with_call, after_last, lines_from, lines, cut_at}
 use Rattle.sval_script.specs.Fields.{cut_line}
 use Rattle.sval_script.specs.NextFields.{call_before, first_call}
-use Rattle.sval_script.specs.LineCalls.{call_with, calls_with, HoldsTexts}
+use Rattle.sval_script.specs.LineCalls.{Stored, call_with, calls_with, HoldsLines}
 use Rattle.sval_script.specs.MadeLines.{IsMade}
 use Rattle.sval_script.specs.declared.line.Line.{Line}
 use Rattle.sval_script.proofs.Cut.{cut-some, lines-first}
@@ -26,14 +26,14 @@ after_one calls n call (Good more) = ap Good (sym (append_assoc calls (call ∷ 
 after_one calls n call (Bad m) = refl
 
 -- some first lines were read, and the rest of the bytes is left
-pub record IsReadUpTo (bytes rest texts : List ℕ) (made : List Line) : Type 0 where
-  pub holds : HoldsTexts texts made
-  pub here : lines bytes ≡ after_calls (calls_with texts made) (lines_from line_of (length made + 1) (cut_at 10 rest))
+pub record IsReadUpTo (bytes rest : List ℕ) (store : Stored) (made : List Line) : Type 0 where
+  pub holds : HoldsLines store.bytes store.numbers made
+  pub here : lines bytes ≡ after_calls (calls_with store.bytes store.numbers made) (lines_from line_of (length made + 1) (cut_at 10 rest))
   pub count : length made + length rest ≤ length bytes
 
-pub read-start : (bytes : List ℕ) → IsReadUpTo bytes bytes [] []
+pub read-start : (bytes : List ℕ) (store : Stored) → store.bytes ≡ [] → store.numbers ≡ [] → IsReadUpTo bytes bytes store []
 unfolding lines
-read-start bytes = record { holds = refl; here = sym (after_none (lines_from line_of 1 (cut_at 10 bytes))); count = omega arith }
+read-start bytes store e f = record { holds = (e, f); here = sym (after_none (lines_from line_of 1 (cut_at 10 bytes))); count = omega arith }
 
 -- the line that bytes begin with is the first of their parts
 first_part : (rest : List ℕ) → MatchOption (cut_line rest) (cut_at 10 rest ≡ rest ∷ []) (λ line. (cut_at 10 rest ≡ line.0 ∷ cut_at 10 line.1) × (length line.1 < length rest))
@@ -96,23 +96,26 @@ at_none n rest e some = by_line (cut_line rest) (first_part rest) e
         let spells : line_of l.0 ≡ None = unspelled (call_of_fields (cut_at 32 l.0)) l.1 e in
         ap (lines_from line_of n) cut ∙ lines-first line_of n l.0 next (cut_at 10 l.1) more some ∙ ap (λ made. with_call n made (lines_from line_of (n + 1) (cut_at 10 l.1))) spells
 
-pub read-step : {bytes rest texts : List ℕ} {made : List Line} (new : List ℕ) (line : Line) (behind : List ℕ) → IsReadUpTo bytes rest texts made
-    → IsMade (first_call rest) behind texts new line → IsReadUpTo bytes behind new (made ++ (line ∷ []))
-read-step {bytes = bytes} {rest = rest} {texts = texts} {made = made} new line behind r m =
-    let calls = calls_with texts made in
+pub read-step : {bytes rest : List ℕ} {store : Stored} {made : List Line} (new : Stored) (line : Line) (behind : List ℕ) → IsReadUpTo bytes rest store made
+    → IsMade (first_call rest) behind store new line → IsReadUpTo bytes behind new (made ++ (line ∷ []))
+read-step {bytes = bytes} {rest = rest} {store = store} {made = made} new line behind r m =
+    let calls = calls_with store.bytes store.numbers made in
+    let call = call_with m.bytes m.numbers line in
     let left = lines_from line_of (length made + 1 + 1) (cut_at 10 behind) in
-    let more : calls_with new (made ++ (line ∷ [])) ≡ calls ++ (call_with m.text line ∷ []) = rw m.stored (calls-more texts m.text made line r.holds m.has_len) in
+    let more : calls_with new.bytes new.numbers (made ++ (line ∷ [])) ≡ calls ++ (call ∷ []) =
+    rw (m.puts.bytes_stored, m.puts.numbers_stored) (calls-more m.bytes m.numbers line store.bytes store.numbers made r.holds m.puts.has_len m.puts.has_count) in
     let longer : length (made ++ (line ∷ [])) ≡ length made + 1 = length-append made (line ∷ []) in
-    let (here, shorter) = at_call (length made + 1) rest behind (call_with m.text line) m.spells in
+    let (here, shorter) = at_call (length made + 1) rest behind call m.spells in
     record {
-      holds = rw m.stored (holds-more texts m.text made line r.holds m.has_len m.is_text);
-      here = r.here ∙ ap (after_calls calls) here ∙ after_one calls (length made + 1) (call_with m.text line) left ∙ rw (more, longer) refl;
+      holds = rw (m.puts.bytes_stored, m.puts.numbers_stored)
+          (holds-more m.bytes m.numbers line store.bytes store.numbers made r.holds m.puts.has_len m.puts.has_count m.puts.has_text);
+      here = r.here ∙ ap (after_calls calls) here ∙ after_one calls (length made + 1) call left ∙ rw (more, longer) refl;
       count = omega (arith, longer, r.count);
     }
 
-pub read-shorter : (rest texts new : List ℕ) (line : Line) (behind : List ℕ) → IsMade (first_call rest) behind texts new line → length behind < length rest
-read-shorter rest texts new line behind m = (at_call 1 rest behind (call_with m.text line) m.spells).1
+pub read-shorter : (rest : List ℕ) (store new : Stored) (line : Line) (behind : List ℕ) → IsMade (first_call rest) behind store new line → length behind < length rest
+read-shorter rest store new line behind m = (at_call 1 rest behind (call_with m.bytes m.numbers line) m.spells).1
 
-pub read-bad : {bytes rest texts : List ℕ} {made : List Line} → IsReadUpTo bytes rest texts made → first_call rest ≡ None → 0 < length rest → lines bytes ≡ Bad (length made + 1)
-read-bad {bytes = bytes} {rest = rest} {texts = texts} {made = made} r none some =
-    r.here ∙ ap (after_calls (calls_with texts made)) (at_none (length made + 1) rest none some)
+pub read-bad : {bytes rest : List ℕ} {store : Stored} {made : List Line} → IsReadUpTo bytes rest store made → first_call rest ≡ None → 0 < length rest → lines bytes ≡ Bad (length made + 1)
+read-bad {bytes = bytes} {rest = rest} {store = store} {made = made} r none some =
+    r.here ∙ ap (after_calls (calls_with store.bytes store.numbers made)) (at_none (length made + 1) rest none some)

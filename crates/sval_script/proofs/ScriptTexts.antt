@@ -1,49 +1,48 @@
--- The store of a script's texts, as it grows.
-use Rattle.std.specs.Prelude.{◌≡◌, ℕ, ◌≤◌, List, [], ◌∷◌, ◌++◌, take, drop, length, refl}
-use Rattle.std.specs.Str.{IsUtf8, IsCharBoundary}
+-- The store of a script's lines, as it grows.
+use Rattle.std.specs.Prelude.{◌≡◌, ℕ, List, [], ◌∷◌, ◌++◌, take, drop, length, refl}
 use Rattle.std.proofs.Common.{arith, ap}
-use Rattle.std.proofs.lemmas.List.{take-append-drop, take-append-le, drop-append-le, take_all, length-append, length-drop}
-use Rattle.std.proofs.lemmas.Str.{IsUtf8-nil, IsUtf8-append, IsCharBoundary-from_take}
+use Rattle.std.proofs.lemmas.List.{take-append-le, drop-append-le, take_all, length-append, length-drop}
 use Rattle.sval_script.specs.declared.line.Line.{Line}
-use Rattle.sval_script.specs.LineCalls.{own_len, call_with, calls_with, HoldsTexts}
+use Rattle.sval_script.specs.LineCalls.{own_len, own_count, call_with, calls_with, HasText, HoldsLines}
 
-pub holds_utf8 : (texts : List ℕ) (lines : List Line) → HoldsTexts texts lines → IsUtf8 texts
-holds_utf8 texts [] h = rw h IsUtf8-nil
-holds_utf8 texts (line ∷ lines) h =
-    let n = own_len line in
-    rw (← take-append-drop n texts) (IsUtf8-append (take n texts) (drop n texts) h.1 (holds_utf8 (drop n texts) lines h.2))
+pub take_whole : (n : ℕ) (xs : List ℕ) → length xs ≡ n → take n xs ≡ xs
+take_whole n xs e = take_all n xs (omega arith)
 
--- the first line's text ends where a character does
-pub first_boundary : (texts : List ℕ) (line : Line) (lines : List Line) → HoldsTexts texts (line ∷ lines) → IsCharBoundary texts (own_len line)
-first_boundary texts line lines h = IsCharBoundary-from_take texts (own_len line) (holds_utf8 texts (line ∷ lines) h) h.0 h.1
-
-take_whole : (n : ℕ) (text : List ℕ) → length text ≡ n → take n text ≡ text
-take_whole n text e = take_all n text (omega arith)
-
-drop_whole : (n : ℕ) (text : List ℕ) → length text ≡ n → drop n text ≡ []
-drop_whole n text e = none (drop n text) (omega (arith, length-drop n text))
+pub drop_whole : (n : ℕ) (xs : List ℕ) → length xs ≡ n → drop n xs ≡ []
+drop_whole n xs e = none (drop n xs) (omega (arith, length-drop n xs))
   where
     none : (xs : List ℕ) → length xs ≡ 0 → xs ≡ []
     none [] h = refl
     none (x ∷ xs) h = absurd (omega arith)
 
-pub holds-more : (texts text : List ℕ) (lines : List Line) (line : Line) → HoldsTexts texts lines → length text ≡ own_len line → IsUtf8 text → HoldsTexts (texts ++ text) (lines ++ (line ∷ []))
-holds-more texts text [] line h e u =
-    rw h (omega arith, rw take_whole u, drop_whole (own_len line) text e)
-holds-more texts text (first ∷ lines) line h e u =
-    let n = own_len first in
-    let within : n ≤ length texts = h.0 in
-    (omega (arith, length-append texts text), rw take-append-le h.1, rw drop-append-le (holds-more (drop n texts) text lines line h.2 e u))
+module _ (new_bytes new_numbers : List ℕ) (line : Line) where
+  pub holds-more : (bytes numbers : List ℕ) (lines : List Line) → HoldsLines bytes numbers lines → length new_bytes ≡ own_len line → length new_numbers ≡ own_count line → HasText line new_bytes
+      → HoldsLines (bytes ++ new_bytes) (numbers ++ new_numbers) (lines ++ (line ∷ []))
+  holds-more bytes numbers [] (h, k) e f u =
+      rw (h, k)
+      (omega arith, omega arith, rw (take_whole (own_len line) new_bytes e) u, (drop_whole (own_len line) new_bytes e, drop_whole (own_count line) new_numbers f))
+  holds-more bytes numbers (first ∷ lines) (within, count, text, rest) e f u = (
+    omega (arith, length-append bytes new_bytes),
+    omega (arith, length-append numbers new_numbers),
+    rw (take-append-le (own_len first) bytes new_bytes within) text,
+    rw (drop-append-le (own_len first) bytes new_bytes within, drop-append-le (own_count first) numbers new_numbers count)
+        (holds-more (drop (own_len first) bytes) (drop (own_count first) numbers) lines rest e f u),
+  )
 
-pub calls-more : (texts text : List ℕ) (lines : List Line) (line : Line) → HoldsTexts texts lines → length text ≡ own_len line
-    → calls_with (texts ++ text) (lines ++ (line ∷ [])) ≡ calls_with texts lines ++ (call_with text line ∷ [])
-calls-more texts text [] line h e = rw (h, take_whole (own_len line) text e) refl
-calls-more texts text (first ∷ lines) line h e =
-    let n = own_len first in
-    let within : n ≤ length texts = h.0 in
-    rw (take-append-le n texts text within, drop-append-le n texts text within) (ap (λ calls. call_with (take n texts) first ∷ calls) (calls-more (drop n texts) text lines line h.2 e))
+  pub calls-more : (bytes numbers : List ℕ) (lines : List Line) → HoldsLines bytes numbers lines → length new_bytes ≡ own_len line → length new_numbers ≡ own_count line
+      → calls_with (bytes ++ new_bytes) (numbers ++ new_numbers) (lines ++ (line ∷ [])) ≡ calls_with bytes numbers lines ++ (call_with new_bytes new_numbers line ∷ [])
+  calls-more bytes numbers [] (h, k) e f = rw (h, k, take_whole (own_len line) new_bytes e, take_whole (own_count line) new_numbers f) refl
+  calls-more bytes numbers (first ∷ lines) (within, count, text, rest) e f =
+      rw (
+        take-append-le (own_len first) bytes new_bytes within,
+        drop-append-le (own_len first) bytes new_bytes within,
+        take-append-le (own_count first) numbers new_numbers count,
+        drop-append-le (own_count first) numbers new_numbers count,
+      )
+      (ap (λ calls. call_with (take (own_len first) bytes) (take (own_count first) numbers) first ∷ calls)
+      (calls-more (drop (own_len first) bytes) (drop (own_count first) numbers) lines rest e f))
 
 -- each line has one call
-pub length-calls_with : (texts : List ℕ) (lines : List Line) → length (calls_with texts lines) ≡ length lines
-length-calls_with texts [] = refl
-length-calls_with texts (line ∷ lines) = let rest = length-calls_with (drop (own_len line) texts) lines in omega arith
+pub length-calls_with : (bytes numbers : List ℕ) (lines : List Line) → length (calls_with bytes numbers lines) ≡ length lines
+length-calls_with bytes numbers [] = refl
+length-calls_with bytes numbers (line ∷ lines) = let rest = length-calls_with (drop (own_len line) bytes) (drop (own_count line) numbers) lines in omega arith

@@ -24,26 +24,26 @@ unfolding forms
 texts_at_places = refl
 
 -- each place holds a word
-slots_are_words : list_all (λ slot. nat_lt slot 11) SLOTS ≡ true
+slots_are_words : list_all (λ slot. nat_lt slot 48) SLOTS ≡ true
 slots_are_words = refl
 
-pub slot_is_word : (place : ℕ) → place < 128 → get_or SLOTS place 0 < 11
-slot_is_word place h = by_test (nat_lt (get_or SLOTS place 0) 11) refl
+pub slot_is_word : (place : ℕ) → place < 128 → get_or SLOTS place 0 < 48
+slot_is_word place h = by_test (nat_lt (get_or SLOTS place 0) 48) refl
   where
-    by_test : (b : Bool) → nat_lt (get_or SLOTS place 0) 11 ≡ b → get_or SLOTS place 0 < 11
+    by_test : (b : Bool) → nat_lt (get_or SLOTS place 0) 48 ≡ b → get_or SLOTS place 0 < 48
     by_test true is = ltb-true _ _ is
-    by_test false is = let found = list_all_at (λ slot. nat_lt slot 11) SLOTS place 0 h is in cc (sym slots_are_words, found)
+    by_test false is = let found = list_all_at (λ slot. nat_lt slot 48) SLOTS place 0 h is in cc (sym slots_are_words, found)
 
 none : List ℕ × Word
 none = ([], word.Bool)
 
-pub form_at : (rows : List (Bor (List ℕ) × Word)) (k : ℕ) (row : Bor (List ℕ) × Word) → texts_and_words rows ≡ word_table → k < 11
+pub form_at : (rows : List (Bor (List ℕ) × Word)) (k : ℕ) (row : Bor (List ℕ) × Word) → texts_and_words rows ≡ word_table → k < 48
     → find_form (get_or rows k row).0.now forms ≡ Some (form_of_word (get_or rows k row).1)
 form_at rows k row e h =
     let (text, word) = row_at rows word_table k row none e h in
     rw (text, word) (same_at (λ (r : List ℕ × Word). find_form r.0 forms) (λ (r : List ℕ × Word). Some (form_of_word r.1)) word_table k none forms_of_words h)
 
-pub text_at_row : (rows : List (Bor (List ℕ) × Word)) (k : ℕ) (row : Bor (List ℕ) × Word) → texts_and_words rows ≡ word_table → k < 11
+pub text_at_row : (rows : List (Bor (List ℕ) × Word)) (k : ℕ) (row : Bor (List ℕ) × Word) → texts_and_words rows ≡ word_table → k < 48
     → (get_or rows k row).0.now ≡ get_or (map (λ r. r.0) word_table) k []
 text_at_row rows k row e h =
     let (text, word) = row_at rows word_table k row none e h in

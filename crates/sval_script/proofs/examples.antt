@@ -1,2 +1,2 @@
-mod BuiltScripts
+mod ShortScripts
 mod AllScripts

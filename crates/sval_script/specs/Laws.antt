@@ -1,25 +1,20 @@
 -- The laws of scripts, as facts.
-use Rattle.std.specs.Prelude.{◌≡◌, ℕ, List, flat_map}
+use Rattle.std.specs.Prelude.{◌≡◌, List, flat_map}
 use Rattle.std.specs.List.{AllByRecursion}
 use Rattle.sval_label.specs.Calls.{Call}
 use Rattle.sval_core.specs.Trees.{Tree, calls_of}
 use Rattle.sval_core.specs.Real.{IsPrintable}
 use Rattle.sval_script.specs.Lines.{lines, Good}
-use Rattle.sval_script.specs.AllLines.{any_lines}
 use Rattle.sval_script.specs.Printed.{printed, ArePrintable}
 use Rattle.sval_script.specs.Canon.{canon, canon_all}
 
--- a script that a program reads spells the same calls where all lines are known
-abbrev pub BuiltLinesAreLines : Type 0
-BuiltLinesAreLines = (script : List ℕ) (calls : List Call) → lines script ≡ Good calls → any_lines script ≡ Good calls
-
 -- the lines of printed calls spell these calls
 abbrev pub PrintedLinesReadBack : Type 0
-PrintedLinesReadBack = (calls : List Call) → ArePrintable calls → any_lines (printed calls) ≡ Good calls
+PrintedLinesReadBack = (calls : List Call) → ArePrintable calls → lines (printed calls) ≡ Good calls
 
 -- the lines of a tree's canonical script spell its canonical calls
 abbrev pub CanonReadsBack : Type 0
-CanonReadsBack = (tree : Tree) → IsPrintable tree → any_lines (canon tree) ≡ Good (calls_of tree)
+CanonReadsBack = (tree : Tree) → IsPrintable tree → lines (canon tree) ≡ Good (calls_of tree)
 
 -- no two trees have one canonical script
 abbrev pub CanonIsOfOneTree : Type 0
@@ -27,7 +22,7 @@ CanonIsOfOneTree = (tree other : Tree) → IsPrintable tree → IsPrintable othe
 
 -- the lines of joined canonical scripts spell the trees' canonical calls, joined
 abbrev pub CanonsReadBack : Type 0
-CanonsReadBack = (trees : List Tree) → AllByRecursion IsPrintable trees → any_lines (canon_all trees) ≡ Good (flat_map calls_of trees)
+CanonsReadBack = (trees : List Tree) → AllByRecursion IsPrintable trees → lines (canon_all trees) ≡ Good (flat_map calls_of trees)
 
 -- no two lists of trees have one canonical script
 abbrev pub CanonsAreOfOneList : Type 0

@@ -1,12 +1,12 @@
 pub mod Lines
-pub mod AllLines
 pub mod Printed
 pub mod Canon
 pub mod Laws
 pub mod Words
+pub mod Tags
 pub mod Fields
+pub mod FieldValues
 pub mod NextFields
-pub mod StoredTexts
 pub mod LineCalls
 pub mod MadeLines
 pub mod Readings

@@ -1,5 +1,5 @@
 -- The lines of a script, and the calls that they spell. A line is a word and then its fields, with one space before each
--- field. The words are those of the calls that are built.
+-- field.
 use Rattle.std.specs.Prelude.{ℕ, zero, suc, ◌+◌, ◌^◌, ℤ, pos, negsuc, Bool, true, false, ◌==◌, nat_lt, if◌then◌else◌, List, [], ◌∷◌, Option, Some, None, option_map, option_and_then, codes, bytes_eq}
 use Rattle.std.specs.List.{slice_split}
 use Rattle.std.specs.Result.{result_ok}
@@ -7,8 +7,12 @@ use Rattle.std.specs.Str.{is_utf8}
 use Rattle.std.specs.Str.Parse.{digits_value}
 use Rattle.hex.specs.Hex.{decode_of}
 use Rattle.sval_label.specs.Texts.{is_decimal}
-use Rattle.sval_label.specs.Ranges.{is_of_type}
-use Rattle.sval_label.specs.Calls.{Call, Null, Truth, Int, TextBegin, TextFragment, TextEnd, Begin, End, PartBegin, PartEnd, Seq, Item, IntType, I64}
+use Rattle.sval_label.specs.Tags.{is_tag_name}
+use Rattle.sval_label.specs.Ranges.{is_of_type, is_index}
+use Rattle.sval_label.specs.Calls.{Call, Slot, Name, Label, Index, Tag, IntType}
+use Rattle.sval_label.specs.Calls.{Null, Truth, Int, Standalone, TagHint, TextBegin, TextFragment, TextEnd, BinaryBegin, BinaryFragment, BinaryEnd, EnumBegin, EnumEnd, TaggedBegin, TaggedEnd, Begin, End, PartBegin, PartEnd}
+use Rattle.sval_label.specs.Calls.{Seq, Map, Record, Tuple, RecordTuple, Item, Key, Value, Field, Place, FieldPlace}
+use Rattle.sval_label.specs.Calls.{U8, U16, U32, U64, U128, I8, I16, I32, I64, I128}
 
 -- the parts between the bytes that are this one
 abbrev pub cut_at : ℕ → List ℕ → List (List ℕ)
@@ -55,6 +59,22 @@ text field = option_and_then (keep is_utf8) (bytes field)
 abbrev pub truth : List ℕ → Option Bool
 truth field = if bytes_eq field (codes "true") then Some true else if bytes_eq field (codes "false") then Some false else None
 
+abbrev pub tag : List ℕ → Option Tag
+tag = keep is_tag_name
+
+-- what is read of a field, and then perhaps `:` and a tag
+abbrev pub tagged_parts : {A B : Type 0} → (List ℕ → Option A) → (A → Option Tag → B) → List (List ℕ) → Option B
+tagged_parts read make (part ∷ []) = option_map (λ x. make x None) (read part)
+tagged_parts read make (part ∷ name ∷ []) = option_and_then (λ x. option_map (λ t. make x (Some t)) (tag name)) (read part)
+tagged_parts read make parts = None
+
+-- a label that is read is not static
+abbrev pub label : List ℕ → Option Label
+label field = tagged_parts text (λ t hint. record { text = t; tag = hint; is_static = false }) (cut_at 58 field)
+
+abbrev pub index : List ℕ → Option Index
+index field = tagged_parts (λ part. option_and_then (keep is_index) (integer part)) (λ z hint. record { number = z; tag = hint }) (cut_at 58 field)
+
 -- ---- a line
 
 -- what call the fields of a line spell, if any
@@ -74,18 +94,67 @@ field read next (first ∷ fields) = option_and_then (λ x. next x fields) (read
 abbrev pub whole_number : IntType → LineForm
 whole_number type = field (whole_number_of type) (λ z. complete (Int type z))
 
+abbrev pub name : (Name → LineForm) → LineForm
+name next = field (or_dash tag) (λ t. field (or_dash label) (λ l. field (or_dash index) (λ i. next (record { tag = t; label = l; index = i }))))
+
+abbrev pub record_part : (Slot → Call) → LineForm
+record_part make = field (or_dash tag) (λ t. field label (λ l. complete (make (Field t l))))
+
+abbrev pub tuple_part : (Slot → Call) → LineForm
+tuple_part make = field (or_dash tag) (λ t. field index (λ i. complete (make (Place t i))))
+
+abbrev pub record_tuple_part : (Slot → Call) → LineForm
+record_tuple_part make = field (or_dash tag) (λ t. field label (λ l. field index (λ i. complete (make (FieldPlace t l i)))))
+
 unfoldable pub forms : List (List ℕ × LineForm)
 forms = (codes "null", complete Null)
     ∷ (codes "bool", field truth (λ b. complete (Truth b)))
+    ∷ (codes "u8", whole_number U8)
+    ∷ (codes "u16", whole_number U16)
+    ∷ (codes "u32", whole_number U32)
+    ∷ (codes "u64", whole_number U64)
+    ∷ (codes "u128", whole_number U128)
+    ∷ (codes "i8", whole_number I8)
+    ∷ (codes "i16", whole_number I16)
+    ∷ (codes "i32", whole_number I32)
     ∷ (codes "i64", whole_number I64)
+    ∷ (codes "i128", whole_number I128)
     ∷ (codes "text_begin", field size (λ n. complete (TextBegin n)))
     ∷ (codes "text_fragment", field text (λ t. complete (TextFragment true t)))
     ∷ (codes "text_fragment_computed", field text (λ t. complete (TextFragment false t)))
     ∷ (codes "text_end", complete TextEnd)
+    ∷ (codes "binary_begin", field size (λ n. complete (BinaryBegin n)))
+    ∷ (codes "binary_fragment", field bytes (λ b. complete (BinaryFragment true b)))
+    ∷ (codes "binary_fragment_computed", field bytes (λ b. complete (BinaryFragment false b)))
+    ∷ (codes "binary_end", complete BinaryEnd)
+    ∷ (codes "map_begin", field size (λ n. complete (Begin Map n)))
+    ∷ (codes "map_key_begin", complete (PartBegin Key))
+    ∷ (codes "map_key_end", complete (PartEnd Key))
+    ∷ (codes "map_value_begin", complete (PartBegin Value))
+    ∷ (codes "map_value_end", complete (PartEnd Value))
+    ∷ (codes "map_end", complete (End Map))
     ∷ (codes "seq_begin", field size (λ n. complete (Begin Seq n)))
     ∷ (codes "seq_value_begin", complete (PartBegin Item))
     ∷ (codes "seq_value_end", complete (PartEnd Item))
     ∷ (codes "seq_end", complete (End Seq))
+    ∷ (codes "enum_begin", name (λ n. complete (EnumBegin n)))
+    ∷ (codes "enum_end", name (λ n. complete (EnumEnd n)))
+    ∷ (codes "tagged_begin", name (λ n. complete (TaggedBegin n)))
+    ∷ (codes "tagged_end", name (λ n. complete (TaggedEnd n)))
+    ∷ (codes "tag", name (λ n. complete (Standalone n)))
+    ∷ (codes "tag_hint", field tag (λ t. complete (TagHint t)))
+    ∷ (codes "record_begin", name (λ n. field size (λ s. complete (Begin (Record n) s))))
+    ∷ (codes "record_value_begin", record_part PartBegin)
+    ∷ (codes "record_value_end", record_part PartEnd)
+    ∷ (codes "record_end", name (λ n. complete (End (Record n))))
+    ∷ (codes "tuple_begin", name (λ n. field size (λ s. complete (Begin (Tuple n) s))))
+    ∷ (codes "tuple_value_begin", tuple_part PartBegin)
+    ∷ (codes "tuple_value_end", tuple_part PartEnd)
+    ∷ (codes "tuple_end", name (λ n. complete (End (Tuple n))))
+    ∷ (codes "record_tuple_begin", name (λ n. field size (λ s. complete (Begin (RecordTuple n) s))))
+    ∷ (codes "record_tuple_value_begin", record_tuple_part PartBegin)
+    ∷ (codes "record_tuple_value_end", record_tuple_part PartEnd)
+    ∷ (codes "record_tuple_end", name (λ n. complete (End (RecordTuple n))))
     ∷ []
 
 -- the form that stands for the word

@@ -2,9 +2,15 @@
 use Rattle.std.specs.Prelude.{◌≡◌, ℕ, ⊤, List, [], ◌∷◌, ◌++◌, Option, Some, None, MatchOption, length, option_map}
 use Rattle.std.specs.Borrow.{Bor}
 use Rattle.std.specs.Str.{IsUtf8}
-use Rattle.sval_label.specs.Calls.{Call}
+use Rattle.sval_label.specs.Calls.{Call, Name}
 use Rattle.sval_script.specs.Lines as script
 use Rattle.sval_script.specs.Lines.{LineForm, field, complete, call_of_fields}
+use Rattle.sval_script.specs.Tags.{tag_of}
+use Rattle.sval_script.specs.FieldValues.{made_label, label_from, index_from}
+use Rattle.sval_script.specs.declared.field.LabelRead.{LabelRead}
+use Rattle.sval_script.specs.declared.field.LabelField.{LabelField}
+use Rattle.sval_script.specs.declared.fields.NameRead.{NameRead}
+use Rattle.sval_script.specs.declared.fields.NameFields.{NameFields}
 use Rattle.sval_script.specs.Fields.{LineLeft, line_ahead}
 use Rattle.sval_script.specs.Words.{form_of_word}
 use Rattle.sval_script.specs.declared.word.Word.{Word}
@@ -42,15 +48,43 @@ NoNext {A = A} read line = (next : A → LineForm) → call_before (field read n
 abbrev pub ReadsNext : {A : Type 0} → (List ℕ → Option A) → LineLeft → LineLeft → Option A → Type 0
 ReadsNext read line rest made = MatchOption made (NoNext read line) (λ x. NextIs read line rest x)
 
+-- the same, where what was read is seen as what the field says
+abbrev pub ReadsAs : {A B : Type 0} → (List ℕ → Option A) → (B → A) → LineLeft → LineLeft → Option B → Type 0
+ReadsAs read seen line rest made = MatchOption made (NoNext read line) (λ x. NextIs read line rest (seen x))
+
 -- what was read of the first field, a word
 abbrev pub ReadsWord : LineLeft → LineLeft → Option Word → Type 0
 ReadsWord line rest made =
     MatchOption made (call_before call_of_fields line ≡ None) (λ word. call_before call_of_fields line ≡ call_before (form_of_word word) rest)
 
--- the next field says a text, which was put behind the texts before it
-pub record StoresNext (line rest : LineLeft) (old new : List ℕ) (len : ℕ) : Type 0 where
+-- what the next field says is made of bytes that were put behind those before them
+pub record StoresNext {A : Type 0} (read : List ℕ → Option A) (make : List ℕ → A) (IsGood : List ℕ → Type 0) (line rest : LineLeft) (old new : List ℕ) (len : ℕ) : Type 0 where
+  pub bytes : List ℕ
+  pub spells : NextIs read line rest (make bytes)
+  pub is_good : IsGood bytes
+  pub stored : new ≡ old ++ bytes
+  pub has_len : length bytes ≡ len
+
+abbrev pub StoresNextText : LineLeft → LineLeft → List ℕ → List ℕ → ℕ → Type 0
+StoresNextText line rest old new len = StoresNext script.text (λ text. text) IsUtf8 line rest old new len
+
+abbrev pub StoresNextBytes : LineLeft → LineLeft → List ℕ → List ℕ → ℕ → Type 0
+StoresNextBytes line rest old new len = StoresNext script.bytes (λ bytes. bytes) (λ bytes. ⊤) line rest old new len
+
+abbrev pub StoresNextLabel : LineLeft → LineLeft → List ℕ → List ℕ → LabelRead → Type 0
+StoresNextLabel line rest old new label = StoresNext script.label (made_label label.tag) IsUtf8 line rest old new label.len
+
+abbrev pub StoresNextLabelField : LineLeft → LineLeft → List ℕ → List ℕ → LabelField → ℕ → Type 0
+StoresNextLabelField line rest old new label len = StoresNext (script.or_dash script.label) (label_from label) IsUtf8 line rest old new len
+
+-- the name of these fields, with this label's text and this index's number
+abbrev pub name_from : NameFields → List ℕ → ℕ → Name
+name_from parts text number = record { tag = tag_of parts.tag; label = label_from parts.label text; index = index_from parts.index number }
+
+-- the next three fields are a name, whose label's text was put behind what stood before it
+pub record ReadsName (line rest : LineLeft) (old new : List ℕ) (name : NameRead) : Type 0 where
   pub text : List ℕ
-  pub spells : NextIs script.text line rest text
+  pub spells : (next : Name → LineForm) → call_before (script.name next) line ≡ call_before (next (name_from name.parts text name.number)) rest
   pub is_text : IsUtf8 text
   pub stored : new ≡ old ++ text
-  pub has_len : length text ≡ len
+  pub has_len : length text ≡ name.len

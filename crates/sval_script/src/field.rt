@@ -1,18 +1,17 @@
 //! What the fields of a line say.
 
-ghost use Rattle.std.specs.Prelude.{◌≡◌, ◌^◌, nat_lt, None, Some, option_and_then, IfOk, OnOk};
-ghost use Rattle.std.specs.List.{list_all};
-ghost use Rattle.std.specs.Char.{is_ascii_digit};
+ghost use Rattle.std.specs.Prelude.{◌≡◌, None, option_map, option_and_then, IfOk, OnOk};
 ghost use Rattle.std.specs.Result.{result_ok};
 ghost use Rattle.hex.specs.Hex.{decode_of};
-ghost use Rattle.sval_label.specs.Texts as label;
-ghost use Rattle.sval_label.specs.Calls.{I64};
+ghost use Rattle.sval_label.specs.Ranges.{is_index};
 ghost use Rattle.sval_script.specs.Lines as script;
-ghost use Rattle.sval_script.specs.Words.{type_of};
-ghost use Rattle.sval_script.specs.StoredTexts.{Decodes, StoresText};
+ghost use Rattle.sval_script.specs.FieldValues.{Decodes, StoresText, StoresBytes, StoresLabel, StoresLabelField};
+ghost use Rattle.sval_script.specs.FieldValues.{parts_of, part_and_tag, index_number, index_of, index_field_of};
 ghost use Rattle.sval_script.specs.declared.field.LineError.TheVariants.{NoMemory};
 
-use crate::word::NumberType;
+use crate::number::{integer, natural};
+use crate::tag::TagField;
+use memchr::memchr;
 use std::alloc::AllocError;
 
 /// Why a line wasn't read.
@@ -20,7 +19,7 @@ use std::alloc::AllocError;
 pub(crate) enum LineError {
     /// It spells no call.
     Bad,
-    /// There was no memory for its text.
+    /// There was no memory for what it says.
     NoMemory,
 }
 
@@ -30,6 +29,50 @@ impl From<AllocError> for LineError {
     fn from(_e: AllocError) -> LineError {
         LineError::NoMemory
     }
+}
+
+/// A label that was read, whose text stands in a store.
+#[derive(Clone, Copy, Debug)]
+pub(crate) struct LabelRead {
+    /// Its tag.
+    pub(crate) tag: TagField,
+    /// How many bytes its text has.
+    pub(crate) len: usize,
+}
+
+/// What a field says of a label, but for its text.
+#[derive(Clone, Copy, Debug)]
+pub(crate) enum LabelField {
+    /// No label.
+    Absent,
+    /// A label with this tag.
+    Present(TagField),
+}
+
+/// How the number of an index is kept in 64 bits.
+#[derive(Clone, Copy, Debug)]
+pub(crate) enum Sign {
+    /// As it is.
+    Natural,
+    /// As the bits of a number with its sign.
+    Signed,
+}
+
+/// An index that was read.
+#[derive(Clone, Copy, Debug)]
+pub(crate) struct IndexRead {
+    pub(crate) sign: Sign,
+    pub(crate) tag: TagField,
+    pub(crate) number: u64,
+}
+
+/// What a field says of an index, but for its number.
+#[derive(Clone, Copy, Debug)]
+pub(crate) enum IndexField {
+    /// No index.
+    Absent,
+    /// An index with this tag.
+    Present(Sign, TagField),
 }
 
 /// A truth value.
@@ -43,55 +86,6 @@ pub(crate) fn truth(field: &[u8]) -> Option<bool>
     }
 }
 
-/// Whether a field is a decimal: one digit, or more of which the first isn't `0`.
-fn is_decimal(field: &[u8]) -> bool
-    ensures { result ≡ label.is_decimal field.now }
-{
-    match field {
-        [] => false,
-        [digit] => digit.is_ascii_digit(),
-        [first, digits @ ..] => matches!(first, b'1'..=b'9') && are_digits(digits),
-    }
-}
-
-fn are_digits(bytes: &[u8]) -> bool
-    ensures { result ≡ list_all is_ascii_digit bytes.now }
-{
-    bytes.iter().all(|byte| byte.is_ascii_digit())
-}
-
-/// A number of 64 bits.
-fn natural(field: &[u8]) -> Option<u64>
-    ensures { result ≡ option_and_then (script.keep (λ n. nat_lt n (2 ^ 64))) (script.natural field.now) }
-{
-    if !is_decimal(field) {
-        return None;
-    }
-    std::str::from_utf8(field).ok()?.parse().ok()
-}
-
-/// A whole number of 64 bits with its sign.
-fn integer(field: &[u8]) -> Option<i64>
-    ensures { result ≡ script.whole_number_of I64 field.now }
-{
-    match field {
-        [b'-', digits @ ..] => match natural(digits)? {
-            0 => None,
-            size => 0i64.checked_sub_unsigned(size),
-        },
-        _ => i64::try_from(natural(field)?).ok(),
-    }
-}
-
-/// A whole number in the type's range.
-pub(crate) fn number(kind: NumberType, field: &[u8]) -> Option<i64>
-    ensures { result ≡ script.whole_number_of (type_of kind) field.now }
-{
-    match kind {
-        NumberType::I64 => integer(field),
-    }
-}
-
 /// A size, or `-` where there is none.
 pub(crate) fn size(field: &[u8]) -> Option<Option<usize>>
     ensures { result ≡ script.size field.now }
@@ -102,29 +96,129 @@ pub(crate) fn size(field: &[u8]) -> Option<Option<usize>>
     }
 }
 
-/// Puts the bytes that hex digits spell behind those before them.
-fn decode(texts: &mut Vec<u8>, digits: &[u8]) -> Result<(), LineError>
-    ensures decoded { OnOk result (Decodes digits.now texts.old.items texts.new.items) }
-    ensures bad { result ≡ Err LineError.Bad → result_ok (decode_of digits.now) ≡ None }
+/// What stands before a field's `:`, and the tag behind it.
+fn split_tag(field: &[u8]) -> Option<(&[u8], TagField)>
+    ensures { option_map part_and_tag result ≡ parts_of (script.cut_at 58 field.now) }
 {
-    let start = texts.len();
-    texts.resize(start + digits.len() / 2, 0)?;
-    hex::decode_to_slice(digits, &mut texts[start..]).map_err(|_| LineError::Bad)
+    match memchr(b':', field) {
+        None => Some((field, TagField::Absent)),
+        Some(end) => match TagField::read(&field[end + 1..]) {
+            None => None,
+            Some(tag) => Some((&field[..end], tag)),
+        },
+    }
 }
 
-/// Puts the text that a field spells behind the texts before it, and answers how many bytes it has.
+/// The number of an index.
+fn index_of_digits(field: &[u8]) -> Option<(Sign, u64)>
+    ensures { option_map index_number result ≡ option_and_then (script.keep is_index) (script.integer field.now) }
+{
+    match field {
+        [b'-', ..] => match integer(field) {
+            None => None,
+            Some(number) => Some((Sign::Signed, number.cast_unsigned())),
+        },
+        _ => match natural(field) {
+            None => None,
+            Some(number) => Some((Sign::Natural, number)),
+        },
+    }
+}
+
+/// An index.
+pub(crate) fn index(field: &[u8]) -> Option<IndexRead>
+    ensures { option_map index_of result ≡ script.index field.now }
+{
+    match split_tag(field) {
+        None => None,
+        Some((part, tag)) => match index_of_digits(part) {
+            None => None,
+            Some((sign, number)) => Some(IndexRead { sign, tag, number }),
+        },
+    }
+}
+
+/// An index, or `-` where there is none, and its number.
+pub(crate) fn index_or_dash(field: &[u8]) -> Option<(IndexField, u64)>
+    ensures { option_map index_field_of result ≡ script.or_dash script.index field.now }
+{
+    match field {
+        b"-" => Some((IndexField::Absent, 0)),
+        _ => match index(field) {
+            None => None,
+            Some(index) => Some((IndexField::Present(index.sign, index.tag), index.number)),
+        },
+    }
+}
+
+/// Puts the bytes that hex digits spell behind those before them.
+fn decode(store: &mut Vec<u8>, digits: &[u8]) -> Result<(), LineError>
+    ensures decoded { OnOk result (Decodes digits.now store.old.items store.new.items) }
+    ensures bad { result ≡ Err LineError.Bad → result_ok (decode_of digits.now) ≡ None }
+{
+    let start = store.len();
+    store.resize(start + digits.len() / 2, 0)?;
+    hex::decode_to_slice(digits, &mut store[start..]).map_err(|_| LineError::Bad)
+}
+
+/// Puts the text that a field spells behind what the store has, and answers how many bytes it has.
 #[inline(never)]
-pub(crate) fn store_text(texts: &mut Vec<u8>, field: &[u8]) -> Result<usize, LineError>
-    ensures stored { IfOk result (λ len. StoresText field.now texts.old.items texts.new.items len) }
+pub(crate) fn store_text(store: &mut Vec<u8>, field: &[u8]) -> Result<usize, LineError>
+    ensures stored { IfOk result (λ len. StoresText field.now store.old.items store.new.items len) }
     ensures bad { result ≡ Err LineError.Bad → script.text field.now ≡ None }
 {
     let [b'=', digits @ ..] = field else {
         return Err(LineError::Bad);
     };
-    let start = texts.len();
-    decode(texts, digits)?;
-    match simdutf8::basic::from_utf8(&texts[start..]) {
+    let start = store.len();
+    decode(store, digits)?;
+    match simdutf8::basic::from_utf8(&store[start..]) {
         Ok(text) => Ok(text.len()),
         Err(_) => Err(LineError::Bad),
+    }
+}
+
+/// Puts the bytes that a field spells behind what the store has, and answers how many they are.
+pub(crate) fn store_bytes(store: &mut Vec<u8>, field: &[u8]) -> Result<usize, LineError>
+    ensures stored { IfOk result (λ len. StoresBytes field.now store.old.items store.new.items len) }
+    ensures bad { result ≡ Err LineError.Bad → script.bytes field.now ≡ None }
+{
+    let [b'=', digits @ ..] = field else {
+        return Err(LineError::Bad);
+    };
+    let start = store.len();
+    decode(store, digits)?;
+    Ok(store.len() - start)
+}
+
+/// Puts a label's text behind what the store has.
+pub(crate) fn store_label(store: &mut Vec<u8>, field: &[u8]) -> Result<LabelRead, LineError>
+    ensures stored { IfOk result (λ label. StoresLabel field.now store.old.items store.new.items label) }
+    ensures bad { result ≡ Err LineError.Bad → script.label field.now ≡ None }
+{
+    let Some((part, tag)) = split_tag(field) else {
+        return Err(LineError::Bad);
+    };
+    match store_text(store, part) {
+        Err(error) => Err(error),
+        Ok(len) => Ok(LabelRead { tag, len }),
+    }
+}
+
+/// Puts a label's text behind what the store has, or nothing for `-`, and answers how many bytes it has.
+pub(crate) fn store_label_or_dash(
+    store: &mut Vec<u8>,
+    field: &[u8],
+) -> Result<(LabelField, usize), LineError>
+    ensures stored { IfOk result (λ read.
+        StoresLabelField field.now store.old.items store.new.items read.0 read.1) }
+    ensures bad { result ≡ Err LineError.Bad → script.or_dash script.label field.now ≡ None }
+{
+    match field {
+        b"-" => Ok((LabelField::Absent, 0)),
+        _ => match store_label(store, field) {
+            Err(error) => Err(error),
+            Ok(label) => Ok((LabelField::Present(label.tag), label.len)),
+        },
     }
 }

@@ -1,17 +1,27 @@
 //! The fields of a line.
 
-ghost use Rattle.std.specs.Prelude.{◌≡◌, IfOk, MatchOption};
-ghost use Rattle.sval_script.specs.Lines.{whole_number_of};
+ghost use Rattle.std.specs.Prelude.{◌≡◌, None, IfOk, IfSome, MatchOption};
+ghost use Rattle.sval_label.specs.Calls as call;
+ghost use Rattle.sval_label.specs.Grouped.{int_number, int_type};
 ghost use Rattle.sval_script.specs.Lines as script;
+ghost use Rattle.sval_script.specs.Tags.{tag_text, tag_of};
 ghost use Rattle.sval_script.specs.Words.{type_of};
 ghost use Rattle.sval_script.specs.Fields.{line_ahead};
-ghost use Rattle.sval_script.specs.NextFields.{NoField, with_field, EndsBefore};
-ghost use Rattle.sval_script.specs.NextFields.{ReadsWord, ReadsNext, NoNext, StoresNext};
+ghost use Rattle.sval_script.specs.FieldValues.{index_of, index_field_of};
+ghost use Rattle.sval_script.specs.NextFields.{NoField, with_field, EndsBefore, call_before};
+ghost use Rattle.sval_script.specs.NextFields.{ReadsWord, ReadsNext, ReadsAs, NoNext};
+ghost use Rattle.sval_script.specs.NextFields.{StoresNextText, StoresNextBytes, StoresNextLabel, StoresNextLabelField, ReadsName};
 
-use crate::field::{LineError, number, size, store_text, truth};
+use crate::field::{
+    IndexField, IndexRead, LabelField, LabelRead, LineError, index, index_or_dash, size,
+    store_bytes, store_label, store_label_or_dash, store_text, truth,
+};
+use crate::number::number;
+use crate::tag::TagField;
 use crate::word::{NumberType, Word};
 use memchr::memchr2;
 use std::marker::Model;
+use sval_label::Int;
 
 /// What is left of a script, of whose first line the fields are read one after another.
 #[derive(Drop)]
@@ -20,6 +30,24 @@ pub(crate) struct Fields<'a> {
     rest: &'a [u8],
     /// Whether the line feed of the line was read.
     is_over: bool,
+}
+
+/// A name that was read, whose label's text stands in a store.
+#[derive(Clone, Copy, Debug)]
+pub(crate) struct NameRead {
+    pub(crate) parts: NameFields,
+    /// How many bytes the label's text has.
+    pub(crate) len: usize,
+    /// The index's number.
+    pub(crate) number: u64,
+}
+
+/// What the fields of a name say, but for the label's text and the index's number.
+#[derive(Clone, Copy, Debug)]
+pub(crate) struct NameFields {
+    pub(crate) tag: TagField,
+    pub(crate) label: LabelField,
+    pub(crate) index: IndexField,
 }
 
 impl<'a> Model for Fields<'a> {
@@ -81,9 +109,10 @@ impl<'a> Fields<'a> {
     }
 
     /// The next field, a whole number in the type's range.
-    #[tactic(auto, using(crate::proofs::FieldsRead::none_read, crate::proofs::FieldsRead::field_read))]
-    pub(crate) fn number(&mut self, kind: NumberType) -> Option<i64>
-        ensures { ReadsNext (whole_number_of (type_of kind)) self.old self.new result }
+    #[tactic(auto, using(crate::proofs::FieldsRead::none_read, crate::proofs::FieldsRead::read_as))]
+    pub(crate) fn number(&mut self, kind: NumberType) -> Option<Int>
+        ensures number { ReadsAs (script.whole_number_of (type_of kind)) int_number self.old self.new result }
+        ensures of_type { IfSome result (λ number. int_type number ≡ type_of kind) }
     {
         number(kind, self.next()?)
     }
@@ -96,11 +125,97 @@ impl<'a> Fields<'a> {
         size(self.next()?)
     }
 
-    /// The next field, a text, which goes behind the texts before it. Answers how many bytes it has.
-    pub(crate) fn text(&mut self, texts: &mut Vec<u8>) -> Result<usize, LineError>
-        ensures stored { IfOk result (λ len. StoresNext self.old self.new texts.old.items texts.new.items len) }
+    /// The next field, a tag.
+    #[tactic(auto, using(crate::proofs::FieldsRead::none_read, crate::proofs::FieldsRead::read_as))]
+    pub(crate) fn tag(&mut self) -> Option<TagField>
+        ensures { ReadsAs script.tag tag_text self.old self.new result }
+    {
+        TagField::read(self.next()?)
+    }
+
+    /// The next field, a tag, or `-` where there is none.
+    #[tactic(auto, using(crate::proofs::FieldsRead::none_read, crate::proofs::FieldsRead::read_as))]
+    pub(crate) fn tag_or_dash(&mut self) -> Option<TagField>
+        ensures { ReadsAs (script.or_dash script.tag) tag_of self.old self.new result }
+    {
+        TagField::read_or_dash(self.next()?)
+    }
+
+    /// The next field, an index.
+    #[tactic(auto, using(crate::proofs::FieldsRead::none_read, crate::proofs::FieldsRead::read_as))]
+    pub(crate) fn index(&mut self) -> Option<IndexRead>
+        ensures { ReadsAs script.index index_of self.old self.new result }
+    {
+        index(self.next()?)
+    }
+
+    /// The next field, an index, or `-` where there is none, and its number.
+    #[tactic(auto, using(crate::proofs::FieldsRead::none_read, crate::proofs::FieldsRead::read_as))]
+    pub(crate) fn index_or_dash(&mut self) -> Option<(IndexField, u64)>
+        ensures { ReadsAs (script.or_dash script.index) index_field_of self.old self.new result }
+    {
+        index_or_dash(self.next()?)
+    }
+
+    /// The next field, a text, which goes behind what the store has. Answers how many bytes it has.
+    pub(crate) fn text(&mut self, store: &mut Vec<u8>) -> Result<usize, LineError>
+        ensures stored { IfOk result (λ len.
+            StoresNextText self.old self.new store.old.items store.new.items len) }
         ensures bad { result ≡ Err LineError.Bad → NoNext script.text self.old }
     {
-        store_text(texts, self.next().ok_or(LineError::Bad)?)
+        store_text(store, self.next().ok_or(LineError::Bad)?)
+    }
+
+    /// The next field, bytes, which go behind what the store has. Answers how many they are.
+    pub(crate) fn bytes(&mut self, store: &mut Vec<u8>) -> Result<usize, LineError>
+        ensures stored { IfOk result (λ len.
+            StoresNextBytes self.old self.new store.old.items store.new.items len) }
+        ensures bad { result ≡ Err LineError.Bad → NoNext script.bytes self.old }
+    {
+        store_bytes(store, self.next().ok_or(LineError::Bad)?)
+    }
+
+    /// The next field, a label, whose text goes behind what the store has.
+    pub(crate) fn label(&mut self, store: &mut Vec<u8>) -> Result<LabelRead, LineError>
+        ensures stored { IfOk result (λ label.
+            StoresNextLabel self.old self.new store.old.items store.new.items label) }
+        ensures bad { result ≡ Err LineError.Bad → NoNext script.label self.old }
+    {
+        store_label(store, self.next().ok_or(LineError::Bad)?)
+    }
+
+    /// The next field, a label, whose text goes behind what the store has, or `-` where there is none. Answers also how
+    /// many bytes the text has.
+    pub(crate) fn label_or_dash(
+        &mut self,
+        store: &mut Vec<u8>,
+    ) -> Result<(LabelField, usize), LineError>
+        ensures stored { IfOk result (λ read.
+            StoresNextLabelField self.old self.new store.old.items store.new.items read.0 read.1) }
+        ensures bad { result ≡ Err LineError.Bad → NoNext (script.or_dash script.label) self.old }
+    {
+        store_label_or_dash(store, self.next().ok_or(LineError::Bad)?)
+    }
+
+    /// The next three fields, a name, whose label's text goes behind what the store has.
+    pub(crate) fn name(&mut self, store: &mut Vec<u8>) -> Result<NameRead, LineError>
+        ensures stored { IfOk result (λ name. ReadsName self.old self.new store.old.items store.new.items name) }
+        ensures bad { result ≡ Err LineError.Bad
+            → (next : call.Name → script.LineForm) → call_before (script.name next) self.old ≡ None }
+    {
+        match self.tag_or_dash() {
+            None => Err(LineError::Bad),
+            Some(tag) => match self.label_or_dash(store) {
+                Err(error) => Err(error),
+                Ok((label, len)) => match self.index_or_dash() {
+                    None => Err(LineError::Bad),
+                    Some((index, number)) => Ok(NameRead {
+                        parts: NameFields { tag, label, index },
+                        len,
+                        number,
+                    }),
+                },
+            },
+        }
     }
 }

@@ -1,10 +1,9 @@
 //! The laws of scripts, each as a clause that is proved.
 
-ghost use Rattle.sval_script.specs.Laws.{BuiltLinesAreLines, PrintedLinesReadBack, CanonReadsBack, CanonIsOfOneTree, CanonsReadBack, CanonsAreOfOneList};
+ghost use Rattle.sval_script.specs.Laws.{PrintedLinesReadBack, CanonReadsBack, CanonIsOfOneTree, CanonsReadBack, CanonsAreOfOneList};
 
 /// What holds of all scripts.
 pub fn script_laws()
-    ensures built_lines_are_lines { BuiltLinesAreLines }
     ensures printed_lines_read_back { PrintedLinesReadBack }
     ensures canonical_script_reads_back { CanonReadsBack }
     ensures canonical_script_is_of_one_tree { CanonIsOfOneTree }

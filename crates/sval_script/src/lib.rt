@@ -8,7 +8,11 @@ mod field;
 mod fields;
 pub mod laws;
 mod line;
+mod making;
+mod number;
 mod script;
+mod store;
+mod tag;
 mod word;
 
 pub use script::{Script, ScriptError};

@@ -1,59 +1,67 @@
 //! The lines of a script.
 
 ghost use Rattle.std.specs.Prelude.{◌≡◌, None, IfOk};
-ghost use Rattle.sval_label.specs.Made.{lent_call};
 ghost use Rattle.sval_script.specs.NextFields.{call_before, first_call};
-ghost use Rattle.sval_script.specs.Words.{alone_call, opening_call, form_of_word};
-ghost use Rattle.sval_script.specs.LineCalls.{own_len, call_with};
+ghost use Rattle.sval_script.specs.Words.{form_of_word};
+ghost use Rattle.sval_script.specs.LineCalls.{own_len, own_count, stored};
 ghost use Rattle.sval_script.specs.MadeLines.{MakesLine, IsMade};
+ghost use Rattle.sval_script.specs.declared.word.Word.TheVariants as word;
 
-use crate::field::LineError;
-use crate::fields::Fields;
-use crate::word::{Alone, Lifetime, NumberType, Opening, Word};
-use sval_label::Call;
+use crate::field::{LineError, Sign};
+use crate::fields::{Fields, NameFields};
+use crate::store::Store;
+use crate::tag::TagField;
+use crate::word::{Alone, Lifetime, Named, NamedOpening, NumberType, Opening, Side, Word};
 
-/// A call, whose text stands in a store beside it: 16 bytes.
+/// A call, whose texts and wider numbers stand in a store beside it: 16 bytes.
 #[derive(Clone, Copy, Debug)]
 pub(crate) enum Line {
     /// A word alone.
     Alone(Alone),
     /// A truth value.
     Bool(bool),
-    /// A whole number.
-    Number(NumberType, i64),
+    /// A whole number of 8 bits.
+    U8(u8),
+    /// A whole number of 16 bits.
+    U16(u16),
+    /// A whole number of 32 bits.
+    U32(u32),
+    /// A whole number of 64 bits.
+    U64(u64),
+    /// A whole number of 128 bits, which is two numbers of the store.
+    U128,
+    /// A whole number of 8 bits with its sign.
+    I8(i8),
+    /// A whole number of 16 bits with its sign.
+    I16(i16),
+    /// A whole number of 32 bits with its sign.
+    I32(i32),
+    /// A whole number of 64 bits with its sign.
+    I64(i64),
+    /// A whole number of 128 bits with its sign, which is two numbers of the store.
+    I128,
     /// A begin of no given size.
     Opening(Opening),
     /// A begin with a size.
     SizedOpening(Opening, usize),
     /// A part of a text, which is these many bytes of the store.
     TextFragment(Lifetime, usize),
-}
-
-impl Alone {
-    /// The call.
-    fn call<'v>(self) -> Call<'v, 'v>
-        ensures { lent_call result ≡ alone_call self }
-    {
-        match self {
-            Alone::Null => Call::Null,
-            Alone::TextEnd => Call::TextEnd,
-            Alone::SeqValueBegin => Call::SeqValueBegin,
-            Alone::SeqValueEnd => Call::SeqValueEnd,
-            Alone::SeqEnd => Call::SeqEnd,
-        }
-    }
-}
-
-impl Opening {
-    /// The call with this size.
-    fn call<'v>(self, size: Option<usize>) -> Call<'v, 'v>
-        ensures { lent_call result ≡ opening_call self size }
-    {
-        match self {
-            Opening::TextBegin => Call::TextBegin(size),
-            Opening::SeqBegin => Call::SeqBegin(size),
-        }
-    }
+    /// A part of a binary, which is these many bytes of the store.
+    BinaryFragment(Lifetime, usize),
+    /// A tag alone.
+    TagHint(TagField),
+    /// A name, whose label is these many bytes of the store, and whose index is a number of it.
+    Named(Named, NameFields, usize),
+    /// The begin of a container with a name and no given size.
+    NamedOpening(NamedOpening, NameFields, usize),
+    /// The begin of a container with a name, and a size that is another number of the store.
+    SizedNamedOpening(NamedOpening, NameFields, usize),
+    /// A field's tag, and its label's tag and length.
+    Field(Side, TagField, TagField, usize),
+    /// A field's tag, and its index.
+    Place(Side, TagField, Sign, TagField, u64),
+    /// A field's tag, its label's tag, its index, which is a number of the store, and the label's length.
+    FieldPlace(Side, TagField, TagField, Sign, TagField, usize),
 }
 
 impl Line {
@@ -62,62 +70,253 @@ impl Line {
         ensures { result ≡ own_len self }
     {
         match self {
-            Line::TextFragment(_, len) => len,
+            Line::TextFragment(_, len)
+            | Line::BinaryFragment(_, len)
+            | Line::Named(_, _, len)
+            | Line::NamedOpening(_, _, len)
+            | Line::SizedNamedOpening(_, _, len)
+            | Line::Field(_, _, _, len)
+            | Line::FieldPlace(_, _, _, _, _, len) => len,
             _ => 0,
         }
     }
 
-    /// The call, of which this is the text.
-    pub(crate) fn call<'v>(self, text: &'v str) -> Call<'v, 'v>
-        ensures { lent_call result ≡ call_with text.now self }
+    /// How many numbers of the store are this line's own.
+    pub(crate) fn own_count(self) -> usize
+        ensures { result ≡ own_count self }
     {
         match self {
-            Line::Alone(word) => word.call(),
-            Line::Bool(value) => Call::Bool(value),
-            Line::Number(NumberType::I64, number) => Call::I64(number),
-            Line::Opening(opening) => opening.call(None),
-            Line::SizedOpening(opening, size) => opening.call(Some(size)),
-            Line::TextFragment(Lifetime::Borrowed, _) => Call::TextFragment(text),
-            Line::TextFragment(Lifetime::Computed, _) => Call::TextFragmentComputed(text),
+            Line::U128 | Line::I128 | Line::SizedNamedOpening(_, _, _) => 2,
+            Line::Named(_, _, _)
+            | Line::NamedOpening(_, _, _)
+            | Line::FieldPlace(_, _, _, _, _, _) => 1,
+            _ => 0,
         }
+    }
+}
+
+/// Reads a truth value.
+fn read_truth(store: &mut Store, fields: &mut Fields) -> Result<Line, LineError>
+    ensures made { IfOk result (λ line.
+        MakesLine (form_of_word word.Bool) fields.old fields.new (stored store.old) (stored store.new) line) }
+    ensures bad { result ≡ Err LineError.Bad → call_before (form_of_word word.Bool) fields.old ≡ None }
+{
+    match fields.truth() {
+        None => Err(LineError::Bad),
+        Some(value) => Ok(Line::Bool(value)),
+    }
+}
+
+/// Reads a whole number.
+fn read_number(kind: NumberType, store: &mut Store, fields: &mut Fields) -> Result<Line, LineError>
+    ensures made { IfOk result (λ line.
+        MakesLine (form_of_word (word.Number kind)) fields.old fields.new
+        (stored store.old) (stored store.new) line) }
+    ensures bad { result ≡ Err LineError.Bad
+        → call_before (form_of_word (word.Number kind)) fields.old ≡ None }
+{
+    match fields.number(kind) {
+        None => Err(LineError::Bad),
+        Some(number) => store.put_number(number),
+    }
+}
+
+/// Reads a size.
+fn read_opening(opening: Opening, store: &mut Store, fields: &mut Fields) -> Result<Line, LineError>
+    ensures made { IfOk result (λ line.
+        MakesLine (form_of_word (word.Opening opening)) fields.old fields.new
+        (stored store.old) (stored store.new) line) }
+    ensures bad { result ≡ Err LineError.Bad
+        → call_before (form_of_word (word.Opening opening)) fields.old ≡ None }
+{
+    match fields.size() {
+        None => Err(LineError::Bad),
+        Some(None) => Ok(Line::Opening(opening)),
+        Some(Some(size)) => Ok(Line::SizedOpening(opening, size)),
+    }
+}
+
+/// Reads a text.
+fn read_text(life: Lifetime, store: &mut Store, fields: &mut Fields) -> Result<Line, LineError>
+    ensures made { IfOk result (λ line.
+        MakesLine (form_of_word (word.TextFragment life)) fields.old fields.new
+        (stored store.old) (stored store.new) line) }
+    ensures bad { result ≡ Err LineError.Bad
+        → call_before (form_of_word (word.TextFragment life)) fields.old ≡ None }
+{
+    match fields.text(&mut store.bytes) {
+        Err(error) => Err(error),
+        Ok(len) => Ok(Line::TextFragment(life, len)),
+    }
+}
+
+/// Reads bytes.
+fn read_binary(life: Lifetime, store: &mut Store, fields: &mut Fields) -> Result<Line, LineError>
+    ensures made { IfOk result (λ line.
+        MakesLine (form_of_word (word.BinaryFragment life)) fields.old fields.new
+        (stored store.old) (stored store.new) line) }
+    ensures bad { result ≡ Err LineError.Bad
+        → call_before (form_of_word (word.BinaryFragment life)) fields.old ≡ None }
+{
+    match fields.bytes(&mut store.bytes) {
+        Err(error) => Err(error),
+        Ok(len) => Ok(Line::BinaryFragment(life, len)),
+    }
+}
+
+/// Reads a tag alone.
+fn read_tag_hint(store: &mut Store, fields: &mut Fields) -> Result<Line, LineError>
+    ensures made { IfOk result (λ line.
+        MakesLine (form_of_word word.TagHint) fields.old fields.new (stored store.old) (stored store.new) line) }
+    ensures bad { result ≡ Err LineError.Bad → call_before (form_of_word word.TagHint) fields.old ≡ None }
+{
+    match fields.tag() {
+        None => Err(LineError::Bad),
+        Some(tag) => Ok(Line::TagHint(tag)),
+    }
+}
+
+/// Reads a name.
+fn read_named(named: Named, store: &mut Store, fields: &mut Fields) -> Result<Line, LineError>
+    ensures made { IfOk result (λ line.
+        MakesLine (form_of_word (word.Named named)) fields.old fields.new
+        (stored store.old) (stored store.new) line) }
+    ensures bad { result ≡ Err LineError.Bad
+        → call_before (form_of_word (word.Named named)) fields.old ≡ None }
+{
+    match fields.name(&mut store.bytes) {
+        Err(error) => Err(error),
+        Ok(name) => match store.push(name.number) {
+            Err(error) => Err(error),
+            Ok(()) => Ok(Line::Named(named, name.parts, name.len)),
+        },
+    }
+}
+
+/// Reads a name and a size.
+fn read_named_opening(
+    opening: NamedOpening,
+    store: &mut Store,
+    fields: &mut Fields,
+) -> Result<Line, LineError>
+    ensures made { IfOk result (λ line.
+        MakesLine (form_of_word (word.NamedOpening opening)) fields.old fields.new
+        (stored store.old) (stored store.new) line) }
+    ensures bad { result ≡ Err LineError.Bad
+        → call_before (form_of_word (word.NamedOpening opening)) fields.old ≡ None }
+{
+    match fields.name(&mut store.bytes) {
+        Err(error) => Err(error),
+        Ok(name) => match store.push(name.number) {
+            Err(error) => Err(error),
+            Ok(()) => match fields.size() {
+                None => Err(LineError::Bad),
+                Some(None) => Ok(Line::NamedOpening(opening, name.parts, name.len)),
+                Some(Some(size)) => match store.push(size as u64) {
+                    Err(error) => Err(error),
+                    Ok(()) => Ok(Line::SizedNamedOpening(opening, name.parts, name.len)),
+                },
+            },
+        },
+    }
+}
+
+/// Reads a tag and a label.
+fn read_field(side: Side, store: &mut Store, fields: &mut Fields) -> Result<Line, LineError>
+    ensures made { IfOk result (λ line.
+        MakesLine (form_of_word (word.Field side)) fields.old fields.new
+        (stored store.old) (stored store.new) line) }
+    ensures bad { result ≡ Err LineError.Bad
+        → call_before (form_of_word (word.Field side)) fields.old ≡ None }
+{
+    match fields.tag_or_dash() {
+        None => Err(LineError::Bad),
+        Some(tag) => match fields.label(&mut store.bytes) {
+            Err(error) => Err(error),
+            Ok(label) => Ok(Line::Field(side, tag, label.tag, label.len)),
+        },
+    }
+}
+
+/// Reads a tag and an index.
+fn read_place(side: Side, store: &mut Store, fields: &mut Fields) -> Result<Line, LineError>
+    ensures made { IfOk result (λ line.
+        MakesLine (form_of_word (word.Place side)) fields.old fields.new
+        (stored store.old) (stored store.new) line) }
+    ensures bad { result ≡ Err LineError.Bad
+        → call_before (form_of_word (word.Place side)) fields.old ≡ None }
+{
+    match fields.tag_or_dash() {
+        None => Err(LineError::Bad),
+        Some(tag) => match fields.index() {
+            None => Err(LineError::Bad),
+            Some(index) => Ok(Line::Place(side, tag, index.sign, index.tag, index.number)),
+        },
+    }
+}
+
+/// Reads a tag, a label and an index.
+fn read_field_place(side: Side, store: &mut Store, fields: &mut Fields) -> Result<Line, LineError>
+    ensures made { IfOk result (λ line.
+        MakesLine (form_of_word (word.FieldPlace side)) fields.old fields.new
+        (stored store.old) (stored store.new) line) }
+    ensures bad { result ≡ Err LineError.Bad
+        → call_before (form_of_word (word.FieldPlace side)) fields.old ≡ None }
+{
+    match fields.tag_or_dash() {
+        None => Err(LineError::Bad),
+        Some(tag) => match fields.label(&mut store.bytes) {
+            Err(error) => Err(error),
+            Ok(label) => match fields.index() {
+                None => Err(LineError::Bad),
+                Some(index) => match store.push(index.number) {
+                    Err(error) => Err(error),
+                    Ok(()) => Ok(Line::FieldPlace(
+                        side, tag, label.tag, index.sign, index.tag, label.len,
+                    )),
+                },
+            },
+        },
     }
 }
 
 impl Word {
     /// Reads the fields behind the word.
-    fn read_fields(self, texts: &mut Vec<u8>, fields: &mut Fields) -> Result<Line, LineError>
+    fn read_fields(self, store: &mut Store, fields: &mut Fields) -> Result<Line, LineError>
         ensures made { IfOk result (λ line.
-            MakesLine self fields.old fields.new texts.old.items texts.new.items line) }
+            MakesLine (form_of_word self) fields.old fields.new (stored store.old) (stored store.new) line) }
         ensures bad { result ≡ Err LineError.Bad → call_before (form_of_word self) fields.old ≡ None }
     {
         match self {
             Word::Alone(word) => Ok(Line::Alone(word)),
-            Word::Bool => Ok(Line::Bool(fields.truth().ok_or(LineError::Bad)?)),
-            Word::Number(kind) => {
-                Ok(Line::Number(kind, fields.number(kind).ok_or(LineError::Bad)?))
-            }
-            Word::Opening(opening) => match fields.size().ok_or(LineError::Bad)? {
-                None => Ok(Line::Opening(opening)),
-                Some(size) => Ok(Line::SizedOpening(opening, size)),
-            },
-            Word::TextFragment(life) => Ok(Line::TextFragment(life, fields.text(texts)?)),
+            Word::Bool => read_truth(store, fields),
+            Word::Number(kind) => read_number(kind, store, fields),
+            Word::Opening(opening) => read_opening(opening, store, fields),
+            Word::TextFragment(life) => read_text(life, store, fields),
+            Word::BinaryFragment(life) => read_binary(life, store, fields),
+            Word::Named(word) => read_named(word, store, fields),
+            Word::TagHint => read_tag_hint(store, fields),
+            Word::NamedOpening(word) => read_named_opening(word, store, fields),
+            Word::Field(side) => read_field(side, store, fields),
+            Word::Place(side) => read_place(side, store, fields),
+            Word::FieldPlace(side) => read_field_place(side, store, fields),
         }
     }
 }
 
-/// Reads the line that a script begins with, and answers also what stands behind it. Its text goes behind the texts
-/// before it.
+/// Reads the line that a script begins with, and answers also what stands behind it. What finds no place in the line
+/// goes behind what the store has.
 pub(crate) fn read_line<'a>(
-    texts: &mut Vec<u8>,
+    store: &mut Store,
     script: &'a [u8],
 ) -> Result<(Line, &'a [u8]), LineError>
     ensures made { IfOk result (λ got.
-        IsMade (first_call script.now) got.1.now texts.old.items texts.new.items got.0) }
+        IsMade (first_call script.now) got.1.now (stored store.old) (stored store.new) got.0) }
     ensures bad { result ≡ Err LineError.Bad → first_call script.now ≡ None }
 {
     let mut fields = Fields::new(script);
     let word = fields.word().ok_or(LineError::Bad)?;
-    let made = word.read_fields(texts, &mut fields)?;
+    let made = word.read_fields(store, &mut fields)?;
     match fields.end() {
         Some(rest) => Ok((made, rest)),
         None => Err(LineError::Bad),

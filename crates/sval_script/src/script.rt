@@ -9,6 +9,7 @@ ghost use Rattle.sval_script.specs.declared.script.ScriptError.TheVariants as er
 
 use crate::field::LineError;
 use crate::line::{Line, read_line};
+use crate::store::Store;
 use std::alloc::{AllocFailed, Global};
 use std::marker::Model;
 use sval_core::{Lent, Stream, Value};
@@ -32,25 +33,25 @@ impl<T: Drop> From<AllocFailed<T>> for ScriptError {
 
 /// A script that was read: the calls of its lines, in order.
 ///
-/// It is a value, which makes these calls, lends its texts and never refuses. The texts stand decoded in one store, one
-/// after another in the order of the lines.
+/// It is a value, which makes these calls, lends its texts and bytes and never refuses. Texts and bytes stand decoded in
+/// one store, one after another in the order of the lines.
 #[derive(Drop)]
 pub struct Script {
-    texts: String,
     lines: Vec<Line>,
+    store: Store,
 }
 
 impl Model for Script {
     ghost use Rattle.std.specs.Prelude.{List};
-    ghost use Rattle.std.specs.String.{string_bytes};
     ghost use Rattle.sval_label.specs.Calls.{Call};
-    ghost use Rattle.sval_script.specs.LineCalls.{calls_with, HoldsTexts};
+    ghost use Rattle.sval_script.specs.LineCalls.{calls_with, HoldsLines};
 
     ghost Value = { List Call };
 
-    ghost view = { λ script. calls_with (string_bytes script.texts) script.lines.items };
+    ghost view = { λ script. calls_with script.store.bytes.items script.store.numbers.items script.lines.items };
 
-    ghost invariant = { λ script. HoldsTexts (string_bytes script.texts) script.lines.items };
+    ghost invariant = { λ script.
+        HoldsLines script.store.bytes.items script.store.numbers.items script.lines.items };
 }
 
 impl Script {
@@ -73,12 +74,12 @@ impl Script {
         ensures no_memory { result ≡ Err ScriptError.NoMemory → 0 < length bytes.now }
         ensures comes { (result ≡ answer_to (spec.lines bytes.now)) ⊎ (result ≡ Err ScriptError.NoMemory) }
     {
-        let mut texts = Vec::new(alloc);
+        let mut store = Store::new(alloc);
         let mut lines = Vec::new(alloc);
         let mut rest = bytes;
         while !rest.is_empty() {
             let line = lines.len() as u64 + 1;
-            let (made, behind) = match read_line(&mut texts, rest) {
+            let (made, behind) = match read_line(&mut store, rest) {
                 Ok(read) => read,
                 Err(LineError::Bad) => return Err(ScriptError::BadLine { line }),
                 Err(LineError::NoMemory) => return Err(ScriptError::NoMemory),
@@ -86,9 +87,7 @@ impl Script {
             lines.push(made)?;
             rest = behind;
         }
-        // SAFETY: each text was found to be UTF-8 when it was read.
-        let texts = unsafe { String::from_utf8_unchecked(texts) };
-        Ok(Script { texts, lines })
+        Ok(Script { lines, store })
     }
 
     /// The number of its lines.
@@ -103,11 +102,14 @@ impl<'v> Value<'v, Lent<'v>> for Script {
     ghost emission = { makes };
 
     fn stream<S: Stream<Lent<'v>>>(&'v self, stream: &mut S) -> sval_core::Result {
-        let mut texts = self.texts.as_str();
+        let mut bytes = self.store.bytes.as_slice();
+        let mut numbers = self.store.numbers.as_slice();
         for line in &self.lines {
-            let (text, rest) = texts.split_at(line.own_len());
-            stream.take(line.call(text))?;
-            texts = rest;
+            let (own_bytes, bytes_left) = bytes.split_at(line.own_len());
+            let (own_numbers, numbers_left) = numbers.split_at(line.own_count());
+            line.make(own_bytes, own_numbers, stream)?;
+            bytes = bytes_left;
+            numbers = numbers_left;
         }
         Ok(())
     }

@@ -17,6 +17,20 @@ pub(crate) enum Word {
     Opening(Opening),
     /// A text.
     TextFragment(Lifetime),
+    /// Bytes.
+    BinaryFragment(Lifetime),
+    /// A name: a tag, a label and an index.
+    Named(Named),
+    /// A tag.
+    TagHint,
+    /// A name and a size.
+    NamedOpening(NamedOpening),
+    /// A tag and a label.
+    Field(Side),
+    /// A tag and an index.
+    Place(Side),
+    /// A tag, a label and an index.
+    FieldPlace(Side),
 }
 
 /// The words that stand alone.
@@ -24,6 +38,12 @@ pub(crate) enum Word {
 pub(crate) enum Alone {
     Null,
     TextEnd,
+    BinaryEnd,
+    MapKeyBegin,
+    MapKeyEnd,
+    MapValueBegin,
+    MapValueEnd,
+    MapEnd,
     SeqValueBegin,
     SeqValueEnd,
     SeqEnd,
@@ -32,13 +52,24 @@ pub(crate) enum Alone {
 /// The types of whole numbers.
 #[derive(Clone, Copy, Debug)]
 pub(crate) enum NumberType {
+    U8,
+    U16,
+    U32,
+    U64,
+    U128,
+    I8,
+    I16,
+    I32,
     I64,
+    I128,
 }
 
 /// The words of what begins with a size.
 #[derive(Clone, Copy, Debug)]
 pub(crate) enum Opening {
     TextBegin,
+    BinaryBegin,
+    MapBegin,
     SeqBegin,
 }
 
@@ -51,11 +82,48 @@ pub(crate) enum Lifetime {
     Computed,
 }
 
+/// The words with a name.
+#[derive(Clone, Copy, Debug)]
+pub(crate) enum Named {
+    EnumBegin,
+    EnumEnd,
+    TaggedBegin,
+    TaggedEnd,
+    Tag,
+    RecordEnd,
+    TupleEnd,
+    RecordTupleEnd,
+}
+
+/// The words of what begins with a name and a size.
+#[derive(Clone, Copy, Debug)]
+pub(crate) enum NamedOpening {
+    RecordBegin,
+    TupleBegin,
+    RecordTupleBegin,
+}
+
+/// Whether a part begins or ends.
+#[derive(Clone, Copy, Debug)]
+pub(crate) enum Side {
+    Begin,
+    End,
+}
+
 /// Each word with its text.
-static WORDS: [(&'static [u8], Word); 11] = [
+static WORDS: [(&'static [u8], Word); 48] = [
     (b"null", Word::Alone(Alone::Null)),
     (b"bool", Word::Bool),
+    (b"u8", Word::Number(NumberType::U8)),
+    (b"u16", Word::Number(NumberType::U16)),
+    (b"u32", Word::Number(NumberType::U32)),
+    (b"u64", Word::Number(NumberType::U64)),
+    (b"u128", Word::Number(NumberType::U128)),
+    (b"i8", Word::Number(NumberType::I8)),
+    (b"i16", Word::Number(NumberType::I16)),
+    (b"i32", Word::Number(NumberType::I32)),
     (b"i64", Word::Number(NumberType::I64)),
+    (b"i128", Word::Number(NumberType::I128)),
     (b"text_begin", Word::Opening(Opening::TextBegin)),
     (b"text_fragment", Word::TextFragment(Lifetime::Borrowed)),
     (
@@ -63,19 +131,56 @@ static WORDS: [(&'static [u8], Word); 11] = [
         Word::TextFragment(Lifetime::Computed),
     ),
     (b"text_end", Word::Alone(Alone::TextEnd)),
+    (b"binary_begin", Word::Opening(Opening::BinaryBegin)),
+    (b"binary_fragment", Word::BinaryFragment(Lifetime::Borrowed)),
+    (
+        b"binary_fragment_computed",
+        Word::BinaryFragment(Lifetime::Computed),
+    ),
+    (b"binary_end", Word::Alone(Alone::BinaryEnd)),
+    (b"map_begin", Word::Opening(Opening::MapBegin)),
+    (b"map_key_begin", Word::Alone(Alone::MapKeyBegin)),
+    (b"map_key_end", Word::Alone(Alone::MapKeyEnd)),
+    (b"map_value_begin", Word::Alone(Alone::MapValueBegin)),
+    (b"map_value_end", Word::Alone(Alone::MapValueEnd)),
+    (b"map_end", Word::Alone(Alone::MapEnd)),
     (b"seq_begin", Word::Opening(Opening::SeqBegin)),
     (b"seq_value_begin", Word::Alone(Alone::SeqValueBegin)),
     (b"seq_value_end", Word::Alone(Alone::SeqValueEnd)),
     (b"seq_end", Word::Alone(Alone::SeqEnd)),
+    (b"enum_begin", Word::Named(Named::EnumBegin)),
+    (b"enum_end", Word::Named(Named::EnumEnd)),
+    (b"tagged_begin", Word::Named(Named::TaggedBegin)),
+    (b"tagged_end", Word::Named(Named::TaggedEnd)),
+    (b"tag", Word::Named(Named::Tag)),
+    (b"tag_hint", Word::TagHint),
+    (
+        b"record_begin",
+        Word::NamedOpening(NamedOpening::RecordBegin),
+    ),
+    (b"record_value_begin", Word::Field(Side::Begin)),
+    (b"record_value_end", Word::Field(Side::End)),
+    (b"record_end", Word::Named(Named::RecordEnd)),
+    (b"tuple_begin", Word::NamedOpening(NamedOpening::TupleBegin)),
+    (b"tuple_value_begin", Word::Place(Side::Begin)),
+    (b"tuple_value_end", Word::Place(Side::End)),
+    (b"tuple_end", Word::Named(Named::TupleEnd)),
+    (
+        b"record_tuple_begin",
+        Word::NamedOpening(NamedOpening::RecordTupleBegin),
+    ),
+    (b"record_tuple_value_begin", Word::FieldPlace(Side::Begin)),
+    (b"record_tuple_value_end", Word::FieldPlace(Side::End)),
+    (b"record_tuple_end", Word::Named(Named::RecordTupleEnd)),
 ];
 
 /// Where the word of a text stands in [`WORDS`], by the text's place. The other places hold any word.
 static SLOTS: [u8; 128] = [
-    0, 6, 0, 0, 0, 0, 0, 0, 0, 0, 0, 0, 0, 0, 0, 0, 0, 0, 0, 0, 0, 0, 0, 0, 0, 0, 4, 0, 3, 0, 0, 0,
-    0, 0, 0, 0, 0, 0, 0, 0, 0, 0, 0, 0, 0, 0, 0, 0, 0, 0, 0, 2, 0, 0, 0, 0, 0, 0, 0, 0, 0, 0, 0, 0,
-    0, 0, 0, 0, 8, 0, 0, 0, 0, 0, 0, 0, 0, 0, 0, 9, 0, 0, 0, 0, 0, 0, 0, 0, 0, 0, 0, 0, 0, 0, 0, 0,
-    0, 0, 0, 0, 10, 0, 0, 1, 0, 0, 5, 0, 0, 0, 0, 0, 0, 0, 0, 0, 0, 0, 0, 0, 0, 0, 0, 0, 0, 0, 0,
-    7,
+    0, 15, 39, 0, 33, 0, 0, 0, 0, 18, 0, 40, 17, 30, 0, 11, 37, 0, 0, 0, 0, 16, 0, 0, 0, 0, 13, 6,
+    12, 0, 0, 0, 0, 0, 0, 0, 0, 36, 8, 32, 22, 47, 0, 0, 0, 19, 0, 0, 0, 7, 3, 10, 0, 0, 0, 0, 0,
+    0, 0, 0, 0, 2, 23, 5, 0, 0, 21, 0, 27, 0, 0, 0, 9, 24, 0, 0, 44, 0, 0, 28, 0, 0, 0, 0, 4, 0, 0,
+    0, 0, 0, 0, 0, 0, 0, 25, 0, 0, 46, 0, 42, 29, 0, 0, 1, 0, 0, 14, 0, 0, 0, 0, 0, 34, 0, 31, 0,
+    0, 45, 41, 43, 35, 20, 0, 0, 0, 38, 0, 26,
 ];
 
 /// The place of a text: another for each word.
@@ -90,7 +195,7 @@ fn place(text: &[u8]) -> usize
 }
 
 /// The table, whose rows are known by their texts and words alone.
-fn words() -> &'static [(&'static [u8], Word); 11]
+fn words() -> &'static [(&'static [u8], Word); 48]
     ensures { texts_and_words result.now ≡ word_table }
 {
     &WORDS

@@ -1,13 +1,9 @@
 use Rattle.sval_script.proofs.laws.script_laws.Goals as goal
-use Rattle.sval_script.proofs.BuiltLines.{built_lines}
-use Rattle.sval_script.proofs.PrintedLines.{any_lines-printed}
+use Rattle.sval_script.proofs.PrintedLines.{lines-printed}
 use Rattle.sval_script.proofs.CanonicalScripts.{canon-reads_back, canon-one_tree, canons-read_back, canons-one_list}
 
-pub returns-clause-built_lines_are_lines : goal.returns-clause-built_lines_are_lines
-returns-clause-built_lines_are_lines c = built_lines
-
 pub returns-clause-printed_lines_read_back : goal.returns-clause-printed_lines_read_back
-returns-clause-printed_lines_read_back c = any_lines-printed
+returns-clause-printed_lines_read_back c = lines-printed
 
 pub returns-clause-canonical_script_reads_back : goal.returns-clause-canonical_script_reads_back
 returns-clause-canonical_script_reads_back c = canon-reads_back

@@ -1,16 +1,16 @@
-use Rattle.std.proofs.Common.{◌≡◌, ◌+◌, ◌<◌, length, Err, ap, rules, arith, string_bytes, inl, refl}
+use Rattle.std.proofs.Common.{◌≡◌, ◌+◌, ◌<◌, length, Err, ap, rules, arith, inl, refl}
 use Rattle.sval_script.proofs.ScriptLines.{read-start, read-step, read-shorter, read-bad}
-use Rattle.sval_script.proofs.ScriptTexts.{holds_utf8, length-calls_with}
+use Rattle.sval_script.specs.LineCalls.{stored}
+use Rattle.sval_script.proofs.ScriptTexts.{length-calls_with}
 use Rattle.sval_script.proofs.script.Script.read.Goals as goal
 
 pub loop-rest-init : goal.loop-rest-init
-loop-rest-init c = rw (c.new-texts.ensures.items, c.new-lines.ensures.items) (read-start _)
-
-pub from_utf8_unchecked-texts-requires : goal.from_utf8_unchecked-texts-requires
-from_utf8_unchecked-texts-requires c = holds_utf8 _ _ c.loop-rest.invariant.holds
+loop-rest-init c = rw c.new-lines.ensures.items (read-start _ _ c.new-store.ensures.bytes c.new-store.ensures.numbers)
 
 pub returns-clause-few : goal.returns-clause-few
-returns-clause-few c = let count = length-calls_with (string_bytes c.from_utf8_unchecked-texts.result) c.loop-rest.lines.items in omega (arith, count, c.loop-rest.lines.ok, c.loop-rest.lines.small)
+returns-clause-few c =
+    let count = length-calls_with c.loop-rest.store.bytes.items c.loop-rest.store.numbers.items c.loop-rest.lines.items in
+    omega (arith, count, c.loop-rest.lines.ok, c.loop-rest.lines.small)
 
 pub returns-in-Err-Bad-clause-bad_line : goal.returns-in-Err-Bad-clause-bad_line
 returns-in-Err-Bad-clause-bad_line c n e =
@@ -27,8 +27,8 @@ returns-in-Err-Bad-clause-comes c =
     inl (rw (count, bad) refl)
 
 pub loop-rest-smaller : goal.loop-rest-smaller
-loop-rest-smaller c = read-shorter c.loop-rest.rest.now c.loop-rest.texts.items c.read_line.new.texts.items c.in-Ok.read.0 c.in-Ok.read.1.now c.in-Ok.ensures.made
+loop-rest-smaller c = read-shorter c.loop-rest.rest.now (stored c.loop-rest.store) (stored c.read_line.new.store) c.in-Ok.read.0 c.in-Ok.read.1.now c.in-Ok.ensures.made
 
 pub loop-rest-preserved : goal.loop-rest-preserved
 loop-rest-preserved c =
-    rw c.in_ok-push.ensures.items (read-step c.read_line.new.texts.items c.in-Ok.read.0 c.in-Ok.read.1.now c.loop-rest.invariant c.in-Ok.ensures.made)
+    rw c.in_ok-push.ensures.items (read-step (stored c.read_line.new.store) c.in-Ok.read.0 c.in-Ok.read.1.now c.loop-rest.invariant c.in-Ok.ensures.made)

@@ -31,25 +31,25 @@ decimal-digits (digit ∷ next ∷ digits) h =
     let (a, b) = and_parts (is_in_range 49 57 digit) (all_ascii_digits (next ∷ digits)) h in
     (rw (digit-above digit a) b, omega arith)
 
-own : IsNumeralModel (λ ds. all_ascii_digits ds ≡ true) (digits_value 10)
+pub own : IsNumeralModel (λ ds. all_ascii_digits ds ≡ true) (digits_value 10)
 own = numerals_by_value (λ ds. all_ascii_digits ds ≡ true) tells_all_ascii_digits
 
 pub decimal_is_utf8 : (field : List ℕ) → is_decimal field ≡ true → IsUtf8 field
 decimal_is_utf8 field h = IsUtf8-from_ascii field (IsAscii-from_digits field (own.to field (decimal-digits field h).0))
 
--- the number, if it fits 64 bits
-abbrev pub natural_64 : List ℕ → Option ℕ
-natural_64 field = option_and_then (keep (λ n. nat_lt n (2 ^ 64))) (natural field)
+-- the number, if it has so many bits
+abbrev pub natural_of : ℕ → List ℕ → Option ℕ
+natural_of bits field = option_and_then (keep (λ n. nat_lt n (2 ^ bits))) (natural field)
 
-pub parsed : {E : Type 0} (field : List ℕ) (r : Result ℕ E) → is_decimal field ≡ true → ParsesUnsigned 64 10 field r → result_ok r ≡ natural_64 field
-parsed field r h p =
+pub parsed : {E : Type 0} (bits : ℕ) (field : List ℕ) (r : Result ℕ E) → is_decimal field ≡ true → ParsesUnsigned bits 10 field r → result_ok r ≡ natural_of bits field
+parsed bits field r h p =
     let (digits, some) = decimal-digits field h in
-    rw h (by_size r (parse_digits own 64 field r p digits))
+    rw h (by_size bits r (parse_digits own bits field r p digits))
   where
-    by_size : {E : Type 0} (r : Result ℕ E) → OkIff r ((0 < length field) × (digits_value 10 field < 2 ^ 64)) (digits_value 10 field)
-        → result_ok r ≡ keep (λ n. nat_lt n (2 ^ 64)) (digits_value 10 field)
-    by_size (Ok n) (fits, is) = rw (lt-ltb (digits_value 10 field) (2 ^ 64) fits.1) (ap Some is)
-    by_size (Err e) never = elim (cases_lt (digits_value 10 field) (2 ^ 64)) [ inl fits ↦ absurd (never ((decimal-digits field h).1, fits)) | inr above ↦ rw (le-ltb (digits_value 10 field) (2 ^ 64) above) refl ]
+    by_size : {E : Type 0} (bits : ℕ) (r : Result ℕ E) → OkIff r ((0 < length field) × (digits_value 10 field < 2 ^ bits)) (digits_value 10 field)
+        → result_ok r ≡ keep (λ n. nat_lt n (2 ^ bits)) (digits_value 10 field)
+    by_size bits (Ok n) (fits, is) = rw (lt-ltb (digits_value 10 field) (2 ^ bits) fits.1) (ap Some is)
+    by_size bits (Err e) never = elim (cases_lt (digits_value 10 field) (2 ^ bits)) [ inl fits ↦ absurd (never ((decimal-digits field h).1, fits)) | inr above ↦ rw (le-ltb (digits_value 10 field) (2 ^ bits) above) refl ]
 
 -- what `from_utf8` answered, as an option
 pub utf8_read : {E : Type 0} (Q : Type 0) (P : E → Type 0) (field : List ℕ) (r : Result (Bor (List ℕ)) E) → IsUtf8 field → None ≡ result_ok r

@@ -1,0 +1,45 @@
+-- Lines that were made of what was read.
+use Rattle.std.specs.Prelude.{◌≡◌, [], Result, Ok, Err, IfOk}
+use Rattle.std.proofs.Common.{sym, ap, ◌∙◌}
+use Rattle.std.proofs.lemmas.List.{append-nil}
+use Rattle.sval_label.specs.Calls.{Call}
+use Rattle.sval_label.specs.Calls as call
+use Rattle.sval_label.specs.declared.grouped.Int.{Int}
+use Rattle.sval_label.specs.Grouped.{int_number, int_type, int_call}
+use Rattle.sval_script.specs.Lines.{LineForm, complete, whole_number, whole_number_of}
+use Rattle.sval_script.specs.Words.{type_of}
+use Rattle.sval_script.specs.declared.word.NumberType.{NumberType}
+use Rattle.sval_script.specs.declared.field.LineError.{LineError}
+use Rattle.sval_script.specs.Fields.{LineLeft}
+use Rattle.sval_script.specs.NextFields.{call_before, NextIs}
+use Rattle.sval_script.specs.LineCalls.{Stored, own_len, own_count, call_with, HasText}
+use Rattle.sval_script.specs.MadeLines.{Puts, MakesLine, StoresCall}
+use Rattle.sval_script.specs.declared.line.Line.{Line}
+
+puts_nothing : (store : Stored) (line : Line) → own_len line ≡ 0 → own_count line ≡ 0 → HasText line [] → Puts [] [] store store line
+puts_nothing store line len count text = record {
+  has_text = text;
+  bytes_stored = sym (append-nil store.bytes);
+  numbers_stored = sym (append-nil store.numbers);
+  has_len = sym len;
+  has_count = sym count;
+}
+
+-- a line with nothing of its own in the store
+pub says_all : (call : Call) (store : Stored) (line : Line) → call_with [] [] line ≡ call → own_len line ≡ 0 → own_count line ≡ 0 → HasText line [] → StoresCall call store store line
+says_all call store line says len count text = record { bytes = []; numbers = []; says = says; puts = puts_nothing store line len count text }
+
+pub makes_all : (form : LineForm) (fields rest : LineLeft) (store : Stored) (line : Line) → call_before form fields ≡ call_before (complete (call_with [] [] line)) rest → own_len line ≡ 0
+    → own_count line ≡ 0 → HasText line [] → MakesLine form fields rest store store line
+makes_all form fields rest store line spells len count text = record { bytes = []; numbers = []; spells = spells; puts = puts_nothing store line len count text }
+
+pub number_made : (kind : NumberType) (fields rest : LineLeft) (n : Int) (old new : Stored) (r : Result Line LineError) → NextIs (whole_number_of (type_of kind)) fields rest (int_number n) → int_type n ≡ type_of kind
+    → IfOk r (λ line. StoresCall (int_call n) old new line) → IfOk r (λ line. MakesLine (whole_number (type_of kind)) fields rest old new line)
+number_made kind fields rest n old new (Err e) says of_type s = tt
+number_made kind fields rest n old new (Ok line) says of_type s = record {
+  bytes = s.bytes;
+  numbers = s.numbers;
+  spells = says (λ z. complete (call.Int (type_of kind) z))
+      ∙ ap (λ c. call_before (complete c) rest) (ap (λ t. call.Int t (int_number n)) (sym of_type) ∙ sym s.says);
+  puts = s.puts;
+}

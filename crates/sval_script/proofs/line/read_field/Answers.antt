@@ -1,0 +1,29 @@
+use Rattle.std.proofs.Common.{◌≡◌, [], Err, ap, ◌∙◌, sym, append-nil, refl}
+use Rattle.sval_label.specs.Calls as call
+use Rattle.sval_script.specs.Lines.{complete, field, label}
+use Rattle.sval_script.specs.Words.{part_call}
+use Rattle.sval_script.specs.Tags.{tag_of}
+use Rattle.sval_script.specs.declared.field.LineError.TheVariants.{Bad}
+use Rattle.sval_script.proofs.line.read_field.Goals as goal
+
+pub returns-in-Err-clause-bad : goal.returns-in-Err-clause-bad
+returns-in-Err-clause-bad c bad =
+    let same : c.in-Err.error ≡ Bad = cc bad in
+    c.in-Some.ensures (λ t. field label (λ l. complete (part_call c.args.side (call.Field t l)))) ∙ c.in-Err.ensures.bad (ap Err same) _
+
+pub returns-in-Ok-clause-made : goal.returns-in-Ok-clause-made
+returns-in-Ok-clause-made c =
+    let s = c.in-Ok.ensures.stored in
+    record {
+      bytes = s.bytes;
+      numbers = [];
+      spells = c.in-Some.ensures (λ t. field label (λ l. complete (part_call c.args.side (call.Field t l))))
+          ∙ s.spells (λ l. complete (part_call c.args.side (call.Field (tag_of c.in-Some.tag) l)));
+      puts = record {
+        has_text = s.is_good;
+        bytes_stored = s.stored;
+        numbers_stored = sym (append-nil c.args.store.now.numbers.items);
+        has_len = s.has_len;
+        has_count = refl;
+      };
+    }

@@ -1,0 +1,330 @@
+//! The calls that lines make.
+
+ghost use Rattle.std.specs.Prelude.{◌≡◌, ℕ, List, ◌≤◌, option_map, length};
+ghost use Rattle.std.specs.Str.{IsUtf8};
+ghost use Rattle.sval_label.specs.Made.{call_of};
+ghost use Rattle.sval_label.specs.SeenIndex.{seen_index};
+ghost use Rattle.sval_label.specs.SeenName.{seen_name};
+ghost use Rattle.sval_label.specs.Grouped.{seen_slot};
+ghost use Rattle.sval_label.specs.Calls as call;
+ghost use Rattle.sval_core.specs.Law.{Answers};
+ghost use Rattle.sval_script.specs.Tags.{tag_of};
+ghost use Rattle.sval_script.specs.FieldValues.{made_index, made_label, index_from, label_from};
+ghost use Rattle.sval_script.specs.NextFields.{name_from};
+ghost use Rattle.sval_script.specs.Words.{alone_call, opening_call, named_call, head_of, part_call};
+ghost use Rattle.sval_script.specs.LineCalls.{own_count, wide, call_with, HasText};
+
+use crate::field::{IndexField, LabelField, Sign};
+use crate::fields::NameFields;
+use crate::line::Line;
+use crate::tag::TagField;
+use crate::word::{Alone, Lifetime, Named, NamedOpening, Opening, Side};
+use sval_core::{Lent, Result, Stream};
+use sval_label::{AnyCall, GroupedCall, Index, Label, Lending, Name, Slot, Tag};
+
+impl Alone {
+    /// The call.
+    fn call<'c, T, B>(self) -> AnyCall<'c, T, B>
+        ensures { (text : T → List ℕ) (bytes : B → List ℕ) → call_of text bytes result ≡ alone_call self }
+    {
+        match self {
+            Alone::Null => AnyCall::Null,
+            Alone::TextEnd => AnyCall::TextEnd,
+            Alone::BinaryEnd => AnyCall::BinaryEnd,
+            Alone::MapKeyBegin => AnyCall::MapKeyBegin,
+            Alone::MapKeyEnd => AnyCall::MapKeyEnd,
+            Alone::MapValueBegin => AnyCall::MapValueBegin,
+            Alone::MapValueEnd => AnyCall::MapValueEnd,
+            Alone::MapEnd => AnyCall::MapEnd,
+            Alone::SeqValueBegin => AnyCall::SeqValueBegin,
+            Alone::SeqValueEnd => AnyCall::SeqValueEnd,
+            Alone::SeqEnd => AnyCall::SeqEnd,
+        }
+    }
+}
+
+impl Opening {
+    /// The call with this size.
+    fn call<'c, T, B>(self, size: Option<usize>) -> AnyCall<'c, T, B>
+        ensures { (text : T → List ℕ) (bytes : B → List ℕ) → call_of text bytes result ≡ opening_call self size }
+    {
+        match self {
+            Opening::TextBegin => AnyCall::TextBegin(size),
+            Opening::BinaryBegin => AnyCall::BinaryBegin(size),
+            Opening::MapBegin => AnyCall::MapBegin(size),
+            Opening::SeqBegin => AnyCall::SeqBegin(size),
+        }
+    }
+}
+
+impl Named {
+    /// The call with this name.
+    fn call<'c, T, B>(self, name: Name<'c>) -> AnyCall<'c, T, B>
+        ensures { (text : T → List ℕ) (bytes : B → List ℕ)
+            → call_of text bytes result ≡ named_call self (seen_name name.entry) }
+    {
+        match self {
+            Named::EnumBegin => AnyCall::EnumBegin(name),
+            Named::EnumEnd => AnyCall::EnumEnd(name),
+            Named::TaggedBegin => AnyCall::TaggedBegin(name),
+            Named::TaggedEnd => AnyCall::TaggedEnd(name),
+            Named::Tag => AnyCall::Tag(name),
+            Named::RecordEnd => AnyCall::RecordEnd(name),
+            Named::TupleEnd => AnyCall::TupleEnd(name),
+            Named::RecordTupleEnd => AnyCall::RecordTupleEnd(name),
+        }
+    }
+}
+
+impl NamedOpening {
+    /// The call with this name and size.
+    fn call<'c, T, B>(self, name: Name<'c>, size: Option<usize>) -> AnyCall<'c, T, B>
+        ensures { (text : T → List ℕ) (bytes : B → List ℕ)
+            → call_of text bytes result ≡ call.Begin (head_of self (seen_name name.entry)) size }
+    {
+        match self {
+            NamedOpening::RecordBegin => AnyCall::RecordBegin(name, size),
+            NamedOpening::TupleBegin => AnyCall::TupleBegin(name, size),
+            NamedOpening::RecordTupleBegin => AnyCall::RecordTupleBegin(name, size),
+        }
+    }
+}
+
+impl Side {
+    /// The call at this place.
+    fn call<'c, T, B>(self, slot: Slot<'c>) -> AnyCall<'c, T, B>
+        ensures { (text : T → List ℕ) (bytes : B → List ℕ)
+            → call_of text bytes result ≡ part_call self (seen_slot slot.entry) }
+    {
+        match self {
+            Side::Begin => GroupedCall::PartBegin(slot).call(),
+            Side::End => GroupedCall::PartEnd(slot).call(),
+        }
+    }
+}
+
+/// The label with this tag and text.
+fn label(tag: TagField, text: &str) -> Label<'_>
+    ensures { result ≡ made_label tag text.now }
+{
+    let label = Label::new_computed(text);
+    match tag.tag() {
+        None => label,
+        Some(tag) => label.with_tag(&tag),
+    }
+}
+
+/// The index with this tag and number.
+fn index(sign: Sign, tag: TagField, number: u64) -> Index
+    ensures { seen_index result ≡ made_index sign tag number }
+{
+    let index = match sign {
+        Sign::Natural => Index::new_u64(number),
+        Sign::Signed => Index::new_i64(number.cast_signed()),
+    };
+    match tag.tag() {
+        None => index,
+        Some(tag) => index.with_tag(&tag),
+    }
+}
+
+impl LabelField {
+    /// The label with this text, if there is one.
+    fn label(self, text: &str) -> Option<Label<'_>>
+        ensures { result ≡ label_from self text.now }
+    {
+        match self {
+            LabelField::Absent => None,
+            LabelField::Present(tag) => Some(label(tag, text)),
+        }
+    }
+}
+
+impl IndexField {
+    /// The index with this number, if there is one.
+    fn index(self, number: u64) -> Option<Index>
+        ensures { option_map seen_index result ≡ index_from self number }
+    {
+        match self {
+            IndexField::Absent => None,
+            IndexField::Present(sign, tag) => Some(index(sign, tag, number)),
+        }
+    }
+}
+
+/// Makes the call with this name.
+fn make_named<L: Lending, S: Stream<L>>(
+    word: Named,
+    parts: NameFields,
+    text: &str,
+    number: u64,
+    stream: &mut S,
+) -> Result
+    ensures { Answers S.law result (S.standing stream.old)
+        (named_call word (name_from parts text.now number)) (S.standing stream.new) }
+{
+    let tag = parts.tag.tag();
+    let label = parts.label.label(text);
+    let index = parts.index.index(number);
+    let name = Name {
+        tag: tag.as_ref(),
+        label: label.as_ref(),
+        index: index.as_ref(),
+    };
+    stream.take(word.call(name))
+}
+
+/// Makes the begin of a container with this name.
+fn make_named_opening<L: Lending, S: Stream<L>>(
+    word: NamedOpening,
+    parts: NameFields,
+    text: &str,
+    number: u64,
+    size: Option<usize>,
+    stream: &mut S,
+) -> Result
+    ensures { Answers S.law result (S.standing stream.old)
+        (call.Begin (head_of word (name_from parts text.now number)) size) (S.standing stream.new) }
+{
+    let tag = parts.tag.tag();
+    let label = parts.label.label(text);
+    let index = parts.index.index(number);
+    let name = Name {
+        tag: tag.as_ref(),
+        label: label.as_ref(),
+        index: index.as_ref(),
+    };
+    stream.take(word.call(name, size))
+}
+
+/// Makes the begin or the end of a field with this label.
+fn make_field<L: Lending, S: Stream<L>>(
+    side: Side,
+    tag: TagField,
+    label_tag: TagField,
+    text: &str,
+    stream: &mut S,
+) -> Result
+    ensures { Answers S.law result (S.standing stream.old)
+        (part_call side (call.Field (tag_of tag) (made_label label_tag text.now))) (S.standing stream.new) }
+{
+    let tag = tag.tag();
+    let label = label(label_tag, text);
+    stream.take(side.call(Slot::Field(tag.as_ref(), &label)))
+}
+
+/// Makes the begin or the end of a field with this index.
+fn make_place<L: Lending, S: Stream<L>>(
+    side: Side,
+    tag: TagField,
+    sign: Sign,
+    index_tag: TagField,
+    number: u64,
+    stream: &mut S,
+) -> Result
+    ensures { Answers S.law result (S.standing stream.old)
+        (part_call side (call.Place (tag_of tag) (made_index sign index_tag number))) (S.standing stream.new) }
+{
+    let tag = tag.tag();
+    let index = index(sign, index_tag, number);
+    stream.take(side.call(Slot::Place(tag.as_ref(), &index)))
+}
+
+/// Makes the begin or the end of a field with this label and this index.
+fn make_field_place<L: Lending, S: Stream<L>>(
+    side: Side,
+    tag: TagField,
+    label_tag: TagField,
+    text: &str,
+    sign: Sign,
+    index_tag: TagField,
+    number: u64,
+    stream: &mut S,
+) -> Result
+    ensures { Answers S.law result (S.standing stream.old)
+        (part_call side (call.FieldPlace (tag_of tag) (made_label label_tag text.now)
+        (made_index sign index_tag number))) (S.standing stream.new) }
+{
+    let tag = tag.tag();
+    let label = label(label_tag, text);
+    let index = index(sign, index_tag, number);
+    stream.take(side.call(Slot::FieldPlace(tag.as_ref(), &label, &index)))
+}
+
+/// The text that bytes are.
+fn text(bytes: &[u8]) -> &str
+    requires { IsUtf8 bytes.now }
+    ensures { result.now ≡ bytes.now }
+{
+    // SAFETY: they were found to be UTF-8 when they were read.
+    unsafe { std::str::from_utf8_unchecked(bytes) }
+}
+
+/// The number of 128 bits that two numbers are, the upper one first.
+fn wide(numbers: &[u64]) -> u128
+    requires { 2 ≤ length numbers.now }
+    ensures { result ≡ wide numbers.now }
+{
+    u128::from(numbers[0]) * (1 << 64) + u128::from(numbers[1])
+}
+
+impl Line {
+    /// Makes the call, of which these are the bytes and numbers.
+    pub(crate) fn make<'v, S: Stream<Lent<'v>>>(
+        self,
+        bytes: &'v [u8],
+        numbers: &[u64],
+        stream: &mut S,
+    ) -> Result
+        requires text { HasText self bytes.now }
+        requires count { length numbers.now ≡ own_count self }
+        ensures { Answers S.law result (S.standing stream.old)
+            (call_with bytes.now numbers.now self) (S.standing stream.new) }
+    {
+        match self {
+            Line::Alone(word) => stream.take(word.call()),
+            Line::Bool(value) => stream.bool(value),
+            Line::U8(number) => stream.u8(number),
+            Line::U16(number) => stream.u16(number),
+            Line::U32(number) => stream.u32(number),
+            Line::U64(number) => stream.u64(number),
+            Line::U128 => stream.u128(wide(numbers)),
+            Line::I8(number) => stream.i8(number),
+            Line::I16(number) => stream.i16(number),
+            Line::I32(number) => stream.i32(number),
+            Line::I64(number) => stream.i64(number),
+            Line::I128 => stream.i128(wide(numbers).cast_signed()),
+            Line::Opening(opening) => stream.take(opening.call(None)),
+            Line::SizedOpening(opening, size) => stream.take(opening.call(Some(size))),
+            Line::TextFragment(Lifetime::Borrowed, _) => stream.text_fragment(text(bytes)),
+            Line::TextFragment(Lifetime::Computed, _) => stream.text_fragment_computed(text(bytes)),
+            Line::BinaryFragment(Lifetime::Borrowed, _) => stream.binary_fragment(bytes),
+            Line::BinaryFragment(Lifetime::Computed, _) => stream.binary_fragment_computed(bytes),
+            Line::TagHint(tag) => stream.tag_hint(&Tag::new(tag.text())),
+            Line::Named(word, parts, _) => make_named(word, parts, text(bytes), numbers[0], stream),
+            Line::NamedOpening(word, parts, _) => {
+                make_named_opening(word, parts, text(bytes), numbers[0], None, stream)
+            }
+            Line::SizedNamedOpening(word, parts, _) => {
+                let size = Some(numbers[1] as usize);
+                make_named_opening(word, parts, text(bytes), numbers[0], size, stream)
+            }
+            Line::Field(side, tag, label, _) => make_field(side, tag, label, text(bytes), stream),
+            Line::Place(side, tag, sign, index, number) => {
+                make_place(side, tag, sign, index, number, stream)
+            }
+            Line::FieldPlace(side, tag, label, sign, index, _) => {
+                make_field_place(
+                    side,
+                    tag,
+                    label,
+                    text(bytes),
+                    sign,
+                    index,
+                    numbers[0],
+                    stream,
+                )
+            }
+        }
+    }
+}
