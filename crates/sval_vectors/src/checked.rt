@@ -2,100 +2,47 @@
 
 use crate::said::Said;
 use std::alloc::Global;
+use std::test::Fail;
 use sval_check::{CheckError, check};
 use sval_core::Call;
+use sval_script::{Script, ScriptError};
 
-/// What is said of these calls, where no refusal follows.
-fn checked<'v>(alloc: Global, calls: &'v [Call<'v, 'v>]) -> Result<(), CheckError> {
-    check(alloc, &Said::willing(calls))
+/// What is said of the calls of a script.
+fn checked(alloc: Global, script: &str) -> Result<Result<(), CheckError>, ScriptError> {
+    let script = Script::read(alloc, script.as_bytes())?;
+    Ok(check(alloc, &script))
 }
 
-/// The greatest size.
-const GREATEST: Option<usize> = Some(18_446_744_073_709_551_615);
-
 #[test]
-fn says_what_calls_spell(rt: HostRuntime) {
-    let table: [(&'static [Call<'static, 'static>], Result<(), CheckError>); 16] = [
-        (&[Call::Null], Ok(())),
-        (&[], Err(CheckError::Unfinished)),
+fn says_what_calls_spell(rt: HostRuntime) -> Result<(), Fail> {
+    let table: [(&'static str, Result<(), CheckError>); 16] = [
+        ("null\n", Ok(())),
+        ("", Err(CheckError::Unfinished)),
+        ("null\nnull\n", Err(CheckError::BadCall { at: 2 })),
+        ("text_begin 2\ntext_fragment =6162\ntext_end\n", Ok(())),
+        ("text_begin 1\ntext_fragment =6162\ntext_end\n", Err(CheckError::BadCall { at: 2 })),
         (
-            &[Call::Null, Call::Null],
-            Err(CheckError::BadCall { at: 2 }),
-        ),
-        (
-            &[
-                Call::TextBegin(Some(2)),
-                Call::TextFragment("ab"),
-                Call::TextEnd,
-            ],
-            Ok(()),
-        ),
-        (
-            &[
-                Call::TextBegin(Some(1)),
-                Call::TextFragment("ab"),
-                Call::TextEnd,
-            ],
-            Err(CheckError::BadCall { at: 2 }),
-        ),
-        (
-            &[
-                Call::TextBegin(Some(3)),
-                Call::TextFragmentComputed("ab"),
-                Call::TextEnd,
-            ],
+            "text_begin 3\ntext_fragment_computed =6162\ntext_end\n",
             Err(CheckError::BadCall { at: 3 }),
         ),
+        ("text_begin -\ntext_fragment =6162\ntext_fragment_computed =63\ntext_end\n", Ok(())),
+        ("text_begin 18446744073709551615\ntext_fragment =6162\n", Err(CheckError::Unfinished)),
         (
-            &[
-                Call::TextBegin(None),
-                Call::TextFragment("ab"),
-                Call::TextFragmentComputed("c"),
-                Call::TextEnd,
-            ],
-            Ok(()),
-        ),
-        (
-            &[Call::TextBegin(GREATEST), Call::TextFragment("ab")],
-            Err(CheckError::Unfinished),
-        ),
-        (
-            &[
-                Call::TextBegin(GREATEST),
-                Call::TextFragment("ab"),
-                Call::TextEnd,
-            ],
+            "text_begin 18446744073709551615\ntext_fragment =6162\ntext_end\n",
             Err(CheckError::BadCall { at: 3 }),
         ),
-        (
-            &[Call::SeqBegin(GREATEST), Call::SeqValueBegin],
-            Err(CheckError::Unfinished),
-        ),
-        (
-            &[Call::SeqBegin(GREATEST), Call::SeqEnd],
-            Err(CheckError::BadCall { at: 2 }),
-        ),
-        (
-            &[Call::SeqBegin(Some(0)), Call::SeqValueBegin],
-            Err(CheckError::BadCall { at: 2 }),
-        ),
-        (
-            &[Call::SeqBegin(None), Call::SeqValueBegin, Call::SeqValueEnd],
-            Err(CheckError::BadCall { at: 3 }),
-        ),
-        (
-            &[Call::SeqBegin(None), Call::Null],
-            Err(CheckError::BadCall { at: 2 }),
-        ),
-        (&[Call::TextEnd], Err(CheckError::BadCall { at: 1 })),
-        (
-            &[Call::Bool(true), Call::SeqEnd],
-            Err(CheckError::BadCall { at: 2 }),
-        ),
+        ("seq_begin 18446744073709551615\nseq_value_begin\n", Err(CheckError::Unfinished)),
+        ("seq_begin 18446744073709551615\nseq_end\n", Err(CheckError::BadCall { at: 2 })),
+        ("seq_begin 0\nseq_value_begin\n", Err(CheckError::BadCall { at: 2 })),
+        ("seq_begin -\nseq_value_begin\nseq_value_end\n", Err(CheckError::BadCall { at: 3 })),
+        ("seq_begin -\nnull\n", Err(CheckError::BadCall { at: 2 })),
+        ("text_end\n", Err(CheckError::BadCall { at: 1 })),
+        ("bool true\nseq_end\n", Err(CheckError::BadCall { at: 2 })),
     ];
-    for (calls, want) in table {
-        assert_eq!(rt; checked(rt.alloc(), calls), want);
+    for (script, want) in table {
+        assert_eq!(rt; checked(rt.alloc(), script)?, want, "{script:?}");
     }
+    Ok(())
 }
 
 #[test]
@@ -111,16 +58,16 @@ fn counts_items_at_depth(rt: HostRuntime) {
         Call::SeqValueEnd,
         Call::SeqEnd,
     ];
-    assert_eq!(rt; checked(rt.alloc(), &inner_is_full), Ok(()));
+    assert_eq!(rt; check(rt.alloc(), &Said::willing(&inner_is_full)), Ok(()));
     assert_eq!(rt;
-        checked(rt.alloc(), &inner_is_full[..8]),
+        check(rt.alloc(), &Said::willing(&inner_is_full[..8])),
         Err(CheckError::Unfinished)
     );
 
     let mut inner_is_short = inner_is_full;
     inner_is_short[2] = Call::SeqBegin(Some(2));
     assert_eq!(rt;
-        checked(rt.alloc(), &inner_is_short),
+        check(rt.alloc(), &Said::willing(&inner_is_short)),
         Err(CheckError::BadCall { at: 7 })
     );
 }

@@ -115,29 +115,32 @@ impl Sink for Narrow {
 }
 
 /// A text with escapes, a number and a truth value in a sequence.
-const CALLS: &[Call<'static, 'static>] = &[
-    Call::SeqBegin(None),
-    Call::SeqValueBegin,
-    Call::TextBegin(None),
-    Call::TextFragment("a\"\u{01}b"),
-    Call::TextEnd,
-    Call::SeqValueEnd,
-    Call::SeqValueBegin,
-    Call::I64(-12),
-    Call::SeqValueEnd,
-    Call::SeqValueBegin,
-    Call::Bool(true),
-    Call::SeqValueEnd,
-    Call::SeqEnd,
-];
+fn calls<'a>() -> [Call<'a, 'a>; 13] {
+    [
+        Call::SeqBegin(None),
+        Call::SeqValueBegin,
+        Call::TextBegin(None),
+        Call::TextFragment("a\"\u{01}b"),
+        Call::TextEnd,
+        Call::SeqValueEnd,
+        Call::SeqValueBegin,
+        Call::I64(-12),
+        Call::SeqValueEnd,
+        Call::SeqValueBegin,
+        Call::Bool(true),
+        Call::SeqValueEnd,
+        Call::SeqEnd,
+    ]
+}
 
 /// The JSON of these.
 const JSON: &[u8] = b"[\"a\\\"\\u0001b\",-12,true]";
 
 #[test]
 fn writes_the_rest_of_each_piece(rt: HostRuntime) -> Result<(), Fail> {
+    let calls = calls();
     let mut sink = Balky::trickling(rt.alloc(), None);
-    stream_to_io_write(&mut sink, &Said::willing(CALLS))?;
+    stream_to_io_write(&mut sink, &Said::willing(&calls))?;
     assert_eq!(rt; sink.taken.as_slice(), JSON);
     assert_eq!(rt; sink.calls, JSON.len());
     Ok(())
@@ -145,6 +148,7 @@ fn writes_the_rest_of_each_piece(rt: HostRuntime) -> Result<(), Fail> {
 
 #[test]
 fn stops_where_a_sink_stops(rt: HostRuntime) {
+    let calls = calls();
     let kinds = [
         (SinkError::Failed, ErrorKind::IO),
         (SinkError::NoMemory, ErrorKind::NoMemory),
@@ -153,7 +157,7 @@ fn stops_where_a_sink_stops(rt: HostRuntime) {
         for taken in 0..JSON.len() {
             let at = taken + 1;
             let mut sink = Balky::trickling(rt.alloc(), Some((at, stop)));
-            let answer = stream_to_io_write(&mut sink, &Said::willing(CALLS));
+            let answer = stream_to_io_write(&mut sink, &Said::willing(&calls));
             assert_eq!(rt;
                 answer.map_err(|error| error.kind()),
                 Err(kind),
@@ -167,13 +171,14 @@ fn stops_where_a_sink_stops(rt: HostRuntime) {
 
 #[test]
 fn fails_where_room_is_lacking(rt: HostRuntime) -> Result<(), Fail> {
+    let calls = calls();
     for room in 0..JSON.len() {
         let mut sink = Narrow {
             taken: VecSink::new(rt.alloc()),
             room,
             faults: 0,
         };
-        let answer = stream_to_io_write(&mut sink, &Said::willing(CALLS));
+        let answer = stream_to_io_write(&mut sink, &Said::willing(&calls));
         assert_eq!(rt;
             answer.map_err(|error| error.kind()),
             Err(ErrorKind::IO),
@@ -186,7 +191,7 @@ fn fails_where_room_is_lacking(rt: HostRuntime) -> Result<(), Fail> {
         room: JSON.len(),
         faults: 0,
     };
-    stream_to_io_write(&mut enough, &Said::willing(CALLS))?;
+    stream_to_io_write(&mut enough, &Said::willing(&calls))?;
     assert_eq!(rt; enough.taken.as_slice(), JSON);
     assert_eq!(rt; enough.room, 0);
     Ok(())

@@ -1,6 +1,6 @@
 //! Maps, records, tuples, record tuples and binaries.
 
-use super::Wanted::{BadCall, Json, Unfinished};
+use super::Wanted::{BadCall, BadLine, Json, Unfinished};
 use super::try_rows;
 use std::test::Fail;
 
@@ -128,6 +128,43 @@ fn tuples(rt: HostRuntime) -> Result<(), Fail> {
         (
             "tuple_begin - - - -\nrecord_value_begin - =61\n",
             BadCall(2),
+        ),
+    ];
+    try_rows(&rt, rt.alloc(), &rows)
+}
+
+#[test]
+fn sequences(rt: HostRuntime) -> Result<(), Fail> {
+    let rows = [
+        (
+            "seq_begin 0\nseq_end\n",
+            Json("[]"),
+        ),
+        (
+            "seq_begin -\nseq_value_begin\ni64 -7\nseq_value_end\nseq_end\n",
+            Json("[-7]"),
+        ),
+        (
+            "seq_begin 3\nseq_value_begin\nnull\nseq_value_end\nseq_value_begin\ntext_begin -\ntext_end\n\
+             seq_value_end\nseq_value_begin\nbool false\nseq_value_end\nseq_end\n",
+            Json("[null,\"\",false]"),
+        ),
+        (
+            "seq_begin -\nseq_value_begin\nseq_begin -\nseq_end\nseq_value_end\nseq_value_begin\n\
+             seq_begin -\nseq_end\nseq_value_end\nseq_end\n",
+            Json("[[],[]]"),
+        ),
+        (
+            "seq_begin -\nseq_value_begin\nseq_begin -\nseq_value_begin\nseq_begin -\nseq_end\n\
+             seq_value_end\nseq_end\nseq_value_end\nseq_end\n",
+            Json("[[[]]]"),
+        ),
+        (
+            "seq_begin -\nseq_value_begin\nseq_begin -\nseq_value_begin\nseq_begin -\nseq_value_begin\n\
+             i64 1\nseq_value_end\nseq_value_begin\ni64 2\nseq_value_end\nseq_end\nseq_value_end\n\
+             seq_value_begin\ni64 3\nseq_value_end\nseq_end\nseq_value_end\nseq_value_begin\ni64 4\n\
+             seq_value_end\nseq_end\n",
+            Json("[[[1,2],3],4]"),
         ),
     ];
     try_rows(&rt, rt.alloc(), &rows)

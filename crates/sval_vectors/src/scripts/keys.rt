@@ -1,6 +1,6 @@
 //! Keys of maps.
 
-use super::Wanted::{InvalidKey, Json};
+use super::Wanted::{InvalidKey, Json, Styled};
 use super::try_rows;
 use std::test::Fail;
 
