@@ -9,12 +9,12 @@ ghost use Rattle.sval_label.specs.Grouped.{seen_slot};
 ghost use Rattle.sval_label.specs.Calls as call;
 ghost use Rattle.sval_core.specs.Law.{Answers};
 ghost use Rattle.sval_script.specs.Tags.{tag_of};
-ghost use Rattle.sval_script.specs.FieldValues.{made_index, made_label, index_from, label_from};
+ghost use Rattle.sval_script.specs.FieldValues.{index_of, made_label, index_from, label_from};
 ghost use Rattle.sval_script.specs.NextFields.{name_from};
 ghost use Rattle.sval_script.specs.Words.{alone_call, opening_call, named_call, head_of, part_call};
 ghost use Rattle.sval_script.specs.LineCalls.{own_count, wide, call_with, HasText};
 
-use crate::field::{IndexField, LabelField, Sign};
+use crate::field::{IndexField, IndexRead, LabelField, Sign};
 use crate::fields::NameFields;
 use crate::line::Line;
 use crate::tag::TagField;
@@ -46,7 +46,8 @@ impl Alone {
 impl Opening {
     /// The call with this size.
     fn call<'c, T, B>(self, size: Option<usize>) -> AnyCall<'c, T, B>
-        ensures { (text : T → List ℕ) (bytes : B → List ℕ) → call_of text bytes result ≡ opening_call self size }
+        ensures { (text : T → List ℕ) (bytes : B → List ℕ)
+            → call_of text bytes result ≡ opening_call self size }
     {
         match self {
             Opening::TextBegin => AnyCall::TextBegin(size),
@@ -114,17 +115,19 @@ fn label(tag: TagField, text: &str) -> Label<'_>
     }
 }
 
-/// The index with this tag and number.
-fn index(sign: Sign, tag: TagField, number: u64) -> Index
-    ensures { seen_index result ≡ made_index sign tag number }
-{
-    let index = match sign {
-        Sign::Natural => Index::new_u64(number),
-        Sign::Signed => Index::new_i64(number.cast_signed()),
-    };
-    match tag.tag() {
-        None => index,
-        Some(tag) => index.with_tag(&tag),
+impl IndexRead {
+    /// The index.
+    fn index(self) -> Index
+        ensures { seen_index result ≡ index_of self }
+    {
+        let index = match self.sign {
+            Sign::Natural => Index::new_u64(self.number),
+            Sign::Signed => Index::new_i64(self.number.cast_signed()),
+        };
+        match self.tag.tag() {
+            None => index,
+            Some(tag) => index.with_tag(&tag),
+        }
     }
 }
 
@@ -147,7 +150,7 @@ impl IndexField {
     {
         match self {
             IndexField::Absent => None,
-            IndexField::Present(sign, tag) => Some(index(sign, tag, number)),
+            IndexField::Present(sign, tag) => Some(IndexRead { sign, tag, number }.index()),
         }
     }
 }
@@ -217,16 +220,14 @@ fn make_field<L: Lending, S: Stream<L>>(
 fn make_place<L: Lending, S: Stream<L>>(
     side: Side,
     tag: TagField,
-    sign: Sign,
-    index_tag: TagField,
-    number: u64,
+    index: IndexRead,
     stream: &mut S,
 ) -> Result
     ensures { Answers S.law result (S.standing stream.old)
-        (part_call side (call.Place (tag_of tag) (made_index sign index_tag number))) (S.standing stream.new) }
+        (part_call side (call.Place (tag_of tag) (index_of index))) (S.standing stream.new) }
 {
     let tag = tag.tag();
-    let index = index(sign, index_tag, number);
+    let index = index.index();
     stream.take(side.call(Slot::Place(tag.as_ref(), &index)))
 }
 
@@ -236,18 +237,16 @@ fn make_field_place<L: Lending, S: Stream<L>>(
     tag: TagField,
     label_tag: TagField,
     text: &str,
-    sign: Sign,
-    index_tag: TagField,
-    number: u64,
+    index: IndexRead,
     stream: &mut S,
 ) -> Result
     ensures { Answers S.law result (S.standing stream.old)
-        (part_call side (call.FieldPlace (tag_of tag) (made_label label_tag text.now)
-        (made_index sign index_tag number))) (S.standing stream.new) }
+        (part_call side (call.FieldPlace (tag_of tag) (made_label label_tag text.now) (index_of index)))
+        (S.standing stream.new) }
 {
     let tag = tag.tag();
     let label = label(label_tag, text);
-    let index = index(sign, index_tag, number);
+    let index = index.index();
     stream.take(side.call(Slot::FieldPlace(tag.as_ref(), &label, &index)))
 }
 
@@ -310,20 +309,13 @@ impl Line {
                 make_named_opening(word, parts, text(bytes), numbers[0], size, stream)
             }
             Line::Field(side, tag, label, _) => make_field(side, tag, label, text(bytes), stream),
-            Line::Place(side, tag, sign, index, number) => {
-                make_place(side, tag, sign, index, number, stream)
+            Line::Place(side, part_tag, sign, tag, number) => {
+                make_place(side, part_tag, IndexRead { sign, tag, number }, stream)
             }
-            Line::FieldPlace(side, tag, label, sign, index, _) => {
-                make_field_place(
-                    side,
-                    tag,
-                    label,
-                    text(bytes),
-                    sign,
-                    index,
-                    numbers[0],
-                    stream,
-                )
+            Line::FieldPlace(side, part_tag, label, sign, tag, _) => {
+                let number = numbers[0];
+                let index = IndexRead { sign, tag, number };
+                make_field_place(side, part_tag, label, text(bytes), index, stream)
             }
         }
     }

@@ -33,8 +33,8 @@ impl<T: Drop> From<AllocFailed<T>> for ScriptError {
 
 /// A script that was read: the calls of its lines, in order.
 ///
-/// It is a value, which makes these calls, lends its texts and bytes and never refuses. Texts and bytes stand decoded in
-/// one store, one after another in the order of the lines.
+/// It is a value, which makes these calls, lends its texts and bytes and never refuses. What finds no place in a line
+/// of 16 bytes stands beside the lines, decoded, in the order of the lines.
 #[derive(Drop)]
 pub struct Script {
     lines: Vec<Line>,
@@ -48,7 +48,8 @@ impl Model for Script {
 
     ghost Value = { List Call };
 
-    ghost view = { λ script. calls_with script.store.bytes.items script.store.numbers.items script.lines.items };
+    ghost view = { λ script.
+        calls_with script.store.bytes.items script.store.numbers.items script.lines.items };
 
     ghost invariant = { λ script.
         HoldsLines script.store.bytes.items script.store.numbers.items script.lines.items };
