@@ -7,6 +7,7 @@ pub mod Shape
 pub mod Actions
 pub mod Steps
 pub mod SeenWriter
+pub mod JsonTexts
 pub mod Grammar
 pub mod Means
 pub mod Promises

@@ -3,6 +3,7 @@
 
 mod error;
 mod escape;
+mod json_str;
 pub mod laws;
 mod number;
 mod real;
@@ -15,6 +16,7 @@ mod to_io;
 mod writer;
 
 pub use error::{Error, ErrorKind};
+pub use json_str::{JsonStr, JsonString};
 pub use real::RealSink;
 pub use sink::{Sink, SinkError, VecSink, write_all};
 pub use style::Variants;
