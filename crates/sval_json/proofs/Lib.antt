@@ -22,5 +22,6 @@ pub mod EscapedPieces
 pub mod Doing
 pub mod Combined
 pub mod Streamed
+pub mod JsonTexts
 pub mod Told
 mod examples

@@ -1,7 +1,7 @@
-//! What an error prints.
+//! What an error prints, and JSON in texts.
 
 use crate::error::{Refusal, Stop};
-use crate::{Error, SinkError};
+use crate::{Error, JsonStr, JsonString, SinkError, VecSink, stream_to_io_write};
 use std::test::Fail;
 
 #[test]
@@ -26,5 +26,19 @@ fn says_why_nothing_was_written(rt: HostRuntime) -> Result<(), Fail> {
         let text = format!(in rt.alloc(); "{}", Error::of(why))?;
         assert_eq!(rt; text.as_str(), want);
     }
+    Ok(())
+}
+
+#[test]
+fn writes_json_as_it_is(rt: HostRuntime) -> Result<(), Fail> {
+    let json = JsonString::boxed(String::from_str(rt.alloc(), "[1, 2]")?);
+    assert!(rt; json.as_json_str().is_text("[1, 2]"));
+    assert_eq!(rt; json.as_json_str(), JsonStr::from("[1, 2]"));
+    let mut sink = VecSink::new(rt.alloc());
+    let text = json.as_json_str();
+    assert!(rt; stream_to_io_write(&mut sink, &text).is_ok());
+    assert_eq!(rt; sink.as_slice(), b"[1, 2]".as_slice());
+    let shown = format!(in rt.alloc(); "{text}")?;
+    assert_eq!(rt; shown.as_str(), "[1, 2]");
     Ok(())
 }

@@ -4,6 +4,8 @@ mod marks;
 mod names;
 mod parts;
 mod tagged;
+#[cfg(test)]
+mod tests;
 mod texts;
 
 ghost use Rattle.std.specs.Prelude.{◌≡◌};

@@ -1,12 +1,15 @@
 //! What a tag says of the text or of the name that it stands on.
 
-ghost use Rattle.std.specs.Prelude.{◌≡◌};
+ghost use Rattle.std.specs.Prelude.{◌≡◌, Some};
 ghost use Rattle.sval_label.specs.SeenName.{seen_option_tag};
+ghost use Rattle.sval_label.specs.SeenTags.{seen_tag};
 ghost use Rattle.sval_core.specs.Trees.{text_kind};
 ghost use Rattle.sval_json.specs.SeenWriter.{seen_kind};
 ghost use Rattle.sval_json.specs.Shape.{is_none_tag, is_identifier};
 
+use crate::tags::{JSON_NUMBER, JSON_TEXT, JSON_VALUE};
 use sval_core::Tag;
+use sval_core::tags::{NUMBER, RUST_OPTION_NONE, VALUE_IDENT};
 
 /// How a text under a tag is meant.
 #[derive(Clone, Copy)]
@@ -27,22 +30,27 @@ pub(crate) enum TextKind {
 pub(crate) fn text_kind(tag: Option<&Tag>) -> TextKind
     ensures { seen_kind result ≡ text_kind (seen_option_tag tag.entry) }
 {
-    let Some(tag) = tag else {
-        return TextKind::Ordinary;
-    };
-    if tag.text == "NUMBER" {
-        return TextKind::Number;
+    match tag {
+        Some(tag) => kind_of(*tag),
+        None => TextKind::Ordinary,
     }
-    if tag.text == "JSON_VALUE" {
-        return TextKind::JsonValue;
+}
+
+/// How a text under this tag is meant.
+fn kind_of(tag: Tag) -> TextKind
+    ensures { seen_kind result ≡ text_kind (Some (seen_tag tag)) }
+{
+    if tag == NUMBER {
+        TextKind::Number
+    } else if tag == JSON_VALUE {
+        TextKind::JsonValue
+    } else if tag == JSON_TEXT {
+        TextKind::JsonText
+    } else if tag == JSON_NUMBER {
+        TextKind::JsonNumber
+    } else {
+        TextKind::Ordinary
     }
-    if tag.text == "JSON_TEXT" {
-        return TextKind::JsonText;
-    }
-    if tag.text == "JSON_NUMBER" {
-        return TextKind::JsonNumber;
-    }
-    TextKind::Ordinary
 }
 
 /// Whether a tag says that the value of its name is none.
@@ -50,7 +58,7 @@ pub(crate) fn is_none(tag: Option<&Tag>) -> bool
     ensures { result ≡ is_none_tag (seen_option_tag tag.entry) }
 {
     match tag {
-        Some(tag) => tag.text == "RUST_OPTION_NONE",
+        Some(tag) => *tag == RUST_OPTION_NONE,
         None => false,
     }
 }
@@ -60,7 +68,7 @@ pub(crate) fn is_ident(tag: Option<&Tag>) -> bool
     ensures { result ≡ is_identifier (seen_option_tag tag.entry) }
 {
     match tag {
-        Some(tag) => tag.text == "VALUE_IDENT",
+        Some(tag) => *tag == VALUE_IDENT,
         None => false,
     }
 }
