@@ -1,6 +1,6 @@
 -- Texts that are the JSON of a value.
 use Rattle.std.specs.Prelude.{ℕ, true, List, [], ◌∷◌, ◌++◌, codes}
-use Rattle.sval_label.specs.Calls.{Tag, Name, Call}
+use Rattle.sval_label.specs.Calls.{Tag, Call}
 use Rattle.sval_core.specs.Names.{tag_alone}
 use Rattle.sval_core.specs.ValueCalls.{text_calls}
 use Rattle.sval_core.specs.Trees.{Tree, Text, Tagged}

@@ -13,6 +13,7 @@ ghost use Rattle.std.specs.Fmt.{signed_decimal};
 ghost use Rattle.sval_label.specs.Grouped.{int_number};
 ghost use Rattle.sval_label.specs.Made.{lent_call};
 ghost use Rattle.sval_core.specs.Law.{Answers};
+ghost use Rattle.sval_json.specs.ErrorKinds.{seen_refusal};
 ghost use Rattle.sval_json.specs.Escape.{escaped};
 ghost use Rattle.sval_json.specs.Actions.{write, refuse};
 ghost use Rattle.sval_json.specs.Steps.{value_written, refuse_in_key, opens, closes};
@@ -86,7 +87,8 @@ impl<'k, K: Sink> Writer<'k, K> {
 
     /// Refuses a call.
     fn refuse(&mut self, why: Refusal) -> Result
-        ensures { Does (refuse why) result (writer_view K.told self.old) (writer_view K.told self.new) }
+        ensures { Does (refuse (seen_refusal why)) result
+            (writer_view K.told self.old) (writer_view K.told self.new) }
     {
         self.why = Some(Stop::Step(why));
         Err(Error::new())
