@@ -17,6 +17,7 @@ pub record Stored : Type 0 where
   pub bytes : List ℕ
   pub numbers : List ℕ
 
+-- what the store has
 abbrev pub stored : Store → Stored
 stored store = record { bytes = store.bytes.items; numbers = store.numbers.items }
 

@@ -59,6 +59,7 @@ text field = option_and_then (keep is_utf8) (bytes field)
 abbrev pub truth : List ℕ → Option Bool
 truth field = if bytes_eq field (codes "true") then Some true else if bytes_eq field (codes "false") then Some false else None
 
+-- one of the ten names
 abbrev pub tag : List ℕ → Option Tag
 tag = keep is_tag_name
 
@@ -72,6 +73,7 @@ tagged_parts read make parts = None
 abbrev pub label : List ℕ → Option Label
 label field = tagged_parts text (λ t hint. record { text = t; tag = hint; is_static = false }) (cut_at 58 field)
 
+-- a decimal in the range of indexes, and perhaps a tag
 abbrev pub index : List ℕ → Option Index
 index field = tagged_parts (λ part. option_and_then (keep is_index) (integer part)) (λ z hint. record { number = z; tag = hint }) (cut_at 58 field)
 
@@ -94,15 +96,19 @@ field read next (first ∷ fields) = option_and_then (λ x. next x fields) (read
 abbrev pub whole_number : IntType → LineForm
 whole_number type = field (whole_number_of type) (λ z. complete (Int type z))
 
+-- a tag, a label and an index, each where it is given
 abbrev pub name : (Name → LineForm) → LineForm
 name next = field (or_dash tag) (λ t. field (or_dash label) (λ l. field (or_dash index) (λ i. next (record { tag = t; label = l; index = i }))))
 
+-- a tag, where it is given, and a label
 abbrev pub record_part : (Slot → Call) → LineForm
 record_part make = field (or_dash tag) (λ t. field label (λ l. complete (make (Field t l))))
 
+-- a tag, where it is given, and an index
 abbrev pub tuple_part : (Slot → Call) → LineForm
 tuple_part make = field (or_dash tag) (λ t. field index (λ i. complete (make (Place t i))))
 
+-- a tag, where it is given, a label and an index
 abbrev pub record_tuple_part : (Slot → Call) → LineForm
 record_tuple_part make = field (or_dash tag) (λ t. field label (λ l. field index (λ i. complete (make (FieldPlace t l i)))))
 

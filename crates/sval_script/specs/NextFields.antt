@@ -65,15 +65,19 @@ pub record StoresNext {A : Type 0} (read : List ℕ → Option A) (make : List �
   pub stored : new ≡ old ++ bytes
   pub has_len : length bytes ≡ len
 
+-- the next field is a text, which was put behind what stood before it
 abbrev pub StoresNextText : LineLeft → LineLeft → List ℕ → List ℕ → ℕ → Type 0
 StoresNextText line rest old new len = StoresNext script.text (λ text. text) IsUtf8 line rest old new len
 
+-- the next field is bytes, which were put behind what stood before them
 abbrev pub StoresNextBytes : LineLeft → LineLeft → List ℕ → List ℕ → ℕ → Type 0
 StoresNextBytes line rest old new len = StoresNext script.bytes (λ bytes. bytes) (λ bytes. ⊤) line rest old new len
 
+-- the next field is a label, whose text was put behind what stood before it
 abbrev pub StoresNextLabel : LineLeft → LineLeft → List ℕ → List ℕ → LabelRead → Type 0
 StoresNextLabel line rest old new label = StoresNext script.label (made_label label.tag) IsUtf8 line rest old new label.len
 
+-- the same, or the next field is `-` and nothing was put there
 abbrev pub StoresNextLabelField : LineLeft → LineLeft → List ℕ → List ℕ → LabelField → ℕ → Type 0
 StoresNextLabelField line rest old new label len = StoresNext (script.or_dash script.label) (label_from label) IsUtf8 line rest old new len
 
