@@ -74,6 +74,7 @@ abbrev pub Keeps : Names → Names → machine.Frame → Result Frame NoMemory �
 Keeps old new opened (Ok kept) = Opens old new opened kept
 Keeps old new opened (Err error) = AreKept old new
 
+-- what is told apart of a value that begins
 abbrev pub seen_form : Form → steps.Form
 seen_form form.Text = steps.OneText
 seen_form form.Variant = steps.Variant

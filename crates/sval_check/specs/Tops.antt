@@ -72,7 +72,7 @@ after_part left frames = frames
 abbrev pub with_part : Slot → Option ℕ → List machine.Frame → List machine.Frame
 with_part slot left frames = InPart (plain_slot slot) ∷ after_part left frames
 
--- the same of the checker's own frames
+-- the same two of the checker's own frames
 abbrev pub with_next : Option ℕ → Frame → Frame
 with_next left (frame.Seq _) = frame.Seq left
 with_next left (frame.Map _) = frame.Entry left

@@ -19,6 +19,7 @@ use sval_core::{Index, Label, Name, Tag};
 pub(crate) struct KeptLabel {
     /// The number of bytes of its text.
     pub(crate) size: usize,
+    /// Its hint, which no end is compared with.
     pub(crate) tag: Option<Tag>,
 }
 
@@ -67,7 +68,8 @@ impl KeptLabel {
 impl KeptName {
     /// What is kept of a name.
     pub(crate) fn of(name: Name<'_>) -> KeptName
-        ensures name { let said = seen_name name.entry in kept_name (text_of_label said.label) result ≡ plain_name said }
+        ensures name { let said = seen_name name.entry in
+            kept_name (text_of_label said.label) result ≡ plain_name said }
         ensures size { name_size result ≡ length (text_of_label (seen_name name.entry).label) }
     {
         KeptName {
