@@ -8,8 +8,7 @@ ghost use Rattle.sval_json.specs.Actions.{write, when, ◌then◌};
 ghost use Rattle.sval_json.specs.Escape.{escaped};
 ghost use Rattle.sval_json.specs.Shape.{handle, handle_of, is_none_tag};
 ghost use Rattle.sval_json.specs.Steps.{refuse_in_key, opens_handle, name_step, closes};
-ghost use Rattle.sval_json.specs.Steps.{label_step, own_step, standalone_step};
-ghost use Rattle.sval_json.specs.Steps.{step};
+ghost use Rattle.sval_json.specs.Steps.{label_step, own_step, standalone_step, step};
 ghost use Rattle.sval_json.specs.SeenWriter.{seen_option_index};
 ghost use Rattle.sval_json.specs.WriterLaw.{Does, writer_view};
 
