@@ -6,7 +6,7 @@ use Rattle.sval_label.specs.Calls.{Call}
 use Rattle.sval_core.specs.Law.{Emission, Rose}
 use Rattle.sval_core.specs.Spells.{Spells}
 use Rattle.sval_core.specs.Trees.{Tree}
-use Rattle.sval_check.specs.Checks.{IsFirstBad, IsUnfinished}
+use Rattle.sval_check.specs.Checks.{IsFirstBad, IsUnfinished, NeedsMemory}
 use Rattle.sval_json.specs.declared.sink.SinkError.{SinkError}
 use Rattle.sval_json.specs.declared.sink.SinkError.TheVariants as sink
 use Rattle.sval_json.specs.Json.{Json, compact}
@@ -27,7 +27,7 @@ use Rattle.sval_relay.specs.Ways.{way_of, style_of}
 use Rattle.sval_relay.specs.Verdict.{Verdict, BadLine, BadCall, Unfinished, Key, Number, Text, asked_in, tree_written, IsVerdict, OnVerdict}
 use Rattle.sval_relay.specs.Relays.{of_script, of_sink, is_of_script, WritesText, Grows, MayLeave, WritesValue, WritesUpTo, IsOwnWant, RefusesTree, IsCauseOf, BeginsTree, IsAnswerTo, WritesJson, Relays}
 use Rattle.sval_relay.specs.Serves.{IsServed}
-use Rattle.sval_relay.proofs.Verdicts.{of_each, json_verdict, verdict_bad_line, verdict_bad_call, verdict_unfinished, verdict_tree}
+use Rattle.sval_relay.proofs.Verdicts.{of_each, json_verdict, has_a_line, has_a_call, verdict_bad_line, verdict_bad_call, verdict_unfinished, verdict_tree}
 use Rattle.sval_relay.proofs.Writing.{counts_stay, grows_by_nothing, grows_by_front, may_stay, appends_kept, value_kept, written_of_json}
 
 -- ---- what each answer of the parts says of the script
@@ -55,7 +55,7 @@ IsReason answer.Unfinished told script way old new = IsVerdict Unfinished script
 IsReason answer.InvalidKey told script way old new = WritesUpTo Key (told old) (told new) script way
 IsReason answer.InvalidNumber told script way old new = WritesUpTo Number (told old) (told new) script way
 IsReason answer.Write told script way old new = Rose (told old).faults (told new).faults
-IsReason answer.NoMemory told script way old new = IsOwnWant told old new
+IsReason answer.NoMemory told script way old new = IsOwnWant told old new × (0 < length script)
 
 relays_stopped : {K : Type 0} (told : K → Told) (script : List ℕ) (way : Way) (old new : K) (why : RelayError) → IsReason why told script way old new → OnVerdict (MayLeave (told old) (told new)) script way
     → Grows (told old) (told new) → NoCountFell (told old) (told new) → Relays told script way (Err why) old new
@@ -68,7 +68,8 @@ relays_stopped {K} told script way old new why reason leaves grows counts = reco
   invalid_key = λ f. at answer.InvalidKey (cc f);
   invalid_number = λ f. at answer.InvalidNumber (cc f);
   write = λ f. at answer.Write (cc f);
-  own_want = λ f. at answer.NoMemory (cc f);
+  own_want = λ f. (at answer.NoMemory (cc f)).0;
+  some_line = λ f. (at answer.NoMemory (cc f)).1;
   comes = comes why reason;
   untouched = untouched why reason;
   leaves = leaves;
@@ -105,9 +106,16 @@ relays_refused told script way out why reason = relays_stopped told script way o
 
 -- the script wasn't read
 pub relays_unread : {K : Type 0} (told : K → Told) (script : List ℕ) (way : Way) (out : K) (e : ScriptError)
-    → ((n : ℕ) → ◌≡◌ {A = Result (List Call) ScriptError} (Err e) (Err (reading.BadLine n)) → lines script ≡ Bad n) → Relays told script way (Err (of_script e)) out out
-relays_unread told script way out (reading.BadLine n) bad = relays_refused told script way out (answer.BadLine n) (verdict_bad_line script way n (bad n refl), refl)
-relays_unread told script way out reading.NoMemory bad = relays_refused told script way out answer.NoMemory (inl refl)
+    → ((n : ℕ) → ◌≡◌ {A = Result (List Call) ScriptError} (Err e) (Err (reading.BadLine n)) → lines script ≡ Bad n)
+    → (◌≡◌ {A = Result (List Call) ScriptError} (Err e) (Err reading.NoMemory) → 0 < length script) → Relays told script way (Err (of_script e)) out out
+relays_unread told script way out (reading.BadLine n) bad some = relays_refused told script way out (answer.BadLine n) (verdict_bad_line script way n (bad n refl), refl)
+relays_unread told script way out reading.NoMemory bad some = relays_refused told script way out answer.NoMemory (inl refl, some refl)
+
+-- there was no memory to check it
+pub relays_unchecked : {K : Type 0} (told : K → Told) (script : List ℕ) (way : Way) (calls : List Call) (out : K) → lines script ≡ Good calls → NeedsMemory calls → Relays told script way (Err answer.NoMemory) out out
+relays_unchecked told script way calls out is needs =
+    let size : length calls ≡ length needs.front + (length needs.rest + 1) = ap length needs.whole ∙ length-append needs.front (needs.call ∷ needs.rest) ∙ omega arith in
+    relays_refused told script way out answer.NoMemory (inl refl, has_a_call script calls is (omega (arith, size)))
 
 -- ---- after the text was written
 
@@ -126,6 +134,7 @@ relays_text told script way old new w v s = record {
   invalid_number = λ f. cc f;
   write = λ f. cc f;
   own_want = λ f. cc f;
+  some_line = λ f. cc f;
   comes = λ quiet. due script way (Text w.text) _ w.is refl;
   untouched = tt;
   leaves = all_may_stay w;
@@ -166,6 +175,16 @@ front_may_stay {old} {new} script way calls tree is spells begun =
     by_shape (Err InvalidKey) shape = begun tree spells
     by_shape (Err InvalidNumber) shape = begun tree spells
 
+-- a script that spells a tree isn't empty
+tree_has_a_line : (script : List ℕ) (way : Way) (calls : List Call) (tree : Tree) → lines script ≡ Good calls → Spells calls tree → 0 < length script
+tree_has_a_line script way calls tree is spells =
+    has_a_line script way (json_verdict (json_in (style_of way) tree) (tree_written (asked_in way) tree)) (verdict_tree script way calls tree is spells) (apart (json_in (style_of way) tree))
+  where
+    apart : (found : Result Json Refusal) → json_verdict found (tree_written (asked_in way) tree) ≡ Unfinished → ⊥
+    apart (Ok json) e = cc e
+    apart (Err InvalidKey) e = cc e
+    apart (Err InvalidNumber) e = cc e
+
 pub relays_written : {K : Type 0} (told : K → Told) (script : List ℕ) (way : Way) (calls : List Call) (old new : K) (result : Result (Unit {0}) RelayError) → (tree : Tree) × Spells calls tree → lines script ≡ Good calls
     → WritesJson result told (style_of way) calls old new → Relays told script way result old new
 relays_written told script way calls old new (Ok done) spelled is w =
@@ -180,7 +199,7 @@ relays_written told script way calls old new (Err why) spelled is w =
     by_cause answer.InvalidKey c = writes_up_to script way calls spelled.0 InvalidKey is spelled.1 (c spelled.0 spelled.1) Key (λ written. refl)
     by_cause answer.InvalidNumber c = writes_up_to script way calls spelled.0 InvalidNumber is spelled.1 (c spelled.0 spelled.1) Number (λ written. refl)
     by_cause answer.Write c = c
-    by_cause answer.NoMemory c = c
+    by_cause answer.NoMemory c = (c, tree_has_a_line script way calls spelled.0 is spelled.1)
 
 -- ---- what flushing answered after that
 
@@ -199,7 +218,7 @@ relays_held told script way old mid new why r d =
   where
     by_cause : (e : SinkError) → IsCounted e (told old) (told new) → IsReason (of_sink e) told script way old new
     by_cause sink.Failed c = c
-    by_cause sink.NoMemory c = inr c
+    by_cause sink.NoMemory c = (inr c, has_a_line script way (Text (r.done refl).text) (r.done refl).is (λ e. cc e))
 
 -- ---- what serving the input answered
 

@@ -1,10 +1,10 @@
 -- Each script has one verdict, where one value and where many values may come.
-use Rattle.std.specs.Prelude.{◌≡◌, ℕ, ◌+◌, ◌⊎◌, Bool, true, false, List, [], ◌∷◌, ◌++◌, length, Result, Ok, Err, refl}
-use Rattle.std.proofs.Common.{sym, ap, ◌∙◌, subst, inl, inr, append-nil}
+use Rattle.std.specs.Prelude.{◌≡◌, ℕ, ◌+◌, ◌<◌, ◌⊎◌, Bool, true, false, List, [], ◌∷◌, ◌++◌, length, Result, Ok, Err, refl}
+use Rattle.std.proofs.Common.{sym, ap, ◌∙◌, subst, inl, inr, append-nil, arith}
 use Rattle.sval_label.specs.Calls.{Call}
 use Rattle.sval_core.specs.Trees.{Tree}
 use Rattle.sval_core.specs.Spells.{Spells, IsViable, plain}
-use Rattle.sval_core.specs.Checker.{Frame, Runs}
+use Rattle.sval_core.specs.Checker.{Frame, Runs, done}
 use Rattle.sval_core.specs.ManyChecker.{RunsAll, Progress}
 use Rattle.sval_core.proofs.Completions.{viable_is_taken, taken_is_viable, spelling_is_run, run_is_spelling}
 use Rattle.sval_core.proofs.Spellings.{spells_one, spelling_is_viable}
@@ -156,6 +156,23 @@ verdict_unfinished script way calls e viable none = verdict_of_calls script way 
 pub verdict_tree : (script : List ℕ) (way : Way) (calls : List Call) (tree : Tree) → lines script ≡ Good calls → Spells calls tree → IsVerdict (json_verdict (json_in (style_of way) tree) (tree_written (asked_in way) tree)) script way
 verdict_tree script way calls tree e spells =
     subst (λ answer. IsVerdict answer script way) (one_json (json_in (style_of way) tree) (tree_written (asked_in way) tree)) (verdict_of_calls script way calls _ e (whole (tree ∷ []) (tree, refl, spells)))
+
+-- ---- the script without a line
+
+empty_is_unfinished : (way : Way) → IsVerdict Unfinished [] way
+unfolding lines
+empty_is_unfinished way = unfinished (taken_is_viable [] (false, [], done)) (λ trees s. let e = runs_determined [] done (spelling_is_run [] s.0 s.2) in cc (e.0))
+
+-- any other verdict is of a script with some line
+pub has_a_line : (script : List ℕ) (way : Way) (answer : Verdict) → IsVerdict answer script way → (answer ≡ Unfinished → ⊥) → 0 < length script
+has_a_line [] way answer v other = absurd (other (one_of_lines (lines []) (asked_in way) false answer Unfinished v (empty_is_unfinished way)))
+has_a_line (byte ∷ bytes) way answer v other = omega arith
+
+-- and so is any call
+pub has_a_call : (script : List ℕ) (calls : List Call) → lines script ≡ Good calls → 0 < length calls → 0 < length script
+unfolding lines
+has_a_call [] calls e some = let none : [] ≡ calls = let both : Good [] ≡ Good calls = e in cc both in absurd (omega (arith, some, ap length none))
+has_a_call (byte ∷ bytes) calls e some = omega arith
 
 -- ---- scripts
 

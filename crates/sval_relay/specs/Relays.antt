@@ -1,5 +1,5 @@
 -- What serving a script says of it, and what it makes of the sink.
-use Rattle.std.specs.Prelude.{◌≡◌, ℕ, ◌⊎◌, Bool, true, false, List, Result, Ok, Err, IfErr}
+use Rattle.std.specs.Prelude.{◌≡◌, ℕ, ◌<◌, ◌⊎◌, Bool, true, false, length, List, Result, Ok, Err, IfErr}
 use Rattle.sval_label.specs.Calls.{Call}
 use Rattle.sval_core.specs.Law.{Rose}
 use Rattle.sval_core.specs.Spells.{Spells}
@@ -136,6 +136,7 @@ pub record Relays {K : Type 0} (told : K → Told) (script : List ℕ) (way : Wa
   pub invalid_number : result ≡ Err answer.InvalidNumber → WritesUpTo Number (told old) (told new) script way
   pub write : result ≡ Err answer.Write → Rose (told old).faults (told new).faults
   pub own_want : result ≡ Err answer.NoMemory → IsOwnWant told old new
+  pub some_line : result ≡ Err answer.NoMemory → 0 < length script
   pub comes : (Rose (told old).faults (told new).faults → ⊥) → OnVerdict (λ due. IsAnswerTo due result ⊎ (result ≡ Err answer.NoMemory)) script way
   pub untouched : IfErr result (λ why. is_of_script why ≡ true → new ≡ old)
   pub leaves : OnVerdict (MayLeave (told old) (told new)) script way

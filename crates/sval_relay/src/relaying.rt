@@ -86,9 +86,9 @@ impl From<SinkError> for RelayError {
 /// [`RelayError::BadLine`], [`RelayError::BadCall`] and [`RelayError::Unfinished`] come only where the script is so, in
 /// this order, and leave the sink as it was. [`RelayError::InvalidKey`] and [`RelayError::InvalidNumber`] come only
 /// where the value has no JSON for that cause, the first from left to right; the sink took exactly what is written up
-/// to there. [`RelayError::Write`] comes only where the sink's count of faults rose. [`RelayError::NoMemory`] leaves
-/// the sink as it was, unless the sink's own count of wants rose. After `Write`, and after `NoMemory` where that count
-/// rose, a first part of what is due may have been taken.
+/// to there. [`RelayError::Write`] comes only where the sink's count of faults rose. [`RelayError::NoMemory`] never
+/// comes for an empty script, and leaves the sink as it was, unless the sink's own count of wants rose. After `Write`,
+/// and after `NoMemory` where that count rose, a first part of what is due may have been taken.
 pub fn relay<K: Sink>(alloc: Global, script: &[u8], way: Way, out: &mut K) -> Result<(), RelayError>
     ensures { Relays K.told script.now way result out.old out.new }
 {

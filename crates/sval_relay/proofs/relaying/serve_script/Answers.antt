@@ -1,7 +1,7 @@
 use Rattle.std.proofs.Common.{ap, subst, Err, refl}
 use Rattle.sval_relay.specs.declared.relaying.RelayError.TheVariants as answer
 use Rattle.sval_relay.specs.Relays.{WritesJson}
-use Rattle.sval_relay.proofs.RelayAnswers.{first_bad, not_finished, relays_refused, relays_written}
+use Rattle.sval_relay.proofs.RelayAnswers.{first_bad, not_finished, relays_refused, relays_unchecked, relays_written}
 use Rattle.sval_relay.proofs.relaying.serve_script.Goals as goal
 
 pub returns-in-Err-BadCall : goal.returns-in-Err-BadCall
@@ -14,6 +14,10 @@ pub returns-in-Err-Unfinished : goal.returns-in-Err-Unfinished
 returns-in-Err-Unfinished g c = λ bytes is.
     let found = not_finished bytes c.args.way (record { calls = c.args.script.now; refuses = _ }) is (c.in-Err-Unfinished.ensures.unfinished (ap Err c.in-Err-Unfinished.field-0-is)) in
     relays_refused g.K.Sink.told bytes c.args.way c.args.out.now answer.Unfinished (found, refl)
+
+pub returns-in-Err-NoMemory : goal.returns-in-Err-NoMemory
+returns-in-Err-NoMemory g c = λ bytes is.
+    relays_unchecked g.K.Sink.told bytes c.args.way c.args.script.now c.args.out.now is (c.in-Err-NoMemory.ensures.no_memory (ap Err c.in-Err-NoMemory.field-0-is))
 
 pub returns-then-is_captured : goal.returns-then-is_captured
 returns-then-is_captured g c = λ bytes is.

@@ -9,7 +9,7 @@ returns-in_err-script g c =
     let p = err_from_is_err_and c.from_residual-in_err-script.result c.from_residual-in_err-script.ensures.1 in
     let asked : way_of c.args.words.now ≡ Some c.in_ok-way.way = search rules in
     rw (p.1, p.2) (served asked c.as_slice.ensures.value c.in_ok-bytes.ensures.ok
-    (relays_unread g.K.Sink.told c.as_slice.result.now c.in_ok-way.way c.args.out.now c.in_err-script.field-0.0 c.in_err-script.ensures.bad_line))
+    (relays_unread g.K.Sink.told c.as_slice.result.now c.in_ok-way.way c.args.out.now c.in_err-script.field-0.0 c.in_err-script.ensures.bad_line c.in_err-script.ensures.no_memory))
 
 pub returns-in_err-serve_script : goal.returns-in_err-serve_script
 returns-in_err-serve_script g c =
