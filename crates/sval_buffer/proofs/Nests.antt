@@ -10,8 +10,7 @@ use Rattle.sval_buffer.specs.Flat.{FlatKind, FlatPart, flat_part}
 use Rattle.sval_buffer.proofs.BuiltBack.{some_parts}
 use Rattle.sval_buffer.specs.Flat.{flat_node, flat_row, flat_spine}
 use Rattle.sval_buffer.specs.Holders.{holders, holders_node, holders_row, holders_spine, newest_place}
-use Rattle.sval_buffer.specs.declared.part.Part.{Part}
-use Rattle.sval_buffer.specs.SeenParts.{stored, TellsForest}
+use Rattle.sval_buffer.specs.SeenParts.{SeenPart, stored, TellsForest}
 use Rattle.sval_buffer.specs.Nested.{Going, still, opens, top, outer_at, outer_of, Nested, IsNested}
 
 -- ---- places in the whole list
@@ -173,7 +172,7 @@ nested-flat f =
     subst (λ xs. Nested whole 0 [] xs (holders f)) (append-nil whole) (subst (λ ks. Nested whole 0 [] (whole ++ []) ks) (append-nil (holders f)) all)
 
 -- and so of the parts that tell a forest
-pub tells_nested : (parts : List Part) (places : List ℕ) (f : Forest) → TellsForest parts places f → IsNested parts
+pub tells_nested : (parts : List SeenPart) (places : List ℕ) (f : Forest) → TellsForest parts places f → IsNested parts
 tells_nested parts places f t =
     subst (λ ks. Nested (map stored parts) 0 [] (map stored parts) ks) (sym t.holders_are)
     (subst (λ xs. Nested xs 0 [] xs (holders f)) (sym t.parts_are) (nested-flat f))

@@ -9,8 +9,7 @@ use Rattle.sval_buffer.specs.Flat as flat
 use Rattle.sval_buffer.specs.Flat.{FlatKind, FlatPart, flat_part, flat_node, flat_row, flat_spine, push_flat}
 use Rattle.sval_buffer.specs.FlatForest.{open_places}
 use Rattle.sval_buffer.specs.Holders.{holders, holders_node, holders_row, holders_spine, newest_place}
-use Rattle.sval_buffer.specs.declared.part.Part.{Part}
-use Rattle.sval_buffer.specs.SeenParts.{stored, holder, flat_kind, holds_of, TellsForest, Pushed, PartPushes, IsPushCause}
+use Rattle.sval_buffer.specs.SeenParts.{SeenPart, stored, holder, TellsForest, Pushed, TextPushes, IsTextCause}
 use Rattle.sval_buffer.specs.declared.error.ErrorKind.{ErrorKind}
 use Rattle.sval_buffer.specs.Capture.{Captures, IsCaptureCause, error_of}
 use Rattle.sval_buffer.proofs.Flat.{map_map, push-flat, words_of, last_words, last_words-append, text-flat}
@@ -57,29 +56,29 @@ open-push fragment nodes [] within row e = refl
 open-push fragment nodes (newest ∷ older) within row e = refl
 
 -- the parts end in this one
-pub record EndsIn (parts : List Part) (last : Part) : Type 0 where
-  pub front : List Part
+pub record EndsIn {X : Type 0} (parts : List X) (last : X) : Type 0 where
+  pub front : List X
   pub parts_are : parts ≡ front ++ (last ∷ [])
 
-ends_later : (xs : List Part) (x : Part) → EndsIn xs x → (y : Part) → EndsIn (y ∷ xs) x
+ends_later : {X : Type 0} (xs : List X) (x : X) → EndsIn xs x → (y : X) → EndsIn (y ∷ xs) x
 ends_later xs x e y = record { front = y ∷ e.front; parts_are = ap (λ ys. y ∷ ys) e.parts_are }
 
-pub ends_in : (parts : List Part) (last : Part) → 0 < length parts → last ≡ slice_index_or parts (length parts - 1) last → EndsIn parts last
+pub ends_in : {X : Type 0} (parts : List X) (last : X) → 0 < length parts → last ≡ slice_index_or parts (length parts - 1) last → EndsIn parts last
 ends_in [] last h e = absurd (omega arith)
 ends_in (x ∷ []) last h e = record { front = []; parts_are = ap (λ y. y ∷ []) (sym e) }
 ends_in (x ∷ next ∷ parts) last h e =
     let i : length (x ∷ next ∷ parts) - 1 ≡ suc (length (next ∷ parts) - 1) = omega arith in
     ends_later (next ∷ parts) last (ends_in (next ∷ parts) last (omega arith) (rw i at e)) x
 
-pub set-last : (parts front : List Part) (last next : Part) → parts ≡ front ++ (last ∷ []) → slice_set parts (length parts - 1) next ≡ front ++ (next ∷ [])
+pub set-last : {X : Type 0} (parts front : List X) (last next : X) → parts ≡ front ++ (last ∷ []) → slice_set parts (length parts - 1) next ≡ front ++ (next ∷ [])
 set-last parts front last next e =
     let n : length (front ++ (last ∷ [])) - 1 ≡ length front = omega (arith, length-append front (last ∷ [])) in
     ap (λ xs. slice_set xs (length xs - 1) next) e ∙ ap (λ i. slice_set (front ++ (last ∷ [])) i next) n ∙ set-append_seam front last [] next
 
-module _ {parts : List Part} {places : List ℕ} {within : Bool} {f : Forest} (fragment : HeldBytes) (last : Part) (is : Is parts places within f) (ends : EndsIn parts last) where
+module _ {parts : List SeenPart} {places : List ℕ} {within : Bool} {f : Forest} (fragment : HeldBytes) (last : SeenPart) (is : Is parts places within f) (ends : EndsIn parts last) where
   -- what the flat list makes of it
   flat-pushed : option_map (λ row. flat.flat (with_row row f.nodes f.spine f.in_fragments)) (push_last_text fragment (newest_row f.nodes f.spine))
-      ≡ option_map (λ k. map stored ends.front ++ (flat_part k (holds_of last.kind) ∷ [])) (flat.push_part fragment (flat_kind last.kind))
+      ≡ option_map (λ k. map stored ends.front ++ (flat_part k last.holds ∷ [])) (flat.push_part fragment last.kind)
   flat-pushed =
       push-flat fragment f.nodes f.spine f.in_fragments
       ∙ ap (push_flat fragment) (sym (tells_it is).parts_are ∙ ap (map stored) ends.parts_are ∙ map-append stored ends.front (last ∷ []))
@@ -88,8 +87,8 @@ module _ {parts : List Part} {places : List ℕ} {within : Bool} {f : Forest} (f
   abbrev answer : CaptureAnswer
   answer = row_or OutsideText f (push_last_text fragment (newest_row f.nodes f.spine))
 
-  pub push_refused : flat.push_part fragment (flat_kind last.kind) ≡ None → answer ≡ Rejects OutsideText
-  push_refused none_is = go (push_last_text fragment (newest_row f.nodes f.spine)) (flat-pushed ∙ ap (option_map (λ k. map stored ends.front ++ (flat_part k (holds_of last.kind) ∷ []))) none_is)
+  pub push_refused : flat.push_part fragment last.kind ≡ None → answer ≡ Rejects OutsideText
+  push_refused none_is = go (push_last_text fragment (newest_row f.nodes f.spine)) (flat-pushed ∙ ap (option_map (λ k. map stored ends.front ++ (flat_part k last.holds ∷ []))) none_is)
     where
       go : (o : Option Nodes) → option_map (λ row. flat.flat (with_row row f.nodes f.spine f.in_fragments)) o ≡ None → row_or OutsideText f o ≡ Rejects OutsideText
       go None e = refl
@@ -98,34 +97,34 @@ module _ {parts : List Part} {places : List ℕ} {within : Bool} {f : Forest} (f
   pub record Pushes (kind : FlatKind) : Type 0 where
     pub row : Nodes
     pub row_is : push_last_text fragment (newest_row f.nodes f.spine) ≡ Some row
-    pub flat_is : flat.flat (with_row row f.nodes f.spine f.in_fragments) ≡ map stored ends.front ++ (flat_part kind (holds_of last.kind) ∷ [])
+    pub flat_is : flat.flat (with_row row f.nodes f.spine f.in_fragments) ≡ map stored ends.front ++ (flat_part kind last.holds ∷ [])
 
-  pub push_taken : (kind : FlatKind) → flat.push_part fragment (flat_kind last.kind) ≡ Some kind → Pushes kind
-  push_taken kind some = go (push_last_text fragment (newest_row f.nodes f.spine)) refl (flat-pushed ∙ ap (option_map (λ k. map stored ends.front ++ (flat_part k (holds_of last.kind) ∷ []))) some)
+  pub push_taken : (kind : FlatKind) → flat.push_part fragment last.kind ≡ Some kind → Pushes kind
+  push_taken kind some = go (push_last_text fragment (newest_row f.nodes f.spine)) refl (flat-pushed ∙ ap (option_map (λ k. map stored ends.front ++ (flat_part k last.holds ∷ []))) some)
     where
       go : (o : Option Nodes) → push_last_text fragment (newest_row f.nodes f.spine) ≡ o
-          → option_map (λ row. flat.flat (with_row row f.nodes f.spine f.in_fragments)) o ≡ Some (map stored ends.front ++ (flat_part kind (holds_of last.kind) ∷ [])) → Pushes kind
+          → option_map (λ row. flat.flat (with_row row f.nodes f.spine f.in_fragments)) o ≡ Some (map stored ends.front ++ (flat_part kind last.holds ∷ [])) → Pushes kind
       go None e g = cc g
-      go (Some row) e g = let same : flat.flat (with_row row f.nodes f.spine f.in_fragments) ≡ map stored ends.front ++ (flat_part kind (holds_of last.kind) ∷ []) = cc g in
+      go (Some row) e g = let same : flat.flat (with_row row f.nodes f.spine f.in_fragments) ≡ map stored ends.front ++ (flat_part kind last.holds ∷ []) = cc g in
           record { row = row; row_is = e; flat_is = same }
 
-  pub is_pushed : (next : Part) (p : Pushed last fragment next) → let o = push_taken (flat_kind next.kind) p.kind in Is (ends.front ++ (next ∷ [])) places within (with_row o.row f.nodes f.spine f.in_fragments)
+  pub is_pushed : (next : SeenPart) (p : Pushed (flat.push_part fragment last.kind) last next) → let o = push_taken next.kind p.kind in Is (ends.front ++ (next ∷ [])) places within (with_row o.row f.nodes f.spine f.in_fragments)
   is_pushed next p =
-      let o = push_taken (flat_kind next.kind) p.kind in
+      let o = push_taken next.kind p.kind in
       let g = with_row o.row f.nodes f.spine f.in_fragments in
       let t : TellsForest (ends.front ++ (next ∷ [])) places g = record {
-        parts_are = map-append stored ends.front (next ∷ []) ∙ ap (λ holds. map stored ends.front ++ (flat_part (flat_kind next.kind) holds ∷ [])) p.holds ∙ sym o.flat_is;
+        parts_are = map-append stored ends.front (next ∷ []) ∙ ap (λ holds. map stored ends.front ++ (flat_part next.kind holds ∷ [])) p.holds ∙ sym o.flat_is;
         places_are = (tells_it is).places_are ∙ sym (open-push fragment f.nodes f.spine f.in_fragments o.row o.row_is);
         holders_are = map-append holder ends.front (next ∷ []) ∙ ap (λ h. map holder ends.front ++ (h ∷ [])) p.holder ∙ sym (map-append holder ends.front (last ∷ [])) ∙ ap (map holder) (sym ends.parts_are)
             ∙ (tells_it is).holders_are ∙ sym (holders-push fragment f.nodes f.spine f.in_fragments o.row o.row_is);
       } in
       is_told (ends.front ++ (next ∷ [])) places within g t (within_it is ∙ sym (within-row o.row f.nodes f.spine f.in_fragments))
 
-  pub push_answers : (next : Part) (p : Pushed last fragment next) → let o = push_taken (flat_kind next.kind) p.kind in answer ≡ Becomes (with_row o.row f.nodes f.spine f.in_fragments)
-  push_answers next p = let o = push_taken (flat_kind next.kind) p.kind in ap (row_or OutsideText f) o.row_is
+  pub push_answers : (next : SeenPart) (p : Pushed (flat.push_part fragment last.kind) last next) → let o = push_taken next.kind p.kind in answer ≡ Becomes (with_row o.row f.nodes f.spine f.in_fragments)
+  push_answers next p = let o = push_taken next.kind p.kind in ap (row_or OutsideText f) o.row_is
 
 -- nothing takes a fragment
-pub push_nothing : {parts : List Part} {places : List ℕ} {within : Bool} {f : Forest} (fragment : HeldBytes) → Is parts places within f → length parts ≡ 0
+pub push_nothing : {parts : List SeenPart} {places : List ℕ} {within : Bool} {f : Forest} (fragment : HeldBytes) → Is parts places within f → length parts ≡ 0
     → row_or OutsideText f (push_last_text fragment (newest_row f.nodes f.spine)) ≡ Rejects OutsideText
 push_nothing {parts} {f = f} fragment is h =
     let e = nothing parts h in
@@ -136,20 +135,20 @@ push_nothing {parts} {f = f} fragment is h =
     go (Some row) e = cc e
 
 -- the last part's text is the forest's last text
-last-text : {parts : List Part} {places : List ℕ} {within : Bool} {f : Forest} (last : Part) → Is parts places within f → EndsIn parts last
-    → last_text (newest_row f.nodes f.spine) ≡ words_of (flat_kind last.kind)
+last-text : {parts : List SeenPart} {places : List ℕ} {within : Bool} {f : Forest} (last : SeenPart) → Is parts places within f → EndsIn parts last
+    → last_text (newest_row f.nodes f.spine) ≡ words_of last.kind
 last-text {f = f} last is ends =
     text-flat f.nodes f.spine
     ∙ ap last_words (sym (tells_it is).parts_are ∙ ap (map stored) ends.parts_are ∙ map-append stored ends.front (last ∷ []))
     ∙ last_words-append (map stored ends.front) (stored last) []
 
 -- what a part answers to a fragment, the whole buffer answers
-pub record PushesBy (parts : List Part) (places : List ℕ) (within : Bool) (f : Forest) (fragment : HeldBytes) (r : Result (Unit {0}) ErrorKind) : Type 0 where
+pub record PushesBy (parts : List SeenPart) (places : List ℕ) (within : Bool) (f : Forest) (fragment : HeldBytes) (r : Result (Unit {0}) ErrorKind) : Type 0 where
   pub next : Forest
   pub is : Is parts places within next
   pub answers : Captures (text_may_grow fragment.borrowed f) (push_into_text fragment f) f r next
 
-cause_of : (fragment : HeldBytes) (k : FlatKind) (grows : Bool) (a : CaptureAnswer) (why : ErrorKind) → IsPushCause fragment k why → grows ≡ push_may_grow fragment.borrowed (words_of k)
+cause_of : (fragment : HeldBytes) (k : FlatKind) (grows : Bool) (a : CaptureAnswer) (why : ErrorKind) → IsTextCause fragment k why → grows ≡ push_may_grow fragment.borrowed (words_of k)
     → (flat.push_part fragment k ≡ None → a ≡ Rejects OutsideText) → ((kind : FlatKind) → flat.push_part fragment k ≡ Some kind → (next : Forest) × (a ≡ Becomes next)) → IsCaptureCause grows a why
 cause_of fragment (flat.One call) grows a why cause same refused taken = subst (λ x. IsCaptureCause grows x why) (sym (refused refl)) cause
 cause_of fragment (flat.Bytes held) grows a why cause same refused taken = subst (λ x. IsCaptureCause grows x why) (sym (refused refl)) cause
@@ -158,11 +157,11 @@ cause_of fragment (flat.Words held) grows a why cause same refused taken =
     let t = taken (flat.Words (pushed held fragment)) refl in
     subst (λ x. IsCaptureCause grows x why) (sym t.1) (record { no_alloc = cause.no_alloc; takes_memory = same ∙ cause.takes_memory })
 
-pub pushes_by : {parts : List Part} {places : List ℕ} {within : Bool} {f : Forest} (fragment : HeldBytes) (last next : Part) (r : Result (Unit {0}) ErrorKind) → Is parts places within f → (ends : EndsIn parts last)
-    → PartPushes last fragment r next
+pub pushes_by : {parts : List SeenPart} {places : List ℕ} {within : Bool} {f : Forest} (fragment : HeldBytes) (last next : SeenPart) (r : Result (Unit {0}) ErrorKind) → Is parts places within f → (ends : EndsIn parts last)
+    → TextPushes last fragment r next
     → PushesBy (ends.front ++ (next ∷ [])) places within f fragment r
 pushes_by {f = f} fragment last next (Ok done) is ends ok = record {
-  next = with_row (push_taken fragment last is ends (flat_kind next.kind) ok.kind).row f.nodes f.spine f.in_fragments;
+  next = with_row (push_taken fragment last is ends next.kind ok.kind).row f.nodes f.spine f.in_fragments;
   is = is_pushed fragment last is ends next ok;
   answers = push_answers fragment last is ends next ok;
 }
@@ -173,14 +172,14 @@ pushes_by {parts} {places} {within} {f} fragment last next (Err why) is ends (sa
       is = subst (λ ps. Is ps places within f) whole is;
       answers = (
         refl,
-        cause_of fragment (flat_kind last.kind) (text_may_grow fragment.borrowed f) (push_into_text fragment f) why cause
+        cause_of fragment last.kind (text_may_grow fragment.borrowed f) (push_into_text fragment f) why cause
             (ap (push_may_grow fragment.borrowed) (last-text last is ends))
             (push_refused fragment last is ends)
             (λ kind some. let o = push_taken fragment last is ends kind some in (with_row o.row f.nodes f.spine f.in_fragments, ap (row_or OutsideText f) o.row_is)),
       );
     }
 
-pub pushes_nothing : {parts : List Part} {places : List ℕ} {within : Bool} {f : Forest} (fragment : HeldBytes) → Is parts places within f → length parts ≡ 0
+pub pushes_nothing : {parts : List SeenPart} {places : List ℕ} {within : Bool} {f : Forest} (fragment : HeldBytes) → Is parts places within f → length parts ≡ 0
     → PushesBy parts places within f fragment (Err (error_of OutsideText))
 pushes_nothing {f = f} fragment is h = record {
   next = f;

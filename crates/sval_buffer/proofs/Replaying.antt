@@ -14,8 +14,7 @@ use Rattle.sval_buffer.specs.Flat as flat
 use Rattle.sval_buffer.specs.Flat.{FlatKind, FlatPart, flat_part}
 use Rattle.sval_buffer.specs.Replay.{Pending, ended, going, all_ends, head_calls, opened, pass}
 use Rattle.sval_core.specs.Values.{makes}
-use Rattle.sval_buffer.specs.declared.part.Part.{Part}
-use Rattle.sval_buffer.specs.SeenParts.{flat_kind, holds_of, stored, holder, TellsForest}
+use Rattle.sval_buffer.specs.SeenParts.{SeenPart, stored, holder, TellsForest}
 use Rattle.sval_buffer.specs.Nested.{Going, pendings, still, opens, top, outer_of, IsBelow, Link, Linked, Nested, AllStop, end_calls, is_holder, MakesEnds, EndsBefore}
 
 -- ---- one list of calls after another
@@ -55,7 +54,7 @@ pendings-still i (newest ∷ older) = go (nat_le newest.pending.stop i) (pending
     go false e = refl
 
 -- the ends that were made, and the containers that may yet go on
-pub record IsWalked {V : Type 0} (law : Law V) (old now : Standing V) (parts : List Part) (place : ℕ) (at : Option ℕ) (gs : List Going) : Type 0 where
+pub record IsWalked {V : Type 0} (law : Law V) (old now : Standing V) (parts : List SeenPart) (place : ℕ) (at : Option ℕ) (gs : List Going) : Type 0 where
   pub rest : List Going
   pub done : List Call
   pub linked : Linked parts at rest
@@ -64,7 +63,7 @@ pub record IsWalked {V : Type 0} (law : Law V) (old now : Standing V) (parts : L
   pub streams : Streams law old (makes done) now
 
 -- the newest container that may go on, as a part
-pub record Newest (parts : List Part) (at : ℕ) (rest : List Going) : Type 0 where
+pub record Newest (parts : List SeenPart) (at : ℕ) (rest : List Going) : Type 0 where
   pub newest : Going
   pub older : List Going
   pub rest_is : rest ≡ newest ∷ older
@@ -72,7 +71,7 @@ pub record Newest (parts : List Part) (at : ℕ) (rest : List Going) : Type 0 wh
   pub link : Link parts (Some at) newest
   pub linked : Linked parts (outer_of (map stored parts) link.part.holder) older
 
-pub newest_of : (parts : List Part) (at : ℕ) (rest : List Going) → Linked parts (Some at) rest → Newest parts at rest
+pub newest_of : (parts : List SeenPart) (at : ℕ) (rest : List Going) → Linked parts (Some at) rest → Newest parts at rest
 newest_of parts at [] l = cc l
 newest_of parts at (newest ∷ older) l =
     let e = l.0.at in let same : newest.place ≡ at = cc e in record { newest = newest; older = older; rest_is = refl; place_is = same; link = l.0; linked = l.1 }
@@ -82,7 +81,7 @@ get_within [] i x e = cc e
 get_within (y ∷ xs) zero x e = omega arith
 get_within (y ∷ xs) (suc i) x e = let h = get_within xs i x e in omega arith
 
-pub linked_within : (parts : List Part) (at : ℕ) (rest : List Going) → Linked parts (Some at) rest → at < length parts
+pub linked_within : (parts : List SeenPart) (at : ℕ) (rest : List Going) → Linked parts (Some at) rest → at < length parts
 linked_within parts at rest l = let n = newest_of parts at rest l in get_within parts at n.link.part (ap (slice_get parts) (sym n.place_is) ∙ n.link.found)
 
 get_same : {X : Type 0} (xs : List X) (i : ℕ) (x d : X) → slice_get xs i ≡ Some x → get_or xs i d ≡ x
@@ -91,11 +90,11 @@ get_same (y ∷ xs) zero x d e = cc e
 get_same (y ∷ xs) (suc i) x d e = get_same xs i x d e
 
 -- it is the part that stands there
-pub newest_part : (parts : List Part) (at : ℕ) (rest : List Going) (l : Linked parts (Some at) rest) (p : Part) → p ≡ get_or parts at p → (newest_of parts at rest l).link.part ≡ p
+pub newest_part : (parts : List SeenPart) (at : ℕ) (rest : List Going) (l : Linked parts (Some at) rest) (p : SeenPart) → p ≡ get_or parts at p → (newest_of parts at rest l).link.part ≡ p
 newest_part parts at rest l p e =
     let n = newest_of parts at rest l in sym (e ∙ get_same parts at n.link.part p (ap (slice_get parts) (sym n.place_is) ∙ n.link.found))
 
-module _ {V : Type 0} {law : Law V} {old now : Standing V} {parts : List Part} {place : ℕ} {gs : List Going} where
+module _ {V : Type 0} {law : Law V} {old now : Standing V} {parts : List SeenPart} {place : ℕ} {gs : List Going} where
   pub walk-none : (w : IsWalked law old now parts place None gs) → MakesEnds law parts place gs old None now
   walk-none w = go w.rest w.linked w.ended_is w.still_is
     where
@@ -105,12 +104,12 @@ module _ {V : Type 0} {law : Law V} {old now : Standing V} {parts : List Part} {
       go (newest ∷ older) l e s = let never = l.0.at in cc never
 
   -- the newest goes on at this place
-  pub walk-goes_on : (at : ℕ) (p : Part) (w : IsWalked law old now parts place (Some at) gs) → p ≡ get_or parts at p → place - at ≤ holds_of p.kind
+  pub walk-goes_on : (at : ℕ) (p : SeenPart) (w : IsWalked law old now parts place (Some at) gs) → p ≡ get_or parts at p → place - at ≤ p.holds
       → MakesEnds law parts place gs old (Some at) now
   walk-goes_on at p w same h =
       let n = newest_of parts at w.rest w.linked in
-      let stop : n.newest.pending.stop ≡ at + 1 + holds_of p.kind =
-      ap (λ (x : Pending). x.stop) n.link.pending ∙ ap (λ k. k + 1 + holds_of n.link.part.kind) n.place_is ∙ ap (λ (x : Part). at + 1 + holds_of x.kind) (newest_part parts at w.rest w.linked p same) in
+      let stop : n.newest.pending.stop ≡ at + 1 + p.holds =
+      ap (λ (x : Pending). x.stop) n.link.pending ∙ ap (λ k. k + 1 + n.link.part.holds) n.place_is ∙ ap (λ (x : SeenPart). at + 1 + x.holds) (newest_part parts at w.rest w.linked p same) in
       let e : nat_le n.newest.pending.stop place ≡ false = grind (arith, nat_tests) in
       let none_ends : ended place (pendings w.rest) ≡ [] = ap (λ gs. ended place (pendings gs)) n.rest_is ∙ rw e refl in
       let all_go : still place w.rest ≡ w.rest = ap (still place) n.rest_is ∙ rw e (sym n.rest_is) in
@@ -119,7 +118,7 @@ module _ {V : Type 0} {law : Law V} {old now : Standing V} {parts : List Part} {
         linked = subst (Linked parts (Some at)) (sym (w.still_is ∙ all_go)) w.linked;
       }
 
-  module _ (at : ℕ) (p : Part) (w : IsWalked law old now parts place (Some at) gs) (same : p ≡ get_or parts at p) (h : holds_of p.kind < place - at) where
+  module _ (at : ℕ) (p : SeenPart) (w : IsWalked law old now parts place (Some at) gs) (same : p ≡ get_or parts at p) (h : p.holds < place - at) where
     abbrev n : Newest parts at w.rest
     n = newest_of parts at w.rest w.linked
 
@@ -128,36 +127,36 @@ module _ {V : Type 0} {law : Law V} {old now : Standing V} {parts : List Part} {
 
     stops_here : nat_le n.newest.pending.stop place ≡ true
     stops_here =
-        let stop : n.newest.pending.stop ≡ at + 1 + holds_of p.kind =
-        ap (λ (x : Pending). x.stop) n.link.pending ∙ ap (λ k. k + 1 + holds_of n.link.part.kind) n.place_is ∙ ap (λ (x : Part). at + 1 + holds_of x.kind) part_is in
+        let stop : n.newest.pending.stop ≡ at + 1 + p.holds =
+        ap (λ (x : Pending). x.stop) n.link.pending ∙ ap (λ k. k + 1 + n.link.part.holds) n.place_is ∙ ap (λ (x : SeenPart). at + 1 + x.holds) part_is in
         grind (arith, nat_tests)
 
-    end_is : end_calls (flat_kind p.kind) ≡ n.newest.pending.end ∷ []
+    end_is : end_calls p.kind ≡ n.newest.pending.end ∷ []
     end_is =
-        ap (λ (x : Part). end_calls (flat_kind x.kind)) (sym part_is) ∙ ap end_calls n.link.kind ∙ ap (λ (x : Pending). x.end ∷ []) (sym n.link.pending)
+        ap (λ (x : SeenPart). end_calls x.kind) (sym part_is) ∙ ap end_calls n.link.kind ∙ ap (λ (x : Pending). x.end ∷ []) (sym n.link.pending)
 
-    ends_here : ended place (pendings w.rest) ≡ end_calls (flat_kind p.kind) ++ ended place (pendings n.older)
+    ends_here : ended place (pendings w.rest) ≡ end_calls p.kind ++ ended place (pendings n.older)
     ends_here = let e = stops_here in ap (λ gs. ended place (pendings gs)) n.rest_is ∙ rw e (ap (λ calls. calls ++ ended place (pendings n.older)) (sym end_is))
 
     still_here : still place w.rest ≡ still place n.older
     still_here = let e = stops_here in ap (still place) n.rest_is ∙ rw e refl
 
-    pub walk-step : {new : Standing V} → Streams law now (makes (end_calls (flat_kind p.kind))) new → IsWalked law old new parts place (outer_of (map stored parts) p.holder) gs
+    pub walk-step : {new : Standing V} → Streams law now (makes (end_calls p.kind)) new → IsWalked law old new parts place (outer_of (map stored parts) p.holder) gs
     walk-step t = record {
       rest = n.older;
-      done = w.done ++ end_calls (flat_kind p.kind);
-      linked = subst (λ (x : Part). Linked parts (outer_of (map stored parts) x.holder) n.older) part_is n.linked;
-      ended_is = w.ended_is ∙ ap (λ calls. w.done ++ calls) ends_here ∙ sym (append_assoc w.done (end_calls (flat_kind p.kind)) (ended place (pendings n.older)));
+      done = w.done ++ end_calls p.kind;
+      linked = subst (λ (x : SeenPart). Linked parts (outer_of (map stored parts) x.holder) n.older) part_is n.linked;
+      ended_is = w.ended_is ∙ ap (λ calls. w.done ++ calls) ends_here ∙ sym (append_assoc w.done (end_calls p.kind) (ended place (pendings n.older)));
       still_is = w.still_is ∙ still_here;
       streams = goes_on w.streams t;
     }
 
-    pub walk-stop : {new : Standing V} → Stops law now (makes (end_calls (flat_kind p.kind))) new → Stops law old (makes (ended place (pendings gs))) new
+    pub walk-stop : {new : Standing V} → Stops law now (makes (end_calls p.kind)) new → Stops law old (makes (ended place (pendings gs))) new
     walk-stop {new} t =
         subst (λ calls. Stops law old (makes calls) new) (sym (w.ended_is ∙ ap (λ calls. w.done ++ calls) ends_here)) (stops_in (ended place (pendings n.older)) w.streams t)
 
     pub walk-below : IsBelow (outer_of (map stored parts) p.holder) at
-    walk-below = subst (λ (x : Part). IsBelow (outer_of (map stored parts) x.holder) at) part_is (subst (IsBelow (outer_of (map stored parts) n.link.part.holder)) n.place_is n.link.below)
+    walk-below = subst (λ (x : SeenPart). IsBelow (outer_of (map stored parts) x.holder) at) part_is (subst (IsBelow (outer_of (map stored parts) n.link.part.holder)) n.place_is n.link.below)
 
 -- the walk comes nearer to none
 abbrev pub steps_left : Option ℕ → ℕ
@@ -169,7 +168,7 @@ nearer None now at e h = rw e (omega arith)
 nearer (Some place) now at e h = rw e (omega arith)
 
 -- where a `?` passes on that an end was refused
-pub ends_stopped : {V : Type 0} {law : Law V} {old new : Standing V} (parts : List Part) (place : ℕ) (gs : List Going) (r : Result (Option ℕ) Error) → IsErr r
+pub ends_stopped : {V : Type 0} {law : Law V} {old new : Standing V} (parts : List SeenPart) (place : ℕ) (gs : List Going) (r : Result (Option ℕ) Error) → IsErr r
     → Stops law old (makes (ended place (pendings gs))) new → EndsBefore law parts place gs old r new
 ends_stopped parts place gs (Ok next) is s = cc is
 ends_stopped parts place gs (Err refusal) is s = s
@@ -197,7 +196,7 @@ top_below : (i : ℕ) (gs : List Going) → Before i gs → IsBelow (top gs) i
 top_below i [] b = tt
 top_below i (newest ∷ older) b = b.0
 
-linked_top : (parts : List Part) (at : Option ℕ) (gs : List Going) → Linked parts at gs → at ≡ top gs
+linked_top : (parts : List SeenPart) (at : Option ℕ) (gs : List Going) → Linked parts at gs → at ≡ top gs
 linked_top parts at [] l = l
 linked_top parts at (newest ∷ older) l = l.0.at
 
@@ -208,7 +207,7 @@ opens-opened i holds (flat.Bytes held) gs = refl
 opens-opened i holds (flat.Holder begin) gs = refl
 
 -- the calls that were made, and the containers that go on at place i or before it
-pub record IsReplayed {V : Type 0} (law : Law V) (old now : Standing V) (parts : List Part) (i : ℕ) (at : Option ℕ) : Type 0 where
+pub record IsReplayed {V : Type 0} (law : Law V) (old now : Standing V) (parts : List SeenPart) (i : ℕ) (at : Option ℕ) : Type 0 where
   pub gs : List Going
   pub done : List Call
   pub linked : Linked parts at gs
@@ -221,7 +220,7 @@ pub record IsReplayed {V : Type 0} (law : Law V) (old now : Standing V) (parts :
 unfoldable pub newest_after : ℕ → FlatKind → Option ℕ → Option ℕ
 newest_after i kind at = if is_holder kind then Some i else at
 
-module _ {V : Type 0} {law : Law V} {old now : Standing V} {parts : List Part} {i : ℕ} {at : Option ℕ} (p : Part) (r : IsReplayed law old now parts i at) (lt : i < length parts) (same : p ≡ get_or parts i p) where
+module _ {V : Type 0} {law : Law V} {old now : Standing V} {parts : List SeenPart} {i : ℕ} {at : Option ℕ} (p : SeenPart) (r : IsReplayed law old now parts i at) (lt : i < length parts) (same : p ≡ get_or parts i p) where
   abbrev more : List FlatPart
   more = map stored (drop (i + 1) parts)
 
@@ -229,32 +228,32 @@ module _ {V : Type 0} {law : Law V} {old now : Standing V} {parts : List Part} {
   ends = ended i (pendings r.gs)
 
   abbrev heads : List Call
-  heads = head_calls (flat_kind p.kind)
+  heads = head_calls p.kind
 
   abbrev gs' : List Going
-  gs' = opens i (holds_of p.kind) (flat_kind p.kind) (still i r.gs)
+  gs' = opens i p.holds p.kind (still i r.gs)
 
   dropped : drop i parts ≡ p ∷ drop (i + 1) parts
-  dropped = rw add-one (drop-cons parts i p lt) ∙ ap (λ (x : Part). x ∷ drop (i + 1) parts) (sym same)
+  dropped = rw add-one (drop-cons parts i p lt) ∙ ap (λ (x : SeenPart). x ∷ drop (i + 1) parts) (sym same)
 
   here : Nested (map stored parts) i r.gs (stored p ∷ more) (p.holder ∷ map holder (drop (i + 1) parts))
-  here = subst (λ (ps : List Part). Nested (map stored parts) i r.gs (map stored ps) (map holder ps)) dropped r.nested
+  here = subst (λ (ps : List SeenPart). Nested (map stored parts) i r.gs (map stored ps) (map holder ps)) dropped r.nested
 
   passed : pass 0 [] (map stored parts) ≡ r.done ++ (ends ++ (heads ++ pass (i + 1) (pendings gs') more))
   unfolding pass
   passed =
       r.all_is
-      ∙ ap (λ (ps : List Part). r.done ++ pass i (pendings r.gs) (map stored ps)) dropped
+      ∙ ap (λ (ps : List SeenPart). r.done ++ pass i (pendings r.gs) (map stored ps)) dropped
       ∙ ap (λ (qs : List Pending). r.done ++ (ends ++ (heads ++ pass (i + 1) qs more)))
-      (ap (opened i (holds_of p.kind) (flat_kind p.kind)) (sym (pendings-still i r.gs)) ∙ sym (opens-opened i (holds_of p.kind) (flat_kind p.kind) (still i r.gs)))
+      (ap (opened i p.holds p.kind) (sym (pendings-still i r.gs)) ∙ sym (opens-opened i p.holds p.kind (still i r.gs)))
 
   -- the ends before it were refused
   pub replay-stop_ends : {mid : Standing V} → Stops law now (makes ends) mid → Stops law old (makes (pass 0 [] (map stored parts))) mid
   replay-stop_ends {mid} t = subst (λ calls. Stops law old (makes calls) mid) (sym passed) (stops_in (heads ++ pass (i + 1) (pendings gs') more) r.streams t)
 
-  linked_after : (next : Option ℕ) → Linked parts next (still i r.gs) → Linked parts (newest_after i (flat_kind p.kind) next) gs'
+  linked_after : (next : Option ℕ) → Linked parts next (still i r.gs) → Linked parts (newest_after i p.kind next) gs'
   unfolding newest_after
-  linked_after next l = go (flat_kind p.kind) refl
+  linked_after next l = go p.kind refl
     where
       found : slice_get parts i ≡ Some p
       found = get_found parts i p lt same
@@ -262,7 +261,7 @@ module _ {V : Type 0} {law : Law V} {old now : Standing V} {parts : List Part} {
       below : IsBelow (outer_of (map stored parts) p.holder) i
       below = subst (λ o. IsBelow o i) (sym here.0) (top_below i (still i r.gs) (before-still i i r.gs r.before))
 
-      go : (k : FlatKind) → flat_kind p.kind ≡ k → Linked parts (if is_holder k then Some i else next) (opens i (holds_of p.kind) k (still i r.gs))
+      go : (k : FlatKind) → p.kind ≡ k → Linked parts (if is_holder k then Some i else next) (opens i p.holds k (still i r.gs))
       go (flat.One call) e = l
       go (flat.Words held) e = l
       go (flat.Bytes held) e = l
@@ -272,12 +271,12 @@ module _ {V : Type 0} {law : Law V} {old now : Standing V} {parts : List Part} {
       )
 
   before_after : Before (i + 1) gs'
-  before_after = go (flat_kind p.kind)
+  before_after = go p.kind
     where
       older : Before (i + 1) (still i r.gs)
       older = before-more i (still i r.gs) (before-still i i r.gs r.before)
 
-      go : (k : FlatKind) → Before (i + 1) (opens i (holds_of p.kind) k (still i r.gs))
+      go : (k : FlatKind) → Before (i + 1) (opens i p.holds k (still i r.gs))
       go (flat.One call) = older
       go (flat.Words held) = older
       go (flat.Bytes held) = older
@@ -290,7 +289,7 @@ module _ {V : Type 0} {law : Law V} {old now : Standing V} {parts : List Part} {
         subst (λ calls. Stops law old (makes calls) new) (append_assoc r.done ends (heads ++ pass (i + 1) (pendings gs') more) ∙ sym passed)
         (stops_in (pass (i + 1) (pendings gs') more) (goes_on r.streams s) t)
 
-    pub replay-step : (next : Option ℕ) → Linked parts next (still i r.gs) → Streams law mid (makes heads) new → IsReplayed law old new parts (i + 1) (newest_after i (flat_kind p.kind) next)
+    pub replay-step : (next : Option ℕ) → Linked parts next (still i r.gs) → Streams law mid (makes heads) new → IsReplayed law old new parts (i + 1) (newest_after i p.kind next)
     replay-step next l t = record {
       gs = gs';
       done = (r.done ++ ends) ++ heads;
@@ -310,7 +309,7 @@ all_stop i (newest ∷ older) h =
     let e : nat_le newest.pending.stop i ≡ true = grind (arith, nat_tests) in
     let rest = all_stop i older h.1 in rw e (ap (λ calls. newest.pending.end ∷ calls) rest)
 
-module _ {V : Type 0} {law : Law V} {old now : Standing V} {parts : List Part} {i : ℕ} {at : Option ℕ} (r : IsReplayed law old now parts i at) (left : length parts ≤ i) (j : ℕ) (same : j ≡ i) where
+module _ {V : Type 0} {law : Law V} {old now : Standing V} {parts : List SeenPart} {i : ℕ} {at : Option ℕ} (r : IsReplayed law old now parts i at) (left : length parts ≤ i) (j : ℕ) (same : j ≡ i) where
   none_left : drop i parts ≡ []
   none_left = drop_all parts i left
 
@@ -318,8 +317,8 @@ module _ {V : Type 0} {law : Law V} {old now : Standing V} {parts : List Part} {
   unfolding pass
   last_is =
       r.all_is
-      ∙ ap (λ (ps : List Part). r.done ++ pass i (pendings r.gs) (map stored ps)) none_left
-      ∙ ap (λ calls. r.done ++ calls) (sym (all_stop i r.gs (subst (λ (ps : List Part). Nested (map stored parts) i r.gs (map stored ps) (map holder ps)) none_left r.nested)))
+      ∙ ap (λ (ps : List SeenPart). r.done ++ pass i (pendings r.gs) (map stored ps)) none_left
+      ∙ ap (λ calls. r.done ++ calls) (sym (all_stop i r.gs (subst (λ (ps : List SeenPart). Nested (map stored parts) i r.gs (map stored ps) (map holder ps)) none_left r.nested)))
       ∙ ap (λ k. r.done ++ ended k (pendings r.gs)) (sym same)
 
   pub replay-end : {new : Standing V} → Streams law now (makes (ended j (pendings r.gs))) new → Streams law old (makes (pass 0 [] (map stored parts))) new
@@ -356,13 +355,13 @@ unfolding pass
 none_passed [] h = refl
 none_passed (p ∷ parts) h = absurd (omega arith)
 
-passed_all : (parts : List Part) (places : List ℕ) (f : Forest) → TellsForest parts places f → null_for_none (pass 0 [] (map stored parts)) ≡ replayed f
+passed_all : (parts : List SeenPart) (places : List ℕ) (f : Forest) → TellsForest parts places f → null_for_none (pass 0 [] (map stored parts)) ≡ replayed f
 passed_all parts places f t = ap (λ xs. null_for_none (pass 0 [] xs)) t.parts_are ∙ ap null_for_none (pass-flat f)
 
-pub replay_none : (parts : List Part) (places : List ℕ) (f : Forest) → TellsForest parts places f → length parts ≡ 0 → Null ∷ [] ≡ replayed f
+pub replay_none : (parts : List SeenPart) (places : List ℕ) (f : Forest) → TellsForest parts places f → length parts ≡ 0 → Null ∷ [] ≡ replayed f
 replay_none parts places f t h = sym (none_passed (map stored parts) (length-map parts stored ∙ h)) ∙ passed_all parts places f t
 
-pub replay_some : (parts : List Part) (places : List ℕ) (f : Forest) → TellsForest parts places f → 0 < length parts → pass 0 [] (map stored parts) ≡ replayed f
+pub replay_some : (parts : List SeenPart) (places : List ℕ) (f : Forest) → TellsForest parts places f → 0 < length parts → pass 0 [] (map stored parts) ≡ replayed f
 replay_some parts places f t h =
     let size = length-map parts stored in
     sym (some_passed (map stored parts) (omega arith)) ∙ passed_all parts places f t

@@ -10,28 +10,25 @@ use Rattle.sval_buffer.specs.Flat.{FlatKind, FlatPart, flat_part, flat_node, fla
 use Rattle.sval_buffer.specs.FlatForest.{open_places, forest_of}
 use Rattle.sval_buffer.proofs.BuiltBack.{built_back, some_parts}
 use Rattle.sval_buffer.specs.Holders.{holders, holders_node, holders_row, holders_spine, newest_place}
-use Rattle.sval_buffer.specs.declared.part.Part.{Part}
-use Rattle.sval_buffer.specs.declared.part.PartKind.{PartKind}
-use Rattle.sval_buffer.specs.declared.part.PartKind.TheVariants as kind
-use Rattle.sval_buffer.specs.SeenParts.{stored, holder, flat_kind, holds_of, with_holds, TellsForest, told}
+use Rattle.sval_buffer.specs.SeenParts.{SeenPart, stored, holder, with_length, TellsForest, told}
 use Rattle.sval_buffer.proofs.Flat.{flat-add, flat-begun, flat-close}
 
 -- ---- the view
 
 -- the parts and places of a forest tell that forest
-pub told_is : (parts : List Part) (places : List ℕ) (within : Bool) (f : Forest) → TellsForest parts places f → within ≡ f.in_fragments → told parts places within ≡ f
+pub told_is : (parts : List SeenPart) (places : List ℕ) (within : Bool) (f : Forest) → TellsForest parts places f → within ≡ f.in_fragments → told parts places within ≡ f
 told_is parts places within f t e =
     ap (λ (xs : List FlatPart). forest_of xs places within) t.parts_are
     ∙ ap (λ (qs : List ℕ). forest_of (flat.flat f) qs within) t.places_are
     ∙ ap (forest_of (flat.flat f) (open_places f.nodes f.spine)) e
     ∙ built_back f
 
-pub told_within : (parts : List Part) (places : List ℕ) (within : Bool) → (told parts places within).in_fragments ≡ within
+pub told_within : (parts : List SeenPart) (places : List ℕ) (within : Bool) → (told parts places within).in_fragments ≡ within
 unfolding forest_of
 told_within parts places within = refl
 
 -- what stands for the forest stands for its view
-pub tells_view : (parts : List Part) (places : List ℕ) (within : Bool) (f : Forest) → TellsForest parts places f → within ≡ f.in_fragments → TellsForest parts places (told parts places within)
+pub tells_view : (parts : List SeenPart) (places : List ℕ) (within : Bool) (f : Forest) → TellsForest parts places f → within ≡ f.in_fragments → TellsForest parts places (told parts places within)
 tells_view parts places within f t e = subst (TellsForest parts places) (sym (told_is parts places within f t e)) t
 
 pub tells_nothing : TellsForest [] [] empty_forest
@@ -62,7 +59,7 @@ open-add node f = go f.nodes f.spine
     go nodes [] = refl
     go nodes (newest ∷ older) = refl
 
-pub tells-add : (parts : List Part) (places : List ℕ) (f : Forest) (p : Part) (node : Node) → TellsForest parts places f
+pub tells-add : (parts : List SeenPart) (places : List ℕ) (f : Forest) (p : SeenPart) (node : Node) → TellsForest parts places f
     → flat_node node ≡ stored p ∷ [] → ((place : ℕ) (h : Option ℕ) → holders_node place h node ≡ h ∷ []) → p.holder ≡ newest_place f.nodes f.spine
     → TellsForest (parts ++ (p ∷ [])) places (add node f)
 tells-add parts places f p node t one own held = record {
@@ -72,7 +69,7 @@ tells-add parts places f p node t one own held = record {
       ∙ ap (λ xs. holders f ++ xs) (sym (own (length (flat.flat f)) (newest_place f.nodes f.spine))) ∙ sym (holders-add node f.nodes f.spine f.in_fragments);
 }
 
-pub tells-begun : (parts : List Part) (places : List ℕ) (f : Forest) (p : Part) (begin : Call) (place : ℕ) → TellsForest parts places f
+pub tells-begun : (parts : List SeenPart) (places : List ℕ) (f : Forest) (p : SeenPart) (begin : Call) (place : ℕ) → TellsForest parts places f
     → stored p ≡ flat_part (flat.Holder begin) 0 → p.holder ≡ newest_place f.nodes f.spine → place ≡ length parts
     → TellsForest (parts ++ (p ∷ [])) (places ++ (place ∷ [])) (begun begin f)
 tells-begun parts places f p begin place t one held at = record {
@@ -82,17 +79,17 @@ tells-begun parts places f p begin place t one held at = record {
 }
 
 -- what is known of an open buffer that is this forest
-pub record Is (parts : List Part) (places : List ℕ) (within : Bool) (f : Forest) : Type 0 where
+pub record Is (parts : List SeenPart) (places : List ℕ) (within : Bool) (f : Forest) : Type 0 where
   pub view : told parts places within ≡ f
   pub invariant : TellsForest parts places (told parts places within)
 
-pub is_told : (parts : List Part) (places : List ℕ) (within : Bool) (f : Forest) → TellsForest parts places f → within ≡ f.in_fragments → Is parts places within f
+pub is_told : (parts : List SeenPart) (places : List ℕ) (within : Bool) (f : Forest) → TellsForest parts places f → within ≡ f.in_fragments → Is parts places within f
 is_told parts places within f t e = record { view = told_is parts places within f t e; invariant = tells_view parts places within f t e }
 
-pub tells_it : {parts : List Part} {places : List ℕ} {within : Bool} {f : Forest} → Is parts places within f → TellsForest parts places f
+pub tells_it : {parts : List SeenPart} {places : List ℕ} {within : Bool} {f : Forest} → Is parts places within f → TellsForest parts places f
 tells_it {parts} {places} {within} {f} is = subst (TellsForest parts places) is.view is.invariant
 
-pub within_it : {parts : List Part} {places : List ℕ} {within : Bool} {f : Forest} → Is parts places within f → within ≡ f.in_fragments
+pub within_it : {parts : List SeenPart} {places : List ℕ} {within : Bool} {f : Forest} → Is parts places within f → within ≡ f.in_fragments
 within_it {parts} {places} {within} {f} is = sym (told_within parts places within) ∙ ap (λ (g : Forest). g.in_fragments) is.view
 
 pub within-row : (row nodes : Nodes) (spine : List Open) (within : Bool) → (with_row row nodes spine within).in_fragments ≡ within
@@ -102,7 +99,7 @@ within-row row nodes (newest ∷ older) within = refl
 pub is_nothing : Is [] [] false empty_forest
 is_nothing = is_told [] [] false empty_forest tells_nothing refl
 
-pub is_flagged : {parts : List Part} {places : List ℕ} {within : Bool} {f : Forest} (flag : Bool) → Is parts places within f → Is parts places flag (with_flag flag f)
+pub is_flagged : {parts : List SeenPart} {places : List ℕ} {within : Bool} {f : Forest} (flag : Bool) → Is parts places within f → Is parts places flag (with_flag flag f)
 is_flagged {parts} {places} {f = f} flag is =
     let t = tells_it is in
     is_told parts places flag (with_flag flag f) (record { parts_are = t.parts_are; places_are = t.places_are; holders_are = t.holders_are }) refl
@@ -120,7 +117,7 @@ last-place nodes (newest ∷ older) =
     let e : length (front ++ (place ∷ [])) - 1 ≡ length front = omega (arith, length-append front (place ∷ [])) in
     ap (slice_get (front ++ (place ∷ []))) e ∙ seam front place
 
-pub is_added : {parts : List Part} {places : List ℕ} {within : Bool} {f : Forest} (p : Part) (node : Node) → Is parts places within f
+pub is_added : {parts : List SeenPart} {places : List ℕ} {within : Bool} {f : Forest} (p : SeenPart) (node : Node) → Is parts places within f
     → flat_node node ≡ stored p ∷ [] → ((place : ℕ) (h : Option ℕ) → holders_node place h node ≡ h ∷ []) → p.holder ≡ slice_get places (length places - 1)
     → Is (parts ++ (p ∷ [])) places within (add node f)
 is_added {parts} {places} {within} {f} p node is one own held =
@@ -129,7 +126,7 @@ is_added {parts} {places} {within} {f} p node is one own held =
     is_told (parts ++ (p ∷ [])) places within (add node f) (tells-add parts places f p node t one own e)
     (within_it is ∙ sym (within-row (newest_row f.nodes f.spine and node) f.nodes f.spine f.in_fragments))
 
-pub is_begun : {parts : List Part} {places : List ℕ} {within : Bool} {f : Forest} (p : Part) (begin : Call) (place : ℕ) → Is parts places within f
+pub is_begun : {parts : List SeenPart} {places : List ℕ} {within : Bool} {f : Forest} (p : SeenPart) (begin : Call) (place : ℕ) → Is parts places within f
     → stored p ≡ flat_part (flat.Holder begin) 0 → p.holder ≡ slice_get places (length places - 1) → place ≡ length parts
     → Is (parts ++ (p ∷ [])) (places ++ (place ∷ [])) within (begun begin f)
 is_begun {parts} {places} {within} {f} p begin place is one held at =
@@ -174,21 +171,21 @@ no_places nodes (newest ∷ older) e = go (open_places nodes older) (length (fla
     go [] n e = cc e
     go (q ∷ qs) n e = cc e
 
-pub newest_is : {parts : List Part} {places : List ℕ} {within : Bool} {f : Forest} (rest : List ℕ) (place : ℕ) → Is parts places within f → places ≡ rest ++ (place ∷ []) → Newest f.nodes f.spine rest place
+pub newest_is : {parts : List SeenPart} {places : List ℕ} {within : Bool} {f : Forest} (rest : List ℕ) (place : ℕ) → Is parts places within f → places ≡ rest ++ (place ∷ []) → Newest f.nodes f.spine rest place
 newest_is {f = f} rest place is e = newest_of f.nodes f.spine rest place (sym e ∙ (tells_it is).places_are)
 
-pub none_newest : {parts : List Part} {places : List ℕ} {within : Bool} {f : Forest} → Is parts places within f → places ≡ [] → f.spine ≡ []
+pub none_newest : {parts : List SeenPart} {places : List ℕ} {within : Bool} {f : Forest} → Is parts places within f → places ≡ [] → f.spine ≡ []
 none_newest {f = f} is e = no_places f.nodes f.spine (sym e ∙ (tells_it is).places_are)
 
 pub flat-split : (nodes : Nodes) (newest : Open) (older : List Open)
     → flat_row nodes ++ flat_spine (newest ∷ older) ≡ (flat_row nodes ++ flat_spine older) ++ (flat_part (flat.Holder newest.begin) 0 ∷ flat_row newest.nodes)
 flat-split nodes newest older = sym (append_assoc (flat_row nodes) (flat_spine older) (flat_part (flat.Holder newest.begin) 0 ∷ flat_row newest.nodes))
 
-pub length-parts : {parts : List Part} {places : List ℕ} {within : Bool} {f : Forest} → Is parts places within f → length parts ≡ length (flat.flat f)
+pub length-parts : {parts : List SeenPart} {places : List ℕ} {within : Bool} {f : Forest} → Is parts places within f → length parts ≡ length (flat.flat f)
 length-parts {parts} is = sym (length-map parts stored) ∙ ap (λ xs. length xs) (tells_it is).parts_are
 
 -- the newest container without an end is a part
-pub place_within : {parts : List Part} {places : List ℕ} {within : Bool} {f : Forest} (rest : List ℕ) (place : ℕ) → Is parts places within f → places ≡ rest ++ (place ∷ []) → place < length parts
+pub place_within : {parts : List SeenPart} {places : List ℕ} {within : Bool} {f : Forest} (rest : List ℕ) (place : ℕ) → Is parts places within f → places ≡ rest ++ (place ∷ []) → place < length parts
 place_within {parts} {places} {within} {f} rest place is e =
     let n = newest_is rest place is e in
     let front = flat_row f.nodes ++ flat_spine n.older in
@@ -215,17 +212,15 @@ pub get-seam : {X : Type 0} (xs : List X) (y : X) (ys : List X) (d : X) → slic
 get-seam [] y ys d = refl
 get-seam (x ∷ xs) y ys d = get-seam xs y ys d
 
-pub held-kind : (k : PartKind) (begin : Call) (n : ℕ) → flat_kind k ≡ flat.Holder begin → flat_part (flat_kind (with_holds k n)) (holds_of (with_holds k n)) ≡ flat_part (flat.Holder begin) n
-held-kind (kind.Single single) begin n e = cc e
-held-kind (kind.Text held) begin n e = cc e
-held-kind (kind.Container b holds) begin n e = ap (λ k. flat_part k n) e
+pub held-kind : (p : SeenPart) (begin : Call) (n : ℕ) → p.kind ≡ flat.Holder begin → stored (with_length p n) ≡ flat_part (flat.Holder begin) n
+held-kind p begin n e = rw e refl
 
 pub holders-closed : (nodes : Nodes) (newest : Open) (older : List Open) (within : Bool)
     → holders (add (Container newest.begin newest.nodes) (record { nodes = nodes; spine = older; in_fragments = within })) ≡ holders_spine nodes (newest ∷ older)
 holders-closed nodes newest older within = holders-add (Container newest.begin newest.nodes) nodes older within
 
-module _ {parts : List Part} {places : List ℕ} {within : Bool} {f : Forest} (rest : List ℕ) (place : ℕ) (d p : Part) (is : Is parts places within f) (e : places ≡ rest ++ (place ∷ []))
-    (same : p ≡ (let old = slice_index_or parts place d in record old { kind = with_holds old.kind (length parts - place - 1) })) where
+module _ {parts : List SeenPart} {places : List ℕ} {within : Bool} {f : Forest} (rest : List ℕ) (place : ℕ) (d p : SeenPart) (is : Is parts places within f) (e : places ≡ rest ++ (place ∷ []))
+    (same : p ≡ (let old = slice_index_or parts place d in with_length old (length parts - place - 1))) where
   abbrev n : Newest f.nodes f.spine rest place
   n = newest_is rest place is e
 
@@ -235,7 +230,7 @@ module _ {parts : List Part} {places : List ℕ} {within : Bool} {f : Forest} (r
   abbrev head : FlatPart
   head = flat_part (flat.Holder n.newest.begin) 0
 
-  abbrev old : Part
+  abbrev old : SeenPart
   old = slice_index_or parts place d
 
   flat_is : flat.flat f ≡ flat_row f.nodes ++ flat_spine (n.newest ∷ n.older)
@@ -254,7 +249,7 @@ module _ {parts : List Part} {places : List ℕ} {within : Bool} {f : Forest} (r
   new_is : stored p ≡ flat_part (flat.Holder n.newest.begin) (length (flat.flat f) - place - 1)
   new_is =
       ap stored same
-      ∙ held-kind old.kind n.newest.begin (length parts - place - 1) (ap (λ (x : FlatPart). x.kind) old_is)
+      ∙ held-kind old n.newest.begin (length parts - place - 1) (ap (λ (x : FlatPart). x.kind) old_is)
       ∙ ap (λ k. flat_part (flat.Holder n.newest.begin) (k - place - 1)) (length-parts is)
 
   abbrev closed_by : List FlatPart → ℕ → List FlatPart
@@ -272,7 +267,7 @@ module _ {parts : List Part} {places : List ℕ} {within : Bool} {f : Forest} (r
   closed_holders : map holder (slice_set parts place p) ≡ holders f
   closed_holders =
       map-set holder parts place p
-      ∙ ap (λ (x : Part). slice_set (map holder parts) place x.holder) same
+      ∙ ap (λ (x : SeenPart). slice_set (map holder parts) place x.holder) same
       ∙ ap (slice_set (map holder parts) place) (sym (get-map holder parts place d (place_within rest place is e) None))
       ∙ set-same (map holder parts) place None
       ∙ (tells_it is).holders_are
@@ -312,7 +307,7 @@ no_row (nodes and node) rest e = go (flat_row nodes) (flat_node node) (some_part
     go [] (y ∷ ys) h e = cc e
     go [] [] h e = absurd (omega arith)
 
-pub none_complete : {parts : List Part} {places : List ℕ} {within : Bool} {f : Forest} → Is parts places within f → length parts ≡ 0 → is_complete f ≡ false
+pub none_complete : {parts : List SeenPart} {places : List ℕ} {within : Bool} {f : Forest} → Is parts places within f → length parts ≡ 0 → is_complete f ≡ false
 none_complete {parts} {f = f} is h =
     let e = nothing parts h in
     ap (λ nodes. has_all_ends nodes f.spine f.in_fragments) (no_row f.nodes (flat_spine f.spine) (ap (map stored) (sym e) ∙ (tells_it is).parts_are))
@@ -322,14 +317,14 @@ unended nodes [] within h = absurd (omega arith)
 unended none (newest ∷ older) within h = refl
 unended (nodes and node) (newest ∷ older) within h = refl
 
-pub open_incomplete : {parts : List Part} {places : List ℕ} {within : Bool} {f : Forest} → Is parts places within f → 0 < length places → is_complete f ≡ false
+pub open_incomplete : {parts : List SeenPart} {places : List ℕ} {within : Bool} {f : Forest} → Is parts places within f → 0 < length places → is_complete f ≡ false
 open_incomplete {f = f} is h = let same = ap (λ xs. length xs) (tells_it is).places_are in unended f.nodes f.spine f.in_fragments (omega (arith, same))
 
 pub ended_all : (nodes : Nodes) (within : Bool) → 0 < length (flat_row nodes ++ []) → has_all_ends nodes [] within ≡ not within
 ended_all none within h = absurd (omega arith)
 ended_all (nodes and node) within h = refl
 
-pub complete_is : {parts : List Part} {places : List ℕ} {within : Bool} {f : Forest} → Is parts places within f → 0 < length parts → length places ≡ 0 → not within ≡ is_complete f
+pub complete_is : {parts : List SeenPart} {places : List ℕ} {within : Bool} {f : Forest} → Is parts places within f → 0 < length parts → length places ≡ 0 → not within ≡ is_complete f
 complete_is {parts} {places} {within} {f} is h none_open =
     let e = nothing places none_open in
     let spine = none_newest is e in

@@ -7,6 +7,8 @@ pub mod FlatForest
 pub mod Holders
 pub mod Capture
 pub mod SeenTexts
+pub mod SeenBinaries
+pub mod SeenNames
 pub mod SeenParts
 pub mod SeenBuffers
 pub mod CapturedValues

@@ -8,8 +8,7 @@ use Rattle.sval_label.specs.declared.error.Error.{Error}
 use Rattle.sval_core.specs.Law.{Law, Standing, Streams, Stops}
 use Rattle.sval_buffer.specs.Replay.{Pending, ended}
 use Rattle.sval_core.specs.Values.{makes}
-use Rattle.sval_buffer.specs.declared.part.Part.{Part}
-use Rattle.sval_buffer.specs.SeenParts.{flat_kind, holds_of, stored, holder}
+use Rattle.sval_buffer.specs.SeenParts.{SeenPart, stored, holder}
 
 -- a container that was begun and has no end yet, with its place
 pub record Going : Type 0 where
@@ -53,22 +52,22 @@ IsBelow None limit = ⊤
 IsBelow (Some place) limit = place < limit
 
 -- the newest container that goes on is this part, at this place
-pub record Link (parts : List Part) (going : Option ℕ) (newest : Going) : Type 0 where
-  pub part : Part
+pub record Link (parts : List SeenPart) (going : Option ℕ) (newest : Going) : Type 0 where
+  pub part : SeenPart
   pub at : going ≡ Some newest.place
   pub found : slice_get parts newest.place ≡ Some part
   pub begin : Call
-  pub kind : flat_kind part.kind ≡ flat.Holder begin
-  pub pending : newest.pending ≡ record { stop = newest.place + 1 + holds_of part.kind; end = end_of begin }
+  pub kind : part.kind ≡ flat.Holder begin
+  pub pending : newest.pending ≡ record { stop = newest.place + 1 + part.holds; end = end_of begin }
   pub below : IsBelow (outer_of (map stored parts) part.holder) newest.place
 
 -- the containers that go on, by the place of the newest
-abbrev pub Linked : List Part → Option ℕ → List Going → Type 0
+abbrev pub Linked : List SeenPart → Option ℕ → List Going → Type 0
 Linked parts going [] = going ≡ None
 Linked parts going (newest ∷ older) = (link : Link parts going newest) × Linked parts (outer_of (map stored parts) link.part.holder) older
 
 -- some containers go on whose newest stands there
-abbrev pub IsLinked : List Part → Option ℕ → Type 0
+abbrev pub IsLinked : List SeenPart → Option ℕ → Type 0
 IsLinked parts going = (gs : List Going) × Linked parts going gs
 
 -- all of them end before place i
@@ -83,7 +82,7 @@ Nested whole i gs (p ∷ parts) [] = ⊥
 Nested whole i gs (p ∷ parts) (h ∷ hs) = (outer_of whole h ≡ top (still i gs)) × Nested whole (i + 1) (opens i p.holds p.kind (still i gs)) parts hs
 
 -- the holders of all parts are those that replay needs
-abbrev pub IsNested : List Part → Type 0
+abbrev pub IsNested : List SeenPart → Type 0
 IsNested parts = Nested (map stored parts) 0 [] (map stored parts) (map holder parts)
 
 -- what ends a part that is a container
@@ -101,11 +100,11 @@ is_holder (flat.Bytes held) = false
 is_holder (flat.Holder begin) = true
 
 -- the ends that come before a place were made, and this is the newest container that goes on there
-pub record MakesEnds {V : Type 0} (law : Law V) (parts : List Part) (place : ℕ) (gs : List Going) (old : Standing V) (next : Option ℕ) (new : Standing V) : Type 0 where
+pub record MakesEnds {V : Type 0} (law : Law V) (parts : List SeenPart) (place : ℕ) (gs : List Going) (old : Standing V) (next : Option ℕ) (new : Standing V) : Type 0 where
   pub streams : Streams law old (makes (ended place (pendings gs))) new
   pub linked : Linked parts next (still place gs)
 
 -- what a walk over the containers that go on answers: it made the ends, or the stream refused one of them
-abbrev pub EndsBefore : {V : Type 0} → Law V → List Part → ℕ → List Going → Standing V → Result (Option ℕ) Error → Standing V → Type 0
+abbrev pub EndsBefore : {V : Type 0} → Law V → List SeenPart → ℕ → List Going → Standing V → Result (Option ℕ) Error → Standing V → Type 0
 EndsBefore law parts place gs old (Ok next) new = MakesEnds law parts place gs old next new
 EndsBefore law parts place gs old (Err refusal) new = Stops law old (makes (ended place (pendings gs))) new

@@ -1,26 +1,65 @@
 -- What the parts of the program are.
-use Rattle.std.specs.Prelude.{◌≡◌, ℕ, Bool, true, false, List, map, Option, Some, Result, Ok, Err}
+use Rattle.std.specs.Prelude.{◌≡◌, ℕ, ◌<◌, Bool, true, false, List, [], ◌∷◌, length, map, Option, Some, Result, Ok, Err, ⊤}
 use Rattle.std.specs.Borrow.{Bor}
 use Rattle.sval_label.specs.Calls as call
 use Rattle.sval_label.specs.Calls.{Call}
-use Rattle.sval_label.specs.Grouped.{int_call, seen_head, seen_slot}
+use Rattle.sval_label.specs.Grouped.{int_call}
 use Rattle.sval_label.specs.declared.grouped.Fragment as grouped
 use Rattle.sval_label.specs.declared.grouped.Fragment.TheVariants.{Borrowed, Computed}
 use Rattle.sval_buffer.specs.Pushes.{HeldBytes}
-use Rattle.sval_buffer.specs.Forest.{Forest, OutsideText, push_may_grow}
+use Rattle.sval_buffer.specs.Forest.{Forest, Node, Text, Binary, OutsideText, OutsideBinary, no_bytes, push_may_grow}
 use Rattle.sval_buffer.specs.Flat as flat
 use Rattle.sval_buffer.specs.Flat.{FlatKind, FlatPart, flat_part}
 use Rattle.sval_buffer.specs.FlatForest.{open_places, forest_of}
 use Rattle.sval_buffer.specs.Holders.{holders}
+use Rattle.sval_buffer.specs.SeenNames.{call_at}
 use Rattle.sval_buffer.specs.declared.part.Single.{Single}
 use Rattle.sval_buffer.specs.declared.part.Single.TheVariants.{Null, Bool as Truth, Int}
 use Rattle.sval_buffer.specs.declared.part.Begin.{Begin}
-use Rattle.sval_buffer.specs.declared.part.Begin.TheVariants.{Sized, Part as OfPart}
+use Rattle.sval_buffer.specs.declared.part.Begin.TheVariants as begin
+use Rattle.sval_buffer.specs.declared.part.Medium.{Medium}
+use Rattle.sval_buffer.specs.declared.part.Medium.TheVariants as medium
 use Rattle.sval_buffer.specs.declared.part.PartKind.{PartKind}
 use Rattle.sval_buffer.specs.declared.part.PartKind.TheVariants as kind
 use Rattle.sval_buffer.specs.declared.part.Part.{Part}
 use Rattle.sval_buffer.specs.declared.error.ErrorKind.{ErrorKind}
 use Rattle.sval_buffer.specs.Capture.{WantsMemory, error_of}
+
+-- ---- a part as replay sees it
+
+-- what it is, the number of parts after it that it holds, and the place of what holds it
+pub record SeenPart : Type 0 where
+  pub kind : FlatKind
+  pub holds : ℕ
+  pub holder : Option ℕ
+
+-- as the flat list has it
+abbrev pub stored : SeenPart → FlatPart
+stored p = flat_part p.kind p.holds
+
+-- the place of what holds it
+abbrev pub holder : SeenPart → Option ℕ
+holder p = p.holder
+
+-- the parts, the places of the containers without an end, and the place of what holds each part are the forest's
+pub record TellsForest (parts : List SeenPart) (places : List ℕ) (f : Forest) : Type 0 where
+  pub parts_are : map stored parts ≡ flat.flat f
+  pub places_are : places ≡ open_places f.nodes f.spine
+  pub holders_are : map holder parts ≡ holders f
+
+-- the forest that parts tell
+abbrev pub told : List SeenPart → List ℕ → Bool → Forest
+told parts places within = forest_of (map stored parts) places within
+
+-- a container that holds this many parts
+abbrev pub closed_kind : FlatKind → ℕ → ℕ → ℕ
+closed_kind (flat.Holder begin) parts holds = parts
+closed_kind _ parts holds = holds
+
+abbrev pub with_length : SeenPart → ℕ → SeenPart
+with_length p parts = record p { holds = closed_kind p.kind parts p.holds }
+
+-- ---- the parts of the program
 
 -- the call that this is
 abbrev pub single_call : Single → Call
@@ -30,44 +69,60 @@ single_call (Int n) = int_call n
 
 -- the begin that this is
 abbrev pub begin_call : Begin → Call
-begin_call (Sized head size) = call.Begin (seen_head head) size
-begin_call (OfPart slot) = call.PartBegin (seen_slot slot)
+begin_call (begin.Seq size) = call.Begin call.Seq size
+begin_call (begin.Map size) = call.Begin call.Map size
+begin_call begin.Item = call.PartBegin call.Item
+begin_call begin.Key = call.PartBegin call.Key
+begin_call begin.Value = call.PartBegin call.Value
 
--- what a part is
-abbrev pub flat_kind : PartKind → FlatKind
-flat_kind (kind.Single single) = flat.One (single_call single)
-flat_kind (kind.Text held) = flat.Words held
-flat_kind (kind.Container begin holds) = flat.Holder (begin_call begin)
+-- what a part is, with the calls that have names
+abbrev pub flat_kind : List Call → PartKind → FlatKind
+flat_kind calls (kind.Single single) = flat.One (single_call single)
+flat_kind calls (kind.Named at) = flat.One (call_at calls at)
+flat_kind calls (kind.Text held) = flat.Words held
+flat_kind calls (kind.Binary held) = flat.Bytes held
+flat_kind calls (kind.Container begin holds) = flat.Holder (begin_call begin)
+flat_kind calls (kind.NamedContainer at holds) = flat.Holder (call_at calls at)
 
 -- the number of parts after it that a part holds
 abbrev pub holds_of : PartKind → ℕ
-holds_of (kind.Single single) = 0
-holds_of (kind.Text held) = 0
 holds_of (kind.Container begin holds) = holds
+holds_of (kind.NamedContainer at holds) = holds
+holds_of _ = 0
 
--- a part as the flat list has it
-abbrev pub stored : Part → FlatPart
-stored p = flat_part (flat_kind p.kind) (holds_of p.kind)
+abbrev pub seen_part : List Call → Part → SeenPart
+seen_part calls p = record { kind = flat_kind calls p.kind; holds = holds_of p.kind; holder = p.holder }
 
--- the place of what holds a part
-abbrev pub holder : Part → Option ℕ
-holder p = p.holder
+-- as the flat list has it
+abbrev pub stored_part : List Call → Part → FlatPart
+stored_part calls p = stored (seen_part calls p)
 
--- the parts, the places of the containers without an end, and the place of what holds each part are the forest's
-pub record TellsForest (parts : List Part) (places : List ℕ) (f : Forest) : Type 0 where
-  pub parts_are : map stored parts ≡ flat.flat f
-  pub places_are : places ≡ open_places f.nodes f.spine
-  pub holders_are : map holder parts ≡ holders f
+abbrev pub seen_parts : List Call → List Part → List SeenPart
+seen_parts calls parts = map (seen_part calls) parts
 
--- the forest that parts tell
-abbrev pub told : List Part → List ℕ → Bool → Forest
-told parts places within = forest_of (map stored parts) places within
+-- the call that it speaks of is one of this many
+abbrev pub IsKept : ℕ → PartKind → Type 0
+IsKept calls (kind.Named at) = at < calls
+IsKept calls (kind.NamedContainer at holds) = at < calls
+IsKept calls _ = ⊤
 
--- a fragment was pushed into the part, which takes it
-pub record Pushed (old : Part) (fragment : HeldBytes) (new : Part) : Type 0 where
-  pub kind : flat.push_part fragment (flat_kind old.kind) ≡ Some (flat_kind new.kind)
-  pub holds : holds_of new.kind ≡ holds_of old.kind
-  pub holder : new.holder ≡ old.holder
+abbrev pub AllKept : ℕ → List Part → Type 0
+AllKept calls [] = ⊤
+AllKept calls (p ∷ parts) = IsKept calls p.kind × AllKept calls parts
+
+-- the parts tell a forest, and the calls that they speak of are there
+pub record PartsTell (calls : List Call) (parts : List Part) (places : List ℕ) (within : Bool) : Type 0 where
+  pub tells : TellsForest (seen_parts calls parts) places (told (seen_parts calls parts) places within)
+  pub kept : AllKept (length calls) parts
+
+-- a part without fragments
+abbrev pub no_fragments_yet : Medium → PartKind
+no_fragments_yet medium.Text = kind.Text no_bytes
+no_fragments_yet medium.Binary = kind.Binary no_bytes
+
+abbrev pub no_fragments : Medium → Node
+no_fragments medium.Text = Text no_bytes
+no_fragments medium.Binary = Binary no_bytes
 
 -- a fragment with whether it is borrowed
 abbrev pub fragment_bytes : grouped.Fragment (Bor (List ℕ)) (Bor (List ℕ)) → HeldBytes
@@ -76,16 +131,34 @@ fragment_bytes (Computed text) = record { borrowed = false; bytes = text.now }
 
 -- a container that holds this many parts
 abbrev pub with_holds : PartKind → ℕ → PartKind
-with_holds (kind.Single single) parts = kind.Single single
-with_holds (kind.Text held) parts = kind.Text held
 with_holds (kind.Container begin holds) parts = kind.Container begin parts
+with_holds (kind.NamedContainer at holds) parts = kind.NamedContainer at parts
+with_holds other parts = other
 
--- why a part refuses a fragment: it is no text, or memory was wanting where the push may take some
-abbrev pub IsPushCause : HeldBytes → FlatKind → ErrorKind → Type 0
-IsPushCause fragment (flat.Words held) why = WantsMemory (push_may_grow fragment.borrowed (Some held)) why
-IsPushCause fragment other why = why ≡ error_of OutsideText
+-- ---- a fragment that is pushed
 
--- the fragment was pushed into the part, or the part refused it and is as it was
-abbrev pub PartPushes : Part → HeldBytes → Result (Unit {0}) ErrorKind → Part → Type 0
-PartPushes old fragment (Ok done) new = Pushed old fragment new
-PartPushes old fragment (Err why) new = (new ≡ old) × IsPushCause fragment (flat_kind old.kind) why
+-- the part is now of this kind, and else as it was
+pub record Pushed (taken : Option FlatKind) (old new : SeenPart) : Type 0 where
+  pub kind : taken ≡ Some new.kind
+  pub holds : new.holds ≡ old.holds
+  pub holder : new.holder ≡ old.holder
+
+-- why a part refuses a text fragment: it is no text, or memory was wanting where the push may take some
+abbrev pub IsTextCause : HeldBytes → FlatKind → ErrorKind → Type 0
+IsTextCause fragment (flat.Words held) why = WantsMemory (push_may_grow fragment.borrowed (Some held)) why
+IsTextCause fragment other why = why ≡ error_of OutsideText
+
+-- the same of a binary fragment
+abbrev pub IsBinaryCause : HeldBytes → FlatKind → ErrorKind → Type 0
+IsBinaryCause fragment (flat.Bytes held) why = WantsMemory (push_may_grow fragment.borrowed (Some held)) why
+IsBinaryCause fragment other why = why ≡ error_of OutsideBinary
+
+-- the text fragment was pushed into the part, or the part refused it and is as it was
+abbrev pub TextPushes : SeenPart → HeldBytes → Result (Unit {0}) ErrorKind → SeenPart → Type 0
+TextPushes old fragment (Ok done) new = Pushed (flat.push_part fragment old.kind) old new
+TextPushes old fragment (Err why) new = (new ≡ old) × IsTextCause fragment old.kind why
+
+-- the same of a binary fragment
+abbrev pub BinaryPushes : SeenPart → HeldBytes → Result (Unit {0}) ErrorKind → SeenPart → Type 0
+BinaryPushes old fragment (Ok done) new = Pushed (flat.push_binary_part fragment old.kind) old new
+BinaryPushes old fragment (Err why) new = (new ≡ old) × IsBinaryCause fragment old.kind why

@@ -1,12 +1,14 @@
 //! Texts that come in fragments, and captured values.
 //!
-//! A [`TextBuf`] joins the fragments of a text, and a [`ValueBuf`] captures the calls of a value and makes them again.
+//! A [`TextBuf`] joins the fragments of a text, a [`BinaryBuf`] those of a binary, and a [`ValueBuf`] captures the calls of a value and makes them again.
 //! What they hold stands in `specs/Pushes.antt` and `specs/Forest.antt`, and [`laws`] has what holds of it.
 #![tactic(auto)]
 
+mod binary_buf;
 pub mod collect_laws;
 mod error;
 pub mod laws;
+mod named;
 mod one_pass;
 mod part;
 mod parts;
@@ -15,6 +17,8 @@ mod tests;
 mod text_buf;
 mod value_buf;
 
+pub use binary_buf::BinaryBuf;
 pub use error::{Error, ErrorKind, Word};
+pub use named::{CallStore, NamedCalls};
 pub use text_buf::TextBuf;
-pub use value_buf::ValueBuf;
+pub use value_buf::{AnyValueBuf, ValueBuf};

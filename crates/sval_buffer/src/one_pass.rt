@@ -1,48 +1,54 @@
 //! Replay of a flat list of parts, in one pass without memory.
 
-ghost use Rattle.std.specs.Prelude.{◌≡◌, List, [], map};
+ghost use Rattle.std.specs.Prelude.{◌≡◌, List, [], length, map};
+ghost use Rattle.sval_label.specs.Calls.{Call};
 ghost use Rattle.sval_core.specs.Law.{Emits};
 ghost use Rattle.sval_buffer.specs.Replay.{pass};
 ghost use Rattle.sval_core.specs.Values.{makes};
-ghost use Rattle.sval_buffer.specs.SeenParts.{stored};
+ghost use Rattle.sval_buffer.specs.SeenParts.{stored, stored_part, seen_parts, AllKept};
 ghost use Rattle.sval_buffer.specs.Nested.{Going, outer_of, Linked, IsLinked, IsNested, EndsBefore};
 
+use crate::named::CallStore;
 use crate::part::Part;
 use sval_core::{Lent, Result, Stream};
 
 /// Makes the calls of all parts.
 ///
 /// It keeps the place of the newest container that goes on. Those around it follow from the holders of the parts.
-pub(crate) fn replay_parts<'sval, S: Stream<Lent<'sval>>>(
+pub(crate) fn replay_parts<'sval, N: CallStore, S: Stream<Lent<'sval>>>(
     parts: &[Part<'sval>],
+    named: &N,
     stream: &mut S,
 ) -> Result
-    requires { IsNested parts.now }
-    ensures { let calls = pass 0 [] (map stored parts.now) in
+    requires nested { IsNested (seen_parts (N.calls named.now) parts.now) }
+    requires kept { AllKept (length (N.calls named.now)) parts.now }
+    ensures { let calls = pass 0 [] (map stored (seen_parts (N.calls named.now) parts.now)) in
         Emits S.law result (S.standing stream.old) (makes calls) (S.standing stream.new) }
 {
     let mut going = None;
     for (place, part) in parts.iter().enumerate() {
-        going = end_before(parts, going, place, stream)?;
-        part.stream_head(stream)?;
+        going = end_before(parts, named, going, place, stream)?;
+        part.stream_head(named, stream)?;
         if part.is_container() {
             going = Some(place);
         }
     }
-    end_before(parts, going, parts.len(), stream)?;
+    end_before(parts, named, going, parts.len(), stream)?;
     Ok(())
 }
 
 /// Makes the ends of the containers that don't go on at a place, from the newest outwards. Gives the newest of the others.
-fn end_before<'sval, S: Stream<Lent<'sval>>>(
+fn end_before<'sval, N: CallStore, S: Stream<Lent<'sval>>>(
     parts: &[Part<'sval>],
+    named: &N,
     going: Option<usize>,
     place: usize,
     stream: &mut S,
 ) -> Result<Option<usize>>
-    requires { IsLinked parts.now going }
-    ensures { (gs : List Going) → Linked parts.now going gs
-        → EndsBefore S.law parts.now place gs (S.standing stream.old) result (S.standing stream.new) }
+    requires linked { IsLinked (seen_parts (N.calls named.now) parts.now) going }
+    requires kept { AllKept (length (N.calls named.now)) parts.now }
+    ensures { let seen = seen_parts (N.calls named.now) parts.now in (gs : List Going) → Linked seen going gs
+        → EndsBefore S.law seen place gs (S.standing stream.old) result (S.standing stream.new) }
 {
     let mut newest = going;
     while let Some(at) = newest {
@@ -50,7 +56,7 @@ fn end_before<'sval, S: Stream<Lent<'sval>>>(
         if part.holds() >= place.saturating_sub(at) {
             return Ok(newest);
         }
-        part.stream_end(stream)?;
+        part.stream_end(named, stream)?;
         newest = outer(parts, part.holder);
     }
     Ok(newest)
@@ -58,7 +64,7 @@ fn end_before<'sval, S: Stream<Lent<'sval>>>(
 
 /// The place of the container that holds a part in replay: none where that one has no end, since then it holds no part.
 fn outer(parts: &[Part<'_>], holder: Option<usize>) -> Option<usize>
-    ensures { result ≡ outer_of (map stored parts.now) holder }
+    ensures { (calls : List Call) → result ≡ outer_of (map (stored_part calls) parts.now) holder }
 {
     match parts.get(holder?) {
         Some(part) if part.holds() != 0 => holder,

@@ -1,21 +1,25 @@
 //! The parts of a captured value.
 
-ghost use Rattle.std.specs.Prelude.{◌≡◌, ℕ, List, [], ◌∷◌, Some, OnErr, IsTrue, is_ok, if◌then◌else◌};
+ghost use Rattle.std.specs.Prelude.{◌≡◌, ℕ, List, [], ◌∷◌, length, true, Some, OnErr, IsTrue, is_ok, if◌then◌else◌};
+ghost use Rattle.sval_label.specs.Calls.{Call};
 ghost use Rattle.sval_buffer.specs.Pushes.{pushed};
 ghost use Rattle.sval_label.specs.Grouped.{grouped_call};
 ghost use Rattle.sval_core.specs.Law.{Emits};
-ghost use Rattle.sval_buffer.specs.Replay.{head_calls};
 ghost use Rattle.sval_core.specs.Values.{makes};
+ghost use Rattle.sval_buffer.specs.Replay.{head_calls};
 ghost use Rattle.sval_buffer.specs.Nested.{end_calls, is_holder};
 ghost use Rattle.sval_buffer.specs.Forest.{end_of, push_may_grow};
-ghost use Rattle.sval_buffer.specs.SeenParts.{PartPushes, fragment_bytes, with_holds, flat_kind, holds_of, single_call, begin_call};
+ghost use Rattle.sval_buffer.specs.SeenParts.{seen_part, TextPushes, BinaryPushes, fragment_bytes, with_holds, flat_kind, holds_of, single_call, begin_call, no_fragments_yet, IsKept};
 
+use crate::binary_buf::BinaryBuf;
 use crate::error::{ErrorKind, Word};
+use crate::named::{CallStore, make};
 use crate::text_buf::TextBuf;
-use sval_core::{Fragment, GroupedCall, Head, Int, Lending, Lent, NoMemory, Slot, Stream};
+use std::alloc::Global;
+use sval_core::{Fragment, GroupedCall, Head, Int, Lent, NoMemory, Slot, Stream};
 use sval_ref::ValueRef;
 
-/// A call that is complete by itself.
+/// A call that is complete by itself and has no name.
 #[derive(Clone, Copy)]
 pub(crate) enum Single {
     Null,
@@ -34,8 +38,8 @@ impl Single {
     }
 
     /// The call.
-    fn call<'c, T>(self) -> GroupedCall<'c, T>
-        ensures { (text : T → List ℕ) → grouped_call text result ≡ single_call self }
+    fn call<'c, T, B>(self) -> GroupedCall<'c, T, B>
+        ensures { (text : T → List ℕ) (bytes : B → List ℕ) → grouped_call text bytes result ≡ single_call self }
     {
         match self {
             Single::Null => GroupedCall::Null,
@@ -45,53 +49,83 @@ impl Single {
     }
 }
 
-/// The begin of a container, which is all that has a begin and an end but a text.
+/// The begin of a container that has no name. A container is all that has a begin and an end but a text and a binary.
 #[derive(Clone, Copy)]
 pub(crate) enum Begin {
-    Sized(Head, Option<usize>),
-    Part(Slot),
+    Seq(Option<usize>),
+    Map(Option<usize>),
+    Item,
+    Key,
+    Value,
 }
 
 impl Begin {
     /// The begin.
-    fn call<'c, T>(self) -> GroupedCall<'c, T>
-        ensures { (text : T → List ℕ) → grouped_call text result ≡ begin_call self }
+    fn call<'c, T, B>(self) -> GroupedCall<'c, T, B>
+        ensures { (text : T → List ℕ) (bytes : B → List ℕ) → grouped_call text bytes result ≡ begin_call self }
     {
         match self {
-            Begin::Sized(head, size) => GroupedCall::Begin(head, size),
-            Begin::Part(slot) => GroupedCall::PartBegin(slot),
+            Begin::Seq(size) => GroupedCall::Begin(Head::Seq, size),
+            Begin::Map(size) => GroupedCall::Begin(Head::Map, size),
+            Begin::Item => GroupedCall::PartBegin(Slot::Item),
+            Begin::Key => GroupedCall::PartBegin(Slot::Key),
+            Begin::Value => GroupedCall::PartBegin(Slot::Value),
         }
     }
 
     /// The end that belongs to the begin.
-    fn end<'c, T>(self) -> GroupedCall<'c, T>
-        ensures { (text : T → List ℕ) → grouped_call text result ≡ end_of (begin_call self) }
+    fn end<'c, T, B>(self) -> GroupedCall<'c, T, B>
+        ensures { (text : T → List ℕ) (bytes : B → List ℕ) → grouped_call text bytes result ≡ end_of (begin_call self) }
     {
         match self {
-            Begin::Sized(head, _) => GroupedCall::End(head),
-            Begin::Part(slot) => GroupedCall::PartEnd(slot),
+            Begin::Seq(_) => GroupedCall::End(Head::Seq),
+            Begin::Map(_) => GroupedCall::End(Head::Map),
+            Begin::Item => GroupedCall::PartEnd(Slot::Item),
+            Begin::Key => GroupedCall::PartEnd(Slot::Key),
+            Begin::Value => GroupedCall::PartEnd(Slot::Value),
         }
     }
 }
 
-/// Makes a call in a stream.
-fn make<L: Lending, S: Stream<L>>(
-    call: GroupedCall<'_, L::Text>,
-    stream: &mut S,
-) -> sval_core::Result
-    ensures { let made = grouped_call L.text call.entry in
-        Emits S.law result (S.standing stream.old) (makes (made ∷ [])) (S.standing stream.new) }
-{
-    stream.take(call.call())
+/// What fragments are of.
+#[derive(Clone, Copy)]
+pub(crate) enum Medium {
+    Text,
+    Binary,
+}
+
+impl Medium {
+    /// What it is called.
+    pub(crate) fn word(self) -> Word {
+        match self {
+            Medium::Text => Word::Text,
+            Medium::Binary => Word::Binary,
+        }
+    }
+
+    /// A part without fragments.
+    pub(crate) fn empty<'sval>(self, alloc: Global) -> PartKind<'sval>
+        ensures { result ≡ no_fragments_yet self }
+    {
+        match self {
+            Medium::Text => PartKind::Text(TextBuf::new(alloc)),
+            Medium::Binary => PartKind::Binary(BinaryBuf::new(alloc)),
+        }
+    }
 }
 
 /// What a part is.
 #[derive(Drop)]
 pub(crate) enum PartKind<'sval> {
     Single(Single),
+    /// A tag or a hint, by its place in the calls with names.
+    Named(usize),
     Text(TextBuf<'sval>),
+    Binary(BinaryBuf<'sval>),
     /// A container, and the number of parts after it that it holds: none, as long as it has no end.
     Container { begin: Begin, holds: usize },
+    /// The same of a container with a name, by the place of its begin in the calls with names.
+    NamedContainer { at: usize, holds: usize },
 }
 
 /// A part of a captured value.
@@ -104,14 +138,40 @@ pub(crate) struct Part<'sval> {
 
 impl<'sval> Part<'sval> {
     /// Pushes a fragment into a text.
-    pub(crate) fn push(&mut self, fragment: Fragment<&'sval str, &str>) -> Result<(), ErrorKind>
-        ensures { PartPushes self.old (fragment_bytes fragment.entry) result self.new }
+    pub(crate) fn push_text(
+        &mut self,
+        fragment: Fragment<&'sval str, &str>,
+    ) -> Result<(), ErrorKind>
+        ensures pushes { (calls : List Call)
+            → TextPushes (seen_part calls self.old) (fragment_bytes fragment.entry) result (seen_part calls self.new) }
+        ensures kept { (calls : ℕ) → IsKept calls self.old.kind → IsKept calls self.new.kind }
     {
         match &mut self.kind {
-            PartKind::Text(text) => push_fragment(text, fragment).map_err(|_| ErrorKind::NoAlloc {
+            PartKind::Text(text) => push_into_text(text, fragment).map_err(|_| ErrorKind::NoAlloc {
                 method: Word::Text,
             }),
             _ => Err(ErrorKind::OutsideContainer { method: Word::Text }),
+        }
+    }
+
+    /// Pushes a fragment into a binary.
+    pub(crate) fn push_binary(
+        &mut self,
+        fragment: Fragment<&'sval [u8], &[u8]>,
+    ) -> Result<(), ErrorKind>
+        ensures pushes { (calls : List Call)
+            → BinaryPushes (seen_part calls self.old) (fragment_bytes fragment.entry) result (seen_part calls self.new) }
+        ensures kept { (calls : ℕ) → IsKept calls self.old.kind → IsKept calls self.new.kind }
+    {
+        match &mut self.kind {
+            PartKind::Binary(bytes) => push_into_binary(bytes, fragment).map_err(|_| {
+                ErrorKind::NoAlloc {
+                    method: Word::Binary,
+                }
+            }),
+            _ => Err(ErrorKind::OutsideContainer {
+                method: Word::Binary,
+            }),
         }
     }
 
@@ -120,41 +180,59 @@ impl<'sval> Part<'sval> {
         ensures { result ≡ holds_of self.now.kind }
     {
         match &self.kind {
-            PartKind::Container { holds, .. } => *holds,
-            PartKind::Single(_) | PartKind::Text(_) => 0,
+            PartKind::Container { holds, .. } | PartKind::NamedContainer { holds, .. } => *holds,
+            PartKind::Single(_) | PartKind::Named(_) | PartKind::Text(_) | PartKind::Binary(_) => 0,
         }
     }
 
     /// This is a container.
     pub(crate) fn is_container(&self) -> bool
-        ensures { result ≡ is_holder (flat_kind self.now.kind) }
+        ensures { (calls : List Call) → result ≡ is_holder (flat_kind calls self.now.kind) }
     {
         match &self.kind {
-            PartKind::Container { .. } => true,
-            PartKind::Single(_) | PartKind::Text(_) => false,
+            PartKind::Container { .. } | PartKind::NamedContainer { .. } => true,
+            PartKind::Single(_) | PartKind::Named(_) | PartKind::Text(_) | PartKind::Binary(_) => {
+                false
+            }
         }
     }
 
     /// Makes the calls of this part, of a container its begin.
-    pub(crate) fn stream_head<S: Stream<Lent<'sval>>>(&self, stream: &mut S) -> sval_core::Result
-        ensures { let calls = head_calls (flat_kind self.now.kind) in
+    pub(crate) fn stream_head<N: CallStore, S: Stream<Lent<'sval>>>(
+        &self,
+        named: &N,
+        stream: &mut S,
+    ) -> sval_core::Result
+        requires { IsKept (length (N.calls named.now)) self.now.kind }
+        ensures { let calls = head_calls (flat_kind (N.calls named.now) self.now.kind) in
             Emits S.law result (S.standing stream.old) (makes calls) (S.standing stream.new) }
     {
         match &self.kind {
             PartKind::Single(single) => make(single.call(), stream),
+            PartKind::Named(at) => named.stream_call(*at, stream),
             PartKind::Text(text) => text.stream_ref(stream),
+            PartKind::Binary(bytes) => bytes.stream_ref(stream),
             PartKind::Container { begin, .. } => make(begin.call(), stream),
+            PartKind::NamedContainer { at, .. } => named.stream_call(*at, stream),
         }
     }
 
     /// Makes the end of this part, if it is a container.
-    pub(crate) fn stream_end<S: Stream<Lent<'sval>>>(&self, stream: &mut S) -> sval_core::Result
-        ensures { let calls = end_calls (flat_kind self.now.kind) in
+    pub(crate) fn stream_end<N: CallStore, S: Stream<Lent<'sval>>>(
+        &self,
+        named: &N,
+        stream: &mut S,
+    ) -> sval_core::Result
+        requires { IsKept (length (N.calls named.now)) self.now.kind }
+        ensures { let calls = end_calls (flat_kind (N.calls named.now) self.now.kind) in
             Emits S.law result (S.standing stream.old) (makes calls) (S.standing stream.new) }
     {
         match &self.kind {
             PartKind::Container { begin, .. } => make(begin.end(), stream),
-            PartKind::Single(_) | PartKind::Text(_) => Ok(()),
+            PartKind::NamedContainer { at, .. } => named.stream_end(*at, stream),
+            PartKind::Single(_) | PartKind::Named(_) | PartKind::Text(_) | PartKind::Binary(_) => {
+                Ok(())
+            }
         }
     }
 
@@ -162,14 +240,16 @@ impl<'sval> Part<'sval> {
     pub(crate) fn close(&mut self, parts: usize)
         ensures { self.new ≡ record self.old { kind = with_holds self.old.kind parts } }
     {
-        if let PartKind::Container { holds, .. } = &mut self.kind {
-            *holds = parts;
+        match &mut self.kind {
+            PartKind::Container { holds, .. } => *holds = parts,
+            PartKind::NamedContainer { holds, .. } => *holds = parts,
+            PartKind::Single(_) | PartKind::Named(_) | PartKind::Text(_) | PartKind::Binary(_) => {}
         }
     }
 }
 
 /// Pushes a fragment into a text.
-fn push_fragment<'sval>(
+fn push_into_text<'sval>(
     text: &mut TextBuf<'sval>,
     fragment: Fragment<&'sval str, &str>,
 ) -> Result<(), NoMemory>
@@ -179,6 +259,21 @@ fn push_fragment<'sval>(
     let pushed = match fragment {
         Fragment::Borrowed(fragment) => text.push_fragment(fragment),
         Fragment::Computed(fragment) => text.push_fragment_computed(fragment),
+    };
+    pushed.map_err(|_| NoMemory)
+}
+
+/// Pushes a fragment into a binary.
+fn push_into_binary<'sval>(
+    bytes: &mut BinaryBuf<'sval>,
+    fragment: Fragment<&'sval [u8], &[u8]>,
+) -> Result<(), NoMemory>
+    ensures bytes { bytes.new ≡ (if is_ok result then pushed bytes.old (fragment_bytes fragment.entry) else bytes.old) }
+    ensures may_fail { OnErr result (IsTrue (push_may_grow (fragment_bytes fragment.entry).borrowed (Some bytes.old))) }
+{
+    let pushed = match fragment {
+        Fragment::Borrowed(fragment) => bytes.push_fragment(fragment),
+        Fragment::Computed(fragment) => bytes.push_fragment_computed(fragment),
     };
     pushed.map_err(|_| NoMemory)
 }

@@ -1,55 +1,64 @@
 //! The parts of a captured value, in a flat list.
 
-ghost use Rattle.std.specs.Prelude.{◌≡◌, true, false, [], ◌∷◌};
+ghost use Rattle.std.specs.Prelude.{◌≡◌, true, false, [], not, if◌then◌else◌};
+ghost use Rattle.sval_label.specs.Calls as calls;
 ghost use Rattle.sval_label.specs.Made.{lent_call};
+ghost use Rattle.sval_label.specs.Grouped.{seen_head, seen_slot};
+ghost use Rattle.sval_label.specs.SeenTags.{seen_ref_tag};
+ghost use Rattle.sval_label.specs.SeenName.{seen_name};
 ghost use Rattle.sval_core.specs.Law.{Emits};
 ghost use Rattle.sval_core.specs.Values.{makes};
 ghost use Rattle.sval_buffer.specs.Forest as forest;
-ghost use Rattle.sval_buffer.specs.Forest.{Becomes, add, with_flag, begun, push_into_text, close_newest, text_may_grow, may_grow, empty_forest, no_bytes};
+ghost use Rattle.sval_buffer.specs.Forest.{Becomes, add, with_flag, begun, push_into_text, push_into_binary, close_newest, text_may_grow, binary_may_grow, may_grow, empty_forest};
 ghost use Rattle.sval_buffer.specs.FlatForest.{forest_in};
 ghost use Rattle.sval_buffer.specs.Capture.{CapturesBy};
-ghost use Rattle.sval_buffer.specs.SeenParts.{single_call, begin_call, fragment_bytes};
+ghost use Rattle.sval_buffer.specs.SeenNames.{named_call, IsBegin, HasName};
+ghost use Rattle.sval_buffer.specs.SeenParts.{single_call, begin_call, no_fragments, fragment_bytes};
 
+use crate::binary_buf::BinaryBuf;
 use crate::error::{ErrorKind, Word};
+use crate::named::{CallStore, NamedHead, NamedKind, NamedSlot};
 use crate::one_pass::replay_parts;
-use crate::part::{Begin, Part, PartKind, Single};
+use crate::part::{Begin, Medium, Part, PartKind, Single};
 use crate::text_buf::TextBuf;
 use std::alloc::Global;
 use std::marker::Model;
-use sval_core::{Call, Fragment, GroupedCall, Lent, Stream};
+use sval_core::{Call, Fragment, GroupedCall, Head, Lent, Name, Slot, Stream, Tag};
 
 /// The parts of a captured value. `forest_in` reads the forest that they are.
 #[derive(Drop)]
-pub(crate) struct Parts<'sval> {
+pub(crate) struct Parts<'sval, N: CallStore + 'sval> {
     parts: Vec<Part<'sval>>,
+    /// The calls with names that the parts speak of.
+    named: N,
     /// The places of the containers without an end, the oldest first.
     places: Vec<usize>,
-    /// A text has begun, and none has ended since.
+    /// A text or a binary has begun, and none has ended since.
     in_fragments: bool,
 }
 
-impl<'sval> Model for Parts<'sval> {
+impl<'sval, N: CallStore + 'sval> Model for Parts<'sval, N> {
     ghost use Rattle.std.specs.Prelude.{map};
     ghost use Rattle.sval_buffer.specs.FlatForest.{FlatForest};
 
     ghost Value = { FlatForest };
 
-    ghost use Rattle.sval_buffer.specs.SeenParts.{stored, told, TellsForest};
+    ghost use Rattle.sval_buffer.specs.SeenParts.{stored, seen_parts, PartsTell};
 
     ghost view = { λ p.
-        record { parts = map stored p.parts.items; places = p.places.items; in_fragments = p.in_fragments } };
+        record { parts = map stored (seen_parts (N.calls p.named) p.parts.items); places = p.places.items; in_fragments = p.in_fragments } };
 
-    ghost invariant = { λ p.
-        TellsForest p.parts.items p.places.items (told p.parts.items p.places.items p.in_fragments) };
+    ghost invariant = { λ p. PartsTell (N.calls p.named) p.parts.items p.places.items p.in_fragments };
 }
 
-impl<'sval> Parts<'sval> {
+impl<'sval, N: CallStore + 'sval> Parts<'sval, N> {
     /// No parts, which take no memory yet.
     pub(crate) fn new(alloc: Global) -> Self
         ensures { forest_in result ≡ empty_forest }
     {
         Parts {
             parts: Vec::new(alloc),
+            named: N::empty(alloc),
             places: Vec::new(alloc),
             in_fragments: false,
         }
@@ -68,6 +77,7 @@ impl<'sval> Parts<'sval> {
         ensures { forest_in self.new ≡ empty_forest }
     {
         self.parts.clear();
+        self.named.clear();
         self.places.clear();
         self.in_fragments = false;
     }
@@ -82,7 +92,7 @@ impl<'sval> Parts<'sval> {
         !self.in_fragments
     }
 
-    /// Adds a call that is complete by itself.
+    /// Adds a call that is complete by itself and has no name.
     fn single(&mut self, single: Single) -> Result<(), ErrorKind>
         ensures { let node = forest.Single (single_call single) in
             CapturesBy (λ _. true) (λ f. Becomes (add node f)) self.old result self.new }
@@ -99,41 +109,94 @@ impl<'sval> Parts<'sval> {
         Ok(())
     }
 
-    /// Begins a text.
-    fn text_begin(&mut self, alloc: Global) -> Result<(), ErrorKind>
-        ensures { let node = forest.Text no_bytes in
+    /// Adds a hint, but within a text or a binary.
+    fn hint(&mut self, tag: &Tag) -> Result<(), ErrorKind>
+        ensures { let node = forest.Single (calls.TagHint (seen_ref_tag tag.entry)) in
+            CapturesBy (λ f. not f.in_fragments) (λ f. Becomes (if f.in_fragments then f else add node f))
+            self.old result self.new }
+    {
+        if self.in_fragments {
+            return Ok(());
+        }
+        let name = Name {
+            tag: Some(tag),
+            label: None,
+            index: None,
+        };
+        self.single_named(NamedKind::Hint, name)
+    }
+
+    /// Adds a tag or a hint. There is memory for its part before its name is kept.
+    fn single_named(&mut self, kind: NamedKind, name: Name<'_>) -> Result<(), ErrorKind>
+        requires name { HasName kind (seen_name name) }
+        ensures { let node = forest.Single (named_call kind (seen_name name.entry)) in
+            CapturesBy (λ _. true) (λ f. Becomes (add node f)) self.old result self.new }
+    {
+        if self.parts.reserve(1).is_err() {
+            return Err(ErrorKind::NoAlloc { method: Word::Text });
+        }
+        match self.named.push(kind, name) {
+            Ok(at) => {
+                self.parts.push_reserved(Part {
+                    kind: PartKind::Named(at),
+                    holder: self.places.last().copied(),
+                });
+                Ok(())
+            }
+            Err(_) => Err(ErrorKind::NoAlloc { method: Word::Text }),
+        }
+    }
+
+    /// Begins a text or a binary.
+    fn begin_fragments(&mut self, alloc: Global, medium: Medium) -> Result<(), ErrorKind>
+        ensures { let node = no_fragments medium in
             CapturesBy (λ _. true) (λ f. Becomes (with_flag true (add node f))) self.old result self.new }
     {
         let part = Part {
-            kind: PartKind::Text(TextBuf::new(alloc)),
+            kind: medium.empty(alloc),
             holder: self.places.last().copied(),
         };
         if self.parts.push(part).is_err() {
-            return Err(ErrorKind::NoAlloc { method: Word::Text });
+            return Err(ErrorKind::NoAlloc {
+                method: medium.word(),
+            });
         }
         self.in_fragments = true;
         Ok(())
     }
 
-    /// Ends a text.
-    fn text_end(&mut self)
+    /// Ends a text or a binary.
+    fn end_fragments(&mut self)
         ensures { forest_in self.new ≡ with_flag false (forest_in self.old) }
     {
         self.in_fragments = false;
     }
 
-    /// Pushes a fragment into the last part.
-    fn push(&mut self, fragment: Fragment<&'sval str, &str>) -> Result<(), ErrorKind>
+    /// Pushes a fragment into the last part, if that is a text.
+    fn push_text(&mut self, fragment: Fragment<&'sval str, &str>) -> Result<(), ErrorKind>
         ensures { let pushed = fragment_bytes fragment.entry in
             CapturesBy (text_may_grow pushed.borrowed) (push_into_text pushed) self.old result self.new }
     {
         match self.parts.last_mut() {
-            Some(part) => part.push(fragment),
+            Some(part) => part.push_text(fragment),
             None => Err(ErrorKind::OutsideContainer { method: Word::Text }),
         }
     }
 
-    /// Begins a container. There is memory for its place before its part is kept.
+    /// Pushes a fragment into the last part, if that is a binary.
+    fn push_binary(&mut self, fragment: Fragment<&'sval [u8], &[u8]>) -> Result<(), ErrorKind>
+        ensures { let pushed = fragment_bytes fragment.entry in
+            CapturesBy (binary_may_grow pushed.borrowed) (push_into_binary pushed) self.old result self.new }
+    {
+        match self.parts.last_mut() {
+            Some(part) => part.push_binary(fragment),
+            None => Err(ErrorKind::OutsideContainer {
+                method: Word::Binary,
+            }),
+        }
+    }
+
+    /// Begins a container without a name. There is memory for its place before its part is kept.
     fn begin(&mut self, begin: Begin) -> Result<(), ErrorKind>
         ensures { CapturesBy (λ _. true) (λ f. Becomes (begun (begin_call begin) f)) self.old result self.new }
     {
@@ -151,6 +214,86 @@ impl<'sval> Parts<'sval> {
         Ok(())
     }
 
+    /// Begins a container with a name. There is memory for its part and its place before its name is kept.
+    fn begin_named(&mut self, kind: NamedKind, name: Name<'_>) -> Result<(), ErrorKind>
+        requires begins { IsBegin kind }
+        requires name { HasName kind (seen_name name) }
+        ensures { let begin = named_call kind (seen_name name.entry) in
+            CapturesBy (λ _. true) (λ f. Becomes (begun begin f)) self.old result self.new }
+    {
+        let place = self.parts.len();
+        if self.places.reserve(1).is_err() || self.parts.reserve(1).is_err() {
+            return Err(ErrorKind::NoAlloc {
+                method: Word::Sequence,
+            });
+        }
+        match self.named.push(kind, name) {
+            Ok(at) => {
+                self.parts.push_reserved(Part {
+                    kind: PartKind::NamedContainer { at, holds: 0 },
+                    holder: self.places.last().copied(),
+                });
+                self.places.push_reserved(place);
+                Ok(())
+            }
+            Err(_) => Err(ErrorKind::NoAlloc {
+                method: Word::Sequence,
+            }),
+        }
+    }
+
+    /// Begins a container with a size.
+    fn begin_head(&mut self, head: Head<'_>, size: Option<usize>) -> Result<(), ErrorKind>
+        ensures { let begin = calls.Begin (seen_head head.entry) size in
+            CapturesBy (λ _. true) (λ f. Becomes (begun begin f)) self.old result self.new }
+    {
+        match head {
+            Head::Seq => self.begin(Begin::Seq(size)),
+            Head::Map => self.begin(Begin::Map(size)),
+            Head::Record(name) => self.begin_named(NamedKind::Sized(NamedHead::Record, size), name),
+            Head::Tuple(name) => self.begin_named(NamedKind::Sized(NamedHead::Tuple, size), name),
+            Head::RecordTuple(name) => {
+                self.begin_named(NamedKind::Sized(NamedHead::RecordTuple, size), name)
+            }
+        }
+    }
+
+    /// Begins a part of a container.
+    fn begin_slot(&mut self, slot: Slot<'_>) -> Result<(), ErrorKind>
+        ensures { let begin = calls.PartBegin (seen_slot slot.entry) in
+            CapturesBy (λ _. true) (λ f. Becomes (begun begin f)) self.old result self.new }
+    {
+        match slot {
+            Slot::Item => self.begin(Begin::Item),
+            Slot::Key => self.begin(Begin::Key),
+            Slot::Value => self.begin(Begin::Value),
+            Slot::Field(tag, label) => self.begin_named(
+                NamedKind::Part(NamedSlot::Field),
+                Name {
+                    tag,
+                    label: Some(label),
+                    index: None,
+                },
+            ),
+            Slot::Place(tag, index) => self.begin_named(
+                NamedKind::Part(NamedSlot::Place),
+                Name {
+                    tag,
+                    label: None,
+                    index: Some(index),
+                },
+            ),
+            Slot::FieldPlace(tag, label, index) => self.begin_named(
+                NamedKind::Part(NamedSlot::FieldPlace),
+                Name {
+                    tag,
+                    label: Some(label),
+                    index: Some(index),
+                },
+            ),
+        }
+    }
+
     /// Makes the calls again, or that of no value where there is no part.
     pub(crate) fn replay<S: Stream<Lent<'sval>>>(&self, stream: &mut S) -> sval_core::Result
         ensures { let calls = forest.replayed (forest_in self.now) in
@@ -159,7 +302,7 @@ impl<'sval> Parts<'sval> {
         if self.parts.is_empty() {
             return stream.null();
         }
-        replay_parts(self.parts.as_slice(), stream)
+        replay_parts(self.parts.as_slice(), &self.named, stream)
     }
 
     /// Takes a call.
@@ -172,15 +315,24 @@ impl<'sval> Parts<'sval> {
             GroupedCall::Null => self.single(Single::Null),
             GroupedCall::Bool(value) => self.single(Single::Bool(value)),
             GroupedCall::Int(value) => self.single(Single::Int(value)),
-            GroupedCall::TextBegin(_) => self.text_begin(alloc),
-            GroupedCall::TextFragment(fragment) => self.push(fragment),
-            GroupedCall::TextEnd => {
-                self.text_end();
+            GroupedCall::Tag(name) => self.single_named(NamedKind::Tag, name),
+            GroupedCall::TagHint(tag) => self.hint(tag),
+            GroupedCall::TextBegin(_) => self.begin_fragments(alloc, Medium::Text),
+            GroupedCall::BinaryBegin(_) => self.begin_fragments(alloc, Medium::Binary),
+            GroupedCall::TextFragment(fragment) => self.push_text(fragment),
+            GroupedCall::BinaryFragment(fragment) => self.push_binary(fragment),
+            GroupedCall::TextEnd | GroupedCall::BinaryEnd => {
+                self.end_fragments();
                 Ok(())
             }
-            GroupedCall::Begin(head, size) => self.begin(Begin::Sized(head, size)),
-            GroupedCall::PartBegin(slot) => self.begin(Begin::Part(slot)),
-            GroupedCall::End(_) | GroupedCall::PartEnd(_) => self.end(),
+            GroupedCall::EnumBegin(name) => self.begin_named(NamedKind::Enum, name),
+            GroupedCall::TaggedBegin(name) => self.begin_named(NamedKind::Tagged, name),
+            GroupedCall::Begin(head, size) => self.begin_head(head, size),
+            GroupedCall::PartBegin(slot) => self.begin_slot(slot),
+            GroupedCall::EnumEnd(_)
+            | GroupedCall::TaggedEnd(_)
+            | GroupedCall::End(_)
+            | GroupedCall::PartEnd(_) => self.end(),
         }
     }
 

@@ -12,6 +12,7 @@ ghost use Rattle.sval_buffer.specs.SeenBuffers.{capture_of, buffer_standing};
 ghost use Rattle.sval_buffer.specs.CapturedValues.{IsCaptured, KeepsTree, IsCollectCause, IsOkOrNoAlloc, cause_by};
 
 use crate::error::{Error, ErrorKind, Word};
+use crate::named::{CallStore, NamedCalls};
 use crate::parts::Parts;
 use std::alloc::Global;
 use sval_core::{Call, Lent, Stream, Value};
@@ -19,11 +20,13 @@ use sval_ref::ValueRef;
 
 /// A captured value: the calls that were taken, from which they can be made again.
 ///
-/// As a stream it takes the calls of any value. Texts that are lent for `'sval` are kept by reference, and a call takes
-/// no memory but for its part. An end ends the newest container that has none, whichever it is, and its name isn't
-/// looked at.
+/// As a stream it takes the calls of any value. Texts and bytes that are lent for `'sval` are kept by reference, and so are
+/// the texts of static labels; the texts of all other labels stand in one store. So a call takes memory for its part alone,
+/// and amortised growth aside none for a label. An end ends the newest container that has none, whichever it is, and its
+/// name isn't looked at. A hint within a text or a binary is taken and not kept.
 ///
-/// - [`ErrorKind::OutsideContainer`] answers a fragment where the last part isn't a text.
+/// - [`ErrorKind::OutsideContainer`] answers a fragment of a text where the last part isn't a text, and one of a binary
+///   where it isn't a binary.
 /// - [`ErrorKind::InvalidValue`] with [`Word::Unbalanced`] answers an end where no container is without its end.
 /// - [`ErrorKind::NoAlloc`] answers a call for which there was no memory. An end takes none, and neither does a borrowed
 ///   fragment onto an empty text.
@@ -40,9 +43,12 @@ use sval_ref::ValueRef;
 /// assert!(rt; buffer.is_complete());
 /// stream.value(&buffer)?;
 /// ```
+pub type ValueBuf<'sval> = AnyValueBuf<'sval, NamedCalls>;
+
+/// A captured value, for any store `N` of the calls with names. Most code says [`ValueBuf`].
 #[derive(Drop)]
-pub struct ValueBuf<'sval> {
-    parts: Parts<'sval>,
+pub struct AnyValueBuf<'sval, N: CallStore + 'sval> {
+    parts: Parts<'sval, N>,
     /// Why the last refused call was refused.
     refusal: Option<ErrorKind>,
     /// How often memory was wanting.
@@ -50,12 +56,12 @@ pub struct ValueBuf<'sval> {
     alloc: Global,
 }
 
-impl<'sval> ValueBuf<'sval> {
+impl<'sval, N: CallStore + 'sval> AnyValueBuf<'sval, N> {
     /// A buffer that has taken no call, and takes no memory yet.
     pub fn new(alloc: Global) -> Self
         ensures { capture_of result ≡ no_calls 0 }
     {
-        ValueBuf {
+        AnyValueBuf {
             parts: Parts::new(alloc),
             refusal: None,
             wants: 0,
@@ -67,7 +73,7 @@ impl<'sval> ValueBuf<'sval> {
     fn with_room(alloc: Global, parts: usize) -> Self
         ensures { capture_of result ≡ no_calls 0 }
     {
-        let mut buffer = ValueBuf::new(alloc);
+        let mut buffer = AnyValueBuf::new(alloc);
         buffer.parts.reserve(parts);
         buffer
     }
@@ -92,7 +98,7 @@ impl<'sval> ValueBuf<'sval> {
         ensures complete { let e = V.emission v.now in
             (tree : Tree) → e.refuses ≡ false → Spells e.calls tree → IsOkOrNoAlloc result }
     {
-        ValueBuf::collect_with_capacity(alloc, 0, v)
+        AnyValueBuf::collect_with_capacity(alloc, 0, v)
     }
 
     /// Captures a value as [`ValueBuf::collect`] does, with room for this many parts from the start.
@@ -110,14 +116,14 @@ impl<'sval> ValueBuf<'sval> {
         ensures complete { let e = V.emission v.now in
             (tree : Tree) → e.refuses ≡ false → Spells e.calls tree → IsOkOrNoAlloc result }
     {
-        let mut buffer: ValueBuf<'sval> = ValueBuf::with_room(alloc, parts);
+        let mut buffer: AnyValueBuf<'sval, N> = AnyValueBuf::with_room(alloc, parts);
         match v.stream(&mut buffer) {
             Ok(()) => Ok(buffer),
             Err(_) => Err(buffer.cause()),
         }
     }
 
-    /// There is a part, each container has its end, and no text has begun without one ending since.
+    /// There is a part, each container has its end, and no text or binary has begun without one ending since.
     pub fn is_complete(&self) -> bool
         ensures { result ≡ forest.is_complete (capture_of self.now).forest }
     {
@@ -164,7 +170,7 @@ impl<'sval> ValueBuf<'sval> {
     }
 }
 
-impl<'sval> Stream<Lent<'sval>> for ValueBuf<'sval> {
+impl<'sval, N: CallStore + 'sval> Stream<Lent<'sval>> for AnyValueBuf<'sval, N> {
     ghost View = { Capture };
 
     ghost law = { capture_law };
@@ -185,16 +191,16 @@ impl<'sval> Stream<Lent<'sval>> for ValueBuf<'sval> {
     }
 }
 
-impl<'v, 'sval> Value<'v, Lent<'v>> for ValueBuf<'sval> {
+impl<'v, 'sval, N: CallStore + 'sval> Value<'v, Lent<'v>> for AnyValueBuf<'sval, N> {
     ghost emission = { λ buffer. makes (forest.replayed (capture_of buffer).forest) };
 
     fn stream<S: Stream<Lent<'v>>>(&'v self, stream: &mut S) -> sval_core::Result {
-        let shorter: &'v ValueBuf<'v> = self;
+        let shorter: &'v AnyValueBuf<'v, N> = self;
         shorter.parts.replay(stream)
     }
 }
 
-impl<'sval> ValueRef<Lent<'sval>> for ValueBuf<'sval> {
+impl<'sval, N: CallStore + 'sval> ValueRef<Lent<'sval>> for AnyValueBuf<'sval, N> {
     ghost ref_emission = { λ buffer. makes (forest.replayed (capture_of buffer).forest) };
 
     fn stream_ref<S: Stream<Lent<'sval>>>(&self, stream: &mut S) -> sval_core::Result {

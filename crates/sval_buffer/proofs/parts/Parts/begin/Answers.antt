@@ -3,21 +3,22 @@ use Rattle.std.proofs.Common.{◌≡◌, ℕ, ◌-◌, List, [], ◌∷◌, ◌+
 use Rattle.sval_buffer.specs.Forest.{Becomes}
 use Rattle.sval_buffer.specs.SeenParts.{begin_call}
 use Rattle.sval_buffer.specs.FlatForest.{forest_in}
-use Rattle.sval_buffer.proofs.Steps.{Is, is_begun, was_pushed}
+use Rattle.sval_buffer.proofs.Steps.{was_pushed}
+use Rattle.sval_buffer.proofs.KeptParts.{Holds, holds_it, holds_begun, tell}
 use Rattle.sval_buffer.proofs.parts.Parts.begin.Goals as goal
 
 pub invariant_of-self-2 : goal.invariant_of-self-2
-invariant_of-self-2 c =
-    let is : Is c.self.inside.parts.items c.self.inside.places.items c.self.inside.in_fragments (forest_in c.args.self.now) = record { view = ap forest_in c.self.view_is; invariant = c.self.invariant } in
+invariant_of-self-2 g c =
+    let h : Holds (g.N.CallStore.calls c.self.inside.named) c.self.inside.parts.items c.self.inside.places.items c.self.inside.in_fragments (forest_in c.args.self.now) = holds_it _ c.self.invariant (ap forest_in c.self.view_is) in
     let e = was_pushed c.push.result _ _ c.push.ensures.items c.if-is_err-2.ensures.negation in
     let p : c.push_reserved.new.self.items ≡ c.self.inside.places.items ++ (c.len-place.result ∷ []) = c.push_reserved.ensures.items ∙ ap (λ (qs : List ℕ). qs ++ (c.len-place.result ∷ [])) c.reserve.ensures.items in
-    let now = is_begun _ (begin_call c.args.begin) c.len-place.result is refl (c.copied.ensures ∙ c.last.ensures.value ∙ ap (λ (qs : List ℕ). slice_get qs (length qs - 1)) c.deref.ensures.value) (c.len-place.ensures ∙ c.self.inside.parts.ok.0) in
-    rw (e, p) now.invariant
+    let now = holds_begun h _ (begin_call c.args.begin) c.len-place.result refl (c.copied.ensures ∙ c.last.ensures.value ∙ ap (λ (qs : List ℕ). slice_get qs (length qs - 1)) c.deref.ensures.value) (c.len-place.ensures ∙ c.self.inside.parts.ok.0) tt in
+    rw (e, p) (tell now)
 
 pub returns : goal.returns
-returns c =
-    let is : Is c.self.inside.parts.items c.self.inside.places.items c.self.inside.in_fragments (forest_in c.args.self.now) = record { view = ap forest_in c.self.view_is; invariant = c.self.invariant } in
+returns g c =
+    let h : Holds (g.N.CallStore.calls c.self.inside.named) c.self.inside.parts.items c.self.inside.places.items c.self.inside.in_fragments (forest_in c.args.self.now) = holds_it _ c.self.invariant (ap forest_in c.self.view_is) in
     let e = was_pushed c.push.result _ _ c.push.ensures.items c.if-is_err-2.ensures.negation in
     let p : c.push_reserved.new.self.items ≡ c.self.inside.places.items ++ (c.len-place.result ∷ []) = c.push_reserved.ensures.items ∙ ap (λ (qs : List ℕ). qs ++ (c.len-place.result ∷ [])) c.reserve.ensures.items in
-    let now = is_begun _ (begin_call c.args.begin) c.len-place.result is refl (c.copied.ensures ∙ c.last.ensures.value ∙ ap (λ (qs : List ℕ). slice_get qs (length qs - 1)) c.deref.ensures.value) (c.len-place.ensures ∙ c.self.inside.parts.ok.0) in
-    ap Becomes (sym (rw (e, p) now.view))
+    let now = holds_begun h _ (begin_call c.args.begin) c.len-place.result refl (c.copied.ensures ∙ c.last.ensures.value ∙ ap (λ (qs : List ℕ). slice_get qs (length qs - 1)) c.deref.ensures.value) (c.len-place.ensures ∙ c.self.inside.parts.ok.0) tt in
+    ap Becomes (sym (rw (e, p) now.is.view))

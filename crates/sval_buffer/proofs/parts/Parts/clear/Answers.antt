@@ -1,10 +1,8 @@
-use Rattle.sval_buffer.proofs.Steps.{is_nothing}
+use Rattle.sval_buffer.proofs.KeptParts.{holds_nothing, tell}
 use Rattle.sval_buffer.proofs.parts.Parts.clear.Goals as goal
 
 pub invariant_of-self : goal.invariant_of-self
-invariant_of-self c =
-    rw (c.clear.ensures.items, c.clear-2.ensures.items) is_nothing.invariant
+invariant_of-self g c = rw (c.clear.ensures.items, c.clear-2.ensures, c.clear-3.ensures.items) (tell holds_nothing)
 
 pub returns : goal.returns
-returns c =
-    rw (c.clear.ensures.items, c.clear-2.ensures.items) is_nothing.view
+returns g c = rw (c.clear.ensures.items, c.clear-3.ensures.items) holds_nothing.is.view

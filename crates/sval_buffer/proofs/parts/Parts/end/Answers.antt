@@ -4,48 +4,47 @@ use Rattle.sval_buffer.specs.Forest.{Becomes}
 use Rattle.sval_buffer.specs.SeenParts.{with_holds}
 use Rattle.sval_buffer.specs.declared.part.Part.{Part}
 use Rattle.sval_buffer.specs.FlatForest.{forest_in}
-use Rattle.sval_buffer.proofs.Steps.{Is, place_within, is_closed, closes}
+use Rattle.sval_buffer.proofs.KeptParts.{Holds, holds_it, place_in, Closes, holds_closed, tell}
 use Rattle.sval_buffer.proofs.parts.Parts.end.Goals as goal
 
 pub overflow_sub-holds : goal.overflow_sub-holds
-overflow_sub-holds c =
-    let is : Is c.self.inside.parts.items c.self.inside.places.items c.self.inside.in_fragments (forest_in c.args.self.now) = record { view = ap forest_in c.self.view_is; invariant = c.self.invariant } in
-    let lt : c.in-Some.place < length c.self.inside.parts.items = place_within c.pop.new.self.items c.in-Some.place is c.in-Some.ensures.items in
+overflow_sub-holds g c =
+    let h : Holds (g.N.CallStore.calls c.self.inside.named) c.self.inside.parts.items c.self.inside.places.items c.self.inside.in_fragments (forest_in c.args.self.now) = holds_it _ c.self.invariant (ap forest_in c.self.view_is) in
+    let lt : c.in-Some.place < length c.self.inside.parts.items = place_in h c.pop.new.self.items c.in-Some.place c.in-Some.ensures.items in
     let n : length c.self.inside.parts.items ≡ vec_len c.self.inside.parts = sym c.self.inside.parts.ok.0 in
     omega arith
 
 pub overflow_sub-holds-in-Some : goal.overflow_sub-holds-in-Some
-overflow_sub-holds-in-Some c =
-    let is : Is c.self.inside.parts.items c.self.inside.places.items c.self.inside.in_fragments (forest_in c.args.self.now) = record { view = ap forest_in c.self.view_is; invariant = c.self.invariant } in
-    let lt : c.in-Some.place < length c.self.inside.parts.items = place_within c.pop.new.self.items c.in-Some.place is c.in-Some.ensures.items in
+overflow_sub-holds-in-Some g c =
+    let h : Holds (g.N.CallStore.calls c.self.inside.named) c.self.inside.parts.items c.self.inside.places.items c.self.inside.in_fragments (forest_in c.args.self.now) = holds_it _ c.self.invariant (ap forest_in c.self.view_is) in
+    let lt : c.in-Some.place < length c.self.inside.parts.items = place_in h c.pop.new.self.items c.in-Some.place c.in-Some.ensures.items in
     let n : length c.self.inside.parts.items ≡ vec_len c.self.inside.parts = sym c.self.inside.parts.ok.0 in
     omega arith
 
 pub index_mut-requires : goal.index_mut-requires
-index_mut-requires c =
-    let is : Is c.self.inside.parts.items c.self.inside.places.items c.self.inside.in_fragments (forest_in c.args.self.now) = record { view = ap forest_in c.self.view_is; invariant = c.self.invariant } in
-    let lt : c.in-Some.place < length c.self.inside.parts.items = place_within c.pop.new.self.items c.in-Some.place is c.in-Some.ensures.items in
+index_mut-requires g c =
+    let h : Holds (g.N.CallStore.calls c.self.inside.named) c.self.inside.parts.items c.self.inside.places.items c.self.inside.in_fragments (forest_in c.args.self.now) = holds_it _ c.self.invariant (ap forest_in c.self.view_is) in
+    let lt : c.in-Some.place < length c.self.inside.parts.items = place_in h c.pop.new.self.items c.in-Some.place c.in-Some.ensures.items in
     let n : length c.self.inside.parts.items ≡ vec_len c.self.inside.parts = sym c.self.inside.parts.ok.0 in
     omega arith
 
 pub invariant_of-self : goal.invariant_of-self
-invariant_of-self c =
-    let is : Is c.self.inside.parts.items c.self.inside.places.items c.self.inside.in_fragments (forest_in c.args.self.now) = record { view = ap forest_in c.self.view_is; invariant = c.self.invariant } in
+invariant_of-self g c =
+    let h : Holds (g.N.CallStore.calls c.self.inside.named) c.self.inside.parts.items c.self.inside.places.items c.self.inside.in_fragments (forest_in c.args.self.now) = holds_it _ c.self.invariant (ap forest_in c.self.view_is) in
     let d = c.index_mut.result.now in
     let same : c.close.new.self ≡ (let x : Part = slice_index_or c.self.inside.parts.items c.in-Some.place d in record x { kind = with_holds x.kind (length c.self.inside.parts.items - c.in-Some.place - 1) }) =
     c.close.ensures
     ∙ ap (λ (n : ℕ). let w : Part = record { kind = with_holds d.kind (n - c.in-Some.place - 1); holder = d.holder } in w) (c.len.ensures ∙ c.self.inside.parts.ok.0)
     ∙ ap (λ (x : Part). let w : Part = record x { kind = with_holds x.kind (length c.self.inside.parts.items - c.in-Some.place - 1) } in w) c.index_mut.ensures.value in
-    let now = is_closed c.pop.new.self.items c.in-Some.place c.index_mut.result.now c.close.new.self is c.in-Some.ensures.items same in
-    now.invariant
+    tell (holds_closed h c.pop.new.self.items c.in-Some.place d c.close.new.self c.in-Some.ensures.items same).holds
 
 pub returns-in-Some : goal.returns-in-Some
-returns-in-Some c =
-    let is : Is c.self.inside.parts.items c.self.inside.places.items c.self.inside.in_fragments (forest_in c.args.self.now) = record { view = ap forest_in c.self.view_is; invariant = c.self.invariant } in
+returns-in-Some g c =
+    let h : Holds (g.N.CallStore.calls c.self.inside.named) c.self.inside.parts.items c.self.inside.places.items c.self.inside.in_fragments (forest_in c.args.self.now) = holds_it _ c.self.invariant (ap forest_in c.self.view_is) in
     let d = c.index_mut.result.now in
     let same : c.close.new.self ≡ (let x : Part = slice_index_or c.self.inside.parts.items c.in-Some.place d in record x { kind = with_holds x.kind (length c.self.inside.parts.items - c.in-Some.place - 1) }) =
     c.close.ensures
     ∙ ap (λ (n : ℕ). let w : Part = record { kind = with_holds d.kind (n - c.in-Some.place - 1); holder = d.holder } in w) (c.len.ensures ∙ c.self.inside.parts.ok.0)
     ∙ ap (λ (x : Part). let w : Part = record x { kind = with_holds x.kind (length c.self.inside.parts.items - c.in-Some.place - 1) } in w) c.index_mut.ensures.value in
-    let now = is_closed c.pop.new.self.items c.in-Some.place c.index_mut.result.now c.close.new.self is c.in-Some.ensures.items same in
-    closes c.pop.new.self.items c.in-Some.place c.index_mut.result.now c.close.new.self is c.in-Some.ensures.items same ∙ ap Becomes (sym now.view)
+    let k = holds_closed h c.pop.new.self.items c.in-Some.place d c.close.new.self c.in-Some.ensures.items same in
+    k.answers ∙ ap Becomes (sym k.holds.is.view)

@@ -1,25 +1,29 @@
-use Rattle.std.proofs.Common.{◌≡◌, ◌<◌, length, sym, ap, arith, vec_len}
+use Rattle.std.proofs.Common.{◌≡◌, ◌<◌, length, sym, ap, ◌∙◌, arith, vec_len}
 use Rattle.std.proofs.lemmas.Bool.Decides.{nat_tests}
+use Rattle.std.proofs.lemmas.List.{length-map}
 use Rattle.sval_buffer.specs.FlatForest.{forest_in}
-use Rattle.sval_buffer.proofs.Steps.{Is, none_complete, open_incomplete, complete_is}
+use Rattle.sval_buffer.specs.SeenParts.{seen_part}
+use Rattle.sval_buffer.proofs.Steps.{none_complete, open_incomplete, complete_is}
+use Rattle.sval_buffer.proofs.KeptParts.{Holds, holds_it}
 use Rattle.sval_buffer.proofs.parts.Parts.is_complete.Goals as goal
 use Rattle.sval_buffer.proofs.parts.Parts.is_complete.Goals.{then-is_empty-via-then-is_empty, then-is_empty-via-else-is_empty+then-not-is_empty}
 
 pub returns-then-is_empty : goal.returns-then-is_empty
-returns-then-is_empty c =
-    let is : Is c.self.inside.parts.items c.self.inside.places.items c.self.inside.in_fragments (forest_in c.args.self.now) = record { view = ap forest_in c.self.view_is; invariant = c.self.invariant } in
+returns-then-is_empty g c =
+    let h : Holds (g.N.CallStore.calls c.self.inside.named) c.self.inside.parts.items c.self.inside.places.items c.self.inside.in_fragments (forest_in c.args.self.now) = holds_it _ c.self.invariant (ap forest_in c.self.view_is) in
     let n : length c.self.inside.parts.items ≡ vec_len c.self.inside.parts = sym c.self.inside.parts.ok.0 in
     let m : length c.self.inside.places.items ≡ vec_len c.self.inside.places = sym c.self.inside.places.ok.0 in
     elim c.then-is_empty.branch [
-      | then-is_empty-via-then-is_empty w ↦ let z : length c.self.inside.parts.items ≡ 0 = grind (arith, nat_tests, w.if-is_empty.true) in sym (none_complete is z)
-      | then-is_empty-via-else-is_empty+then-not-is_empty w ↦ let z : 0 < length c.self.inside.places.items = grind (arith, nat_tests, w.if-not-is_empty.true) in sym (open_incomplete is z)
+      | then-is_empty-via-then-is_empty w ↦ let z : length c.self.inside.parts.items ≡ 0 = grind (arith, nat_tests, w.if-is_empty.true) in sym (none_complete h.is (length-map c.self.inside.parts.items (seen_part _) ∙ z))
+      | then-is_empty-via-else-is_empty+then-not-is_empty w ↦ let z : 0 < length c.self.inside.places.items = grind (arith, nat_tests, w.if-not-is_empty.true) in sym (open_incomplete h.is z)
     ]
 
 pub returns : goal.returns
-returns c =
-    let is : Is c.self.inside.parts.items c.self.inside.places.items c.self.inside.in_fragments (forest_in c.args.self.now) = record { view = ap forest_in c.self.view_is; invariant = c.self.invariant } in
+returns g c =
+    let h : Holds (g.N.CallStore.calls c.self.inside.named) c.self.inside.parts.items c.self.inside.places.items c.self.inside.in_fragments (forest_in c.args.self.now) = holds_it _ c.self.invariant (ap forest_in c.self.view_is) in
     let n : length c.self.inside.parts.items ≡ vec_len c.self.inside.parts = sym c.self.inside.parts.ok.0 in
     let m : length c.self.inside.places.items ≡ vec_len c.self.inside.places = sym c.self.inside.places.ok.0 in
+    let size = length-map c.self.inside.parts.items (seen_part (g.N.CallStore.calls c.self.inside.named)) in
     let some : 0 < length c.self.inside.parts.items = grind (arith, nat_tests, c.if-is_empty.ensures) in
     let z : length c.self.inside.places.items ≡ 0 = grind (arith, nat_tests, c.if-not-is_empty.ensures) in
-    complete_is is some z
+    complete_is h.is (omega arith) z

@@ -3,32 +3,39 @@ use Rattle.std.proofs.lemmas.Bool.Decides.{nat_tests}
 use Rattle.sval_core.specs.Law.{Emits}
 use Rattle.sval_buffer.specs.Replay.{pass}
 use Rattle.sval_core.specs.Values.{makes}
-use Rattle.sval_buffer.specs.SeenParts.{stored}
+use Rattle.sval_buffer.specs.SeenParts.{stored, seen_parts, AllKept}
 use Rattle.sval_buffer.specs.Nested.{IsNested}
 use Rattle.sval_buffer.specs.declared.part.Part.{Part}
 use Rattle.sval_buffer.specs.FlatForest.{forest_in}
-use Rattle.sval_buffer.proofs.Steps.{Is, tells_it}
+use Rattle.sval_buffer.proofs.Steps.{tells_it}
 use Rattle.sval_buffer.proofs.Nests.{tells_nested}
 use Rattle.sval_buffer.proofs.Replaying.{replay_none, replay_some, null_emitted}
+use Rattle.sval_buffer.proofs.KeptParts.{Holds, holds_it, seen_length}
 use Rattle.sval_buffer.proofs.parts.Parts.replay.Goals as goal
 
 pub returns-then-is_empty : goal.returns-then-is_empty
 returns-then-is_empty g c =
-    let is : Is c.self.inside.parts.items c.self.inside.places.items c.self.inside.in_fragments (forest_in c.args.self.now) = record { view = ap forest_in c.self.view_is; invariant = c.self.invariant } in
+    let h : Holds (g.N.CallStore.calls c.self.inside.named) c.self.inside.parts.items c.self.inside.places.items c.self.inside.in_fragments (forest_in c.args.self.now) = holds_it _ c.self.invariant (ap forest_in c.self.view_is) in
+    let seen = seen_parts (g.N.CallStore.calls c.self.inside.named) c.self.inside.parts.items in
     let n : length c.self.inside.parts.items ≡ vec_len c.self.inside.parts = sym c.self.inside.parts.ok.0 in
     let z : length c.self.inside.parts.items ≡ 0 = grind (arith, nat_tests, c.if-is_empty.true) in
     null_emitted g.S.Stream.law (g.S.Stream.standing c.args.stream.now) (g.S.Stream.standing c.null.new.self) c.null.result (forest_in c.args.self.now)
-    (replay_none c.self.inside.parts.items c.self.inside.places.items (forest_in c.args.self.now) (tells_it is) z) c.null.ensures
+    (replay_none seen c.self.inside.places.items (forest_in c.args.self.now) (tells_it h.is) (seen_length _ c.self.inside.parts.items ∙ z)) c.null.ensures
 
 pub replay_parts-requires : goal.replay_parts-requires
 replay_parts-requires g c κs =
-    let is : Is c.self.inside.parts.items c.self.inside.places.items c.self.inside.in_fragments (forest_in c.args.self.now) = record { view = ap forest_in c.self.view_is; invariant = c.self.invariant } in
-    ((refl, tt), subst IsNested (sym c.as_slice.ensures.value) (tells_nested c.self.inside.parts.items c.self.inside.places.items (forest_in c.args.self.now) (tells_it is)))
+    let h : Holds (g.N.CallStore.calls c.self.inside.named) c.self.inside.parts.items c.self.inside.places.items c.self.inside.in_fragments (forest_in c.args.self.now) = holds_it _ c.self.invariant (ap forest_in c.self.view_is) in
+    let calls = g.N.CallStore.calls c.self.inside.named in
+    ((refl, tt), (subst (λ (ps : List Part). IsNested (seen_parts calls ps)) (sym c.as_slice.ensures.value) (tells_nested (seen_parts calls c.self.inside.parts.items) c.self.inside.places.items (forest_in c.args.self.now) (tells_it h.is)), subst (AllKept (length calls)) (sym c.as_slice.ensures.value) h.kept))
 
 pub returns : goal.returns
 returns g c =
-    let is : Is c.self.inside.parts.items c.self.inside.places.items c.self.inside.in_fragments (forest_in c.args.self.now) = record { view = ap forest_in c.self.view_is; invariant = c.self.invariant } in
+    let h : Holds (g.N.CallStore.calls c.self.inside.named) c.self.inside.parts.items c.self.inside.places.items c.self.inside.in_fragments (forest_in c.args.self.now) = holds_it _ c.self.invariant (ap forest_in c.self.view_is) in
+    let calls = g.N.CallStore.calls c.self.inside.named in
+    let seen = seen_parts calls c.self.inside.parts.items in
     let n : length c.self.inside.parts.items ≡ vec_len c.self.inside.parts = sym c.self.inside.parts.ok.0 in
     let some : 0 < length c.self.inside.parts.items = grind (arith, nat_tests, c.if-is_empty.ensures) in
-    let e = ap (λ (ps : List Part). pass 0 [] (map stored ps)) c.as_slice.ensures.value ∙ replay_some c.self.inside.parts.items c.self.inside.places.items (forest_in c.args.self.now) (tells_it is) some in
+    let size = seen_length calls c.self.inside.parts.items in
+    let some_seen : 0 < length seen = omega arith in
+    let e = ap (λ (ps : List Part). pass 0 [] (map stored (seen_parts calls ps))) c.as_slice.ensures.value ∙ replay_some seen c.self.inside.places.items (forest_in c.args.self.now) (tells_it h.is) some_seen in
     subst (λ calls. Emits g.S.Stream.law c.replay_parts.result (g.S.Stream.standing c.args.stream.now) (makes calls) (g.S.Stream.standing c.replay_parts.new.stream)) e c.replay_parts.ensures

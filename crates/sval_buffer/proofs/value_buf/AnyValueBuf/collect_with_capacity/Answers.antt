@@ -3,7 +3,7 @@ use Rattle.sval_buffer.specs.Capture.{IsNoAlloc}
 use Rattle.sval_buffer.specs.CapturedValues.{IsCollectCause}
 use Rattle.sval_buffer.specs.SeenBuffers.{capture_of}
 use Rattle.sval_buffer.proofs.Collecting.{collected, collect_cause, keeps_tree, only_no_alloc}
-use Rattle.sval_buffer.proofs.value_buf.ValueBuf.collect_with_capacity.Goals as goal
+use Rattle.sval_buffer.proofs.value_buf.AnyValueBuf.collect_with_capacity.Goals as goal
 
 pub returns-in-Ok-clause-ok : goal.returns-in-Ok-clause-ok
 returns-in-Ok-clause-ok g c = collected (g.V.Value.emission c.args.v.now) (capture_of c.with_room-buffer.result) (capture_of c.stream.new.stream) c.with_room-buffer.ensures c.in-Ok.ensures

@@ -1,0 +1,183 @@
+-- Each step of a forest on the parts of the program, and the calls with names that they speak of.
+use Rattle.std.specs.Prelude.{◌≡◌, ℕ, zero, suc, ◌+◌, ◌-◌, ◌≤◌, ◌<◌, Bool, false, List, [], ◌∷◌, ◌++◌, length, map, Option, Some, None, refl, slice_set, slice_get, slice_index_or, get_or}
+use Rattle.std.proofs.Common.{sym, ap, ◌∙◌, subst, arith, length-append}
+use Rattle.std.proofs.lemmas.List.{map-append, length-map}
+use Rattle.sval_label.specs.Calls.{Call, Null}
+use Rattle.sval_buffer.specs.Forest.{Node, Container, Nodes, Open, Forest, empty_forest, add, begun, with_flag, close_newest, Becomes}
+use Rattle.sval_buffer.specs.Flat as flat
+use Rattle.sval_buffer.specs.Flat.{flat_part, flat_node}
+use Rattle.sval_buffer.specs.Holders.{holders_node}
+use Rattle.sval_buffer.specs.SeenNames.{call_at}
+use Rattle.sval_buffer.specs.declared.part.Part.{Part}
+use Rattle.sval_buffer.specs.declared.part.PartKind.{PartKind}
+use Rattle.sval_buffer.specs.declared.part.PartKind.TheVariants as kind
+use Rattle.sval_buffer.specs.SeenParts.{SeenPart, stored, stored_part, holder, flat_kind, holds_of, seen_part, seen_parts, with_holds, with_length, IsKept, AllKept, PartsTell, told}
+use Rattle.sval_buffer.proofs.Steps.{Is, is_nothing, is_added, is_begun, is_flagged, is_closed, closes, place_within, map-set, get-map, newest_is}
+
+-- what is known of an open buffer that is this forest
+pub record Holds (calls : List Call) (parts : List Part) (places : List ℕ) (within : Bool) (f : Forest) : Type 0 where
+  pub is : Is (seen_parts calls parts) places within f
+  pub kept : AllKept (length calls) parts
+
+pub tell : {calls : List Call} {parts : List Part} {places : List ℕ} {within : Bool} {f : Forest} → Holds calls parts places within f → PartsTell calls parts places within
+tell h = record { tells = h.is.invariant; kept = h.kept }
+
+pub holds_it : {calls : List Call} {parts : List Part} {places : List ℕ} {within : Bool} (f : Forest) → PartsTell calls parts places within → told (seen_parts calls parts) places within ≡ f → Holds calls parts places within f
+holds_it f t e = record { is = record { view = e; invariant = t.tells }; kept = t.kept }
+
+-- ---- the calls that parts speak of
+
+is_kept_more : (n m : ℕ) (k : PartKind) → n ≤ m → IsKept n k → IsKept m k
+is_kept_more n m (kind.Single single) h i = tt
+is_kept_more n m (kind.Named at) h i = omega arith
+is_kept_more n m (kind.Text held) h i = tt
+is_kept_more n m (kind.Binary held) h i = tt
+is_kept_more n m (kind.Container begin holds) h i = tt
+is_kept_more n m (kind.NamedContainer at holds) h i = omega arith
+
+pub kept_more : (n m : ℕ) (parts : List Part) → n ≤ m → AllKept n parts → AllKept m parts
+kept_more n m [] h k = tt
+kept_more n m (p ∷ parts) h (first, rest) = (is_kept_more n m p.kind h first, kept_more n m parts h rest)
+
+pub kept_append : (n : ℕ) (parts : List Part) (p : Part) → AllKept n parts → IsKept n p.kind → AllKept n (parts ++ (p ∷ []))
+kept_append n [] p k h = (h, tt)
+kept_append n (first ∷ parts) p k h = (k.0, kept_append n parts p k.1 h)
+
+pub kept_set : (n : ℕ) (parts : List Part) (i : ℕ) (p : Part) → AllKept n parts → IsKept n p.kind → AllKept n (slice_set parts i p)
+kept_set n [] i p k h = tt
+kept_set n (first ∷ parts) zero p k h = (h, k.1)
+kept_set n (first ∷ parts) (suc i) p k h = (k.0, kept_set n parts i p k.1 h)
+
+pub kept_get : (n : ℕ) (parts : List Part) (i : ℕ) (d : Part) → AllKept n parts → i < length parts → IsKept n (slice_index_or parts i d).kind
+kept_get n [] i d k h = absurd (omega arith)
+kept_get n (p ∷ parts) zero d k h = k.0
+kept_get n (p ∷ parts) (suc i) d k h = kept_get n parts i d k.1 (omega arith)
+
+at_front : (calls more : List Call) (i : ℕ) → i < length calls → call_at (calls ++ more) i ≡ call_at calls i
+at_front [] more i h = absurd (omega arith)
+at_front (call ∷ calls) more zero h = refl
+at_front (call ∷ calls) more (suc i) h = at_front calls more i (omega arith)
+
+kind_more : (calls more : List Call) (k : PartKind) → IsKept (length calls) k → flat_kind (calls ++ more) k ≡ flat_kind calls k
+kind_more calls more (kind.Single single) h = refl
+kind_more calls more (kind.Named at) h = ap flat.One (at_front calls more at h)
+kind_more calls more (kind.Text held) h = refl
+kind_more calls more (kind.Binary held) h = refl
+kind_more calls more (kind.Container begin holds) h = refl
+kind_more calls more (kind.NamedContainer at holds) h = ap flat.Holder (at_front calls more at h)
+
+pub seen_more : (calls more : List Call) (parts : List Part) → AllKept (length calls) parts → seen_parts (calls ++ more) parts ≡ seen_parts calls parts
+seen_more calls more [] k = refl
+seen_more calls more (p ∷ parts) (first, rest) = rw (kind_more calls more p.kind first, seen_more calls more parts rest) refl
+
+-- the call that was kept last
+pub last_call : (calls : List Call) (call : Call) → call_at (calls ++ (call ∷ [])) (length calls) ≡ call
+last_call [] call = refl
+last_call (first ∷ calls) call = last_call calls call
+
+pub last_within : (calls : List Call) (call : Call) → length calls < length (calls ++ (call ∷ []))
+last_within calls call = omega (arith, length-append calls (call ∷ []))
+
+-- ---- the steps
+
+pub holds_nothing : Holds [] [] [] false empty_forest
+holds_nothing = record { is = is_nothing; kept = tt }
+
+module _ {calls : List Call} {parts : List Part} {places : List ℕ} {within : Bool} {f : Forest} (h : Holds calls parts places within f) where
+  pub holds_named : (call : Call) → Holds (calls ++ (call ∷ [])) parts places within f
+  holds_named call = record {
+    is = subst (λ ps. Is ps places within f) (sym (seen_more calls (call ∷ []) parts h.kept)) h.is;
+    kept = kept_more (length calls) (length (calls ++ (call ∷ []))) parts (omega (arith, last_within calls call)) h.kept;
+  }
+
+  pub holds_flagged : (flag : Bool) → Holds calls parts places flag (with_flag flag f)
+  holds_flagged flag = record { is = is_flagged flag h.is; kept = h.kept }
+
+  pub holds_added : (p : Part) (node : Node) → flat_node node ≡ stored (seen_part calls p) ∷ [] → ((place : ℕ) (o : Option ℕ) → holders_node place o node ≡ o ∷ [])
+      → p.holder ≡ slice_get places (length places - 1) → IsKept (length calls) p.kind → Holds calls (parts ++ (p ∷ [])) places within (add node f)
+  holds_added p node one own held kept = record {
+    is = subst (λ ps. Is ps places within (add node f)) (sym (map-append (seen_part calls) parts (p ∷ []))) (is_added (seen_part calls p) node h.is one own held);
+    kept = kept_append (length calls) parts p h.kept kept;
+  }
+
+  pub holds_begun : (p : Part) (begin : Call) (place : ℕ) → stored (seen_part calls p) ≡ flat_part (flat.Holder begin) 0
+      → p.holder ≡ slice_get places (length places - 1) → place ≡ length parts → IsKept (length calls) p.kind
+      → Holds calls (parts ++ (p ∷ [])) (places ++ (place ∷ [])) within (begun begin f)
+  holds_begun p begin place one held at kept = record {
+    is = subst (λ ps. Is ps (places ++ (place ∷ [])) within (begun begin f)) (sym (map-append (seen_part calls) parts (p ∷ [])))
+        (is_begun (seen_part calls p) begin place h.is one held (at ∙ sym (length-map parts (seen_part calls))));
+    kept = kept_append (length calls) parts p h.kept kept;
+  }
+
+  pub place_in : (rest : List ℕ) (place : ℕ) → places ≡ rest ++ (place ∷ []) → place < length parts
+  place_in rest place e = let lt = place_within rest place h.is e in let n = length-map parts (seen_part calls) in omega arith
+
+  -- the part that an end closes
+  pub record Closes (rest : List ℕ) (place : ℕ) (p : Part) : Type 0 where
+    pub next : Forest
+    pub holds : Holds calls (slice_set parts place p) rest within next
+    pub answers : close_newest f ≡ Becomes next
+
+  with_kind : (k : PartKind) (n : ℕ) → IsKept (length calls) k → IsKept (length calls) (with_holds k n)
+  with_kind (kind.Single single) n i = tt
+  with_kind (kind.Named at) n i = i
+  with_kind (kind.Text held) n i = tt
+  with_kind (kind.Binary held) n i = tt
+  with_kind (kind.Container begin holds) n i = tt
+  with_kind (kind.NamedContainer at holds) n i = i
+
+  seen_closed : (old : Part) (n : ℕ) → seen_part calls (record old { kind = with_holds old.kind n }) ≡ with_length (seen_part calls old) n
+  seen_closed old n = go old.kind
+    where
+      go : (k : PartKind) → seen_part calls (record { kind = with_holds k n; holder = old.holder }) ≡ with_length (seen_part calls (record { kind = k; holder = old.holder })) n
+      go (kind.Single single) = refl
+      go (kind.Named at) = refl
+      go (kind.Text held) = refl
+      go (kind.Binary held) = refl
+      go (kind.Container begin holds) = refl
+      go (kind.NamedContainer at holds) = refl
+
+  pub holds_closed : (rest : List ℕ) (place : ℕ) (d p : Part) → places ≡ rest ++ (place ∷ [])
+      → p ≡ (let old = slice_index_or parts place d in record old { kind = with_holds old.kind (length parts - place - 1) })
+      → Closes rest place p
+  holds_closed rest place d p e same =
+      let lt = place_in rest place e in
+      let seen = seen_parts calls parts in
+      let old = slice_index_or parts place d in
+      let size = length-map parts (seen_part calls) in
+      let q = seen_part calls p in
+      let e_old = get-map (seen_part calls) parts place d lt (seen_part calls d) in
+      let now : q ≡ (let was = slice_index_or seen place (seen_part calls d) in with_length was (length seen - place - 1)) =
+      ap (seen_part calls) same ∙ seen_closed old (length parts - place - 1)
+      ∙ ap (λ n. with_length (seen_part calls old) (n - place - 1)) (sym size)
+      ∙ ap (λ (was : SeenPart). with_length was (length seen - place - 1)) (sym e_old) in
+      let n = newest_is rest place h.is e in
+      let next : Forest = add (Container n.newest.begin n.newest.nodes) (record { nodes = f.nodes; spine = n.older; in_fragments = f.in_fragments }) in
+      record {
+        next = next;
+        holds = record {
+          is = subst (λ (ps : List SeenPart). Is ps rest within next) (sym (map-set (seen_part calls) parts place p)) (is_closed rest place (seen_part calls d) q h.is e now);
+          kept = kept_set (length calls) parts place p h.kept (subst (λ (x : Part). IsKept (length calls) x.kind) (sym same) (with_kind old.kind (length parts - place - 1) (kept_get (length calls) parts place d h.kept lt)));
+        };
+        answers = closes rest place (seen_part calls d) q h.is e now;
+      }
+
+-- ---- a part at a place
+
+pub seen_at : (calls : List Call) (parts : List Part) (i : ℕ) (p : Part) → i < length parts → p ≡ get_or parts i p → seen_part calls p ≡ get_or (seen_parts calls parts) i (seen_part calls p)
+seen_at calls [] i p h e = absurd (omega arith)
+seen_at calls (q ∷ parts) zero p h e = ap (seen_part calls) e
+seen_at calls (q ∷ parts) (suc i) p h e = seen_at calls parts i p (omega arith) e
+
+pub kept_at : (n : ℕ) (parts : List Part) (i : ℕ) (p : Part) → AllKept n parts → i < length parts → p ≡ get_or parts i p → IsKept n p.kind
+kept_at n [] i p k h e = absurd (omega arith)
+kept_at n (q ∷ parts) zero p k h e = subst (λ (x : Part). IsKept n x.kind) (sym e) k.0
+kept_at n (q ∷ parts) (suc i) p k h e = kept_at n parts i p k.1 (omega arith) e
+
+-- each part as the flat list has it, in one step and in two
+pub flat_again : (calls : List Call) (parts : List Part) → map (stored_part calls) parts ≡ map stored (seen_parts calls parts)
+flat_again calls [] = refl
+flat_again calls (p ∷ parts) = ap (λ xs. stored_part calls p ∷ xs) (flat_again calls parts)
+
+pub seen_length : (calls : List Call) (parts : List Part) → length (seen_parts calls parts) ≡ length parts
+seen_length calls parts = length-map parts (seen_part calls)

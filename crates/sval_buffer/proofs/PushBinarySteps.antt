@@ -1,0 +1,170 @@
+-- A binary fragment that is pushed into the parts of the program.
+use Rattle.std.specs.Prelude.{◌≡◌, ℕ, suc, ◌+◌, ◌-◌, ◌<◌, Bool, List, [], ◌∷◌, ◌++◌, length, map, Option, Some, None, option_map, Result, Ok, Err, refl, slice_set, slice_index_or}
+use Rattle.std.proofs.Common.{sym, ap, ◌∙◌, subst, arith, length-append}
+use Rattle.std.proofs.lemmas.List.{map-append}
+use Rattle.std.proofs.Math.Seq.{set-append_seam}
+use Rattle.sval_buffer.specs.Pushes.{HeldBytes, pushed}
+use Rattle.sval_buffer.specs.Forest.{Node, Single, Text, Binary, Container, Nodes, none, ◌and◌, Open, Forest, newest_row, with_row, push_binary, push_last_binary, CaptureAnswer, Becomes, Rejects, OutsideBinary, row_or, push_into_binary, push_may_grow, last_binary, binary_may_grow}
+use Rattle.sval_buffer.specs.Flat as flat
+use Rattle.sval_buffer.specs.Flat.{FlatKind, FlatPart, flat_part, flat_node, flat_row, flat_spine}
+use Rattle.sval_buffer.specs.FlatForest.{open_places}
+use Rattle.sval_buffer.specs.Holders.{holders, holders_node, holders_row, holders_spine, newest_place}
+use Rattle.sval_buffer.specs.SeenParts.{SeenPart, stored, holder, TellsForest, Pushed, BinaryPushes, IsBinaryCause}
+use Rattle.sval_buffer.specs.declared.error.ErrorKind.{ErrorKind}
+use Rattle.sval_buffer.specs.Capture.{Captures, IsCaptureCause, error_of}
+use Rattle.sval_buffer.proofs.Flat.{map_map}
+use Rattle.sval_buffer.proofs.BinaryFlat.{push_binary_flat, push-binary_flat, bytes_of, last_bytes, last_bytes-append, binary-flat}
+use Rattle.sval_buffer.proofs.PushSteps.{EndsIn}
+use Rattle.sval_buffer.proofs.Steps.{Is, is_told, tells_it, within_it, within-row, nothing}
+
+push-last : (fragment : HeldBytes) (xs : List FlatPart) (y : FlatPart) → push_binary_flat fragment (xs ++ (y ∷ [])) ≡ option_map (λ k. xs ++ (flat_part k y.holds ∷ [])) (flat.push_binary_part fragment y.kind)
+push-last fragment [] y = refl
+push-last fragment (x ∷ []) y = map_map (λ k. flat_part k y.holds ∷ []) (λ rest. x ∷ rest) (flat.push_binary_part fragment y.kind)
+push-last fragment (x ∷ next ∷ xs) y = ap (option_map (λ rest. x ∷ rest)) (push-last fragment (next ∷ xs) y) ∙ map_map (λ k. (next ∷ xs) ++ (flat_part k y.holds ∷ [])) (λ rest. x ∷ rest) (flat.push_binary_part fragment y.kind)
+
+mutual
+  holders-node : (fragment : HeldBytes) (node next : Node) (place : ℕ) (h : Option ℕ) → push_binary fragment node ≡ Some next
+      → (holders_node place h next ≡ holders_node place h node)
+  holders-node fragment (Single call) next place h e = cc e
+  holders-node fragment (Text held) next place h e = cc e
+  holders-node fragment (Binary held) next place h e = let same : next ≡ Binary (pushed held fragment) = cc e in ap (holders_node place h) same
+  holders-node fragment (Container begin nodes) next place h e = go (push_last_binary fragment nodes) (λ row. holders-last fragment nodes row (place + 1) (Some place)) e
+    where
+      go : (o : Option Nodes) → ((row : Nodes) → o ≡ Some row → holders_row (place + 1) (Some place) row ≡ holders_row (place + 1) (Some place) nodes)
+          → option_map (Container begin) o ≡ Some next → holders_node place h next ≡ h ∷ holders_row (place + 1) (Some place) nodes
+      go None f e = cc e
+      go (Some row) f e = let same : next ≡ Container begin row = cc e in ap (holders_node place h) same ∙ ap (λ rest. h ∷ rest) (f row refl)
+
+  holders-last : (fragment : HeldBytes) (nodes row : Nodes) (place : ℕ) (h : Option ℕ) → push_last_binary fragment nodes ≡ Some row
+      → holders_row place h row ≡ holders_row place h nodes
+  holders-last fragment none row place h e = cc e
+  holders-last fragment (nodes and node) row place h e = go (push_binary fragment node) (λ last. holders-node fragment node last (place + length (flat_row nodes)) h) e
+    where
+      go : (o : Option Node) → ((last : Node) → o ≡ Some last → holders_node (place + length (flat_row nodes)) h last ≡ holders_node (place + length (flat_row nodes)) h node)
+          → option_map (λ last. nodes and last) o ≡ Some row → holders_row place h row ≡ holders_row place h nodes ++ holders_node (place + length (flat_row nodes)) h node
+      go None f e = cc e
+      go (Some last) f e = let same : row ≡ (nodes and last) = cc e in ap (holders_row place h) same ∙ ap (λ rest. holders_row place h nodes ++ rest) (f last refl)
+
+holders-push : (fragment : HeldBytes) (nodes : Nodes) (spine : List Open) (within : Bool) (row : Nodes) → push_last_binary fragment (newest_row nodes spine) ≡ Some row
+    → holders (with_row row nodes spine within) ≡ holders_spine nodes spine
+holders-push fragment nodes [] within row e = holders-last fragment nodes row 0 None e
+holders-push fragment nodes (newest ∷ older) within row e =
+    let place = length (flat_row nodes ++ flat_spine older) in
+    ap (λ rest. holders_spine nodes older ++ (newest_place nodes older ∷ rest)) (holders-last fragment newest.nodes row (place + 1) (Some place) e)
+
+open-push : (fragment : HeldBytes) (nodes : Nodes) (spine : List Open) (within : Bool) (row : Nodes) → push_last_binary fragment (newest_row nodes spine) ≡ Some row
+    → (let g = with_row row nodes spine within in open_places g.nodes g.spine) ≡ open_places nodes spine
+open-push fragment nodes [] within row e = refl
+open-push fragment nodes (newest ∷ older) within row e = refl
+
+module _ {parts : List SeenPart} {places : List ℕ} {within : Bool} {f : Forest} (fragment : HeldBytes) (last : SeenPart) (is : Is parts places within f) (ends : EndsIn parts last) where
+  -- what the flat list makes of it
+  flat-pushed : option_map (λ row. flat.flat (with_row row f.nodes f.spine f.in_fragments)) (push_last_binary fragment (newest_row f.nodes f.spine))
+      ≡ option_map (λ k. map stored ends.front ++ (flat_part k last.holds ∷ [])) (flat.push_binary_part fragment last.kind)
+  flat-pushed =
+      push-binary_flat fragment f.nodes f.spine f.in_fragments
+      ∙ ap (push_binary_flat fragment) (sym (tells_it is).parts_are ∙ ap (map stored) ends.parts_are ∙ map-append stored ends.front (last ∷ []))
+      ∙ push-last fragment (map stored ends.front) (stored last)
+
+  abbrev answer : CaptureAnswer
+  answer = row_or OutsideBinary f (push_last_binary fragment (newest_row f.nodes f.spine))
+
+  pub push_refused : flat.push_binary_part fragment last.kind ≡ None → answer ≡ Rejects OutsideBinary
+  push_refused none_is = go (push_last_binary fragment (newest_row f.nodes f.spine)) (flat-pushed ∙ ap (option_map (λ k. map stored ends.front ++ (flat_part k last.holds ∷ []))) none_is)
+    where
+      go : (o : Option Nodes) → option_map (λ row. flat.flat (with_row row f.nodes f.spine f.in_fragments)) o ≡ None → row_or OutsideBinary f o ≡ Rejects OutsideBinary
+      go None e = refl
+      go (Some row) e = cc e
+
+  pub record Pushes (kind : FlatKind) : Type 0 where
+    pub row : Nodes
+    pub row_is : push_last_binary fragment (newest_row f.nodes f.spine) ≡ Some row
+    pub flat_is : flat.flat (with_row row f.nodes f.spine f.in_fragments) ≡ map stored ends.front ++ (flat_part kind last.holds ∷ [])
+
+  pub push_taken : (kind : FlatKind) → flat.push_binary_part fragment last.kind ≡ Some kind → Pushes kind
+  push_taken kind some = go (push_last_binary fragment (newest_row f.nodes f.spine)) refl (flat-pushed ∙ ap (option_map (λ k. map stored ends.front ++ (flat_part k last.holds ∷ []))) some)
+    where
+      go : (o : Option Nodes) → push_last_binary fragment (newest_row f.nodes f.spine) ≡ o
+          → option_map (λ row. flat.flat (with_row row f.nodes f.spine f.in_fragments)) o ≡ Some (map stored ends.front ++ (flat_part kind last.holds ∷ [])) → Pushes kind
+      go None e g = cc g
+      go (Some row) e g = let same : flat.flat (with_row row f.nodes f.spine f.in_fragments) ≡ map stored ends.front ++ (flat_part kind last.holds ∷ []) = cc g in
+          record { row = row; row_is = e; flat_is = same }
+
+  pub is_pushed : (next : SeenPart) (p : Pushed (flat.push_binary_part fragment last.kind) last next) → let o = push_taken next.kind p.kind in Is (ends.front ++ (next ∷ [])) places within (with_row o.row f.nodes f.spine f.in_fragments)
+  is_pushed next p =
+      let o = push_taken next.kind p.kind in
+      let g = with_row o.row f.nodes f.spine f.in_fragments in
+      let t : TellsForest (ends.front ++ (next ∷ [])) places g = record {
+        parts_are = map-append stored ends.front (next ∷ []) ∙ ap (λ holds. map stored ends.front ++ (flat_part next.kind holds ∷ [])) p.holds ∙ sym o.flat_is;
+        places_are = (tells_it is).places_are ∙ sym (open-push fragment f.nodes f.spine f.in_fragments o.row o.row_is);
+        holders_are = map-append holder ends.front (next ∷ []) ∙ ap (λ h. map holder ends.front ++ (h ∷ [])) p.holder ∙ sym (map-append holder ends.front (last ∷ [])) ∙ ap (map holder) (sym ends.parts_are)
+            ∙ (tells_it is).holders_are ∙ sym (holders-push fragment f.nodes f.spine f.in_fragments o.row o.row_is);
+      } in
+      is_told (ends.front ++ (next ∷ [])) places within g t (within_it is ∙ sym (within-row o.row f.nodes f.spine f.in_fragments))
+
+  pub push_answers : (next : SeenPart) (p : Pushed (flat.push_binary_part fragment last.kind) last next) → let o = push_taken next.kind p.kind in answer ≡ Becomes (with_row o.row f.nodes f.spine f.in_fragments)
+  push_answers next p = let o = push_taken next.kind p.kind in ap (row_or OutsideBinary f) o.row_is
+
+-- nothing takes a fragment
+pub push_nothing : {parts : List SeenPart} {places : List ℕ} {within : Bool} {f : Forest} (fragment : HeldBytes) → Is parts places within f → length parts ≡ 0
+    → row_or OutsideBinary f (push_last_binary fragment (newest_row f.nodes f.spine)) ≡ Rejects OutsideBinary
+push_nothing {parts} {f = f} fragment is h =
+    let e = nothing parts h in
+    go (push_last_binary fragment (newest_row f.nodes f.spine)) (push-binary_flat fragment f.nodes f.spine f.in_fragments ∙ ap (push_binary_flat fragment) (sym (ap (map stored) (sym e) ∙ (tells_it is).parts_are)))
+  where
+    go : (o : Option Nodes) → option_map (λ row. flat.flat (with_row row f.nodes f.spine f.in_fragments)) o ≡ None → row_or OutsideBinary f o ≡ Rejects OutsideBinary
+    go None e = refl
+    go (Some row) e = cc e
+
+-- the last part's binary is the forest's last binary
+last-binary : {parts : List SeenPart} {places : List ℕ} {within : Bool} {f : Forest} (last : SeenPart) → Is parts places within f → EndsIn parts last
+    → last_binary (newest_row f.nodes f.spine) ≡ bytes_of last.kind
+last-binary {f = f} last is ends =
+    binary-flat f.nodes f.spine
+    ∙ ap last_bytes (sym (tells_it is).parts_are ∙ ap (map stored) ends.parts_are ∙ map-append stored ends.front (last ∷ []))
+    ∙ last_bytes-append (map stored ends.front) (stored last) []
+
+-- what a part answers to a fragment, the whole buffer answers
+pub record PushesBy (parts : List SeenPart) (places : List ℕ) (within : Bool) (f : Forest) (fragment : HeldBytes) (r : Result (Unit {0}) ErrorKind) : Type 0 where
+  pub next : Forest
+  pub is : Is parts places within next
+  pub answers : Captures (binary_may_grow fragment.borrowed f) (push_into_binary fragment f) f r next
+
+cause_of : (fragment : HeldBytes) (k : FlatKind) (grows : Bool) (a : CaptureAnswer) (why : ErrorKind) → IsBinaryCause fragment k why → grows ≡ push_may_grow fragment.borrowed (bytes_of k)
+    → (flat.push_binary_part fragment k ≡ None → a ≡ Rejects OutsideBinary) → ((kind : FlatKind) → flat.push_binary_part fragment k ≡ Some kind → (next : Forest) × (a ≡ Becomes next)) → IsCaptureCause grows a why
+cause_of fragment (flat.One call) grows a why cause same refused taken = subst (λ x. IsCaptureCause grows x why) (sym (refused refl)) cause
+cause_of fragment (flat.Words held) grows a why cause same refused taken = subst (λ x. IsCaptureCause grows x why) (sym (refused refl)) cause
+cause_of fragment (flat.Holder begin) grows a why cause same refused taken = subst (λ x. IsCaptureCause grows x why) (sym (refused refl)) cause
+cause_of fragment (flat.Bytes held) grows a why cause same refused taken =
+    let t = taken (flat.Bytes (pushed held fragment)) refl in
+    subst (λ x. IsCaptureCause grows x why) (sym t.1) (record { no_alloc = cause.no_alloc; takes_memory = same ∙ cause.takes_memory })
+
+pub pushes_by : {parts : List SeenPart} {places : List ℕ} {within : Bool} {f : Forest} (fragment : HeldBytes) (last next : SeenPart) (r : Result (Unit {0}) ErrorKind) → Is parts places within f → (ends : EndsIn parts last)
+    → BinaryPushes last fragment r next
+    → PushesBy (ends.front ++ (next ∷ [])) places within f fragment r
+pushes_by {f = f} fragment last next (Ok done) is ends ok = record {
+  next = with_row (push_taken fragment last is ends next.kind ok.kind).row f.nodes f.spine f.in_fragments;
+  is = is_pushed fragment last is ends next ok;
+  answers = push_answers fragment last is ends next ok;
+}
+pushes_by {parts} {places} {within} {f} fragment last next (Err why) is ends (same, cause) =
+    let whole : parts ≡ ends.front ++ (next ∷ []) = ends.parts_are ∙ ap (λ p. ends.front ++ (p ∷ [])) (sym same) in
+    record {
+      next = f;
+      is = subst (λ ps. Is ps places within f) whole is;
+      answers = (
+        refl,
+        cause_of fragment last.kind (binary_may_grow fragment.borrowed f) (push_into_binary fragment f) why cause
+            (ap (push_may_grow fragment.borrowed) (last-binary last is ends))
+            (push_refused fragment last is ends)
+            (λ kind some. let o = push_taken fragment last is ends kind some in (with_row o.row f.nodes f.spine f.in_fragments, ap (row_or OutsideBinary f) o.row_is)),
+      );
+    }
+
+pub pushes_nothing : {parts : List SeenPart} {places : List ℕ} {within : Bool} {f : Forest} (fragment : HeldBytes) → Is parts places within f → length parts ≡ 0
+    → PushesBy parts places within f fragment (Err (error_of OutsideBinary))
+pushes_nothing {f = f} fragment is h = record {
+  next = f;
+  is = is;
+  answers = (refl, subst (λ a. IsCaptureCause (binary_may_grow fragment.borrowed f) a (error_of OutsideBinary)) (sym (push_nothing fragment is h)) refl);
+}

@@ -1,0 +1,10 @@
+use Rattle.sval_buffer.proofs.KeptNames.{grows_none}
+use Rattle.sval_buffer.proofs.named.keep.Goals as goal
+use Rattle.sval_buffer.proofs.named.keep.Goals.{in-Some+in-Ok, in-None}
+
+pub returns-clause-grows : goal.returns-clause-grows
+returns-clause-grows c =
+    elim c.match-name.branch [
+      | in-Some+in-Ok w ↦ rw w.texts-is w.keep_label.ensures.grows
+      | in-None w ↦ rw w.texts-is (grows_none _)
+    ]
