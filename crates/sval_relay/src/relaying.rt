@@ -3,9 +3,9 @@
 ghost use Rattle.std.specs.Prelude.{◌≡◌, ℕ, ◌<◌, ◌^◌, false, List, length, IfOk, IfErr};
 ghost use Rattle.sval_buffer.specs.CapturedValues.{KeepsTree};
 ghost use Rattle.sval_buffer.specs.SeenBuffers.{capture_of};
-ghost use Rattle.sval_check.specs.Checks.{IsOneValue};
 ghost use Rattle.sval_core.specs.Spells.{Spells};
 ghost use Rattle.sval_core.specs.Trees.{Tree};
+ghost use Rattle.sval_core.specs.Values.{makes};
 ghost use Rattle.sval_script.specs.Lines.{lines, Good};
 ghost use Rattle.sval_relay.specs.Relays.{Relays, WritesJson};
 
@@ -131,22 +131,19 @@ fn write_captured<K: Sink>(
     requires { (tree : Tree) × Spells script.now tree }
     ensures { WritesJson result K.told variants script.now out.old out.new }
 {
-    // A part takes a line or more; room that isn't filled takes no memory of the system.
-    let captured = capture(alloc, script.line_count() as usize, script)?;
+    let captured = capture(alloc, script)?;
     write_json(out, &captured, variants)
 }
 
-/// Captures a value that doesn't refuse and whose calls spell a tree, with room for this many parts.
-fn capture<'v, V: Value<'v, Lent<'v>>>(
-    alloc: Global,
-    parts: usize,
-    value: &'v V,
-) -> Result<ValueBuf<'v>, RelayError>
-    requires { IsOneValue (V.emission value.now) }
-    ensures ok { IfOk result (λ captured. KeepsTree (V.emission value.now) (capture_of captured).forest) }
+/// Captures a script whose calls spell a tree.
+fn capture<'v>(alloc: Global, script: &'v Script) -> Result<ValueBuf<'v>, RelayError>
+    requires { (tree : Tree) × Spells script.now tree }
+    ensures ok { IfOk result (λ captured. KeepsTree (makes script.now) (capture_of captured).forest) }
     ensures err { IfErr result (λ why. why ≡ RelayError.NoMemory) }
 {
-    match ValueBuf::collect_with_capacity(alloc, parts, value) {
+    // A part takes a line or more; room that isn't filled takes no memory of the system.
+    let parts = script.line_count() as usize;
+    match ValueBuf::collect_with_capacity(alloc, parts, script) {
         Ok(captured) => Ok(captured),
         Err(error) => match error.kind() {
             sval_buffer::ErrorKind::NoAlloc { .. } => Err(RelayError::NoMemory),
