@@ -114,7 +114,8 @@ impl<'sval> BinaryBuf<'sval> {
 
     /// The binary, where it is borrowed.
     pub fn as_borrowed_slice(&self) -> Option<&'sval [u8]>
-        ensures { option_map (λ bytes. bytes.now) result ≡ (if self.now.borrowed then Some self.now.bytes else None) }
+        ensures { option_map (λ bytes. bytes.now) result
+            ≡ (if self.now.borrowed then Some self.now.bytes else None) }
     {
         match &self.held {
             Held::Borrowed(bytes) => Some(*bytes),

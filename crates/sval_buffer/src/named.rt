@@ -201,7 +201,8 @@ pub trait CallStore: Sized + Drop {
     fn push(&mut self, kind: NamedKind, name: Name<'_>) -> std::result::Result<usize, NoMemory>
         requires { HasName kind (seen_name name) }
         ensures place { IfOk result (λ at. at ≡ length (calls self.old)) }
-        ensures kept { OnOk result (calls self.new ≡ calls self.old ++ (named_call kind (seen_name name.entry) ∷ [])) }
+        ensures kept { let call = named_call kind (seen_name name.entry) in
+            OnOk result (calls self.new ≡ calls self.old ++ (call ∷ [])) }
         ensures err { OnErr result (calls self.new ≡ calls self.old) };
 
     /// Makes the call at a place.
@@ -279,7 +280,8 @@ fn keep(
     requires { HasName kind (seen_name name) }
     ensures grows { Grows (string_bytes texts.old) (string_bytes texts.new) }
     ensures stands { IfOk result (Stands (string_bytes texts.new)) }
-    ensures kept { IfOk result (λ call. kept_call (string_bytes texts.new) call ≡ named_call kind (seen_name name.entry)) }
+    ensures kept { let made = named_call kind (seen_name name.entry) in
+        IfOk result (λ call. kept_call (string_bytes texts.new) call ≡ made) }
 {
     let label = match name.label {
         Some(label) => match keep_label(texts, label) {

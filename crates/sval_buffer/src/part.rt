@@ -39,7 +39,8 @@ impl Single {
 
     /// The call.
     fn call<'c, T, B>(self) -> GroupedCall<'c, T, B>
-        ensures { (text : T → List ℕ) (bytes : B → List ℕ) → grouped_call text bytes result ≡ single_call self }
+        ensures { (text : T → List ℕ) (bytes : B → List ℕ)
+            → grouped_call text bytes result ≡ single_call self }
     {
         match self {
             Single::Null => GroupedCall::Null,
@@ -62,7 +63,8 @@ pub(crate) enum Begin {
 impl Begin {
     /// The begin.
     fn call<'c, T, B>(self) -> GroupedCall<'c, T, B>
-        ensures { (text : T → List ℕ) (bytes : B → List ℕ) → grouped_call text bytes result ≡ begin_call self }
+        ensures { (text : T → List ℕ) (bytes : B → List ℕ)
+            → grouped_call text bytes result ≡ begin_call self }
     {
         match self {
             Begin::Seq(size) => GroupedCall::Begin(Head::Seq, size),
@@ -75,7 +77,8 @@ impl Begin {
 
     /// The end that belongs to the begin.
     fn end<'c, T, B>(self) -> GroupedCall<'c, T, B>
-        ensures { (text : T → List ℕ) (bytes : B → List ℕ) → grouped_call text bytes result ≡ end_of (begin_call self) }
+        ensures { (text : T → List ℕ) (bytes : B → List ℕ)
+            → grouped_call text bytes result ≡ end_of (begin_call self) }
     {
         match self {
             Begin::Seq(_) => GroupedCall::End(Head::Seq),
@@ -142,8 +145,8 @@ impl<'sval> Part<'sval> {
         &mut self,
         fragment: Fragment<&'sval str, &str>,
     ) -> Result<(), ErrorKind>
-        ensures pushes { (calls : List Call)
-            → TextPushes (seen_part calls self.old) (fragment_bytes fragment.entry) result (seen_part calls self.new) }
+        ensures pushes { let pushed = fragment_bytes fragment.entry in
+            (calls : List Call) → TextPushes (seen_part calls self.old) pushed result (seen_part calls self.new) }
         ensures kept { (calls : ℕ) → IsKept calls self.old.kind → IsKept calls self.new.kind }
     {
         match &mut self.kind {
@@ -159,8 +162,8 @@ impl<'sval> Part<'sval> {
         &mut self,
         fragment: Fragment<&'sval [u8], &[u8]>,
     ) -> Result<(), ErrorKind>
-        ensures pushes { (calls : List Call)
-            → BinaryPushes (seen_part calls self.old) (fragment_bytes fragment.entry) result (seen_part calls self.new) }
+        ensures pushes { let pushed = fragment_bytes fragment.entry in
+            (calls : List Call) → BinaryPushes (seen_part calls self.old) pushed result (seen_part calls self.new) }
         ensures kept { (calls : ℕ) → IsKept calls self.old.kind → IsKept calls self.new.kind }
     {
         match &mut self.kind {
@@ -253,7 +256,8 @@ fn push_into_text<'sval>(
     text: &mut TextBuf<'sval>,
     fragment: Fragment<&'sval str, &str>,
 ) -> Result<(), NoMemory>
-    ensures text { text.new ≡ (if is_ok result then pushed text.old (fragment_bytes fragment.entry) else text.old) }
+    ensures text { let after = pushed text.old (fragment_bytes fragment.entry) in
+        text.new ≡ (if is_ok result then after else text.old) }
     ensures may_fail { OnErr result (IsTrue (push_may_grow (fragment_bytes fragment.entry).borrowed (Some text.old))) }
 {
     let pushed = match fragment {
@@ -268,7 +272,8 @@ fn push_into_binary<'sval>(
     bytes: &mut BinaryBuf<'sval>,
     fragment: Fragment<&'sval [u8], &[u8]>,
 ) -> Result<(), NoMemory>
-    ensures bytes { bytes.new ≡ (if is_ok result then pushed bytes.old (fragment_bytes fragment.entry) else bytes.old) }
+    ensures bytes { let after = pushed bytes.old (fragment_bytes fragment.entry) in
+        bytes.new ≡ (if is_ok result then after else bytes.old) }
     ensures may_fail { OnErr result (IsTrue (push_may_grow (fragment_bytes fragment.entry).borrowed (Some bytes.old))) }
 {
     let pushed = match fragment {

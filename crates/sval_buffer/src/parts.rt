@@ -46,7 +46,8 @@ impl<'sval, N: CallStore + 'sval> Model for Parts<'sval, N> {
     ghost use Rattle.sval_buffer.specs.SeenParts.{stored, seen_parts, PartsTell};
 
     ghost view = { λ p.
-        record { parts = map stored (seen_parts (N.calls p.named) p.parts.items); places = p.places.items; in_fragments = p.in_fragments } };
+        let seen = seen_parts (N.calls p.named) p.parts.items in
+        record { parts = map stored seen; places = p.places.items; in_fragments = p.in_fragments } };
 
     ghost invariant = { λ p. PartsTell (N.calls p.named) p.parts.items p.places.items p.in_fragments };
 }

@@ -5,10 +5,10 @@ ghost use Rattle.sval_label.specs.Made.{lent_call};
 ghost use Rattle.sval_core.specs.Law.{Answers};
 ghost use Rattle.sval_core.specs.Lenient.{lenient, with_wants};
 
-use crate::{Error, ErrorKind, TextBuf, ValueBuf, Word};
+use crate::{BinaryBuf, Error, ErrorKind, TextBuf, ValueBuf, Word};
 use std::alloc::{AllocError, Global};
 use std::fmt::Write;
-use sval_core::{Call, Lent, Stream, Value};
+use sval_core::{Call, Index, Label, Lent, Name, Stream, Value, tags};
 use sval_ref::{ValueRef, stream_ref};
 
 /// Writes each call that it takes.
@@ -99,12 +99,7 @@ fn captures_calls(rt: HostRuntime) -> Result<(), AllocError> {
         reason: Word::Unbalanced,
     });
     let outside = Some(ErrorKind::OutsideContainer { method: Word::Text });
-    let table: [(
-        &'static [Call<'static, 'static>],
-        Option<ErrorKind>,
-        bool,
-        &'static str,
-    ); 10] = [
+    let table: [(&[Call<'_, '_>], Option<ErrorKind>, bool, &'static str); 10] = [
         (&[], None, false, "Null "),
         (&[Call::SeqEnd], unbalanced, false, "Null "),
         (&[Call::TextFragment("a")], outside, false, "Null "),
@@ -182,6 +177,115 @@ fn captures_calls(rt: HostRuntime) -> Result<(), AllocError> {
         assert_eq!(rt; calls_of_ref(rt.alloc(), &buffer)?.as_str(), replay);
         assert_eq!(rt; flat_kind(buffer.into_err()), refusal);
     }
+    Ok(())
+}
+
+/// Writes calls one by one.
+fn printed(alloc: Global, calls: &[Call<'_, '_>]) -> Result<String, AllocError> {
+    let mut text = String::new(alloc);
+    for call in calls {
+        write!(text, "{call:?} ").map_err(|_| AllocError)?;
+    }
+    Ok(text)
+}
+
+/// A name of these parts.
+fn name<'c>(label: Option<&'c Label<'c>>, index: Option<&'c Index>) -> Name<'c> {
+    Name {
+        tag: Some(&tags::RUST_UNIT),
+        label,
+        index,
+    }
+}
+
+#[test]
+fn makes_calls_with_names_again(rt: HostRuntime) -> Result<(), AllocError> {
+    let tagged = Label::new("kind").with_tag(&tags::VALUE_IDENT);
+    let lent = Label::new_computed("width");
+    let index = Index::new_i64(-2).with_tag(&tags::VALUE_OFFSET);
+    let unit = Some(&tags::RUST_UNIT);
+    let whole = name(Some(&tagged), Some(&index));
+    let labelled = name(Some(&lent), None);
+    let calls = [
+        Call::EnumBegin(whole),
+        Call::TaggedBegin(labelled),
+        Call::Tag(labelled),
+        Call::TaggedEnd(labelled),
+        Call::EnumEnd(whole),
+        Call::RecordBegin(labelled, Some(1)),
+        Call::RecordValueBegin(unit, &tagged),
+        Call::TagHint(&tags::NUMBER),
+        Call::U128(7),
+        Call::RecordValueEnd(unit, &tagged),
+        Call::RecordEnd(labelled),
+    ];
+    let buffer = buffer_of(rt.alloc(), &calls);
+    assert!(rt; buffer.is_complete());
+    assert_eq!(rt;
+        calls_of(rt.alloc(), &buffer)?.as_str(),
+        printed(rt.alloc(), &calls)?.as_str()
+    );
+    Ok(())
+}
+
+#[test]
+fn makes_calls_of_tuples_and_maps_again(rt: HostRuntime) -> Result<(), AllocError> {
+    let label = Label::new_computed("width");
+    let index = Index::new_u64(18446744073709551615);
+    let named = name(Some(&label), Some(&index));
+    let calls = [
+        Call::TupleBegin(named, None),
+        Call::TupleValueBegin(None, &index),
+        Call::MapBegin(Some(1)),
+        Call::MapKeyBegin,
+        Call::I8(-7),
+        Call::MapKeyEnd,
+        Call::MapValueBegin,
+        Call::Bool(false),
+        Call::MapValueEnd,
+        Call::MapEnd,
+        Call::TupleValueEnd(None, &index),
+        Call::TupleEnd(named),
+        Call::RecordTupleBegin(named, None),
+        Call::RecordTupleValueBegin(None, &label, &index),
+        Call::Null,
+        Call::RecordTupleValueEnd(None, &label, &index),
+        Call::RecordTupleEnd(named),
+    ];
+    let buffer = buffer_of(rt.alloc(), &calls);
+    assert!(rt; buffer.is_complete());
+    assert_eq!(rt;
+        calls_of(rt.alloc(), &buffer)?.as_str(),
+        printed(rt.alloc(), &calls)?.as_str()
+    );
+    Ok(())
+}
+
+#[test]
+fn keeps_the_begins_name_and_no_hint_in_a_binary(rt: HostRuntime) -> Result<(), AllocError> {
+    let label = Label::new("kind");
+    let named = name(Some(&label), None);
+    let calls = [
+        Call::TaggedBegin(named),
+        Call::BinaryBegin(None),
+        Call::TagHint(&tags::NUMBER),
+        Call::BinaryFragment(b"ab"),
+        Call::BinaryEnd,
+        Call::SeqEnd,
+    ];
+    let wanted = [
+        Call::TaggedBegin(named),
+        Call::BinaryBegin(Some(2)),
+        Call::BinaryFragment(b"ab"),
+        Call::BinaryEnd,
+        Call::TaggedEnd(named),
+    ];
+    let buffer = buffer_of(rt.alloc(), &calls);
+    assert!(rt; buffer.is_complete());
+    assert_eq!(rt;
+        calls_of(rt.alloc(), &buffer)?.as_str(),
+        printed(rt.alloc(), &wanted)?.as_str()
+    );
     Ok(())
 }
 
@@ -283,6 +387,26 @@ fn joins_fragments(rt: HostRuntime) -> Result<(), AllocError> {
     assert_eq!(rt; text.as_borrowed_str(), None);
     assert!(rt; text.push_fragment("abc").is_ok());
     assert_eq!(rt; text.as_borrowed_str(), Some("abc"));
+    Ok(())
+}
+
+#[test]
+fn joins_fragments_of_binaries(rt: HostRuntime) -> Result<(), AllocError> {
+    let mut binary = BinaryBuf::new(rt.alloc());
+    assert!(rt; binary.push_fragment(b"abc").is_ok());
+    assert!(rt; binary.as_borrowed_slice().is_some());
+    assert!(rt; binary.push_fragment_computed(b"def").is_ok());
+    assert!(rt; binary.as_borrowed_slice().is_none());
+    assert!(rt; binary.as_slice() == b"abcdef".as_slice());
+    let calls = [
+        Call::BinaryBegin(Some(6)),
+        Call::BinaryFragmentComputed(b"abcdef"),
+        Call::BinaryEnd,
+    ];
+    assert_eq!(rt;
+        calls_of_ref(rt.alloc(), &binary)?.as_str(),
+        printed(rt.alloc(), &calls)?.as_str()
+    );
     Ok(())
 }
 

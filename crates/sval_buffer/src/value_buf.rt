@@ -20,10 +20,10 @@ use sval_ref::ValueRef;
 
 /// A captured value: the calls that were taken, from which they can be made again.
 ///
-/// As a stream it takes the calls of any value. Texts and bytes that are lent for `'sval` are kept by reference, and so are
-/// the texts of static labels; the texts of all other labels stand in one store. So a call takes memory for its part alone,
-/// and amortised growth aside none for a label. An end ends the newest container that has none, whichever it is, and its
-/// name isn't looked at. A hint within a text or a binary is taken and not kept.
+/// As a stream it takes the calls of any value. Texts and bytes that are lent for `'sval` are kept by reference, and so
+/// are the texts of static labels; those of all other labels stand in one store. So no call takes memory for a label but
+/// that by which this store and that of the parts grow. An end ends the newest container that has none, whichever it
+/// is, and its name isn't looked at. A hint within a text or a binary is taken and not kept.
 ///
 /// - [`ErrorKind::OutsideContainer`] answers a fragment of a text where the last part isn't a text, and one of a binary
 ///   where it isn't a binary.
