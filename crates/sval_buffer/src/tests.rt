@@ -262,29 +262,31 @@ fn makes_calls_of_tuples_and_maps_again(rt: HostRuntime) -> Result<(), AllocErro
 }
 
 #[test]
-fn keeps_the_begins_name_and_no_hint_in_a_binary(rt: HostRuntime) -> Result<(), AllocError> {
+fn ends_with_the_begins_name(rt: HostRuntime) -> Result<(), AllocError> {
     let label = Label::new("kind");
     let named = name(Some(&label), None);
+    let buffer = buffer_of(rt.alloc(), &[Call::TaggedBegin(named), Call::SeqEnd]);
+    let wanted = [Call::TaggedBegin(named), Call::TaggedEnd(named)];
+    assert_eq!(rt;
+        calls_of(rt.alloc(), &buffer)?.as_str(),
+        printed(rt.alloc(), &wanted)?.as_str()
+    );
+    Ok(())
+}
+
+#[test]
+fn keeps_no_hint_in_a_binary(rt: HostRuntime) -> Result<(), AllocError> {
     let calls = [
-        Call::TaggedBegin(named),
         Call::BinaryBegin(None),
         Call::TagHint(&tags::NUMBER),
         Call::BinaryFragment(b"ab"),
         Call::BinaryEnd,
-        Call::SeqEnd,
-    ];
-    let wanted = [
-        Call::TaggedBegin(named),
-        Call::BinaryBegin(Some(2)),
-        Call::BinaryFragment(b"ab"),
-        Call::BinaryEnd,
-        Call::TaggedEnd(named),
     ];
     let buffer = buffer_of(rt.alloc(), &calls);
     assert!(rt; buffer.is_complete());
     assert_eq!(rt;
         calls_of(rt.alloc(), &buffer)?.as_str(),
-        printed(rt.alloc(), &wanted)?.as_str()
+        "BinaryBegin(Some(2)) BinaryFragment([97, 98]) BinaryEnd "
     );
     Ok(())
 }
