@@ -1,7 +1,8 @@
 -- What the writer in code is seen as.
-use Rattle.std.specs.Prelude.{Option, option_map}
+use Rattle.std.specs.Prelude.{ℕ, List, Option, option_map}
 use Rattle.std.specs.Borrow.{Bor}
 use Rattle.sval_label.specs.declared.index.Index as program_index
+use Rattle.sval_label.specs.declared.label.Label as program_label
 use Rattle.sval_label.specs.Calls.{Index}
 use Rattle.sval_label.specs.SeenIndex.{seen_index}
 use Rattle.sval_core.specs.Trees.{TextKind, Ordinary, Number, JsonValue, JsonText, JsonNumber}
@@ -11,6 +12,7 @@ use Rattle.sval_json.specs.declared.writer.marks.TextKind as program_kind
 use Rattle.sval_json.specs.declared.writer.marks.TextKind.TheVariants as kind
 use Rattle.sval_json.specs.Actions.{Handler, escapes, copies, reads}
 use Rattle.sval_json.specs.SeenNumber.{seen_machine}
+use Rattle.sval_json.specs.Shape.{handle_of}
 
 abbrev pub seen_handler : program.Handler → Handler
 seen_handler handler.Escapes = escapes
@@ -26,3 +28,7 @@ seen_kind kind.JsonNumber = JsonNumber
 
 abbrev pub seen_option_index : Option (Bor program_index.Index) → Option Index
 seen_option_index index = option_map (λ index. seen_index index.now) index
+
+-- what stands for a name of this label and this index in front of a value
+abbrev pub seen_handle : Option (Bor program_label.Label) → Option (Bor program_index.Index) → Option (List ℕ)
+seen_handle label index = handle_of (option_map (λ label. label.now) label) (seen_option_index index)

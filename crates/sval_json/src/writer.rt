@@ -184,11 +184,11 @@ impl<'k, 'sval, K: Sink> Stream<Lent<'sval>> for Writer<'k, K> {
                 self.write_bytes(bytes)
             }
             GroupedCall::BinaryEnd => self.close(b"]"),
-            GroupedCall::EnumBegin(name) => self.begin_enum(&name),
-            GroupedCall::EnumEnd(name) => self.end_enum(&name),
-            GroupedCall::TaggedBegin(name) => self.begin_tagged(&name),
-            GroupedCall::TaggedEnd(name) => self.end_tagged(&name),
-            GroupedCall::Tag(name) => self.write_name(&name),
+            GroupedCall::EnumBegin(name) => self.begin_enum(name.label, name.index),
+            GroupedCall::EnumEnd(name) => self.end_enum(name.tag, name.label, name.index),
+            GroupedCall::TaggedBegin(name) => self.begin_tagged(name.tag, name.label, name.index),
+            GroupedCall::TaggedEnd(name) => self.end_tagged(name.tag, name.label, name.index),
+            GroupedCall::Tag(name) => self.write_name(name.tag, name.label, name.index),
             GroupedCall::TagHint(_) => Ok(()),
             GroupedCall::Begin(head, _) => self.begin_container(head),
             GroupedCall::End(head) => self.end_container(head),

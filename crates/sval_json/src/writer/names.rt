@@ -1,15 +1,15 @@
 //! Names, before a variant's value and by themselves.
 
-ghost use Rattle.std.specs.Prelude.{◌≡◌, ◌++◌, None, Some, is_some, option_map, codes};
+ghost use Rattle.std.specs.Prelude.{◌≡◌, ◌++◌, true, None, Some, is_some, option_map, codes};
 ghost use Rattle.std.specs.Fmt.{signed_decimal};
-ghost use Rattle.sval_label.specs.Calls.{EnumBegin, EnumEnd};
-ghost use Rattle.sval_label.specs.SeenName.{seen_name};
-ghost use Rattle.sval_json.specs.Actions.{write, when, ◌then◌};
+ghost use Rattle.sval_label.specs.Calls.{EnumEnd};
+ghost use Rattle.sval_label.specs.SeenName.{name_of};
+ghost use Rattle.sval_json.specs.Actions.{write, when, ◌then◌, ◌sets◌, set_named, set_empty};
 ghost use Rattle.sval_json.specs.Escape.{escaped};
-ghost use Rattle.sval_json.specs.Shape.{handle, handle_of, is_none_tag};
+ghost use Rattle.sval_json.specs.Shape.{handle_of, is_none_tag};
 ghost use Rattle.sval_json.specs.Steps.{refuse_in_key, opens_handle, name_step, closes};
 ghost use Rattle.sval_json.specs.Steps.{label_step, own_step, standalone_step, step};
-ghost use Rattle.sval_json.specs.SeenWriter.{seen_option_index};
+ghost use Rattle.sval_json.specs.SeenWriter.{seen_option_index, seen_handle};
 ghost use Rattle.sval_json.specs.WriterLaw.{Does, writer_view};
 
 use crate::sink::Sink;
@@ -17,7 +17,7 @@ use crate::style::Variants;
 use crate::writer::Writer;
 use crate::writer::marks::is_none;
 use itoa::Buffer;
-use sval_core::{Index, Name, Result};
+use sval_core::{Index, Label, Result, Tag};
 
 /// The number of an index that stands for a name, where it fits.
 fn number_of(index: Option<&Index>) -> Option<i64>
@@ -30,10 +30,10 @@ fn number_of(index: Option<&Index>) -> Option<i64>
 }
 
 /// Whether something stands for a name in front of a value.
-pub(crate) fn has_handle(name: &Name) -> bool
-    ensures { result ≡ is_some (handle (seen_name name.now)) }
+pub(crate) fn has_handle(label: Option<&Label>, index: Option<&Index>) -> bool
+    ensures { result ≡ is_some (seen_handle label.entry index.entry) }
 {
-    name.label.is_some() || number_of(name.index).is_some()
+    label.is_some() || number_of(index).is_some()
 }
 
 impl<'k, K: Sink> Writer<'k, K> {
@@ -60,26 +60,26 @@ impl<'k, K: Sink> Writer<'k, K> {
     }
 
     /// Opens the object that a variant of this name stands in, if it has a handle.
-    fn open_handle(&mut self, name: &Name) -> Result
-        ensures { Does (opens_handle self.old.variants (handle (seen_name name.now))) result
+    fn open_handle(&mut self, label: Option<&Label>, index: Option<&Index>) -> Result
+        ensures { Does (opens_handle self.old.variants (seen_handle label.entry index.entry)) result
             (writer_view K.told self.old) (writer_view K.told self.new) }
     {
-        if let Some(label) = name.label {
+        if let Some(label) = label {
             return self.open_variant(label.as_str().as_bytes());
         }
-        match number_of(name.index) {
+        match number_of(index) {
             Some(number) => self.open_variant(Buffer::new().format(number).as_bytes()),
             None => Ok(()),
         }
     }
 
     /// Gives a name to what begins, where one is due.
-    pub(crate) fn begin_named(&mut self, name: &Name) -> Result
-        ensures { Does (name_step self.old.variants (handle (seen_name name.now))) result
+    pub(crate) fn begin_named(&mut self, label: Option<&Label>, index: Option<&Index>) -> Result
+        ensures { Does (name_step self.old.variants (seen_handle label.entry index.entry)) result
             (writer_view K.told self.old) (writer_view K.told self.new) }
     {
         if self.named {
-            self.open_handle(name)?;
+            self.open_handle(label, index)?;
             self.named = false;
         }
         Ok(())
@@ -97,38 +97,54 @@ impl<'k, K: Sink> Writer<'k, K> {
     }
 
     /// Writes what stands for a name by itself.
-    fn write_own(&mut self, name: &Name) -> Result
-        ensures { let n = seen_name name.now in
+    fn write_own(
+        &mut self,
+        tag: Option<&Tag>,
+        label: Option<&Label>,
+        index: Option<&Index>,
+    ) -> Result
+        ensures { let n = name_of tag.entry label.entry index.entry in
             Does (own_step (is_none_tag n.tag) n.label (handle_of None n.index)) result
             (writer_view K.told self.old) (writer_view K.told self.new) }
     {
-        if is_none(name.tag) {
+        if is_none(tag) {
             return self.write_value(b"null");
         }
-        match name.label {
+        match label {
             Some(label) => self.write_text(label.as_str()),
-            None => self.write_index(name.index),
+            None => self.write_index(index),
         }
     }
 
     /// Writes a name by itself.
     #[inline(never)]
-    pub(crate) fn write_name(&mut self, name: &Name) -> Result
-        ensures { Does (standalone_step (seen_name name.now)) result
+    pub(crate) fn write_name(
+        &mut self,
+        tag: Option<&Tag>,
+        label: Option<&Label>,
+        index: Option<&Index>,
+    ) -> Result
+        ensures { Does (standalone_step (name_of tag.entry label.entry index.entry)) result
             (writer_view K.told self.old) (writer_view K.told self.new) }
     {
         self.named = false;
         self.empty = false;
-        self.write_own(name)
+        self.write_own(tag, label, index)
     }
 
     /// Writes the name of what ends, where nothing stands in that.
-    pub(crate) fn write_name_if_empty(&mut self, name: &Name) -> Result
-        ensures { Does (when (λ state. state.empty) (standalone_step (seen_name name.now))) result
+    pub(crate) fn write_name_if_empty(
+        &mut self,
+        tag: Option<&Tag>,
+        label: Option<&Label>,
+        index: Option<&Index>,
+    ) -> Result
+        ensures { let n = name_of tag.entry label.entry index.entry in
+            Does (when (λ state. state.empty) (standalone_step n)) result
             (writer_view K.told self.old) (writer_view K.told self.new) }
     {
         if self.empty {
-            return self.write_name(name);
+            return self.write_name(tag, label, index);
         }
         Ok(())
     }
@@ -146,11 +162,12 @@ impl<'k, K: Sink> Writer<'k, K> {
 
     /// Begins an enum.
     #[inline(never)]
-    pub(crate) fn begin_enum(&mut self, name: &Name) -> Result
-        ensures { Does (step self.old.variants (EnumBegin (seen_name name.now))) result
+    pub(crate) fn begin_enum(&mut self, label: Option<&Label>, index: Option<&Index>) -> Result
+        ensures { Does (name_step self.old.variants (seen_handle label.entry index.entry)
+            sets set_named true sets set_empty true) result
             (writer_view K.told self.old) (writer_view K.told self.new) }
     {
-        self.begin_named(name)?;
+        self.begin_named(label, index)?;
         self.named = true;
         self.empty = true;
         Ok(())
@@ -158,13 +175,18 @@ impl<'k, K: Sink> Writer<'k, K> {
 
     /// Ends an enum.
     #[inline(never)]
-    pub(crate) fn end_enum(&mut self, name: &Name) -> Result
-        ensures { Does (step self.old.variants (EnumEnd (seen_name name.now))) result
+    pub(crate) fn end_enum(
+        &mut self,
+        tag: Option<&Tag>,
+        label: Option<&Label>,
+        index: Option<&Index>,
+    ) -> Result
+        ensures { Does (step self.old.variants (EnumEnd (name_of tag.entry label.entry index.entry))) result
             (writer_view K.told self.old) (writer_view K.told self.new) }
     {
-        self.write_name_if_empty(name)?;
+        self.write_name_if_empty(tag, label, index)?;
         self.close_variant()?;
-        self.named = has_handle(name);
+        self.named = has_handle(label, index);
         Ok(())
     }
 }

@@ -1,40 +1,44 @@
 //! Containers and their parts.
 
-ghost use Rattle.std.specs.Prelude.{◌++◌, codes};
+ghost use Rattle.std.specs.Prelude.{codes, is_some};
 ghost use Rattle.sval_label.specs.Calls as call;
 ghost use Rattle.sval_label.specs.Grouped.{seen_head, seen_slot};
-ghost use Rattle.sval_label.specs.SeenName.{seen_name};
-ghost use Rattle.sval_json.specs.Actions.{write, ◌then◌, ◌sets◌};
+ghost use Rattle.sval_json.specs.Actions.{write, ◌then◌, ◌sets◌, set_named};
 ghost use Rattle.sval_json.specs.Steps.{container_begins, container_ends, part_begins, part_ends};
-ghost use Rattle.sval_json.specs.Steps.{opens, closes, name_step, after_name, item_begins, field_begins, label_text};
-ghost use Rattle.sval_json.specs.Shape.{handle};
+ghost use Rattle.sval_json.specs.Steps.{opens, closes, name_step, item_begins, field_begins, label_text};
+ghost use Rattle.sval_json.specs.SeenWriter.{seen_handle};
 ghost use Rattle.sval_json.specs.WriterLaw.{Does, writer_view};
 
 use crate::sink::Sink;
 use crate::writer::Writer;
 use crate::writer::marks::is_ident;
 use crate::writer::names::has_handle;
-use sval_core::{Head, Label, Name, Result, Slot};
+use sval_core::{Head, Index, Label, Result, Slot};
 
 impl<'k, K: Sink> Writer<'k, K> {
     /// Opens a container under its name, where that is due.
     #[inline(never)]
-    fn open_named(&mut self, name: &Name, bracket: &[u8]) -> Result
-        ensures { Does (name_step self.old.variants (handle (seen_name name.now)) then opens bracket.now) result
+    fn open_named(&mut self, label: Option<&Label>, index: Option<&Index>, bracket: &[u8]) -> Result
+        ensures { Does (name_step self.old.variants (seen_handle label.entry index.entry) then opens bracket.now) result
             (writer_view K.told self.old) (writer_view K.told self.new) }
     {
-        self.begin_named(name)?;
+        self.begin_named(label, index)?;
         self.open(bracket)
     }
 
     /// Closes a container that has a name.
     #[inline(never)]
-    fn close_named(&mut self, name: &Name, bracket: &[u8]) -> Result
-        ensures { Does (closes bracket.now sets after_name (seen_name name.now)) result
+    fn close_named(
+        &mut self,
+        label: Option<&Label>,
+        index: Option<&Index>,
+        bracket: &[u8],
+    ) -> Result
+        ensures { Does (closes bracket.now sets set_named (is_some (seen_handle label.entry index.entry))) result
             (writer_view K.told self.old) (writer_view K.told self.new) }
     {
         self.close(bracket)?;
-        self.named = has_handle(name);
+        self.named = has_handle(label, index);
         Ok(())
     }
 
@@ -46,9 +50,9 @@ impl<'k, K: Sink> Writer<'k, K> {
         match head {
             Head::Seq => self.open(b"["),
             Head::Map => self.open(b"{"),
-            Head::Record(name) => self.open_named(&name, b"{"),
-            Head::Tuple(name) => self.open_named(&name, b"["),
-            Head::RecordTuple(name) => self.open_named(&name, b"{"),
+            Head::Record(name) => self.open_named(name.label, name.index, b"{"),
+            Head::Tuple(name) => self.open_named(name.label, name.index, b"["),
+            Head::RecordTuple(name) => self.open_named(name.label, name.index, b"{"),
         }
     }
 
@@ -60,9 +64,9 @@ impl<'k, K: Sink> Writer<'k, K> {
         match head {
             Head::Seq => self.close(b"]"),
             Head::Map => self.close(b"}"),
-            Head::Record(name) => self.close_named(&name, b"}"),
-            Head::Tuple(name) => self.close_named(&name, b"]"),
-            Head::RecordTuple(name) => self.close_named(&name, b"}"),
+            Head::Record(name) => self.close_named(name.label, name.index, b"}"),
+            Head::Tuple(name) => self.close_named(name.label, name.index, b"]"),
+            Head::RecordTuple(name) => self.close_named(name.label, name.index, b"}"),
         }
     }
 

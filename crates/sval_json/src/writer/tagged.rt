@@ -2,7 +2,7 @@
 
 ghost use Rattle.std.specs.Prelude.{option_map};
 ghost use Rattle.sval_label.specs.Calls.{TaggedBegin, TaggedEnd};
-ghost use Rattle.sval_label.specs.SeenName.{seen_name};
+ghost use Rattle.sval_label.specs.SeenName.{name_of};
 ghost use Rattle.sval_json.specs.SeenWriter.{seen_kind};
 ghost use Rattle.sval_json.specs.Steps.{step, refuses_key, begins_tagged, ends_tagged, number_is_over, number_ends};
 ghost use Rattle.sval_json.specs.WriterLaw.{Does, IsOnlySet, writer_view};
@@ -13,7 +13,7 @@ use crate::sink::Sink;
 use crate::writer::marks::{TextKind, text_kind};
 use crate::writer::names::has_handle;
 use crate::writer::{Handler, Writer};
-use sval_core::{Name, Result};
+use sval_core::{Index, Label, Result, Tag};
 
 impl<'k, K: Sink> Writer<'k, K> {
     /// Refuses the JSON of a value in a key.
@@ -94,13 +94,18 @@ impl<'k, K: Sink> Writer<'k, K> {
 
     /// Begins a tagged value.
     #[inline(never)]
-    pub(crate) fn begin_tagged(&mut self, name: &Name) -> Result
-        ensures { Does (step self.old.variants (TaggedBegin (seen_name name.now))) result
+    pub(crate) fn begin_tagged(
+        &mut self,
+        tag: Option<&Tag>,
+        label: Option<&Label>,
+        index: Option<&Index>,
+    ) -> Result
+        ensures { Does (step self.old.variants (TaggedBegin (name_of tag.entry label.entry index.entry))) result
             (writer_view K.told self.old) (writer_view K.told self.new) }
     {
-        let kind = text_kind(name.tag);
+        let kind = text_kind(tag);
         self.refuse_value_in_key(kind)?;
-        self.begin_named(name)?;
+        self.begin_named(label, index)?;
         self.begin_kind(kind);
         self.empty = true;
         Ok(())
@@ -108,13 +113,18 @@ impl<'k, K: Sink> Writer<'k, K> {
 
     /// Ends a tagged value.
     #[inline(never)]
-    pub(crate) fn end_tagged(&mut self, name: &Name) -> Result
-        ensures { Does (step self.old.variants (TaggedEnd (seen_name name.now))) result
+    pub(crate) fn end_tagged(
+        &mut self,
+        tag: Option<&Tag>,
+        label: Option<&Label>,
+        index: Option<&Index>,
+    ) -> Result
+        ensures { Does (step self.old.variants (TaggedEnd (name_of tag.entry label.entry index.entry))) result
             (writer_view K.told self.old) (writer_view K.told self.new) }
     {
-        self.end_kind(text_kind(name.tag))?;
-        self.write_name_if_empty(name)?;
-        self.named = has_handle(name);
+        self.end_kind(text_kind(tag))?;
+        self.write_name_if_empty(tag, label, index)?;
+        self.named = has_handle(label, index);
         Ok(())
     }
 }
