@@ -20,21 +20,42 @@ fn says_what_calls_spell(rt: HostRuntime) -> Result<(), Fail> {
         ("", Err(CheckError::Unfinished)),
         ("null\nnull\n", Err(CheckError::BadCall { at: 2 })),
         ("text_begin 2\ntext_fragment =6162\ntext_end\n", Ok(())),
-        ("text_begin 1\ntext_fragment =6162\ntext_end\n", Err(CheckError::BadCall { at: 2 })),
+        (
+            "text_begin 1\ntext_fragment =6162\ntext_end\n",
+            Err(CheckError::BadCall { at: 2 }),
+        ),
         (
             "text_begin 3\ntext_fragment_computed =6162\ntext_end\n",
             Err(CheckError::BadCall { at: 3 }),
         ),
-        ("text_begin -\ntext_fragment =6162\ntext_fragment_computed =63\ntext_end\n", Ok(())),
-        ("text_begin 18446744073709551615\ntext_fragment =6162\n", Err(CheckError::Unfinished)),
+        (
+            "text_begin -\ntext_fragment =6162\ntext_fragment_computed =63\ntext_end\n",
+            Ok(()),
+        ),
+        (
+            "text_begin 18446744073709551615\ntext_fragment =6162\n",
+            Err(CheckError::Unfinished),
+        ),
         (
             "text_begin 18446744073709551615\ntext_fragment =6162\ntext_end\n",
             Err(CheckError::BadCall { at: 3 }),
         ),
-        ("seq_begin 18446744073709551615\nseq_value_begin\n", Err(CheckError::Unfinished)),
-        ("seq_begin 18446744073709551615\nseq_end\n", Err(CheckError::BadCall { at: 2 })),
-        ("seq_begin 0\nseq_value_begin\n", Err(CheckError::BadCall { at: 2 })),
-        ("seq_begin -\nseq_value_begin\nseq_value_end\n", Err(CheckError::BadCall { at: 3 })),
+        (
+            "seq_begin 18446744073709551615\nseq_value_begin\n",
+            Err(CheckError::Unfinished),
+        ),
+        (
+            "seq_begin 18446744073709551615\nseq_end\n",
+            Err(CheckError::BadCall { at: 2 }),
+        ),
+        (
+            "seq_begin 0\nseq_value_begin\n",
+            Err(CheckError::BadCall { at: 2 }),
+        ),
+        (
+            "seq_begin -\nseq_value_begin\nseq_value_end\n",
+            Err(CheckError::BadCall { at: 3 }),
+        ),
         ("seq_begin -\nnull\n", Err(CheckError::BadCall { at: 2 })),
         ("text_end\n", Err(CheckError::BadCall { at: 1 })),
         ("bool true\nseq_end\n", Err(CheckError::BadCall { at: 2 })),

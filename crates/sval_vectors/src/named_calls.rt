@@ -115,7 +115,8 @@ fn make_fields<L: Lending, S: Stream<L>>(stream: &mut S, label: &Label, index: &
 }
 
 /// What is written down of the calls that are made.
-const CALLS: &str = "Null Bool(true) U8(8) U16(16) U32(32) U64(64) U128(128) I8(-8) I16(-16) I32(-32) I64(-64) I128(-128) \
+const CALLS: &str =
+    "Null Bool(true) U8(8) U16(16) U32(32) U64(64) U128(128) I8(-8) I16(-16) I32(-32) I64(-64) I128(-128) \
     TextBegin(Some(2)) TextFragment(\"a\") TextFragmentComputed(\"b\") TextEnd \
     BinaryBegin(Some(2)) BinaryFragment([97]) BinaryFragmentComputed([98]) BinaryEnd \
     MapBegin(Some(1)) MapKeyBegin MapKeyEnd MapValueBegin MapValueEnd MapEnd \

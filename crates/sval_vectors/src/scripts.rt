@@ -3,8 +3,8 @@
 mod containers;
 mod fields;
 mod keys;
-mod numbers;
 mod number_texts;
+mod numbers;
 mod raw;
 mod variants;
 

@@ -3,6 +3,8 @@
 use super::{RelayError, relay};
 use crate::Way;
 use crate::fakes::FaultySink;
+use std::alloc::Global;
+use std::process::Abort;
 use std::test::Fail;
 use sval_buffer::ValueBuf;
 use sval_core::{Call, Stream};
@@ -64,25 +66,36 @@ fn a_write_that_fails(rt: HostRuntime) -> Result<(), Fail> {
     Ok(())
 }
 
-/// What is written of calls that are no whole value, after they were captured.
+/// Captures calls that are no whole value, and compares what is written of them.
+fn try_part<'v>(
+    rt: &impl Abort,
+    alloc: Global,
+    calls: &'v [Call<'v, 'v>],
+    refused: bool,
+    text: &str,
+) -> Result<(), Fail> {
+    let mut buffer = ValueBuf::new(alloc);
+    for call in calls {
+        let _answer = buffer.take(*call);
+    }
+    let mut out = VecSink::new(alloc);
+    assert!(rt; stream_to_io_write(&mut out, &buffer).is_ok());
+    assert_eq!(rt; out.as_slice(), text.as_bytes());
+    assert!(rt; !buffer.is_complete());
+    assert_eq!(rt; buffer.into_err().is_some(), refused);
+    Ok(())
+}
+
 #[test]
 fn captured_parts(rt: HostRuntime) -> Result<(), Fail> {
     let alloc = rt.alloc();
-    let table: [(&'static [Call<'static, 'static>], bool, &'static str); 3] = [
-        (&[Call::SeqBegin(None), Call::Null], false, "[]null"),
-        (&[Call::SeqEnd], true, "null"),
-        (&[], false, "null"),
-    ];
-    for (calls, refused, text) in table {
-        let mut buffer: ValueBuf<'static> = ValueBuf::new(alloc);
-        for call in calls {
-            let _answer = buffer.take(*call);
-        }
-        let mut out = VecSink::new(alloc);
-        assert!(rt; stream_to_io_write(&mut out, &buffer).is_ok());
-        assert_eq!(rt; out.as_slice(), text.as_bytes());
-        assert!(rt; !buffer.is_complete());
-        assert_eq!(rt; buffer.into_err().is_some(), refused);
-    }
-    Ok(())
+    try_part(
+        &rt,
+        alloc,
+        &[Call::SeqBegin(None), Call::Null],
+        false,
+        "[]null",
+    )?;
+    try_part(&rt, alloc, &[Call::SeqEnd], true, "null")?;
+    try_part(&rt, alloc, &[], false, "null")
 }

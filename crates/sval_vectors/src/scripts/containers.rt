@@ -6,9 +6,8 @@ use std::test::Fail;
 
 #[test]
 fn a_record_tuple(rt: HostRuntime) -> Result<(), Fail> {
-    let rows = [
-        (
-            "record_tuple_begin - =4d795265636f7264:VALUE_IDENT - 3\n\
+    let rows = [(
+        "record_tuple_begin - =4d795265636f7264:VALUE_IDENT - 3\n\
              record_tuple_value_begin - =6669656c645f30:VALUE_IDENT 0:VALUE_OFFSET\ni32 1\n\
              record_tuple_value_end - =6669656c645f30:VALUE_IDENT 0:VALUE_OFFSET\n\
              record_tuple_value_begin - =6669656c645f31:VALUE_IDENT 1:VALUE_OFFSET\nbool true\n\
@@ -17,9 +16,8 @@ fn a_record_tuple(rt: HostRuntime) -> Result<(), Fail> {
              text_fragment =736f6d652074657874\ntext_end\n\
              record_tuple_value_end - =6669656c645f32:VALUE_IDENT 2:VALUE_OFFSET\n\
              record_tuple_end - =4d795265636f7264:VALUE_IDENT -\n",
-            Json("{\"field_0\":1,\"field_1\":true,\"field_2\":\"some text\"}"),
-        ),
-    ];
+        Json("{\"field_0\":1,\"field_1\":true,\"field_2\":\"some text\"}"),
+    )];
     try_rows(&rt, rt.alloc(), &rows)
 }
 
@@ -31,10 +29,7 @@ fn maps(rt: HostRuntime) -> Result<(), Fail> {
              map_key_begin\ni32 1\nmap_key_end\nmap_value_begin\nbool true\nmap_value_end\nmap_end\n",
             Json("{\"0\":false,\"1\":true}"),
         ),
-        (
-            "map_begin -\nmap_end\n",
-            Json("{}"),
-        ),
+        ("map_begin -\nmap_end\n", Json("{}")),
         (
             "map_begin 2\nmap_key_begin\ntext_begin 1\ntext_fragment =61\ntext_end\nmap_key_end\n\
              map_value_begin\nmap_begin -\nmap_key_begin\ntext_begin 1\ntext_fragment =62\ntext_end\n\
@@ -62,10 +57,7 @@ fn maps(rt: HostRuntime) -> Result<(), Fail> {
             "map_begin -\nmap_key_begin\nnull\nmap_key_end\nmap_end\n",
             BadCall(5),
         ),
-        (
-            "map_begin -\nmap_value_begin\n",
-            BadCall(2),
-        ),
+        ("map_begin -\nmap_value_begin\n", BadCall(2)),
     ];
     try_rows(&rt, rt.alloc(), &rows)
 }
@@ -73,10 +65,7 @@ fn maps(rt: HostRuntime) -> Result<(), Fail> {
 #[test]
 fn records(rt: HostRuntime) -> Result<(), Fail> {
     let rows = [
-        (
-            "record_begin - =52 - -\nrecord_end - =52 -\n",
-            Json("{}"),
-        ),
+        ("record_begin - =52 - -\nrecord_end - =52 -\n", Json("{}")),
         (
             "record_begin - - - 3\nrecord_value_begin - =61\ni32 1\nrecord_value_end - =61\n\
              record_value_begin - =62:NUMBER\ntext_begin 1\ntext_fragment =63\ntext_end\n\
@@ -84,14 +73,8 @@ fn records(rt: HostRuntime) -> Result<(), Fail> {
              record_end - - -\n",
             Json("{\"a\":1,\"b\":\"c\",\"\\\"a\":null}"),
         ),
-        (
-            "record_begin - =52 - -\nrecord_end - =53 -\n",
-            BadCall(2),
-        ),
-        (
-            "record_begin - - - 1\nrecord_end - - -\n",
-            BadCall(2),
-        ),
+        ("record_begin - =52 - -\nrecord_end - =53 -\n", BadCall(2)),
+        ("record_begin - - - 1\nrecord_end - - -\n", BadCall(2)),
         (
             "record_begin - =61:VALUE_IDENT 1 -\nrecord_end - =61 1:VALUE_OFFSET\n",
             Json("{}"),
@@ -107,20 +90,14 @@ fn records(rt: HostRuntime) -> Result<(), Fail> {
 #[test]
 fn tuples(rt: HostRuntime) -> Result<(), Fail> {
     let rows = [
-        (
-            "tuple_begin - =54 - -\ntuple_end - =54 -\n",
-            Json("[]"),
-        ),
+        ("tuple_begin - =54 - -\ntuple_end - =54 -\n", Json("[]")),
         (
             "tuple_begin - - - 2\ntuple_value_begin - 0:VALUE_OFFSET\nnull\ntuple_value_end - 0\n\
              tuple_value_begin - 1:VALUE_OFFSET\ntuple_begin - =54 - -\ntuple_value_begin - 0:VALUE_OFFSET\n\
              u8 7\ntuple_value_end - 0\ntuple_end - =54 -\ntuple_value_end - 1\ntuple_end - - -\n",
             Json("[null,[7]]"),
         ),
-        (
-            "tuple_begin - - 1 -\ntuple_end - - 2\n",
-            BadCall(2),
-        ),
+        ("tuple_begin - - 1 -\ntuple_end - - 2\n", BadCall(2)),
         (
             "tuple_begin - - - -\ntuple_value_begin - 0\nnull\ntuple_value_end - 1\n",
             BadCall(4),
@@ -136,10 +113,7 @@ fn tuples(rt: HostRuntime) -> Result<(), Fail> {
 #[test]
 fn sequences(rt: HostRuntime) -> Result<(), Fail> {
     let rows = [
-        (
-            "seq_begin 0\nseq_end\n",
-            Json("[]"),
-        ),
+        ("seq_begin 0\nseq_end\n", Json("[]")),
         (
             "seq_begin -\nseq_value_begin\ni64 -7\nseq_value_end\nseq_end\n",
             Json("[-7]"),
@@ -182,31 +156,18 @@ fn binaries(rt: HostRuntime) -> Result<(), Fail> {
              binary_end\n",
             Json("[1,128,254]"),
         ),
-        (
-            "binary_begin 0\nbinary_end\n",
-            Json("[]"),
-        ),
-        (
-            "binary_begin 2\nbinary_fragment =00ff01\n",
-            BadCall(2),
-        ),
-        (
-            "binary_begin 2\ntext_fragment =00\n",
-            BadCall(2),
-        ),
-        (
-            "binary_begin 2\nbinary_fragment =0\n",
-            BadLine(2),
-        ),
+        ("binary_begin 0\nbinary_end\n", Json("[]")),
+        ("binary_begin 2\nbinary_fragment =00ff01\n", BadCall(2)),
+        ("binary_begin 2\ntext_fragment =00\n", BadCall(2)),
+        ("binary_begin 2\nbinary_fragment =0\n", BadLine(2)),
     ];
     try_rows(&rt, rt.alloc(), &rows)
 }
 
 #[test]
 fn a_log_event(rt: HostRuntime) -> Result<(), Fail> {
-    let rows = [
-        (
-            "record_tuple_begin - =4576656e74:VALUE_IDENT - 5\n\
+    let rows = [(
+        "record_tuple_begin - =4576656e74:VALUE_IDENT - 5\n\
              record_tuple_value_begin - =7473:VALUE_IDENT 0:VALUE_OFFSET\ntext_begin 20\n\
              text_fragment =323032342d30312d30325430333a30343a30355a\ntext_end\n\
              record_tuple_value_end - =7473:VALUE_IDENT 0:VALUE_OFFSET\n\
@@ -225,9 +186,10 @@ fn a_log_event(rt: HostRuntime) -> Result<(), Fail> {
              tag RUST_OPTION_NONE =4e6f6e65:VALUE_IDENT 0:VALUE_OFFSET\n\
              record_tuple_value_end - =657272:VALUE_IDENT 4:VALUE_OFFSET\n\
              record_tuple_end - =4576656e74:VALUE_IDENT -\n",
-            Json("{\"ts\":\"2024-01-02T03:04:05Z\",\"lvl\":\"Info\",\"msg\":\"user login\",\"user\":42,\"err\":null}"),
+        Json(
+            "{\"ts\":\"2024-01-02T03:04:05Z\",\"lvl\":\"Info\",\"msg\":\"user login\",\"user\":42,\"err\":null}",
         ),
-    ];
+    )];
     try_rows(&rt, rt.alloc(), &rows)
 }
 
@@ -242,14 +204,8 @@ fn hints_leave_no_trace(rt: HostRuntime) -> Result<(), Fail> {
             "tag_hint JSON_VALUE\nseq_begin -\ntag_hint RUST_UNIT\nseq_end\ntag_hint NUMBER\n",
             Json("[]"),
         ),
-        (
-            "tag_hint NUMBER\n",
-            Unfinished,
-        ),
-        (
-            "tag_hint -\n",
-            BadLine(1),
-        ),
+        ("tag_hint NUMBER\n", Unfinished),
+        ("tag_hint -\n", BadLine(1)),
     ];
     try_rows(&rt, rt.alloc(), &rows)
 }

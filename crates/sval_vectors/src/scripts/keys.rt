@@ -164,7 +164,10 @@ fn names_after_keys(rt: HostRuntime) -> Result<(), Fail> {
             "map_begin -\nmap_key_begin\nenum_begin - =45 -\nenum_end - =45 -\nmap_key_end\n\
              map_value_begin\nenum_begin - =45 -\nrecord_begin - =56 - 1\nrecord_value_begin - =61\ni32 1\n\
              record_value_end - =61\nrecord_end - =56 -\nenum_end - =45 -\nmap_value_end\nmap_end\n",
-            Styled("{\"E\":{\"V\":{\"a\":1}}}", "{\"E\":{\"variant\":\"V\",\"value\":{\"a\":1}}}"),
+            Styled(
+                "{\"E\":{\"V\":{\"a\":1}}}",
+                "{\"E\":{\"variant\":\"V\",\"value\":{\"a\":1}}}",
+            ),
         ),
         (
             "seq_begin -\nseq_value_begin\nmap_begin -\nmap_key_begin\ntext_begin 1\ntext_fragment =61\n\

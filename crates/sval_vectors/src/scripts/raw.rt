@@ -92,14 +92,8 @@ fn raw_texts_in_variants(rt: HostRuntime) -> Result<(), Fail> {
 #[test]
 fn raw_values_hold_one_text(rt: HostRuntime) -> Result<(), Fail> {
     let rows = [
-        (
-            "tagged_begin NUMBER - -\ni32 1\n",
-            BadCall(2),
-        ),
-        (
-            "tagged_begin JSON_VALUE - -\nseq_begin -\n",
-            BadCall(2),
-        ),
+        ("tagged_begin NUMBER - -\ni32 1\n", BadCall(2)),
+        ("tagged_begin JSON_VALUE - -\nseq_begin -\n", BadCall(2)),
         (
             "tagged_begin JSON_TEXT - -\ntagged_begin - - -\n",
             BadCall(2),

@@ -47,7 +47,7 @@ fn layout_of_lines(rt: HostRuntime) -> Result<(), Fail> {
         ("i64 1 1\n", BadLine(1)),
         ("i64\n", BadLine(1)),
         ("null 1\n", BadLine(1)),
-        ("u8 1\n", BadLine(1)),
+        ("u24 1\n", BadLine(1)),
         ("Null\n", BadLine(1)),
         ("nul\n", BadLine(1)),
         ("\0\n", BadLine(1)),
