@@ -1,10 +1,9 @@
 //! Calls, and what checking says of them.
 
-use crate::said::Said;
+use crate::said::{PlainCall as Call, Said};
 use std::alloc::Global;
 use std::test::Fail;
 use sval_check::{CheckError, check};
-use sval_core::Call;
 use sval_script::{Script, ScriptError};
 
 /// What is said of the calls of a script.

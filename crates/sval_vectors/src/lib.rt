@@ -18,4 +18,4 @@ mod sinks;
 #[cfg(test)]
 mod written;
 
-pub use said::Said;
+pub use said::{PlainCall, Said};

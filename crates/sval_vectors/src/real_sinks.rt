@@ -1,11 +1,10 @@
 //! Std's writers, and writers that work late or never.
 
-use crate::said::Said;
+use crate::said::{PlainCall as Call, Said};
 use std::alloc::Global;
 use std::io;
 use std::io::{Cursor, Write};
 use std::test::Fail;
-use sval_core::Call;
 use sval_json::{ErrorKind, RealSink, Sink, SinkError, stream_to_io_write};
 
 /// A writer whose first calls fail, or take nothing where no kind of error is given.

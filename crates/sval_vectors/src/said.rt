@@ -2,14 +2,75 @@
 
 ghost use Rattle.std.specs.Prelude.{◌≡◌, false, map};
 ghost use Rattle.sval_label.specs.Made.{lent_call};
+ghost use Rattle.sval_vectors.specs.PlainCalls.{plain_call};
 
 use sval_core::{Call, Lent, Stream, Value, refusal};
+
+/// A call that says no name.
+///
+/// A list of [`Call`]s holds tags, which are texts of the program, and a function that streams such a list gets no
+/// proof beside a bound that names a lifetime.
+#[derive(Clone, Copy, Debug)]
+pub enum PlainCall<'v> {
+    Null,
+    Bool(bool),
+    I64(i64),
+    TextBegin(Option<usize>),
+    TextFragment(&'v str),
+    TextFragmentComputed(&'v str),
+    TextEnd,
+    BinaryBegin(Option<usize>),
+    BinaryFragment(&'v [u8]),
+    BinaryFragmentComputed(&'v [u8]),
+    BinaryEnd,
+    SeqBegin(Option<usize>),
+    SeqValueBegin,
+    SeqValueEnd,
+    SeqEnd,
+    MapBegin(Option<usize>),
+    MapKeyBegin,
+    MapKeyEnd,
+    MapValueBegin,
+    MapValueEnd,
+    MapEnd,
+}
+
+impl<'v> PlainCall<'v> {
+    /// The call.
+    fn call(self) -> Call<'v, 'v>
+        ensures { lent_call result ≡ plain_call self.entry }
+    {
+        match self {
+            PlainCall::Null => Call::Null,
+            PlainCall::Bool(value) => Call::Bool(value),
+            PlainCall::I64(value) => Call::I64(value),
+            PlainCall::TextBegin(size) => Call::TextBegin(size),
+            PlainCall::TextFragment(text) => Call::TextFragment(text),
+            PlainCall::TextFragmentComputed(text) => Call::TextFragmentComputed(text),
+            PlainCall::TextEnd => Call::TextEnd,
+            PlainCall::BinaryBegin(size) => Call::BinaryBegin(size),
+            PlainCall::BinaryFragment(bytes) => Call::BinaryFragment(bytes),
+            PlainCall::BinaryFragmentComputed(bytes) => Call::BinaryFragmentComputed(bytes),
+            PlainCall::BinaryEnd => Call::BinaryEnd,
+            PlainCall::SeqBegin(size) => Call::SeqBegin(size),
+            PlainCall::SeqValueBegin => Call::SeqValueBegin,
+            PlainCall::SeqValueEnd => Call::SeqValueEnd,
+            PlainCall::SeqEnd => Call::SeqEnd,
+            PlainCall::MapBegin(size) => Call::MapBegin(size),
+            PlainCall::MapKeyBegin => Call::MapKeyBegin,
+            PlainCall::MapKeyEnd => Call::MapKeyEnd,
+            PlainCall::MapValueBegin => Call::MapValueBegin,
+            PlainCall::MapValueEnd => Call::MapValueEnd,
+            PlainCall::MapEnd => Call::MapEnd,
+        }
+    }
+}
 
 /// Makes these calls, and then refuses, if it is to.
 ///
 /// ```
 /// let unfinished = Said {
-///     calls: &[Call::SeqBegin(None)],
+///     calls: &[PlainCall::SeqBegin(None)],
 ///     refuses: false,
 /// };
 /// assert_eq!(rt; check(rt.alloc(), &unfinished), Err(CheckError::Unfinished));
@@ -17,14 +78,14 @@ use sval_core::{Call, Lent, Stream, Value, refusal};
 #[derive(Drop)]
 pub struct Said<'v> {
     /// The calls, in order.
-    pub calls: &'v [Call<'v, 'v>],
+    pub calls: &'v [PlainCall<'v>],
     /// Whether a refusal follows them.
     pub refuses: bool,
 }
 
 impl<'v> Said<'v> {
     /// A value that makes these calls, and doesn't refuse.
-    pub fn willing(calls: &'v [Call<'v, 'v>]) -> Said<'v>
+    pub fn willing(calls: &'v [PlainCall<'v>]) -> Said<'v>
         ensures calls { result.calls.now ≡ calls.now }
         ensures willing { result.refuses ≡ false }
     {
@@ -36,12 +97,12 @@ impl<'v> Said<'v> {
 }
 
 impl<'v> Value<'v, Lent<'v>> for Said<'v> {
-    ghost emission = { λ said. record { calls = map lent_call said.calls.now; refuses = said.refuses } };
+    ghost emission = { λ said. record { calls = map plain_call said.calls.now; refuses = said.refuses } };
 
     #[tactic(auto, using(crate::proofs::SaidCalls::of_said))]
     fn stream<S: Stream<Lent<'v>>>(&'v self, stream: &mut S) -> sval_core::Result {
         for call in self.calls {
-            stream.take(*call)?;
+            stream.take(call.call())?;
         }
         if self.refuses {
             return refusal();

@@ -2,10 +2,9 @@
 
 ghost use Rattle.std.specs.Prelude.{◌+◌, Some, None};
 
-use crate::said::Said;
+use crate::said::{PlainCall as Call, Said};
 use std::alloc::Global;
 use std::test::Fail;
-use sval_core::Call;
 use sval_json::{ErrorKind, Sink, SinkError, VecSink, stream_to_io_write, write_all};
 
 /// A sink in memory that counts its calls, and may take one byte a call, or stop at a call.
@@ -115,7 +114,7 @@ impl Sink for Narrow {
 }
 
 /// A text with escapes, a number and a truth value in a sequence.
-fn calls<'a>() -> [Call<'a, 'a>; 13] {
+fn calls<'a>() -> [Call<'a>; 13] {
     [
         Call::SeqBegin(None),
         Call::SeqValueBegin,

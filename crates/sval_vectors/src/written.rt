@@ -1,13 +1,12 @@
 //! Calls and the JSON that is written for them.
 
-use crate::said::Said;
+use crate::said::{PlainCall as Call, Said};
 use std::alloc::Global;
 use std::test::Fail;
-use sval_core::Call;
 use sval_json::{Error, ErrorKind, Variants, VecSink, stream_to_io_write, stream_to_io_write_with};
 
 /// A sink that took the JSON of these calls.
-fn written<'v>(alloc: Global, calls: &'v [Call<'v, 'v>]) -> Result<VecSink, Error> {
+fn written<'v>(alloc: Global, calls: &'v [Call<'v>]) -> Result<VecSink, Error> {
     let mut sink = VecSink::new(alloc);
     stream_to_io_write(&mut sink, &Said::willing(calls))?;
     Ok(sink)
@@ -15,7 +14,7 @@ fn written<'v>(alloc: Global, calls: &'v [Call<'v, 'v>]) -> Result<VecSink, Erro
 
 #[test]
 fn writes_simple_values(rt: HostRuntime) -> Result<(), Fail> {
-    let table: [(Call<'static, 'static>, &'static str); 7] = [
+    let table: [(Call<'static>, &'static str); 7] = [
         (Call::Null, "null"),
         (Call::Bool(true), "true"),
         (Call::Bool(false), "false"),
