@@ -1,10 +1,10 @@
--- The total of the numbers among a value's calls.
+-- The total of the `i64` numbers among a value's calls.
 use Rattle.std.specs.Prelude.{ℤ, pos, ◌+ℤ◌, Option, Some, None, fold, ⊤, if◌then◌else◌}
 use Rattle.std.specs.Int.{saturate_signed, w64}
 use Rattle.sval_label.specs.Calls.{Call, Int, I64}
 use Rattle.sval_core.specs.Law.{Law, Standing, Emission}
 
--- a number is added, and other calls change nothing
+-- a number of this type is added, and other calls change nothing
 abbrev pub added : ℤ → Call → ℤ
 added total (Int I64 n) = saturate_signed w64 (total +ℤ n)
 added total _ = total

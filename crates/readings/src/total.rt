@@ -1,4 +1,4 @@
-//! The total of a value's numbers.
+//! The total of a value's `i64` numbers.
 
 ghost use Rattle.std.specs.Prelude.{◌≡◌, ℤ};
 ghost use Rattle.sval_label.specs.Made.{call_of};
@@ -7,7 +7,7 @@ ghost use Rattle.readings.specs.Totals.{total_law, total_standing, total_of};
 
 use sval_core::{AnyCall, GroupedCall, Int, Lending, Lent, Result, Stream, Value};
 
-/// Adds up the numbers of a value, whatever else it says, and stops at the ends of `i64`.
+/// Adds up the `i64` numbers of a value, whatever else it says, and stops at the ends of that type.
 #[derive(Drop)]
 struct Total {
     total: i64,
@@ -40,7 +40,7 @@ impl<L: Lending> Stream<L> for Total {
     }
 }
 
-/// The total of a value's numbers, if it doesn't refuse.
+/// The total of a value's `i64` numbers, if it doesn't refuse.
 pub fn total_of<'v, V: Value<'v, Lent<'v>>>(value: &'v V) -> Option<i64>
     ensures { result ≡ total_of (V.emission value.now) }
 {

@@ -184,7 +184,8 @@ impl Model for NamedCalls {
 /// What keeps the calls with names of a captured value.
 ///
 /// It stands for a list of calls. A [`ValueBuf`](crate::ValueBuf) has [`NamedCalls`] for it, by a parameter, since a
-/// function that names a lifetime in a bound beside a text of the program gets no proof.
+/// function that names a lifetime in a bound beside a text of the program gets no proof. Nobody else can implement it,
+/// since what it takes can't be named outside of this crate.
 pub trait CallStore: Sized + Drop {
     /// The calls, in order.
     ghost calls: { Self → List Call };

@@ -20,7 +20,8 @@ use sval_label::{AnyCall, Index, Label, Lending, Lent, Name, Result, Tag};
 ///
 /// # A stream of your own
 ///
-/// It gives its law, and where it stands: one that adds up numbers accepts all calls, and has no count that rises.
+/// It gives its law, and where it stands: one that adds up the `i64` numbers accepts all calls, and has no count that
+/// rises.
 ///
 /// ```antt
 /// -- a number is added, and other calls change nothing

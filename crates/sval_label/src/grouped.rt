@@ -123,6 +123,7 @@ pub enum GroupedCall<'c, T, B> {
 
 impl<'c, T, B> AnyCall<'c, T, B> {
     /// This call among those that do the same.
+    #[inline(always)]
     pub fn grouped(self) -> GroupedCall<'c, T, B>
         ensures { (text : T → List ℕ) (bytes : B → List ℕ)
             → grouped_call text bytes result ≡ call_of text bytes self.entry }
@@ -199,6 +200,7 @@ impl<'c, T, B> AnyCall<'c, T, B> {
 
 impl<'c, T, B> GroupedCall<'c, T, B> {
     /// The call that this is: [`AnyCall::grouped`] the other way.
+    #[inline(always)]
     pub fn call(self) -> AnyCall<'c, T, B>
         ensures { (text : T → List ℕ) (bytes : B → List ℕ)
             → call_of text bytes result ≡ grouped_call text bytes self.entry }

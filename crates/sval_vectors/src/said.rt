@@ -12,26 +12,47 @@ use sval_core::{Call, Lent, Stream, Value, refusal};
 /// proof beside a bound that names a lifetime.
 #[derive(Clone, Copy, Debug)]
 pub enum PlainCall<'v> {
+    /// No value.
     Null,
+    /// A truth value.
     Bool(bool),
+    /// A whole number.
     I64(i64),
+    /// A text begins, of this many bytes where a size is given.
     TextBegin(Option<usize>),
+    /// A part of a text that a stream may keep.
     TextFragment(&'v str),
+    /// A part of a text that lives for the call alone.
     TextFragmentComputed(&'v str),
+    /// A text ends.
     TextEnd,
+    /// A binary begins, of this many bytes where a size is given.
     BinaryBegin(Option<usize>),
+    /// A part of a binary that a stream may keep.
     BinaryFragment(&'v [u8]),
+    /// A part of a binary that lives for the call alone.
     BinaryFragmentComputed(&'v [u8]),
+    /// A binary ends.
     BinaryEnd,
+    /// A sequence begins, of this many items where a size is given.
     SeqBegin(Option<usize>),
+    /// An item of a sequence begins.
     SeqValueBegin,
+    /// An item of a sequence ends.
     SeqValueEnd,
+    /// A sequence ends.
     SeqEnd,
+    /// A map begins, of this many entries where a size is given.
     MapBegin(Option<usize>),
+    /// A key of a map begins.
     MapKeyBegin,
+    /// A key of a map ends.
     MapKeyEnd,
+    /// A value of a map begins.
     MapValueBegin,
+    /// A value of a map ends.
     MapValueEnd,
+    /// A map ends.
     MapEnd,
 }
 
