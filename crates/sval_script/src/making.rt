@@ -8,7 +8,7 @@ ghost use Rattle.sval_label.specs.SeenName.{seen_name};
 ghost use Rattle.sval_label.specs.Grouped.{seen_slot};
 ghost use Rattle.sval_label.specs.Calls as call;
 ghost use Rattle.sval_core.specs.Law.{Answers};
-ghost use Rattle.sval_script.specs.Tags.{tag_of};
+ghost use Rattle.sval_script.specs.Tags.{tag_of, tag_text};
 ghost use Rattle.sval_script.specs.FieldValues.{index_of, made_label, index_from, label_from};
 ghost use Rattle.sval_script.specs.NextFields.{name_from};
 ghost use Rattle.sval_script.specs.Words.{alone_call, opening_call, named_call, head_of, part_call};
@@ -155,6 +155,32 @@ impl IndexField {
     }
 }
 
+/// Makes the call of this word.
+fn make_alone<L: Lending, S: Stream<L>>(word: Alone, stream: &mut S) -> Result
+    ensures { Answers S.law result (S.standing stream.old) (alone_call word) (S.standing stream.new) }
+{
+    stream.take(word.call())
+}
+
+/// Makes the begin with this size.
+fn make_opening<L: Lending, S: Stream<L>>(
+    opening: Opening,
+    size: Option<usize>,
+    stream: &mut S,
+) -> Result
+    ensures { Answers S.law result (S.standing stream.old) (opening_call opening size) (S.standing stream.new) }
+{
+    stream.take(opening.call(size))
+}
+
+/// Makes the hint of this tag.
+fn make_tag_hint<L: Lending, S: Stream<L>>(tag: TagField, stream: &mut S) -> Result
+    ensures { Answers S.law result (S.standing stream.old)
+        (call.TagHint (tag_text tag)) (S.standing stream.new) }
+{
+    stream.tag_hint(&Tag::new(tag.text()))
+}
+
 /// Makes the call with this name.
 fn make_named<L: Lending, S: Stream<L>>(
     word: Named,
@@ -281,7 +307,7 @@ impl Line {
             (call_with bytes.now numbers.now self) (S.standing stream.new) }
     {
         match self {
-            Line::Alone(word) => stream.take(word.call()),
+            Line::Alone(word) => make_alone(word, stream),
             Line::Bool(value) => stream.bool(value),
             Line::U8(number) => stream.u8(number),
             Line::U16(number) => stream.u16(number),
@@ -293,13 +319,13 @@ impl Line {
             Line::I32(number) => stream.i32(number),
             Line::I64(number) => stream.i64(number),
             Line::I128 => stream.i128(wide(numbers).cast_signed()),
-            Line::Opening(opening) => stream.take(opening.call(None)),
-            Line::SizedOpening(opening, size) => stream.take(opening.call(Some(size))),
+            Line::Opening(opening) => make_opening(opening, None, stream),
+            Line::SizedOpening(opening, size) => make_opening(opening, Some(size), stream),
             Line::TextFragment(Lifetime::Borrowed, _) => stream.text_fragment(text(bytes)),
             Line::TextFragment(Lifetime::Computed, _) => stream.text_fragment_computed(text(bytes)),
             Line::BinaryFragment(Lifetime::Borrowed, _) => stream.binary_fragment(bytes),
             Line::BinaryFragment(Lifetime::Computed, _) => stream.binary_fragment_computed(bytes),
-            Line::TagHint(tag) => stream.tag_hint(&Tag::new(tag.text())),
+            Line::TagHint(tag) => make_tag_hint(tag, stream),
             Line::Named(word, parts, _) => make_named(word, parts, text(bytes), numbers[0], stream),
             Line::NamedOpening(word, parts, _) => {
                 make_named_opening(word, parts, text(bytes), numbers[0], None, stream)
