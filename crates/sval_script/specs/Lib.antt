@@ -10,3 +10,4 @@ pub mod NextFields
 pub mod LineCalls
 pub mod MadeLines
 pub mod Readings
+pub mod Runs

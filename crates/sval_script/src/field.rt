@@ -10,8 +10,8 @@ ghost use Rattle.sval_script.specs.FieldValues.{parts_of, part_and_tag, index_nu
 ghost use Rattle.sval_script.specs.declared.field.LineError.TheVariants.{NoMemory};
 
 use crate::number::{integer, natural};
+use crate::short::colon;
 use crate::tag::TagField;
-use memchr::memchr;
 use std::alloc::AllocError;
 
 /// Why a line wasn't read.
@@ -100,7 +100,7 @@ pub(crate) fn size(field: &[u8]) -> Option<Option<usize>>
 fn split_tag(field: &[u8]) -> Option<(&[u8], TagField)>
     ensures { option_map part_and_tag result ≡ parts_of (script.cut_at 58 field.now) }
 {
-    match memchr(b':', field) {
+    match colon(field) {
         None => Some((field, TagField::Absent)),
         Some(end) => match TagField::read(&field[end + 1..]) {
             None => None,

@@ -17,9 +17,9 @@ use crate::field::{
     store_bytes, store_label, store_label_or_dash, store_text, truth,
 };
 use crate::number::number;
+use crate::short::field_end;
 use crate::tag::TagField;
 use crate::word::{NumberType, Word};
-use memchr::memchr2;
 use std::marker::Model;
 use sval_label::Int;
 
@@ -76,7 +76,7 @@ impl<'a> Fields<'a> {
         if self.is_over {
             return None;
         }
-        let Some(end) = memchr2(b' ', b'\n', self.rest) else {
+        let Some(end) = field_end(self.rest) else {
             return None;
         };
         let field = &self.rest[..end];

@@ -11,6 +11,7 @@ mod line;
 mod making;
 mod number;
 mod script;
+mod short;
 mod store;
 mod tag;
 mod word;

@@ -1,0 +1,70 @@
+//! Short runs of bytes.
+
+ghost use Rattle.std.specs.Prelude.{◌≡◌, ◌≤◌, length};
+ghost use Rattle.std.specs.Int.{bit_at};
+ghost use Rattle.memchr.specs.Find.{IsFirst, IsFirstByte, is_byte, is_byte2};
+ghost use Rattle.sval_script.specs.Runs.{MarksFirst};
+
+use memchr::{memchr, memchr2};
+use std::simd::prelude::*;
+
+/// The first space or line feed, which is mostly near.
+pub(crate) fn field_end(bytes: &[u8]) -> Option<usize>
+    ensures { IsFirstByte (is_byte2 32 10) bytes.now result }
+{
+    if bytes.len() < 32 {
+        return memchr2(b' ', b'\n', bytes);
+    }
+    if let Some(end) = lowest(near_ends(bytes)) {
+        return Some(end);
+    }
+    let end = memchr2(b' ', b'\n', &bytes[32..])?;
+    Some(32 + end)
+}
+
+/// The first `:`.
+pub(crate) fn colon(bytes: &[u8]) -> Option<usize>
+    ensures { IsFirstByte (is_byte 58) bytes.now result }
+{
+    if bytes.len() < 16 {
+        return memchr(b':', bytes);
+    }
+    if let Some(place) = lowest(near_colons(bytes)) {
+        return Some(place);
+    }
+    let place = memchr(b':', &bytes[16..])?;
+    Some(16 + place)
+}
+
+/// Which of the first 32 bytes are spaces or line feeds.
+#[inline(always)]
+fn near_ends(bytes: &[u8]) -> u64
+    requires { 32 ≤ length bytes.now }
+    ensures { MarksFirst (is_byte2 32 10) bytes.now 32 result }
+{
+    let near = u8x32::from_slice(bytes);
+    (near.simd_eq(u8x32::splat(b' ')) | near.simd_eq(u8x32::splat(b'\n'))).to_bitmask()
+}
+
+/// Which of the first 16 bytes are colons.
+#[inline(always)]
+fn near_colons(bytes: &[u8]) -> u64
+    requires { 16 ≤ length bytes.now }
+    ensures { MarksFirst (is_byte 58) bytes.now 16 result }
+{
+    u8x16::from_slice(bytes)
+        .simd_eq(u8x16::splat(b':'))
+        .to_bitmask()
+}
+
+/// The lowest bit that is set.
+#[inline(always)]
+fn lowest(mask: u64) -> Option<usize>
+    ensures { IsFirst (λ k. bit_at mask k ≡ 1) 0 64 result }
+{
+    if mask == 0 {
+        None
+    } else {
+        Some(mask.trailing_zeros() as usize)
+    }
+}
