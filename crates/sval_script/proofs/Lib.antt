@@ -11,6 +11,7 @@ pub mod FieldParts
 pub mod FieldsRead
 pub mod LinesMade
 pub mod NearPlaces
+pub mod SameRuns
 pub mod Decimals
 pub mod FieldTexts
 pub mod ScriptLines

@@ -1,9 +1,9 @@
 //! Short runs of bytes.
 
-ghost use Rattle.std.specs.Prelude.{◌≡◌, ◌≤◌, length};
+ghost use Rattle.std.specs.Prelude.{◌≡◌, ◌↔◌, ◌+◌, ◌≤◌, length, IsTrue, bytes_eq};
 ghost use Rattle.std.specs.Int.{bit_at};
 ghost use Rattle.memchr.specs.Find.{IsFirst, IsFirstByte, is_byte, is_byte2};
-ghost use Rattle.sval_script.specs.Runs.{MarksFirst};
+ghost use Rattle.sval_script.specs.Runs.{MarksFirst, SameFrom};
 
 use memchr::{memchr, memchr2};
 use std::simd::prelude::*;
@@ -67,4 +67,55 @@ fn lowest(mask: u64) -> Option<usize>
     } else {
         Some(mask.trailing_zeros() as usize)
     }
+}
+
+/// Whether two runs are the same.
+pub(crate) fn same(a: &[u8], b: &[u8]) -> bool
+    ensures { result ≡ bytes_eq a.now b.now }
+{
+    if a.len() != b.len() {
+        return false;
+    }
+    match a.len() {
+        0..=7 => same_by_one(a, b),
+        8..=15 => same_eight(a, b, 0) && same_eight(a, b, a.len() - 8),
+        16..=32 => same_sixteen(a, b, 0) && same_sixteen(a, b, a.len() - 16),
+        _ => a == b,
+    }
+}
+
+/// Whether two runs of one length are the same.
+#[inline(always)]
+fn same_by_one(a: &[u8], b: &[u8]) -> bool
+    requires { length a.now ≡ length b.now }
+    ensures { IsTrue result ↔ SameFrom 0 (length a.now) a.now b.now }
+{
+    for i in 0..a.len() {
+        if a[i] != b[i] {
+            return false;
+        }
+    }
+    true
+}
+
+/// Whether two runs have the same eight bytes from a place on.
+#[inline(always)]
+fn same_eight(a: &[u8], b: &[u8], from: usize) -> bool
+    requires in_a { from + 8 ≤ length a.now }
+    requires in_b { from + 8 ≤ length b.now }
+    ensures { IsTrue result ↔ SameFrom from 8 a.now b.now }
+{
+    let eight = u8x8::from_slice(&a[from..]);
+    eight.simd_ne(u8x8::from_slice(&b[from..])).to_bitmask() == 0
+}
+
+/// Whether two runs have the same sixteen bytes from a place on.
+#[inline(always)]
+fn same_sixteen(a: &[u8], b: &[u8], from: usize) -> bool
+    requires in_a { from + 16 ≤ length a.now }
+    requires in_b { from + 16 ≤ length b.now }
+    ensures { IsTrue result ↔ SameFrom from 16 a.now b.now }
+{
+    let sixteen = u8x16::from_slice(&a[from..]);
+    sixteen.simd_ne(u8x16::from_slice(&b[from..])).to_bitmask() == 0
 }

@@ -5,6 +5,7 @@ ghost use Rattle.sval_label.specs.SeenTags.{seen_tag};
 ghost use Rattle.sval_script.specs.Lines as script;
 ghost use Rattle.sval_script.specs.Tags.{tag_of, tag_text, tag_table, texts_and_tags, tag_place, tag_text_at};
 
+use crate::short::same;
 use sval_label::Tag;
 
 /// What a field says of a tag: none, or one of the ten names.
@@ -80,7 +81,7 @@ impl TagField {
             return None;
         }
         let (text, tag) = row(place(field));
-        if text == field { Some(tag) } else { None }
+        if same(text, field) { Some(tag) } else { None }
     }
 
     /// The tag with this text, or none for `-`.

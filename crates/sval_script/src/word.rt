@@ -4,6 +4,8 @@ ghost use Rattle.std.specs.Prelude.{◌≡◌, ◌<◌, length, option_map};
 ghost use Rattle.sval_script.specs.Lines.{forms, find_form};
 ghost use Rattle.sval_script.specs.Words.{form_of_word, word_table, texts_and_words, place_of, word_text_at};
 
+use crate::short::same;
+
 /// What a line begins with. The variants are the forms of lines: the fields that follow.
 #[derive(Clone, Copy, Debug)]
 pub(crate) enum Word {
@@ -220,6 +222,6 @@ impl Word {
             return None;
         }
         let (name, word) = row(place(text));
-        if name == text { Some(word) } else { None }
+        if same(name, text) { Some(word) } else { None }
     }
 }
