@@ -132,6 +132,46 @@ impl Checker {
         self.frames.push(call).map_err(|_| Why::NoMemory)
     }
 
+    /// Takes the begin of a text.
+    fn begin_text(&mut self, size: Option<usize>) -> Result<(), Why>
+        ensures { StepsBy true (begin (seen_form Form.Text) (begun_frame (Begin.Text size)) self.old.state)
+            self.old self.new result }
+    {
+        self.begin(Form::Text, Begin::Text(size))
+    }
+
+    /// Takes the begin of a binary.
+    fn begin_binary(&mut self, size: Option<usize>) -> Result<(), Why>
+        ensures { StepsBy true (begin (seen_form Form.Other) (begun_frame (Begin.Binary size)) self.old.state)
+            self.old self.new result }
+    {
+        self.begin(Form::Other, Begin::Binary(size))
+    }
+
+    /// Takes the begin of an enum.
+    fn begin_enum(&mut self, name: Name<'_>) -> Result<(), Why>
+        ensures { StepsBy true (begin (seen_form Form.Variant) (begun_frame (Begin.Enum name.entry)) self.old.state)
+            self.old self.new result }
+    {
+        self.begin(Form::Variant, Begin::Enum(name))
+    }
+
+    /// Takes the begin of a value with a name of its own.
+    fn begin_tagged(&mut self, name: Name<'_>) -> Result<(), Why>
+        ensures { StepsBy true (begin (seen_form Form.Variant) (begun_frame (Begin.Tagged name.entry)) self.old.state)
+            self.old self.new result }
+    {
+        self.begin(Form::Variant, Begin::Tagged(name))
+    }
+
+    /// Takes the begin of a container.
+    fn begin_container(&mut self, head: Head<'_>, size: Option<usize>) -> Result<(), Why>
+        ensures { let frame = begun_frame (Begin.Container head.entry size) in
+            StepsBy true (begin (form_of_head (seen_head head.entry)) frame self.old.state) self.old self.new result }
+    {
+        self.begin(form_of(head), Begin::Container(head, size))
+    }
+
     /// Takes so many bytes of a text or binary.
     fn fragment(&mut self, content: Content, size: usize) -> Result<(), Why>
         ensures { StepsBy false (at_top (content_fragment content size) self.old.state) self.old self.new result }
@@ -231,23 +271,21 @@ impl Checker {
             }
             GroupedCall::Tag(_) => self.value(Form::Variant),
             GroupedCall::TagHint(_) => Ok(()),
-            GroupedCall::TextBegin(size) => self.begin(Form::Text, Begin::Text(size)),
+            GroupedCall::TextBegin(size) => self.begin_text(size),
             GroupedCall::TextFragment(Fragment::Borrowed(text) | Fragment::Computed(text)) => {
                 self.fragment(Content::Text, text.len())
             }
             GroupedCall::TextEnd => self.content_end(Content::Text),
-            GroupedCall::BinaryBegin(size) => self.begin(Form::Other, Begin::Binary(size)),
+            GroupedCall::BinaryBegin(size) => self.begin_binary(size),
             GroupedCall::BinaryFragment(Fragment::Borrowed(bytes) | Fragment::Computed(bytes)) => {
                 self.fragment(Content::Binary, bytes.len())
             }
             GroupedCall::BinaryEnd => self.content_end(Content::Binary),
-            GroupedCall::EnumBegin(name) => self.begin(Form::Variant, Begin::Enum(name)),
+            GroupedCall::EnumBegin(name) => self.begin_enum(name),
             GroupedCall::EnumEnd(name) => self.enum_end(name),
-            GroupedCall::TaggedBegin(name) => self.begin(Form::Variant, Begin::Tagged(name)),
+            GroupedCall::TaggedBegin(name) => self.begin_tagged(name),
             GroupedCall::TaggedEnd(name) => self.tagged_end(name),
-            GroupedCall::Begin(head, size) => {
-                self.begin(form_of(head), Begin::Container(head, size))
-            }
+            GroupedCall::Begin(head, size) => self.begin_container(head, size),
             GroupedCall::End(head) => self.end(head),
             GroupedCall::PartBegin(slot) => self.part_begin(slot),
             GroupedCall::PartEnd(slot) => self.part_end(slot),
