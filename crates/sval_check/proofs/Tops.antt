@@ -9,6 +9,7 @@ use Rattle.sval_core.specs.CheckerSteps.{take_off, is_used_up}
 use Rattle.sval_core.specs.Stacks.{top_of}
 use Rattle.sval_check.specs.declared.frame.Frame.{Frame}
 use Rattle.sval_check.specs.declared.frame.Frame.TheVariants as frame
+use Rattle.sval_check.specs.declared.kept.NamedValue.TheVariants as value
 use Rattle.sval_check.specs.declared.kept.Named.{Named}
 use Rattle.sval_check.specs.declared.kept.Named.TheVariants as named
 use Rattle.sval_check.specs.Kept.{named_frame}
@@ -30,11 +31,11 @@ top_is {now} {items} {left} ns texts same e = top_named (reverse items) ns texts
 
 slot_at : (texts : List ℕ) (left : Option ℕ) (ns : List Named) (slot : Slot) → is_slot (frame_at texts None ns) slot ≡ is_slot (frame_at texts left ns) slot
 slot_at texts left [] slot = refl
-slot_at texts left (named.Tagged name ∷ ns) slot = refl
-slot_at texts left (named.Enum name ∷ ns) slot = refl
-slot_at texts left (named.Record name ∷ ns) slot = refl
-slot_at texts left (named.Tuple name ∷ ns) slot = refl
-slot_at texts left (named.RecordTuple name ∷ ns) slot = refl
+slot_at texts left (named.Value value.Tagged name ∷ ns) slot = refl
+slot_at texts left (named.Value value.Enum name ∷ ns) slot = refl
+slot_at texts left (named.Value value.Record name ∷ ns) slot = refl
+slot_at texts left (named.Value value.Tuple name ∷ ns) slot = refl
+slot_at texts left (named.Value value.RecordTuple name ∷ ns) slot = refl
 slot_at texts left (named.Field tag label ∷ ns) slot = refl
 slot_at texts left (named.Place tag index ∷ ns) slot = refl
 slot_at texts left (named.FieldPlace tag label index ∷ ns) slot = refl
@@ -45,11 +46,11 @@ slot_is {now} {items} {left} ns texts slot same e = slot_at texts left ns slot �
 
 head_at : (texts : List ℕ) (left : Option ℕ) (ns : List Named) (head : Head) → (is_head (frame_at texts None ns) head && is_used_up left) ≡ ends (frame_at texts left ns) head
 head_at texts left [] head = refl
-head_at texts left (named.Tagged name ∷ ns) head = refl
-head_at texts left (named.Enum name ∷ ns) head = refl
-head_at texts left (named.Record name ∷ ns) head = refl
-head_at texts left (named.Tuple name ∷ ns) head = refl
-head_at texts left (named.RecordTuple name ∷ ns) head = refl
+head_at texts left (named.Value value.Tagged name ∷ ns) head = refl
+head_at texts left (named.Value value.Enum name ∷ ns) head = refl
+head_at texts left (named.Value value.Record name ∷ ns) head = refl
+head_at texts left (named.Value value.Tuple name ∷ ns) head = refl
+head_at texts left (named.Value value.RecordTuple name ∷ ns) head = refl
 head_at texts left (named.Field tag label ∷ ns) head = refl
 head_at texts left (named.Place tag index ∷ ns) head = refl
 head_at texts left (named.FieldPlace tag label index ∷ ns) head = refl
@@ -61,26 +62,26 @@ head_is {now} {items} {left} ns texts head same e = head_at texts left ns head �
 -- the parts of a container with a name are entries of it
 one_entry : (slot : Slot) (texts : List ℕ) (left : Option ℕ) (ns : List Named) → (if has_parts (frame_at texts None ns) slot then take_off left 1 else None) ≡ part_rest slot (frame_at texts left ns)
 one_entry slot texts left [] = refl
-one_entry slot texts left (named.Tagged name ∷ ns) = refl
-one_entry slot texts left (named.Enum name ∷ ns) = refl
-one_entry Slot.Item texts left (named.Record name ∷ ns) = refl
-one_entry Slot.Key texts left (named.Record name ∷ ns) = refl
-one_entry Slot.Value texts left (named.Record name ∷ ns) = refl
-one_entry (Slot.Field t l) texts left (named.Record name ∷ ns) = refl
-one_entry (Slot.Place t i) texts left (named.Record name ∷ ns) = refl
-one_entry (Slot.FieldPlace t l i) texts left (named.Record name ∷ ns) = refl
-one_entry Slot.Item texts left (named.Tuple name ∷ ns) = refl
-one_entry Slot.Key texts left (named.Tuple name ∷ ns) = refl
-one_entry Slot.Value texts left (named.Tuple name ∷ ns) = refl
-one_entry (Slot.Field t l) texts left (named.Tuple name ∷ ns) = refl
-one_entry (Slot.Place t i) texts left (named.Tuple name ∷ ns) = refl
-one_entry (Slot.FieldPlace t l i) texts left (named.Tuple name ∷ ns) = refl
-one_entry Slot.Item texts left (named.RecordTuple name ∷ ns) = refl
-one_entry Slot.Key texts left (named.RecordTuple name ∷ ns) = refl
-one_entry Slot.Value texts left (named.RecordTuple name ∷ ns) = refl
-one_entry (Slot.Field t l) texts left (named.RecordTuple name ∷ ns) = refl
-one_entry (Slot.Place t i) texts left (named.RecordTuple name ∷ ns) = refl
-one_entry (Slot.FieldPlace t l i) texts left (named.RecordTuple name ∷ ns) = refl
+one_entry slot texts left (named.Value value.Tagged name ∷ ns) = refl
+one_entry slot texts left (named.Value value.Enum name ∷ ns) = refl
+one_entry Slot.Item texts left (named.Value value.Record name ∷ ns) = refl
+one_entry Slot.Key texts left (named.Value value.Record name ∷ ns) = refl
+one_entry Slot.Value texts left (named.Value value.Record name ∷ ns) = refl
+one_entry (Slot.Field t l) texts left (named.Value value.Record name ∷ ns) = refl
+one_entry (Slot.Place t i) texts left (named.Value value.Record name ∷ ns) = refl
+one_entry (Slot.FieldPlace t l i) texts left (named.Value value.Record name ∷ ns) = refl
+one_entry Slot.Item texts left (named.Value value.Tuple name ∷ ns) = refl
+one_entry Slot.Key texts left (named.Value value.Tuple name ∷ ns) = refl
+one_entry Slot.Value texts left (named.Value value.Tuple name ∷ ns) = refl
+one_entry (Slot.Field t l) texts left (named.Value value.Tuple name ∷ ns) = refl
+one_entry (Slot.Place t i) texts left (named.Value value.Tuple name ∷ ns) = refl
+one_entry (Slot.FieldPlace t l i) texts left (named.Value value.Tuple name ∷ ns) = refl
+one_entry Slot.Item texts left (named.Value value.RecordTuple name ∷ ns) = refl
+one_entry Slot.Key texts left (named.Value value.RecordTuple name ∷ ns) = refl
+one_entry Slot.Value texts left (named.Value value.RecordTuple name ∷ ns) = refl
+one_entry (Slot.Field t l) texts left (named.Value value.RecordTuple name ∷ ns) = refl
+one_entry (Slot.Place t i) texts left (named.Value value.RecordTuple name ∷ ns) = refl
+one_entry (Slot.FieldPlace t l i) texts left (named.Value value.RecordTuple name ∷ ns) = refl
 one_entry slot texts left (named.Field tag label ∷ ns) = refl
 one_entry slot texts left (named.Place tag index ∷ ns) = refl
 one_entry slot texts left (named.FieldPlace tag label index ∷ ns) = refl

@@ -7,6 +7,8 @@ use Rattle.sval_core.specs.Trees as kind
 use Rattle.sval_core.specs.Checker.{Frame, InTagged, InEnum, InContainer, InPart}
 use Rattle.sval_check.specs.declared.kept.KeptLabel.{KeptLabel}
 use Rattle.sval_check.specs.declared.kept.KeptName.{KeptName}
+use Rattle.sval_check.specs.declared.kept.NamedValue.{NamedValue}
+use Rattle.sval_check.specs.declared.kept.NamedValue.TheVariants as value
 use Rattle.sval_check.specs.declared.kept.Named.{Named}
 use Rattle.sval_check.specs.declared.kept.Named.TheVariants as named
 
@@ -17,13 +19,17 @@ kept_label texts label = record { text = drop (length texts - label.size) texts;
 abbrev pub kept_name : List ℕ → KeptName → Name
 kept_name texts name = record { tag = option_map seen_tag name.tag; label = option_map (kept_label texts) name.label; index = option_map seen_index name.index }
 
--- what a begin with a name opens; of a container so much is still to come
+-- what the begin of a value with this name opens; of a container so much is still to come
+abbrev pub value_frame : NamedValue → Name → Option ℕ → Frame
+value_frame value.Tagged name left = InTagged name
+value_frame value.Enum name left = InEnum name
+value_frame value.Record name left = InContainer (Record name) kind.Field left
+value_frame value.Tuple name left = InContainer (Tuple name) kind.Place left
+value_frame value.RecordTuple name left = InContainer (RecordTuple name) kind.FieldPlace left
+
+-- what a begin with a name opens
 abbrev pub named_frame : List ℕ → Named → Option ℕ → Frame
-named_frame texts (named.Tagged name) left = InTagged (kept_name texts name)
-named_frame texts (named.Enum name) left = InEnum (kept_name texts name)
-named_frame texts (named.Record name) left = InContainer (Record (kept_name texts name)) kind.Field left
-named_frame texts (named.Tuple name) left = InContainer (Tuple (kept_name texts name)) kind.Place left
-named_frame texts (named.RecordTuple name) left = InContainer (RecordTuple (kept_name texts name)) kind.FieldPlace left
+named_frame texts (named.Value begun name) left = value_frame begun (kept_name texts name) left
 named_frame texts (named.Field tag label) left = InPart (Field (option_map seen_tag tag) (kept_label texts label))
 named_frame texts (named.Place tag index) left = InPart (Place (option_map seen_tag tag) (seen_index index))
 named_frame texts (named.FieldPlace tag label index) left = InPart (FieldPlace (option_map seen_tag tag) (kept_label texts label) (seen_index index))
@@ -37,11 +43,7 @@ abbrev pub name_size : KeptName → ℕ
 name_size name = size_of name.label
 
 abbrev pub named_size : Named → ℕ
-named_size (named.Tagged name) = name_size name
-named_size (named.Enum name) = name_size name
-named_size (named.Record name) = name_size name
-named_size (named.Tuple name) = name_size name
-named_size (named.RecordTuple name) = name_size name
+named_size (named.Value begun name) = name_size name
 named_size (named.Field tag label) = label.size
 named_size (named.Place tag index) = 0
 named_size (named.FieldPlace tag label index) = label.size

@@ -31,19 +31,26 @@ pub(crate) struct KeptName {
     pub(crate) index: Option<Index>,
 }
 
+/// A value whose begin says a name.
+#[derive(Clone, Copy)]
+pub(crate) enum NamedValue {
+    /// A value with a name of its own.
+    Tagged,
+    /// An enum.
+    Enum,
+    /// A record.
+    Record,
+    /// A tuple.
+    Tuple,
+    /// A record that is a tuple too.
+    RecordTuple,
+}
+
 /// A begin that says a name.
 #[derive(Clone, Copy)]
 pub(crate) enum Named {
-    /// Of a value with a name of its own.
-    Tagged(KeptName),
-    /// Of an enum.
-    Enum(KeptName),
-    /// Of a record.
-    Record(KeptName),
-    /// Of a tuple.
-    Tuple(KeptName),
-    /// Of a record that is a tuple too.
-    RecordTuple(KeptName),
+    /// Of a value.
+    Value(NamedValue, KeptName),
     /// Of a field of a record.
     Field(Option<Tag>, KeptLabel),
     /// Of a field of a tuple.
@@ -96,11 +103,7 @@ impl Named {
         ensures { result ≡ named_size self }
     {
         match self {
-            Named::Tagged(name)
-            | Named::Enum(name)
-            | Named::Record(name)
-            | Named::Tuple(name)
-            | Named::RecordTuple(name) => name.size(),
+            Named::Value(_, name) => name.size(),
             Named::Field(_, label) | Named::FieldPlace(_, label, _) => label.size,
             Named::Place(_, _) => 0,
         }

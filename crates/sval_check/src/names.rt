@@ -5,16 +5,19 @@ ghost use Rattle.sval_label.specs.SeenName.{seen_name};
 ghost use Rattle.sval_label.specs.Grouped.{seen_head, seen_slot};
 ghost use Rattle.sval_label.specs.Equalities as equal;
 ghost use Rattle.sval_core.specs.SameNames as same;
+ghost use Rattle.sval_core.specs.Trees.{plain_name};
 ghost use Rattle.sval_core.specs.CheckerSteps.{admits};
 ghost use Rattle.sval_core.specs.Stacks.{top_of};
-ghost use Rattle.sval_check.specs.Kept.{kept_label, kept_name, named_size, named_frame, texts_around};
+ghost use Rattle.sval_check.specs.Kept.{kept_label, kept_name, named_size, named_frame, value_frame, texts_around};
 ghost use Rattle.sval_check.specs.Frames.{begun_frame, named_top, Keeps, seen_form};
 ghost use Rattle.sval_check.specs.Tops.{is_tagged, is_enum, is_head, is_slot, has_parts};
 
 use crate::frame::{Begin, Form, Frame};
-use crate::kept::{KeptLabel, KeptName, Named, may_hold, same_index, same_tag, text_of};
+use crate::kept::{
+    KeptLabel, KeptName, Named, NamedValue, may_hold, same_index, same_tag, text_of,
+};
 use std::alloc::Global;
-use sval_core::{Head, Label, Name, NoMemory, Slot};
+use sval_core::{Head, Index, Label, Name, NoMemory, Slot, Tag};
 
 /// The begins that said a name and have no end yet.
 #[derive(Drop)]
@@ -57,12 +60,8 @@ impl Names {
         match begin {
             Begin::Text(size) => Ok(Frame::Text(size)),
             Begin::Binary(size) => Ok(Frame::Binary(size)),
-            Begin::Tagged(name) => {
-                self.push(Named::Tagged(KeptName::of(name)), text_of(name.label), None)
-            }
-            Begin::Enum(name) => {
-                self.push(Named::Enum(KeptName::of(name)), text_of(name.label), None)
-            }
+            Begin::Tagged(name) => self.keep_value(NamedValue::Tagged, name, None),
+            Begin::Enum(name) => self.keep_value(NamedValue::Enum, name, None),
             Begin::Container(head, size) => self.keep_head(head, size),
             Begin::Part(slot) => self.keep_slot(slot),
         }
@@ -75,19 +74,9 @@ impl Names {
         match head {
             Head::Seq => Ok(Frame::Seq(size)),
             Head::Map => Ok(Frame::Map(size)),
-            Head::Record(name) => {
-                self.push(Named::Record(KeptName::of(name)), text_of(name.label), size)
-            }
-            Head::Tuple(name) => {
-                self.push(Named::Tuple(KeptName::of(name)), text_of(name.label), size)
-            }
-            Head::RecordTuple(name) => {
-                self.push(
-                    Named::RecordTuple(KeptName::of(name)),
-                    text_of(name.label),
-                    size,
-                )
-            }
+            Head::Record(name) => self.keep_value(NamedValue::Record, name, size),
+            Head::Tuple(name) => self.keep_value(NamedValue::Tuple, name, size),
+            Head::RecordTuple(name) => self.keep_value(NamedValue::RecordTuple, name, size),
         }
     }
 
@@ -99,20 +88,61 @@ impl Names {
             Slot::Item => Ok(Frame::Item),
             Slot::Key => Ok(Frame::Key),
             Slot::Value => Ok(Frame::Value),
-            Slot::Field(tag, label) => {
-                self.push(
-                    Named::Field(tag.copied(), KeptLabel::of(label)),
-                    label.as_str(),
-                    None,
-                )
-            }
-            Slot::Place(tag, index) => self.push(Named::Place(tag.copied(), *index), "", None),
-            Slot::FieldPlace(tag, label, index) => self.push(
-                Named::FieldPlace(tag.copied(), KeptLabel::of(label), *index),
-                label.as_str(),
-                None,
-            ),
+            Slot::Field(tag, label) => self.keep_field(tag, label),
+            Slot::Place(tag, index) => self.keep_place(tag, index),
+            Slot::FieldPlace(tag, label, index) => self.keep_field_place(tag, label, index),
         }
+    }
+
+    /// Keeps the begin of a value that says a name; of a container so much is still to come.
+    fn keep_value(
+        &mut self,
+        value: NamedValue,
+        name: Name<'_>,
+        left: Option<usize>,
+    ) -> Result<Frame, NoMemory>
+        ensures { Keeps self.old self.new (value_frame value (plain_name (seen_name name.entry)) left) result }
+    {
+        self.push(
+            Named::Value(value, KeptName::of(name)),
+            text_of(name.label),
+            left,
+        )
+    }
+
+    /// Keeps the begin of a field of a record.
+    fn keep_field(&mut self, tag: Option<&Tag>, label: &Label<'_>) -> Result<Frame, NoMemory>
+        ensures { Keeps self.old self.new (begun_frame (Begin.Part (Slot.Field tag.entry label.entry))) result }
+    {
+        self.push(
+            Named::Field(tag.copied(), KeptLabel::of(label)),
+            label.as_str(),
+            None,
+        )
+    }
+
+    /// Keeps the begin of a field of a tuple.
+    fn keep_place(&mut self, tag: Option<&Tag>, index: &Index) -> Result<Frame, NoMemory>
+        ensures { Keeps self.old self.new (begun_frame (Begin.Part (Slot.Place tag.entry index.entry))) result }
+    {
+        self.push(Named::Place(tag.copied(), *index), "", None)
+    }
+
+    /// Keeps the begin of a field of a record that is a tuple too.
+    fn keep_field_place(
+        &mut self,
+        tag: Option<&Tag>,
+        label: &Label<'_>,
+        index: &Index,
+    ) -> Result<Frame, NoMemory>
+        ensures { Keeps self.old self.new
+            (begun_frame (Begin.Part (Slot.FieldPlace tag.entry label.entry index.entry))) result }
+    {
+        self.push(
+            Named::FieldPlace(tag.copied(), KeptLabel::of(label), *index),
+            label.as_str(),
+            None,
+        )
     }
 
     /// Keeps what the innermost begin with a name said no longer.
@@ -142,9 +172,9 @@ impl Names {
             None | Some(Named::Field(_, _) | Named::Place(_, _) | Named::FieldPlace(_, _, _)) => {
                 true
             }
-            Some(Named::Tagged(name)) => may_hold(name.tag, form),
-            Some(Named::Enum(_)) => matches!(form, Form::Variant),
-            Some(Named::Record(_) | Named::Tuple(_) | Named::RecordTuple(_)) => false,
+            Some(Named::Value(NamedValue::Tagged, name)) => may_hold(name.tag, form),
+            Some(Named::Value(NamedValue::Enum, _)) => matches!(form, Form::Variant),
+            Some(Named::Value(_, _)) => false,
         }
     }
 
@@ -154,9 +184,12 @@ impl Names {
     {
         matches!(
             (self.top(), slot),
-            (Some(Named::Record(_)), Slot::Field(_, _))
-                | (Some(Named::Tuple(_)), Slot::Place(_, _))
-                | (Some(Named::RecordTuple(_)), Slot::FieldPlace(_, _, _))
+            (Some(Named::Value(NamedValue::Record, _)), Slot::Field(_, _))
+                | (Some(Named::Value(NamedValue::Tuple, _)), Slot::Place(_, _))
+                | (
+                    Some(Named::Value(NamedValue::RecordTuple, _)),
+                    Slot::FieldPlace(_, _, _)
+                )
         )
     }
 
@@ -165,7 +198,7 @@ impl Names {
         ensures { result ≡ is_tagged (named_top self.now None) (seen_name name.entry) }
     {
         match self.top() {
-            Some(Named::Tagged(begun)) => self.is_name(begun, name),
+            Some(Named::Value(NamedValue::Tagged, begun)) => self.is_name(begun, name),
             _ => false,
         }
     }
@@ -175,7 +208,7 @@ impl Names {
         ensures { result ≡ is_enum (named_top self.now None) (seen_name name.entry) }
     {
         match self.top() {
-            Some(Named::Enum(begun)) => self.is_name(begun, name),
+            Some(Named::Value(NamedValue::Enum, begun)) => self.is_name(begun, name),
             _ => false,
         }
     }
@@ -185,9 +218,9 @@ impl Names {
         ensures { result ≡ is_head (named_top self.now None) (seen_head head.entry) }
     {
         match (self.top(), head) {
-            (Some(Named::Record(begun)), Head::Record(name))
-            | (Some(Named::Tuple(begun)), Head::Tuple(name))
-            | (Some(Named::RecordTuple(begun)), Head::RecordTuple(name)) => {
+            (Some(Named::Value(NamedValue::Record, begun)), Head::Record(name))
+            | (Some(Named::Value(NamedValue::Tuple, begun)), Head::Tuple(name))
+            | (Some(Named::Value(NamedValue::RecordTuple, begun)), Head::RecordTuple(name)) => {
                 self.is_name(begun, name)
             }
             _ => false,
