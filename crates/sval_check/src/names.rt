@@ -1,6 +1,6 @@
 //! The names that begins say, kept until their ends.
 
-ghost use Rattle.std.specs.Prelude.{◌≡◌, List, [], ◌∷◌, reverse, length, option_map, None};
+ghost use Rattle.std.specs.Prelude.{◌≡◌, List, [], ◌∷◌, reverse, length, option_map, option_copied, None};
 ghost use Rattle.sval_label.specs.SeenName.{seen_name};
 ghost use Rattle.sval_label.specs.Grouped.{seen_head, seen_slot};
 ghost use Rattle.sval_label.specs.Equalities as equal;
@@ -158,10 +158,10 @@ impl Names {
     }
 
     /// The innermost begin with a name, if there is one.
-    fn top(&self) -> Option<Named>
-        ensures { top_of (reverse self.now.begun.items) ≡ result }
+    fn top(&self) -> Option<&Named>
+        ensures { top_of (reverse self.now.begun.items) ≡ option_copied result }
     {
-        self.begun.last().copied()
+        self.begun.last()
     }
 
     /// A value of this form may begin directly in the innermost begin with a name, if there is one.
@@ -233,31 +233,31 @@ impl Names {
     {
         match (self.top(), slot) {
             (Some(Named::Field(begun, kept)), Slot::Field(tag, label)) => {
-                same_tag(tag, begun) && self.is_label(kept, label)
+                same_tag(tag, *begun) && self.is_label(kept, label)
             }
             (Some(Named::Place(begun, place)), Slot::Place(tag, index)) => {
-                same_tag(tag, begun) && *index == place
+                same_tag(tag, *begun) && index == place
             }
             (Some(Named::FieldPlace(begun, kept, place)), Slot::FieldPlace(tag, label, index)) => {
-                same_tag(tag, begun) && self.is_label(kept, label) && *index == place
+                same_tag(tag, *begun) && self.is_label(kept, label) && index == place
             }
             _ => false,
         }
     }
 
     /// A name is the one that was kept last.
-    fn is_name(&self, begun: KeptName, name: Name<'_>) -> bool
-        ensures { result ≡ same.same_name (seen_name name.entry) (kept_name self.now.texts.items begun) }
+    fn is_name(&self, begun: &KeptName, name: Name<'_>) -> bool
+        ensures { result ≡ same.same_name (seen_name name.entry) (kept_name self.now.texts.items begun.now) }
     {
         same_tag(name.tag, begun.tag)
-            && self.is_option_label(begun.label, name.label)
+            && self.is_option_label(&begun.label, name.label)
             && same_index(name.index, begun.index)
     }
 
     /// A label, or none, is the one that was kept last.
-    fn is_option_label(&self, begun: Option<KeptLabel>, label: Option<&Label<'_>>) -> bool
+    fn is_option_label(&self, begun: &Option<KeptLabel>, label: Option<&Label<'_>>) -> bool
         ensures { result ≡ same.same_option equal.same_label (option_map (λ label. label.now) label.entry)
-            (option_map (kept_label self.now.texts.items) begun) }
+            (option_map (kept_label self.now.texts.items) begun.now) }
     {
         match (begun, label) {
             (None, None) => true,
@@ -267,8 +267,8 @@ impl Names {
     }
 
     /// A label is the one that was kept last.
-    fn is_label(&self, begun: KeptLabel, label: &Label<'_>) -> bool
-        ensures { result ≡ equal.same_label label.now (kept_label self.now.texts.items begun) }
+    fn is_label(&self, begun: &KeptLabel, label: &Label<'_>) -> bool
+        ensures { result ≡ equal.same_label label.now (kept_label self.now.texts.items begun.now) }
     {
         let start = self.texts.len().saturating_sub(begun.size);
         label.as_str().as_bytes() == &self.texts[start..]
