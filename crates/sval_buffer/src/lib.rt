@@ -5,6 +5,7 @@
 //! What they hold stands in `specs/Pushes.antt` and `specs/Forest.antt`, and [`laws`] has what holds of it.
 #![tactic(auto)]
 
+mod begins;
 mod binary_buf;
 pub mod collect_laws;
 mod error;

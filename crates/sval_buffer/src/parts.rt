@@ -3,7 +3,7 @@
 ghost use Rattle.std.specs.Prelude.{◌≡◌, true, false, [], not, if◌then◌else◌};
 ghost use Rattle.sval_label.specs.Calls as calls;
 ghost use Rattle.sval_label.specs.Made.{lent_call};
-ghost use Rattle.sval_label.specs.Grouped.{seen_head, seen_slot};
+ghost use Rattle.sval_label.specs.Grouped.{int_call};
 ghost use Rattle.sval_label.specs.SeenTags.{seen_ref_tag};
 ghost use Rattle.sval_label.specs.SeenName.{seen_name};
 ghost use Rattle.sval_core.specs.Law.{Emits};
@@ -17,13 +17,13 @@ ghost use Rattle.sval_buffer.specs.SeenParts.{single_call, begin_call, no_fragme
 
 use crate::binary_buf::BinaryBuf;
 use crate::error::{ErrorKind, Word};
-use crate::named::{CallStore, NamedHead, NamedKind, NamedSlot};
+use crate::named::{CallStore, NamedKind};
 use crate::one_pass::replay_parts;
 use crate::part::{Begin, Medium, Part, PartKind, Single};
 use crate::text_buf::TextBuf;
 use std::alloc::Global;
 use std::marker::Model;
-use sval_core::{Call, Fragment, GroupedCall, Head, Lent, Name, Slot, Stream, Tag};
+use sval_core::{Call, Fragment, GroupedCall, Int, Lent, Name, Stream, Tag};
 
 /// The parts of a captured value. `forest_in` reads the forest that they are.
 #[derive(Drop)]
@@ -108,6 +108,38 @@ impl<'sval, N: CallStore + 'sval> Parts<'sval, N> {
             });
         }
         Ok(())
+    }
+
+    /// Adds the call of no value.
+    fn null(&mut self) -> Result<(), ErrorKind>
+        ensures { let node = forest.Single calls.Null in
+            CapturesBy (λ _. true) (λ f. Becomes (add node f)) self.old result self.new }
+    {
+        self.single(Single::Null)
+    }
+
+    /// Adds a truth value.
+    fn truth(&mut self, value: bool) -> Result<(), ErrorKind>
+        ensures { let node = forest.Single (calls.Truth value) in
+            CapturesBy (λ _. true) (λ f. Becomes (add node f)) self.old result self.new }
+    {
+        self.single(Single::Bool(value))
+    }
+
+    /// Adds a whole number.
+    fn int(&mut self, value: Int) -> Result<(), ErrorKind>
+        ensures { let node = forest.Single (int_call value) in
+            CapturesBy (λ _. true) (λ f. Becomes (add node f)) self.old result self.new }
+    {
+        self.single(Single::Int(value))
+    }
+
+    /// Adds a tag.
+    fn tag(&mut self, name: Name<'_>) -> Result<(), ErrorKind>
+        ensures { let node = forest.Single (calls.Standalone (seen_name name.entry)) in
+            CapturesBy (λ _. true) (λ f. Becomes (add node f)) self.old result self.new }
+    {
+        self.single_named(NamedKind::Tag, name)
     }
 
     /// Adds a hint, but within a text or a binary.
@@ -198,7 +230,7 @@ impl<'sval, N: CallStore + 'sval> Parts<'sval, N> {
     }
 
     /// Begins a container without a name. There is memory for its place before its part is kept.
-    fn begin(&mut self, begin: Begin) -> Result<(), ErrorKind>
+    pub(crate) fn begin(&mut self, begin: Begin) -> Result<(), ErrorKind>
         ensures { CapturesBy (λ _. true) (λ f. Becomes (begun (begin_call begin) f)) self.old result self.new }
     {
         let part = Part {
@@ -216,7 +248,7 @@ impl<'sval, N: CallStore + 'sval> Parts<'sval, N> {
     }
 
     /// Begins a container with a name. There is memory for its part and its place before its name is kept.
-    fn begin_named(&mut self, kind: NamedKind, name: Name<'_>) -> Result<(), ErrorKind>
+    pub(crate) fn begin_named(&mut self, kind: NamedKind, name: Name<'_>) -> Result<(), ErrorKind>
         requires begins { IsBegin kind }
         requires name { HasName kind (seen_name name) }
         ensures { let begin = named_call kind (seen_name name.entry) in
@@ -243,58 +275,6 @@ impl<'sval, N: CallStore + 'sval> Parts<'sval, N> {
         }
     }
 
-    /// Begins a container with a size.
-    fn begin_head(&mut self, head: Head<'_>, size: Option<usize>) -> Result<(), ErrorKind>
-        ensures { let begin = calls.Begin (seen_head head.entry) size in
-            CapturesBy (λ _. true) (λ f. Becomes (begun begin f)) self.old result self.new }
-    {
-        match head {
-            Head::Seq => self.begin(Begin::Seq(size)),
-            Head::Map => self.begin(Begin::Map(size)),
-            Head::Record(name) => self.begin_named(NamedKind::Sized(NamedHead::Record, size), name),
-            Head::Tuple(name) => self.begin_named(NamedKind::Sized(NamedHead::Tuple, size), name),
-            Head::RecordTuple(name) => {
-                self.begin_named(NamedKind::Sized(NamedHead::RecordTuple, size), name)
-            }
-        }
-    }
-
-    /// Begins a part of a container.
-    fn begin_slot(&mut self, slot: Slot<'_>) -> Result<(), ErrorKind>
-        ensures { let begin = calls.PartBegin (seen_slot slot.entry) in
-            CapturesBy (λ _. true) (λ f. Becomes (begun begin f)) self.old result self.new }
-    {
-        match slot {
-            Slot::Item => self.begin(Begin::Item),
-            Slot::Key => self.begin(Begin::Key),
-            Slot::Value => self.begin(Begin::Value),
-            Slot::Field(tag, label) => self.begin_named(
-                NamedKind::Part(NamedSlot::Field),
-                Name {
-                    tag,
-                    label: Some(label),
-                    index: None,
-                },
-            ),
-            Slot::Place(tag, index) => self.begin_named(
-                NamedKind::Part(NamedSlot::Place),
-                Name {
-                    tag,
-                    label: None,
-                    index: Some(index),
-                },
-            ),
-            Slot::FieldPlace(tag, label, index) => self.begin_named(
-                NamedKind::Part(NamedSlot::FieldPlace),
-                Name {
-                    tag,
-                    label: Some(label),
-                    index: Some(index),
-                },
-            ),
-        }
-    }
-
     /// Makes the calls again, or that of no value where there is no part.
     pub(crate) fn replay<S: Stream<Lent<'sval>>>(&self, stream: &mut S) -> sval_core::Result
         ensures { let calls = forest.replayed (forest_in self.now) in
@@ -313,10 +293,10 @@ impl<'sval, N: CallStore + 'sval> Parts<'sval, N> {
             CapturesBy (λ f. may_grow f taken) (λ f. forest.take f taken) self.old result self.new }
     {
         match call.grouped() {
-            GroupedCall::Null => self.single(Single::Null),
-            GroupedCall::Bool(value) => self.single(Single::Bool(value)),
-            GroupedCall::Int(value) => self.single(Single::Int(value)),
-            GroupedCall::Tag(name) => self.single_named(NamedKind::Tag, name),
+            GroupedCall::Null => self.null(),
+            GroupedCall::Bool(value) => self.truth(value),
+            GroupedCall::Int(value) => self.int(value),
+            GroupedCall::Tag(name) => self.tag(name),
             GroupedCall::TagHint(tag) => self.hint(tag),
             GroupedCall::TextBegin(_) => self.begin_fragments(alloc, Medium::Text),
             GroupedCall::BinaryBegin(_) => self.begin_fragments(alloc, Medium::Binary),
@@ -326,8 +306,8 @@ impl<'sval, N: CallStore + 'sval> Parts<'sval, N> {
                 self.end_fragments();
                 Ok(())
             }
-            GroupedCall::EnumBegin(name) => self.begin_named(NamedKind::Enum, name),
-            GroupedCall::TaggedBegin(name) => self.begin_named(NamedKind::Tagged, name),
+            GroupedCall::EnumBegin(name) => self.begin_enum(name),
+            GroupedCall::TaggedBegin(name) => self.begin_tagged(name),
             GroupedCall::Begin(head, size) => self.begin_head(head, size),
             GroupedCall::PartBegin(slot) => self.begin_slot(slot),
             GroupedCall::EnumEnd(_)
