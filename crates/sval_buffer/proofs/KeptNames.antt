@@ -1,9 +1,12 @@
 -- What is kept of names stays as the store of texts grows.
 use Rattle.std.specs.Prelude.{◌≡◌, ℕ, zero, suc, ◌+◌, ◌-◌, ◌≤◌, ◌<◌, List, [], ◌∷◌, ◌++◌, length, map, take, drop, Option, Some, None, option_map, refl, slice_range, slice_index, get_or, IsUtf8, IsCharBoundary}
 use Rattle.std.proofs.Common.{sym, ap, ◌∙◌, subst, arith, append-nil, length-append, ◌⊎◌, inl, inr}
+use Rattle.std.proofs.lemmas.List.{length-map}
 use Rattle.std.proofs.lemmas.Str.{IsUtf8-nil, IsCharBoundary-at_seam, IsCharBoundary-end}
 use Rattle.sval_label.specs.Calls as calls
 use Rattle.sval_label.specs.Calls.{Call}
+use Rattle.sval_label.specs.SeenTags.{seen_tag}
+use Rattle.sval_label.specs.SeenIndex.{seen_index}
 use Rattle.sval_buffer.specs.declared.named.KeptText.{KeptText}
 use Rattle.sval_buffer.specs.declared.named.KeptText.TheVariants.{Static, Stored}
 use Rattle.sval_buffer.specs.declared.named.KeptLabel.{KeptLabel}
@@ -117,6 +120,18 @@ pub stands_at : (texts : List ℕ) (kept : List NamedCall) (at : ℕ) (call : Na
 stands_at texts [] at call s h e = absurd (omega arith)
 stands_at texts (first ∷ kept) zero call s h e = subst (Stands texts) (sym e) s.0
 stands_at texts (first ∷ kept) (suc at) call s h e = stands_at texts kept at call s.1 (omega arith) e
+
+-- the call at a place, with the store of texts as it is shown
+pub stands_shown : {texts shown : List ℕ} {seen : List Call} {call : NamedCall} (kept : List NamedCall) (at : ℕ)
+    → AllStand texts kept → map (kept_call texts) kept ≡ seen → at < length seen → call ≡ get_or kept at call → shown ≡ texts → Stands shown call
+stands_shown {texts} {call = call} kept at stand view h e same =
+    let within : at < length kept = subst (λ n. at < n) (sym (ap length view) ∙ length-map kept (kept_call texts)) h in
+    subst (λ ts. Stands ts call) (sym same) (stands_at texts kept at call stand within e)
+
+-- the name that is shown says what the call says
+pub has_shown_name : {shown : List ℕ} {call : NamedCall} {label : Option calls.Label} {name : calls.Name} → Stands shown call → label ≡ option_map (kept_label shown) call.label
+    → name ≡ record { tag = option_map seen_tag call.tag; label = label; index = option_map seen_index call.index } → HasName call.kind name
+has_shown_name stands same e = rw (e, same) stands.name
 
 pub call_stands : (texts : List ℕ) (kept : List NamedCall) (at : ℕ) (call : NamedCall) → at < length kept → call ≡ get_or kept at call → call_at (map (kept_call texts) kept) at ≡ kept_call texts call
 call_stands texts [] at call h e = absurd (omega arith)
