@@ -1,13 +1,13 @@
 -- What a forest stands for while the machine takes the calls that were captured.
-use Rattle.std.specs.Prelude.{◌≡◌, ℕ, true, false, List, [], ◌∷◌, ◌++◌, map, Option, Some, None, option_map, ⊤, refl}
+use Rattle.std.specs.Prelude.{◌≡◌, ℕ, true, false, List, [], ◌∷◌, ◌++◌, map, Option, ⊤, refl}
 use Rattle.std.specs.List.{concat}
 use Rattle.std.proofs.Common.{sym, ap, subst, ◌∙◌}
 use Rattle.std.proofs.lemmas.List.Elements.{filter_map-append}
 use mathlib.Core.List.{append_assoc, append-nil}
-use Rattle.sval_label.specs.Calls.{Call, Head, Slot, Name, Label, TextBegin, TextFragment, BinaryBegin, BinaryFragment, EnumBegin, EnumEnd, TaggedBegin, TaggedEnd, Begin, End, PartBegin, PartEnd}
+use Rattle.sval_label.specs.Calls.{Call, Head, Slot, Name, TextBegin, TextFragment, BinaryBegin, BinaryFragment, EnumBegin, EnumEnd, TaggedBegin, TaggedEnd, Begin, End, PartBegin, PartEnd}
 use Rattle.sval_core.specs.Trees as tree
 use Rattle.sval_core.specs.Trees.{Tree, Parts, plain_label, plain_name, plain_head, plain_slot}
-use Rattle.sval_core.specs.Spells.{plain, plain_call, bare_label, bare_index, bare_name, bare_head, bare_slot}
+use Rattle.sval_core.specs.Spells.{plain, plain_call, bare_name, bare_head, bare_slot}
 use Rattle.sval_core.specs.Checker.{Frame, InText, InBinary, InTagged, InEnum, InContainer, InPart}
 use Rattle.sval_core.proofs.ToldTrees.{bare_plain_name, bare_plain_head, bare_plain_slot}
 use Rattle.sval_buffer.specs.Pushes.{HeldBytes}

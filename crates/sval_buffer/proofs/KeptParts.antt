@@ -1,9 +1,9 @@
 -- Each step of a forest on the parts of the program, and the calls with names that they speak of.
-use Rattle.std.specs.Prelude.{◌≡◌, ℕ, zero, suc, ◌+◌, ◌-◌, ◌≤◌, ◌<◌, Bool, false, List, [], ◌∷◌, ◌++◌, length, map, Option, Some, None, refl, slice_set, slice_get, slice_index_or, get_or}
+use Rattle.std.specs.Prelude.{◌≡◌, ℕ, zero, suc, ◌-◌, ◌≤◌, ◌<◌, Bool, false, List, [], ◌∷◌, ◌++◌, length, map, Option, refl, slice_set, slice_get, slice_index_or, get_or}
 use Rattle.std.proofs.Common.{sym, ap, ◌∙◌, subst, arith, length-append}
 use Rattle.std.proofs.lemmas.List.{map-append, length-map}
-use Rattle.sval_label.specs.Calls.{Call, Null}
-use Rattle.sval_buffer.specs.Forest.{Node, Container, Nodes, Open, Forest, empty_forest, add, begun, with_flag, close_newest, Becomes}
+use Rattle.sval_label.specs.Calls.{Call}
+use Rattle.sval_buffer.specs.Forest.{Node, Container, Forest, empty_forest, add, begun, with_flag, close_newest, Becomes}
 use Rattle.sval_buffer.specs.Flat as flat
 use Rattle.sval_buffer.specs.Flat.{flat_part, flat_node}
 use Rattle.sval_buffer.specs.Holders.{holders_node}
@@ -11,7 +11,7 @@ use Rattle.sval_buffer.specs.SeenNames.{call_at}
 use Rattle.sval_buffer.specs.declared.part.Part.{Part}
 use Rattle.sval_buffer.specs.declared.part.PartKind.{PartKind}
 use Rattle.sval_buffer.specs.declared.part.PartKind.TheVariants as kind
-use Rattle.sval_buffer.specs.SeenParts.{SeenPart, stored, stored_part, holder, flat_kind, holds_of, seen_part, seen_parts, with_holds, with_length, IsKept, AllKept, PartsTell, told}
+use Rattle.sval_buffer.specs.SeenParts.{SeenPart, stored, stored_part, flat_kind, seen_part, seen_parts, with_holds, with_length, IsKept, AllKept, PartsTell, told}
 use Rattle.sval_buffer.proofs.Steps.{Is, is_nothing, is_added, is_begun, is_flagged, is_closed, closes, place_within, map-set, get-map, newest_is}
 
 -- what is known of an open buffer that is this forest

@@ -1,6 +1,6 @@
 -- A part with a name that is put after the others.
 use Rattle.std.specs.Prelude.{◌≡◌, ℕ, ◌-◌, Bool, List, [], ◌∷◌, ◌++◌, length, Option, refl, slice_get}
-use Rattle.std.proofs.Common.{sym, ap, ◌∙◌, subst, arith}
+use Rattle.std.proofs.Common.{sym, ap, ◌∙◌, arith}
 use Rattle.sval_label.specs.Calls.{Call}
 use Rattle.sval_buffer.specs.Forest.{Single, Forest, add, begun}
 use Rattle.sval_buffer.specs.Flat as flat

@@ -1,4 +1,4 @@
-use Rattle.std.proofs.Common.{ap, ◌∙◌, ◌+◌, length, refl, ◌-◌, ◌<◌, ◌≤◌, sym, subst, arith, rules}
+use Rattle.std.proofs.Common.{ap, ◌∙◌, length, refl, ◌-◌, ◌<◌, ◌≤◌, sym, subst, arith, rules}
 use Rattle.sval_buffer.specs.SeenParts.{seen_part, seen_parts}
 use Rattle.sval_buffer.specs.Nested.{still, IsBelow, Linked, outer_of}
 use Rattle.sval_buffer.proofs.Replaying.{IsWalked, linked_within, walk-none, walk-goes_on, walk-step, walk-stop, walk-below, ends_stopped, nearer}

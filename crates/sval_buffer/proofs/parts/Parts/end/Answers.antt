@@ -4,7 +4,7 @@ use Rattle.sval_buffer.specs.Forest.{Becomes}
 use Rattle.sval_buffer.specs.SeenParts.{with_holds}
 use Rattle.sval_buffer.specs.declared.part.Part.{Part}
 use Rattle.sval_buffer.specs.FlatForest.{forest_in}
-use Rattle.sval_buffer.proofs.KeptParts.{Holds, holds_it, place_in, Closes, holds_closed, tell}
+use Rattle.sval_buffer.proofs.KeptParts.{Holds, holds_it, place_in, holds_closed, tell}
 use Rattle.sval_buffer.proofs.parts.Parts.end.Goals as goal
 
 pub overflow_sub-holds : goal.overflow_sub-holds

@@ -1,5 +1,5 @@
 use Rattle.std.specs.Prelude.{slice_get}
-use Rattle.std.proofs.Common.{◌≡◌, ℕ, ◌-◌, List, [], ◌∷◌, ◌++◌, length, refl, ap, ◌∙◌, sym}
+use Rattle.std.proofs.Common.{◌≡◌, ℕ, ◌-◌, List, [], ◌∷◌, ◌++◌, length, ap, ◌∙◌, sym}
 use Rattle.sval_label.specs.SeenName.{seen_name}
 use Rattle.sval_buffer.specs.Forest.{Becomes}
 use Rattle.sval_buffer.specs.SeenNames.{named_call}
