@@ -6,8 +6,7 @@ pub mod Laws
 pub mod FlatForest
 pub mod Holders
 pub mod Capture
-pub mod SeenTexts
-pub mod SeenBinaries
+pub mod SeenFragments
 pub mod SeenNames
 pub mod SeenParts
 pub mod SeenBuffers

@@ -1,23 +1,18 @@
 //! Binaries that come in fragments.
 
-ghost use Rattle.std.specs.Prelude.{◌≡◌, true, false, length, [], ◌∷◌, Some, None, IsOk, OnOk, OnErr, IfOk, IfErr, ◌++◌, option_map, if◌then◌else◌};
+ghost use Rattle.std.specs.Prelude.{◌≡◌, true, false, [], Some, None, IsOk, OnOk, IfErr, option_map, if◌then◌else◌};
 ghost use Rattle.sval_buffer.specs.Pushes.{pushed};
 ghost use Rattle.sval_buffer.specs.Forest.{no_bytes, held_binary_calls};
 ghost use Rattle.sval_buffer.specs.Capture.{IsNoAlloc};
 ghost use Rattle.sval_core.specs.Values.{makes};
 
 use crate::error::{Error, ErrorKind, Word};
-use std::alloc::{AllocError, Global};
+use crate::fragment_buf::FragmentBuf;
+use std::alloc::Global;
+use std::fmt;
 use std::marker::Model;
 use sval_core::{Lent, Result, Stream, Value};
 use sval_ref::ValueRef;
-
-/// Where the binary lies.
-#[derive(Drop)]
-enum Held<'sval> {
-    Borrowed(&'sval [u8]),
-    Owned(Vec<u8>),
-}
 
 /// A binary that comes in fragments.
 ///
@@ -32,8 +27,7 @@ enum Held<'sval> {
 /// ```
 #[derive(Drop)]
 pub struct BinaryBuf<'sval> {
-    held: Held<'sval>,
-    alloc: Global,
+    fragments: FragmentBuf<'sval>,
 }
 
 impl<'sval> Model for BinaryBuf<'sval> {
@@ -41,9 +35,7 @@ impl<'sval> Model for BinaryBuf<'sval> {
 
     ghost Value = { HeldBytes };
 
-    ghost use Rattle.sval_buffer.specs.SeenBinaries.{binary_bytes};
-
-    ghost view = { λ binary. binary_bytes binary.held };
+    ghost view = { λ binary. binary.fragments };
 }
 
 impl<'sval> BinaryBuf<'sval> {
@@ -52,8 +44,7 @@ impl<'sval> BinaryBuf<'sval> {
         ensures { result ≡ no_bytes }
     {
         BinaryBuf {
-            held: Held::Borrowed(&[]),
-            alloc,
+            fragments: FragmentBuf::new(alloc),
         }
     }
 
@@ -61,7 +52,7 @@ impl<'sval> BinaryBuf<'sval> {
     pub fn clear(&mut self)
         ensures { self.new ≡ no_bytes }
     {
-        self.held = Held::Borrowed(&[]);
+        self.fragments.clear();
     }
 
     /// Appends a fragment, which is kept by reference where nothing stands before it.
@@ -72,11 +63,11 @@ impl<'sval> BinaryBuf<'sval> {
         ensures err { IfErr result (λ error. IsNoAlloc error × (self.new ≡ self.old)) }
         ensures first { self.old.bytes ≡ [] → IsOk result }
     {
-        if self.as_slice().is_empty() {
-            self.held = Held::Borrowed(fragment);
-            return Ok(());
-        }
-        self.append(fragment)
+        self.fragments.push(fragment).map_err(|_| {
+            Error::new(ErrorKind::NoAlloc {
+                method: Word::Binary,
+            })
+        })
     }
 
     /// Appends a copy of a fragment.
@@ -86,30 +77,11 @@ impl<'sval> BinaryBuf<'sval> {
         ensures ok { OnOk result (self.new ≡ pushed self.old (record { borrowed = false; bytes = fragment.now })) }
         ensures err { IfErr result (λ error. IsNoAlloc error × (self.new ≡ self.old)) }
     {
-        self.append(fragment)
-    }
-
-    /// Appends a copy of a fragment to a copy of the binary, or to the binary where that is a copy.
-    fn append(&mut self, fragment: &[u8]) -> std::result::Result<(), Error>
-        ensures ok { OnOk result (self.new ≡ record { borrowed = false; bytes = self.old.bytes ++ fragment.now }) }
-        ensures err { IfErr result (λ error. IsNoAlloc error × (self.new ≡ self.old)) }
-    {
-        match &mut self.held {
-            Held::Owned(bytes) => bytes.extend_from_slice(fragment).map_err(|_| {
-                Error::new(ErrorKind::NoAlloc {
-                    method: Word::Binary,
-                })
-            }),
-            Held::Borrowed(bytes) => match joined(self.alloc, bytes, fragment) {
-                Ok(copy) => {
-                    self.held = Held::Owned(copy);
-                    Ok(())
-                }
-                Err(_) => Err(Error::new(ErrorKind::NoAlloc {
-                    method: Word::Binary,
-                })),
-            },
-        }
+        self.fragments.push_computed(fragment).map_err(|_| {
+            Error::new(ErrorKind::NoAlloc {
+                method: Word::Binary,
+            })
+        })
     }
 
     /// The binary, where it is borrowed.
@@ -117,20 +89,20 @@ impl<'sval> BinaryBuf<'sval> {
         ensures { option_map (λ bytes. bytes.now) result
             ≡ (if self.now.borrowed then Some self.now.bytes else None) }
     {
-        match &self.held {
-            Held::Borrowed(bytes) => Some(*bytes),
-            Held::Owned(_) => None,
-        }
+        self.fragments.as_borrowed_slice()
     }
 
     /// The binary.
     pub fn as_slice(&self) -> &[u8]
         ensures { result.now ≡ self.now.bytes }
     {
-        match &self.held {
-            Held::Borrowed(bytes) => bytes,
-            Held::Owned(bytes) => bytes.as_slice(),
-        }
+        self.fragments.as_slice()
+    }
+}
+
+impl<'sval> fmt::Debug for BinaryBuf<'sval> {
+    fn fmt<W: fmt::Write>(&self, f: &mut fmt::Formatter<W>) -> fmt::Result {
+        fmt::Debug::fmt(&self.as_slice(), f)
     }
 }
 
@@ -150,20 +122,10 @@ impl<'sval> ValueRef<Lent<'sval>> for BinaryBuf<'sval> {
 
     fn stream_ref<S: Stream<Lent<'sval>>>(&self, stream: &mut S) -> Result {
         stream.binary_begin(Some(self.as_slice().len()))?;
-        match &self.held {
-            Held::Borrowed(bytes) => stream.binary_fragment(bytes)?,
-            Held::Owned(bytes) => stream.binary_fragment_computed(bytes.as_slice())?,
+        match self.as_borrowed_slice() {
+            Some(bytes) => stream.binary_fragment(bytes)?,
+            None => stream.binary_fragment_computed(self.as_slice())?,
         }
         stream.binary_end()
     }
-}
-
-/// A copy of two binaries, one after the other.
-fn joined(alloc: Global, first: &[u8], second: &[u8]) -> std::result::Result<Vec<u8>, AllocError>
-    ensures { IfOk result (λ bytes. bytes.items ≡ first.now ++ second.now) }
-{
-    let mut bytes = Vec::with_capacity(alloc, first.len().saturating_add(second.len()))?;
-    bytes.extend_from_slice(first)?;
-    bytes.extend_from_slice(second)?;
-    Ok(bytes)
 }

@@ -9,6 +9,7 @@ mod begins;
 mod binary_buf;
 pub mod collect_laws;
 mod error;
+mod fragment_buf;
 pub mod laws;
 mod named;
 mod one_pass;

@@ -1,24 +1,19 @@
 //! Texts that come in fragments.
 
-ghost use Rattle.std.specs.Prelude.{◌≡◌, true, false, length, [], ◌∷◌, Some, None, IsOk, OnOk, OnErr, IfOk, IfErr, ◌++◌, option_map, if◌then◌else◌};
+ghost use Rattle.std.specs.Prelude.{◌≡◌, true, false, [], Some, None, IsOk, OnOk, IfErr, option_map, if◌then◌else◌};
 ghost use Rattle.sval_buffer.specs.Pushes.{pushed};
-ghost use Rattle.std.specs.String.{string_bytes};
+ghost use Rattle.std.specs.Str.{IsUtf8};
 ghost use Rattle.sval_buffer.specs.Forest.{no_bytes, held_text_calls};
 ghost use Rattle.sval_buffer.specs.Capture.{IsNoAlloc};
 ghost use Rattle.sval_core.specs.Values.{makes};
 
 use crate::error::{Error, ErrorKind, Word};
-use std::alloc::{AllocError, Global};
+use crate::fragment_buf::FragmentBuf;
+use std::alloc::Global;
+use std::fmt;
 use std::marker::Model;
 use sval_core::{Lent, Result, Stream, Value};
 use sval_ref::ValueRef;
-
-/// Where the text lies.
-#[derive(Drop)]
-enum Held<'sval> {
-    Borrowed(&'sval str),
-    Owned(String),
-}
 
 /// A text that comes in fragments.
 ///
@@ -33,8 +28,7 @@ enum Held<'sval> {
 /// ```
 #[derive(Drop)]
 pub struct TextBuf<'sval> {
-    held: Held<'sval>,
-    alloc: Global,
+    fragments: FragmentBuf<'sval>,
 }
 
 impl<'sval> Model for TextBuf<'sval> {
@@ -42,9 +36,11 @@ impl<'sval> Model for TextBuf<'sval> {
 
     ghost Value = { HeldBytes };
 
-    ghost use Rattle.sval_buffer.specs.SeenTexts.{text_bytes};
+    ghost use Rattle.std.specs.Str.{IsUtf8};
 
-    ghost view = { λ text. text_bytes text.held };
+    ghost view = { λ text. text.fragments };
+
+    ghost invariant = { λ text. IsUtf8 text.fragments.bytes };
 }
 
 impl<'sval> TextBuf<'sval> {
@@ -53,8 +49,7 @@ impl<'sval> TextBuf<'sval> {
         ensures { result ≡ no_bytes }
     {
         TextBuf {
-            held: Held::Borrowed(""),
-            alloc,
+            fragments: FragmentBuf::new(alloc),
         }
     }
 
@@ -62,7 +57,7 @@ impl<'sval> TextBuf<'sval> {
     pub fn clear(&mut self)
         ensures { self.new ≡ no_bytes }
     {
-        self.held = Held::Borrowed("");
+        self.fragments.clear();
     }
 
     /// Appends a fragment, which is kept by reference where nothing stands before it.
@@ -73,11 +68,9 @@ impl<'sval> TextBuf<'sval> {
         ensures err { IfErr result (λ error. IsNoAlloc error × (self.new ≡ self.old)) }
         ensures first { self.old.bytes ≡ [] → IsOk result }
     {
-        if self.as_str().is_empty() {
-            self.held = Held::Borrowed(fragment);
-            return Ok(());
-        }
-        self.append(fragment)
+        self.fragments
+            .push(fragment.as_bytes())
+            .map_err(|_| Error::new(ErrorKind::NoAlloc { method: Word::Text }))
     }
 
     /// Appends a copy of a fragment.
@@ -87,35 +80,18 @@ impl<'sval> TextBuf<'sval> {
         ensures ok { OnOk result (self.new ≡ pushed self.old (record { borrowed = false; bytes = fragment.now })) }
         ensures err { IfErr result (λ error. IsNoAlloc error × (self.new ≡ self.old)) }
     {
-        self.append(fragment)
-    }
-
-    /// Appends a copy of a fragment to a copy of the text, or to the text where that is a copy.
-    fn append(&mut self, fragment: &str) -> std::result::Result<(), Error>
-        ensures ok { OnOk result (self.new ≡ record { borrowed = false; bytes = self.old.bytes ++ fragment.now }) }
-        ensures err { IfErr result (λ error. IsNoAlloc error × (self.new ≡ self.old)) }
-    {
-        match &mut self.held {
-            Held::Owned(text) => text.push_str(fragment).map_err(|_| {
-                Error::new(ErrorKind::NoAlloc { method: Word::Text })
-            }),
-            Held::Borrowed(text) => match joined(self.alloc, text, fragment) {
-                Ok(copy) => {
-                    self.held = Held::Owned(copy);
-                    Ok(())
-                }
-                Err(_) => Err(Error::new(ErrorKind::NoAlloc { method: Word::Text })),
-            },
-        }
+        self.fragments
+            .push_computed(fragment.as_bytes())
+            .map_err(|_| Error::new(ErrorKind::NoAlloc { method: Word::Text }))
     }
 
     /// The text, where it is borrowed.
     pub fn as_borrowed_str(&self) -> Option<&'sval str>
         ensures { option_map (λ text. text.now) result ≡ (if self.now.borrowed then Some self.now.bytes else None) }
     {
-        match &self.held {
-            Held::Borrowed(text) => Some(*text),
-            Held::Owned(_) => None,
+        match self.fragments.as_borrowed_slice() {
+            Some(bytes) => Some(text(bytes)),
+            None => None,
         }
     }
 
@@ -123,10 +99,13 @@ impl<'sval> TextBuf<'sval> {
     pub fn as_str(&self) -> &str
         ensures { result.now ≡ self.now.bytes }
     {
-        match &self.held {
-            Held::Borrowed(text) => text,
-            Held::Owned(text) => text.as_str(),
-        }
+        text(self.fragments.as_slice())
+    }
+}
+
+impl<'sval> fmt::Debug for TextBuf<'sval> {
+    fn fmt<W: fmt::Write>(&self, f: &mut fmt::Formatter<W>) -> fmt::Result {
+        fmt::Debug::fmt(&self.as_str(), f)
     }
 }
 
@@ -146,20 +125,19 @@ impl<'sval> ValueRef<Lent<'sval>> for TextBuf<'sval> {
 
     fn stream_ref<S: Stream<Lent<'sval>>>(&self, stream: &mut S) -> Result {
         stream.text_begin(Some(self.as_str().len()))?;
-        match &self.held {
-            Held::Borrowed(text) => stream.text_fragment(text)?,
-            Held::Owned(text) => stream.text_fragment_computed(text.as_str())?,
+        match self.as_borrowed_str() {
+            Some(text) => stream.text_fragment(text)?,
+            None => stream.text_fragment_computed(self.as_str())?,
         }
         stream.text_end()
     }
 }
 
-/// A copy of two texts, one after the other.
-fn joined(alloc: Global, first: &str, second: &str) -> std::result::Result<String, AllocError>
-    ensures { IfOk result (λ text. string_bytes text ≡ first.now ++ second.now) }
+/// The text that bytes are.
+fn text(bytes: &[u8]) -> &str
+    requires { IsUtf8 bytes.now }
+    ensures { result.now ≡ bytes.now }
 {
-    let mut text = String::with_capacity(alloc, first.len().saturating_add(second.len()))?;
-    text.push_str(first)?;
-    text.push_str(second)?;
-    Ok(text)
+    // SAFETY: they are joined texts.
+    unsafe { std::str::from_utf8_unchecked(bytes) }
 }
