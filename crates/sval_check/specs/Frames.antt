@@ -2,12 +2,9 @@
 use Rattle.std.specs.Prelude.{◌≡◌, ℕ, Bool, true, false, List, [], ◌∷◌, reverse, Option, option_map, Result, Ok, Err}
 use Rattle.sval_label.specs.declared.error.NoMemory.{NoMemory}
 use Rattle.sval_label.specs.Calls as call
-use Rattle.sval_label.specs.SeenName.{seen_name}
-use Rattle.sval_label.specs.Grouped.{seen_head, seen_slot}
 use Rattle.sval_core.specs.Trees as kind
-use Rattle.sval_core.specs.Trees.{plain_name, plain_head, plain_slot, first_kind}
 use Rattle.sval_core.specs.Checker as machine
-use Rattle.sval_core.specs.Checker.{InText, InBinary, InTagged, InEnum, InContainer, InPart}
+use Rattle.sval_core.specs.Checker.{InText, InBinary, InContainer, InPart}
 use Rattle.sval_core.specs.CheckerSteps as steps
 use Rattle.sval_core.specs.Stacks.{top_of}
 use Rattle.sval_check.specs.declared.frame.Frame.{Frame}
@@ -20,14 +17,17 @@ use Rattle.sval_check.specs.declared.kept.Named.{Named}
 use Rattle.sval_check.specs.declared.names.Names.{Names}
 use Rattle.sval_check.specs.Kept.{named_frame, texts_around}
 
--- what a begin opens
+-- what a begin without a name opens
 abbrev pub begun_frame : Begin → machine.Frame
 begun_frame (begin.Text size) = InText size
 begun_frame (begin.Binary size) = InBinary size
-begun_frame (begin.Tagged name) = InTagged (plain_name (seen_name name))
-begun_frame (begin.Enum name) = InEnum (plain_name (seen_name name))
-begun_frame (begin.Container head size) = InContainer (plain_head (seen_head head)) (first_kind (seen_head head)) size
-begun_frame (begin.Part slot) = InPart (plain_slot (seen_slot slot))
+begun_frame (begin.Seq size) = InContainer call.Seq kind.Item size
+begun_frame (begin.Map size) = InContainer call.Map kind.Key size
+
+-- what is told apart of its value
+abbrev pub begun_form : Begin → steps.Form
+begun_form (begin.Text size) = steps.OneText
+begun_form begun = steps.Other
 
 -- all that is open, with the innermost first: the frames, the begins with a name, and the texts of their labels
 abbrev pub frames_of : List Frame → List Named → List ℕ → List machine.Frame
@@ -63,6 +63,11 @@ named_top names left = option_map (λ named. named_frame names.texts.items named
 pub record Opens (old new : Names) (opened : machine.Frame) (kept : Frame) : Type 0 where
   pub frames : (frames : List Frame) → frames_over (kept ∷ frames) new ≡ opened ∷ frames_over frames old
   pub named : (frames : List Frame) → are_named (kept ∷ frames) (reverse new.begun.items) ≡ are_named frames (reverse old.begun.items)
+
+-- a frame without a name is this one of the machine, in front of any others
+pub record StandsFor (kept : Frame) (opened : machine.Frame) : Type 0 where
+  pub frames : (frames : List Frame) (names : Names) → frames_over (kept ∷ frames) names ≡ opened ∷ frames_over frames names
+  pub named : (frames : List Frame) (named : List Named) → are_named (kept ∷ frames) named ≡ are_named frames named
 
 -- the names are as they were
 pub record AreKept (old new : Names) : Type 0 where

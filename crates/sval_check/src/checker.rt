@@ -5,15 +5,19 @@ ghost use Rattle.sval_label.specs.Made.{lent_call};
 ghost use Rattle.sval_label.specs.SeenName.{seen_name};
 ghost use Rattle.sval_label.specs.Grouped.{seen_head, seen_slot};
 ghost use Rattle.sval_core.specs.Law.{Answers};
-ghost use Rattle.sval_core.specs.CheckerSteps.{unfilled, has_room, form_of_head, value, begin, at_top};
+ghost use Rattle.sval_core.specs.Trees.{plain_name, plain_head, first_kind};
+ghost use Rattle.sval_core.specs.Checker.{InContainer};
+ghost use Rattle.sval_core.specs.CheckerSteps.{unfilled, has_room, Variant, form_of_head, value, begin, at_top};
 ghost use Rattle.sval_core.specs.CheckerSteps.{tagged_end, enum_end, end, part_begin, part_end};
-ghost use Rattle.sval_check.specs.Frames.{begun_frame, seen_form};
+ghost use Rattle.sval_check.specs.Kept.{value_frame};
+ghost use Rattle.sval_check.specs.Frames.{begun_frame, begun_form, seen_form};
 ghost use Rattle.sval_check.specs.Tops.{content_fragment, content_end};
 ghost use Rattle.sval_check.specs.Checking.{Checking, StepsBy, StepsOn, checker_law, checker_standing};
 ghost use Rattle.sval_check.specs.Checking.{finish_of, cause_of, wants_after};
 
 use crate::error::CheckError;
 use crate::frame::{Begin, Content, Form};
+use crate::kept::NamedValue;
 use crate::stack::Stack;
 use std::alloc::Global;
 use std::marker::Model;
@@ -53,16 +57,6 @@ impl Model for Checker {
       why = c.why;
       wants = c.wants;
     } };
-}
-
-/// The form of a container.
-fn form_of(head: Head<'_>) -> Form
-    ensures { seen_form result ≡ form_of_head (seen_head head.entry) }
-{
-    match head {
-        Head::Seq | Head::Map => Form::Other,
-        Head::Record(_) | Head::Tuple(_) | Head::RecordTuple(_) => Form::Variant,
-    }
 }
 
 impl Checker {
@@ -121,55 +115,47 @@ impl Checker {
         Ok(())
     }
 
-    /// Takes the begin of a value.
-    fn begin(&mut self, form: Form, call: Begin<'_>) -> Result<(), Why>
-        ensures { StepsBy true (begin (seen_form form) (begun_frame call.entry) self.old.state)
-            self.old self.new result }
+    /// Takes the begin of a value that says no name.
+    fn begin(&mut self, call: Begin) -> Result<(), Why>
+        ensures { StepsBy true (begin (begun_form call) (begun_frame call) self.old.state) self.old self.new result }
     {
-        if !self.has_room(form) {
+        if !self.has_room(call.form()) {
             return Err(Why::NotViable);
         }
         self.frames.push(call).map_err(|_| Why::NoMemory)
     }
 
-    /// Takes the begin of a text.
-    fn begin_text(&mut self, size: Option<usize>) -> Result<(), Why>
-        ensures { StepsBy true (begin (seen_form Form.Text) (begun_frame (Begin.Text size)) self.old.state)
-            self.old self.new result }
+    /// Takes the begin of a value that says a name, of a container with its size.
+    fn begin_named(
+        &mut self,
+        value: NamedValue,
+        name: Name<'_>,
+        size: Option<usize>,
+    ) -> Result<(), Why>
+        ensures { let opened = value_frame value (plain_name (seen_name name.entry)) size in
+            StepsBy true (begin Variant opened self.old.state) self.old self.new result }
     {
-        self.begin(Form::Text, Begin::Text(size))
-    }
-
-    /// Takes the begin of a binary.
-    fn begin_binary(&mut self, size: Option<usize>) -> Result<(), Why>
-        ensures { StepsBy true (begin (seen_form Form.Other) (begun_frame (Begin.Binary size)) self.old.state)
-            self.old self.new result }
-    {
-        self.begin(Form::Other, Begin::Binary(size))
-    }
-
-    /// Takes the begin of an enum.
-    fn begin_enum(&mut self, name: Name<'_>) -> Result<(), Why>
-        ensures { StepsBy true (begin (seen_form Form.Variant) (begun_frame (Begin.Enum name.entry)) self.old.state)
-            self.old self.new result }
-    {
-        self.begin(Form::Variant, Begin::Enum(name))
-    }
-
-    /// Takes the begin of a value with a name of its own.
-    fn begin_tagged(&mut self, name: Name<'_>) -> Result<(), Why>
-        ensures { StepsBy true (begin (seen_form Form.Variant) (begun_frame (Begin.Tagged name.entry)) self.old.state)
-            self.old self.new result }
-    {
-        self.begin(Form::Variant, Begin::Tagged(name))
+        if !self.has_room(Form::Variant) {
+            return Err(Why::NotViable);
+        }
+        self.frames
+            .push_named(value, name, size)
+            .map_err(|_| Why::NoMemory)
     }
 
     /// Takes the begin of a container.
     fn begin_container(&mut self, head: Head<'_>, size: Option<usize>) -> Result<(), Why>
-        ensures { let frame = begun_frame (Begin.Container head.entry size) in
-            StepsBy true (begin (form_of_head (seen_head head.entry)) frame self.old.state) self.old self.new result }
+        ensures { let head = seen_head head.entry in
+            let opened = InContainer (plain_head head) (first_kind head) size in
+            StepsBy true (begin (form_of_head head) opened self.old.state) self.old self.new result }
     {
-        self.begin(form_of(head), Begin::Container(head, size))
+        match head {
+            Head::Seq => self.begin(Begin::Seq(size)),
+            Head::Map => self.begin(Begin::Map(size)),
+            Head::Record(name) => self.begin_named(NamedValue::Record, name, size),
+            Head::Tuple(name) => self.begin_named(NamedValue::Tuple, name, size),
+            Head::RecordTuple(name) => self.begin_named(NamedValue::RecordTuple, name, size),
+        }
     }
 
     /// Takes so many bytes of a text or binary.
@@ -271,19 +257,19 @@ impl Checker {
             }
             GroupedCall::Tag(_) => self.value(Form::Variant),
             GroupedCall::TagHint(_) => Ok(()),
-            GroupedCall::TextBegin(size) => self.begin_text(size),
+            GroupedCall::TextBegin(size) => self.begin(Begin::Text(size)),
             GroupedCall::TextFragment(Fragment::Borrowed(text) | Fragment::Computed(text)) => {
                 self.fragment(Content::Text, text.len())
             }
             GroupedCall::TextEnd => self.content_end(Content::Text),
-            GroupedCall::BinaryBegin(size) => self.begin_binary(size),
+            GroupedCall::BinaryBegin(size) => self.begin(Begin::Binary(size)),
             GroupedCall::BinaryFragment(Fragment::Borrowed(bytes) | Fragment::Computed(bytes)) => {
                 self.fragment(Content::Binary, bytes.len())
             }
             GroupedCall::BinaryEnd => self.content_end(Content::Binary),
-            GroupedCall::EnumBegin(name) => self.begin_enum(name),
+            GroupedCall::EnumBegin(name) => self.begin_named(NamedValue::Enum, name, None),
             GroupedCall::EnumEnd(name) => self.enum_end(name),
-            GroupedCall::TaggedBegin(name) => self.begin_tagged(name),
+            GroupedCall::TaggedBegin(name) => self.begin_named(NamedValue::Tagged, name, None),
             GroupedCall::TaggedEnd(name) => self.tagged_end(name),
             GroupedCall::Begin(head, size) => self.begin_container(head, size),
             GroupedCall::End(head) => self.end(head),

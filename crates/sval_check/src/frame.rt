@@ -1,9 +1,8 @@
 //! What has begun and has no end yet, in short.
 
 ghost use Rattle.std.specs.Prelude.{◌≡◌};
+ghost use Rattle.sval_check.specs.Frames.{begun_form, begun_frame, seen_form, StandsFor};
 ghost use Rattle.sval_check.specs.Tops.{with_next, with_rest};
-
-use sval_core::{Head, Name, Slot};
 
 /// What has begun and has no end yet; of a size that was given, what is still to come.
 ///
@@ -56,21 +55,41 @@ impl Frame {
     }
 }
 
-/// A call that begins what has an end.
+/// A call that begins a value and says no name, but a size if one is given.
 #[derive(Clone, Copy)]
-pub(crate) enum Begin<'c> {
+pub(crate) enum Begin {
     /// Of a text.
     Text(Option<usize>),
     /// Of a binary.
     Binary(Option<usize>),
-    /// Of a value with a name of its own.
-    Tagged(Name<'c>),
-    /// Of an enum.
-    Enum(Name<'c>),
-    /// Of a container.
-    Container(Head<'c>, Option<usize>),
-    /// Of a container's part.
-    Part(Slot<'c>),
+    /// Of a sequence.
+    Seq(Option<usize>),
+    /// Of a map.
+    Map(Option<usize>),
+}
+
+impl Begin {
+    /// What is told apart of the value.
+    pub(crate) fn form(self) -> Form
+        ensures { seen_form result ≡ begun_form self }
+    {
+        match self {
+            Begin::Text(_) => Form::Text,
+            Begin::Binary(_) | Begin::Seq(_) | Begin::Map(_) => Form::Other,
+        }
+    }
+
+    /// The frame that it opens.
+    pub(crate) fn frame(self) -> Frame
+        ensures { StandsFor result (begun_frame self) }
+    {
+        match self {
+            Begin::Text(size) => Frame::Text(size),
+            Begin::Binary(size) => Frame::Binary(size),
+            Begin::Seq(size) => Frame::Seq(size),
+            Begin::Map(size) => Frame::Map(size),
+        }
+    }
 }
 
 /// What comes in fragments.

@@ -5,14 +5,15 @@ ghost use Rattle.sval_label.specs.SeenName.{seen_name};
 ghost use Rattle.sval_label.specs.Grouped.{seen_head, seen_slot};
 ghost use Rattle.sval_label.specs.Equalities as equal;
 ghost use Rattle.sval_core.specs.SameNames as same;
-ghost use Rattle.sval_core.specs.Trees.{plain_name};
+ghost use Rattle.sval_core.specs.Trees.{plain_name, plain_slot};
+ghost use Rattle.sval_core.specs.Checker.{InPart};
 ghost use Rattle.sval_core.specs.CheckerSteps.{admits};
 ghost use Rattle.sval_core.specs.Stacks.{top_of};
 ghost use Rattle.sval_check.specs.Kept.{kept_label, kept_name, named_size, named_frame, value_frame, texts_around};
-ghost use Rattle.sval_check.specs.Frames.{begun_frame, named_top, Keeps, seen_form};
+ghost use Rattle.sval_check.specs.Frames.{named_top, Keeps, seen_form};
 ghost use Rattle.sval_check.specs.Tops.{is_tagged, is_enum, is_head, is_slot, has_parts};
 
-use crate::frame::{Begin, Form, Frame};
+use crate::frame::{Form, Frame};
 use crate::kept::{
     KeptLabel, KeptName, Named, NamedValue, may_hold, same_index, same_tag, text_of,
 };
@@ -53,49 +54,8 @@ impl Names {
         Ok(Frame::Named(left))
     }
 
-    /// Keeps a begin, and gives its frame.
-    pub(crate) fn keep(&mut self, begin: Begin<'_>) -> Result<Frame, NoMemory>
-        ensures { Keeps self.old self.new (begun_frame begin.entry) result }
-    {
-        match begin {
-            Begin::Text(size) => Ok(Frame::Text(size)),
-            Begin::Binary(size) => Ok(Frame::Binary(size)),
-            Begin::Tagged(name) => self.keep_value(NamedValue::Tagged, name, None),
-            Begin::Enum(name) => self.keep_value(NamedValue::Enum, name, None),
-            Begin::Container(head, size) => self.keep_head(head, size),
-            Begin::Part(slot) => self.keep_slot(slot),
-        }
-    }
-
-    /// Keeps the begin of a container.
-    fn keep_head(&mut self, head: Head<'_>, size: Option<usize>) -> Result<Frame, NoMemory>
-        ensures { Keeps self.old self.new (begun_frame (Begin.Container head.entry size)) result }
-    {
-        match head {
-            Head::Seq => Ok(Frame::Seq(size)),
-            Head::Map => Ok(Frame::Map(size)),
-            Head::Record(name) => self.keep_value(NamedValue::Record, name, size),
-            Head::Tuple(name) => self.keep_value(NamedValue::Tuple, name, size),
-            Head::RecordTuple(name) => self.keep_value(NamedValue::RecordTuple, name, size),
-        }
-    }
-
-    /// Keeps the begin of a container's part.
-    fn keep_slot(&mut self, slot: Slot<'_>) -> Result<Frame, NoMemory>
-        ensures { Keeps self.old self.new (begun_frame (Begin.Part slot.entry)) result }
-    {
-        match slot {
-            Slot::Item => Ok(Frame::Item),
-            Slot::Key => Ok(Frame::Key),
-            Slot::Value => Ok(Frame::Value),
-            Slot::Field(tag, label) => self.keep_field(tag, label),
-            Slot::Place(tag, index) => self.keep_place(tag, index),
-            Slot::FieldPlace(tag, label, index) => self.keep_field_place(tag, label, index),
-        }
-    }
-
-    /// Keeps the begin of a value that says a name; of a container so much is still to come.
-    fn keep_value(
+    /// Keeps the begin of a value that says a name, and gives its frame; of a container so much is still to come.
+    pub(crate) fn keep_value(
         &mut self,
         value: NamedValue,
         name: Name<'_>,
@@ -110,9 +70,23 @@ impl Names {
         )
     }
 
+    /// Keeps the begin of a container's part, and gives its frame.
+    pub(crate) fn keep_slot(&mut self, slot: Slot<'_>) -> Result<Frame, NoMemory>
+        ensures { Keeps self.old self.new (InPart (plain_slot (seen_slot slot.entry))) result }
+    {
+        match slot {
+            Slot::Item => Ok(Frame::Item),
+            Slot::Key => Ok(Frame::Key),
+            Slot::Value => Ok(Frame::Value),
+            Slot::Field(tag, label) => self.keep_field(tag, label),
+            Slot::Place(tag, index) => self.keep_place(tag, index),
+            Slot::FieldPlace(tag, label, index) => self.keep_field_place(tag, label, index),
+        }
+    }
+
     /// Keeps the begin of a field of a record.
     fn keep_field(&mut self, tag: Option<&Tag>, label: &Label<'_>) -> Result<Frame, NoMemory>
-        ensures { Keeps self.old self.new (begun_frame (Begin.Part (Slot.Field tag.entry label.entry))) result }
+        ensures { Keeps self.old self.new (InPart (plain_slot (seen_slot (Slot.Field tag.entry label.entry)))) result }
     {
         self.push(
             Named::Field(tag.copied(), KeptLabel::of(label)),
@@ -123,7 +97,7 @@ impl Names {
 
     /// Keeps the begin of a field of a tuple.
     fn keep_place(&mut self, tag: Option<&Tag>, index: &Index) -> Result<Frame, NoMemory>
-        ensures { Keeps self.old self.new (begun_frame (Begin.Part (Slot.Place tag.entry index.entry))) result }
+        ensures { Keeps self.old self.new (InPart (plain_slot (seen_slot (Slot.Place tag.entry index.entry)))) result }
     {
         self.push(Named::Place(tag.copied(), *index), "", None)
     }
@@ -136,7 +110,7 @@ impl Names {
         index: &Index,
     ) -> Result<Frame, NoMemory>
         ensures { Keeps self.old self.new
-            (begun_frame (Begin.Part (Slot.FieldPlace tag.entry label.entry index.entry))) result }
+            (InPart (plain_slot (seen_slot (Slot.FieldPlace tag.entry label.entry index.entry)))) result }
     {
         self.push(
             Named::FieldPlace(tag.copied(), KeptLabel::of(label), *index),

@@ -3,13 +3,16 @@
 ghost use Rattle.std.specs.Prelude.{◌≡◌, [], ◌∷◌, reverse, is_ok, is_none, if◌then◌else◌};
 ghost use Rattle.sval_label.specs.SeenName.{seen_name};
 ghost use Rattle.sval_label.specs.Grouped.{seen_head, seen_slot};
+ghost use Rattle.sval_core.specs.Trees.{plain_name};
 ghost use Rattle.sval_core.specs.CheckerSteps.{admits};
 ghost use Rattle.sval_core.specs.Stacks.{top_of, below};
+ghost use Rattle.sval_check.specs.Kept.{value_frame};
 ghost use Rattle.sval_check.specs.Frames.{begun_frame, seen_form};
 ghost use Rattle.sval_check.specs.Tops.{is_tagged, is_enum, is_slot, ends, content_ends, content_rest, part_rest};
 ghost use Rattle.sval_check.specs.Tops.{with_left, with_rest, with_part, with_next, on_top};
 
 use crate::frame::{Begin, Content, Form, Frame};
+use crate::kept::NamedValue;
 use crate::left::{is_used_up, take_off};
 use crate::names::Names;
 use std::alloc::Global;
@@ -171,14 +174,31 @@ impl Stack {
         }
     }
 
-    /// Opens a frame in the innermost one.
-    pub(crate) fn push(&mut self, begin: Begin<'_>) -> Result<(), NoMemory>
-        ensures { self.new ≡ (if is_ok result then begun_frame begin.entry ∷ self.old else self.old) }
+    /// Opens the frame of a value that says no name in the innermost one.
+    pub(crate) fn push(&mut self, begin: Begin) -> Result<(), NoMemory>
+        ensures { self.new ≡ (if is_ok result then begun_frame begin ∷ self.old else self.old) }
     {
         if self.frames.reserve(1).is_err() {
             return Err(NoMemory);
         }
-        let frame = self.names.keep(begin)?;
+        self.frames.push_reserved(begin.frame());
+        Ok(())
+    }
+
+    /// Opens the frame of a value that says a name in the innermost one; of a container so much is still to come.
+    pub(crate) fn push_named(
+        &mut self,
+        value: NamedValue,
+        name: Name<'_>,
+        left: Option<usize>,
+    ) -> Result<(), NoMemory>
+        ensures { let opened = value_frame value (plain_name (seen_name name.entry)) left in
+            self.new ≡ (if is_ok result then opened ∷ self.old else self.old) }
+    {
+        if self.frames.reserve(1).is_err() {
+            return Err(NoMemory);
+        }
+        let frame = self.names.keep_value(value, name, left)?;
         self.frames.push_reserved(frame);
         Ok(())
     }
@@ -190,7 +210,7 @@ impl Stack {
         if self.frames.reserve(1).is_err() {
             return Err(NoMemory);
         }
-        let part = self.names.keep(Begin::Part(slot))?;
+        let part = self.names.keep_slot(slot)?;
         advance(&mut self.frames, left);
         self.frames.push_reserved(part);
         Ok(())
