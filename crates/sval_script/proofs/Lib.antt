@@ -15,6 +15,8 @@ pub mod SameRuns
 pub mod Decimals
 pub mod FieldTexts
 pub mod ScriptLines
+pub mod ScriptPieces
 pub mod ScriptStreams
 pub mod ScriptTexts
+pub mod WholeLines
 mod examples

@@ -11,3 +11,4 @@ pub mod LineCalls
 pub mod MadeLines
 pub mod Readings
 pub mod Runs
+pub mod ReadLines

@@ -7,10 +7,10 @@ ghost use Rattle.sval_script.specs.Lines as spec;
 ghost use Rattle.sval_script.specs.Readings.{answer_to};
 ghost use Rattle.sval_script.specs.declared.script.ScriptError.TheVariants as error;
 
-use crate::field::LineError;
-use crate::line::{Line, read_line};
+use crate::line::Line;
+use crate::reader::ScriptReader;
 use crate::store::Store;
-use std::alloc::{AllocFailed, Global};
+use std::alloc::{AllocError, AllocFailed, Global};
 use std::marker::Model;
 use sval_core::{Lent, Stream, Value};
 
@@ -31,14 +31,22 @@ impl<T: Drop> From<AllocFailed<T>> for ScriptError {
     }
 }
 
+impl From<AllocError> for ScriptError {
+    ghost from_gives = { λ _ r. r ≡ error.NoMemory };
+
+    fn from(_e: AllocError) -> ScriptError {
+        ScriptError::NoMemory
+    }
+}
+
 /// A script that was read: the calls of its lines, in order.
 ///
 /// It is a value, which makes these calls, lends its texts and bytes and never refuses. What finds no place in a line
 /// of 16 bytes stands beside the lines, decoded, in the order of the lines.
 #[derive(Drop)]
 pub struct Script {
-    lines: Vec<Line>,
-    store: Store,
+    pub(crate) lines: Vec<Line>,
+    pub(crate) store: Store,
 }
 
 impl Model for Script {
@@ -75,20 +83,9 @@ impl Script {
         ensures no_memory { result ≡ Err ScriptError.NoMemory → 0 < length bytes.now }
         ensures comes { (result ≡ answer_to (spec.lines bytes.now)) ⊎ (result ≡ Err ScriptError.NoMemory) }
     {
-        let mut store = Store::new(alloc);
-        let mut lines = Vec::new(alloc);
-        let mut rest = bytes;
-        while !rest.is_empty() {
-            let line = lines.len() as u64 + 1;
-            let (made, behind) = match read_line(&mut store, rest) {
-                Ok(read) => read,
-                Err(LineError::Bad) => return Err(ScriptError::BadLine { line }),
-                Err(LineError::NoMemory) => return Err(ScriptError::NoMemory),
-            };
-            lines.push(made)?;
-            rest = behind;
-        }
-        Ok(Script { lines, store })
+        let mut reader = ScriptReader::new(alloc);
+        reader.push(bytes);
+        reader.finish()
     }
 
     /// The number of its lines.
