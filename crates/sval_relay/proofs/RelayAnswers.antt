@@ -1,5 +1,5 @@
 -- From what reading, checking and writing a script answered to what serving it answers.
-use Rattle.std.specs.Prelude.{◌≡◌, ℕ, ◌+◌, ◌<◌, ◌^◌, ◌⊎◌, true, List, ◌∷◌, length, String, Some, Result, Ok, Err, refl}
+use Rattle.std.specs.Prelude.{◌≡◌, ℕ, ◌+◌, ◌<◌, ◌^◌, ◌⊎◌, true, List, [], ◌∷◌, length, String, Some, Result, Ok, Err, refl}
 use Rattle.std.proofs.Common.{ap, ◌∙◌, sym, subst, arith, inl, inr}
 use Rattle.std.proofs.lemmas.List.{length-append}
 use Rattle.sval_label.specs.Calls.{Call}
@@ -17,12 +17,13 @@ use Rattle.sval_json.specs.Written.{WritesTreeIn, WritesSpelledValue}
 use Rattle.sval_json.proofs.Appending.{all_is_front, steady_both, steady_counts, counts_since, counted_since}
 use Rattle.sval_script.specs.declared.script.ScriptError.{ScriptError}
 use Rattle.sval_script.specs.declared.script.ScriptError.TheVariants as reading
-use Rattle.sval_script.specs.Lines.{Good, Bad, lines}
+use Rattle.sval_script.specs.Lines.{Lines, Good, Bad, lines}
+use Rattle.sval_script.specs.Readings.{Reading, answer_to, answer_with}
 use Rattle.sval_relay.specs.declared.way.Way.{Way}
 use Rattle.sval_relay.specs.declared.relaying.RelayError.{RelayError}
 use Rattle.sval_relay.specs.declared.relaying.RelayError.TheVariants as answer
 use Rattle.sval_relay.specs.Sources.{Supply}
-use Rattle.sval_relay.specs.Inputs.{ReadsWhole}
+use Rattle.sval_relay.specs.Inputs.{ReadsWhole, HasRead}
 use Rattle.sval_relay.specs.Ways.{way_of, style_of}
 use Rattle.sval_relay.specs.Verdict.{Verdict, BadLine, BadCall, Unfinished, Key, Number, Text, asked_in, tree_written, IsVerdict, OnVerdict}
 use Rattle.sval_relay.specs.Relays.{of_script, of_sink, is_of_script, WritesText, Grows, MayLeave, WritesValue, WritesUpTo, IsOwnWant, RefusesTree, IsCauseOf, BeginsTree, IsAnswerTo, WritesJson, Relays}
@@ -222,13 +223,46 @@ relays_held told script way old mid new why r d =
 
 -- ---- what serving the input answered
 
--- the script that was served is the input that was kept
-pub served : {A I K : Type 0} {source : I → Supply} {sink : K → Told} {words : List (String A)} {result : Result (Unit {0}) RelayError} {before after : I} {old new : K} {way : Way} {script kept : List ℕ}
-    → way_of words ≡ Some way → script ≡ kept → ReadsWhole (source before) kept (source after) → Relays sink script way result old new → IsServed source sink words result before after old new
-served {way = way} {script = script} asked same reads relays = record {
+-- the script that was served is the input that was read
+pub served : {A I K : Type 0} {source : I → Supply} {sink : K → Told} {words : List (String A)} {result : Result (Unit {0}) RelayError} {before after : I} {old new : K} {way : Way} {script : List ℕ}
+    → way_of words ≡ Some way → ReadsWhole (source before) script (source after) → Relays sink script way result old new → IsServed source sink words result before after old new
+served {way = way} {script = script} asked reads relays = record {
   way = way;
   asked = asked;
   script = script;
-  reads = rw same reads;
+  reads = reads;
   relays = relays;
 }
+
+-- ---- what a reader answered
+
+module _ {reader : Reading} {old new : Supply} (h : HasRead old reader new) where
+  answered : (l : Lines) (a due : Result (List Call) ScriptError) → (a ≡ answer_to l) ⊎ ((a ≡ Err reading.NoMemory) × (0 < length h.script)) → due ≡ a
+      → (due ≡ answer_to l) ⊎ ((due ≡ Err reading.NoMemory) × (0 < length h.script))
+  answered l a due (inl is) e = inl (e ∙ is)
+  answered l a due (inr (is, some)) e = inr (e ∙ is, some)
+
+  pub read_good : (calls : List Call) → ◌≡◌ {A = Result (List Call) ScriptError} (Ok calls) (answer_with reader []) → lines h.script ≡ Good calls
+  read_good calls e = good (lines h.script) (answered (lines h.script) (answer_with reader []) (Ok calls) h.answer e)
+    where
+      good : (l : Lines) → (◌≡◌ {A = Result (List Call) ScriptError} (Ok calls) (answer_to l)) ⊎ ((◌≡◌ {A = Result (List Call) ScriptError} (Ok calls) (Err reading.NoMemory)) × (0 < length h.script)) → l ≡ Good calls
+      good (Good other) (inl is) = cc is
+      good (Bad n) (inl is) = cc is
+      good l (inr (is, some)) = cc is
+
+  pub read_bad : (why : ScriptError) → ◌≡◌ {A = Result (List Call) ScriptError} (Err why) (answer_with reader []) → (n : ℕ) → ◌≡◌ {A = Result (List Call) ScriptError} (Err why) (Err (reading.BadLine n))
+      → lines h.script ≡ Bad n
+  read_bad why e n same = bad (lines h.script) (answered (lines h.script) (answer_with reader []) (Err (reading.BadLine n)) h.answer (sym same ∙ e))
+    where
+      bad : (l : Lines) → (◌≡◌ {A = Result (List Call) ScriptError} (Err (reading.BadLine n)) (answer_to l)) ⊎ ((◌≡◌ {A = Result (List Call) ScriptError} (Err (reading.BadLine n)) (Err reading.NoMemory)) × (0 < length h.script)) → l ≡ Bad n
+      bad (Good other) (inl is) = cc is
+      bad (Bad m) (inl is) = cc is
+      bad l (inr (is, some)) = cc is
+
+  pub read_wants : (why : ScriptError) → ◌≡◌ {A = Result (List Call) ScriptError} (Err why) (answer_with reader []) → ◌≡◌ {A = Result (List Call) ScriptError} (Err why) (Err reading.NoMemory) → 0 < length h.script
+  read_wants why e same = wants (lines h.script) (answered (lines h.script) (answer_with reader []) (Err reading.NoMemory) h.answer (sym same ∙ e))
+    where
+      wants : (l : Lines) → (◌≡◌ {A = Result (List Call) ScriptError} (Err reading.NoMemory) (answer_to l)) ⊎ ((◌≡◌ {A = Result (List Call) ScriptError} (Err reading.NoMemory) (Err reading.NoMemory)) × (0 < length h.script)) → 0 < length h.script
+      wants (Good other) (inl is) = cc is
+      wants (Bad n) (inl is) = cc is
+      wants l (inr (is, some)) = some

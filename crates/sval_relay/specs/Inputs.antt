@@ -1,10 +1,13 @@
 -- What reading an input to its end makes of its source.
-use Rattle.std.specs.Prelude.{◌≡◌, ℕ, ◌+◌, ◌<◌, ◌≤◌, ◌^◌, List, [], drop, length, Option, Some, IfSome}
+use Rattle.std.specs.Prelude.{◌≡◌, ◌⊎◌, ℕ, ◌+◌, ◌<◌, ◌≤◌, ◌^◌, List, [], take, drop, length, Option, Some, IfSome, Err}
 use Rattle.sval_core.specs.Law.{Rose}
+use Rattle.sval_script.specs.Lines.{lines}
+use Rattle.sval_script.specs.Readings.{Reading, answer_to, answer_with, TakesPiece}
+use Rattle.sval_script.specs.declared.script.ScriptError.TheVariants.{NoMemory}
 use Rattle.sval_relay.specs.declared.reading.ReadError.{ReadError}
 use Rattle.sval_relay.specs.declared.reading.ReadError.TheVariants.{Fault, TooLong}
 use Rattle.sval_relay.specs.declared.way.Way.{Way}
-use Rattle.sval_relay.specs.Sources.{Supply}
+use Rattle.sval_relay.specs.Sources.{Supply, Gives}
 
 -- an input of at most 16,777,216 bytes, which is kept whole
 abbrev pub IsShort : List ℕ → Type 0
@@ -31,6 +34,18 @@ pub record ReadsWhole (old : Supply) (bytes : List ℕ) (new : Supply) : Type 0 
   pub taken : IfSome old.left (λ all. TakesAll all bytes new.left)
   pub short : IsShort bytes
   pub faults : new.faults ≡ old.faults
+
+-- so many bytes were read into the front of the buffer, and the reader was given them
+pub record GivesPart (count : ℕ) (old : Supply) (buffer : List ℕ) (new : Supply) (reader after : Reading) : Type 0 where
+  pub gives : Gives count old buffer new
+  pub takes : TakesPiece reader (take count buffer) after
+  pub nothing : count ≡ 0 → after ≡ reader
+
+-- the input was read whole, and the reader answers as the script that it is asks for, or that memory was wanting
+pub record HasRead (old : Supply) (reader : Reading) (new : Supply) : Type 0 where
+  pub script : List ℕ
+  pub reads : ReadsWhole old script new
+  pub answer : (answer_with reader [] ≡ answer_to (lines script)) ⊎ ((answer_with reader [] ≡ Err NoMemory) × (0 < length script))
 
 -- there were more than 16,777,216 bytes, and one more than these was taken
 pub record TakesOneMore (whole : List ℕ) (rest : Option (List ℕ)) : Type 0 where

@@ -12,7 +12,7 @@ ghost use Rattle.sval_relay.specs.Serves.{Serves};
 ghost use Rattle.sval_relay.specs.Reports.{Reports};
 
 use crate::failure::{Failure, conclude};
-use crate::reading::read_all;
+use crate::reading::read_script;
 use crate::relaying::serve_script;
 use crate::source::Source;
 use crate::status::{
@@ -22,7 +22,6 @@ use crate::status::{
 use crate::way::named_way;
 use std::alloc::Global;
 use sval_json::Sink;
-use sval_script::Script;
 
 /// Serves the input in the way that the words name.
 fn serve<I: Source, K: Sink>(
@@ -34,10 +33,8 @@ fn serve<I: Source, K: Sink>(
     ensures { Serves I.told K.told words.now result input.old input.new out.old out.new }
 {
     let way = named_way(words).ok_or(Failure::Usage)?;
-    let bytes = read_all(alloc, input)?;
-    let script = Script::read(alloc, bytes.as_slice())?;
-    // The script keeps its texts, so the input's memory is free from here on.
-    drop(bytes);
+    let reader = read_script(alloc, input)?;
+    let script = reader.finish()?;
     serve_script(alloc, &script, way, out)?;
     out.flush()?;
     Ok(())

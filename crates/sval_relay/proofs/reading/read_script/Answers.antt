@@ -1,41 +1,62 @@
-use Rattle.std.proofs.Common.{rules, arith, ◌≡◌, ◌≤◌, ◌+◌, ◌-◌, ◌++◌, ◌∙◌, take, drop, length, subst, sym, ap}
-use Rattle.std.proofs.lemmas.List.{length-take-le, length-drop}
-use Rattle.sval_relay.proofs.ReadParts.{IsPartlyRead, read_on, read_whole, read_long, filled, begins}
-use Rattle.sval_relay.proofs.reading.read_all.Goals as goal
+use Rattle.std.proofs.Common.{rules, arith, ◌≡◌, ◌≤◌, ◌+◌, ◌<◌, ◌∙◌, length}
+use Rattle.std.proofs.lemmas.List.{length-take-le}
+use Rattle.std.proofs.lemmas.Result.{err_from_is_err_and}
+use Rattle.sval_relay.proofs.ReadParts.{reads-none, reads-more, reads-all, read_long}
+use Rattle.sval_relay.proofs.reading.read_script.Goals as goal
 
-pub loop-bytes-preserved : goal.loop-bytes-preserved
-loop-bytes-preserved g c =
-    let size : length c.loop-bytes.bytes.items ≡ c.len-start.result = search rules in
-    let kept : take c.len-start.result c.deref_mut.result.now ≡ c.loop-bytes.bytes.items =
-    ap (take c.len-start.result) (c.deref_mut.ensures.value ∙ c.in_ok-resize.ensures.items) ∙ begins c.loop-bytes.bytes.items _ c.len-start.result c.min-room.result size in
-    let same = c.read.auto.buffer in
-    let fits : c.in_ok-count.count ≤ length c.read.new.buffer = c.in_ok-count.ensures.within in
-    let long : c.resize.new.self.len ≡ c.len-start.result + c.min-room.result = c.in_ok-resize.ensures.len in
-    let all : length c.deref_mut.result.now ≡ c.len-start.result + c.min-room.result = search rules in
-    let least : c.in_ok-count.count ≤ c.min-room.result =
-    omega (arith, fits, same, length-take-le (length c.deref_mut.result.now - c.len-start.result) (drop c.len-start.result c.deref_mut.result.now) (omega (arith, length-drop c.len-start.result c.deref_mut.result.now)), length-drop c.len-start.result c.deref_mut.result.now) in
-    let room : c.len-start.result + c.in_ok-count.count ≤ c.resize.new.self.len = omega arith in
-    let items : c.truncate.new.self.items ≡ c.loop-bytes.bytes.items ++ take c.in_ok-count.count c.read.new.buffer =
-    c.truncate.ensures.items ∙ filled c.loop-bytes.bytes.items c.deref_mut.result.now c.read.new.buffer _ _ c.len-start.result c.in_ok-count.count c.resize.new.self.len kept size fits room in
+pub loop-taken-init : goal.loop-taken-init
+loop-taken-init g c = record {
+  reading = reads-none (g.I.Source.told c.args.input.now) c.new-reader.result c.new-reader.ensures;
+  short = omega arith;
+  buffer = c.in_ok-buffer.ensures.len;
+}
+
+pub loop-taken-preserved : goal.loop-taken-preserved
+loop-taken-preserved g c =
+    let part = c.in_ok-count.ensures.ok in
+    let size : length c.deref_mut.result.now ≡ 65536 = c.deref_mut.ensures.len ∙ c.loop-taken.invariant.buffer in
+    let least : c.min-room.result ≤ length c.deref_mut.result.now = omega (arith, size, c.min-room.ensures) in
+    let room : c.in_ok-count.count ≤ c.min-room.result =
+    omega (arith, part.gives.within, c.read_part.auto.buffer, length-take-le c.min-room.result c.deref_mut.result.now least) in
     record {
-      read = subst (IsPartlyRead _ _) (sym items) (read_on _ _ _ c.loop-bytes.bytes.items c.read.new.buffer c.in_ok-count.count c.loop-bytes.invariant.read c.in_ok-count.ensures);
-      short = omega (arith, c.truncate.ensures.len, c.min-room.ensures, least, long);
-      faults = c.in_ok-count.ensures.faults ∙ c.loop-bytes.invariant.faults;
+      reading = reads-more (g.I.Source.told c.read_part.new.input) c.read_part.new.reader c.read_part.new.buffer c.in_ok-count.count c.loop-taken.invariant.reading part c.if-count-eq0.false;
+      short = omega (arith, room, c.min-room.ensures, c.loop-taken.invariant.short);
+      buffer = c.loop-taken.invariant.buffer;
+    }
+
+pub returns-then-count-eq0-clause-ok : goal.returns-then-count-eq0-clause-ok
+returns-then-count-eq0-clause-ok g c =
+    let part = c.in_ok-count.ensures.ok in
+    let size : length c.deref_mut.result.now ≡ 65536 = c.deref_mut.ensures.len ∙ c.loop-taken.invariant.buffer in
+    let least : c.min-room.result ≤ length c.deref_mut.result.now = omega (arith, size, c.min-room.ensures) in
+    let below : c.loop-taken.taken < 16777216 = search rules in
+    let some : 0 < length c.read_part.new.buffer =
+    omega (arith, below, c.min-room.ensures, c.read_part.auto.buffer, length-take-le c.min-room.result c.deref_mut.result.now least) in
+    rw (part.nothing c.if-count-eq0.true)
+    (reads-all (g.I.Source.told c.read_part.new.input) c.read_part.new.buffer c.in_ok-count.count c.loop-taken.invariant.reading part.gives c.if-count-eq0.true some c.loop-taken.invariant.short)
+
+pub returns-in_err-count-clause-err : goal.returns-in_err-count-clause-err
+returns-in_err-count-clause-err g c =
+    let p = err_from_is_err_and c.from_residual-in_err-count.result c.from_residual-in_err-count.ensures.1 in
+    let r = c.loop-taken.invariant.reading in
+    let no = c.in_err-count.ensures.err in
+    rw (p.1, p.2) record {
+      fault = λ e. rw (← r.faults) no.cause;
+      long = λ e. cc e;
+      faults = omega (arith, r.faults, no.faults);
     }
 
 pub returns-in-0-clause-ok : goal.returns-in-0-clause-ok
-returns-in-0-clause-ok g c = record {
-  taken = read_whole _ _ _ c.loop-bytes.bytes.items c.read-2.new.buffer c.in_ok-read.field-0 c.loop-bytes.invariant.read c.in_ok-read.ensures c.in-0.is (omega (arith, c.read-2.auto.buffer));
-  short = omega (arith, c.loop-bytes.invariant.short);
-  faults = c.in_ok-read.ensures.faults ∙ c.loop-bytes.invariant.faults;
-}
+returns-in-0-clause-ok g c =
+    reads-all (g.I.Source.told c.read.new.self) c.read.new.buffer c.in_ok-read.field-0 c.loop-taken.invariant.reading c.in_ok-read.ensures c.in-0.is (omega (arith, c.read.auto.buffer)) c.loop-taken.invariant.short
 
 pub returns-in_default-clause-err : goal.returns-in_default-clause-err
 returns-in_default-clause-err g c =
-    let full : length c.loop-bytes.bytes.items ≡ 16777216 = search rules in
+    let r = c.loop-taken.invariant.reading in
+    let full : length r.bytes ≡ 16777216 = omega (arith, r.size, c.loop-taken.invariant.short) in
     let one : c.in_ok-read.field-0 ≡ 1 = search rules in
     record {
       fault = λ e. cc e;
-      long = λ e. read_long _ _ _ c.loop-bytes.bytes.items c.read-2.new.buffer c.in_ok-read.field-0 c.loop-bytes.invariant.read full c.in_ok-read.ensures one;
-      faults = omega (arith, c.in_ok-read.ensures.faults, c.loop-bytes.invariant.faults);
+      long = λ e. read_long _ _ _ r.bytes c.read.new.buffer c.in_ok-read.field-0 r.read full c.in_ok-read.ensures one;
+      faults = omega (arith, c.in_ok-read.ensures.faults, r.faults);
     }

@@ -1,13 +1,13 @@
-use Rattle.std.proofs.Common.{◌≡◌, ◌-◌, ◌≤◌, ◌^◌, vec_len}
-use Rattle.sval_relay.proofs.ReadParts.{IsPartlyRead}
-use Rattle.sval_relay.proofs.reading.read_all.Given as goal
+use Rattle.std.proofs.Common.{◌-◌, ◌≡◌, ◌≤◌, ◌^◌, vec_len}
+use Rattle.sval_relay.proofs.ReadParts.{IsReading}
+use Rattle.sval_relay.proofs.reading.read_script.Given as goal
 
-abbrev pub invariant-loop-bytes : goal.invariant-loop-bytes
-invariant-loop-bytes g l = record {
-  read : IsPartlyRead (g.I.Source.told l.initial.input).left (g.I.Source.told l.input).left l.bytes.items;
-  short : vec_len l.bytes ≤ 2 ^ 24;
-  faults : (g.I.Source.told l.input).faults ≡ (g.I.Source.told l.initial.input).faults;
+abbrev pub invariant-loop-taken : goal.invariant-loop-taken
+invariant-loop-taken g l = record {
+  reading : IsReading (g.I.Source.told l.initial.input) (g.I.Source.told l.input) l.reader l.taken;
+  short : l.taken ≤ 2 ^ 24;
+  buffer : vec_len l.buffer ≡ 65536;
 }
 
-abbrev pub decreases-loop-bytes : goal.decreases-loop-bytes
-decreases-loop-bytes g l = 2 ^ 24 - vec_len l.bytes
+abbrev pub decreases-loop-taken : goal.decreases-loop-taken
+decreases-loop-taken g l = 16777216 - l.taken
