@@ -6,7 +6,7 @@ use mathlib.Core.List.{append_assoc}
 use Rattle.sval_label.specs.Calls.{Call}
 use Rattle.sval_buffer.specs.Forest.{Node, Container, Nodes, none, ◌and◌, Open, Forest, empty_forest, newest_row, with_row, with_flag, add, begun, close, Becomes, is_complete, has_all_ends}
 use Rattle.sval_buffer.specs.Flat as flat
-use Rattle.sval_buffer.specs.Flat.{FlatKind, FlatPart, flat_part, flat_node, flat_row, flat_spine, push_flat}
+use Rattle.sval_buffer.specs.Flat.{FlatKind, FlatPart, flat_part, flat_node, flat_row, flat_spine}
 use Rattle.sval_buffer.specs.FlatForest.{open_places, forest_of}
 use Rattle.sval_buffer.proofs.BuiltBack.{built_back, some_parts}
 use Rattle.sval_buffer.specs.Holders.{holders, holders_node, holders_row, holders_spine, newest_place}

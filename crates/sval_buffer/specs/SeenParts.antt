@@ -1,5 +1,5 @@
 -- What the parts of the program are.
-use Rattle.std.specs.Prelude.{◌≡◌, ℕ, ◌<◌, Bool, true, false, List, [], ◌∷◌, length, map, Option, Some, Result, Ok, Err, ⊤}
+use Rattle.std.specs.Prelude.{◌≡◌, ℕ, ◌<◌, Bool, true, false, List, [], ◌∷◌, length, map, Option, Some, None, Result, Ok, Err, ⊤}
 use Rattle.std.specs.Borrow.{Bor}
 use Rattle.sval_label.specs.Calls as call
 use Rattle.sval_label.specs.Calls.{Call}
@@ -7,7 +7,7 @@ use Rattle.sval_label.specs.Grouped.{int_call}
 use Rattle.sval_label.specs.declared.grouped.Fragment as grouped
 use Rattle.sval_label.specs.declared.grouped.Fragment.TheVariants.{Borrowed, Computed}
 use Rattle.sval_buffer.specs.Pushes.{HeldBytes}
-use Rattle.sval_buffer.specs.Forest.{Forest, Node, Text, Binary, OutsideText, OutsideBinary, no_bytes, push_may_grow}
+use Rattle.sval_buffer.specs.Forest.{Forest, Node, Text, Binary, no_bytes, outside, push_may_grow}
 use Rattle.sval_buffer.specs.Flat as flat
 use Rattle.sval_buffer.specs.Flat.{FlatKind, FlatPart, flat_part}
 use Rattle.sval_buffer.specs.FlatForest.{open_places, forest_of}
@@ -18,7 +18,7 @@ use Rattle.sval_buffer.specs.declared.part.Single.TheVariants.{Null, Bool as Tru
 use Rattle.sval_buffer.specs.declared.part.Begin.{Begin}
 use Rattle.sval_buffer.specs.declared.part.Begin.TheVariants as begin
 use Rattle.sval_buffer.specs.declared.part.Medium.{Medium}
-use Rattle.sval_buffer.specs.declared.part.Medium.TheVariants as medium
+use Rattle.sval_buffer.specs.declared.part.Medium.TheVariants as media
 use Rattle.sval_buffer.specs.declared.part.PartKind.{PartKind}
 use Rattle.sval_buffer.specs.declared.part.PartKind.TheVariants as kind
 use Rattle.sval_buffer.specs.declared.part.Part.{Part}
@@ -117,12 +117,12 @@ pub record PartsTell (calls : List Call) (parts : List Part) (places : List ℕ)
 
 -- a part without fragments
 abbrev pub no_fragments_yet : Medium → PartKind
-no_fragments_yet medium.Text = kind.Text no_bytes
-no_fragments_yet medium.Binary = kind.Binary no_bytes
+no_fragments_yet media.Text = kind.Text no_bytes
+no_fragments_yet media.Binary = kind.Binary no_bytes
 
 abbrev pub no_fragments : Medium → Node
-no_fragments medium.Text = Text no_bytes
-no_fragments medium.Binary = Binary no_bytes
+no_fragments media.Text = Text no_bytes
+no_fragments media.Binary = Binary no_bytes
 
 -- a fragment with whether it is borrowed
 abbrev pub fragment_bytes : grouped.Fragment (Bor (List ℕ)) (Bor (List ℕ)) → HeldBytes
@@ -143,22 +143,13 @@ pub record Pushed (taken : Option FlatKind) (old new : SeenPart) : Type 0 where
   pub holds : new.holds ≡ old.holds
   pub holder : new.holder ≡ old.holder
 
--- why a part refuses a text fragment: it is no text, or memory was wanting where the push may take some
-abbrev pub IsTextCause : HeldBytes → FlatKind → ErrorKind → Type 0
-IsTextCause fragment (flat.Words held) why = WantsMemory (push_may_grow fragment.borrowed (Some held)) why
-IsTextCause fragment other why = why ≡ error_of OutsideText
+-- Why a part refuses a fragment, by what it holds of the medium: that is nothing, or memory was wanting where the push
+-- may take some.
+abbrev pub IsPushCause : Medium → HeldBytes → Option HeldBytes → ErrorKind → Type 0
+IsPushCause medium fragment (Some held) why = WantsMemory (push_may_grow fragment.borrowed (Some held)) why
+IsPushCause medium fragment None why = why ≡ error_of (outside medium)
 
--- the same of a binary fragment
-abbrev pub IsBinaryCause : HeldBytes → FlatKind → ErrorKind → Type 0
-IsBinaryCause fragment (flat.Bytes held) why = WantsMemory (push_may_grow fragment.borrowed (Some held)) why
-IsBinaryCause fragment other why = why ≡ error_of OutsideBinary
-
--- the text fragment was pushed into the part, or the part refused it and is as it was
-abbrev pub TextPushes : SeenPart → HeldBytes → Result (Unit {0}) ErrorKind → SeenPart → Type 0
-TextPushes old fragment (Ok done) new = Pushed (flat.push_part fragment old.kind) old new
-TextPushes old fragment (Err why) new = (new ≡ old) × IsTextCause fragment old.kind why
-
--- the same of a binary fragment
-abbrev pub BinaryPushes : SeenPart → HeldBytes → Result (Unit {0}) ErrorKind → SeenPart → Type 0
-BinaryPushes old fragment (Ok done) new = Pushed (flat.push_binary_part fragment old.kind) old new
-BinaryPushes old fragment (Err why) new = (new ≡ old) × IsBinaryCause fragment old.kind why
+-- the fragment was pushed into the part, or the part refused it and is as it was
+abbrev pub FragmentPushes : Medium → SeenPart → HeldBytes → Result (Unit {0}) ErrorKind → SeenPart → Type 0
+FragmentPushes medium old fragment (Ok done) new = Pushed (flat.push_part medium fragment old.kind) old new
+FragmentPushes medium old fragment (Err why) new = (new ≡ old) × IsPushCause medium fragment (flat.held_part medium old.kind) why

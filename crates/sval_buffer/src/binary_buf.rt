@@ -11,7 +11,7 @@ use crate::fragment_buf::FragmentBuf;
 use std::alloc::Global;
 use std::fmt;
 use std::marker::Model;
-use sval_core::{Lent, Result, Stream, Value};
+use sval_core::{Fragment, Lent, Result, Stream, Value};
 use sval_ref::ValueRef;
 
 /// A binary that comes in fragments.
@@ -89,7 +89,10 @@ impl<'sval> BinaryBuf<'sval> {
         ensures { option_map (λ bytes. bytes.now) result
             ≡ (if self.now.borrowed then Some self.now.bytes else None) }
     {
-        self.fragments.as_borrowed_slice()
+        match self.fragments.fragment() {
+            Fragment::Borrowed(bytes) => Some(bytes),
+            Fragment::Computed(_) => None,
+        }
     }
 
     /// The binary.
@@ -97,12 +100,6 @@ impl<'sval> BinaryBuf<'sval> {
         ensures { result.now ≡ self.now.bytes }
     {
         self.fragments.as_slice()
-    }
-}
-
-impl<'sval> fmt::Debug for BinaryBuf<'sval> {
-    fn fmt<W: fmt::Write>(&self, f: &mut fmt::Formatter<W>) -> fmt::Result {
-        fmt::Debug::fmt(&self.as_slice(), f)
     }
 }
 
@@ -122,10 +119,16 @@ impl<'sval> ValueRef<Lent<'sval>> for BinaryBuf<'sval> {
 
     fn stream_ref<S: Stream<Lent<'sval>>>(&self, stream: &mut S) -> Result {
         stream.binary_begin(Some(self.as_slice().len()))?;
-        match self.as_borrowed_slice() {
-            Some(bytes) => stream.binary_fragment(bytes)?,
-            None => stream.binary_fragment_computed(self.as_slice())?,
+        match self.fragments.fragment() {
+            Fragment::Borrowed(bytes) => stream.binary_fragment(bytes)?,
+            Fragment::Computed(bytes) => stream.binary_fragment_computed(bytes)?,
         }
         stream.binary_end()
+    }
+}
+
+impl<'sval> fmt::Debug for BinaryBuf<'sval> {
+    fn fmt<W: fmt::Write>(&self, f: &mut fmt::Formatter<W>) -> fmt::Result {
+        fmt::Debug::fmt(&self.as_slice(), f)
     }
 }

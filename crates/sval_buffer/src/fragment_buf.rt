@@ -1,11 +1,13 @@
 //! Bytes that come in fragments.
 
-ghost use Rattle.std.specs.Prelude.{◌≡◌, true, false, [], Some, None, IsOk, IfOk, ◌++◌, is_ok, option_map, if◌then◌else◌};
+ghost use Rattle.std.specs.Prelude.{◌≡◌, true, false, [], IsOk, IfOk, ◌++◌, is_ok, if◌then◌else◌};
 ghost use Rattle.sval_buffer.specs.Pushes.{pushed};
 ghost use Rattle.sval_buffer.specs.Forest.{no_bytes};
+ghost use Rattle.sval_buffer.specs.SeenParts.{fragment_bytes};
 
 use std::alloc::{AllocError, Global};
 use std::marker::Model;
+use sval_core::Fragment;
 
 /// Where the bytes lie.
 #[derive(Drop)]
@@ -80,14 +82,13 @@ impl<'sval> FragmentBuf<'sval> {
         }
     }
 
-    /// The bytes, where they are borrowed.
-    pub(crate) fn as_borrowed_slice(&self) -> Option<&'sval [u8]>
-        ensures { option_map (λ bytes. bytes.now) result
-            ≡ (if self.now.borrowed then Some self.now.bytes else None) }
+    /// The bytes in one fragment, which is borrowed where they are.
+    pub(crate) fn fragment(&self) -> Fragment<&'sval [u8], &[u8]>
+        ensures { fragment_bytes result ≡ self.now }
     {
         match &self.held {
-            Held::Borrowed(bytes) => Some(*bytes),
-            Held::Owned(_) => None,
+            Held::Borrowed(bytes) => Fragment::Borrowed(bytes),
+            Held::Owned(bytes) => Fragment::Computed(bytes.as_slice()),
         }
     }
 

@@ -9,7 +9,8 @@ ghost use Rattle.sval_core.specs.Values.{makes};
 ghost use Rattle.sval_buffer.specs.Replay.{head_calls};
 ghost use Rattle.sval_buffer.specs.Nested.{end_calls, is_holder};
 ghost use Rattle.sval_buffer.specs.Forest.{end_of, push_may_grow};
-ghost use Rattle.sval_buffer.specs.SeenParts.{seen_part, TextPushes, BinaryPushes, fragment_bytes, with_holds, flat_kind, holds_of, single_call, begin_call, no_fragments_yet, IsKept};
+ghost use Rattle.sval_buffer.specs.declared.part.Medium.TheVariants as media;
+ghost use Rattle.sval_buffer.specs.SeenParts.{seen_part, FragmentPushes, fragment_bytes, with_holds, flat_kind, holds_of, single_call, begin_call, no_fragments_yet, IsKept};
 
 use crate::binary_buf::BinaryBuf;
 use crate::error::{ErrorKind, Word};
@@ -145,8 +146,8 @@ impl<'sval> Part<'sval> {
         &mut self,
         fragment: Fragment<&'sval str, &str>,
     ) -> Result<(), ErrorKind>
-        ensures pushes { let pushed = fragment_bytes fragment.entry in
-            (calls : List Call) → TextPushes (seen_part calls self.old) pushed result (seen_part calls self.new) }
+        ensures pushes { let pushed = fragment_bytes fragment.entry in (calls : List Call)
+            → FragmentPushes media.Text (seen_part calls self.old) pushed result (seen_part calls self.new) }
         ensures kept { (calls : ℕ) → IsKept calls self.old.kind → IsKept calls self.new.kind }
     {
         match &mut self.kind {
@@ -162,8 +163,8 @@ impl<'sval> Part<'sval> {
         &mut self,
         fragment: Fragment<&'sval [u8], &[u8]>,
     ) -> Result<(), ErrorKind>
-        ensures pushes { let pushed = fragment_bytes fragment.entry in
-            (calls : List Call) → BinaryPushes (seen_part calls self.old) pushed result (seen_part calls self.new) }
+        ensures pushes { let pushed = fragment_bytes fragment.entry in (calls : List Call)
+            → FragmentPushes media.Binary (seen_part calls self.old) pushed result (seen_part calls self.new) }
         ensures kept { (calls : ℕ) → IsKept calls self.old.kind → IsKept calls self.new.kind }
     {
         match &mut self.kind {

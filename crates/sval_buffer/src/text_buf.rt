@@ -12,7 +12,7 @@ use crate::fragment_buf::FragmentBuf;
 use std::alloc::Global;
 use std::fmt;
 use std::marker::Model;
-use sval_core::{Lent, Result, Stream, Value};
+use sval_core::{Fragment, Lent, Result, Stream, Value};
 use sval_ref::ValueRef;
 
 /// A text that comes in fragments.
@@ -89,9 +89,9 @@ impl<'sval> TextBuf<'sval> {
     pub fn as_borrowed_str(&self) -> Option<&'sval str>
         ensures { option_map (λ text. text.now) result ≡ (if self.now.borrowed then Some self.now.bytes else None) }
     {
-        match self.fragments.as_borrowed_slice() {
-            Some(bytes) => Some(text(bytes)),
-            None => None,
+        match self.fragments.fragment() {
+            Fragment::Borrowed(bytes) => Some(text(bytes)),
+            Fragment::Computed(_) => None,
         }
     }
 
@@ -100,12 +100,6 @@ impl<'sval> TextBuf<'sval> {
         ensures { result.now ≡ self.now.bytes }
     {
         text(self.fragments.as_slice())
-    }
-}
-
-impl<'sval> fmt::Debug for TextBuf<'sval> {
-    fn fmt<W: fmt::Write>(&self, f: &mut fmt::Formatter<W>) -> fmt::Result {
-        fmt::Debug::fmt(&self.as_str(), f)
     }
 }
 
@@ -125,11 +119,17 @@ impl<'sval> ValueRef<Lent<'sval>> for TextBuf<'sval> {
 
     fn stream_ref<S: Stream<Lent<'sval>>>(&self, stream: &mut S) -> Result {
         stream.text_begin(Some(self.as_str().len()))?;
-        match self.as_borrowed_str() {
-            Some(text) => stream.text_fragment(text)?,
-            None => stream.text_fragment_computed(self.as_str())?,
+        match self.fragments.fragment() {
+            Fragment::Borrowed(bytes) => stream.text_fragment(text(bytes))?,
+            Fragment::Computed(bytes) => stream.text_fragment_computed(text(bytes))?,
         }
         stream.text_end()
+    }
+}
+
+impl<'sval> fmt::Debug for TextBuf<'sval> {
+    fn fmt<W: fmt::Write>(&self, f: &mut fmt::Formatter<W>) -> fmt::Result {
+        fmt::Debug::fmt(&self.as_str(), f)
     }
 }
 

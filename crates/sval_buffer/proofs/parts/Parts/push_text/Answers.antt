@@ -1,44 +1,24 @@
-use Rattle.std.proofs.Common.{◌≡◌, ◌<◌, ◌-◌, length, slice_index_or, slice_set, ap, ◌∙◌, refl, arith, vec_len}
+use Rattle.std.proofs.Common.{ap, refl}
 use Rattle.sval_buffer.specs.SeenParts.{fragment_bytes}
 use Rattle.sval_buffer.specs.FlatForest.{forest_in}
-use Rattle.sval_buffer.proofs.PushSteps.{EndsIn, ends_in, set-last}
+use Rattle.sval_buffer.specs.declared.part.Medium.TheVariants as media
 use Rattle.sval_buffer.proofs.KeptParts.{Holds, holds_it}
-use Rattle.sval_buffer.proofs.PushParts.{told_by, tells_by, text_by, text_nothing}
+use Rattle.sval_buffer.proofs.PushParts.{told_by, tells_by, last_pushed, nothing_pushed}
 use Rattle.sval_buffer.proofs.parts.Parts.push_text.Goals as goal
 use Rattle.sval_buffer.proofs.parts.Parts.push_text.Goals.{in-Some, in-None}
 
 pub invariant_of-self : goal.invariant_of-self
 invariant_of-self g c =
     let h : Holds (g.N.CallStore.calls c.self.inside.named) c.self.inside.parts.items c.self.inside.places.items c.self.inside.in_fragments (forest_in c.args.self.now) = holds_it _ c.self.invariant (ap forest_in c.self.view_is) in
-    let calls = g.N.CallStore.calls c.self.inside.named in
-    let items = c.self.inside.parts.items in
-    let n : vec_len c.self.inside.parts ≡ length items = c.self.inside.parts.ok.0 in
     elim c.match-last_mut.branch [
-      | in-Some w ↦
-          let last = w.in-Some.part.now in
-          let some : 0 < length items = omega (arith, w.in-Some.ensures.variant.0 refl) in
-          let ends : EndsIn items last = ends_in items last some (w.in-Some.ensures.value ∙ ap (λ k. slice_index_or items (k - 1) last) n) in
-          let whole = ap (λ k. slice_set items (k - 1) w.push_text.new.self) n ∙ set-last items ends.front last w.push_text.new.self ends.parts_are in
-          rw (w.self-inside-is, whole) (tells_by (text_by h (fragment_bytes c.args.fragment) last w.push_text.new.self w.push_text.result ends (w.push_text.ensures.kept (length calls)) (w.push_text.ensures.pushes calls)))
-      | in-None w ↦
-          let z : length items ≡ 0 = omega (arith, w.in-None.ensures.item) in
-          rw w.self-inside-is (tells_by (text_nothing h (fragment_bytes c.args.fragment) z))
+      | in-Some w ↦ rw w.self-inside-is (tells_by (last_pushed h media.Text (fragment_bytes c.args.fragment) _ _ _ _ c.self.inside.parts.ok.0 (w.in-Some.ensures.variant.0 refl) w.in-Some.ensures.value (w.push_text.ensures.kept _) (w.push_text.ensures.pushes _)))
+      | in-None w ↦ rw w.self-inside-is (tells_by (nothing_pushed h media.Text (fragment_bytes c.args.fragment) _ c.self.inside.parts.ok.0 w.in-None.ensures.variant.1))
     ]
 
 pub returns : goal.returns
 returns g c =
     let h : Holds (g.N.CallStore.calls c.self.inside.named) c.self.inside.parts.items c.self.inside.places.items c.self.inside.in_fragments (forest_in c.args.self.now) = holds_it _ c.self.invariant (ap forest_in c.self.view_is) in
-    let calls = g.N.CallStore.calls c.self.inside.named in
-    let items = c.self.inside.parts.items in
-    let n : vec_len c.self.inside.parts ≡ length items = c.self.inside.parts.ok.0 in
     elim c.match-last_mut.branch [
-      | in-Some w ↦
-          let last = w.in-Some.part.now in
-          let some : 0 < length items = omega (arith, w.in-Some.ensures.variant.0 refl) in
-          let ends : EndsIn items last = ends_in items last some (w.in-Some.ensures.value ∙ ap (λ k. slice_index_or items (k - 1) last) n) in
-          let whole = ap (λ k. slice_set items (k - 1) w.push_text.new.self) n ∙ set-last items ends.front last w.push_text.new.self ends.parts_are in
-          rw (w.result-is, w.self-inside-is, whole) (told_by (text_by h (fragment_bytes c.args.fragment) last w.push_text.new.self w.push_text.result ends (w.push_text.ensures.kept (length calls)) (w.push_text.ensures.pushes calls)))
-      | in-None w ↦
-          let z : length items ≡ 0 = omega (arith, w.in-None.ensures.item) in
-          rw (w.result-is, w.self-inside-is) (told_by (text_nothing h (fragment_bytes c.args.fragment) z))
+      | in-Some w ↦ rw (w.result-is, w.self-inside-is) (told_by (last_pushed h media.Text (fragment_bytes c.args.fragment) _ _ _ _ c.self.inside.parts.ok.0 (w.in-Some.ensures.variant.0 refl) w.in-Some.ensures.value (w.push_text.ensures.kept _) (w.push_text.ensures.pushes _)))
+      | in-None w ↦ rw (w.result-is, w.self-inside-is) (told_by (nothing_pushed h media.Text (fragment_bytes c.args.fragment) _ c.self.inside.parts.ok.0 w.in-None.ensures.variant.1))
     ]
