@@ -1,0 +1,106 @@
+//! What buffers for texts and binaries hold, what they make of it, and the texts of errors.
+
+use super::{calls_of, calls_of_ref, printed};
+use crate::{BinaryBuf, Error, ErrorKind, TextBuf, Word};
+use std::alloc::AllocError;
+use sval_core::Call;
+
+#[test]
+fn joins_fragments(rt: HostRuntime) -> Result<(), AllocError> {
+    let mut text = TextBuf::new(rt.alloc());
+    assert_eq!(rt; text.as_borrowed_str(), Some(""));
+    assert!(rt; text.push_fragment("abc").is_ok());
+    assert_eq!(rt; text.as_borrowed_str(), Some("abc"));
+    assert!(rt; text.push_fragment("def").is_ok());
+    assert_eq!(rt; text.as_borrowed_str(), None);
+    assert_eq!(rt; text.as_str(), "abcdef");
+    assert_eq!(rt;
+        calls_of(rt.alloc(), &text)?.as_str(),
+        "TextBegin(Some(6)) TextFragment(\"abcdef\") TextEnd "
+    );
+    assert_eq!(rt;
+        calls_of_ref(rt.alloc(), &text)?.as_str(),
+        "TextBegin(Some(6)) TextFragmentComputed(\"abcdef\") TextEnd "
+    );
+
+    text.clear();
+    assert!(rt; text.push_fragment_computed("").is_ok());
+    assert_eq!(rt; text.as_borrowed_str(), None);
+    assert!(rt; text.push_fragment("abc").is_ok());
+    assert_eq!(rt; text.as_borrowed_str(), Some("abc"));
+    Ok(())
+}
+
+#[test]
+fn joins_fragments_of_binaries(rt: HostRuntime) -> Result<(), AllocError> {
+    let mut binary = BinaryBuf::new(rt.alloc());
+    assert!(rt; binary.push_fragment(b"abc").is_ok());
+    assert!(rt; binary.as_borrowed_slice().is_some());
+    assert!(rt; binary.push_fragment_computed(b"def").is_ok());
+    assert!(rt; binary.as_borrowed_slice().is_none());
+    assert!(rt; binary.as_slice() == b"abcdef".as_slice());
+    let calls = [
+        Call::BinaryBegin(Some(6)),
+        Call::BinaryFragmentComputed(b"abcdef"),
+        Call::BinaryEnd,
+    ];
+    assert_eq!(rt;
+        calls_of_ref(rt.alloc(), &binary)?.as_str(),
+        printed(rt.alloc(), &calls)?.as_str()
+    );
+    Ok(())
+}
+
+#[test]
+fn prints_what_it_holds(rt: HostRuntime) -> Result<(), AllocError> {
+    let mut text = TextBuf::new(rt.alloc());
+    assert_eq!(rt; format!(in rt.alloc(); "{text:?}")?.as_str(), "\"\"");
+    assert!(rt; text.push_fragment("é\n").is_ok());
+    assert!(rt; text.push_fragment("\"").is_ok());
+    assert_eq!(rt;
+        format!(in rt.alloc(); "{text:?}")?.as_str(),
+        "\"é\\n\\\"\""
+    );
+
+    let mut binary = BinaryBuf::new(rt.alloc());
+    assert_eq!(rt; format!(in rt.alloc(); "{binary:?}")?.as_str(), "[]");
+    assert!(rt; binary.push_fragment(b"ab").is_ok());
+    assert_eq!(rt; format!(in rt.alloc(); "{binary:?}")?.as_str(), "[97, 98]");
+    Ok(())
+}
+
+#[test]
+fn says_what_went_wrong(rt: HostRuntime) -> Result<(), AllocError> {
+    let table = [
+        (
+            ErrorKind::Unsupported {
+                actual: Word::Null,
+                expected: Word::Text,
+            },
+            "unexpected null, expected text",
+        ),
+        (
+            ErrorKind::InvalidValue {
+                reason: Word::Unbalanced,
+            },
+            "the value is invalid: unbalanced calls to `begin` and `end`",
+        ),
+        (
+            ErrorKind::OutsideContainer {
+                method: Word::Binary,
+            },
+            "expected a fragment while buffering binary",
+        ),
+        (
+            ErrorKind::NoAlloc {
+                method: Word::Sequence,
+            },
+            "cannot allocate for sequence",
+        ),
+    ];
+    for (kind, want) in table {
+        let text = format!(in rt.alloc(); "{}", Error::new(kind))?;
+        assert_eq!(rt; text.as_str(), want);
+    }
+    Ok(())
+}
