@@ -1,7 +1,9 @@
 //! What the fields of a line say.
 
 ghost use Rattle.std.specs.Prelude.{◌≡◌, None, option_map, option_and_then, IfOk, OnOk};
+ghost use Rattle.std.specs.Bool.{MatchBool};
 ghost use Rattle.std.specs.Result.{result_ok};
+ghost use Rattle.std.specs.Str.{IsUtf8};
 ghost use Rattle.hex.specs.Hex.{decode_of};
 ghost use Rattle.sval_label.specs.Ranges.{is_index};
 ghost use Rattle.sval_script.specs.Lines as script;
@@ -161,6 +163,13 @@ fn decode(store: &mut Vec<u8>, digits: &[u8]) -> Result<(), LineError>
     hex::decode_to_slice(digits, &mut store[start..]).map_err(|_| LineError::Bad)
 }
 
+/// Bytes are UTF-8. Most texts of scripts are short and ASCII, which is told sooner.
+fn is_text(bytes: &[u8]) -> bool
+    ensures { MatchBool result (IsUtf8 bytes.now) (¬ (IsUtf8 bytes.now)) }
+{
+    bytes.is_ascii() || simdutf8::basic::from_utf8(bytes).is_ok()
+}
+
 /// Puts the text that a field spells behind what the store has, and answers how many bytes it has.
 #[inline(never)]
 pub(crate) fn store_text(store: &mut Vec<u8>, field: &[u8]) -> Result<usize, LineError>
@@ -172,9 +181,10 @@ pub(crate) fn store_text(store: &mut Vec<u8>, field: &[u8]) -> Result<usize, Lin
     };
     let start = store.len();
     decode(store, digits)?;
-    match simdutf8::basic::from_utf8(&store[start..]) {
-        Ok(text) => Ok(text.len()),
-        Err(_) => Err(LineError::Bad),
+    if is_text(&store[start..]) {
+        Ok(store.len() - start)
+    } else {
+        Err(LineError::Bad)
     }
 }
 

@@ -1,15 +1,23 @@
-use Rattle.std.proofs.Common.{rules, ◌≡◌, refl, sym, subst, IsUtf8, get_or}
+use Rattle.std.proofs.Common.{rules, arith, ◌≡◌, ◌-◌, ◌∙◌, ap, refl, subst, take, drop, length, get_or}
+use Rattle.std.proofs.lemmas.List.{take_rest, length-drop}
+use Rattle.sval_script.specs.FieldValues.{StoresText}
 use Rattle.sval_script.proofs.FieldTexts.{text_stored, text_refused}
 use Rattle.sval_script.proofs.field.store_text.Goals as goal
 
-pub returns-in-Ok-clause-stored : goal.returns-in-Ok-clause-stored
-returns-in-Ok-clause-stored c =
+pub returns-then-is_text-clause-stored : goal.returns-then-is_text-clause-stored
+returns-then-is_text-clause-stored c =
     let h : get_or c.args.field.now 0 0 ≡ 61 = search rules in
-    text_stored c.args.field.now _ _ c.decode.new.store.items c.deref.result.now c.in-Ok.text.now c.len-start.result h refl
-    c.in_ok-decode.ensures.decoded (search rules) c.deref.ensures.value c.in-Ok.ensures.0 (subst IsUtf8 (sym c.in-Ok.ensures.0) c.in-Ok.ensures.1)
+    let start = c.len-start.result in
+    let stored = c.deref.result.now in
+    let part = take (length stored - start) (drop start stored) in
+    let size : length part ≡ c.len.result - start =
+    ap length (take_rest stored start) ∙ length-drop start stored ∙ ap (λ n. n - start) (c.deref.ensures.len ∙ search rules) in
+    subst (StoresText c.args.field.now c.args.store.now.items c.decode.new.store.items) size
+    (text_stored c.args.field.now _ _ c.decode.new.store.items stored part start h refl
+    c.in_ok-decode.ensures.decoded (search rules) c.deref.ensures.value refl c.if-is_text.ensures)
 
-pub returns-in-Err-clause-bad : goal.returns-in-Err-clause-bad
-returns-in-Err-clause-bad c =
+pub returns-else-is_text-clause-bad : goal.returns-else-is_text-clause-bad
+returns-else-is_text-clause-bad c =
     let h : get_or c.args.field.now 0 0 ≡ 61 = search rules in
     λ _. text_refused c.args.field.now _ _ c.decode.new.store.items c.deref.result.now _ c.len-start.result h refl
-    c.in_ok-decode.ensures.decoded (search rules) c.deref.ensures.value refl c.in-Err.ensures
+    c.in_ok-decode.ensures.decoded (search rules) c.deref.ensures.value refl c.if-is_text.ensures
