@@ -1,17 +1,17 @@
 -- Lines that were made of what was read.
-use Rattle.std.specs.Prelude.{◌≡◌, [], Result, Ok, Err, IfOk}
+use Rattle.std.specs.Prelude.{◌≡◌, ℕ, List, [], Option, Result, Ok, Err, IfOk}
 use Rattle.std.proofs.Common.{sym, ap, ◌∙◌}
 use Rattle.std.proofs.lemmas.List.{append-nil}
 use Rattle.sval_label.specs.Calls.{Call}
 use Rattle.sval_label.specs.Calls as call
 use Rattle.sval_label.specs.declared.grouped.Int.{Int}
 use Rattle.sval_label.specs.Grouped.{int_number, int_type, int_call}
-use Rattle.sval_script.specs.Lines.{LineForm, complete, whole_number, whole_number_of}
+use Rattle.sval_script.specs.Lines.{LineForm, complete, field, whole_number, whole_number_of}
 use Rattle.sval_script.specs.Words.{type_of}
 use Rattle.sval_script.specs.declared.word.NumberType.{NumberType}
 use Rattle.sval_script.specs.declared.field.LineError.{LineError}
 use Rattle.sval_script.specs.Fields.{LineLeft}
-use Rattle.sval_script.specs.NextFields.{call_before, NextIs}
+use Rattle.sval_script.specs.NextFields.{call_before, NextIs, StoresNext}
 use Rattle.sval_script.specs.LineCalls.{Stored, own_len, own_count, call_with, HasText}
 use Rattle.sval_script.specs.MadeLines.{Puts, MakesLine, StoresCall}
 use Rattle.sval_script.specs.declared.line.Line.{Line}
@@ -42,4 +42,22 @@ number_made kind fields rest n old new (Ok line) says of_type s = record {
   spells = says (λ z. complete (call.Int (type_of kind) z))
       ∙ ap (λ c. call_before (complete c) rest) (ap (λ t. call.Int t (int_number n)) (sym of_type) ∙ sym s.says);
   puts = s.puts;
+}
+
+-- a line whose own bytes are a fragment
+pub fragment_made : {read : List ℕ → Option (List ℕ)} {IsGood : List ℕ → Type 0} {fields rest : LineLeft} {old new : List ℕ} {len : ℕ} (call : List ℕ → Call) (line : Line) (numbers : List ℕ)
+    → ((bytes : List ℕ) → call_with bytes [] line ≡ call bytes) → ((bytes : List ℕ) → IsGood bytes → HasText line bytes) → own_len line ≡ len → own_count line ≡ 0
+    → StoresNext read (λ bytes. bytes) IsGood fields rest old new len
+    → MakesLine (field read (λ bytes. complete (call bytes))) fields rest (record { bytes = old; numbers = numbers }) (record { bytes = new; numbers = numbers }) line
+fragment_made {rest = rest} call line numbers says good size count s = record {
+  bytes = s.bytes;
+  numbers = [];
+  spells = s.spells (λ bytes. complete (call bytes)) ∙ ap (λ c. call_before (complete c) rest) (sym (says s.bytes));
+  puts = record {
+    has_text = good s.bytes s.is_good;
+    bytes_stored = s.stored;
+    numbers_stored = sym (append-nil numbers);
+    has_len = s.has_len ∙ sym size;
+    has_count = sym count;
+  };
 }

@@ -1,8 +1,10 @@
-use Rattle.std.proofs.Common.{◌≡◌, [], Err, ap, sym, append-nil, refl}
+use Rattle.std.proofs.Common.{◌≡◌, Err, ap, refl}
 use Rattle.sval_label.specs.Calls as call
 use Rattle.sval_script.specs.Lines.{complete}
 use Rattle.sval_script.specs.Words.{is_kept}
 use Rattle.sval_script.specs.declared.field.LineError.TheVariants.{Bad}
+use Rattle.sval_script.specs.declared.line.Line.TheVariants as line
+use Rattle.sval_script.proofs.LinesMade.{fragment_made}
 use Rattle.sval_script.proofs.line.read_text.Goals as goal
 
 pub returns-in-Err-clause-bad : goal.returns-in-Err-clause-bad
@@ -12,16 +14,4 @@ returns-in-Err-clause-bad c bad =
 
 pub returns-in-Ok-clause-made : goal.returns-in-Ok-clause-made
 returns-in-Ok-clause-made c =
-    let s = c.in-Ok.ensures.stored in
-    record {
-      bytes = s.bytes;
-      numbers = [];
-      spells = s.spells (λ x. complete (call.TextFragment (is_kept c.args.life) x));
-      puts = record {
-        has_text = s.is_good;
-        bytes_stored = s.stored;
-        numbers_stored = sym (append-nil c.args.store.now.numbers.items);
-        has_len = s.has_len;
-        has_count = refl;
-      };
-    }
+    fragment_made (call.TextFragment (is_kept c.args.life)) (line.TextFragment c.args.life c.in-Ok.len) c.args.store.now.numbers.items (λ bytes. refl) (λ bytes utf8. utf8) refl refl c.in-Ok.ensures.stored
