@@ -1,17 +1,20 @@
 -- What is kept of names stays as the store of texts grows.
-use Rattle.std.specs.Prelude.{◌≡◌, ℕ, zero, suc, ◌-◌, ◌≤◌, ◌<◌, List, [], ◌∷◌, ◌++◌, length, map, take, drop, Option, Some, None, option_map, refl, slice_range, slice_index, get_or, IsUtf8, IsCharBoundary}
+use Rattle.std.specs.Prelude.{◌≡◌, Bool, true, ℕ, zero, suc, ◌-◌, ◌≤◌, ◌<◌, List, [], ◌∷◌, ◌++◌, length, map, take, drop, Option, Some, None, option_map, refl, slice_range, slice_index, get_or, IsUtf8, IsCharBoundary}
+use Rattle.std.specs.Bool.{Decides, OnTrue}
 use Rattle.std.proofs.Common.{sym, ap, ◌∙◌, subst, arith, append-nil, length-append, ◌⊎◌, inl, inr}
 use Rattle.std.proofs.lemmas.List.{length-map}
+use Rattle.std.proofs.lemmas.Bool.{OnTrue_from}
 use Rattle.std.proofs.lemmas.Str.{IsUtf8-nil, IsCharBoundary-at_seam, IsCharBoundary-end}
 use Rattle.sval_label.specs.Calls as calls
 use Rattle.sval_label.specs.Calls.{Call}
 use Rattle.sval_label.specs.SeenTags.{seen_tag}
 use Rattle.sval_label.specs.SeenIndex.{seen_index}
-use Rattle.sval_buffer.specs.declared.named.KeptText.{KeptText}
-use Rattle.sval_buffer.specs.declared.named.KeptText.TheVariants.{Static, Stored}
-use Rattle.sval_buffer.specs.declared.named.KeptLabel.{KeptLabel}
-use Rattle.sval_buffer.specs.declared.named.NamedCall.{NamedCall}
-use Rattle.sval_buffer.specs.SeenNames.{HasName, kept_text, kept_label, kept_name, kept_call, TextStands, LabelStands, OptionStands, Stands, AllStand, Grows, call_at}
+use Rattle.sval_buffer.specs.declared.kept.KeptText.{KeptText}
+use Rattle.sval_buffer.specs.declared.kept.KeptText.TheVariants.{Static, Stored}
+use Rattle.sval_buffer.specs.declared.kept.KeptLabel.{KeptLabel}
+use Rattle.sval_buffer.specs.declared.kept.NamedCall.{NamedCall}
+use Rattle.sval_buffer.specs.declared.named.NamedKind.{NamedKind}
+use Rattle.sval_buffer.specs.SeenNames.{HasName, kept_text, kept_label, kept_name, kept_call, TextStands, LabelStands, OptionStands, Stands, AllStand, Grows, named_call, call_at, Keeps}
 
 pub grows_none : (xs : List ℕ) → Grows xs xs
 grows_none xs = record { more = []; utf8 = IsUtf8-nil; new_is = sym (append-nil xs) }
@@ -137,3 +140,15 @@ pub call_stands : (texts : List ℕ) (kept : List NamedCall) (at : ℕ) (call : 
 call_stands texts [] at call h e = absurd (omega arith)
 call_stands texts (first ∷ kept) zero call h e = ap (kept_call texts) (sym e)
 call_stands texts (first ∷ kept) (suc at) call h e = call_stands texts kept at call (omega arith) e
+
+-- the call that stands at a place is the one that is kept there
+pub keeps_standing : {texts shown : List ℕ} {seen : List Call} {call : NamedCall} {kind : NamedKind} {name : calls.Name} {same : Bool} (kept : List NamedCall) (at : ℕ)
+    → map (kept_call texts) kept ≡ seen → at < length kept → call ≡ get_or kept at call → shown ≡ texts
+    → Decides same ((call.kind ≡ kind) × (kept_name shown call ≡ name)) → OnTrue same (Keeps seen at (named_call kind name))
+keeps_standing {texts} {shown} {seen} {call} {kind} {name} {same} kept at view within e show decides = OnTrue_from same _ keeps
+  where
+    keeps : same ≡ true → Keeps seen at (named_call kind name)
+    keeps found =
+        let (of_kind, of_name) = decides.0 found in
+        let n = length-map kept (kept_call texts) in
+        rw (← view, ← of_kind, ← of_name, show) record { within = omega arith; is = call_stands texts kept at call within e }

@@ -7,7 +7,7 @@ use Rattle.sval_buffer.specs.Forest.{Node, Container, Forest, empty_forest, add,
 use Rattle.sval_buffer.specs.Flat as flat
 use Rattle.sval_buffer.specs.Flat.{flat_part, flat_node}
 use Rattle.sval_buffer.specs.Holders.{holders_node}
-use Rattle.sval_buffer.specs.SeenNames.{call_at}
+use Rattle.sval_buffer.specs.SeenNames.{call_at, Extends}
 use Rattle.sval_buffer.specs.declared.part.Part.{Part}
 use Rattle.sval_buffer.specs.declared.part.PartKind.{PartKind}
 use Rattle.sval_buffer.specs.declared.part.PartKind.TheVariants as kind
@@ -70,25 +70,20 @@ pub seen_more : (calls more : List Call) (parts : List Part) → AllKept (length
 seen_more calls more [] k = refl
 seen_more calls more (p ∷ parts) (first, rest) = rw (kind_more calls more p.kind first, seen_more calls more parts rest) refl
 
--- the call that was kept last
-pub last_call : (calls : List Call) (call : Call) → call_at (calls ++ (call ∷ [])) (length calls) ≡ call
-last_call [] call = refl
-last_call (first ∷ calls) call = last_call calls call
-
-pub last_within : (calls : List Call) (call : Call) → length calls < length (calls ++ (call ∷ []))
-last_within calls call = omega (arith, length-append calls (call ∷ []))
-
 -- ---- the steps
 
 pub holds_nothing : Holds [] [] [] false empty_forest
 holds_nothing = record { is = is_nothing; kept = tt }
 
 module _ {calls : List Call} {parts : List Part} {places : List ℕ} {within : Bool} {f : Forest} (h : Holds calls parts places within f) where
-  pub holds_named : (call : Call) → Holds (calls ++ (call ∷ [])) parts places within f
-  holds_named call = record {
-    is = subst (λ ps. Is ps places within f) (sym (seen_more calls (call ∷ []) parts h.kept)) h.is;
-    kept = kept_more (length calls) (length (calls ++ (call ∷ []))) parts (omega (arith, last_within calls call)) h.kept;
-  }
+  pub holds_extended : {now : List Call} → Extends calls now → Holds now parts places within f
+  holds_extended {now} e =
+      let longer = ap length e.new_is ∙ length-append calls e.more in
+      let seen = ap (λ cs. seen_parts cs parts) e.new_is ∙ seen_more calls e.more parts h.kept in
+      record {
+        is = subst (λ ps. Is ps places within f) (sym seen) h.is;
+        kept = kept_more (length calls) (length now) parts (omega arith) h.kept;
+      }
 
   pub holds_flagged : (flag : Bool) → Holds calls parts places flag (with_flag flag f)
   holds_flagged flag = record { is = is_flagged flag h.is; kept = h.kept }

@@ -1,20 +1,20 @@
 -- What the calls with names are that a buffer keeps.
-use Rattle.std.specs.Prelude.{◌≡◌, ℕ, ◌≤◌, Bool, true, false, List, [], ◌∷◌, ◌++◌, Option, Some, None, option_map, IsSome, slice_range, slice_index_or, ⊤}
+use Rattle.std.specs.Prelude.{◌≡◌, ℕ, ◌≤◌, ◌<◌, Bool, true, false, List, [], ◌∷◌, ◌++◌, Option, Some, None, option_map, IsSome, length, slice_range, slice_index_or, ⊤}
 use Rattle.std.specs.Prelude.{IsUtf8, IsCharBoundary}
 use Rattle.sval_label.specs.Calls as calls
 use Rattle.sval_label.specs.Calls.{Call}
 use Rattle.sval_label.specs.SeenTags.{seen_tag}
 use Rattle.sval_label.specs.SeenIndex.{seen_index}
-use Rattle.sval_buffer.specs.declared.named.KeptText.{KeptText}
-use Rattle.sval_buffer.specs.declared.named.KeptText.TheVariants.{Static, Stored}
-use Rattle.sval_buffer.specs.declared.named.KeptLabel.{KeptLabel}
+use Rattle.sval_buffer.specs.declared.kept.KeptText.{KeptText}
+use Rattle.sval_buffer.specs.declared.kept.KeptText.TheVariants.{Static, Stored}
+use Rattle.sval_buffer.specs.declared.kept.KeptLabel.{KeptLabel}
 use Rattle.sval_buffer.specs.declared.named.NamedHead.{NamedHead}
 use Rattle.sval_buffer.specs.declared.named.NamedHead.TheVariants as head
 use Rattle.sval_buffer.specs.declared.named.NamedSlot.{NamedSlot}
 use Rattle.sval_buffer.specs.declared.named.NamedSlot.TheVariants as slot
 use Rattle.sval_buffer.specs.declared.named.NamedKind.{NamedKind}
 use Rattle.sval_buffer.specs.declared.named.NamedKind.TheVariants as kind
-use Rattle.sval_buffer.specs.declared.named.NamedCall.{NamedCall}
+use Rattle.sval_buffer.specs.declared.kept.NamedCall.{NamedCall}
 
 -- the head of a container with this name
 abbrev pub named_head : NamedHead → calls.Name → calls.Head
@@ -111,3 +111,13 @@ pub record Grows (old new : List ℕ) : Type 0 where
 -- the call at a place
 abbrev pub call_at : List Call → ℕ → Call
 call_at kept at = slice_index_or kept at calls.Null
+
+-- the calls with others after them, or as they were
+pub record Extends (old new : List Call) : Type 0 where
+  pub more : List Call
+  pub new_is : new ≡ old ++ more
+
+-- there is a call at the place, and it is this one
+pub record Keeps (kept : List Call) (at : ℕ) (call : Call) : Type 0 where
+  pub within : at < length kept
+  pub is : call_at kept at ≡ call

@@ -10,11 +10,13 @@ mod binary_buf;
 pub mod collect_laws;
 mod error;
 mod fragment_buf;
+mod kept;
 pub mod laws;
 mod named;
 mod one_pass;
 mod part;
 mod parts;
+mod recent;
 #[cfg(test)]
 mod tests;
 mod text_buf;

@@ -1,40 +1,24 @@
 //! The calls with names of a captured value.
 
-ghost use Rattle.std.specs.Prelude.{◌≡◌, ◌<◌, ℕ, Some, List, [], ◌∷◌, ◌++◌, length, true, IfOk, OnOk, OnErr, option_map, string_bytes};
+ghost use Rattle.std.specs.Prelude.{◌≡◌, ◌<◌, ℕ, Some, List, [], ◌∷◌, ◌++◌, length, IfOk, IfSome, OnOk, OnErr, string_bytes};
+ghost use Rattle.std.specs.Bool.{OnTrue};
 ghost use Rattle.sval_label.specs.Grouped.{grouped_call, seen_head, seen_slot};
 ghost use Rattle.sval_label.specs.Calls.{Call};
-ghost use Rattle.sval_label.specs.SeenTags.{seen_tag, seen_ref_tag};
-ghost use Rattle.sval_label.specs.SeenIndex.{seen_index};
+ghost use Rattle.sval_label.specs.SeenTags.{seen_ref_tag};
 ghost use Rattle.sval_label.specs.SeenName.{seen_name};
 ghost use Rattle.sval_core.specs.Law.{Emits};
 ghost use Rattle.sval_core.specs.Values.{makes};
 ghost use Rattle.sval_buffer.specs.Forest.{end_of};
-ghost use Rattle.sval_buffer.specs.SeenNames.{hinted, named_head, named_slot, named_call, call_at, HasParts, HasName, kept_label, kept_call, TextStands, LabelStands, OptionStands, Stands, Grows};
+ghost use Rattle.sval_buffer.specs.SeenNames.{hinted, named_head, named_slot, named_call, call_at, HasParts, HasName, Extends, Keeps};
 
+use crate::kept::{NamedCall, keep, shown_label};
+use crate::recent::{Recent, slot_of};
 use std::alloc::Global;
 use std::marker::Model;
-use sval_core::{
-    GroupedCall, Head, Index, Label, Lending, Name, NoMemory, Result, Slot, Stream, Tag,
-};
-
-/// Where the text of a label is kept.
-#[derive(Clone, Copy)]
-enum KeptText {
-    /// It lives as long as the program.
-    Static(&'static str),
-    /// In the store of texts, from the first place up to the second.
-    Stored(usize, usize),
-}
-
-/// A label, as it is kept.
-#[derive(Clone, Copy)]
-struct KeptLabel {
-    text: KeptText,
-    tag: Option<Tag>,
-}
+use sval_core::{GroupedCall, Head, Lending, Name, NoMemory, Result, Slot, Stream, Tag};
 
 /// A container with a size and a name, or that may have one.
-#[derive(Clone, Copy)]
+#[derive(Clone, Copy, PartialEq, Eq)]
 pub enum NamedHead {
     Record,
     Tuple,
@@ -55,7 +39,7 @@ impl NamedHead {
 }
 
 /// A part of a container whose place has a name: a label, an index or both.
-#[derive(Clone, Copy)]
+#[derive(Clone, Copy, PartialEq, Eq)]
 pub enum NamedSlot {
     Field,
     Place,
@@ -80,7 +64,7 @@ impl NamedSlot {
 }
 
 /// What a call with a name is: a tag, a hint, or the begin of a container.
-#[derive(Clone, Copy)]
+#[derive(Clone, Copy, PartialEq, Eq)]
 pub enum NamedKind {
     Tag,
     Hint,
@@ -135,37 +119,16 @@ fn hint(name: Name<'_>) -> &Tag
     }
 }
 
-/// A call with a name, as it is kept.
-#[derive(Clone, Copy)]
-struct NamedCall {
-    kind: NamedKind,
-    tag: Option<Tag>,
-    label: Option<KeptLabel>,
-    index: Option<Index>,
-}
-
-impl NamedCall {
-    /// The name, with its label as it was.
-    fn name<'c>(&'c self, label: Option<&'c Label<'c>>) -> Name<'c>
-        ensures { seen_name result ≡ record {
-          tag = option_map seen_tag self.now.tag;
-          label = option_map (λ label. label.now) label.entry;
-          index = option_map seen_index self.now.index;
-        } }
-    {
-        Name {
-            tag: self.tag.as_ref(),
-            label,
-            index: self.index.as_ref(),
-        }
-    }
-}
-
 /// Calls with names. The texts of all labels that aren't static stand in one store.
+///
+/// A call that was kept lately is not kept again: values repeat their names, as each record of a list does, and
+/// without their repetitions they take half of the memory.
 #[derive(Drop)]
 pub struct NamedCalls {
     calls: Vec<NamedCall>,
     texts: String,
+    /// Where calls were kept lately.
+    recent: Recent,
 }
 
 impl Model for NamedCalls {
@@ -198,12 +161,12 @@ pub trait CallStore: Sized + Drop {
     fn clear(&mut self)
         ensures { calls self.new ≡ [] };
 
-    /// Keeps one more call, and gives its place. Want of memory changes nothing.
+    /// Keeps a call, and gives its place, which may be that of the same call before. Want of memory changes nothing.
     fn push(&mut self, kind: NamedKind, name: Name<'_>) -> std::result::Result<usize, NoMemory>
         requires { HasName kind (seen_name name) }
-        ensures place { IfOk result (λ at. at ≡ length (calls self.old)) }
         ensures kept { let call = named_call kind (seen_name name.entry) in
-            OnOk result (calls self.new ≡ calls self.old ++ (call ∷ [])) }
+            IfOk result (λ at. Keeps (calls self.new) at call) }
+        ensures extends { OnOk result (Extends (calls self.old) (calls self.new)) }
         ensures err { OnErr result (calls self.new ≡ calls self.old) };
 
     /// Makes the call at a place.
@@ -226,26 +189,24 @@ impl CallStore for NamedCalls {
         NamedCalls {
             calls: Vec::new(alloc),
             texts: String::new(alloc),
+            recent: Recent::new(alloc),
         }
     }
 
     fn clear(&mut self) {
+        // What is remembered of places may stay, since whoever asks for one compares.
         self.calls.clear();
         self.texts.clear();
     }
 
     fn push(&mut self, kind: NamedKind, name: Name<'_>) -> std::result::Result<usize, NoMemory> {
-        if self.calls.reserve(1).is_err() {
-            return Err(NoMemory);
+        let slot = slot_of(name);
+        if let Some(place) = self.find(slot, kind, name) {
+            return Ok(place);
         }
-        match keep(&mut self.texts, kind, name) {
-            Ok(call) => {
-                let at = self.calls.len();
-                self.calls.push_reserved(call);
-                Ok(at)
-            }
-            Err(_) => Err(NoMemory),
-        }
+        let place = self.add(kind, name)?;
+        self.recent.put(slot, place);
+        Ok(place)
     }
 
     fn stream_call<L: Lending, S: Stream<L>>(&self, at: usize, stream: &mut S) -> Result {
@@ -261,6 +222,54 @@ impl CallStore for NamedCalls {
     }
 }
 
+impl NamedCalls {
+    /// The place of a call among those that a slot remembers, if it is one of them.
+    fn find(&self, slot: usize, kind: NamedKind, name: Name<'_>) -> Option<usize>
+        ensures { let call = named_call kind (seen_name name.entry) in
+            IfSome result (λ place. Keeps self.now place call) }
+    {
+        let (newest, before) = self.recent.get(slot)?;
+        if self.is_kept(newest, kind, name) {
+            return Some(newest);
+        }
+        if self.is_kept(before, kind, name) {
+            return Some(before);
+        }
+        None
+    }
+
+    /// This call is kept at a place.
+    fn is_kept(&self, place: usize, kind: NamedKind, name: Name<'_>) -> bool
+        ensures { OnTrue result (Keeps self.now place (named_call kind (seen_name name.entry))) }
+    {
+        match self.calls.get(place) {
+            Some(call) => call.is_same(self.texts.as_str(), kind, name),
+            None => false,
+        }
+    }
+
+    /// Keeps one more call, and gives its place. Want of memory changes nothing.
+    fn add(&mut self, kind: NamedKind, name: Name<'_>) -> std::result::Result<usize, NoMemory>
+        requires { HasName kind (seen_name name) }
+        ensures place { IfOk result (λ at. at ≡ length self.old) }
+        ensures kept { let call = named_call kind (seen_name name.entry) in
+            OnOk result (self.new ≡ self.old ++ (call ∷ [])) }
+        ensures err { OnErr result (self.new ≡ self.old) }
+    {
+        if self.calls.reserve(1).is_err() {
+            return Err(NoMemory);
+        }
+        match keep(&mut self.texts, kind, name) {
+            Ok(call) => {
+                let at = self.calls.len();
+                self.calls.push_reserved(call);
+                Ok(at)
+            }
+            Err(_) => Err(NoMemory),
+        }
+    }
+}
+
 /// Makes a call in a stream.
 pub(crate) fn make<L: Lending, S: Stream<L>>(
     call: GroupedCall<'_, L::Text, L::Bytes>,
@@ -270,82 +279,4 @@ pub(crate) fn make<L: Lending, S: Stream<L>>(
         Emits S.law result (S.standing stream.old) (makes (made ∷ [])) (S.standing stream.new) }
 {
     stream.take(call.call())
-}
-
-/// A call with a name, whose label is copied into the store of texts.
-fn keep(
-    texts: &mut String,
-    kind: NamedKind,
-    name: Name<'_>,
-) -> std::result::Result<NamedCall, NoMemory>
-    requires { HasName kind (seen_name name) }
-    ensures grows { Grows (string_bytes texts.old) (string_bytes texts.new) }
-    ensures stands { IfOk result (Stands (string_bytes texts.new)) }
-    ensures kept { let made = named_call kind (seen_name name.entry) in
-        IfOk result (λ call. kept_call (string_bytes texts.new) call ≡ made) }
-{
-    let label = match name.label {
-        Some(label) => match keep_label(texts, label) {
-            Ok(label) => Some(label),
-            Err(_) => return Err(NoMemory),
-        },
-        None => None,
-    };
-    Ok(NamedCall {
-        kind,
-        tag: name.tag.copied(),
-        label,
-        index: name.index.copied(),
-    })
-}
-
-/// A label whose text is copied into the store of texts, unless it is static.
-fn keep_label(texts: &mut String, label: &Label<'_>) -> std::result::Result<KeptLabel, NoMemory>
-    ensures grows { Grows (string_bytes texts.old) (string_bytes texts.new) }
-    ensures stands { IfOk result (LabelStands (string_bytes texts.new)) }
-    ensures kept { IfOk result (λ kept. kept_label (string_bytes texts.new) kept ≡ label.now) }
-{
-    let tag = label.tag().copied();
-    match label.as_static_str() {
-        Some(text) => Ok(KeptLabel {
-            text: KeptText::Static(text),
-            tag,
-        }),
-        None => {
-            let start = texts.len();
-            match texts.push_str(label.as_str()) {
-                Ok(()) => Ok(KeptLabel {
-                    text: KeptText::Stored(start, texts.len()),
-                    tag,
-                }),
-                Err(_) => Err(NoMemory),
-            }
-        }
-    }
-}
-
-/// A label that is kept, if there is one, as it was.
-fn shown_label<'a>(texts: &'a str, kept: &Option<KeptLabel>) -> Option<Label<'a>>
-    requires { OptionStands texts.now kept.now }
-    ensures { result ≡ option_map (kept_label texts.now) kept.now }
-{
-    match kept {
-        Some(label) => Some(shown(texts, label)),
-        None => None,
-    }
-}
-
-/// A label that is kept, as it was.
-fn shown<'a>(texts: &'a str, kept: &KeptLabel) -> Label<'a>
-    requires { LabelStands texts.now kept.now }
-    ensures { result ≡ kept_label texts.now kept.now }
-{
-    let label = match kept.text {
-        KeptText::Static(text) => Label::new(text),
-        KeptText::Stored(start, end) => Label::new_computed(&texts[start..end]),
-    };
-    match &kept.tag {
-        Some(tag) => label.with_tag(tag),
-        None => label,
-    }
 }

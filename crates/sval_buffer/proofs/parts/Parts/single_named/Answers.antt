@@ -1,8 +1,6 @@
 use Rattle.std.specs.Prelude.{slice_get}
 use Rattle.std.proofs.Common.{◌≡◌, ℕ, ◌-◌, List, [], ◌∷◌, ◌++◌, length, ap, ◌∙◌, sym}
-use Rattle.sval_label.specs.SeenName.{seen_name}
 use Rattle.sval_buffer.specs.Forest.{Becomes}
-use Rattle.sval_buffer.specs.SeenNames.{named_call}
 use Rattle.sval_buffer.specs.declared.part.Part.{Part}
 use Rattle.sval_buffer.specs.FlatForest.{forest_in}
 use Rattle.sval_buffer.proofs.KeptParts.{Holds, holds_it, tell}
@@ -12,13 +10,13 @@ use Rattle.sval_buffer.proofs.parts.Parts.single_named.Goals as goal
 pub invariant_of-self-in-Ok : goal.invariant_of-self-in-Ok
 invariant_of-self-in-Ok g c =
     let h : Holds (g.N.CallStore.calls c.self.inside.named) c.self.inside.parts.items c.self.inside.places.items c.self.inside.in_fragments (forest_in c.args.self.now) = holds_it _ c.self.invariant (ap forest_in c.self.view_is) in
-    let now = holds_single h (named_call c.args.kind (seen_name c.args.name)) c.in-Ok.at c.copied.result c.in-Ok.ensures.place (c.copied.ensures ∙ c.last.ensures.value ∙ ap (λ (qs : List ℕ). slice_get qs (length qs - 1)) c.deref.ensures.value) in
+    let now = holds_single h c.in-Ok.ensures.extends c.in-Ok.ensures.kept (c.copied.ensures ∙ c.last.ensures.value ∙ ap (λ (qs : List ℕ). slice_get qs (length qs - 1)) c.deref.ensures.value) in
     let e : c.push_reserved.new.self.items ≡ c.self.inside.parts.items ++ (named_part c.in-Ok.at c.copied.result ∷ []) = c.push_reserved.ensures.items ∙ ap (λ (ps : List Part). ps ++ (named_part c.in-Ok.at c.copied.result ∷ [])) c.reserve.ensures.items in
-    rw (c.in-Ok.ensures.kept, e) (tell now)
+    rw e (tell now)
 
 pub returns-in-Ok : goal.returns-in-Ok
 returns-in-Ok g c =
     let h : Holds (g.N.CallStore.calls c.self.inside.named) c.self.inside.parts.items c.self.inside.places.items c.self.inside.in_fragments (forest_in c.args.self.now) = holds_it _ c.self.invariant (ap forest_in c.self.view_is) in
-    let now = holds_single h (named_call c.args.kind (seen_name c.args.name)) c.in-Ok.at c.copied.result c.in-Ok.ensures.place (c.copied.ensures ∙ c.last.ensures.value ∙ ap (λ (qs : List ℕ). slice_get qs (length qs - 1)) c.deref.ensures.value) in
+    let now = holds_single h c.in-Ok.ensures.extends c.in-Ok.ensures.kept (c.copied.ensures ∙ c.last.ensures.value ∙ ap (λ (qs : List ℕ). slice_get qs (length qs - 1)) c.deref.ensures.value) in
     let e : c.push_reserved.new.self.items ≡ c.self.inside.parts.items ++ (named_part c.in-Ok.at c.copied.result ∷ []) = c.push_reserved.ensures.items ∙ ap (λ (ps : List Part). ps ++ (named_part c.in-Ok.at c.copied.result ∷ [])) c.reserve.ensures.items in
-    ap Becomes (sym (rw (c.in-Ok.ensures.kept, e) now.is.view))
+    ap Becomes (sym (rw e now.is.view))

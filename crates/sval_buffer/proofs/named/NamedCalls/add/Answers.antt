@@ -2,9 +2,9 @@ use Rattle.std.proofs.Common.{◌≡◌, List, [], ◌∷◌, ◌++◌, map, str
 use Rattle.std.proofs.lemmas.List.{map-append}
 use Rattle.sval_label.specs.Calls.{Call}
 use Rattle.sval_buffer.specs.SeenNames.{kept_call}
-use Rattle.sval_buffer.specs.declared.named.NamedCall.{NamedCall}
+use Rattle.sval_buffer.specs.declared.kept.NamedCall.{NamedCall}
 use Rattle.sval_buffer.proofs.KeptNames.{all_more, all_append}
-use Rattle.sval_buffer.proofs.named.NamedCallsCallStore.push.Goals as goal
+use Rattle.sval_buffer.proofs.named.NamedCalls.add.Goals as goal
 
 pub invariant_of-self-in-Ok : goal.invariant_of-self-in-Ok
 invariant_of-self-in-Ok c =

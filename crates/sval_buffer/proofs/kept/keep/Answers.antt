@@ -1,6 +1,6 @@
 use Rattle.sval_buffer.proofs.KeptNames.{grows_none}
-use Rattle.sval_buffer.proofs.named.keep.Goals as goal
-use Rattle.sval_buffer.proofs.named.keep.Goals.{in-Some+in-Ok, in-None}
+use Rattle.sval_buffer.proofs.kept.keep.Goals as goal
+use Rattle.sval_buffer.proofs.kept.keep.Goals.{in-Some+in-Ok, in-None}
 
 pub returns-clause-grows : goal.returns-clause-grows
 returns-clause-grows c =

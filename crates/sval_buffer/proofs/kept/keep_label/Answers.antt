@@ -1,6 +1,6 @@
 use Rattle.std.proofs.Common.{string_bytes, ◌∙◌}
 use Rattle.sval_buffer.proofs.KeptNames.{grows_none, new_stands}
-use Rattle.sval_buffer.proofs.named.keep_label.Goals as goal
+use Rattle.sval_buffer.proofs.kept.keep_label.Goals as goal
 
 pub returns-in-Ok-clause-stands : goal.returns-in-Ok-clause-stands
 returns-in-Ok-clause-stands c =
