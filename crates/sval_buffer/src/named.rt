@@ -201,10 +201,10 @@ impl CallStore for NamedCalls {
 
     fn push(&mut self, kind: NamedKind, name: Name<'_>) -> std::result::Result<usize, NoMemory> {
         let slot = slot_of(name);
-        if let Some(place) = self.find(slot, kind, name) {
-            return Ok(place);
-        }
-        let place = self.add(kind, name)?;
+        let place = match self.find(slot, kind, name) {
+            Some(place) => place,
+            None => self.add(kind, name)?,
+        };
         self.recent.put(slot, place);
         Ok(place)
     }

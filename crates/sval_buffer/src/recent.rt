@@ -5,10 +5,10 @@ ghost use Rattle.std.specs.Prelude.{◌≡◌, ◌<◌, slice_get};
 use std::alloc::Global;
 use sval_core::{Index, Label, Name};
 
-/// The number of slots. Each remembers two places, so that two names of one slot don't drive each other out.
+/// The number of slots. Each remembers two places, so that a name that comes again stays, whatever others come between.
 const SLOTS: usize = 64;
 
-/// The places of calls that were kept lately, the newest two of each slot.
+/// The places of calls that were kept lately, the last two of each slot.
 ///
 /// A value repeats few names very often, so a call is mostly kept already, and mostly at a place that stands here. But
 /// another call may stand there, or none any more, so who asks for a place compares.
@@ -25,20 +25,23 @@ impl Recent {
         }
     }
 
-    /// The places at a slot, the newest first.
+    /// The places at a slot, that of the last call first.
     pub(crate) fn get(&self, slot: usize) -> Option<(usize, usize)>
         ensures { result ≡ slice_get self.now.places.items slot }
     {
         self.places.get(slot).copied()
     }
 
-    /// Remembers a place at a slot. Where there is no memory for the slots, calls are kept once more as they repeat.
+    /// Remembers a place at a slot, as that of the last call. Without memory for the slots nothing is remembered, and
+    /// calls that repeat are kept once more.
     pub(crate) fn put(&mut self, slot: usize, place: usize) {
         if self.places.is_empty() && self.places.resize(SLOTS, (0, 0)).is_err() {
             return;
         }
         if let Some(places) = self.places.get_mut(slot) {
-            *places = (place, places.0);
+            if places.0 != place {
+                *places = (place, places.0);
+            }
         }
     }
 }

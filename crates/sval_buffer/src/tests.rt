@@ -1,5 +1,6 @@
 //! What buffers hold, and what they make of it.
 
+mod names;
 mod texts;
 
 ghost use Rattle.std.specs.Prelude.{[], true};
