@@ -52,10 +52,10 @@ impl NamedCall {
     }
 
     /// It is of this kind and has this name.
-    pub(crate) fn is_same(&self, texts: &str, kind: NamedKind, name: Name<'_>) -> bool
+    pub(crate) fn is_same(&self, texts: &str, kind: NamedKind, name: &Name<'_>) -> bool
         requires { OptionStands texts.now self.now.label }
         ensures { Decides result
-            ((self.now.kind ≡ kind) × (kept_name texts.now self.now ≡ seen_name name.entry)) }
+            ((self.now.kind ≡ kind) × (kept_name texts.now self.now ≡ seen_name name.now)) }
     {
         self.kind == kind
             && is_option_label(texts, &self.label, name.label)
@@ -171,9 +171,7 @@ fn is_text(texts: &str, kept: KeptText, label: &Label<'_>) -> bool
 {
     match (kept, label.as_static_str()) {
         (KeptText::Static(kept), Some(text)) => kept == text,
-        (KeptText::Stored(start, end), None) => {
-            &texts.as_bytes()[start..end] == label.as_str().as_bytes()
-        }
+        (KeptText::Stored(start, end), None) => &texts[start..end] == label.as_str(),
         _ => false,
     }
 }

@@ -200,8 +200,8 @@ impl CallStore for NamedCalls {
     }
 
     fn push(&mut self, kind: NamedKind, name: Name<'_>) -> std::result::Result<usize, NoMemory> {
-        let slot = slot_of(name);
-        let place = match self.find(slot, kind, name) {
+        let slot = slot_of(&name);
+        let place = match self.find(slot, kind, &name) {
             Some(place) => place,
             None => self.add(kind, name)?,
         };
@@ -224,13 +224,13 @@ impl CallStore for NamedCalls {
 
 impl NamedCalls {
     /// The place of a call among those that a slot remembers, if it is one of them.
-    fn find(&self, slot: usize, kind: NamedKind, name: Name<'_>) -> Option<usize>
-        ensures { let call = named_call kind (seen_name name.entry) in
+    fn find(&self, slot: usize, kind: NamedKind, name: &Name<'_>) -> Option<usize>
+        ensures { let call = named_call kind (seen_name name.now) in
             IfSome result (λ place. Keeps self.now place call) }
     {
-        let (newest, before) = self.recent.get(slot)?;
-        if self.is_kept(newest, kind, name) {
-            return Some(newest);
+        let (last, before) = self.recent.get(slot)?;
+        if self.is_kept(last, kind, name) {
+            return Some(last);
         }
         if self.is_kept(before, kind, name) {
             return Some(before);
@@ -239,8 +239,8 @@ impl NamedCalls {
     }
 
     /// This call is kept at a place.
-    fn is_kept(&self, place: usize, kind: NamedKind, name: Name<'_>) -> bool
-        ensures { OnTrue result (Keeps self.now place (named_call kind (seen_name name.entry))) }
+    fn is_kept(&self, place: usize, kind: NamedKind, name: &Name<'_>) -> bool
+        ensures { OnTrue result (Keeps self.now place (named_call kind (seen_name name.now))) }
     {
         match self.calls.get(place) {
             Some(call) => call.is_same(self.texts.as_str(), kind, name),

@@ -47,7 +47,7 @@ impl Recent {
 }
 
 /// The slot of a name, which few other names of a value share.
-pub(crate) fn slot_of(name: Name<'_>) -> usize
+pub(crate) fn slot_of(name: &Name<'_>) -> usize
     ensures { result < 64 }
 {
     let label = match name.label {
