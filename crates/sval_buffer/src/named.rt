@@ -121,8 +121,8 @@ fn hint(name: Name<'_>) -> &Tag
 
 /// Calls with names. The texts of all labels that aren't static stand in one store.
 ///
-/// A call that was kept lately is not kept again: values repeat their names, as each record of a list does, and
-/// without their repetitions they take half of the memory.
+/// A call that was kept lately isn't kept again. Values repeat their names, as the records of a list do, so it is
+/// mostly one place that many parts speak of.
 #[derive(Drop)]
 pub struct NamedCalls {
     calls: Vec<NamedCall>,

@@ -5,7 +5,7 @@ ghost use Rattle.std.specs.Prelude.{◌≡◌, ◌<◌, slice_get};
 use std::alloc::Global;
 use sval_core::{Index, Label, Name};
 
-/// The number of slots. Each remembers two places, so that a name that comes again stays, whatever others come between.
+/// The number of slots. Each remembers two places, so that two names which take turns at a slot both stay.
 const SLOTS: usize = 64;
 
 /// The places of calls that were kept lately, the last two of each slot.
