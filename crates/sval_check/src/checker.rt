@@ -116,6 +116,7 @@ impl Checker {
     }
 
     /// Takes the begin of a value that says no name.
+    #[inline(always)]
     fn begin(&mut self, call: Begin) -> Result<(), Why>
         ensures { StepsBy true (begin (begun_form call) (begun_frame call) self.old.state) self.old self.new result }
     {
@@ -126,6 +127,7 @@ impl Checker {
     }
 
     /// Takes the begin of a value that says a name, of a container with its size.
+    #[inline(always)]
     fn begin_named(
         &mut self,
         value: NamedValue,
@@ -144,6 +146,7 @@ impl Checker {
     }
 
     /// Takes the begin of a container.
+    #[inline(never)]
     fn begin_container(&mut self, head: Head<'_>, size: Option<usize>) -> Result<(), Why>
         ensures { let head = seen_head head.entry in
             let opened = InContainer (plain_head head) (first_kind head) size in

@@ -131,6 +131,7 @@ pub(crate) fn may_hold(tag: Option<Tag>, form: Form) -> bool
 }
 
 /// Text is meant in a way of its own under a tag.
+#[inline(never)]
 fn means_text(tag: Tag) -> bool
     ensures { result ≡ means_text (text_kind (Some (seen_tag tag))) }
 {
@@ -141,6 +142,7 @@ fn means_text(tag: Tag) -> bool
 }
 
 /// Two tags are both absent, or equal.
+#[inline(always)]
 pub(crate) fn same_tag(ended: Option<&Tag>, begun: Option<Tag>) -> bool
     ensures { result ≡ same.same_option equal.same_tag (seen_option_tag ended.entry) (option_map seen_tag begun) }
 {

@@ -41,6 +41,7 @@ impl Names {
     }
 
     /// Keeps a begin with its label's text, and gives its frame, of which so much is still to come.
+    #[inline(always)]
     fn push(&mut self, named: Named, text: &str, left: Option<usize>) -> Result<Frame, NoMemory>
         requires { named_size named ≡ length text.now }
         ensures { Keeps self.old self.new (named_frame text.now named left) result }
@@ -220,6 +221,7 @@ impl Names {
     }
 
     /// A name is the one that was kept last.
+    #[inline(always)]
     fn is_name(&self, begun: &KeptName, name: Name<'_>) -> bool
         ensures { result ≡ same.same_name (seen_name name.entry) (kept_name self.now.texts.items begun.now) }
     {

@@ -165,6 +165,7 @@ impl<'k, 'sval, K: Sink> Stream<Lent<'sval>> for Writer<'k, K> {
 
     ghost standing = { writer_standing K.told };
 
+    #[inline(always)]
     fn take(&mut self, call: Call<'sval, '_>) -> Result
         ensures { Answers writer_law result
             (writer_standing K.told self.old) (lent_call call.entry) (writer_standing K.told self.new) }

@@ -78,6 +78,7 @@ pub(crate) enum IndexField {
 }
 
 /// A truth value.
+#[inline(never)]
 pub(crate) fn truth(field: &[u8]) -> Option<bool>
     ensures { result ≡ script.truth field.now }
 {
@@ -128,6 +129,7 @@ fn index_of_digits(field: &[u8]) -> Option<(Sign, u64)>
 }
 
 /// An index.
+#[inline(always)]
 pub(crate) fn index(field: &[u8]) -> Option<IndexRead>
     ensures { option_map index_of result ≡ script.index field.now }
 {
@@ -154,6 +156,7 @@ pub(crate) fn index_or_dash(field: &[u8]) -> Option<(IndexField, u64)>
 }
 
 /// Puts the bytes that hex digits spell behind those before them.
+#[inline(always)]
 fn decode(store: &mut Vec<u8>, digits: &[u8]) -> Result<(), LineError>
     ensures decoded { OnOk result (Decodes digits.now store.old.items store.new.items) }
     ensures bad { result ≡ Err LineError.Bad → result_ok (decode_of digits.now) ≡ None }
@@ -202,6 +205,7 @@ pub(crate) fn store_bytes(store: &mut Vec<u8>, field: &[u8]) -> Result<usize, Li
 }
 
 /// Puts a label's text behind what the store has.
+#[inline(always)]
 pub(crate) fn store_label(store: &mut Vec<u8>, field: &[u8]) -> Result<LabelRead, LineError>
     ensures stored { IfOk result (λ label. StoresLabel field.now store.old.items store.new.items label) }
     ensures bad { result ≡ Err LineError.Bad → script.label field.now ≡ None }

@@ -143,6 +143,7 @@ impl<'a> Fields<'a> {
 
     /// The next field, an index.
     #[tactic(auto, using(crate::proofs::FieldsRead::none_read, crate::proofs::FieldsRead::read_as))]
+    #[inline(always)]
     pub(crate) fn index(&mut self) -> Option<IndexRead>
         ensures { ReadsAs script.index index_of self.old self.new result }
     {
@@ -167,6 +168,7 @@ impl<'a> Fields<'a> {
     }
 
     /// The next field, bytes, which go behind what the store has. Answers how many they are.
+    #[inline(never)]
     pub(crate) fn bytes(&mut self, store: &mut Vec<u8>) -> Result<usize, LineError>
         ensures stored { IfOk result (λ len.
             StoresNextBytes self.old self.new store.old.items store.new.items len) }

@@ -204,6 +204,7 @@ fn make_named<L: Lending, S: Stream<L>>(
 }
 
 /// Makes the begin of a container with this name.
+#[inline(always)]
 fn make_named_opening<L: Lending, S: Stream<L>>(
     word: NamedOpening,
     parts: NameFields,

@@ -43,6 +43,7 @@ impl<'k, K: Sink> Writer<'k, K> {
     }
 
     /// Begins a container.
+    #[inline(always)]
     pub(crate) fn begin_container(&mut self, head: Head) -> Result
         ensures { Does (container_begins self.old.variants (seen_head head.entry)) result
             (writer_view K.told self.old) (writer_view K.told self.new) }
