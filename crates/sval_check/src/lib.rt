@@ -25,9 +25,9 @@ use sval_core::{Lent, Value};
 
 /// Checks that a value's calls spell one whole value, and that the value itself doesn't refuse.
 ///
-/// The value is streamed once. What has begun and has no end yet is kept in memory of `alloc`, with the name that its
-/// end has to say, so a deep value needs no deep stack of calls. An end says its begin's name where both say or leave
-/// out the same of tag, label and index: tags and labels are compared by their texts, and indexes by their numbers.
+/// What has begun and has no end yet is kept in memory of `alloc`, with the name that its end has to say, so a deep
+/// value needs no deep stack of calls. An end says its begin's name where both say or leave out the same of tag, label
+/// and index: tags and labels are compared by their texts, and indexes by their numbers.
 ///
 /// - [`CheckError::BadCall`] comes where no value goes on with one of its calls, and names the first such call.
 /// - [`CheckError::Refused`] comes where all calls can be completed, and the value refuses after them.
@@ -37,7 +37,8 @@ use sval_core::{Lent, Value};
 ///   can be completed.
 ///
 /// The four cases exclude each other, and each has its answer wherever it stands, unless memory was wanting. So a value
-/// whose calls spell a tree gives `Ok` or `NoMemory`, which is the lemma `told_passes` of `proofs/Told.antt`.
+/// that doesn't refuse and whose calls spell a tree gives `Ok` or `NoMemory`, which is the lemma `told_passes` of
+/// `proofs/Told.antt`.
 ///
 /// ```
 /// match check(alloc, &value) {

@@ -73,7 +73,7 @@ impl From<SinkError> for RelayError {
 ///
 /// On `Ok` the sink took exactly that JSON's text. Where raw texts and identifiers are what their tags promise, that
 /// text denotes the one value that is meant. Where the sink counted no fault, the answer is the one that the script's
-/// verdict asks for, unless memory was wanting. A script may have any length. The sink isn't flushed.
+/// verdict asks for, unless memory was wanting. A script may have any length.
 ///
 /// ```
 /// let mut sink = VecSink::new(alloc);

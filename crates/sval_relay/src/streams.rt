@@ -20,8 +20,9 @@ const BUFFER: usize = 1 << 16;
 /// Runs the program on its words over a reader and two writers, and answers its status, as [`run`] does over any
 /// devices.
 ///
-/// The output is held back in a buffer of 65,536 bytes until it is full, and passed on before the status is answered.
-/// Memory for that buffer is asked for only where the words are a form.
+/// The output is held back in a buffer of 65,536 bytes until it is full. What is left of it is passed on before status 0
+/// is answered, and with any other status at the end, where a failure isn't told. Memory for that buffer is asked for
+/// only where the words are a form.
 ///
 /// ```
 /// let mut json = Vec::new(alloc);

@@ -58,13 +58,17 @@ fn words(alloc: Global, text: &str) -> Result<Vec<String>, AllocError> {
     Ok(words)
 }
 
+/// A variant of an enum, which holds a number.
+const VARIANT: &'static str =
+    "enum_begin - - -\ntagged_begin - =61 -\nu64 7\ntagged_end - =61 -\nenum_end - - -\n";
+
 /// Each status with what is written and its line.
 #[test]
 fn statuses(rt: HostRuntime) -> Result<(), Fail> {
     let alloc = rt.alloc();
     let usage =
         "usage: sval_relay direct [beside] [lines]|buffered [beside] [lines]|calls [lines]|made N\n";
-    let table: [(&'static str, &'static str, u8, &'static str, &'static str); 9] = [
+    let table: [(&'static str, &'static str, u8, &'static str, &'static str); 15] = [
         ("direct", "bool true\n", 0, "true", ""),
         ("buffered beside", "i64 -7\n", 0, "-7", ""),
         ("direct inside", "null\n", 2, "", usage),
@@ -86,6 +90,36 @@ fn statuses(rt: HostRuntime) -> Result<(), Fail> {
         ),
         ("buffered", "", 5, "", "the calls are not one whole value\n"),
         ("direct", "null", 3, "", "line 1: not a call\n"),
+        ("direct", VARIANT, 0, "{\"a\":7}", ""),
+        ("buffered", VARIANT, 0, "{\"a\":7}", ""),
+        (
+            "direct beside",
+            VARIANT,
+            0,
+            "{\"variant\":\"a\",\"value\":7}",
+            "",
+        ),
+        (
+            "buffered beside",
+            VARIANT,
+            0,
+            "{\"variant\":\"a\",\"value\":7}",
+            "",
+        ),
+        (
+            "direct",
+            "map_begin -\nmap_key_begin\nseq_begin -\nseq_end\nmap_key_end\nmap_value_begin\nnull\nmap_value_end\nmap_end\n",
+            6,
+            "{\"",
+            "attempt to serialize a non-string key\n",
+        ),
+        (
+            "buffered",
+            "tagged_begin NUMBER - -\ntext_begin -\ntext_fragment =3178\ntext_end\ntagged_end NUMBER - -\n",
+            7,
+            "1",
+            "attempt to serialize an invalid number\n",
+        ),
     ];
     for (text, script, wanted, json, line) in table {
         let mut stdout = Limited::new(alloc, 100, io::ErrorKind::StorageFull);
@@ -156,5 +190,34 @@ fn an_input_that_fails(rt: HostRuntime) -> Result<(), Fail> {
     assert_eq!(rt; status, 9);
     assert!(rt; stdout.taken.is_empty());
     assert_eq!(rt; stderr.taken.as_slice(), b"read fault\n".as_slice());
+    Ok(())
+}
+
+/// More output than the buffer holds reaches the writer whole and in order.
+#[test]
+fn more_than_is_held_back(rt: HostRuntime) -> Result<(), Fail> {
+    let alloc = rt.alloc();
+    let mut script = Vec::from_slice(alloc, b"text_begin -\n")?;
+    for _ in 0..70 {
+        script.extend_from_slice(b"text_fragment =")?;
+        for _ in 0..1000 {
+            script.extend_from_slice(b"61")?;
+        }
+        script.push(b'\n')?;
+    }
+    script.extend_from_slice(b"text_end\n")?;
+    let mut stdout = Limited::new(alloc, 100_000, io::ErrorKind::StorageFull);
+    let mut stderr = Limited::new(alloc, 100, io::ErrorKind::StorageFull);
+    let status = relay_streams(
+        alloc,
+        &words(alloc, "buffered")?,
+        script.as_slice(),
+        &mut stdout,
+        &mut stderr,
+    );
+    assert_eq!(rt; status, 0);
+    assert_eq!(rt; stdout.taken.len(), 70_002);
+    assert!(rt; stdout.taken[1..70_001].iter().all(|byte| *byte == b'a'));
+    assert!(rt; stderr.taken.is_empty());
     Ok(())
 }
