@@ -1,15 +1,18 @@
 -- What streaming a value to JSON leaves of a sink.
-use Rattle.std.specs.Prelude.{◌≡◌, true, List, None, Some, Ok, Err}
+use Rattle.std.specs.Prelude.{◌≡◌, true, false, List, None, Some, Result, Ok, Err, OnOk, OnErr}
 use Rattle.sval_label.specs.Calls.{Call}
-use Rattle.sval_core.specs.Law.{Emission}
+use Rattle.sval_core.specs.Law.{Emission, Rose}
 use Rattle.sval_core.specs.Spells.{Spells}
 use Rattle.sval_core.specs.Trees.{Tree}
 use Rattle.sval_core.specs.Real.{IsReal}
 use Rattle.sval_json.specs.declared.style.Variants.{Variants}
 use Rattle.sval_json.specs.Json.{Json, compact}
 use Rattle.sval_json.specs.Shape.{json_in}
-use Rattle.sval_json.specs.Number.{Refusal}
-use Rattle.sval_json.specs.Sinks.{Told, IsSteady, Appends, AppendsFront, LacksRoom}
+use Rattle.sval_json.specs.Number.{Refusal, InvalidKey, InvalidNumber}
+use Rattle.sval_json.specs.declared.error.ErrorKind.{ErrorKind}
+use Rattle.sval_json.specs.declared.error.ErrorKind.TheVariants as kind
+use Rattle.sval_json.specs.ErrorKinds.{refusal_kind}
+use Rattle.sval_json.specs.Sinks.{Told, IsSteady, IsQuiet, NoCountFell, Appends, AppendsFront, LacksRoom}
 use Rattle.sval_json.specs.Steps.{written_in}
 use Rattle.sval_json.specs.Grammar.{JsonValue}
 use Rattle.sval_json.specs.Promises.{KeepsPromises}
@@ -76,3 +79,27 @@ pub record EndsRefused (style : Variants) (emission : Emission) (old new : Told)
   pub refuses : emission.refuses ≡ true
   pub written : IsWrittenIn style emission.calls old new
   pub steady : IsSteady old new
+
+-- ---- what streaming answers
+
+-- On Ok the sink took what the steps write, which is the text of the tree that the calls spell, and denotes what is meant. Each error
+-- comes only where it is so, and where no count of the sink moved, the answer that is due comes. Whatever comes, a first part of what
+-- the steps write was taken, and no count falls.
+pub record StreamsJson (style : Variants) (emission : Emission) (result : Result (Unit {0}) ErrorKind) (old new : Told) : Type 0 where
+  pub written : OnOk result (IsWrittenIn style emission.calls old new)
+  pub tree : OnOk result (WritesSpelledTree style emission.calls old new)
+  pub denotes : OnOk result (WritesSpelledValue style emission.calls old new)
+  pub willing : OnOk result (emission.refuses ≡ false)
+  pub steady : OnOk result (IsSteady old new)
+  pub generic_comes : RefusesItself style emission → IsQuiet old new → result ≡ Err kind.Generic
+  pub generic : result ≡ Err kind.Generic → EndsRefused style emission old new
+  pub refused_comes : (why : Refusal) → (written_in style emission.calls).refusal ≡ Some why → IsQuiet old new → result ≡ Err (refusal_kind why)
+  pub invalid_key : result ≡ Err kind.InvalidKey → IsRefusedIn style InvalidKey emission.calls old new
+  pub invalid_number : result ≡ Err kind.InvalidNumber → IsRefusedIn style InvalidNumber emission.calls old new
+  pub tree_refused : (why : Refusal) → result ≡ Err (refusal_kind why) → RefusesSpelledTree style why emission.calls
+  pub io : result ≡ Err kind.IO → Rose old.faults new.faults
+  pub io_room : result ≡ Err kind.IO → IsTooLongFor style emission.calls old
+  pub no_memory : result ≡ Err kind.NoMemory → Rose old.wants new.wants
+  pub counts : NoCountFell old new
+  pub prefix : OnErr result (IsBegunIn style emission.calls old new)
+  pub tree_prefix : OnErr result (BeginsSpelledTree style emission.calls old new)

@@ -1,15 +1,7 @@
 //! Values written to a sink.
 
-ghost use Rattle.std.specs.Prelude.{◌≡◌, None, Some, true, false, OnOk, OnErr};
-ghost use Rattle.sval_core.specs.Law.{Rose};
 ghost use Rattle.sval_json.specs.declared.style.Variants.TheVariants.{Inside};
-ghost use Rattle.sval_json.specs.ErrorKinds.{refusal_kind};
-ghost use Rattle.sval_json.specs.Number.{Refusal, InvalidKey, InvalidNumber};
-ghost use Rattle.sval_json.specs.Sinks.{IsSteady, IsQuiet, NoCountFell};
-ghost use Rattle.sval_json.specs.Steps.{written_in};
-ghost use Rattle.sval_json.specs.Written.{IsWrittenIn, IsBegunIn, IsTooLongFor, IsRefusedIn};
-ghost use Rattle.sval_json.specs.Written.{RefusesItself, EndsRefused};
-ghost use Rattle.sval_json.specs.Written.{WritesSpelledTree, WritesSpelledValue, RefusesSpelledTree, BeginsSpelledTree};
+ghost use Rattle.sval_json.specs.Written.{StreamsJson};
 
 use crate::error::{Error, ErrorKind};
 use crate::sink::Sink;
@@ -43,32 +35,7 @@ pub fn stream_to_io_write<'v, K: Sink, V: Value<'v, Lent<'v>>>(
     out: &mut K,
     v: &'v V,
 ) -> Result<(), Error>
-    ensures written { OnOk result (IsWrittenIn Inside (V.emission v.now).calls (K.told out.old) (K.told out.new)) }
-    ensures tree { OnOk result (WritesSpelledTree Inside (V.emission v.now).calls (K.told out.old) (K.told out.new)) }
-    ensures denotes { OnOk result
-        (WritesSpelledValue Inside (V.emission v.now).calls (K.told out.old) (K.told out.new)) }
-    ensures willing { OnOk result ((V.emission v.now).refuses ≡ false) }
-    ensures steady { OnOk result (IsSteady (K.told out.old) (K.told out.new)) }
-
-    ensures generic_comes { RefusesItself Inside (V.emission v.now) → IsQuiet (K.told out.old) (K.told out.new)
-        → result ≡ Err ErrorKind.Generic }
-    ensures generic { result ≡ Err ErrorKind.Generic
-        → EndsRefused Inside (V.emission v.now) (K.told out.old) (K.told out.new) }
-    ensures refused_comes { (why : Refusal) → (written_in Inside (V.emission v.now).calls).refusal ≡ Some why
-        → IsQuiet (K.told out.old) (K.told out.new) → result ≡ Err (refusal_kind why) }
-    ensures invalid_key { result ≡ Err ErrorKind.InvalidKey
-        → IsRefusedIn Inside InvalidKey (V.emission v.now).calls (K.told out.old) (K.told out.new) }
-    ensures invalid_number { result ≡ Err ErrorKind.InvalidNumber
-        → IsRefusedIn Inside InvalidNumber (V.emission v.now).calls (K.told out.old) (K.told out.new) }
-    ensures tree_refused { (why : Refusal) → result ≡ Err (refusal_kind why)
-        → RefusesSpelledTree Inside why (V.emission v.now).calls }
-    ensures io { result ≡ Err ErrorKind.IO → Rose (K.told out.old).faults (K.told out.new).faults }
-    ensures io_room { result ≡ Err ErrorKind.IO → IsTooLongFor Inside (V.emission v.now).calls (K.told out.old) }
-    ensures no_memory { result ≡ Err ErrorKind.NoMemory → Rose (K.told out.old).wants (K.told out.new).wants }
-    ensures counts { NoCountFell (K.told out.old) (K.told out.new) }
-    ensures prefix { OnErr result (IsBegunIn Inside (V.emission v.now).calls (K.told out.old) (K.told out.new)) }
-    ensures tree_prefix { OnErr result
-        (BeginsSpelledTree Inside (V.emission v.now).calls (K.told out.old) (K.told out.new)) }
+    ensures { StreamsJson Inside (V.emission v.now) result (K.told out.old) (K.told out.new) }
 {
     stream_to_io_write_with(out, v, Variants::Inside)
 }
@@ -88,32 +55,7 @@ pub fn stream_to_io_write_with<'v, K: Sink, V: Value<'v, Lent<'v>>>(
     v: &'v V,
     variants: Variants,
 ) -> Result<(), Error>
-    ensures written { OnOk result (IsWrittenIn variants (V.emission v.now).calls (K.told out.old) (K.told out.new)) }
-    ensures tree { OnOk result (WritesSpelledTree variants (V.emission v.now).calls (K.told out.old) (K.told out.new)) }
-    ensures denotes { OnOk result
-        (WritesSpelledValue variants (V.emission v.now).calls (K.told out.old) (K.told out.new)) }
-    ensures willing { OnOk result ((V.emission v.now).refuses ≡ false) }
-    ensures steady { OnOk result (IsSteady (K.told out.old) (K.told out.new)) }
-
-    ensures generic_comes { RefusesItself variants (V.emission v.now) → IsQuiet (K.told out.old) (K.told out.new)
-        → result ≡ Err ErrorKind.Generic }
-    ensures generic { result ≡ Err ErrorKind.Generic
-        → EndsRefused variants (V.emission v.now) (K.told out.old) (K.told out.new) }
-    ensures refused_comes { (why : Refusal) → (written_in variants (V.emission v.now).calls).refusal ≡ Some why
-        → IsQuiet (K.told out.old) (K.told out.new) → result ≡ Err (refusal_kind why) }
-    ensures invalid_key { result ≡ Err ErrorKind.InvalidKey
-        → IsRefusedIn variants InvalidKey (V.emission v.now).calls (K.told out.old) (K.told out.new) }
-    ensures invalid_number { result ≡ Err ErrorKind.InvalidNumber
-        → IsRefusedIn variants InvalidNumber (V.emission v.now).calls (K.told out.old) (K.told out.new) }
-    ensures tree_refused { (why : Refusal) → result ≡ Err (refusal_kind why)
-        → RefusesSpelledTree variants why (V.emission v.now).calls }
-    ensures io { result ≡ Err ErrorKind.IO → Rose (K.told out.old).faults (K.told out.new).faults }
-    ensures io_room { result ≡ Err ErrorKind.IO → IsTooLongFor variants (V.emission v.now).calls (K.told out.old) }
-    ensures no_memory { result ≡ Err ErrorKind.NoMemory → Rose (K.told out.old).wants (K.told out.new).wants }
-    ensures counts { NoCountFell (K.told out.old) (K.told out.new) }
-    ensures prefix { OnErr result (IsBegunIn variants (V.emission v.now).calls (K.told out.old) (K.told out.new)) }
-    ensures tree_prefix { OnErr result
-        (BeginsSpelledTree variants (V.emission v.now).calls (K.told out.old) (K.told out.new)) }
+    ensures { StreamsJson variants (V.emission v.now) result (K.told out.old) (K.told out.new) }
 {
     let mut writer = Writer {
         sink: out,
