@@ -89,41 +89,32 @@ wide_read major width n rest h =
     let long : nat_le width (length (bs ++ rest)) ≡ true = let l : width ≤ length (bs ++ rest) = omega (arith, length-append bs rest, bytes_length width n) in grind (arith, nat_tests) in
     rw (long, take_at bs rest width (bytes_length width n), drop_at bs rest width (bytes_length width n), bytes_value width n h) refl
 
+-- the major type and the low bits of a first byte
+bits_of : (major low : ℕ) → low < 32 → ((32 * major + low) / 32 ≡ major) × ((32 * major + low) % 32 ≡ low)
+bits_of major low h = (omega arith, omega arith)
+
 small_read : (major n : ℕ) (rest : List ℕ) → n < 24 → head_of ((32 * major + n) ∷ rest) ≡ Some (head major n rest)
 unfolding head_of
 small_read major n rest h =
-    let e : (32 * major + n) / 32 ≡ major = omega arith in
-    let f : (32 * major + n) % 32 ≡ n = omega arith in
+    let bits = bits_of major n (omega arith) in
     let g : nat_lt n 24 ≡ true = grind (arith, nat_tests) in
-    rw (e, f, g) refl
+    rw (bits.0, bits.1, g) refl
 
 one_byte : (major : ℕ) (bytes : List ℕ) → head_of ((32 * major + 24) ∷ bytes) ≡ wide_head major 1 bytes
 unfolding head_of
-one_byte major bytes =
-    let e : (32 * major + 24) / 32 ≡ major = omega arith in
-    let f : (32 * major + 24) % 32 ≡ 24 = omega arith in
-    rw (e, f) refl
+one_byte major bytes = let bits = bits_of major 24 (omega arith) in rw (bits.0, bits.1) refl
 
 two_bytes : (major : ℕ) (bytes : List ℕ) → head_of ((32 * major + 25) ∷ bytes) ≡ wide_head major 2 bytes
 unfolding head_of
-two_bytes major bytes =
-    let e : (32 * major + 25) / 32 ≡ major = omega arith in
-    let f : (32 * major + 25) % 32 ≡ 25 = omega arith in
-    rw (e, f) refl
+two_bytes major bytes = let bits = bits_of major 25 (omega arith) in rw (bits.0, bits.1) refl
 
 four_bytes : (major : ℕ) (bytes : List ℕ) → head_of ((32 * major + 26) ∷ bytes) ≡ wide_head major 4 bytes
 unfolding head_of
-four_bytes major bytes =
-    let e : (32 * major + 26) / 32 ≡ major = omega arith in
-    let f : (32 * major + 26) % 32 ≡ 26 = omega arith in
-    rw (e, f) refl
+four_bytes major bytes = let bits = bits_of major 26 (omega arith) in rw (bits.0, bits.1) refl
 
 eight_bytes : (major : ℕ) (bytes : List ℕ) → head_of ((32 * major + 27) ∷ bytes) ≡ wide_head major 8 bytes
 unfolding head_of
-eight_bytes major bytes =
-    let e : (32 * major + 27) / 32 ≡ major = omega arith in
-    let f : (32 * major + 27) % 32 ≡ 27 = omega arith in
-    rw (e, f) refl
+eight_bytes major bytes = let bits = bits_of major 27 (omega arith) in rw (bits.0, bits.1) refl
 
 -- a head of the least width is read
 pub head_read : (major n : ℕ) (rest : List ℕ) → n < 2 ^ 64 → head_of (head_bytes major n ++ rest) ≡ Some (head major n rest)
