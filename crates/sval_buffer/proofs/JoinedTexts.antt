@@ -8,29 +8,56 @@ use Rattle.sval_core.specs.Trees as tree
 use Rattle.sval_core.specs.Trees.{Tree, Parts, plain_label, plain_name, plain_head, plain_slot}
 use Rattle.sval_core.specs.Spells.{Says, SayParts, Spells, plain, bare_name, bare_head, bare_slot}
 use Rattle.sval_core.proofs.OneTree.{same_texts, same_binaries}
+use Rattle.sval_buffer.specs.declared.part.Medium.{Medium}
+use Rattle.sval_buffer.specs.declared.part.Medium.TheVariants as media
 
 abbrev pub is_other : Call → Bool
 is_other (TextBegin size) = false
 is_other (BinaryBegin size) = false
 is_other call = true
 
+-- ---- the calls of a text or a binary
+
+abbrev pub begins : Medium → Option ℕ → Call
+begins media.Text size = TextBegin size
+begins media.Binary size = BinaryBegin size
+
+abbrev pub piece : Medium → List ℕ → Call
+piece media.Text = TextFragment false
+piece media.Binary = BinaryFragment false
+
+abbrev pub ends : Medium → Call
+ends media.Text = TextEnd
+ends media.Binary = BinaryEnd
+
+no_other : (medium : Medium) (size : Option ℕ) → is_other (begins medium size) ≡ false
+no_other media.Text size = refl
+no_other media.Binary size = refl
+
+one_medium : (m n : Medium) (size other : Option ℕ) → begins m size ≡ begins n other → m ≡ n
+one_medium media.Text media.Text size other e = refl
+one_medium media.Text media.Binary size other e = absurd (cc e)
+one_medium media.Binary media.Text size other e = absurd (cc e)
+one_medium media.Binary media.Binary size other e = refl
+
+same_pieces : (medium : Medium) (ps qs : List (List ℕ)) (cs ds : List Call) → map (piece medium) ps ++ (ends medium ∷ cs) ≡ map (piece medium) qs ++ (ends medium ∷ ds) → (ps ≡ qs) × (cs ≡ ds)
+same_pieces media.Text = same_texts
+same_pieces media.Binary = same_binaries
+
+-- ---- each text and binary in one piece
+
 pub data Joins : List Call → List Call → Type 0 where
   nothing : Joins [] []
   as_is : {cs ds : List Call} (c : Call) → is_other c ≡ true → Joins cs ds → Joins (c ∷ cs) (c ∷ ds)
-  text : {cs ds : List Call} (size : Option ℕ) (pieces : List (List ℕ)) → Joins cs ds
-      → Joins (TextBegin size ∷ (map (TextFragment false) pieces ++ (TextEnd ∷ cs))) (TextBegin (Some (length (concat pieces))) ∷ TextFragment false (concat pieces) ∷ TextEnd ∷ ds)
-  binary : {cs ds : List Call} (size : Option ℕ) (pieces : List (List ℕ)) → Joins cs ds
-      → Joins (BinaryBegin size ∷ (map (BinaryFragment false) pieces ++ (BinaryEnd ∷ cs))) (BinaryBegin (Some (length (concat pieces))) ∷ BinaryFragment false (concat pieces) ∷ BinaryEnd ∷ ds)
+  joined : {cs ds : List Call} (medium : Medium) (size : Option ℕ) (pieces : List (List ℕ)) → Joins cs ds
+      → Joins (begins medium size ∷ (map (piece medium) pieces ++ (ends medium ∷ cs))) (begins medium (Some (length (concat pieces))) ∷ piece medium (concat pieces) ∷ ends medium ∷ ds)
 
 pub joins-append : {a b c d : List Call} → Joins a b → Joins c d → Joins (a ++ c) (b ++ d)
 joins-append nothing k = k
 joins-append (as_is x h j) k = as_is x h (joins-append j k)
-joins-append {b = b} {c = c} {d = d} (text {cs = cs} {ds = ds} size pieces j) k =
-    subst (λ x. Joins (TextBegin size ∷ x) (TextBegin (Some (length (concat pieces))) ∷ TextFragment false (concat pieces) ∷ TextEnd ∷ (ds ++ d)))
-    (sym (append_assoc (map (TextFragment false) pieces) (TextEnd ∷ cs) c)) (text size pieces (joins-append j k))
-joins-append {b = b} {c = c} {d = d} (binary {cs = cs} {ds = ds} size pieces j) k =
-    subst (λ x. Joins (BinaryBegin size ∷ x) (BinaryBegin (Some (length (concat pieces))) ∷ BinaryFragment false (concat pieces) ∷ BinaryEnd ∷ (ds ++ d)))
-    (sym (append_assoc (map (BinaryFragment false) pieces) (BinaryEnd ∷ cs) c)) (binary size pieces (joins-append j k))
+joins-append {b = b} {c = c} {d = d} (joined {cs = cs} {ds = ds} medium size pieces j) k =
+    subst (λ x. Joins (begins medium size ∷ x) (begins medium (Some (length (concat pieces))) ∷ piece medium (concat pieces) ∷ ends medium ∷ (ds ++ d)))
+    (sym (append_assoc (map (piece medium) pieces) (ends medium ∷ cs) c)) (joined medium size pieces (joins-append j k))
 
 pub head_same : (c d : Call) (cs ds : List Call) → (c ∷ cs) ≡ (d ∷ ds) → (c ≡ d) × (cs ≡ ds)
 head_same c d cs ds e = (cc e, cc e)
@@ -44,42 +71,29 @@ pub joins_other : {cs ds : List Call} (c : Call) (rest : List Call) → is_other
 joins_other c rest h e nothing = absurd (cc e)
 joins_other c rest h e (as_is {cs = cs} {ds = ds} d k j) =
     let f = head_same d c cs rest e in record { others = ds; is = ap (λ x. x ∷ ds) f.0; joins = subst (λ x. Joins x ds) f.1 j }
-joins_other c rest h e (text {cs = cs} size pieces j) =
-    let f = head_same (TextBegin size) c (map (TextFragment false) pieces ++ (TextEnd ∷ cs)) rest e in let g = ap is_other f.0 ∙ h in absurd (cc g)
-joins_other c rest h e (binary {cs = cs} size pieces j) =
-    let f = head_same (BinaryBegin size) c (map (BinaryFragment false) pieces ++ (BinaryEnd ∷ cs)) rest e in let g = ap is_other f.0 ∙ h in absurd (cc g)
+joins_other c rest h e (joined {cs = cs} medium size pieces j) =
+    let f = head_same (begins medium size) c (map (piece medium) pieces ++ (ends medium ∷ cs)) rest e in let g = sym (no_other medium size) ∙ ap is_other f.0 ∙ h in absurd (cc g)
 
-pub record AfterText (bytes : List ℕ) (rest ds : List Call) : Type 0 where
+pub record AfterPieces (medium : Medium) (bytes : List ℕ) (rest ds : List Call) : Type 0 where
   pub others : List Call
-  pub is : ds ≡ TextBegin (Some (length bytes)) ∷ TextFragment false bytes ∷ TextEnd ∷ others
+  pub is : ds ≡ begins medium (Some (length bytes)) ∷ piece medium bytes ∷ ends medium ∷ others
   pub joins : Joins rest others
 
-pub joins_text : {cs ds : List Call} (size : Option ℕ) (pieces : List (List ℕ)) (rest : List Call) → cs ≡ TextBegin size ∷ (map (TextFragment false) pieces ++ (TextEnd ∷ rest)) → Joins cs ds → AfterText (concat pieces) rest ds
-joins_text size pieces rest e nothing = absurd (cc e)
-joins_text size pieces rest e (as_is {cs = cs} d k j) =
-    let f = head_same d (TextBegin size) cs (map (TextFragment false) pieces ++ (TextEnd ∷ rest)) e in let g = sym k ∙ ap is_other f.0 in absurd (cc g)
-joins_text size pieces rest e (text {cs = cs} {ds = ds} other ps j) =
-    let f = head_same (TextBegin other) (TextBegin size) (map (TextFragment false) ps ++ (TextEnd ∷ cs)) (map (TextFragment false) pieces ++ (TextEnd ∷ rest)) e in
-    let g = same_texts ps pieces cs rest f.1 in
-    record { others = ds; is = ap (λ p. TextBegin (Some (length (concat p))) ∷ TextFragment false (concat p) ∷ TextEnd ∷ ds) g.0; joins = subst (λ x. Joins x ds) g.1 j }
-joins_text size pieces rest e (binary {cs = cs} other ps j) =
-    let f = head_same (BinaryBegin other) (TextBegin size) (map (BinaryFragment false) ps ++ (BinaryEnd ∷ cs)) (map (TextFragment false) pieces ++ (TextEnd ∷ rest)) e in absurd (cc (f.0))
-
-pub record AfterBinary (bytes : List ℕ) (rest ds : List Call) : Type 0 where
-  pub others : List Call
-  pub is : ds ≡ BinaryBegin (Some (length bytes)) ∷ BinaryFragment false bytes ∷ BinaryEnd ∷ others
-  pub joins : Joins rest others
-
-pub joins_binary : {cs ds : List Call} (size : Option ℕ) (pieces : List (List ℕ)) (rest : List Call) → cs ≡ BinaryBegin size ∷ (map (BinaryFragment false) pieces ++ (BinaryEnd ∷ rest)) → Joins cs ds → AfterBinary (concat pieces) rest ds
-joins_binary size pieces rest e nothing = absurd (cc e)
-joins_binary size pieces rest e (as_is {cs = cs} d k j) =
-    let f = head_same d (BinaryBegin size) cs (map (BinaryFragment false) pieces ++ (BinaryEnd ∷ rest)) e in let g = sym k ∙ ap is_other f.0 in absurd (cc g)
-joins_binary size pieces rest e (binary {cs = cs} {ds = ds} other ps j) =
-    let f = head_same (BinaryBegin other) (BinaryBegin size) (map (BinaryFragment false) ps ++ (BinaryEnd ∷ cs)) (map (BinaryFragment false) pieces ++ (BinaryEnd ∷ rest)) e in
-    let g = same_binaries ps pieces cs rest f.1 in
-    record { others = ds; is = ap (λ p. BinaryBegin (Some (length (concat p))) ∷ BinaryFragment false (concat p) ∷ BinaryEnd ∷ ds) g.0; joins = subst (λ x. Joins x ds) g.1 j }
-joins_binary size pieces rest e (text {cs = cs} other ps j) =
-    let f = head_same (TextBegin other) (BinaryBegin size) (map (TextFragment false) ps ++ (TextEnd ∷ cs)) (map (BinaryFragment false) pieces ++ (BinaryEnd ∷ rest)) e in absurd (cc (f.0))
+pub joins_pieces : {cs ds : List Call} (medium : Medium) (size : Option ℕ) (pieces : List (List ℕ)) (rest : List Call) → cs ≡ begins medium size ∷ (map (piece medium) pieces ++ (ends medium ∷ rest)) → Joins cs ds
+    → AfterPieces medium (concat pieces) rest ds
+joins_pieces medium size pieces rest e nothing = absurd (cc e)
+joins_pieces medium size pieces rest e (as_is {cs = cs} d k j) =
+    let f = head_same d (begins medium size) cs (map (piece medium) pieces ++ (ends medium ∷ rest)) e in let g = sym k ∙ ap is_other f.0 ∙ no_other medium size in absurd (cc g)
+joins_pieces medium size pieces rest e (joined {cs = cs} {ds = ds} other size' ps j) =
+    let f = head_same (begins other size') (begins medium size) (map (piece other) ps ++ (ends other ∷ cs)) (map (piece medium) pieces ++ (ends medium ∷ rest)) e in
+    subst (λ m. map (piece m) ps ++ (ends m ∷ cs) ≡ map (piece medium) pieces ++ (ends medium ∷ rest) → AfterPieces medium (concat pieces) rest (begins m (Some (length (concat ps))) ∷ piece m (concat ps) ∷ ends m ∷ ds))
+    (sym (one_medium other medium size' size f.0)) same f.1
+  where
+    same : map (piece medium) ps ++ (ends medium ∷ cs) ≡ map (piece medium) pieces ++ (ends medium ∷ rest)
+        → AfterPieces medium (concat pieces) rest (begins medium (Some (length (concat ps))) ∷ piece medium (concat ps) ∷ ends medium ∷ ds)
+    same e =
+        let g = same_pieces medium ps pieces cs rest e in
+        record { others = ds; is = ap (λ p. begins medium (Some (length (concat p))) ∷ piece medium (concat p) ∷ ends medium ∷ ds) g.0; joins = subst (λ x. Joins x ds) g.1 j }
 
 -- ---- they spell the same tree
 
@@ -103,10 +117,10 @@ mutual
   still_says (tree.Int type n) {ds = ds} rest s j = leaf (tree.Int type n) (Int type n) ds rest (λ o e. e) (joins_other (Int type n) rest refl s j)
   still_says (tree.Standalone name) {ds = ds} rest s j = leaf (tree.Standalone name) (Standalone name) ds rest (λ o e. e) (joins_other (Standalone name) rest refl s j)
   still_says (tree.Text bytes) {ds = ds} rest s j =
-      let a = joins_text s.0 s.1 rest s.4 j in
+      let a = joins_pieces media.Text s.0 s.1 rest s.4 j in
       record { others = a.others; makes = (Some (length bytes), bytes ∷ [], refl, append-nil bytes, subst (λ b. ds ≡ TextBegin (Some (length b)) ∷ TextFragment false b ∷ TextEnd ∷ a.others) s.3 a.is); joins = a.joins }
   still_says (tree.Binary bytes) {ds = ds} rest s j =
-      let a = joins_binary s.0 s.1 rest s.4 j in
+      let a = joins_pieces media.Binary s.0 s.1 rest s.4 j in
       record { others = a.others; makes = (Some (length bytes), bytes ∷ [], refl, append-nil bytes, subst (λ b. ds ≡ BinaryBegin (Some (length b)) ∷ BinaryFragment false b ∷ BinaryEnd ∷ a.others) s.3 a.is); joins = a.joins }
   still_says (tree.Tagged name inner) rest s j =
       let a = joins_other (TaggedBegin name) s.0 refl s.1 j in
