@@ -485,7 +485,8 @@ pub trait Stream<L: Lending> {
         index: &Index,
     ) -> Result
         ensures { Answers law result (standing self.old)
-            (call.PartBegin (call.FieldPlace (seen_option_tag tag.entry) label.now (seen_index index.now))) (standing self.new) }
+            (call.PartBegin (call.FieldPlace (seen_option_tag tag.entry) label.now (seen_index index.now)))
+            (standing self.new) }
     {
         self.take(AnyCall::RecordTupleValueBegin(tag, label, index))
     }
@@ -498,7 +499,8 @@ pub trait Stream<L: Lending> {
         index: &Index,
     ) -> Result
         ensures { Answers law result (standing self.old)
-            (call.PartEnd (call.FieldPlace (seen_option_tag tag.entry) label.now (seen_index index.now))) (standing self.new) }
+            (call.PartEnd (call.FieldPlace (seen_option_tag tag.entry) label.now (seen_index index.now)))
+            (standing self.new) }
     {
         self.take(AnyCall::RecordTupleValueEnd(tag, label, index))
     }
