@@ -63,3 +63,19 @@ fn indexes_are_equal_and_ordered_by_number(rt: HostRuntime) -> Result<(), Fail> 
     assert_eq!(rt; Tag::new("VALUE_OFFSET"), tags::VALUE_OFFSET);
     Ok(())
 }
+
+#[test]
+fn the_text_of_each_tag_is_its_name(rt: HostRuntime) {
+    let table = [
+        (tags::RUST_OPTION_SOME, "RUST_OPTION_SOME"),
+        (tags::RUST_OPTION_NONE, "RUST_OPTION_NONE"),
+        (tags::RUST_UNIT, "RUST_UNIT"),
+        (tags::NUMBER, "NUMBER"),
+        (tags::CONSTANT_SIZE, "CONSTANT_SIZE"),
+        (tags::VALUE_IDENT, "VALUE_IDENT"),
+        (tags::VALUE_OFFSET, "VALUE_OFFSET"),
+    ];
+    for (tag, text) in table {
+        assert_eq!(rt; tag.text, text);
+    }
+}
