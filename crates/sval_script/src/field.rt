@@ -170,7 +170,15 @@ fn decode(store: &mut Vec<u8>, digits: &[u8]) -> Result<(), LineError>
 fn is_text(bytes: &[u8]) -> bool
     ensures { MatchBool result (IsUtf8 bytes.now) (¬ (IsUtf8 bytes.now)) }
 {
-    bytes.is_ascii() || simdutf8::basic::from_utf8(bytes).is_ok()
+    bytes.is_ascii() || is_utf8(bytes)
+}
+
+/// Bytes are UTF-8.
+#[inline(never)]
+fn is_utf8(bytes: &[u8]) -> bool
+    ensures { MatchBool result (IsUtf8 bytes.now) (¬ (IsUtf8 bytes.now)) }
+{
+    simdutf8::basic::from_utf8(bytes).is_ok()
 }
 
 /// Puts the text that a field spells behind what the store has, and answers how many bytes it has.

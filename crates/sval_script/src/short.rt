@@ -8,10 +8,13 @@ ghost use Rattle.sval_script.specs.Runs.{MarksFirst, SameFrom};
 use memchr::{memchr, memchr2};
 use std::simd::prelude::*;
 
-/// The first space or line feed, which is mostly near.
+/// The first space or line feed, which is mostly near, and often behind a lone `-`.
 pub(crate) fn field_end(bytes: &[u8]) -> Option<usize>
     ensures { IsFirstByte (is_byte2 32 10) bytes.now result }
 {
+    if let [b'-', b' ' | b'\n', ..] = bytes {
+        return Some(1);
+    }
     if bytes.len() < 32 {
         return memchr2(b' ', b'\n', bytes);
     }
