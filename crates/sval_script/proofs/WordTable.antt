@@ -27,7 +27,7 @@ texts_at_places = refl
 slots_are_words : list_all (λ slot. nat_lt slot 48) SLOTS ≡ true
 slots_are_words = refl
 
-pub slot_is_word : (place : ℕ) → place < 128 → get_or SLOTS place 0 < 48
+pub slot_is_word : (place : ℕ) → place < 256 → get_or SLOTS place 0 < 48
 slot_is_word place h = by_test (nat_lt (get_or SLOTS place 0) 48) refl
   where
     by_test : (b : Bool) → nat_lt (get_or SLOTS place 0) 48 ≡ b → get_or SLOTS place 0 < 48

@@ -1,5 +1,5 @@
 -- The words of lines: what form each has, and where its text stands in the table.
-use Rattle.std.specs.Prelude.{ℕ, ◌+◌, ◌-◌, ◌*◌, ◌/◌, ◌%◌, Bool, true, false, Option, List, [], get_or, map, length}
+use Rattle.std.specs.Prelude.{ℕ, ◌+◌, ◌*◌, ◌/◌, ◌%◌, Bool, true, false, Option, List, [], get_or, map, length}
 use Rattle.std.specs.Borrow.{Bor}
 use Rattle.sval_label.specs.Calls as call
 use Rattle.sval_label.specs.Calls.{Call, IntType, Head, Slot, Name}
@@ -106,9 +106,9 @@ texts_and_words = map (λ row. (row.0.now, row.1))
 abbrev pub word_table : List (List ℕ × Word)
 word_table = map (λ row. (row.0.now, row.1)) WORDS
 
--- the place of a text, by its first byte, the one in its middle, its last one and its length
+-- the place of a text, by its first byte, the one in its middle and its length
 abbrev pub place_of : List ℕ → ℕ
-place_of text = (get_or text 0 0 + 15 * get_or text (length text / 2) 0 + 31 * get_or text (length text - 1) 0 + 28 * (length text % 32)) % 128
+place_of text = (5 * get_or text 0 0 + get_or text (length text / 2) 0 + 8 * (length text % 32)) % 256
 
 -- the text of the word at a place
 abbrev pub word_text_at : ℕ → List ℕ

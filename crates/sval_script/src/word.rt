@@ -177,12 +177,16 @@ static WORDS: [(&'static [u8], Word); 48] = [
 ];
 
 /// Where the word of a text stands in [`WORDS`], by the text's place. The other places hold any word.
-static SLOTS: [u8; 128] = [
-    0, 15, 39, 0, 33, 0, 0, 0, 0, 18, 0, 40, 17, 30, 0, 11, 37, 0, 0, 0, 0, 16, 0, 0, 0, 0, 13, 6,
-    12, 0, 0, 0, 0, 0, 0, 0, 0, 36, 8, 32, 22, 47, 0, 0, 0, 19, 0, 0, 0, 7, 3, 10, 0, 0, 0, 0, 0,
-    0, 0, 0, 0, 2, 23, 5, 0, 0, 21, 0, 27, 0, 0, 0, 9, 24, 0, 0, 44, 0, 0, 28, 0, 0, 0, 0, 4, 0, 0,
-    0, 0, 0, 0, 0, 0, 0, 25, 0, 0, 46, 0, 42, 29, 0, 0, 1, 0, 0, 14, 0, 0, 0, 0, 0, 34, 0, 31, 0,
-    0, 45, 41, 43, 35, 20, 0, 0, 0, 38, 0, 26,
+static SLOTS: [u8; 256] = [
+    0, 0, 21, 32, 0, 0, 0, 0, 0, 0, 0, 0, 0, 0, 23, 18, 0, 0, 0, 28, 0, 0, 0, 0, 0, 0, 0, 38, 0,
+    42, 13, 0, 0, 0, 0, 0, 0, 0, 0, 0, 0, 0, 0, 0, 27, 0, 0, 47, 0, 0, 0, 0, 0, 0, 37, 0, 41, 0,
+    44, 0, 0, 0, 0, 0, 0, 0, 0, 0, 0, 0, 0, 0, 0, 0, 0, 0, 0, 0, 0, 46, 0, 0, 0, 0, 0, 7, 8, 0, 9,
+    45, 0, 10, 0, 0, 0, 11, 0, 0, 14, 0, 0, 0, 0, 0, 0, 0, 0, 0, 0, 0, 0, 0, 0, 0, 0, 0, 0, 0, 0,
+    0, 0, 1, 0, 0, 0, 0, 0, 0, 0, 0, 0, 0, 0, 0, 0, 0, 0, 0, 0, 0, 0, 0, 0, 0, 0, 2, 3, 0, 4, 0, 0,
+    5, 31, 0, 0, 6, 0, 0, 0, 0, 0, 0, 0, 0, 0, 0, 0, 0, 0, 16, 0, 30, 0, 0, 0, 0, 0, 0, 0, 19, 0,
+    0, 0, 0, 25, 0, 0, 0, 0, 34, 0, 0, 0, 0, 0, 0, 0, 0, 0, 0, 17, 0, 0, 20, 0, 0, 0, 0, 0, 0, 0,
+    0, 0, 0, 29, 0, 0, 0, 0, 0, 0, 0, 22, 0, 0, 0, 0, 15, 0, 0, 0, 0, 0, 26, 0, 0, 35, 0, 39, 0, 0,
+    43, 0, 0, 0, 24, 12, 0, 33, 36, 0, 40, 0, 0, 0, 0,
 ];
 
 /// The place of a text: another for each word.
@@ -192,8 +196,7 @@ fn place(text: &[u8]) -> usize
 {
     let first = text[0] as usize;
     let middle = text[text.len() / 2] as usize;
-    let last = text[text.len() - 1] as usize;
-    (first + 15 * middle + 31 * last + 28 * (text.len() % 32)) % 128
+    (5 * first + middle + 8 * (text.len() % 32)) % 256
 }
 
 /// The table, whose rows are known by their texts and words alone.
@@ -205,7 +208,7 @@ fn words() -> &'static [(&'static [u8], Word); 48]
 
 /// The word at a place, and its text.
 fn row(place: usize) -> (&'static [u8], Word)
-    requires { place < 128 }
+    requires { place < 256 }
     ensures text { result.0.now ≡ word_text_at place }
     ensures form { find_form result.0.now forms ≡ Some (form_of_word result.1) }
 {
