@@ -5,8 +5,7 @@ use Rattle.std.specs.Int.{is_in_range}
 use Rattle.std.specs.Char.{is_ascii_digit}
 use Rattle.std.specs.Str.{all_ascii_digits, IsUtf8}
 use Rattle.std.specs.Str.Parse.{digits_value, ParsesUnsigned}
-use Rattle.std.specs.Result.{OkIff, MatchResult, result_ok}
-use Rattle.std.specs.Borrow.{Bor}
+use Rattle.std.specs.Result.{OkIff, result_ok}
 use Rattle.std.proofs.Common.{arith, ap, ◌∙◌, inl, inr}
 use Rattle.std.proofs.lemmas.Bool.{and_parts, lt-ltb, le-ltb, cases_lt}
 use Rattle.std.proofs.lemmas.Bool.Decides.{nat_tests}
@@ -50,14 +49,3 @@ parsed bits field r h p =
         → result_ok r ≡ keep (λ n. nat_lt n (2 ^ bits)) (digits_value 10 field)
     by_size bits (Ok n) (fits, is) = rw (lt-ltb (digits_value 10 field) (2 ^ bits) fits.1) (ap Some is)
     by_size bits (Err e) never = elim (cases_lt (digits_value 10 field) (2 ^ bits)) [ inl fits ↦ absurd (never ((decimal-digits field h).1, fits)) | inr above ↦ rw (le-ltb (digits_value 10 field) (2 ^ bits) above) refl ]
-
--- what `from_utf8` answered, as an option
-pub utf8_read : {E : Type 0} (Q : Type 0) (P : E → Type 0) (field : List ℕ) (r : Result (Bor (List ℕ)) E) → IsUtf8 field → None ≡ result_ok r
-    → MatchResult r (λ s. (s.now ≡ field) × Q) (λ e. (IsUtf8 field → ⊥) × P e) → ⊥
-utf8_read Q P field (Ok s) text none cases = cc none
-utf8_read Q P field (Err e) text none cases = cases.0 text
-
-pub utf8_text : {E : Type 0} (Q : Type 0) (P : E → Type 0) (field : List ℕ) (read : Bor (List ℕ)) (r : Result (Bor (List ℕ)) E) → Some read ≡ result_ok r
-    → MatchResult r (λ s. (s.now ≡ field) × Q) P → read.now ≡ field
-utf8_text Q P field read (Ok s) some cases = let same : read ≡ s = cc some in ap (λ (t : Bor (List ℕ)). t.now) same ∙ cases.0
-utf8_text Q P field read (Err e) some cases = cc some

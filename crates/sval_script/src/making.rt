@@ -278,11 +278,11 @@ fn make_field_place<L: Lending, S: Stream<L>>(
 }
 
 /// The text that bytes are.
-fn text(bytes: &[u8]) -> &str
+pub(crate) fn text(bytes: &[u8]) -> &str
     requires { IsUtf8 bytes.now }
     ensures { result.now ≡ bytes.now }
 {
-    // SAFETY: they were found to be UTF-8 when they were read.
+    // SAFETY: they are UTF-8, as required.
     unsafe { std::str::from_utf8_unchecked(bytes) }
 }
 

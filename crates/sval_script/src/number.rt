@@ -9,6 +9,7 @@ ghost use Rattle.sval_label.specs.Texts as label;
 ghost use Rattle.sval_script.specs.Lines as script;
 ghost use Rattle.sval_script.specs.Words.{type_of};
 
+use crate::making::text;
 use crate::word::NumberType;
 use sval_label::Int;
 
@@ -30,13 +31,15 @@ fn are_digits(bytes: &[u8]) -> bool
 }
 
 /// A number of 64 bits.
+#[inline(never)]
 pub(crate) fn natural(field: &[u8]) -> Option<u64>
     ensures { result ≡ option_and_then (script.keep (λ n. nat_lt n (2 ^ 64))) (script.natural field.now) }
 {
     if !is_decimal(field) {
         return None;
     }
-    std::str::from_utf8(field).ok()?.parse().ok()
+    // Decimals are ASCII.
+    text(field).parse().ok()
 }
 
 /// A number of 128 bits.
@@ -46,7 +49,8 @@ fn natural_128(field: &[u8]) -> Option<u128>
     if !is_decimal(field) {
         return None;
     }
-    std::str::from_utf8(field).ok()?.parse().ok()
+    // Decimals are ASCII.
+    text(field).parse().ok()
 }
 
 /// A whole number of 64 bits with its sign.
