@@ -34,7 +34,7 @@ pub trait Sink {
     fn write(&mut self, piece: &[u8]) -> Result<usize, SinkError>
         ensures { Writes result (told self.old) piece.now (told self.new) };
 
-    /// Passes on what this sink holds back of the bytes that it took. A sink that holds back nothing answers `Ok`.
+    /// Passes on what this sink holds back of the bytes that it took.
     ///
     /// The text and the room stay as they were, and each error has its cause as at [`write`](Sink::write).
     fn flush(&mut self) -> Result<(), SinkError>
