@@ -40,16 +40,12 @@ pub(crate) fn text_kind(tag: Option<&Tag>) -> TextKind
 fn kind_of(tag: Tag) -> TextKind
     ensures { seen_kind result ≡ text_kind (Some (seen_tag tag)) }
 {
-    if tag == NUMBER {
-        TextKind::Number
-    } else if tag == JSON_VALUE {
-        TextKind::JsonValue
-    } else if tag == JSON_TEXT {
-        TextKind::JsonText
-    } else if tag == JSON_NUMBER {
-        TextKind::JsonNumber
-    } else {
-        TextKind::Ordinary
+    match tag {
+        NUMBER => TextKind::Number,
+        JSON_VALUE => TextKind::JsonValue,
+        JSON_TEXT => TextKind::JsonText,
+        JSON_NUMBER => TextKind::JsonNumber,
+        _ => TextKind::Ordinary,
     }
 }
 
@@ -57,18 +53,12 @@ fn kind_of(tag: Tag) -> TextKind
 pub(crate) fn is_none(tag: Option<&Tag>) -> bool
     ensures { result ≡ is_none_tag (seen_option_tag tag.entry) }
 {
-    match tag {
-        Some(tag) => *tag == RUST_OPTION_NONE,
-        None => false,
-    }
+    matches!(tag, Some(&RUST_OPTION_NONE))
 }
 
 /// Whether a tag says that its label is an identifier, which needs no escape.
 pub(crate) fn is_ident(tag: Option<&Tag>) -> bool
     ensures { result ≡ is_identifier (seen_option_tag tag.entry) }
 {
-    match tag {
-        Some(tag) => *tag == VALUE_IDENT,
-        None => false,
-    }
+    matches!(tag, Some(&VALUE_IDENT))
 }
