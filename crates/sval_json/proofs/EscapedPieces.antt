@@ -1,16 +1,16 @@
 -- A text that is written run by run, and escape by escape.
-use Rattle.std.specs.Prelude.{◌≡◌, ℕ, ◌+◌, ◌-◌, ◌<◌, true, false, ◌==◌, nat_lt, List, [], ◌∷◌, ◌++◌, take, drop, length, slice_index, refl}
+use Rattle.std.specs.Prelude.{◌≡◌, ℕ, ◌+◌, ◌-◌, ◌<◌, ◌≤◌, Result, Ok, Err, true, false, ◌==◌, nat_lt, List, [], ◌∷◌, ◌++◌, take, drop, length, slice_index, refl}
 use Rattle.std.specs.List.{AllPass, list_all}
 use Rattle.std.proofs.Common.{sym, ap, ◌∙◌, subst, arith, append_assoc, append-nil}
 use Rattle.std.proofs.lemmas.Bool.{and_parts}
 use Rattle.std.proofs.lemmas.Bool.Decides.{nat_tests}
-use Rattle.std.proofs.lemmas.List.{take-append-drop, take_rest, drop_more, nil_from_length}
+use Rattle.std.proofs.lemmas.List.{take-append-drop, take_all, take_rest, drop_more, nil_from_length}
 use Rattle.std.proofs.lemmas.List.Sums.{list_all-from_AllPass}
 use Rattle.std.proofs.lemmas.List.Elements.{All-append}
 use Rattle.std.proofs.Math.Seq.{take-add}
-use Rattle.sval_json.specs.Escape.{escape, escaped, is_plain}
+use Rattle.sval_json.specs.Escape.{escape, escaped, is_escaped, is_plain}
 use Rattle.sval_json.specs.declared.sink.SinkError.{SinkError}
-use Rattle.sval_json.specs.Sinks.{Told, WritesWhole, WritesFront}
+use Rattle.sval_json.specs.Sinks.{Told, WritesWhole, WritesFront, WritesAll}
 use Rattle.sval_json.proofs.Appending.{writes_nothing, writes_both, stops_after}
 use Rattle.sval_json.proofs.Texts.{escaped-append}
 
@@ -34,6 +34,10 @@ all_plain (x ∷ xs) h =
 
 pub escaped-plain : (xs : List ℕ) → AllPass is_plain xs → escaped xs ≡ xs
 escaped-plain xs h = all_plain xs (list_all-from_AllPass is_plain xs h)
+
+-- where the first escape is at the end, nothing is escaped
+pub escaped_whole : (bytes : List ℕ) (n : ℕ) → length bytes ≤ n → AllPass is_plain (take n bytes) → escaped bytes ≡ bytes
+escaped_whole bytes n end plain = escaped-plain bytes (subst (AllPass is_plain) (take_all n bytes end) plain)
 
 -- what is plain in two parts is plain
 pub plain_joins : (bytes rest : List ℕ) (start n : ℕ) → rest ≡ drop start bytes → AllPass is_plain (take start bytes) → AllPass is_plain (take n rest) → AllPass is_plain (take (start + n) bytes)
@@ -73,7 +77,21 @@ all_escaped {old} {new} {bytes} {rest} p e =
     let none : rest ≡ [] = nil_from_length rest e in
     subst (λ taken. WritesWhole old (escaped taken) new) (sym (p.whole ∙ ap (λ r. p.before ++ r) none ∙ append-nil p.before)) p.writes
 
+-- the rest, of which nothing is escaped, is written at the end
+pub ends_plain : {old mid : Told} {bytes rest : List ℕ} (new : Told) (r : Result (Unit {0}) SinkError) → IsPartlyEscaped old bytes rest mid → escaped rest ≡ rest → WritesAll r mid rest new → WritesAll r old (escaped bytes) new
+ends_plain {mid = mid} {rest = rest} new (Ok done) p e w =
+    all_escaped (escaped_on rest [] p (sym (append-nil rest)) (subst (λ taken. WritesWhole mid taken new) (sym e) w)) refl
+ends_plain {mid = mid} {rest = rest} new (Err why) p e w =
+    stops_on rest [] p (sym (append-nil rest)) (subst (λ taken. WritesFront why mid taken new) (sym e) w)
+
 -- ---- a run without an escape, and then an escape
+
+-- a rest is due, whose first escape is at this place
+pub record IsAtRun (old : Told) (bytes rest : List ℕ) (run : ℕ) (new : Told) : Type 0 where
+  pub due : IsPartlyEscaped old bytes rest new
+  pub within : run ≤ length rest
+  pub plain : AllPass is_plain (take run rest)
+  pub found : run < length rest → is_escaped (slice_index rest run) ≡ true
 
 run_first : (run : ℕ) (rest : List ℕ) → rest ≡ take run rest ++ drop run rest
 run_first run rest = sym (take-append-drop run rest)

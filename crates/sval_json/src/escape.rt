@@ -16,7 +16,7 @@ fn needs_escape(byte: u8) -> bool
 }
 
 /// How many bytes are tested together.
-const BLOCK: usize = 32;
+const BLOCK: usize = 16;
 
 /// Whether a byte of the block is escaped. Each byte is looked at, so many are tested at once.
 fn any_escape(block: &[u8; BLOCK]) -> bool
@@ -103,16 +103,28 @@ fn write_escape<K: Sink>(sink: &mut K, byte: u8) -> Result<(), SinkError>
 pub(crate) fn write_escaped<K: Sink>(sink: &mut K, bytes: &[u8]) -> Result<(), SinkError>
     ensures { WritesAll result (K.told sink.old) (escaped bytes.now) (K.told sink.new) }
 {
-    let mut rest = bytes;
-    while !rest.is_empty() {
-        let run = first_escape(rest);
-        write_all(sink, &rest[..run])?;
-        if run < rest.len() {
-            write_escape(sink, rest[run])?;
-            rest = &rest[run + 1..];
-        } else {
-            rest = &rest[run..];
-        }
+    let run = first_escape(bytes);
+    if run == bytes.len() {
+        return write_all(sink, bytes);
     }
-    Ok(())
+    write_runs(sink, bytes, run)
+}
+
+/// Writes a text so, where its first run has this length.
+#[inline(never)]
+fn write_runs<K: Sink>(sink: &mut K, bytes: &[u8], first: usize) -> Result<(), SinkError>
+    requires within { first ≤ length bytes.now }
+    requires plain { AllPass is_plain (take first bytes.now) }
+    requires found { first < length bytes.now → is_escaped (slice_index bytes.now first) ≡ true }
+    ensures { WritesAll result (K.told sink.old) (escaped bytes.now) (K.told sink.new) }
+{
+    let mut rest = bytes;
+    let mut run = first;
+    while run < rest.len() {
+        write_all(sink, &rest[..run])?;
+        write_escape(sink, rest[run])?;
+        rest = &rest[run + 1..];
+        run = first_escape(rest);
+    }
+    write_all(sink, rest)
 }

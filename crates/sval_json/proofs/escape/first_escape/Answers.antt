@@ -8,10 +8,10 @@ use Rattle.sval_json.proofs.escape.first_escape.Goals as goal
 pub loop-block-preserved : goal.loop-block-preserved
 loop-block-preserved c =
     let front = c.in-Some.ensures.cases in
-    let block : AllPass is_plain (take 32 c.loop-block.rest.now) = subst (AllPass is_plain) front.0 (c.any_escape.ensures.plain c.if-any_escape.false) in record {
+    let block : AllPass is_plain (take 16 c.loop-block.rest.now) = subst (AllPass is_plain) front.0 (c.any_escape.ensures.plain c.if-any_escape.false) in record {
       within = omega (arith, front.2, ap length c.loop-block.invariant.rest, length-drop c.loop-block.start c.args.bytes.now, c.loop-block.invariant.within);
-      rest = front.1 ∙ ap (drop 32) c.loop-block.invariant.rest ∙ drop-drop 32 c.loop-block.start c.args.bytes.now;
-      plain = plain_joins c.args.bytes.now c.loop-block.rest.now c.loop-block.start 32 c.loop-block.invariant.rest c.loop-block.invariant.plain block;
+      rest = front.1 ∙ ap (drop 16) c.loop-block.invariant.rest ∙ drop-drop 16 c.loop-block.start c.args.bytes.now;
+      plain = plain_joins c.args.bytes.now c.loop-block.rest.now c.loop-block.start 16 c.loop-block.invariant.rest c.loop-block.invariant.plain block;
     }
 
 pub returns-clause-plain : goal.returns-clause-plain
