@@ -1,11 +1,12 @@
 -- What an action does that is made of others, by what these do.
-use Rattle.std.specs.Prelude.{◌≡◌, ℕ, Bool, true, false, if◌then◌else◌, List, [], ◌∷◌, length, codes, None, Result, Ok, Err, IsErr}
+use Rattle.std.specs.Prelude.{◌≡◌, ℕ, Bool, true, false, if◌then◌else◌, List, [], ◌∷◌, ◌++◌, length, codes, None, Result, Ok, Err, IsErr, refl}
 use Rattle.std.specs.Fmt.{decimal}
 use Rattle.std.proofs.Common.{sym, ap, ◌∙◌, subst, append_assoc, arith}
 use Rattle.sval_label.specs.declared.error.Error.{Error}
 use Rattle.sval_label.specs.Calls.{Label}
-use Rattle.sval_json.specs.Actions.{State, set_named, Outcome, Action, write, nothing, ◌then◌, ◌sets◌, from, when}
-use Rattle.sval_json.specs.Steps.{item_begins, value_written, bytes_step, label_text, field_begins}
+use Rattle.sval_json.specs.Escape.{escaped}
+use Rattle.sval_json.specs.Actions.{escapes, State, set_named, Outcome, Action, write, nothing, ◌then◌, ◌sets◌, from, when}
+use Rattle.sval_json.specs.Steps.{item_begins, value_written, text_begins, fragment, quote_if_quoted, bytes_step, label_text, field_begins}
 use Rattle.sval_json.specs.WriterLaw.{WriterView, HasDone, IsStopped, IsOnlySet, Does, after_action}
 use Rattle.sval_json.proofs.Doing.{nothing_done, done_then, stopped_first, stopped_later}
 
@@ -50,6 +51,12 @@ does_alike action other r old new e d = from_outcome other r old new (subst (λ 
 -- where a test holds, the action is done
 pub does_when : (action : Action) (test : State → Bool) (r : Result (Unit {0}) Error) (old new : WriterView) → test old.state ≡ true → Does action r old new → Does (when test action) r old new
 does_when action test r old new e d = does_alike action (when test action) r old new (sym (ap (λ holds. (if holds then action else nothing) old.state) e)) d
+
+-- ---- a text
+
+-- where texts bring their quotes and are escaped, the three parts of a text write this
+pub text_is_quoted : (text : List ℕ) (state : State) → state.quoted ≡ true → state.handler ≡ escapes → value_written (codes "\"" ++ escaped text ++ codes "\"") state ≡ (text_begins then fragment text then quote_if_quoted) state
+text_is_quoted text state quoted handler = rw (quoted, handler) refl
 
 -- ---- the bytes of a binary
 

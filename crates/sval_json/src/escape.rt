@@ -98,6 +98,13 @@ fn write_escape<K: Sink>(sink: &mut K, byte: u8) -> Result<(), SinkError>
     }
 }
 
+/// Whether a text stands between quotes as it is.
+pub(crate) fn is_all_plain(bytes: &[u8]) -> bool
+    ensures { result ≡ true → escaped bytes.now ≡ bytes.now }
+{
+    first_escape(bytes) == bytes.len()
+}
+
 /// Writes a text as it stands between quotes: each run without an escape as one piece. After an error a prefix of it
 /// was taken.
 pub(crate) fn write_escaped<K: Sink>(sink: &mut K, bytes: &[u8]) -> Result<(), SinkError>

@@ -3,12 +3,13 @@
 mod marks;
 mod names;
 mod parts;
+mod short;
 mod tagged;
 #[cfg(test)]
 mod tests;
 mod texts;
 
-ghost use Rattle.std.specs.Prelude.{◌≡◌};
+ghost use Rattle.std.specs.Prelude.{◌≡◌, ◌++◌};
 ghost use Rattle.std.specs.Fmt.{signed_decimal};
 ghost use Rattle.sval_label.specs.Grouped.{int_number};
 ghost use Rattle.sval_label.specs.Made.{lent_call};
@@ -20,10 +21,12 @@ ghost use Rattle.sval_json.specs.Steps.{value_written, refuse_in_key, opens, clo
 ghost use Rattle.sval_json.specs.WriterLaw.{WriterView, Does, writer_law, writer_view, writer_standing};
 
 use crate::error::{Refusal, Stop};
-use crate::escape::write_escaped;
+use crate::escape::{is_all_plain, write_escaped};
 use crate::number::NumberMachine;
 use crate::sink::{Sink, write_all};
 use crate::style::Variants;
+use crate::writer::short::push_between;
+use arrayvec::ArrayString;
 use itoa::Buffer;
 use sval_core::{Call, Error, Fragment, GroupedCall, Int, Lent, Result, Stream};
 
@@ -83,6 +86,30 @@ impl<'k, K: Sink> Writer<'k, K> {
                 Err(Error::new())
             }
         }
+    }
+
+    /// Writes an escaped text between two others, by one call of the sink if they are short and nothing is escaped.
+    #[inline(always)]
+    fn write_between(&mut self, before: &str, text: &str, after: &str) -> Result
+        ensures { Does (write (before.now ++ escaped text.now ++ after.now)) result
+            (writer_view K.told self.old) (writer_view K.told self.new) }
+    {
+        let mut joined = ArrayString::new();
+        if push_between(&mut joined, before, text, after) && is_all_plain(text.as_bytes()) {
+            return self.write(joined.as_bytes());
+        }
+        self.write_each(before.as_bytes(), text.as_bytes(), after.as_bytes())
+    }
+
+    /// Writes an escaped text between two others, by a call of the sink for each.
+    #[inline(never)]
+    fn write_each(&mut self, before: &[u8], text: &[u8], after: &[u8]) -> Result
+        ensures { Does (write (before.now ++ escaped text.now ++ after.now)) result
+            (writer_view K.told self.old) (writer_view K.told self.new) }
+    {
+        self.write(before)?;
+        self.write_escaped(text)?;
+        self.write(after)
     }
 
     /// Refuses a call.

@@ -38,24 +38,23 @@ pub(crate) fn has_handle(label: Option<&Label>, index: Option<&Index>) -> bool
 
 impl<'k, K: Sink> Writer<'k, K> {
     /// Opens an object with an escaped text between others, where no key is due.
-    fn open_between(&mut self, before: &[u8], text: &[u8], after: &[u8]) -> Result
+    #[inline(always)]
+    fn open_between(&mut self, before: &str, text: &str, after: &str) -> Result
         ensures { Does (refuse_in_key then write (before.now ++ escaped text.now ++ after.now)) result
             (writer_view K.told self.old) (writer_view K.told self.new) }
     {
         self.refuse_in_key()?;
-        self.write(before)?;
-        self.write_escaped(text)?;
-        self.write(after)
+        self.write_between(before, text, after)
     }
 
     /// Opens the object that a variant stands in, up to its value.
-    fn open_variant(&mut self, handle: &[u8]) -> Result
+    fn open_variant(&mut self, handle: &str) -> Result
         ensures { Does (opens_handle self.old.variants (Some handle.now)) result
             (writer_view K.told self.old) (writer_view K.told self.new) }
     {
         match self.variants {
-            Variants::Inside => self.open_between(b"{\"", handle, b"\":"),
-            Variants::Beside => self.open_between(b"{\"variant\":\"", handle, b"\",\"value\":"),
+            Variants::Inside => self.open_between("{\"", handle, "\":"),
+            Variants::Beside => self.open_between("{\"variant\":\"", handle, "\",\"value\":"),
         }
     }
 
@@ -65,10 +64,10 @@ impl<'k, K: Sink> Writer<'k, K> {
             (writer_view K.told self.old) (writer_view K.told self.new) }
     {
         if let Some(label) = label {
-            return self.open_variant(label.as_str().as_bytes());
+            return self.open_variant(label.as_str());
         }
         match number_of(index) {
-            Some(number) => self.open_variant(Buffer::new().format(number).as_bytes()),
+            Some(number) => self.open_variant(Buffer::new().format(number)),
             None => Ok(()),
         }
     }

@@ -1,6 +1,6 @@
 //! Containers and their parts.
 
-ghost use Rattle.std.specs.Prelude.{codes, is_some};
+ghost use Rattle.std.specs.Prelude.{◌≡◌, codes, drop, is_some, take};
 ghost use Rattle.sval_label.specs.Calls as call;
 ghost use Rattle.sval_label.specs.Grouped.{seen_head, seen_slot};
 ghost use Rattle.sval_json.specs.Actions.{write, ◌then◌, ◌sets◌, set_named};
@@ -13,6 +13,8 @@ use crate::sink::Sink;
 use crate::writer::Writer;
 use crate::writer::marks::is_ident;
 use crate::writer::names::has_handle;
+use crate::writer::short::{is_plain_label, push_between};
+use arrayvec::ArrayString;
 use sval_core::{Head, Index, Label, Result, Slot};
 
 impl<'k, K: Sink> Writer<'k, K> {
@@ -124,9 +126,32 @@ impl<'k, K: Sink> Writer<'k, K> {
         self.write_escaped(label.as_str().as_bytes())
     }
 
-    /// Begins a field.
+    /// Begins a field, by one call of the sink if its key is short.
     #[inline(never)]
     fn begin_field(&mut self, label: &Label) -> Result
+        ensures { Does (field_begins label.now) result (writer_view K.told self.old) (writer_view K.told self.new) }
+    {
+        let mut key = ArrayString::new();
+        if push_between(&mut key, ",\"", label.as_str(), "\":") && is_plain_label(label) {
+            return self.begin_with(key.as_bytes());
+        }
+        self.begin_long(label)
+    }
+
+    /// Begins an item by these bytes: without the comma at their front, if it is the first.
+    #[inline(always)]
+    fn begin_with(&mut self, bytes: &[u8]) -> Result
+        requires { take 1 bytes.now ≡ codes "," }
+        ensures { Does (item_begins then write (drop 1 bytes.now)) result
+            (writer_view K.told self.old) (writer_view K.told self.new) }
+    {
+        self.named = false;
+        self.write(if self.empty { &bytes[1..] } else { bytes })
+    }
+
+    /// Begins a field, by a call of the sink for each part of its key.
+    #[inline(never)]
+    fn begin_long(&mut self, label: &Label) -> Result
         ensures { Does (field_begins label.now) result (writer_view K.told self.old) (writer_view K.told self.new) }
     {
         self.open_key()?;

@@ -1,7 +1,9 @@
 //! Texts, numbers in texts, and binaries.
 
+ghost use Rattle.std.specs.Prelude.{◌++◌, codes};
 ghost use Rattle.std.specs.Fmt.{decimal};
 ghost use Rattle.sval_json.specs.Actions.{◌then◌};
+ghost use Rattle.sval_json.specs.Escape.{escaped};
 ghost use Rattle.sval_json.specs.Steps.{value_written, text_begins, fragment, quote_if_quoted, item_begins, bytes_step};
 ghost use Rattle.sval_json.specs.Steps.{number_read};
 ghost use Rattle.sval_json.specs.Number.{take_bytes};
@@ -51,12 +53,33 @@ impl<'k, K: Sink> Writer<'k, K> {
         ensures { Does (text_begins then fragment text.now then quote_if_quoted) result
             (writer_view K.told self.old) (writer_view K.told self.new) }
     {
+        match self.handler {
+            Handler::Escapes if self.quoted => self.write_quoted(text),
+            _ => self.write_whole(text),
+        }
+    }
+
+    /// Writes an escaped text between quotes.
+    fn write_quoted(&mut self, text: &str) -> Result
+        ensures { Does (value_written (codes "\"" ++ escaped text.now ++ codes "\"")) result
+            (writer_view K.told self.old) (writer_view K.told self.new) }
+    {
+        self.empty = false;
+        self.write_between("\"", text, "\"")
+    }
+
+    /// Writes a text of one part as its three calls would.
+    fn write_whole(&mut self, text: &str) -> Result
+        ensures { Does (text_begins then fragment text.now then quote_if_quoted) result
+            (writer_view K.told self.old) (writer_view K.told self.new) }
+    {
         self.begin_text()?;
         self.write_fragment(text)?;
         self.quote()
     }
 
     /// Goes on with a number.
+    #[inline(never)]
     fn read_number(&mut self, machine: NumberMachine, bytes: &[u8]) -> Result
         ensures { Does (number_read (take_bytes (seen_machine machine) bytes.now)) result
             (writer_view K.told self.old) (writer_view K.told self.new) }

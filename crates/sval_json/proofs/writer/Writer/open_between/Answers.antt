@@ -1,20 +1,5 @@
-use Rattle.sval_json.specs.Escape.{escaped}
-use Rattle.sval_json.specs.Actions.{write}
-use Rattle.sval_json.proofs.Doing.{done_then, stopped_first, stopped_later}
-use Rattle.sval_json.proofs.Combined.{does_then, stops_as}
+use Rattle.sval_json.proofs.Combined.{does_then}
 use Rattle.sval_json.proofs.writer.Writer.open_between.Goals as goal
 
-pub returns-in_err-write : goal.returns-in_err-write
-returns-in_err-write g c =
-    stops_as c.from_residual-in_err-write.result c.from_residual-in_err-write.ensures.0
-    (stopped_later c.in_ok-refuse_in_key.ensures (stopped_first (write c.args.after.now) (stopped_first (write (escaped c.args.text.now)) c.in_err-write.ensures)))
-
-pub returns-in_err-write_escaped : goal.returns-in_err-write_escaped
-returns-in_err-write_escaped g c =
-    stops_as c.from_residual-in_err-write_escaped.result c.from_residual-in_err-write_escaped.ensures.0
-    (stopped_later c.in_ok-refuse_in_key.ensures (stopped_first (write c.args.after.now) (stopped_later c.in_ok-write.ensures c.in_err-write_escaped.ensures)))
-
 pub returns : goal.returns
-returns g c =
-    does_then _ _ c.write-2.result _ _ c.in_ok-refuse_in_key.ensures
-    (does_then _ _ c.write-2.result _ _ (done_then c.in_ok-write.ensures c.in_ok-write_escaped.ensures) c.write-2.ensures)
+returns g c = does_then _ _ c.write_between.result _ _ c.in_ok-refuse_in_key.ensures c.write_between.ensures

@@ -1,12 +1,15 @@
-use Rattle.sval_json.specs.Steps.{quote_if_quoted}
-use Rattle.sval_json.proofs.Doing.{done_then, stopped_first, stopped_later}
-use Rattle.sval_json.proofs.Combined.{does_then, stops_as}
+use Rattle.std.proofs.Common.{◌++◌, codes, ap}
+use Rattle.sval_json.specs.Actions.{◌then◌}
+use Rattle.sval_json.specs.Escape.{escaped}
+use Rattle.sval_json.specs.SeenWriter.{seen_handler}
+use Rattle.sval_json.specs.Steps.{value_written, text_begins, fragment, quote_if_quoted}
+use Rattle.sval_json.specs.WriterLaw.{writer_state, writer_view}
+use Rattle.sval_json.proofs.Combined.{does_alike, text_is_quoted}
 use Rattle.sval_json.proofs.writer.Writer.write_text.Goals as goal
 
-pub returns-in_err-write_fragment : goal.returns-in_err-write_fragment
-returns-in_err-write_fragment g c =
-    stops_as c.from_residual-in_err-write_fragment.result c.from_residual-in_err-write_fragment.ensures.0
-    (stopped_first quote_if_quoted (stopped_later c.in_ok-begin_text.ensures c.in_err-write_fragment.ensures))
-
-pub returns : goal.returns
-returns g c = does_then _ _ c.quote.result _ _ (done_then c.in_ok-begin_text.ensures c.in_ok-write_fragment.ensures) c.quote.ensures
+pub returns-in-Escapes : goal.returns-in-Escapes
+returns-in-Escapes g c =
+    let text = c.args.text.now in
+    does_alike (value_written (codes "\"" ++ escaped text ++ codes "\"")) (text_begins then fragment text then quote_if_quoted) c.write_quoted.result
+    (writer_view g.K.Sink.told c.args.self.now) (writer_view g.K.Sink.told c.write_quoted.new.self)
+    (text_is_quoted text (writer_state c.args.self.now) c.if-self.true (ap seen_handler c.in-Escapes.is)) c.write_quoted.ensures
