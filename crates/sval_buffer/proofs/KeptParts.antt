@@ -1,18 +1,20 @@
 -- Each step of a forest on the parts of the program, and the calls with names that they speak of.
-use Rattle.std.specs.Prelude.{◌≡◌, ℕ, zero, suc, ◌-◌, ◌≤◌, ◌<◌, Bool, false, List, [], ◌∷◌, ◌++◌, length, map, Option, refl, slice_set, slice_get, slice_index_or, get_or}
+use Rattle.std.specs.Prelude.{◌≡◌, ℕ, zero, suc, ◌+◌, ◌-◌, ◌^◌, ◌≤◌, ◌<◌, Bool, false, List, [], ◌∷◌, ◌++◌, length, map, Option, IfSome, refl, slice_set, slice_get, slice_index_or, get_or}
 use Rattle.std.proofs.Common.{sym, ap, ◌∙◌, subst, arith, length-append}
 use Rattle.std.proofs.lemmas.List.{map-append, length-map}
 use Rattle.sval_label.specs.Calls.{Call}
 use Rattle.sval_buffer.specs.Forest.{Node, Container, Forest, empty_forest, add, begun, with_flag, close_newest, Becomes}
 use Rattle.sval_buffer.specs.Flat as flat
 use Rattle.sval_buffer.specs.Flat.{flat_part, flat_node}
+use Rattle.sval_buffer.specs.FlatForest.{FlatForest}
 use Rattle.sval_buffer.specs.Holders.{holders_node}
+use Rattle.sval_buffer.specs.Nested.{outer_of}
 use Rattle.sval_buffer.specs.SeenNames.{call_at, Extends}
 use Rattle.sval_buffer.specs.declared.part.Part.{Part}
 use Rattle.sval_buffer.specs.declared.part.PartKind.{PartKind}
 use Rattle.sval_buffer.specs.declared.part.PartKind.TheVariants as kind
 use Rattle.sval_buffer.specs.SeenParts.{SeenPart, stored, stored_part, flat_kind, seen_part, seen_parts, with_holds, with_length, IsKept, AllKept, PartsTell, told}
-use Rattle.sval_buffer.proofs.Steps.{Is, is_nothing, is_added, is_begun, is_flagged, is_closed, closes, place_within, map-set, get-map, newest_is}
+use Rattle.sval_buffer.proofs.Steps.{Is, is_nothing, is_added, is_begun, is_flagged, is_closed, closes, place_within, place_fits, map-set, get-map, newest_is}
 
 -- what is known of an open buffer that is this forest
 pub record Holds (calls : List Call) (parts : List Part) (places : List ℕ) (within : Bool) (f : Forest) : Type 0 where
@@ -72,6 +74,10 @@ seen_more calls more (p ∷ parts) (first, rest) = rw (kind_more calls more p.ki
 
 -- ---- the steps
 
+-- the last place, by two readings of the parts
+pub newest_again : {now was : FlatForest} {o : Option ℕ} → o ≡ slice_get now.places (length now.places - 1) → was ≡ now → o ≡ slice_get was.places (length was.places - 1)
+newest_again {o = o} newest same = subst (λ (view : FlatForest). o ≡ slice_get view.places (length view.places - 1)) (sym same) newest
+
 pub holds_nothing : Holds [] [] [] false empty_forest
 holds_nothing = record { is = is_nothing; kept = tt }
 
@@ -103,6 +109,12 @@ module _ {calls : List Call} {parts : List Part} {places : List ℕ} {within : B
         (is_begun (seen_part calls p) begin place h.is one held (at ∙ sym (length-map parts (seen_part calls))));
     kept = kept_append (length calls) parts p h.kept kept;
   }
+
+  -- the place of the newest container without an end, as the last of the places
+  pub newest_fits : {o : Option ℕ} {last : List ℕ} → last ≡ places → o ≡ slice_get last (length last - 1) → length parts < 2 ^ 64 → IfSome o (λ at. at + 1 < 2 ^ 64)
+  newest_fits {o} e held size =
+      let n = length-map parts (seen_part calls) in
+      place_fits o h.is (held ∙ ap (λ (qs : List ℕ). slice_get qs (length qs - 1)) e) (omega arith)
 
   pub place_in : (rest : List ℕ) (place : ℕ) → places ≡ rest ++ (place ∷ []) → place < length parts
   place_in rest place e = let lt = place_within rest place h.is e in let n = length-map parts (seen_part calls) in omega arith
@@ -170,9 +182,13 @@ kept_at n (q ∷ parts) zero p k h e = subst (λ (x : Part). IsKept n x.kind) (s
 kept_at n (q ∷ parts) (suc i) p k h e = kept_at n parts i p k.1 (omega arith) e
 
 -- each part as the flat list has it, in one step and in two
-pub flat_again : (calls : List Call) (parts : List Part) → map (stored_part calls) parts ≡ map stored (seen_parts calls parts)
+flat_again : (calls : List Call) (parts : List Part) → map (stored_part calls) parts ≡ map stored (seen_parts calls parts)
 flat_again calls [] = refl
 flat_again calls (p ∷ parts) = ap (λ xs. stored_part calls p ∷ xs) (flat_again calls parts)
+
+-- the place of the container around a part, by both
+pub outer_again : {o h place : Option ℕ} (calls : List Call) (parts : List Part) → o ≡ outer_of (map (stored_part calls) parts) h → h ≡ place → o ≡ outer_of (map stored (seen_parts calls parts)) place
+outer_again {h = h} calls parts outer held = outer ∙ ap (λ xs. outer_of xs h) (flat_again calls parts) ∙ ap (outer_of (map stored (seen_parts calls parts))) held
 
 pub seen_length : (calls : List Call) (parts : List Part) → length (seen_parts calls parts) ≡ length parts
 seen_length calls parts = length-map parts (seen_part calls)

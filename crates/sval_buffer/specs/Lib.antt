@@ -7,6 +7,8 @@ pub mod FlatForest
 pub mod Holders
 pub mod Capture
 pub mod SeenFragments
+pub mod SeenHolder
+pub mod SeenInts
 pub mod SeenNames
 pub mod SeenParts
 pub mod SeenBuffers

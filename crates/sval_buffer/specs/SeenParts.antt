@@ -12,6 +12,7 @@ use Rattle.sval_buffer.specs.Flat as flat
 use Rattle.sval_buffer.specs.Flat.{FlatKind, FlatPart, flat_part}
 use Rattle.sval_buffer.specs.FlatForest.{open_places, forest_of}
 use Rattle.sval_buffer.specs.Holders.{holders}
+use Rattle.sval_buffer.specs.SeenInts.{kept_int}
 use Rattle.sval_buffer.specs.SeenNames.{call_at}
 use Rattle.sval_buffer.specs.declared.part.Single.{Single}
 use Rattle.sval_buffer.specs.declared.part.Single.TheVariants.{Null, Bool as Truth, Int}
@@ -65,7 +66,7 @@ with_length p parts = record p { holds = closed_kind p.kind parts p.holds }
 abbrev pub single_call : Single → Call
 single_call Null = call.Null
 single_call (Truth b) = call.Truth b
-single_call (Int n) = int_call n
+single_call (Int n) = int_call (kept_int n)
 
 -- the begin that this is
 abbrev pub begin_call : Begin → Call

@@ -57,7 +57,7 @@ fn end_before<'sval, N: CallStore, S: Stream<Lent<'sval>>>(
             return Ok(newest);
         }
         part.stream_end(named, stream)?;
-        newest = outer(parts, part.holder);
+        newest = outer(parts, part.holder.get());
     }
     Ok(newest)
 }

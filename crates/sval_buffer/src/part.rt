@@ -14,10 +14,13 @@ ghost use Rattle.sval_buffer.specs.SeenParts.{seen_part, FragmentPushes, fragmen
 
 use crate::binary_buf::BinaryBuf;
 use crate::error::{ErrorKind, Word};
+use crate::holder::Holder;
+use crate::kept_int::KeptInt;
 use crate::named::{CallStore, make};
 use crate::text_buf::TextBuf;
 use std::alloc::Global;
-use sval_core::{Fragment, GroupedCall, Head, Int, Lent, NoMemory, Slot, Stream};
+use std::mem::size_of;
+use sval_core::{Fragment, GroupedCall, Head, Lent, NoMemory, Slot, Stream};
 use sval_ref::ValueRef;
 
 /// A call that is complete by itself and has no name.
@@ -25,7 +28,7 @@ use sval_ref::ValueRef;
 pub(crate) enum Single {
     Null,
     Bool(bool),
-    Int(Int),
+    Int(KeptInt),
 }
 
 impl Single {
@@ -46,7 +49,7 @@ impl Single {
         match self {
             Single::Null => GroupedCall::Null,
             Single::Bool(value) => GroupedCall::Bool(value),
-            Single::Int(number) => GroupedCall::Int(number),
+            Single::Int(number) => GroupedCall::Int(number.get()),
         }
     }
 }
@@ -137,8 +140,11 @@ pub(crate) enum PartKind<'sval> {
 pub(crate) struct Part<'sval> {
     pub(crate) kind: PartKind<'sval>,
     /// The place of the container that holds this part, if one does.
-    pub(crate) holder: Option<usize>,
+    pub(crate) holder: Holder,
 }
+
+/// Capturing is bound by the memory that it is the first to touch, and most of that are parts.
+const _: () = prove!(size_of::<Part<'static>>() == 48);
 
 impl<'sval> Part<'sval> {
     /// Pushes a fragment into a text.

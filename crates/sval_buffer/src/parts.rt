@@ -1,6 +1,6 @@
 //! The parts of a captured value, in a flat list.
 
-ghost use Rattle.std.specs.Prelude.{◌≡◌, true, false, [], not, if◌then◌else◌};
+ghost use Rattle.std.specs.Prelude.{◌≡◌, ◌-◌, true, false, [], not, length, slice_get, if◌then◌else◌};
 ghost use Rattle.sval_label.specs.Calls as calls;
 ghost use Rattle.sval_label.specs.Made.{lent_call};
 ghost use Rattle.sval_label.specs.Grouped.{int_call};
@@ -17,6 +17,8 @@ ghost use Rattle.sval_buffer.specs.SeenParts.{single_call, begin_call, no_fragme
 
 use crate::binary_buf::BinaryBuf;
 use crate::error::{ErrorKind, Word};
+use crate::holder::Holder;
+use crate::kept_int::KeptInt;
 use crate::named::{CallStore, NamedKind};
 use crate::one_pass::replay_parts;
 use crate::part::{Begin, Medium, Part, PartKind, Single};
@@ -93,6 +95,13 @@ impl<'sval, N: CallStore + 'sval> Parts<'sval, N> {
         !self.in_fragments
     }
 
+    /// The place of the newest container without an end.
+    fn newest(&self) -> Holder
+        ensures { let places = self.now.places in result ≡ slice_get places (length places - 1) }
+    {
+        Holder::new(self.places.last().copied())
+    }
+
     /// Adds a call that is complete by itself and has no name.
     fn single(&mut self, single: Single) -> Result<(), ErrorKind>
         ensures { let node = forest.Single (single_call single) in
@@ -100,7 +109,7 @@ impl<'sval, N: CallStore + 'sval> Parts<'sval, N> {
     {
         let part = Part {
             kind: PartKind::Single(single),
-            holder: self.places.last().copied(),
+            holder: self.newest(),
         };
         if self.parts.push(part).is_err() {
             return Err(ErrorKind::NoAlloc {
@@ -131,7 +140,7 @@ impl<'sval, N: CallStore + 'sval> Parts<'sval, N> {
         ensures { let node = forest.Single (int_call value) in
             CapturesBy (λ _. true) (λ f. Becomes (add node f)) self.old result self.new }
     {
-        self.single(Single::Int(value))
+        self.single(Single::Int(KeptInt::new(value)))
     }
 
     /// Adds a tag.
@@ -165,6 +174,7 @@ impl<'sval, N: CallStore + 'sval> Parts<'sval, N> {
         ensures { let node = forest.Single (named_call kind (seen_name name.entry)) in
             CapturesBy (λ _. true) (λ f. Becomes (add node f)) self.old result self.new }
     {
+        let holder = self.newest();
         if self.parts.reserve(1).is_err() {
             return Err(ErrorKind::NoAlloc { method: Word::Text });
         }
@@ -172,7 +182,7 @@ impl<'sval, N: CallStore + 'sval> Parts<'sval, N> {
             Ok(at) => {
                 self.parts.push_reserved(Part {
                     kind: PartKind::Named(at),
-                    holder: self.places.last().copied(),
+                    holder,
                 });
                 Ok(())
             }
@@ -187,7 +197,7 @@ impl<'sval, N: CallStore + 'sval> Parts<'sval, N> {
     {
         let part = Part {
             kind: medium.empty(alloc),
-            holder: self.places.last().copied(),
+            holder: self.newest(),
         };
         if self.parts.push(part).is_err() {
             return Err(ErrorKind::NoAlloc {
@@ -235,7 +245,7 @@ impl<'sval, N: CallStore + 'sval> Parts<'sval, N> {
     {
         let part = Part {
             kind: PartKind::Container { begin, holds: 0 },
-            holder: self.places.last().copied(),
+            holder: self.newest(),
         };
         let place = self.parts.len();
         if self.places.reserve(1).is_err() || self.parts.push(part).is_err() {
@@ -255,6 +265,7 @@ impl<'sval, N: CallStore + 'sval> Parts<'sval, N> {
             CapturesBy (λ _. true) (λ f. Becomes (begun begin f)) self.old result self.new }
     {
         let place = self.parts.len();
+        let holder = self.newest();
         if self.places.reserve(1).is_err() || self.parts.reserve(1).is_err() {
             return Err(ErrorKind::NoAlloc {
                 method: Word::Sequence,
@@ -264,7 +275,7 @@ impl<'sval, N: CallStore + 'sval> Parts<'sval, N> {
             Ok(at) => {
                 self.parts.push_reserved(Part {
                     kind: PartKind::NamedContainer { at, holds: 0 },
-                    holder: self.places.last().copied(),
+                    holder,
                 });
                 self.places.push_reserved(place);
                 Ok(())

@@ -232,6 +232,30 @@ fn makes_calls_with_names_again(rt: HostRuntime) -> Result<(), AllocError> {
 }
 
 #[test]
+fn makes_numbers_again(rt: HostRuntime) -> Result<(), AllocError> {
+    let calls = [
+        Call::U8(255),
+        Call::U16(65535),
+        Call::U32(4294967295),
+        Call::U64(18446744073709551615),
+        Call::U128(18446744073709551616),
+        Call::U128(340282366920938463463374607431768211455),
+        Call::I8(-128),
+        Call::I16(-32768),
+        Call::I32(-2147483648),
+        Call::I64(-9223372036854775808),
+        Call::I128(-1),
+        Call::I128(-170141183460469231731687303715884105728),
+    ];
+    let buffer = buffer_of(rt.alloc(), &calls);
+    assert_eq!(rt;
+        calls_of(rt.alloc(), &buffer)?.as_str(),
+        printed(rt.alloc(), &calls)?.as_str()
+    );
+    Ok(())
+}
+
+#[test]
 fn makes_calls_of_tuples_and_maps_again(rt: HostRuntime) -> Result<(), AllocError> {
     let label = Label::new_computed("width");
     let index = Index::new_u64(18446744073709551615);

@@ -1,8 +1,8 @@
-use Rattle.std.proofs.Common.{ap, ◌∙◌, length, refl, ◌-◌, ◌<◌, ◌≤◌, sym, subst, arith, rules}
+use Rattle.std.proofs.Common.{length, refl, ◌-◌, ◌<◌, ◌≤◌, sym, subst, arith, rules}
 use Rattle.sval_buffer.specs.SeenParts.{seen_part, seen_parts}
-use Rattle.sval_buffer.specs.Nested.{still, IsBelow, Linked, outer_of}
+use Rattle.sval_buffer.specs.Nested.{still, IsBelow, Linked}
 use Rattle.sval_buffer.proofs.Replaying.{IsWalked, linked_within, walk-none, walk-goes_on, walk-step, walk-stop, walk-below, ends_stopped, nearer}
-use Rattle.sval_buffer.proofs.KeptParts.{flat_again, seen_at, kept_at, seen_length}
+use Rattle.sval_buffer.proofs.KeptParts.{outer_again, seen_at, kept_at, seen_length}
 use Rattle.sval_buffer.proofs.one_pass.end_before.Goals as goal
 
 pub bounds-parts-at : goal.bounds-parts-at
@@ -54,7 +54,7 @@ loop-newest-preserved g c gs l =
     let same = seen_at calls c.args.parts.now c.in-Some.at c.index-parts-at.result lt c.index-parts-at.is in
     let w = subst (λ o. IsWalked g.S.Stream.law (g.S.Stream.standing c.args.stream.now) (g.S.Stream.standing c.loop-newest.stream) seen c.args.place o gs) c.in-Some.is (c.loop-newest.invariant gs l) in
     let h : p.holds < c.args.place - c.in-Some.at = omega (arith, c.holds.ensures, c.saturating_sub.ensures, c.if-holds-saturating_sub.false) in
-    subst (λ o. IsWalked g.S.Stream.law (g.S.Stream.standing c.args.stream.now) (g.S.Stream.standing c.stream_end.new.stream) seen c.args.place o gs) (sym (c.outer-newest.ensures calls ∙ ap (λ xs. outer_of xs c.index-parts-at.result.holder) (flat_again calls c.args.parts.now)))
+    subst (λ o. IsWalked g.S.Stream.law (g.S.Stream.standing c.args.stream.now) (g.S.Stream.standing c.stream_end.new.stream) seen c.args.place o gs) (sym (outer_again calls c.args.parts.now (c.outer-newest.ensures calls) c.get.ensures))
     (walk-step c.in-Some.at p w same h c.in_ok-stream_end.ensures)
 
 pub loop-newest-smaller : goal.loop-newest-smaller
@@ -67,7 +67,7 @@ loop-newest-smaller g c =
     let same = seen_at calls c.args.parts.now c.in-Some.at c.index-parts-at.result lt c.index-parts-at.is in
     let w = subst (λ o. IsWalked g.S.Stream.law (g.S.Stream.standing c.args.stream.now) (g.S.Stream.standing c.loop-newest.stream) seen c.args.place o c.requires.linked.0) c.in-Some.is (c.loop-newest.invariant c.requires.linked.0 c.requires.linked.1) in
     let h : p.holds < c.args.place - c.in-Some.at = omega (arith, c.holds.ensures, c.saturating_sub.ensures, c.if-holds-saturating_sub.false) in
-    nearer c.outer-newest.result c.loop-newest.newest c.in-Some.at c.in-Some.is (subst (λ o. IsBelow o c.in-Some.at) (sym (c.outer-newest.ensures calls ∙ ap (λ xs. outer_of xs c.index-parts-at.result.holder) (flat_again calls c.args.parts.now))) (walk-below c.in-Some.at p w same h))
+    nearer c.outer-newest.result c.loop-newest.newest c.in-Some.at c.in-Some.is (subst (λ o. IsBelow o c.in-Some.at) (sym (outer_again calls c.args.parts.now (c.outer-newest.ensures calls) c.get.ensures)) (walk-below c.in-Some.at p w same h))
 
 pub returns : goal.returns
 returns g c gs l =

@@ -1,10 +1,9 @@
-use Rattle.std.specs.Prelude.{slice_get}
-use Rattle.std.proofs.Common.{◌≡◌, ℕ, ◌-◌, List, [], ◌∷◌, ◌++◌, length, refl, ap, ◌∙◌, sym}
+use Rattle.std.proofs.Common.{◌≡◌, ℕ, List, [], ◌∷◌, ◌++◌, refl, ap, ◌∙◌, sym}
 use Rattle.sval_buffer.specs.Forest.{Becomes}
 use Rattle.sval_buffer.specs.SeenParts.{begin_call}
 use Rattle.sval_buffer.specs.FlatForest.{forest_in}
 use Rattle.sval_buffer.proofs.Steps.{was_pushed}
-use Rattle.sval_buffer.proofs.KeptParts.{Holds, holds_it, holds_begun, tell}
+use Rattle.sval_buffer.proofs.KeptParts.{Holds, holds_it, newest_again, holds_begun, tell}
 use Rattle.sval_buffer.proofs.parts.Parts.begin.Goals as goal
 
 pub invariant_of-self-2 : goal.invariant_of-self-2
@@ -12,7 +11,7 @@ invariant_of-self-2 g c =
     let h : Holds (g.N.CallStore.calls c.self.inside.named) c.self.inside.parts.items c.self.inside.places.items c.self.inside.in_fragments (forest_in c.args.self.now) = holds_it _ c.self.invariant (ap forest_in c.self.view_is) in
     let e = was_pushed c.push.result _ _ c.push.ensures.items c.if-is_err-2.ensures.negation in
     let p : c.push_reserved.new.self.items ≡ c.self.inside.places.items ++ (c.len-place.result ∷ []) = c.push_reserved.ensures.items ∙ ap (λ (qs : List ℕ). qs ++ (c.len-place.result ∷ [])) c.reserve.ensures.items in
-    let now = holds_begun h _ (begin_call c.args.begin) c.len-place.result refl (c.copied.ensures ∙ c.last.ensures.value ∙ ap (λ (qs : List ℕ). slice_get qs (length qs - 1)) c.deref.ensures.value) (c.len-place.ensures ∙ c.self.inside.parts.ok.0) tt in
+    let now = holds_begun h _ (begin_call c.args.begin) c.len-place.result refl (newest_again c.newest.ensures c.self.view_is) (c.len-place.ensures ∙ c.self.inside.parts.ok.0) tt in
     rw (e, p) (tell now)
 
 pub returns : goal.returns
@@ -20,5 +19,5 @@ returns g c =
     let h : Holds (g.N.CallStore.calls c.self.inside.named) c.self.inside.parts.items c.self.inside.places.items c.self.inside.in_fragments (forest_in c.args.self.now) = holds_it _ c.self.invariant (ap forest_in c.self.view_is) in
     let e = was_pushed c.push.result _ _ c.push.ensures.items c.if-is_err-2.ensures.negation in
     let p : c.push_reserved.new.self.items ≡ c.self.inside.places.items ++ (c.len-place.result ∷ []) = c.push_reserved.ensures.items ∙ ap (λ (qs : List ℕ). qs ++ (c.len-place.result ∷ [])) c.reserve.ensures.items in
-    let now = holds_begun h _ (begin_call c.args.begin) c.len-place.result refl (c.copied.ensures ∙ c.last.ensures.value ∙ ap (λ (qs : List ℕ). slice_get qs (length qs - 1)) c.deref.ensures.value) (c.len-place.ensures ∙ c.self.inside.parts.ok.0) tt in
+    let now = holds_begun h _ (begin_call c.args.begin) c.len-place.result refl (newest_again c.newest.ensures c.self.view_is) (c.len-place.ensures ∙ c.self.inside.parts.ok.0) tt in
     ap Becomes (sym (rw (e, p) now.is.view))

@@ -1,5 +1,4 @@
-use Rattle.std.specs.Prelude.{slice_get}
-use Rattle.std.proofs.Common.{◌≡◌, ℕ, ◌-◌, List, [], ◌∷◌, length, refl, ap, ◌∙◌, sym, true}
+use Rattle.std.proofs.Common.{◌≡◌, ℕ, List, [], ◌∷◌, length, refl, ap, sym, true}
 use Rattle.sval_label.specs.Calls.{Call}
 use Rattle.sval_buffer.specs.Forest.{Becomes}
 use Rattle.sval_buffer.specs.Flat.{flat_part, flat_node}
@@ -10,7 +9,7 @@ use Rattle.sval_buffer.specs.declared.part.Medium.{Medium}
 use Rattle.sval_buffer.specs.declared.part.Medium.TheVariants as medium
 use Rattle.sval_buffer.specs.FlatForest.{forest_in}
 use Rattle.sval_buffer.proofs.Steps.{was_pushed}
-use Rattle.sval_buffer.proofs.KeptParts.{Holds, holds_it, holds_added, holds_flagged, tell}
+use Rattle.sval_buffer.proofs.KeptParts.{Holds, holds_it, newest_again, holds_added, holds_flagged, tell}
 use Rattle.sval_buffer.proofs.parts.Parts.begin_fragments.Goals as goal
 
 one : (calls : List Call) (m : Medium) → flat_node (no_fragments m) ≡ flat_part (flat_kind calls (no_fragments_yet m)) (holds_of (no_fragments_yet m)) ∷ []
@@ -30,8 +29,8 @@ invariant_of-self-2 g c =
     let h : Holds (g.N.CallStore.calls c.self.inside.named) c.self.inside.parts.items c.self.inside.places.items c.self.inside.in_fragments (forest_in c.args.self.now) = holds_it _ c.self.invariant (ap forest_in c.self.view_is) in
     let calls = g.N.CallStore.calls c.self.inside.named in
     let e = was_pushed c.push.result _ _ c.push.ensures.items c.if-is_err.ensures.negation in
-    let p : Part = record { kind = no_fragments_yet c.args.medium; holder = c.copied.result } in
-    let now = holds_flagged (holds_added h p (no_fragments c.args.medium) (one calls c.args.medium) (own c.args.medium) (c.copied.ensures ∙ c.last.ensures.value ∙ ap (λ (qs : List ℕ). slice_get qs (length qs - 1)) c.deref.ensures.value) (kept (length calls) c.args.medium)) true in
+    let p : Part = record { kind = no_fragments_yet c.args.medium; holder = c.newest.result } in
+    let now = holds_flagged (holds_added h p (no_fragments c.args.medium) (one calls c.args.medium) (own c.args.medium) (newest_again c.newest.ensures c.self.view_is) (kept (length calls) c.args.medium)) true in
     rw (e, c.empty.ensures) (tell now)
 
 pub returns : goal.returns
@@ -39,6 +38,6 @@ returns g c =
     let h : Holds (g.N.CallStore.calls c.self.inside.named) c.self.inside.parts.items c.self.inside.places.items c.self.inside.in_fragments (forest_in c.args.self.now) = holds_it _ c.self.invariant (ap forest_in c.self.view_is) in
     let calls = g.N.CallStore.calls c.self.inside.named in
     let e = was_pushed c.push.result _ _ c.push.ensures.items c.if-is_err.ensures.negation in
-    let p : Part = record { kind = no_fragments_yet c.args.medium; holder = c.copied.result } in
-    let now = holds_flagged (holds_added h p (no_fragments c.args.medium) (one calls c.args.medium) (own c.args.medium) (c.copied.ensures ∙ c.last.ensures.value ∙ ap (λ (qs : List ℕ). slice_get qs (length qs - 1)) c.deref.ensures.value) (kept (length calls) c.args.medium)) true in
+    let p : Part = record { kind = no_fragments_yet c.args.medium; holder = c.newest.result } in
+    let now = holds_flagged (holds_added h p (no_fragments c.args.medium) (one calls c.args.medium) (own c.args.medium) (newest_again c.newest.ensures c.self.view_is) (kept (length calls) c.args.medium)) true in
     ap Becomes (sym (rw (e, c.empty.ensures) now.is.view))
