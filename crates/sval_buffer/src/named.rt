@@ -209,6 +209,7 @@ impl CallStore for NamedCalls {
         Ok(place)
     }
 
+    #[inline(always)]
     fn stream_call<L: Lending, S: Stream<L>>(&self, at: usize, stream: &mut S) -> Result {
         let call = &self.calls[at];
         let label = shown_label(self.texts.as_str(), &call.label);
@@ -249,6 +250,7 @@ impl NamedCalls {
     }
 
     /// Keeps one more call, and gives its place. Want of memory changes nothing.
+    #[inline(never)]
     fn add(&mut self, kind: NamedKind, name: Name<'_>) -> std::result::Result<usize, NoMemory>
         requires { HasName kind (seen_name name) }
         ensures place { IfOk result (λ at. at ≡ length self.old) }
@@ -271,6 +273,7 @@ impl NamedCalls {
 }
 
 /// Makes a call in a stream.
+#[inline(always)]
 pub(crate) fn make<L: Lending, S: Stream<L>>(
     call: GroupedCall<'_, L::Text, L::Bytes>,
     stream: &mut S,

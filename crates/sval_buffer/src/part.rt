@@ -228,6 +228,7 @@ impl<'sval> Part<'sval> {
     }
 
     /// Makes the end of this part, if it is a container.
+    #[inline(always)]
     pub(crate) fn stream_end<N: CallStore, S: Stream<Lent<'sval>>>(
         &self,
         named: &N,

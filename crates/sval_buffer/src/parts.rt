@@ -103,6 +103,7 @@ impl<'sval, N: CallStore + 'sval> Parts<'sval, N> {
     }
 
     /// Adds a call that is complete by itself and has no name.
+    #[inline(always)]
     fn single(&mut self, single: Single) -> Result<(), ErrorKind>
         ensures { let node = forest.Single (single_call single) in
             CapturesBy (λ _. true) (λ f. Becomes (add node f)) self.old result self.new }
@@ -191,6 +192,7 @@ impl<'sval, N: CallStore + 'sval> Parts<'sval, N> {
     }
 
     /// Begins a text or a binary.
+    #[inline(always)]
     fn begin_fragments(&mut self, alloc: Global, medium: Medium) -> Result<(), ErrorKind>
         ensures { let node = no_fragments medium in
             CapturesBy (λ _. true) (λ f. Becomes (with_flag true (add node f))) self.old result self.new }
