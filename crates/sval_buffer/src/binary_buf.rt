@@ -16,14 +16,14 @@ use sval_ref::ValueRef;
 
 /// A binary that comes in fragments.
 ///
-/// A single borrowed fragment is kept by reference. With any other fragment beside it the binary is copied.
+/// Where its last fragment is borrowed and those before it are empty, the binary is kept by reference. Else it is copied.
 ///
 /// ```
 /// let mut binary = BinaryBuf::new(alloc);
 /// binary.push_fragment(b"some")?;
-/// assert_eq!(rt; binary.as_borrowed_slice(), Some(b"some"));
+/// assert_eq!(rt; binary.as_borrowed_slice(), Some(b"some".as_slice()));
 /// binary.push_fragment_computed(b" bytes")?;
-/// assert_eq!(rt; binary.as_slice(), b"some bytes");
+/// assert_eq!(rt; binary.as_slice(), b"some bytes".as_slice());
 /// ```
 #[derive(Drop)]
 pub struct BinaryBuf<'sval> {

@@ -17,7 +17,7 @@ use sval_ref::ValueRef;
 
 /// A text that comes in fragments.
 ///
-/// A single borrowed fragment is kept by reference. With any other fragment beside it the text is copied.
+/// Where its last fragment is borrowed and those before it are empty, the text is kept by reference. Else it is copied.
 ///
 /// ```
 /// let mut text = TextBuf::new(alloc);

@@ -20,16 +20,17 @@ use sval_ref::ValueRef;
 
 /// A captured value: the calls that were taken, from which they can be made again.
 ///
-/// As a stream it takes the calls of any value. Texts and bytes that are lent for `'sval` are kept by reference, and so
-/// are the texts of static labels; those of all other labels stand in one store. So no call takes memory for a label but
-/// that by which this store and that of the parts grow. An end ends the newest container that has none, whichever it
-/// is, and its name isn't looked at. A hint within a text or a binary is taken and not kept.
+/// As a stream it takes the calls of any value. A text or a binary of one fragment that is lent for `'sval` is kept by
+/// reference, and so are the texts of static labels; those of all other labels stand in one store. So no call takes
+/// memory for a label but that by which this store and that of the parts grow. An end ends the newest container that
+/// has none, whichever it is, and its name isn't looked at. The end of a text or a binary is taken anywhere. A hint
+/// within a text or a binary is taken and not kept. What holds no call is made again as `null`.
 ///
 /// - [`ErrorKind::OutsideContainer`] answers a fragment of a text where the last part isn't a text, and one of a binary
 ///   where it isn't a binary.
 /// - [`ErrorKind::InvalidValue`] with [`Word::Unbalanced`] answers an end where no container is without its end.
 /// - [`ErrorKind::NoAlloc`] answers a call for which there was no memory. An end takes none, and neither does a borrowed
-///   fragment onto an empty text.
+///   fragment onto an empty text or binary.
 ///
 /// After any refusal the buffer holds what it held before.
 ///
@@ -78,8 +79,8 @@ impl<'sval, N: CallStore + 'sval> AnyValueBuf<'sval, N> {
         buffer
     }
 
-    /// Captures a value. Of one whose calls spell a tree it fails only where memory was wanting, and what it holds makes
-    /// calls that spell the same tree.
+    /// Captures a value. Of one that doesn't refuse and whose calls spell a tree it fails only where memory was wanting,
+    /// and what it holds makes calls that spell the same tree.
     ///
     /// - [`ErrorKind::OutsideContainer`] and [`ErrorKind::InvalidValue`] with [`Word::Unbalanced`] come where one of its
     ///   calls is refused so.
