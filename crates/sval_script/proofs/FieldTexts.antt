@@ -1,5 +1,5 @@
 -- Texts of fields, as they are put into the store.
-use Rattle.std.specs.Prelude.{◌≡◌, ℕ, ◌+◌, ◌-◌, false, List, [], ◌∷◌, ◌++◌, length, take, drop, get_or, None, refl}
+use Rattle.std.specs.Prelude.{◌≡◌, ℕ, ◌+◌, ◌-◌, false, List, [], ◌∷◌, ◌++◌, length, take, drop, get_or, None, Result, Ok, Err, IfOk, refl}
 use Rattle.std.specs.Result.{result_ok}
 use Rattle.std.specs.Str.{IsUtf8, is_utf8}
 use Rattle.std.proofs.Common.{arith, sym, ap, ◌∙◌, subst}
@@ -9,6 +9,7 @@ use Rattle.std.proofs.lemmas.Str.{IsUtf8-from_is_utf8, is_utf8-from_IsUtf8}
 use Rattle.hex.specs.Hex.{decode_of}
 use Rattle.sval_script.specs.Lines.{bytes, text}
 use Rattle.sval_script.specs.FieldValues.{Decodes, StoresText, StoresBytes}
+use Rattle.sval_script.specs.declared.field.LineError.{LineError}
 
 drop_length : (xs ys : List ℕ) → drop (length xs) (xs ++ ys) ≡ ys
 drop_length [] ys = refl
@@ -59,3 +60,8 @@ bytes_stored field digits old new start len h e d s l = record {
 
 pub bytes_refused : (field digits : List ℕ) → get_or field 0 0 ≡ 61 → digits ≡ take (length field - 1) (drop 1 field) → result_ok (decode_of digits) ≡ None → bytes field ≡ None
 bytes_refused field digits h e none = bytes_behind field digits h e ∙ none
+
+-- what holds of a length holds where it is answered
+pub answered : (P : ℕ → Type 0) (len : ℕ) (r : Result ℕ LineError) → P len → IfOk r (λ n. n ≡ len) → IfOk r P
+answered P len (Ok n) holds same = subst P (sym same) holds
+answered P len (Err e) holds same = tt

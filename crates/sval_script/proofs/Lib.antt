@@ -10,6 +10,7 @@ pub mod FieldCuts
 pub mod FieldParts
 pub mod FieldsRead
 pub mod LinesMade
+pub mod NamesMade
 pub mod NearPlaces
 pub mod SameRuns
 pub mod Decimals

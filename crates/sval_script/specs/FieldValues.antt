@@ -67,6 +67,11 @@ abbrev pub label_from : LabelField → List ℕ → Option Label
 label_from label_field.Absent text = None
 label_from (label_field.Present tag) text = Some (made_label tag text)
 
+-- the text of a label is UTF-8, and that of none is empty
+abbrev pub IsLabelText : LabelField → List ℕ → Type 0
+IsLabelText label_field.Absent text = text ≡ []
+IsLabelText (label_field.Present tag) text = IsUtf8 text
+
 -- ---- the store
 
 -- the digits spell bytes, which were put behind those before them
@@ -97,4 +102,4 @@ StoresLabel field old new label = Stores (script.label field) (made_label label.
 
 -- the same, or the field is `-` and nothing was put there
 abbrev pub StoresLabelField : List ℕ → List ℕ → List ℕ → LabelField → ℕ → Type 0
-StoresLabelField field old new label len = Stores (script.or_dash script.label field) (label_from label) IsUtf8 old new len
+StoresLabelField field old new label len = Stores (script.or_dash script.label field) (label_from label) (IsLabelText label) old new len

@@ -7,6 +7,7 @@ pub mod Tags
 pub mod Fields
 pub mod FieldValues
 pub mod NextFields
+pub mod NameNumbers
 pub mod LineCalls
 pub mod MadeLines
 pub mod Readings

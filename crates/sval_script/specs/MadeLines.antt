@@ -19,7 +19,7 @@ pub record Puts (bytes numbers : List ℕ) (old new : Stored) (line : Line) : Ty
   pub has_text : HasText line bytes
   pub bytes_stored : new.bytes ≡ old.bytes ++ bytes
   pub numbers_stored : new.numbers ≡ old.numbers ++ numbers
-  pub has_len : length bytes ≡ own_len line
+  pub has_len : length bytes ≡ own_len line numbers
   pub has_count : length numbers ≡ own_count line
 
 -- the fields of this form make the line, its own was put behind what stood before it, and these fields are left

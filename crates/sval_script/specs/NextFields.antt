@@ -6,7 +6,7 @@ use Rattle.sval_label.specs.Calls.{Call, Name}
 use Rattle.sval_script.specs.Lines as script
 use Rattle.sval_script.specs.Lines.{LineForm, field, complete, call_of_fields}
 use Rattle.sval_script.specs.Tags.{tag_of}
-use Rattle.sval_script.specs.FieldValues.{made_label, label_from, index_from}
+use Rattle.sval_script.specs.FieldValues.{made_label, label_from, index_from, IsLabelText}
 use Rattle.sval_script.specs.declared.field.LabelRead.{LabelRead}
 use Rattle.sval_script.specs.declared.field.LabelField.{LabelField}
 use Rattle.sval_script.specs.declared.fields.NameRead.{NameRead}
@@ -79,7 +79,7 @@ StoresNextLabel line rest old new label = StoresNext script.label (made_label la
 
 -- the same, or the next field is `-` and nothing was put there
 abbrev pub StoresNextLabelField : LineLeft → LineLeft → List ℕ → List ℕ → LabelField → ℕ → Type 0
-StoresNextLabelField line rest old new label len = StoresNext (script.or_dash script.label) (label_from label) IsUtf8 line rest old new len
+StoresNextLabelField line rest old new label len = StoresNext (script.or_dash script.label) (label_from label) (IsLabelText label) line rest old new len
 
 -- the name of these fields, with this label's text and this index's number
 abbrev pub name_from : NameFields → List ℕ → ℕ → Name
@@ -89,6 +89,6 @@ name_from parts text number = record { tag = tag_of parts.tag; label = label_fro
 pub record ReadsName (line rest : LineLeft) (old new : List ℕ) (name : NameRead) : Type 0 where
   pub text : List ℕ
   pub spells : (next : Name → LineForm) → call_before (script.name next) line ≡ call_before (next (name_from name.parts text name.number)) rest
-  pub is_text : IsUtf8 text
+  pub is_text : IsLabelText name.parts.label text
   pub stored : new ≡ old ++ text
   pub has_len : length text ≡ name.len

@@ -1,6 +1,6 @@
 //! What the fields of a line say.
 
-ghost use Rattle.std.specs.Prelude.{◌≡◌, None, option_map, option_and_then, IfOk, OnOk};
+ghost use Rattle.std.specs.Prelude.{◌≡◌, ◌≤◌, None, option_map, option_and_then, IfOk, OnOk, length};
 ghost use Rattle.std.specs.Bool.{MatchBool};
 ghost use Rattle.std.specs.Result.{result_ok};
 ghost use Rattle.std.specs.Str.{IsUtf8};
@@ -9,6 +9,7 @@ ghost use Rattle.sval_label.specs.Ranges.{is_index};
 ghost use Rattle.sval_script.specs.Lines as script;
 ghost use Rattle.sval_script.specs.FieldValues.{Decodes, StoresText, StoresBytes, StoresLabel, StoresLabelField};
 ghost use Rattle.sval_script.specs.FieldValues.{parts_of, part_and_tag, index_number, index_of, index_field_of};
+ghost use Rattle.sval_script.specs.NameNumbers.{label_count, label_len, index_count};
 ghost use Rattle.sval_script.specs.declared.field.LineError.TheVariants.{NoMemory};
 
 use crate::number::{integer, natural};
@@ -21,7 +22,7 @@ use std::alloc::AllocError;
 pub(crate) enum LineError {
     /// It spells no call.
     Bad,
-    /// There was no memory for what it says.
+    /// There was no memory for what it says, or it has a text or a binary of 4 GiB or more.
     NoMemory,
 }
 
@@ -39,7 +40,7 @@ pub(crate) struct LabelRead {
     /// Its tag.
     pub(crate) tag: TagField,
     /// How many bytes its text has.
-    pub(crate) len: usize,
+    pub(crate) len: u32,
 }
 
 /// What a field says of a label, but for its text.
@@ -49,6 +50,29 @@ pub(crate) enum LabelField {
     Absent,
     /// A label with this tag.
     Present(TagField),
+}
+
+impl LabelField {
+    /// How many numbers say the length of the label's text.
+    pub(crate) fn count(self) -> usize
+        ensures { result ≡ label_count self }
+    {
+        match self {
+            LabelField::Absent => 0,
+            LabelField::Present(_) => 1,
+        }
+    }
+
+    /// How many bytes the label's text has, where these numbers begin with it.
+    pub(crate) fn len(self, numbers: &[u64]) -> usize
+        requires { label_count self ≤ length numbers.now }
+        ensures { result ≡ label_len self numbers.now }
+    {
+        match self {
+            LabelField::Absent => 0,
+            LabelField::Present(_) => numbers[0] as usize,
+        }
+    }
 }
 
 /// How the number of an index is kept in 64 bits.
@@ -75,6 +99,18 @@ pub(crate) enum IndexField {
     Absent,
     /// An index with this tag.
     Present(Sign, TagField),
+}
+
+impl IndexField {
+    /// How many numbers the index has.
+    pub(crate) fn count(self) -> usize
+        ensures { result ≡ index_count self }
+    {
+        match self {
+            IndexField::Absent => 0,
+            IndexField::Present(_, _) => 1,
+        }
+    }
 }
 
 /// A truth value.
@@ -181,9 +217,20 @@ fn is_utf8(bytes: &[u8]) -> bool
     simdutf8::basic::from_utf8(bytes).is_ok()
 }
 
+/// The length as lines keep it, in 32 bits.
+fn kept_len(len: usize) -> Result<u32, LineError>
+    ensures same { IfOk result (λ kept. kept ≡ len) }
+    ensures no_memory { ¬ (result ≡ Err LineError.Bad) }
+{
+    match u32::try_from(len) {
+        Ok(len) => Ok(len),
+        Err(_) => Err(LineError::NoMemory),
+    }
+}
+
 /// Puts the text that a field spells behind what the store has, and answers how many bytes it has.
 #[inline(never)]
-pub(crate) fn store_text(store: &mut Vec<u8>, field: &[u8]) -> Result<usize, LineError>
+pub(crate) fn store_text(store: &mut Vec<u8>, field: &[u8]) -> Result<u32, LineError>
     ensures stored { IfOk result (λ len. StoresText field.now store.old.items store.new.items len) }
     ensures bad { result ≡ Err LineError.Bad → script.text field.now ≡ None }
 {
@@ -193,14 +240,14 @@ pub(crate) fn store_text(store: &mut Vec<u8>, field: &[u8]) -> Result<usize, Lin
     let start = store.len();
     decode(store, digits)?;
     if is_text(&store[start..]) {
-        Ok(store.len() - start)
+        kept_len(store.len() - start)
     } else {
         Err(LineError::Bad)
     }
 }
 
 /// Puts the bytes that a field spells behind what the store has, and answers how many they are.
-pub(crate) fn store_bytes(store: &mut Vec<u8>, field: &[u8]) -> Result<usize, LineError>
+pub(crate) fn store_bytes(store: &mut Vec<u8>, field: &[u8]) -> Result<u32, LineError>
     ensures stored { IfOk result (λ len. StoresBytes field.now store.old.items store.new.items len) }
     ensures bad { result ≡ Err LineError.Bad → script.bytes field.now ≡ None }
 {
@@ -209,7 +256,7 @@ pub(crate) fn store_bytes(store: &mut Vec<u8>, field: &[u8]) -> Result<usize, Li
     };
     let start = store.len();
     decode(store, digits)?;
-    Ok(store.len() - start)
+    kept_len(store.len() - start)
 }
 
 /// Puts a label's text behind what the store has.
@@ -231,7 +278,7 @@ pub(crate) fn store_label(store: &mut Vec<u8>, field: &[u8]) -> Result<LabelRead
 pub(crate) fn store_label_or_dash(
     store: &mut Vec<u8>,
     field: &[u8],
-) -> Result<(LabelField, usize), LineError>
+) -> Result<(LabelField, u32), LineError>
     ensures stored { IfOk result (λ read.
         StoresLabelField field.now store.old.items store.new.items read.0 read.1) }
     ensures bad { result ≡ Err LineError.Bad → script.or_dash script.label field.now ≡ None }

@@ -1,6 +1,6 @@
 //! The fields of a line.
 
-ghost use Rattle.std.specs.Prelude.{◌≡◌, None, IfOk, IfSome, MatchOption};
+ghost use Rattle.std.specs.Prelude.{◌≡◌, None, IfOk, IfSome, MatchOption, get_or};
 ghost use Rattle.sval_label.specs.Calls as call;
 ghost use Rattle.sval_label.specs.Grouped.{int_number, int_type};
 ghost use Rattle.sval_script.specs.Lines as script;
@@ -11,6 +11,7 @@ ghost use Rattle.sval_script.specs.FieldValues.{index_of, index_field_of};
 ghost use Rattle.sval_script.specs.NextFields.{NoField, with_field, EndsBefore, call_before};
 ghost use Rattle.sval_script.specs.NextFields.{ReadsWord, ReadsNext, ReadsAs, NoNext};
 ghost use Rattle.sval_script.specs.NextFields.{StoresNextText, StoresNextBytes, StoresNextLabel, StoresNextLabelField, ReadsName};
+ghost use Rattle.sval_script.specs.NameNumbers.{label_count, name_count};
 
 use crate::field::{
     IndexField, IndexRead, LabelField, LabelRead, LineError, index, index_or_dash, size,
@@ -37,7 +38,7 @@ pub(crate) struct Fields<'a> {
 pub(crate) struct NameRead {
     pub(crate) parts: NameFields,
     /// How many bytes the label's text has.
-    pub(crate) len: usize,
+    pub(crate) len: u32,
     /// The index's number.
     pub(crate) number: u64,
 }
@@ -48,6 +49,25 @@ pub(crate) struct NameFields {
     pub(crate) tag: TagField,
     pub(crate) label: LabelField,
     pub(crate) index: IndexField,
+}
+
+impl NameFields {
+    /// How many numbers say the length of the label's text and the index's number.
+    pub(crate) fn count(self) -> usize
+        ensures { result ≡ name_count self }
+    {
+        self.label.count() + self.index.count()
+    }
+
+    /// The index's number, if there is an index, where these are the name's numbers.
+    pub(crate) fn number(self, numbers: &[u64]) -> u64
+        ensures { result ≡ get_or numbers.now (label_count self.label) 0 }
+    {
+        match numbers.get(self.label.count()) {
+            Some(number) => *number,
+            None => 0,
+        }
+    }
 }
 
 impl<'a> Model for Fields<'a> {
@@ -159,7 +179,7 @@ impl<'a> Fields<'a> {
     }
 
     /// The next field, a text, which goes behind what the store has. Answers how many bytes it has.
-    pub(crate) fn text(&mut self, store: &mut Vec<u8>) -> Result<usize, LineError>
+    pub(crate) fn text(&mut self, store: &mut Vec<u8>) -> Result<u32, LineError>
         ensures stored { IfOk result (λ len.
             StoresNextText self.old self.new store.old.items store.new.items len) }
         ensures bad { result ≡ Err LineError.Bad → NoNext script.text self.old }
@@ -169,7 +189,7 @@ impl<'a> Fields<'a> {
 
     /// The next field, bytes, which go behind what the store has. Answers how many they are.
     #[inline(never)]
-    pub(crate) fn bytes(&mut self, store: &mut Vec<u8>) -> Result<usize, LineError>
+    pub(crate) fn bytes(&mut self, store: &mut Vec<u8>) -> Result<u32, LineError>
         ensures stored { IfOk result (λ len.
             StoresNextBytes self.old self.new store.old.items store.new.items len) }
         ensures bad { result ≡ Err LineError.Bad → NoNext script.bytes self.old }
@@ -191,7 +211,7 @@ impl<'a> Fields<'a> {
     pub(crate) fn label_or_dash(
         &mut self,
         store: &mut Vec<u8>,
-    ) -> Result<(LabelField, usize), LineError>
+    ) -> Result<(LabelField, u32), LineError>
         ensures stored { IfOk result (λ read.
             StoresNextLabelField self.old self.new store.old.items store.new.items read.0 read.1) }
         ensures bad { result ≡ Err LineError.Bad → NoNext (script.or_dash script.label) self.old }

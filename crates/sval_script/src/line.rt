@@ -3,7 +3,7 @@
 ghost use Rattle.std.specs.Prelude.{◌≡◌, None, IfOk};
 ghost use Rattle.sval_script.specs.NextFields.{call_before, first_call};
 ghost use Rattle.sval_script.specs.Words.{form_of_word};
-ghost use Rattle.sval_script.specs.LineCalls.{own_len, own_count, stored};
+ghost use Rattle.sval_script.specs.LineCalls.{stored};
 ghost use Rattle.sval_script.specs.MadeLines.{MakesLine, IsMade};
 ghost use Rattle.sval_script.specs.declared.word.Word.TheVariants as word;
 
@@ -13,7 +13,7 @@ use crate::store::Store;
 use crate::tag::TagField;
 use crate::word::{Alone, Lifetime, Named, NamedOpening, NumberType, Opening, Side, Word};
 
-/// A call, whose texts and wider numbers stand in a store beside it: 16 bytes.
+/// A call, whose texts and wider numbers stand in a store beside it: 8 bytes.
 #[derive(Clone, Copy, Debug)]
 pub(crate) enum Line {
     /// A word alone.
@@ -26,8 +26,8 @@ pub(crate) enum Line {
     U16(u16),
     /// A whole number of 32 bits.
     U32(u32),
-    /// A whole number of 64 bits.
-    U64(u64),
+    /// A whole number of 64 bits, which is a number of the store.
+    U64,
     /// A whole number of 128 bits, which is two numbers of the store.
     U128,
     /// A whole number of 8 bits with its sign.
@@ -36,63 +36,34 @@ pub(crate) enum Line {
     I16(i16),
     /// A whole number of 32 bits with its sign.
     I32(i32),
-    /// A whole number of 64 bits with its sign.
-    I64(i64),
+    /// A whole number of 64 bits with its sign, which is a number of the store.
+    I64,
     /// A whole number of 128 bits with its sign, which is two numbers of the store.
     I128,
     /// A begin of no given size.
     Opening(Opening),
-    /// A begin with a size.
-    SizedOpening(Opening, usize),
+    /// A begin with a size, which is a number of the store.
+    SizedOpening(Opening),
     /// A part of a text, which is these many bytes of the store.
-    TextFragment(Lifetime, usize),
+    TextFragment(Lifetime, u32),
     /// A part of a binary, which is these many bytes of the store.
-    BinaryFragment(Lifetime, usize),
+    BinaryFragment(Lifetime, u32),
     /// A tag alone.
     TagHint(TagField),
-    /// A name, whose label is these many bytes of the store, and whose index is a number of it.
-    Named(Named, NameFields, usize),
+    /// A name, whose label's text is bytes of the store. Their number is a number of the store, and the index's number
+    /// is the next one; what the name doesn't have takes none.
+    Named(Named, NameFields),
     /// The begin of a container with a name and no given size.
-    NamedOpening(NamedOpening, NameFields, usize),
+    NamedOpening(NamedOpening, NameFields),
     /// The begin of a container with a name, and a size that is another number of the store.
-    SizedNamedOpening(NamedOpening, NameFields, usize),
+    SizedNamedOpening(NamedOpening, NameFields),
     /// A field's tag, and its label's tag and length.
-    Field(Side, TagField, TagField, usize),
-    /// A field's tag, and its index.
-    Place(Side, TagField, Sign, TagField, u64),
-    /// A field's tag, its label's tag, its index, which is a number of the store, and the label's length.
-    FieldPlace(Side, TagField, TagField, Sign, TagField, usize),
-}
-
-impl Line {
-    /// How many bytes of the store are this line's own.
-    pub(crate) fn own_len(self) -> usize
-        ensures { result ≡ own_len self }
-    {
-        match self {
-            Line::TextFragment(_, len)
-            | Line::BinaryFragment(_, len)
-            | Line::Named(_, _, len)
-            | Line::NamedOpening(_, _, len)
-            | Line::SizedNamedOpening(_, _, len)
-            | Line::Field(_, _, _, len)
-            | Line::FieldPlace(_, _, _, _, _, len) => len,
-            _ => 0,
-        }
-    }
-
-    /// How many numbers of the store are this line's own.
-    pub(crate) fn own_count(self) -> usize
-        ensures { result ≡ own_count self }
-    {
-        match self {
-            Line::U128 | Line::I128 | Line::SizedNamedOpening(_, _, _) => 2,
-            Line::Named(_, _, _)
-            | Line::NamedOpening(_, _, _)
-            | Line::FieldPlace(_, _, _, _, _, _) => 1,
-            _ => 0,
-        }
-    }
+    Field(Side, TagField, TagField, u32),
+    /// A field's tag, and its index, whose number is a number of the store.
+    Place(Side, TagField, Sign, TagField),
+    /// A field's tag, its label's tag and its index. The label's length and the index's number are two numbers of the
+    /// store.
+    FieldPlace(Side, TagField, TagField, Sign, TagField),
 }
 
 /// Reads a truth value.
@@ -132,7 +103,10 @@ fn read_opening(opening: Opening, store: &mut Store, fields: &mut Fields) -> Res
     match fields.size() {
         None => Err(LineError::Bad),
         Some(None) => Ok(Line::Opening(opening)),
-        Some(Some(size)) => Ok(Line::SizedOpening(opening, size)),
+        Some(Some(size)) => match store.push(size as u64) {
+            Err(error) => Err(error),
+            Ok(()) => Ok(Line::SizedOpening(opening)),
+        },
     }
 }
 
@@ -186,9 +160,9 @@ fn read_named(named: Named, store: &mut Store, fields: &mut Fields) -> Result<Li
 {
     match fields.name(&mut store.bytes) {
         Err(error) => Err(error),
-        Ok(name) => match store.push(name.number) {
+        Ok(name) => match store.push_name(name) {
             Err(error) => Err(error),
-            Ok(()) => Ok(Line::Named(named, name.parts, name.len)),
+            Ok(()) => Ok(Line::Named(named, name.parts)),
         },
     }
 }
@@ -207,14 +181,14 @@ fn read_named_opening(
 {
     match fields.name(&mut store.bytes) {
         Err(error) => Err(error),
-        Ok(name) => match store.push(name.number) {
+        Ok(name) => match store.push_name(name) {
             Err(error) => Err(error),
             Ok(()) => match fields.size() {
                 None => Err(LineError::Bad),
-                Some(None) => Ok(Line::NamedOpening(opening, name.parts, name.len)),
+                Some(None) => Ok(Line::NamedOpening(opening, name.parts)),
                 Some(Some(size)) => match store.push(size as u64) {
                     Err(error) => Err(error),
-                    Ok(()) => Ok(Line::SizedNamedOpening(opening, name.parts, name.len)),
+                    Ok(()) => Ok(Line::SizedNamedOpening(opening, name.parts)),
                 },
             },
         },
@@ -250,7 +224,10 @@ fn read_place(side: Side, store: &mut Store, fields: &mut Fields) -> Result<Line
         None => Err(LineError::Bad),
         Some(tag) => match fields.index() {
             None => Err(LineError::Bad),
-            Some(index) => Ok(Line::Place(side, tag, index.sign, index.tag, index.number)),
+            Some(index) => match store.push(index.number) {
+                Err(error) => Err(error),
+                Ok(()) => Ok(Line::Place(side, tag, index.sign, index.tag)),
+            },
         },
     }
 }
@@ -269,11 +246,9 @@ fn read_field_place(side: Side, store: &mut Store, fields: &mut Fields) -> Resul
             Err(error) => Err(error),
             Ok(label) => match fields.index() {
                 None => Err(LineError::Bad),
-                Some(index) => match store.push(index.number) {
+                Some(index) => match store.push_two(u64::from(label.len), index.number) {
                     Err(error) => Err(error),
-                    Ok(()) => Ok(Line::FieldPlace(
-                        side, tag, label.tag, index.sign, index.tag, label.len,
-                    )),
+                    Ok(()) => Ok(Line::FieldPlace(side, tag, label.tag, index.sign, index.tag)),
                 },
             },
         },

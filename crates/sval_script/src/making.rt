@@ -1,7 +1,6 @@
 //! The calls that lines make.
 
-ghost use Rattle.std.specs.Prelude.{◌≡◌, ℕ, List, ◌≤◌, option_map, length};
-ghost use Rattle.std.specs.Str.{IsUtf8};
+ghost use Rattle.std.specs.Prelude.{◌≡◌, ℕ, List, option_map, drop};
 ghost use Rattle.sval_label.specs.Made.{call_of};
 ghost use Rattle.sval_label.specs.SeenIndex.{seen_index};
 ghost use Rattle.sval_label.specs.SeenName.{seen_name};
@@ -11,12 +10,12 @@ ghost use Rattle.sval_core.specs.Law.{Answers};
 ghost use Rattle.sval_script.specs.Tags.{tag_of, tag_text};
 ghost use Rattle.sval_script.specs.FieldValues.{index_of, made_label, index_from, label_from};
 ghost use Rattle.sval_script.specs.NextFields.{name_from};
-ghost use Rattle.sval_script.specs.Words.{alone_call, opening_call, named_call, head_of, part_call};
-ghost use Rattle.sval_script.specs.LineCalls.{own_count, wide, call_with, HasText};
+ghost use Rattle.sval_script.specs.Words.{alone_call, opening_call, is_kept, named_call, head_of, part_call};
+ghost use Rattle.sval_script.specs.LineCalls.{own_count, next_len, next_call, HoldsNext};
 
 use crate::field::{IndexField, IndexRead, LabelField, Sign};
-use crate::fields::NameFields;
 use crate::line::Line;
+use crate::store::{Left, NameLeft};
 use crate::tag::TagField;
 use crate::word::{Alone, Lifetime, Named, NamedOpening, Opening, Side};
 use sval_core::{Lent, Result, Stream};
@@ -173,6 +172,28 @@ fn make_opening<L: Lending, S: Stream<L>>(
     stream.take(opening.call(size))
 }
 
+/// Makes the fragment of a text.
+fn make_text<'v, S: Stream<Lent<'v>>>(life: Lifetime, text: &'v str, stream: &mut S) -> Result
+    ensures { Answers S.law result (S.standing stream.old)
+        (call.TextFragment (is_kept life) text.now) (S.standing stream.new) }
+{
+    match life {
+        Lifetime::Borrowed => stream.text_fragment(text),
+        Lifetime::Computed => stream.text_fragment_computed(text),
+    }
+}
+
+/// Makes the fragment of a binary.
+fn make_binary<'v, S: Stream<Lent<'v>>>(life: Lifetime, bytes: &'v [u8], stream: &mut S) -> Result
+    ensures { Answers S.law result (S.standing stream.old)
+        (call.BinaryFragment (is_kept life) bytes.now) (S.standing stream.new) }
+{
+    match life {
+        Lifetime::Borrowed => stream.binary_fragment(bytes),
+        Lifetime::Computed => stream.binary_fragment_computed(bytes),
+    }
+}
+
 /// Makes the hint of this tag.
 fn make_tag_hint<L: Lending, S: Stream<L>>(tag: TagField, stream: &mut S) -> Result
     ensures { Answers S.law result (S.standing stream.old)
@@ -182,19 +203,13 @@ fn make_tag_hint<L: Lending, S: Stream<L>>(tag: TagField, stream: &mut S) -> Res
 }
 
 /// Makes the call with this name.
-fn make_named<L: Lending, S: Stream<L>>(
-    word: Named,
-    parts: NameFields,
-    text: &str,
-    number: u64,
-    stream: &mut S,
-) -> Result
+fn make_named<L: Lending, S: Stream<L>>(word: Named, name: NameLeft<'_>, stream: &mut S) -> Result
     ensures { Answers S.law result (S.standing stream.old)
-        (named_call word (name_from parts text.now number)) (S.standing stream.new) }
+        (named_call word (name_from name.entry.parts name.entry.text.now name.entry.number)) (S.standing stream.new) }
 {
-    let tag = parts.tag.tag();
-    let label = parts.label.label(text);
-    let index = parts.index.index(number);
+    let tag = name.parts.tag.tag();
+    let label = name.parts.label.label(name.text);
+    let index = name.parts.index.index(name.number);
     let name = Name {
         tag: tag.as_ref(),
         label: label.as_ref(),
@@ -207,18 +222,17 @@ fn make_named<L: Lending, S: Stream<L>>(
 #[inline(always)]
 fn make_named_opening<L: Lending, S: Stream<L>>(
     word: NamedOpening,
-    parts: NameFields,
-    text: &str,
-    number: u64,
+    name: NameLeft<'_>,
     size: Option<usize>,
     stream: &mut S,
 ) -> Result
     ensures { Answers S.law result (S.standing stream.old)
-        (call.Begin (head_of word (name_from parts text.now number)) size) (S.standing stream.new) }
+        (call.Begin (head_of word (name_from name.entry.parts name.entry.text.now name.entry.number)) size)
+        (S.standing stream.new) }
 {
-    let tag = parts.tag.tag();
-    let label = parts.label.label(text);
-    let index = parts.index.index(number);
+    let tag = name.parts.tag.tag();
+    let label = name.parts.label.label(name.text);
+    let index = name.parts.index.index(name.number);
     let name = Name {
         tag: tag.as_ref(),
         label: label.as_ref(),
@@ -277,35 +291,14 @@ fn make_field_place<L: Lending, S: Stream<L>>(
     stream.take(side.call(Slot::FieldPlace(tag.as_ref(), &label, &index)))
 }
 
-/// The text that bytes are.
-pub(crate) fn text(bytes: &[u8]) -> &str
-    requires { IsUtf8 bytes.now }
-    ensures { result.now ≡ bytes.now }
-{
-    // SAFETY: they are UTF-8, as required.
-    unsafe { std::str::from_utf8_unchecked(bytes) }
-}
-
-/// The number of 128 bits that two numbers are, the upper one first.
-fn wide(numbers: &[u64]) -> u128
-    requires { 2 ≤ length numbers.now }
-    ensures { result ≡ wide numbers.now }
-{
-    u128::from(numbers[0]) * (1 << 64) + u128::from(numbers[1])
-}
-
 impl Line {
-    /// Makes the call, of which these are the bytes and numbers.
-    pub(crate) fn make<'v, S: Stream<Lent<'v>>>(
-        self,
-        bytes: &'v [u8],
-        numbers: &[u64],
-        stream: &mut S,
-    ) -> Result
-        requires text { HasText self bytes.now }
-        requires count { length numbers.now ≡ own_count self }
-        ensures { Answers S.law result (S.standing stream.old)
-            (call_with bytes.now numbers.now self) (S.standing stream.new) }
+    /// Makes the call, and takes what is its own from the front of what is left.
+    pub(crate) fn make<'v, S: Stream<Lent<'v>>>(self, left: &mut Left<'v>, stream: &mut S) -> Result
+        requires { HoldsNext left.old.bytes.now left.old.numbers.now self }
+        ensures call { Answers S.law result (S.standing stream.old)
+            (next_call left.old.bytes.now left.old.numbers.now self) (S.standing stream.new) }
+        ensures bytes { left.new.bytes.now ≡ drop (next_len self left.old.numbers.now) left.old.bytes.now }
+        ensures numbers { left.new.numbers.now ≡ drop (own_count self) left.old.numbers.now }
     {
         match self {
             Line::Alone(word) => make_alone(word, stream),
@@ -313,36 +306,40 @@ impl Line {
             Line::U8(number) => stream.u8(number),
             Line::U16(number) => stream.u16(number),
             Line::U32(number) => stream.u32(number),
-            Line::U64(number) => stream.u64(number),
-            Line::U128 => stream.u128(wide(numbers)),
+            Line::U64 => stream.u64(left.number()),
+            Line::U128 => stream.u128(left.wide()),
             Line::I8(number) => stream.i8(number),
             Line::I16(number) => stream.i16(number),
             Line::I32(number) => stream.i32(number),
-            Line::I64(number) => stream.i64(number),
-            Line::I128 => stream.i128(wide(numbers).cast_signed()),
+            Line::I64 => stream.i64(left.number().cast_signed()),
+            Line::I128 => stream.i128(left.wide().cast_signed()),
             Line::Opening(opening) => make_opening(opening, None, stream),
-            Line::SizedOpening(opening, size) => make_opening(opening, Some(size), stream),
-            Line::TextFragment(Lifetime::Borrowed, _) => stream.text_fragment(text(bytes)),
-            Line::TextFragment(Lifetime::Computed, _) => stream.text_fragment_computed(text(bytes)),
-            Line::BinaryFragment(Lifetime::Borrowed, _) => stream.binary_fragment(bytes),
-            Line::BinaryFragment(Lifetime::Computed, _) => stream.binary_fragment_computed(bytes),
+            Line::SizedOpening(opening) => make_opening(opening, left.size(), stream),
+            Line::TextFragment(life, len) => make_text(life, left.text(len as usize), stream),
+            Line::BinaryFragment(life, len) => make_binary(life, left.bytes(len as usize), stream),
             Line::TagHint(tag) => make_tag_hint(tag, stream),
-            Line::Named(word, parts, _) => make_named(word, parts, text(bytes), numbers[0], stream),
-            Line::NamedOpening(word, parts, _) => {
-                make_named_opening(word, parts, text(bytes), numbers[0], None, stream)
+            Line::Named(word, parts) => make_named(word, left.name(parts), stream),
+            Line::NamedOpening(word, parts) => {
+                make_named_opening(word, left.name(parts), None, stream)
             }
-            Line::SizedNamedOpening(word, parts, _) => {
-                let size = Some(numbers[1] as usize);
-                make_named_opening(word, parts, text(bytes), numbers[0], size, stream)
+            Line::SizedNamedOpening(word, parts) => {
+                let name = left.name(parts);
+                make_named_opening(word, name, left.size(), stream)
             }
-            Line::Field(side, tag, label, _) => make_field(side, tag, label, text(bytes), stream),
-            Line::Place(side, part_tag, sign, tag, number) => {
+            Line::Field(side, tag, label, len) => {
+                let text = left.text(len as usize);
+                make_field(side, tag, label, text, stream)
+            }
+            Line::Place(side, part_tag, sign, tag) => {
+                let number = left.number();
                 make_place(side, part_tag, IndexRead { sign, tag, number }, stream)
             }
-            Line::FieldPlace(side, part_tag, label, sign, tag, _) => {
-                let number = numbers[0];
+            Line::FieldPlace(side, part_tag, label, sign, tag) => {
+                let own = left.numbers(2);
+                let text = left.text(own[0] as usize);
+                let number = own[1];
                 let index = IndexRead { sign, tag, number };
-                make_field_place(side, part_tag, label, text(bytes), index, stream)
+                make_field_place(side, part_tag, label, text, index, stream)
             }
         }
     }

@@ -9,7 +9,7 @@ ghost use Rattle.sval_label.specs.Texts as label;
 ghost use Rattle.sval_script.specs.Lines as script;
 ghost use Rattle.sval_script.specs.Words.{type_of};
 
-use crate::making::text;
+use crate::store::text;
 use crate::word::NumberType;
 use sval_label::Int;
 

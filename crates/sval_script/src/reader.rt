@@ -166,7 +166,8 @@ impl ScriptReader {
     /// # Errors
     ///
     /// [`ScriptError::BadLine`] with the number of the first line that spells no call, or that no line feed ends.
-    /// [`ScriptError::NoMemory`] where memory was wanting for a piece.
+    /// [`ScriptError::NoMemory`] where memory was wanting for a piece, or where a field spells a text or a binary of 4 GiB
+    /// or more.
     pub fn finish(self) -> Result<Script, ScriptError>
         ensures answer { result ≡ answer_with self [] }
         ensures few { IfOk result (λ script. length script < 2 ^ 64) }

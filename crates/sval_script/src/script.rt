@@ -9,7 +9,7 @@ ghost use Rattle.sval_script.specs.declared.script.ScriptError.TheVariants as er
 
 use crate::line::Line;
 use crate::reader::ScriptReader;
-use crate::store::Store;
+use crate::store::{Left, Store};
 use std::alloc::{AllocError, AllocFailed, Global};
 use std::marker::Model;
 use sval_core::{Lent, Stream, Value};
@@ -19,7 +19,7 @@ use sval_core::{Lent, Stream, Value};
 pub enum ScriptError {
     /// This line, counted from 1, is the first that spells no call.
     BadLine { line: u64 },
-    /// There was no memory for the script.
+    /// There was no memory for the script, or one of its texts or binaries has 4 GiB or more.
     NoMemory,
 }
 
@@ -42,7 +42,7 @@ impl From<AllocError> for ScriptError {
 /// A script that was read: the calls of its lines, in order.
 ///
 /// It is a value, which makes these calls, lends its texts and bytes and never refuses. What finds no place in a line
-/// of 16 bytes stands beside the lines, decoded, in the order of the lines.
+/// of 8 bytes stands beside the lines, decoded, in the order of the lines.
 #[derive(Drop)]
 pub struct Script {
     pub(crate) lines: Vec<Line>,
@@ -74,8 +74,8 @@ impl Script {
     /// # Errors
     ///
     /// [`ScriptError::BadLine`] with the number of the first line that spells no call, or that no line feed ends.
-    /// [`ScriptError::NoMemory`] where there was no memory for the lines or their texts, and never for an empty script.
-    /// Each answer comes wherever it is due, unless memory is wanting.
+    /// [`ScriptError::NoMemory`] where there was no memory for the lines or their texts, or where a field spells a text or
+    /// a binary of 4 GiB or more, and never for an empty script. Each answer comes wherever it is due, unless that is so.
     pub fn read(alloc: Global, bytes: &[u8]) -> Result<Script, ScriptError>
         ensures ok { IfOk result (λ script. spec.lines bytes.now ≡ Good script) }
         ensures few { IfOk result (λ script. length script < 2 ^ 64) }
@@ -100,14 +100,12 @@ impl<'v> Value<'v, Lent<'v>> for Script {
     ghost emission = { makes };
 
     fn stream<S: Stream<Lent<'v>>>(&'v self, stream: &mut S) -> sval_core::Result {
-        let mut bytes = self.store.bytes.as_slice();
-        let mut numbers = self.store.numbers.as_slice();
+        let mut left = Left {
+            bytes: self.store.bytes.as_slice(),
+            numbers: self.store.numbers.as_slice(),
+        };
         for line in &self.lines {
-            let (own_bytes, bytes_left) = bytes.split_at(line.own_len());
-            let (own_numbers, numbers_left) = numbers.split_at(line.own_count());
-            line.make(own_bytes, own_numbers, stream)?;
-            bytes = bytes_left;
-            numbers = numbers_left;
+            line.make(&mut left, stream)?;
         }
         Ok(())
     }

@@ -333,5 +333,5 @@ fn makes_calls_with_names(rt: HostRuntime) -> Result<(), Fail> {
 /// A script of short lines takes little more memory than its calls.
 #[test]
 fn lines_are_small(rt: HostRuntime) {
-    assert_eq!(rt; size_of::<Line>(), 16);
+    assert_eq!(rt; size_of::<Line>(), 8);
 }

@@ -1,7 +1,7 @@
-use Rattle.std.proofs.Common.{rules, arith, ◌≡◌, ◌-◌, ◌∙◌, ap, refl, subst, take, drop, length, get_or}
+use Rattle.std.proofs.Common.{rules, ◌≡◌, ◌-◌, ◌∙◌, ap, refl, subst, take, drop, length, get_or}
 use Rattle.std.proofs.lemmas.List.{take_rest, length-drop}
 use Rattle.sval_script.specs.FieldValues.{StoresText}
-use Rattle.sval_script.proofs.FieldTexts.{text_stored, text_refused}
+use Rattle.sval_script.proofs.FieldTexts.{answered, text_stored, text_refused}
 use Rattle.sval_script.proofs.field.store_text.Goals as goal
 
 pub returns-then-is_text-clause-stored : goal.returns-then-is_text-clause-stored
@@ -12,9 +12,10 @@ returns-then-is_text-clause-stored c =
     let part = take (length stored - start) (drop start stored) in
     let size : length part ≡ c.len.result - start =
     ap length (take_rest stored start) ∙ length-drop start stored ∙ ap (λ n. n - start) (c.deref.ensures.len ∙ search rules) in
-    subst (StoresText c.args.field.now c.args.store.now.items c.decode.new.store.items) size
-    (text_stored c.args.field.now _ _ c.decode.new.store.items stored part start h refl
-    c.in_ok-decode.ensures.decoded (search rules) c.deref.ensures.value refl c.if-is_text.ensures)
+    let StoresLen = StoresText c.args.field.now c.args.store.now.items c.decode.new.store.items in
+    let whole = text_stored c.args.field.now _ _ c.decode.new.store.items stored part start h refl
+    c.in_ok-decode.ensures.decoded (search rules) c.deref.ensures.value refl c.if-is_text.ensures in
+    answered StoresLen (c.len.result - start) c.kept_len.result (subst StoresLen size whole) c.kept_len.ensures.same
 
 pub returns-else-is_text-clause-bad : goal.returns-else-is_text-clause-bad
 returns-else-is_text-clause-bad c =

@@ -1,4 +1,4 @@
-use Rattle.std.proofs.Common.{◌≡◌, ◌∷◌, [], Err, ap, ◌∙◌, refl}
+use Rattle.std.proofs.Common.{arith, ◌≡◌, ◌∷◌, [], Err, ap, ◌∙◌, refl}
 use Rattle.sval_label.specs.Calls as call
 use Rattle.sval_script.specs.Lines.{complete, field, label, index}
 use Rattle.sval_script.specs.FieldValues.{made_label}
@@ -17,20 +17,20 @@ returns-in-None-index-clause-bad c = λ _.
     c.in-Some.ensures (λ t. field label (λ l. field index (λ i. complete (part_call c.args.side (call.FieldPlace t l i)))))
     ∙ c.in-Ok.ensures.stored.spells (λ l. field index (λ i. complete (part_call c.args.side (call.FieldPlace (tag_of c.in-Some.tag) l i)))) ∙ c.in-None-index.ensures _
 
-pub returns-in-Ok-push-clause-made : goal.returns-in-Ok-push-clause-made
-returns-in-Ok-push-clause-made c =
+pub returns-in-Ok-push_two-clause-made : goal.returns-in-Ok-push_two-clause-made
+returns-in-Ok-push_two-clause-made c =
     let s = c.in-Ok.ensures.stored in
     record {
       bytes = s.bytes;
-      numbers = c.in-Some-index.index.number ∷ [];
+      numbers = c.from.result ∷ c.in-Some-index.index.number ∷ [];
       spells = c.in-Some.ensures (λ t. field label (λ l. field index (λ i. complete (part_call c.args.side (call.FieldPlace t l i)))))
           ∙ s.spells (λ l. field index (λ i. complete (part_call c.args.side (call.FieldPlace (tag_of c.in-Some.tag) l i))))
           ∙ c.in-Some-index.ensures (λ i. complete (part_call c.args.side (call.FieldPlace (tag_of c.in-Some.tag) (made_label c.in-Ok.label.tag s.bytes) i)));
       puts = record {
         has_text = s.is_good;
-        bytes_stored = c.in-Ok-push.ensures.bytes ∙ s.stored;
-        numbers_stored = c.in-Ok-push.ensures.numbers;
-        has_len = s.has_len;
+        bytes_stored = c.in-Ok-push_two.ensures.bytes ∙ s.stored;
+        numbers_stored = c.in-Ok-push_two.ensures.numbers;
+        has_len = omega (arith, s.has_len, c.from.ensures);
         has_count = refl;
       };
     }

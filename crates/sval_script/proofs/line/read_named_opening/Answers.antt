@@ -1,9 +1,12 @@
-use Rattle.std.proofs.Common.{◌≡◌, ◌∷◌, [], ◌++◌, Err, ap, ◌∙◌, append_assoc, refl}
+use Rattle.std.proofs.Common.{arith, ℕ, Option, ◌≡◌, ◌∷◌, [], ◌++◌, Err, Some, None, ap, sym, ◌∙◌, append-nil, refl}
 use Rattle.sval_label.specs.Calls as call
-use Rattle.sval_script.specs.Lines.{complete, field, size}
+use Rattle.sval_label.specs.Calls.{Name}
+use Rattle.sval_script.specs.Lines.{LineForm, complete, field, size}
 use Rattle.sval_script.specs.NextFields.{call_before, name_from}
+use Rattle.sval_script.specs.NameNumbers.{name_numbers, name_with}
 use Rattle.sval_script.specs.Words.{head_of}
 use Rattle.sval_script.specs.declared.field.LineError.TheVariants.{Bad}
+use Rattle.sval_script.proofs.NamesMade.{has_name, behind_name, name_put}
 use Rattle.sval_script.proofs.line.read_named_opening.Goals as goal
 
 pub returns-in-Err-clause-bad : goal.returns-in-Err-clause-bad
@@ -18,35 +21,29 @@ returns-in-None-clause-bad c = λ _.
 pub returns-in-Some-None-clause-made : goal.returns-in-Some-None-clause-made
 returns-in-Some-None-clause-made c =
     let name = c.in-Ok.ensures.stored in
-    let head = head_of c.args.opening (name_from c.in-Ok.name.parts name.text c.in-Ok.name.number) in
+    let begin : Name → Option ℕ → LineForm = λ n s. complete (call.Begin (head_of c.args.opening n) s) in
     record {
       bytes = name.text;
-      numbers = c.in-Ok.name.number ∷ [];
-      spells = name.spells (λ n. field size (λ s. complete (call.Begin (head_of c.args.opening n) s)))
-          ∙ c.in-Some-None.ensures (λ s. complete (call.Begin head s)) ∙ ap (λ s. call_before (complete (call.Begin head s)) c.size.new.self) c.in-Some-None.field-0-is;
-      puts = record {
-        has_text = name.is_text;
-        bytes_stored = c.in-Ok-push.ensures.bytes ∙ name.stored;
-        numbers_stored = c.in-Ok-push.ensures.numbers;
-        has_len = name.has_len;
-        has_count = refl;
-      };
+      numbers = name_numbers c.in-Ok.name ++ [];
+      spells = name.spells (λ n. field size (begin n)) ∙ c.in-Some-None.ensures (begin (name_from c.in-Ok.name.parts name.text c.in-Ok.name.number))
+          ∙ ap (λ s. call_before (begin (name_from c.in-Ok.name.parts name.text c.in-Ok.name.number) s) c.size.new.self) c.in-Some-None.field-0-is
+          ∙ ap (λ n. call_before (begin n None) c.size.new.self) (sym (has_name c.in-Ok.name name.text []));
+      puts = name_put c.in-Ok.name name.text [] _ _ _ name.is_text name.has_len (c.in-Ok-push_name.ensures.bytes ∙ name.stored) (c.in-Ok-push_name.ensures.numbers ∙ sym (append-nil _)) (λ numbers. refl)
+          (omega arith) (λ text. text);
     }
 
-pub returns-in-Ok-push-2-clause-made : goal.returns-in-Ok-push-2-clause-made
-returns-in-Ok-push-2-clause-made c =
+pub returns-in-Ok-push-clause-made : goal.returns-in-Ok-push-clause-made
+returns-in-Ok-push-clause-made c =
     let name = c.in-Ok.ensures.stored in
-    let head = head_of c.args.opening (name_from c.in-Ok.name.parts name.text c.in-Ok.name.number) in
+    let n = c.in-Some-Some.size in
+    let begin : Name → Option ℕ → LineForm = λ n s. complete (call.Begin (head_of c.args.opening n) s) in
     record {
       bytes = name.text;
-      numbers = c.in-Ok.name.number ∷ c.in-Some-Some.size ∷ [];
-      spells = name.spells (λ n. field size (λ s. complete (call.Begin (head_of c.args.opening n) s)))
-          ∙ c.in-Some-Some.ensures (λ s. complete (call.Begin head s)) ∙ ap (λ s. call_before (complete (call.Begin head s)) c.size.new.self) c.in-Some-Some.field-0-is;
-      puts = record {
-        has_text = name.is_text;
-        bytes_stored = c.in-Ok-push-2.ensures.bytes ∙ c.in-Ok-push.ensures.bytes ∙ name.stored;
-        numbers_stored = c.in-Ok-push-2.ensures.numbers ∙ ap (λ ns. ns ++ (c.in-Some-Some.size ∷ [])) c.in-Ok-push.ensures.numbers ∙ append_assoc c.args.store.now.numbers.items (c.in-Ok.name.number ∷ []) (c.in-Some-Some.size ∷ []);
-        has_len = name.has_len;
-        has_count = refl;
-      };
+      numbers = name_numbers c.in-Ok.name ++ (n ∷ []);
+      spells = name.spells (λ n. field size (begin n)) ∙ c.in-Some-Some.ensures (begin (name_from c.in-Ok.name.parts name.text c.in-Ok.name.number))
+          ∙ ap (λ s. call_before (begin (name_from c.in-Ok.name.parts name.text c.in-Ok.name.number) s) c.size.new.self) c.in-Some-Some.field-0-is
+          ∙ ap (λ name. call_before (begin name (Some n)) c.size.new.self) (sym (has_name c.in-Ok.name name.text (n ∷ [])))
+          ∙ ap (λ s. call_before (begin (name_with c.in-Ok.name.parts name.text (name_numbers c.in-Ok.name ++ (n ∷ []))) (Some s)) c.size.new.self) (sym (behind_name c.in-Ok.name n));
+      puts = name_put c.in-Ok.name name.text (n ∷ []) _ _ _ name.is_text name.has_len (c.in-Ok-push.ensures.bytes ∙ c.in-Ok-push_name.ensures.bytes ∙ name.stored)
+          (c.in-Ok-push.ensures.numbers ∙ ap (λ ns. ns ++ (n ∷ [])) c.in-Ok-push_name.ensures.numbers) (λ numbers. refl) refl (λ text. text);
     }

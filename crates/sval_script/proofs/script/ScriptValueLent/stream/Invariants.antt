@@ -4,4 +4,4 @@ use Rattle.sval_script.proofs.script.ScriptValueLent.stream.Given as goal
 
 abbrev pub invariant-loop-line : goal.invariant-loop-line
 invariant-loop-line g l = IsStreamedUpTo g.S.Stream.law (g.S.Stream.standing l.initial.stream) (g.S.Stream.standing l.stream)
-    l.self l.bytes l.numbers (drop l.line-index l.line-items)
+    l.self l.left.bytes.now l.left.numbers.now (drop l.line-index l.line-items)
