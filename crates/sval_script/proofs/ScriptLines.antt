@@ -1,9 +1,8 @@
 -- The lines of a script, from the first one on.
-use Rattle.std.specs.Prelude.{◌≡◌, ℕ, ◌+◌, ◌≤◌, ◌<◌, Bool, true, false, ◌==◌, if◌then◌else◌, List, [], ◌∷◌, ◌++◌, Option, Some, None, MatchOption, option_map, length, refl}
+use Rattle.std.specs.Prelude.{◌≡◌, ℕ, ◌+◌, ◌<◌, Bool, true, false, ◌==◌, if◌then◌else◌, List, [], ◌∷◌, ◌++◌, Option, Some, None, MatchOption, option_map, length, refl}
 use Rattle.std.proofs.Common.{arith, sym, ap, ◌∙◌, append_assoc}
-use Rattle.std.proofs.lemmas.List.{length-append}
 use Rattle.sval_label.specs.Calls.{Call}
-use Rattle.sval_script.specs.Lines.{Lines, Good, Bad, line_of, call_of_fields, with_call, after_last, lines_from, lines, cut_at}
+use Rattle.sval_script.specs.Lines.{Lines, Good, Bad, line_of, call_of_fields, with_call, after_last, lines_from, cut_at}
 use Rattle.sval_script.specs.Fields.{cut_line}
 use Rattle.sval_script.specs.NextFields.{call_before, first_call}
 use Rattle.sval_script.specs.Readings.{after_calls}

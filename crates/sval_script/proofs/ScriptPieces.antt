@@ -1,15 +1,15 @@
 -- What reading a script in pieces knows at each line feed.
-use Rattle.std.specs.Prelude.{◌≡◌, ℕ, ◌+◌, ◌≤◌, ◌<◌, ⊤, Bool, true, false, ◌==◌, if◌then◌else◌, List, [], ◌∷◌, ◌++◌, Option, Some, None, option_map, length, refl, Err}
-use Rattle.std.proofs.Common.{arith, rules, sym, ap, ◌∙◌, append_assoc}
+use Rattle.std.specs.Prelude.{◌≡◌, ℕ, ◌+◌, ◌<◌, Bool, true, false, ◌==◌, if◌then◌else◌, List, [], ◌∷◌, ◌++◌, Option, Some, None, option_map, length, refl}
+use Rattle.std.proofs.Common.{arith, sym, ap, ◌∙◌, append_assoc}
 use Rattle.std.proofs.lemmas.List.{length-append, append-nil}
 use Rattle.sval_label.specs.Calls.{Call}
-use Rattle.sval_script.specs.Lines.{Lines, Good, Bad, line_of, call_of_fields, with_call, lines_from, lines, cut_at}
+use Rattle.sval_script.specs.Lines.{Bad, line_of, call_of_fields, lines_from, lines, cut_at}
 use Rattle.sval_script.specs.Fields.{cut_line}
-use Rattle.sval_script.specs.NextFields.{call_before, first_call}
-use Rattle.sval_script.specs.LineCalls.{Stored, stored, call_with, calls_with, HoldsLines}
+use Rattle.sval_script.specs.NextFields.{first_call}
+use Rattle.sval_script.specs.LineCalls.{Stored, stored, call_with}
 use Rattle.sval_script.specs.MadeLines.{IsMade}
 use Rattle.sval_script.specs.Readings.{after_calls, lines_after}
-use Rattle.sval_script.specs.ReadLines.{calls_of, lines_with, Holds, EndsLine, ReadsOn, IsFirstBad, IsRead, EndsIn, Takes}
+use Rattle.sval_script.specs.ReadLines.{calls_of, lines_with, Holds, EndsLine, ReadsOn, IsFirstBad, EndsIn}
 use Rattle.sval_script.specs.declared.reader.ReadLines.{ReadLines}
 use Rattle.sval_script.specs.declared.script.ScriptError.{ScriptError}
 use Rattle.sval_script.specs.declared.line.Line.{Line}

@@ -1,5 +1,5 @@
 -- The lines of a script that were read, and the one that is begun.
-use Rattle.std.specs.Prelude.{◌≡◌, ⊤, ℕ, List, [], ◌∷◌, ◌++◌, Option, Some, None}
+use Rattle.std.specs.Prelude.{◌≡◌, ⊤, ℕ, List, [], ◌∷◌, ◌++◌, None}
 use Rattle.sval_label.specs.Calls.{Call}
 use Rattle.sval_script.specs.Lines.{Lines, Bad}
 use Rattle.sval_script.specs.Fields.{cut_line}

@@ -1,5 +1,5 @@
 -- What reading a script answers.
-use Rattle.std.specs.Prelude.{◌≡◌, ◌⊎◌, ℕ, ◌+◌, List, [], ◌∷◌, ◌++◌, length, Option, Some, None, Result, Ok, Err}
+use Rattle.std.specs.Prelude.{◌≡◌, ◌⊎◌, ℕ, ◌+◌, List, ◌++◌, length, Option, Some, None, Result, Ok, Err}
 use Rattle.sval_label.specs.Calls.{Call}
 use Rattle.sval_script.specs.Lines.{Lines, Good, Bad, line_of, lines_from, cut_at}
 use Rattle.sval_script.specs.declared.script.ScriptError.{ScriptError}

@@ -111,7 +111,7 @@ impl ReadLines {
 /// reader.push(b"text_begin -\ntext_frag");
 /// reader.push(b"ment =6869\ntext_end\n");
 /// let script = reader.finish()?;
-/// assert_eq!(script.line_count(), 3);
+/// assert_eq!(rt; script.line_count(), 3);
 /// ```
 #[derive(Drop)]
 pub struct ScriptReader {

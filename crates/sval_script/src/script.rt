@@ -68,7 +68,7 @@ impl Script {
     ///
     /// ```
     /// let script = Script::read(alloc, b"text_begin -\ntext_fragment =6869\ntext_end\n")?;
-    /// assert_eq!(script.line_count(), 3);
+    /// assert_eq!(rt; script.line_count(), 3);
     /// ```
     ///
     /// # Errors

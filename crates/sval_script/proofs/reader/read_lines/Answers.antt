@@ -1,7 +1,6 @@
-use Rattle.std.proofs.Common.{rules, arith, ◌≡◌, ◌+◌, ◌<◌, [], length, Err, ap, subst, sym, refl, ◌∙◌}
-use Rattle.sval_script.specs.Lines.{Bad}
+use Rattle.std.proofs.Common.{rules, arith, ◌≡◌, ◌+◌, ◌<◌, [], length, Err, ap, refl, ◌∙◌}
 use Rattle.sval_script.specs.LineCalls.{stored}
-use Rattle.sval_script.proofs.ScriptPieces.{IsReadUpTo, read-start, read-step, read-shorter, read-bad, none}
+use Rattle.sval_script.proofs.ScriptPieces.{read-start, read-step, read-shorter, read-bad, none}
 use Rattle.sval_script.proofs.reader.read_lines.Goals as goal
 
 pub loop-rest-init : goal.loop-rest-init

@@ -1,9 +1,9 @@
-use Rattle.std.proofs.Common.{rules, arith, ◌≡◌, [], ◌+◌, ◌++◌, ◌∙◌, append_assoc, ap, sym, take, drop}
+use Rattle.std.proofs.Common.{◌≡◌, ◌+◌, ◌++◌, ◌∙◌, append_assoc, ap, sym, take, drop}
 use Rattle.std.proofs.lemmas.List.{take-append-drop}
 use Rattle.std.proofs.lemmas.Result.{err_from_is_err_and}
 use Rattle.sval_script.specs.LineCalls.{stored}
 use Rattle.sval_script.specs.Readings.{lines_after}
-use Rattle.sval_script.specs.ReadLines.{calls_of, EndsLine}
+use Rattle.sval_script.specs.ReadLines.{calls_of}
 use Rattle.sval_script.proofs.ScriptPieces.{bad-more}
 use Rattle.sval_script.proofs.WholeLines.{up_to_feed, has_feed, ends-drop, ends-more}
 use Rattle.sval_script.proofs.reader.ReadLines.end_line.Goals as goal

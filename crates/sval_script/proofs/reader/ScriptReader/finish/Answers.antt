@@ -1,6 +1,5 @@
-use Rattle.std.proofs.Common.{rules, arith, ◌≡◌, ◌+◌, ◌<◌, length, ap, sym, ◌∙◌, refl}
+use Rattle.std.proofs.Common.{rules, arith, ◌≡◌, ◌<◌, length}
 use Rattle.sval_script.specs.LineCalls.{stored}
-use Rattle.sval_script.specs.Readings.{answer_to, answer_unless, lines_after}
 use Rattle.sval_script.specs.ReadLines.{calls_of}
 use Rattle.sval_script.proofs.ScriptTexts.{length-calls_with}
 use Rattle.sval_script.proofs.ScriptPieces.{never-ends}
