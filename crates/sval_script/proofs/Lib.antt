@@ -2,6 +2,7 @@ pub mod Cut
 pub mod PrintedFields
 pub mod PrintedLines
 pub mod CanonicalScripts
+pub mod RealScripts
 pub mod Tables
 pub mod WordTable
 pub mod TagTable

@@ -1,9 +1,9 @@
 -- The laws of scripts, as facts.
-use Rattle.std.specs.Prelude.{◌≡◌, List, flat_map}
+use Rattle.std.specs.Prelude.{◌≡◌, ℕ, List, flat_map}
 use Rattle.std.specs.List.{AllByRecursion}
 use Rattle.sval_label.specs.Calls.{Call}
 use Rattle.sval_core.specs.Trees.{Tree, calls_of}
-use Rattle.sval_core.specs.Real.{IsPrintable}
+use Rattle.sval_core.specs.Real.{IsRealCall, IsPrintable}
 use Rattle.sval_script.specs.Lines.{lines, Good}
 use Rattle.sval_script.specs.Printed.{printed, ArePrintable}
 use Rattle.sval_script.specs.Canon.{canon, canon_all}
@@ -28,3 +28,7 @@ CanonsReadBack = (trees : List Tree) → AllByRecursion IsPrintable trees → li
 abbrev pub CanonsAreOfOneList : Type 0
 CanonsAreOfOneList =
     (trees others : List Tree) → AllByRecursion IsPrintable trees → AllByRecursion IsPrintable others → canon_all trees ≡ canon_all others → trees ≡ others
+
+-- the calls of a script are real
+abbrev pub ScriptsAreReal : Type 0
+ScriptsAreReal = (script : List ℕ) (calls : List Call) → lines script ≡ Good calls → AllByRecursion IsRealCall calls

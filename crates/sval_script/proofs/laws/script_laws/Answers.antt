@@ -1,5 +1,6 @@
 use Rattle.sval_script.proofs.laws.script_laws.Goals as goal
 use Rattle.sval_script.proofs.PrintedLines.{lines-printed}
+use Rattle.sval_script.proofs.RealScripts.{scripts-real}
 use Rattle.sval_script.proofs.CanonicalScripts.{canon-reads_back, canon-one_tree, canons-read_back, canons-one_list}
 
 pub returns-clause-printed_lines_read_back : goal.returns-clause-printed_lines_read_back
@@ -16,3 +17,6 @@ returns-clause-canonical_scripts_read_back c = canons-read_back
 
 pub returns-clause-canonical_scripts_are_of_one_list : goal.returns-clause-canonical_scripts_are_of_one_list
 returns-clause-canonical_scripts_are_of_one_list c = canons-one_list
+
+pub returns-clause-scripts_are_real : goal.returns-clause-scripts_are_real
+returns-clause-scripts_are_real c = scripts-real
