@@ -6,6 +6,7 @@ use Rattle.sval_label.specs.Calls.{Call}
 use Rattle.sval_core.specs.Law.{Emission, Rose}
 use Rattle.sval_core.specs.Spells.{Spells}
 use Rattle.sval_core.specs.Trees.{Tree}
+use Rattle.sval_core.proofs.RealTrees.{real_calls-real_tree}
 use Rattle.sval_check.specs.Checks.{IsFirstBad, IsUnfinished, NeedsMemory}
 use Rattle.sval_json.specs.declared.sink.SinkError.{SinkError}
 use Rattle.sval_json.specs.declared.sink.SinkError.TheVariants as sink
@@ -19,6 +20,7 @@ use Rattle.sval_script.specs.declared.script.ScriptError.{ScriptError}
 use Rattle.sval_script.specs.declared.script.ScriptError.TheVariants as reading
 use Rattle.sval_script.specs.Lines.{Lines, Good, Bad, lines}
 use Rattle.sval_script.specs.Readings.{Reading, answer_to, answer_with}
+use Rattle.sval_script.proofs.RealScripts.{scripts-real}
 use Rattle.sval_relay.specs.declared.way.Way.{Way}
 use Rattle.sval_relay.specs.declared.relaying.RelayError.{RelayError}
 use Rattle.sval_relay.specs.declared.relaying.RelayError.TheVariants as answer
@@ -154,7 +156,11 @@ writes_text script way calls tree is spells done = record {
 }
 
 writes_value : {old new : Told} (script : List ℕ) (way : Way) (calls : List Call) → lines script ≡ Good calls → WritesSpelledValue (style_of way) calls old new → WritesValue old new script way
-writes_value {old} {new} script way calls is done others other = let e : Good calls ≡ Good others = sym is ∙ other in let same : calls ≡ others = cc e in subst (λ x. WritesSpelledValue (style_of way) x old new) same done
+writes_value script way calls is done others tree other spells promises =
+    let e : Good calls ≡ Good others = sym is ∙ other in
+    let same : others ≡ calls = cc e in
+    let spelled : Spells calls tree = subst (λ x. Spells x tree) same spells in
+    done tree spelled (real_calls-real_tree calls tree (scripts-real script calls is) spelled) promises
 
 -- the tree was refused
 writes_up_to : {old new : Told} (script : List ℕ) (way : Way) (calls : List Call) (tree : Tree) (why : Refusal) → lines script ≡ Good calls → Spells calls tree → RefusesTree (style_of way) why tree old new

@@ -51,8 +51,8 @@ pub appends_kept : {old mid new : Told} {bytes : List ℕ} → Appends old bytes
 appends_kept a text room = record { fits = a.fits; text = text ∙ a.text; room = room ∙ a.room }
 
 pub value_kept : {old mid new : Told} (script : List ℕ) (way : Way) → WritesValue old mid script way → new.text ≡ mid.text → new.room ≡ mid.room → WritesValue old new script way
-value_kept script way v text room calls is tree spells real promises =
-    let w = v calls is tree spells real promises in
+value_kept script way v text room calls tree is spells promises =
+    let w = v calls tree is spells promises in
     record { json = w.json; shape = w.shape; value = w.value; is = w.is; appends = appends_kept w.appends text room }
 
 -- nothing was written of the JSON, since memory was wanting before

@@ -10,7 +10,8 @@ use Rattle.sval_json.specs.declared.style.Variants.{Variants}
 use Rattle.sval_json.specs.Sinks.{Told, IsSteady, NoCountFell, Appends, AppendsFront}
 use Rattle.sval_json.specs.Number.{Refusal, InvalidKey, InvalidNumber}
 use Rattle.sval_json.specs.Shape.{json_in}
-use Rattle.sval_json.specs.Written.{WritesSpelledTree, WritesSpelledValue}
+use Rattle.sval_json.specs.Promises.{KeepsPromises}
+use Rattle.sval_json.specs.Written.{WritesSpelledTree, WritesSpelledValue, WritesValueIn}
 use Rattle.sval_script.specs.Lines.{Good, lines}
 use Rattle.sval_script.specs.declared.script.ScriptError.{ScriptError}
 use Rattle.sval_script.specs.declared.script.ScriptError.TheVariants as reading
@@ -47,9 +48,10 @@ pub record WritesText (old new : Told) (script : List ℕ) (way : Way) : Type 0 
   pub is : IsVerdict (Text text) script way
   pub appends : Appends old text new
 
--- if the script's calls spell a real tree that keeps its promises, the text that was taken denotes what is meant
+-- if the script's calls spell a tree that keeps its promises, the text that was taken denotes what is meant
 abbrev pub WritesValue : Told → Told → List ℕ → Way → Type 0
-WritesValue old new script way = (calls : List Call) → lines script ≡ Good calls → WritesSpelledValue (style_of way) calls old new
+WritesValue old new script way =
+    (calls : List Call) (tree : Tree) → lines script ≡ Good calls → Spells calls tree → KeepsPromises tree → WritesValueIn (style_of way) tree old new
 
 -- the verdict is this refusal, exactly what is written up to it was taken, and no count moved
 pub record WritesUpTo (refusal : List ℕ → Verdict) (old new : Told) (script : List ℕ) (way : Way) : Type 0 where
