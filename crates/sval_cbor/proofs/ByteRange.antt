@@ -10,20 +10,14 @@ use Rattle.std.proofs.lemmas.Bool.{and_parts}
 use Rattle.std.proofs.lemmas.Bool.Decides.{nat_tests}
 use lib.Utf8.{scalar, scalar_cases}
 use Rattle.sval_core.specs.Trees.{Tree}
-use Rattle.sval_core.specs.Real.{IsReal}
+use Rattle.sval_core.specs.Real.{AreBytes, IsReal}
+use Rattle.sval_core.proofs.RealTrees.{bytes_joined}
 use Rattle.sval_json.specs.Json as shape
 use Rattle.sval_json.specs.Json.{Key, escaped_key, raw_key, Json, Items, no_item, item, Pairs, no_pair, pair}
 use Rattle.sval_cbor.specs.Packs.{pack_of}
 use Rattle.sval_cbor.specs.Cbor.{head_bytes, without_zero_bytes, short_bytes, string, bignum, integer, truth_bytes, cbor, cbor_items, cbor_pairs}
 use Rattle.sval_cbor.specs.Premises.{IsShort}
 use Rattle.sval_cbor.proofs.Packed.{IsPacked, ArePacked, PairsArePacked, packed}
-
-abbrev pub AreBytes : List ℕ → Type 0
-AreBytes bytes = AllByRecursion (λ byte. byte < 256) bytes
-
-pub joined : (xs ys : List ℕ) → AreBytes xs → AreBytes ys → AreBytes (xs ++ ys)
-joined [] ys h k = k
-joined (x ∷ xs) ys h k = (h.0, joined xs ys h.1 k)
 
 number_bytes : (width n : ℕ) → AreBytes (bytes_high_first width n)
 number_bytes zero n = tt
@@ -67,7 +61,7 @@ encoded_all : (cs : List ℕ) → all_scalars cs ≡ true → AreBytes (encode_u
 encoded_all [] h = tt
 encoded_all (c ∷ cs) h =
     let (a, b) = and_parts (scalar c) (all_scalars cs) h in
-    joined (encode_utf8 c) (encode_utf8_all cs) (encoded c (scalar_bound c a)) (encoded_all cs b)
+    bytes_joined (encode_utf8 c) (encode_utf8_all cs) (encoded c (scalar_bound c a)) (encoded_all cs b)
 
 utf8_bytes : (bytes : List ℕ) → IsUtf8 bytes → AreBytes bytes
 utf8_bytes bytes (cs, (h, e)) = subst AreBytes e (encoded_all cs h)
@@ -75,14 +69,14 @@ utf8_bytes bytes (cs, (h, e)) = subst AreBytes e (encoded_all cs h)
 -- ---- shapes
 
 strings : (major : ℕ) (bytes : List ℕ) → major < 8 → AreBytes bytes → AreBytes (string major bytes)
-strings major bytes h k = joined (head_bytes major (length bytes)) bytes (heads major (length bytes) h) k
+strings major bytes h k = bytes_joined (head_bytes major (length bytes)) bytes (heads major (length bytes) h) k
 
 shorts : (n : ℕ) → AreBytes (short_bytes n)
 unfolding short_bytes
 shorts n = without_zeros (bytes_high_first 16 n) (number_bytes 16 n)
 
 bignums : (tag n : ℕ) → AreBytes (bignum tag n)
-bignums tag n = joined (head_bytes 6 tag) (string 2 (short_bytes n)) (heads 6 tag (omega arith)) (strings 2 (short_bytes n) (omega arith) (shorts n))
+bignums tag n = bytes_joined (head_bytes 6 tag) (string 2 (short_bytes n)) (heads 6 tag (omega arith)) (strings 2 (short_bytes n) (omega arith) (shorts n))
 
 integers : (z : ℤ) → AreBytes (integer z)
 integers (pos n) = elim (nat_lt n (2 ^ 64)) as (λ b. AreBytes (if b then head_bytes 0 n else bignum 2 n)) [ true ↦ heads 0 n (omega arith) | false ↦ bignums 2 n ]
@@ -93,7 +87,7 @@ truths false = (omega arith, tt)
 truths true = (omega arith, tt)
 
 closed : (xs : List ℕ) → AreBytes xs → AreBytes (xs ++ (0xff ∷ []))
-closed xs h = joined xs (0xff ∷ []) h (omega arith, tt)
+closed xs h = bytes_joined xs (0xff ∷ []) h (omega arith, tt)
 
 mutual
   shape_bytes : (json : Json) → IsPacked json → AreBytes (cbor json)
@@ -108,12 +102,12 @@ mutual
 
   item_bytes : (row : Items) → ArePacked row → AreBytes (cbor_items row)
   item_bytes no_item h = tt
-  item_bytes (item json row) h = joined (cbor json) (cbor_items row) (shape_bytes json h.0) (item_bytes row h.1)
+  item_bytes (item json row) h = bytes_joined (cbor json) (cbor_items row) (shape_bytes json h.0) (item_bytes row h.1)
 
   pair_bytes : (row : Pairs) → PairsArePacked row → AreBytes (cbor_pairs row)
   pair_bytes no_pair h = tt
   pair_bytes (pair (escaped_key bytes) json row) h =
-      joined (string 3 bytes ++ cbor json) (cbor_pairs row) (joined (string 3 bytes) (cbor json) (strings 3 bytes (omega arith) (utf8_bytes bytes h.0.0)) (shape_bytes json h.1)) (pair_bytes row h.2)
+      bytes_joined (string 3 bytes ++ cbor json) (cbor_pairs row) (bytes_joined (string 3 bytes) (cbor json) (strings 3 bytes (omega arith) (utf8_bytes bytes h.0.0)) (shape_bytes json h.1)) (pair_bytes row h.2)
   pair_bytes (pair (raw_key bytes) json row) h = absurd h.0
 
 pub cbor_is_bytes : (tree : Tree) (json : Json) → IsReal tree → IsShort tree → pack_of tree ≡ Ok json → AllByRecursion (λ byte. byte < 256) (cbor json)

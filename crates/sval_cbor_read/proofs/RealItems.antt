@@ -7,7 +7,8 @@ use Rattle.std.proofs.lemmas.Str.{IsUtf8-from_is_utf8, IsUtf8-append, IsUtf8-nil
 use Rattle.sval_label.specs.Calls.{I64, I128, Item, Key, Value}
 use Rattle.sval_label.specs.Ranges.{is_of_type}
 use Rattle.sval_core.specs.Trees.{Tree, Parts, part}
-use Rattle.sval_core.specs.Real.{IsInRange, AreInRange, IsReal}
+use Rattle.sval_core.specs.Real.{AreBytes, IsInRange, AreInRange, IsReal}
+use Rattle.sval_core.proofs.RealTrees.{bytes_joined}
 use Rattle.sval_json.specs.Json as shape
 use Rattle.sval_json.specs.Number.{Refusal, InvalidKey, InvalidNumber}
 use Rattle.sval_json.specs.declared.style.Variants.TheVariants.{Inside}
@@ -16,7 +17,6 @@ use Rattle.sval_cbor_read.specs.Items.{Head, head, wide_head, head_of, negative_
 use Rattle.sval_cbor_read.proofs.Heads.{all_front, all_after}
 use Rattle.sval_cbor_read.proofs.LeastHeads.{IsBoundedHead, head_bounded}
 use Rattle.sval_cbor_read.proofs.Complete.{item_is_read}
-use Rattle.sval_cbor.proofs.ByteRange.{AreBytes, joined}
 
 -- ---- refusals
 
@@ -146,7 +146,7 @@ string_range (string {major = major} {number = n} {bytes = bytes} {after = after
 
 pieces_range : {major : ℕ} {bytes content rest : List ℕ} → ArePieces major bytes content rest → AreBytes bytes → AreBytes content × AreBytes rest
 pieces_range break h = (tt, h.1)
-pieces_range (piece {content = content} {more = more} s p) h = let a = string_range s h in let b = pieces_range p a.1 in (joined content more a.0 b.0, b.1)
+pieces_range (piece {content = content} {more = more} s p) h = let a = string_range s h in let b = pieces_range p a.1 in (bytes_joined content more a.0 b.0, b.1)
 
 piece_utf8 : {bytes content rest : List ℕ} → IsString 3 bytes content rest → IsUtf8 content
 piece_utf8 (string {number = n} {after = after} e l k) = IsUtf8-from_is_utf8 (take n after) k
