@@ -1,5 +1,6 @@
 pub mod Trees
 pub mod Spells
+pub mod ExactCalls
 pub mod Checker
 pub mod Real
 pub mod Law
