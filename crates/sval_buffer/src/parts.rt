@@ -85,7 +85,7 @@ impl<'sval, N: CallStore + 'sval> Parts<'sval, N> {
         self.in_fragments = false;
     }
 
-    /// There is a part, and each container and each text has its end.
+    /// There is a part, each container has its end, and no text or binary has begun without one of either ending since.
     pub(crate) fn is_complete(&self) -> bool
         ensures { result ≡ forest.is_complete (forest_in self.now) }
     {

@@ -124,7 +124,7 @@ impl<'sval, N: CallStore + 'sval> AnyValueBuf<'sval, N> {
         }
     }
 
-    /// There is a part, each container has its end, and no text or binary has begun without one ending since.
+    /// There is a part, each container has its end, and no text or binary has begun without one of either ending since.
     pub fn is_complete(&self) -> bool
         ensures { result ≡ forest.is_complete (capture_of self.now).forest }
     {
