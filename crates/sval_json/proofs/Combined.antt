@@ -1,14 +1,15 @@
 -- What an action does that is made of others, by what these do.
-use Rattle.std.specs.Prelude.{◌≡◌, ℕ, Bool, true, false, if◌then◌else◌, List, [], ◌∷◌, ◌++◌, length, codes, None, Result, Ok, Err, IsErr, refl}
+use Rattle.std.specs.Prelude.{◌≡◌, ℕ, true, false, if◌then◌else◌, List, [], ◌∷◌, ◌++◌, length, codes, None, Result, Ok, Err, IsErr, refl}
 use Rattle.std.specs.Fmt.{decimal}
-use Rattle.std.proofs.Common.{sym, ap, ◌∙◌, subst, append_assoc, arith}
+use Rattle.std.proofs.Common.{ap, ◌∙◌, subst, arith}
 use Rattle.sval_label.specs.declared.error.Error.{Error}
 use Rattle.sval_label.specs.Calls.{Label}
 use Rattle.sval_json.specs.Escape.{escaped}
-use Rattle.sval_json.specs.Actions.{escapes, State, set_named, Outcome, Action, write, nothing, ◌then◌, ◌sets◌, from, when}
+use Rattle.sval_json.specs.Json.{comma}
+use Rattle.sval_json.specs.Actions.{escapes, State, set_named, Outcome, Action, write, ◌then◌, ◌sets◌, from}
 use Rattle.sval_json.specs.Steps.{item_begins, value_written, text_begins, fragment, quote_if_quoted, bytes_step, label_text, field_begins}
 use Rattle.sval_json.specs.WriterLaw.{WriterView, HasDone, IsStopped, IsOnlySet, Does, after_action}
-use Rattle.sval_json.proofs.Doing.{nothing_done, done_then, stopped_first, stopped_later}
+use Rattle.sval_json.proofs.Doing.{nothing_done, done_then, stopped_later}
 
 -- where a `?` passes on an error
 pub stops_as : {action : Action} {old new : WriterView} (r : Result (Unit {0}) Error) → IsErr r → IsStopped action old new → Does action r old new
@@ -48,10 +49,6 @@ from_outcome action (Err refusal) old new stop = record { left = stop.left; name
 pub does_alike : (action other : Action) (r : Result (Unit {0}) Error) (old new : WriterView) → action old.state ≡ other old.state → Does action r old new → Does other r old new
 does_alike action other r old new e d = from_outcome other r old new (subst (λ (o : Outcome). Does (λ state. o) r old new) e (by_outcome action r old new d))
 
--- where a test holds, the action is done
-pub does_when : (action : Action) (test : State → Bool) (r : Result (Unit {0}) Error) (old new : WriterView) → test old.state ≡ true → Does action r old new → Does (when test action) r old new
-does_when action test r old new e d = does_alike action (when test action) r old new (sym (ap (λ holds. (if holds then action else nothing) old.state) e)) d
-
 -- ---- a text
 
 -- where texts bring their quotes and are escaped, the three parts of a text write this
@@ -70,21 +67,16 @@ all_due all begun = record { rest_of = λ r new d. d }
 pub next_done : {all rest : List ℕ} {byte : ℕ} {begun mid now : WriterView} → IsDue all begun (byte ∷ rest) mid → HasDone (item_begins then value_written (decimal byte)) mid now → IsDue all begun rest now
 next_done {rest = rest} {byte = byte} {mid = mid} due d = record { rest_of = λ r new more. due.rest_of r new (does_then (item_begins then value_written (decimal byte)) (bytes_step rest) r mid new d more) }
 
-pub next_stopped : {all rest : List ℕ} {byte : ℕ} {begun mid new : WriterView} → IsDue all begun (byte ∷ rest) mid → (r : Result (Unit {0}) Error) → IsErr r
-    → IsStopped (item_begins then value_written (decimal byte)) mid new → Does (bytes_step all) r begun new
-next_stopped {rest = rest} {new = new} due r is stop = due.rest_of r new (stops_as r is (stopped_first (bytes_step rest) stop))
-
 pub none_due : {all : List ℕ} {begun now : WriterView} (rest : List ℕ) → IsDue all begun rest now → length rest ≡ 0 → HasDone (bytes_step all) begun now
 none_due {now = now} [] due none = due.rest_of (Ok tt) now (nothing_done now)
 none_due (byte ∷ rest) due none = absurd (omega (arith, none))
 
 -- ---- a field
 
--- what is written of a field, piece by piece
-abbrev pub field_pieces : Label → Action
-field_pieces label = item_begins then write (codes "\"") then write (label_text label) then write (codes "\":")
-
-pub does_field : (label : Label) (r : Result (Unit {0}) Error) (old new : WriterView) → Does (field_pieces label) r old new → Does (field_begins label) r old new
-does_field label r old new d =
-    does_alike (field_pieces label) (field_begins label) r old new
-    (ap (λ bytes. let o : Outcome = record { state = set_named false old.state; written = bytes; refusal = None } in o) (simp append_assoc)) d
+-- a field begins by one text, with the comma in front unless it is the first
+pub field_begun : (label : Label) (bytes : List ℕ) (r : Result (Unit {0}) Error) (old new : WriterView) → bytes ≡ comma old.state.empty ++ (codes "\"" ++ label_text label ++ codes "\":")
+    → Does (write bytes) r (record old { state = set_named false old.state }) new → Does (field_begins label) r old new
+field_begun label bytes r old new e d =
+    does_alike (from (set_named false) (write bytes)) (field_begins label) r old new
+    (ap (λ written. let o : Outcome = record { state = set_named false old.state; written = written; refusal = None } in o) e)
+    (does_from (write bytes) (set_named false) r old new d)

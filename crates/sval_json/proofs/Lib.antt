@@ -7,9 +7,13 @@ pub mod WritingParts
 pub mod WritingValues
 pub mod WritingPlain
 pub mod WrittenOnce
+pub mod Refused
+pub mod MendedNumbers
+pub mod MendedRuns
+pub mod MendedKeys
+pub mod Mending
 pub mod NumberGrammar
 pub mod OneValue
-pub mod Begun
 pub mod Append
 pub mod EscapedString
 pub mod MeansOne

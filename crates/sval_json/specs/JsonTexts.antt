@@ -10,6 +10,7 @@ use Rattle.sval_json.specs.declared.json_str.JsonStr.{JsonStr}
 abbrev pub json_text : JsonStr → List ℕ
 json_text json = json.json.now
 
+-- the tag of a text that is the JSON of a value
 abbrev pub json_value_tag : Tag
 json_value_tag = codes "JSON_VALUE"
 

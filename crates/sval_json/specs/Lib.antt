@@ -4,6 +4,7 @@ pub mod Digits
 pub mod Number
 pub mod SeenNumber
 pub mod Shape
+pub mod Mended
 pub mod Actions
 pub mod Steps
 pub mod SeenWriter

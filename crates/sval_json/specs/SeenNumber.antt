@@ -10,6 +10,7 @@ use Rattle.sval_json.specs.Number.{Phase, Start, Signed, Zero, Whole, Point, Fra
 use Rattle.sval_json.specs.declared.sink.SinkError.{SinkError}
 use Rattle.sval_json.specs.Sinks.{Told, WritesWhole, WritesFront}
 
+-- the phase of the definitions that a phase of the program is
 abbrev pub seen_phase : program.Phase → Phase
 seen_phase phase.Start = Start
 seen_phase phase.Signed = Signed
@@ -22,6 +23,7 @@ seen_phase phase.ExponentSign = ExponentSign
 seen_phase phase.ExponentDigits = ExponentDigits
 seen_phase phase.Word = Word
 
+-- the same of the machine
 abbrev pub seen_machine : NumberMachine → Machine
 seen_machine machine = record { negative = machine.negative; phase = seen_phase machine.phase }
 

@@ -105,8 +105,8 @@ pub(crate) fn is_all_plain(bytes: &[u8]) -> bool
     first_escape(bytes) == bytes.len()
 }
 
-/// Writes a text as it stands between quotes: each run without an escape as one piece. After an error a prefix of it
-/// was taken.
+/// Writes a text as it stands between quotes: each run without an escape as one piece, and each escape as one. After an
+/// error a first part of what stands there was taken.
 pub(crate) fn write_escaped<K: Sink>(sink: &mut K, bytes: &[u8]) -> Result<(), SinkError>
     ensures { WritesAll result (K.told sink.old) (escaped bytes.now) (K.told sink.new) }
 {
@@ -117,7 +117,7 @@ pub(crate) fn write_escaped<K: Sink>(sink: &mut K, bytes: &[u8]) -> Result<(), S
     write_runs(sink, bytes, run)
 }
 
-/// Writes a text so, where its first run has this length.
+/// Does the same where so many bytes come before the first that is escaped, or else the whole text does.
 #[inline(never)]
 fn write_runs<K: Sink>(sink: &mut K, bytes: &[u8], first: usize) -> Result<(), SinkError>
     requires within { first ≤ length bytes.now }

@@ -1,6 +1,7 @@
 //! JSON (RFC 8259) of values.
 #![tactic(auto)]
 
+mod digits;
 mod error;
 mod escape;
 mod json_str;
@@ -15,6 +16,7 @@ mod tests;
 mod to_io;
 mod writer;
 
+pub use digits::format_int;
 pub use error::{Error, ErrorKind};
 pub use json_str::{JsonStr, JsonString};
 pub use real::RealSink;

@@ -73,7 +73,7 @@ fn next_phase(phase: Phase, byte: u8) -> Option<Phase>
     }
 }
 
-/// The sign of a number that is written before its first digit.
+/// What is written for the sign before the first digit: `-`, or nothing where it is `+` or none came.
 fn sign(negative: bool) -> &'static [u8]
     ensures { result.now ≡ sign negative }
 {

@@ -14,7 +14,7 @@ use std::marker::Model;
 /// How often in a row a call is made that is interrupted each time.
 const TRIES: u32 = 1000;
 
-/// A sink over one of std's writers. It tells no text and no room, and each error of the writer is one fault.
+/// A sink over one of std's writers. It tells no text and no room, and each error that it answers is one fault.
 ///
 /// A call that is interrupted is made again, and has failed where that happened 1,000 times in a row. A writer that
 /// takes nothing of a piece that isn't empty has failed. Where the writer tells what it holds, that grows by the bytes

@@ -8,7 +8,7 @@ ghost use Rattle.sval_json.specs.Taken.{Taken, taken_told};
 use std::alloc::Global;
 use std::marker::Model;
 
-/// Why a sink took nothing.
+/// Why a sink declined a call.
 #[derive(Clone, Copy, Debug, PartialEq, Eq)]
 pub enum SinkError {
     /// The sink failed.
@@ -56,7 +56,7 @@ pub fn write_all<K: Sink>(sink: &mut K, piece: &[u8]) -> Result<(), SinkError>
     Ok(())
 }
 
-/// A sink in memory, which takes all that it is given and never fails.
+/// A sink in memory: a write takes its whole piece, or memory is wanting. It never fails.
 ///
 /// ```
 /// let mut sink = VecSink::new(alloc);

@@ -24,7 +24,8 @@ use sval_core::{Lent, Value};
 /// # Errors
 ///
 /// [`ErrorKind::InvalidKey`] and [`ErrorKind::InvalidNumber`] come where a step refuses a call for that cause, after
-/// all that the steps write up to there; where the calls spell a tree, it has no JSON for that cause.
+/// all that the steps write up to there; where the calls spell a tree, it has no JSON for that cause, and what was
+/// written begins the text of a tree that differs from it only in keys and numbers that are none.
 /// [`ErrorKind::Generic`] comes where the value itself refuses, after all that its calls write. Each of the three
 /// always comes where it is so, unless a count of the sink rose.
 ///

@@ -17,15 +17,17 @@ ghost use Rattle.sval_core.specs.Law.{Answers};
 ghost use Rattle.sval_json.specs.ErrorKinds.{seen_refusal};
 ghost use Rattle.sval_json.specs.Escape.{escaped};
 ghost use Rattle.sval_json.specs.Actions.{write, refuse};
+ghost use Rattle.sval_json.specs.SeenWriter.{quoted_text};
 ghost use Rattle.sval_json.specs.Steps.{value_written, refuse_in_key, opens, closes};
 ghost use Rattle.sval_json.specs.WriterLaw.{WriterView, Does, writer_law, writer_view, writer_standing};
 
+use crate::digits::format_int;
 use crate::error::{Refusal, Stop};
-use crate::escape::{is_all_plain, write_escaped};
+use crate::escape::write_escaped;
 use crate::number::NumberMachine;
 use crate::sink::{Sink, write_all};
 use crate::style::Variants;
-use crate::writer::short::push_between;
+use crate::writer::short::{Quoted, push_between};
 use arrayvec::ArrayString;
 use itoa::Buffer;
 use sval_core::{Call, Error, Fragment, GroupedCall, Int, Lent, Result, Stream};
@@ -88,28 +90,40 @@ impl<'k, K: Sink> Writer<'k, K> {
         }
     }
 
-    /// Writes an escaped text between two others, by one call of the sink if they are short and nothing is escaped.
+    /// Writes a text that comes between quotes, with what stands around it: as one piece, if it is short and nothing is
+    /// escaped.
     #[inline(always)]
-    fn write_between(&mut self, before: &str, text: &str, after: &str) -> Result
-        ensures { Does (write (before.now ++ escaped text.now ++ after.now)) result
+    fn write_between(&mut self, before: &str, text: Quoted, after: &str) -> Result
+        ensures { Does (write (before.now ++ quoted_text text.entry ++ after.now)) result
             (writer_view K.told self.old) (writer_view K.told self.new) }
     {
         let mut joined = ArrayString::new();
-        if push_between(&mut joined, before, text, after) && is_all_plain(text.as_bytes()) {
+        if push_between(&mut joined, before, text.text, after) && text.is_plain() {
             return self.write(joined.as_bytes());
         }
-        self.write_each(before.as_bytes(), text.as_bytes(), after.as_bytes())
+        self.write_each(before.as_bytes(), text, after.as_bytes())
     }
 
-    /// Writes an escaped text between two others, by a call of the sink for each.
+    /// Writes the same by a piece for what comes before, the pieces of the text, and a piece for what comes after.
     #[inline(never)]
-    fn write_each(&mut self, before: &[u8], text: &[u8], after: &[u8]) -> Result
-        ensures { Does (write (before.now ++ escaped text.now ++ after.now)) result
+    fn write_each(&mut self, before: &[u8], text: Quoted, after: &[u8]) -> Result
+        ensures { Does (write (before.now ++ quoted_text text.entry ++ after.now)) result
             (writer_view K.told self.old) (writer_view K.told self.new) }
     {
         self.write(before)?;
-        self.write_escaped(text)?;
+        self.write_quoted(text)?;
         self.write(after)
+    }
+
+    /// Writes a text that comes between quotes.
+    fn write_quoted(&mut self, text: Quoted) -> Result
+        ensures { Does (write (quoted_text text.entry)) result
+            (writer_view K.told self.old) (writer_view K.told self.new) }
+    {
+        if text.raw {
+            return self.write(text.text.as_bytes());
+        }
+        self.write_escaped(text.text.as_bytes())
     }
 
     /// Refuses a call.
@@ -164,24 +178,6 @@ impl<'k, K: Sink> Writer<'k, K> {
     {
         self.empty = false;
         self.write(bracket)
-    }
-}
-
-/// The digits of a whole number.
-fn format_int(buffer: &mut Buffer, number: Int) -> &str
-    ensures { result.now ≡ signed_decimal (int_number number) }
-{
-    match number {
-        Int::U8(number) => buffer.format(number),
-        Int::U16(number) => buffer.format(number),
-        Int::U32(number) => buffer.format(number),
-        Int::U64(number) => buffer.format(number),
-        Int::U128(number) => buffer.format(number),
-        Int::I8(number) => buffer.format(number),
-        Int::I16(number) => buffer.format(number),
-        Int::I32(number) => buffer.format(number),
-        Int::I64(number) => buffer.format(number),
-        Int::I128(number) => buffer.format(number),
     }
 }
 

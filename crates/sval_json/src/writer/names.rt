@@ -16,6 +16,7 @@ use crate::sink::Sink;
 use crate::style::Variants;
 use crate::writer::Writer;
 use crate::writer::marks::is_none;
+use crate::writer::short::Quoted;
 use itoa::Buffer;
 use sval_core::{Index, Label, Result, Tag};
 
@@ -37,14 +38,14 @@ pub(crate) fn has_handle(label: Option<&Label>, index: Option<&Index>) -> bool
 }
 
 impl<'k, K: Sink> Writer<'k, K> {
-    /// Opens an object with an escaped text between others, where no key is due.
+    /// Opens an object with an escaped text between others, or refuses where a key is due.
     #[inline(always)]
     fn open_between(&mut self, before: &str, text: &str, after: &str) -> Result
         ensures { Does (refuse_in_key then write (before.now ++ escaped text.now ++ after.now)) result
             (writer_view K.told self.old) (writer_view K.told self.new) }
     {
         self.refuse_in_key()?;
-        self.write_between(before, text, after)
+        self.write_between(before, Quoted::escaped(text), after)
     }
 
     /// Opens the object that a variant stands in, up to its value.

@@ -1,20 +1,18 @@
 //! Containers and their parts.
 
-ghost use Rattle.std.specs.Prelude.{◌≡◌, codes, drop, is_some, take};
+ghost use Rattle.std.specs.Prelude.{codes, is_some};
 ghost use Rattle.sval_label.specs.Calls as call;
 ghost use Rattle.sval_label.specs.Grouped.{seen_head, seen_slot};
 ghost use Rattle.sval_json.specs.Actions.{write, ◌then◌, ◌sets◌, set_named};
 ghost use Rattle.sval_json.specs.Steps.{container_begins, container_ends, part_begins, part_ends};
-ghost use Rattle.sval_json.specs.Steps.{opens, closes, name_step, item_begins, field_begins, label_text};
+ghost use Rattle.sval_json.specs.Steps.{opens, closes, name_step, item_begins, field_begins};
 ghost use Rattle.sval_json.specs.SeenWriter.{seen_handle};
 ghost use Rattle.sval_json.specs.WriterLaw.{Does, writer_view};
 
 use crate::sink::Sink;
 use crate::writer::Writer;
-use crate::writer::marks::is_ident;
 use crate::writer::names::has_handle;
-use crate::writer::short::{is_plain_label, push_between};
-use arrayvec::ArrayString;
+use crate::writer::short::Quoted;
 use sval_core::{Head, Index, Label, Result, Slot};
 
 impl<'k, K: Sink> Writer<'k, K> {
@@ -84,7 +82,7 @@ impl<'k, K: Sink> Writer<'k, K> {
         self.write(b",")
     }
 
-    /// Begins what has a key, up to the key's text.
+    /// Begins a pair of a map, up to the key's text.
     fn open_key(&mut self) -> Result
         ensures { Does (item_begins then write (codes "\"")) result
             (writer_view K.told self.old) (writer_view K.told self.new) }
@@ -115,48 +113,17 @@ impl<'k, K: Sink> Writer<'k, K> {
         Ok(())
     }
 
-    /// Writes a label between the quotes of a key.
-    fn write_label(&mut self, label: &Label) -> Result
-        ensures { Does (write (label_text label.now)) result
-            (writer_view K.told self.old) (writer_view K.told self.new) }
-    {
-        if is_ident(label.tag()) {
-            return self.write(label.as_str().as_bytes());
-        }
-        self.write_escaped(label.as_str().as_bytes())
-    }
-
-    /// Begins a field, by one call of the sink if its key is short.
+    /// Begins a field, up to its value: as one piece, if its key is short and nothing in it is escaped.
     #[inline(never)]
     fn begin_field(&mut self, label: &Label) -> Result
         ensures { Does (field_begins label.now) result (writer_view K.told self.old) (writer_view K.told self.new) }
     {
-        let mut key = ArrayString::new();
-        if push_between(&mut key, ",\"", label.as_str(), "\":") && is_plain_label(label) {
-            return self.begin_with(key.as_bytes());
-        }
-        self.begin_long(label)
-    }
-
-    /// Begins an item by these bytes: without the comma at their front, if it is the first.
-    #[inline(always)]
-    fn begin_with(&mut self, bytes: &[u8]) -> Result
-        requires { take 1 bytes.now ≡ codes "," }
-        ensures { Does (item_begins then write (drop 1 bytes.now)) result
-            (writer_view K.told self.old) (writer_view K.told self.new) }
-    {
         self.named = false;
-        self.write(if self.empty { &bytes[1..] } else { bytes })
-    }
-
-    /// Begins a field, by a call of the sink for each part of its key.
-    #[inline(never)]
-    fn begin_long(&mut self, label: &Label) -> Result
-        ensures { Does (field_begins label.now) result (writer_view K.told self.old) (writer_view K.told self.new) }
-    {
-        self.open_key()?;
-        self.write_label(label)?;
-        self.write(b"\":")
+        let key = Quoted::label(label);
+        if self.empty {
+            return self.write_between("\"", key, "\":");
+        }
+        self.write_between(",\"", key, "\":")
     }
 
     /// Begins a part of a container.

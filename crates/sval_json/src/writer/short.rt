@@ -1,7 +1,9 @@
-//! Short texts, joined with what stands around them so that one call of the sink writes them.
+//! Texts between quotes, joined with what stands around them where they are short, so that one piece is written.
 
 ghost use Rattle.std.specs.Prelude.{◌≡◌, ◌++◌};
 ghost use Rattle.std.specs.Bool.{OnTrue};
+ghost use Rattle.sval_json.specs.Escape.{escaped};
+ghost use Rattle.sval_json.specs.SeenWriter.{quoted_text};
 ghost use Rattle.sval_json.specs.Steps.{label_text};
 
 use crate::escape::is_all_plain;
@@ -27,10 +29,39 @@ pub(crate) fn push_between(
         && joined.try_push_str(after).is_ok()
 }
 
-/// Whether a label stands in a key as it is.
-#[inline(always)]
-pub(crate) fn is_plain_label(label: &Label) -> bool
-    ensures { OnTrue result (label_text label.now ≡ label.now.text) }
-{
-    is_ident(label.tag()) || is_all_plain(label.as_str().as_bytes())
+/// A text that comes between quotes.
+#[derive(Clone, Copy)]
+pub(crate) struct Quoted<'a> {
+    pub(crate) text: &'a str,
+    /// It stands there as it is, where others are escaped.
+    pub(crate) raw: bool,
+}
+
+impl<'a> Quoted<'a> {
+    /// A text that is escaped.
+    #[inline(always)]
+    pub(crate) fn escaped(text: &'a str) -> Self
+        ensures { quoted_text result ≡ escaped text.now }
+    {
+        Quoted { text, raw: false }
+    }
+
+    /// The text of a label in a key.
+    #[inline(always)]
+    pub(crate) fn label(label: &'a Label) -> Self
+        ensures { quoted_text result ≡ label_text label.now }
+    {
+        Quoted {
+            text: label.as_str(),
+            raw: is_ident(label.tag()),
+        }
+    }
+
+    /// Whether the text stands between quotes as it is.
+    #[inline(always)]
+    pub(crate) fn is_plain(self) -> bool
+        ensures { OnTrue result (quoted_text self.entry ≡ self.entry.text.now) }
+    {
+        self.raw || is_all_plain(self.text.as_bytes())
+    }
 }

@@ -13,6 +13,7 @@ ghost use Rattle.sval_json.specs.WriterLaw.{Does, writer_view};
 use crate::error::{Refusal, Stop};
 use crate::number::NumberMachine;
 use crate::sink::Sink;
+use crate::writer::short::Quoted;
 use crate::writer::{Handler, Writer};
 use itoa::Buffer;
 use sval_core::{Error, Result};
@@ -54,18 +55,18 @@ impl<'k, K: Sink> Writer<'k, K> {
             (writer_view K.told self.old) (writer_view K.told self.new) }
     {
         match self.handler {
-            Handler::Escapes if self.quoted => self.write_quoted(text),
+            Handler::Escapes if self.quoted => self.write_with_quotes(text),
             _ => self.write_whole(text),
         }
     }
 
-    /// Writes an escaped text between quotes.
-    fn write_quoted(&mut self, text: &str) -> Result
+    /// Writes an escaped text with its quotes.
+    fn write_with_quotes(&mut self, text: &str) -> Result
         ensures { Does (value_written (codes "\"" ++ escaped text.now ++ codes "\"")) result
             (writer_view K.told self.old) (writer_view K.told self.new) }
     {
         self.empty = false;
-        self.write_between("\"", text, "\"")
+        self.write_between("\"", Quoted::escaped(text), "\"")
     }
 
     /// Writes a text of one part as its three calls would.

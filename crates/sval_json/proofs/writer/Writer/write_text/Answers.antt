@@ -10,6 +10,6 @@ use Rattle.sval_json.proofs.writer.Writer.write_text.Goals as goal
 pub returns-in-Escapes : goal.returns-in-Escapes
 returns-in-Escapes g c =
     let text = c.args.text.now in
-    does_alike (value_written (codes "\"" ++ escaped text ++ codes "\"")) (text_begins then fragment text then quote_if_quoted) c.write_quoted.result
-    (writer_view g.K.Sink.told c.args.self.now) (writer_view g.K.Sink.told c.write_quoted.new.self)
-    (text_is_quoted text (writer_state c.args.self.now) c.if-self.true (ap seen_handler c.in-Escapes.is)) c.write_quoted.ensures
+    does_alike (value_written (codes "\"" ++ escaped text ++ codes "\"")) (text_begins then fragment text then quote_if_quoted) c.write_with_quotes.result
+    (writer_view g.K.Sink.told c.args.self.now) (writer_view g.K.Sink.told c.write_with_quotes.new.self)
+    (text_is_quoted text (writer_state c.args.self.now) c.if-self.true (ap seen_handler c.in-Escapes.is)) c.write_with_quotes.ensures
