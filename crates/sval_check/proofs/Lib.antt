@@ -1,5 +1,12 @@
+pub mod DueOrWant
+pub mod CallsSoFar
 pub mod Tops
+pub mod Refused
+pub mod SoFar
 pub mod Runs
 pub mod OneAnswer
 pub mod ManyAnswers
 pub mod Told
+pub mod ListsSoFar
+pub mod ListDue
+pub mod ListStops

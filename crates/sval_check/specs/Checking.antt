@@ -1,76 +1,71 @@
--- The law of the checker as a stream: it takes a call where the machine does.
-use Rattle.std.specs.Prelude.{◌≡◌, ℕ, Bool, true, List, [], Option, Some, None, is_some, Result, Ok, Err}
+-- What is kept of calls that are checked for one tree, and which calls go on with it.
+use Rattle.std.specs.Prelude.{◌≡◌, ℕ, true, false, [], Option, Some, None, Result, Ok, Err}
 use Rattle.sval_label.specs.Calls.{Call}
-use Rattle.sval_core.specs.Law.{Law, Standing, one_more, Rose}
-use Rattle.sval_core.specs.Checker.{Frame, State}
-use Rattle.sval_core.specs.CheckerSteps.{next, goes_on, state_after}
+use Rattle.sval_core.specs.Law.{Law, Standing, one_more}
+use Rattle.sval_core.specs.Checker.{State}
+use Rattle.sval_core.specs.CheckerSteps.{unfilled, goes_on, state_after}
 use Rattle.sval_check.specs.Checks.{opens}
-use Rattle.sval_check.specs.declared.checker.Why.{Why}
-use Rattle.sval_check.specs.declared.checker.Why.TheVariants.{NotViable, NoMemory}
 use Rattle.sval_check.specs.declared.error.CheckError.{CheckError}
 use Rattle.sval_check.specs.declared.error.CheckError.TheVariants as error
+use Rattle.sval_check.specs.declared.machine.Refusal.{Refusal}
+use Rattle.sval_check.specs.declared.machine.Refusal.TheVariants.{NotViable, NoMemory}
+use Rattle.sval_check.specs.declared.checker.Checker.{Checker}
 
--- what the checker is: the machine's state, the number of calls taken, why the last call was refused, and how often memory was wanting
+-- the machine's state, how many calls came, and why one was refused
 pub record Checking : Type 0 where
   pub state : State
   pub taken : ℕ
-  pub why : Option Why
-  pub wants : ℕ
+  pub why : Option Refusal
 
--- what a call's answer says, of which the machine makes this: it was taken, isn't viable, or memory was wanting for the frame that it opens
-abbrev pub StepsBy : (opening : Bool) → Option State → Checking → Checking → Result (Unit {0}) Why → Type 0
-StepsBy opening after old new (Ok done) = (after ≡ Some new.state) × (new ≡ record old { state = new.state })
-StepsBy opening after old new (Err NotViable) = (after ≡ None) × (new ≡ old)
-StepsBy opening after old new (Err NoMemory) = (opening ≡ true) × (is_some after ≡ true) × (new ≡ old)
+-- what a checker keeps
+abbrev pub checking : Checker → Checking
+checking checker = record { state = checker.machine; taken = checker.taken; why = checker.why }
 
--- the same for a call, of which the machine makes what `next` says
-abbrev pub StepsOn : Call → Checking → Checking → Result (Unit {0}) Why → Type 0
-StepsOn call old new answer = StepsBy (opens call) (next old.state call) old new answer
+-- before any call
+abbrev pub nothing_checked : Checking
+nothing_checked = record { state = unfilled []; taken = 0; why = None }
 
--- how often memory was wanting after a call was refused for this
-abbrev pub wants_after : Why → ℕ → ℕ
-wants_after NotViable wants = wants
-wants_after NoMemory wants = one_more wants
+-- the wants of memory: one is the last thing that happens
+abbrev pub wants_of : Option Refusal → ℕ
+wants_of (Some NoMemory) = 1
+wants_of other = 0
 
--- the call is viable after those that were taken
-abbrev pub CheckerAccepts : Checking → Call → Type 0
-CheckerAccepts view call = goes_on view.state call ≡ true
+-- where it stands: it has no faults of its own
+abbrev pub checking_standing : Checking → Standing Checking
+checking_standing c = record { view = c; faults = 0; wants = wants_of c.why }
 
--- what is kept of a refusal: memory was wanting only where the call is viable and opens a frame
-abbrev pub IsCheckerWhy : Option Why → Checking → Call → ℕ → Type 0
-IsCheckerWhy None view call wants = ⊥
-IsCheckerWhy (Some NotViable) view call wants = (CheckerAccepts view call → ⊥) × (wants ≡ view.wants)
-IsCheckerWhy (Some NoMemory) view call wants = (opens call ≡ true) × CheckerAccepts view call × Rose view.wants wants
+-- no call was refused, and a value goes on with this one
+pub record GoesOn (c : Checking) (call : Call) : Type 0 where
+  pub willing : c.why ≡ None
+  pub viable : goes_on c.state call ≡ true
 
--- a call that was refused leaves the state as it was
-pub record IsCheckerLeft (view : Checking) (call : Call) (left : Checking) : Type 0 where
-  pub why : IsCheckerWhy left.why view call left.wants
-  pub state : left.state ≡ view.state
-  pub taken : left.taken ≡ view.taken
+-- after one more call that is taken
+abbrev pub checking_after : Checking → Call → Checking
+checking_after c call = record c { state = state_after call c.state; taken = one_more c.taken }
 
-abbrev pub checker_law : Law Checking
-checker_law = record {
-  accepts = CheckerAccepts;
-  after = λ view call. record view { state = state_after call view.state; taken = one_more view.taken };
-  stopped = IsCheckerLeft;
-}
+-- where a call may be refused for this: memory may be wanting for what it begins
+abbrev pub IsCauseFor : Checking → Call → Refusal → Type 0
+IsCauseFor c call NotViable = goes_on c.state call ≡ false
+IsCauseFor c call NoMemory = (goes_on c.state call ≡ true) × (opens call ≡ true)
 
-abbrev pub checker_standing : Checking → Standing Checking
-checker_standing checker = record { view = checker; faults = 0; wants = checker.wants }
+-- a call that was refused is counted, and its cause kept
+pub record IsEndedBy (c : Checking) (call : Call) (left : Checking) : Type 0 where
+  pub last : Refusal
+  pub why : left.why ≡ Some last
+  pub cause : IsCauseFor c call last
+  pub taken : left.taken ≡ one_more c.taken
 
--- what is answered where all calls were taken: outside everything one whole value
-abbrev pub finish_at : Bool → List Frame → Result (Unit {0}) CheckError
-finish_at true [] = Ok tt
-finish_at _ _ = Err error.Unfinished
+-- the law of what checks calls for one tree: after a refusal nothing more is said
+abbrev pub checking_law : Law Checking
+checking_law = record { accepts = GoesOn; after = checking_after; stopped = λ c call left. c.why ≡ None → IsEndedBy c call left }
 
-abbrev pub finish_of : Checking → Result (Unit {0}) CheckError
-finish_of checker = finish_at checker.state.filled checker.state.frames
+-- what one step says, before its refusal is kept
+abbrev pub Steps : Checking → Call → Checking → Result (Unit {0}) Refusal → Type 0
+Steps old call new (Ok done) = (goes_on old.state call ≡ true) × (new ≡ checking_after old call)
+Steps old call new (Err why) = IsCauseFor old call why × (new.taken ≡ one_more old.taken)
 
--- what is answered where they were not, or the value refused
-abbrev pub cause_by : Option Why → ℕ → CheckError
-cause_by None taken = error.Refused
-cause_by (Some NotViable) taken = error.BadCall (one_more taken)
-cause_by (Some NoMemory) taken = error.NoMemory
-
-abbrev pub cause_of : Checking → CheckError
-cause_of checker = cause_by checker.why checker.taken
+-- what is answered where a call was refused for this, of which this is the number, or the value itself refused
+abbrev pub stop_by : Option Refusal → ℕ → CheckError
+stop_by (Some NotViable) taken = error.BadCall taken
+stop_by (Some NoMemory) taken = error.NoMemory
+stop_by None taken = error.Refused

@@ -65,7 +65,7 @@ pub record Opens (old new : Names) (opened : machine.Frame) (kept : Frame) : Typ
   pub named : (frames : List Frame) → are_named (kept ∷ frames) (reverse new.begun.items) ≡ are_named frames (reverse old.begun.items)
 
 -- a frame without a name is this one of the machine, in front of any others
-pub record StandsFor (kept : Frame) (opened : machine.Frame) : Type 0 where
+pub record IsSeenAs (kept : Frame) (opened : machine.Frame) : Type 0 where
   pub frames : (frames : List Frame) (names : Names) → frames_over (kept ∷ frames) names ≡ opened ∷ frames_over frames names
   pub named : (frames : List Frame) (named : List Named) → are_named (kept ∷ frames) named ≡ are_named frames named
 

@@ -2,5 +2,9 @@ pub mod Kept
 pub mod Frames
 pub mod Tops
 pub mod Checks
+pub mod Dues
+pub mod Checked
+pub mod CheckedLaws
 pub mod Checking
 pub mod ManyChecks
+pub mod Listing

@@ -1,9 +1,10 @@
 -- What is said of a value that was checked for many trees in a row.
-use Rattle.std.specs.Prelude.{◌≡◌, ℕ, ◌+◌, ◌-◌, ◌^◌, min, true, false, List, [], ◌∷◌, ◌++◌, length, map, Result, Ok, Err}
+use Rattle.std.specs.Prelude.{◌≡◌, ◌⊎◌, ℕ, ◌+◌, ◌-◌, ◌^◌, min, true, false, List, [], ◌∷◌, ◌++◌, length, map, Result, Ok, Err}
 use Rattle.sval_label.specs.Calls.{Call}
 use Rattle.sval_core.specs.Trees.{Tree}
-use Rattle.sval_core.specs.Many.{SpellsAll, IsViableAll, AreEnds}
+use Rattle.sval_core.specs.Many.{SpellsAll, IsViableAll, IsNoHint, AreEnds}
 use Rattle.sval_core.specs.Law.{Emission}
+use Rattle.sval_check.specs.Checks.{opens}
 use Rattle.sval_check.specs.declared.error.CheckError.{CheckError}
 use Rattle.sval_check.specs.declared.error.CheckError.TheVariants as error
 
@@ -40,6 +41,21 @@ pub record IsUnfinishedList (e : Emission) : Type 0 where
   pub viable : IsViableAll e.calls
   pub willing : e.refuses ≡ false
   pub no_trees : (trees : List Tree) → SpellsAll e.calls trees → ⊥
+
+-- a tree of the list ends with this call: it is no hint, and the calls up to it spell trees
+pub record EndsTree (front : List Call) (call : Call) : Type 0 where
+  pub counts : IsNoHint call
+  pub trees : List Tree
+  pub spells : SpellsAll (front ++ (call ∷ [])) trees
+
+-- one of the calls needs memory, as it begins something or ends a tree, and with it and those before it the calls can be completed
+pub record NeedsMemoryOfList (calls : List Call) : Type 0 where
+  pub front : List Call
+  pub call : Call
+  pub rest : List Call
+  pub whole : calls ≡ front ++ (call ∷ rest)
+  pub viable : IsViableAll (front ++ (call ∷ []))
+  pub grows : (opens call ≡ true) ⊎ EndsTree front call
 
 -- what checking for many trees answers: where they end, or an error
 abbrev pub ListAnswer : Type 0

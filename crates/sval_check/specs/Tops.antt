@@ -1,7 +1,7 @@
 -- What is asked of the innermost frame, and what becomes of it.
 use Rattle.std.specs.Prelude.{ℕ, if◌then◌else◌, ◌&&◌, Bool, false, List, [], ◌∷◌, Option, Some, None}
 use Rattle.sval_label.specs.Calls.{Name, Head, Slot}
-use Rattle.sval_core.specs.Trees.{plain_slot, next_kind, kind_of}
+use Rattle.sval_core.specs.Trees.{next_kind, kind_of}
 use Rattle.sval_core.specs.SameNames.{same_name, same_head, same_slot}
 use Rattle.sval_core.specs.Spells.{new_entries}
 use Rattle.sval_core.specs.Checker as machine
@@ -68,10 +68,6 @@ abbrev pub after_part : Option ℕ → List machine.Frame → List machine.Frame
 after_part left (InContainer head kind _ ∷ around) = InContainer head (next_kind kind) left ∷ around
 after_part left frames = frames
 
--- the same with this part open in it
-abbrev pub with_part : Slot → Option ℕ → List machine.Frame → List machine.Frame
-with_part slot left frames = InPart (plain_slot slot) ∷ after_part left frames
-
 -- the same two of the checker's own frames
 abbrev pub with_next : Option ℕ → Frame → Frame
 with_next left (frame.Seq _) = frame.Seq left
@@ -89,6 +85,11 @@ with_rest content left kept = kept
 abbrev pub on_top : {A : Type 0} → (A → A) → List A → List A
 on_top f [] = []
 on_top f (top ∷ around) = f top ∷ around
+
+-- a stack with what stands around its innermost changed
+abbrev pub under_top : {A : Type 0} → (List A → List A) → List A → List A
+under_top f [] = []
+under_top f (top ∷ around) = top ∷ f around
 
 -- the rows of the machine for a text and for a binary
 abbrev pub content_fragment : Content → ℕ → steps.Step

@@ -1,7 +1,7 @@
 //! What has begun and has no end yet, in short.
 
 ghost use Rattle.std.specs.Prelude.{◌≡◌};
-ghost use Rattle.sval_check.specs.Frames.{begun_form, begun_frame, seen_form, StandsFor};
+ghost use Rattle.sval_check.specs.Frames.{begun_form, begun_frame, seen_form, IsSeenAs};
 ghost use Rattle.sval_check.specs.Tops.{with_next, with_rest};
 
 /// What has begun and has no end yet; of a size that was given, what is still to come.
@@ -81,7 +81,7 @@ impl Begin {
 
     /// The frame that it opens.
     pub(crate) fn frame(self) -> Frame
-        ensures { StandsFor result (begun_frame self) }
+        ensures { IsSeenAs result (begun_frame self) }
     {
         match self {
             Begin::Text(size) => Frame::Text(size),

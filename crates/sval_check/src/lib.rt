@@ -1,25 +1,38 @@
-//! Checks whether a value's calls spell one whole value.
+//! Checks whether calls spell one whole value, or a list of them.
 //!
 //! [`check`] streams a value into a machine with a stack, which takes the calls that can still be completed and no
-//! others. Its words stand in `specs/Checks.antt`.
+//! others. Its words stand in `specs/Checks.antt`. [`check_all`] does the same for values one after another, and gives
+//! where each of them ends. Its words stand in `specs/ManyChecks.antt`. [`Checked`] puts the same machine before a
+//! stream of one's own. Its law stands in `specs/Checked.antt`.
 #![tactic(auto)]
 
-ghost use Rattle.std.specs.Prelude.{◌≡◌, ◌⊎◌, ℕ, Err, OnOk};
+ghost use Rattle.std.specs.Prelude.{◌≡◌, ◌⊎◌, ℕ, Err, IfOk, OnOk};
 ghost use Rattle.sval_check.specs.Checks.{IsOneValue, IsFirstBad, OnlyRefuses, IsUnfinished, NeedsMemory, CheckAnswer, IsDue};
+ghost use Rattle.sval_check.specs.ManyChecks.{AreValues, IsFirstBadOfList, OnlyRefusesList, IsUnfinishedList};
+ghost use Rattle.sval_check.specs.ManyChecks.{NeedsMemoryOfList, ListAnswer, IsDueOfList};
 
+mod checked;
 mod checker;
+mod ends;
 mod error;
 mod frame;
 mod kept;
 pub mod laws;
 mod left;
+mod lister;
+mod machine;
+mod measured;
 mod names;
 mod stack;
 #[cfg(test)]
 mod tests;
 
 use crate::checker::Checker;
+use crate::lister::Lister;
+pub use checked::{Checked, Why};
+pub use ends::Ends;
 pub use error::CheckError;
+pub use measured::Measured;
 use std::alloc::Global;
 use sval_core::{Lent, Value};
 
@@ -59,7 +72,51 @@ pub fn check<'v, V: Value<'v, Lent<'v>>>(alloc: Global, value: &'v V) -> Result<
 {
     let mut checker = Checker::new(alloc);
     match value.stream(&mut checker) {
-        Ok(()) => checker.finish(),
+        Ok(()) if checker.is_whole() => Ok(()),
+        Ok(()) => Err(CheckError::Unfinished),
         Err(_) => Err(checker.cause()),
+    }
+}
+
+/// Checks that a value's calls spell whole values one after another, and that the value itself doesn't refuse, and gives
+/// where each of them ends.
+///
+/// Each value is checked as by [`check`], and the next one begins where it is whole. A hint between two values belongs to
+/// the later one, and hints after the last to none. No calls, or hints alone, are the empty list, with no ends.
+///
+/// - [`CheckError::BadCall`] comes where no list of values goes on with one of the calls, and names the first such call.
+/// - [`CheckError::Refused`] comes where all calls can be completed, and the value refuses after them.
+/// - [`CheckError::Unfinished`] comes where all calls can be completed, the value doesn't refuse, and the last value isn't
+///   whole.
+/// - [`CheckError::NoMemory`] comes where memory was wanting for a call that begins something or ends a value, and only
+///   where this call can be completed.
+///
+/// The four cases exclude each other, and each has its answer wherever it stands, unless memory was wanting.
+///
+/// ```
+/// match check_all(alloc, &value) {
+///     Ok(ends) => println!(rt; "{} whole values", ends.len())?,
+///     Err(CheckError::BadCall { at }) => println!(rt; "no list of values goes on with call {at}")?,
+///     Err(_) => println!(rt; "no list of whole values")?,
+/// }
+/// ```
+pub fn check_all<'v, V: Value<'v, Lent<'v>>>(
+    alloc: Global,
+    value: &'v V,
+) -> Result<Ends, CheckError>
+    ensures ok { IfOk result (λ ends. AreValues (V.emission value.now) ends) }
+    ensures bad_call { (at : ℕ) → result ≡ Err (CheckError.BadCall at)
+        → IsFirstBadOfList (V.emission value.now).calls at }
+    ensures refused { result ≡ Err CheckError.Refused → OnlyRefusesList (V.emission value.now) }
+    ensures unfinished { result ≡ Err CheckError.Unfinished → IsUnfinishedList (V.emission value.now) }
+    ensures no_memory { result ≡ Err CheckError.NoMemory → NeedsMemoryOfList (V.emission value.now).calls }
+    ensures comes { (due : ListAnswer) → IsDueOfList (V.emission value.now) due
+        → (result ≡ due) ⊎ (result ≡ Err CheckError.NoMemory) }
+{
+    let mut lister = Lister::new(alloc);
+    match value.stream(&mut lister) {
+        Ok(()) if lister.is_closed() => Ok(lister.into_ends()),
+        Ok(()) => Err(CheckError::Unfinished),
+        Err(_) => Err(lister.cause()),
     }
 }

@@ -3,13 +3,14 @@
 ghost use Rattle.std.specs.Prelude.{◌≡◌, [], ◌∷◌, reverse, is_ok, is_none, if◌then◌else◌};
 ghost use Rattle.sval_label.specs.SeenName.{seen_name};
 ghost use Rattle.sval_label.specs.Grouped.{seen_head, seen_slot};
-ghost use Rattle.sval_core.specs.Trees.{plain_name};
+ghost use Rattle.sval_core.specs.Trees.{plain_name, plain_slot};
+ghost use Rattle.sval_core.specs.Checker.{InPart};
 ghost use Rattle.sval_core.specs.CheckerSteps.{admits};
 ghost use Rattle.sval_core.specs.Stacks.{top_of, below};
 ghost use Rattle.sval_check.specs.Kept.{value_frame};
 ghost use Rattle.sval_check.specs.Frames.{begun_frame, seen_form};
 ghost use Rattle.sval_check.specs.Tops.{is_tagged, is_enum, is_slot, ends, content_ends, content_rest, part_rest};
-ghost use Rattle.sval_check.specs.Tops.{with_left, with_rest, with_part, with_next, on_top};
+ghost use Rattle.sval_check.specs.Tops.{with_left, with_rest, with_next, after_part, on_top, under_top};
 
 use crate::frame::{Begin, Content, Form, Frame};
 use crate::kept::NamedValue;
@@ -52,6 +53,15 @@ fn advance(frames: &mut [Frame], left: Option<usize>)
 {
     if let Some(top) = frames.last_mut() {
         *top = top.advanced(left);
+    }
+}
+
+/// The same of the frame around the innermost one.
+fn advance_around(frames: &mut [Frame], left: Option<usize>)
+    ensures { reverse frames.new ≡ under_top (on_top (with_next left)) (reverse frames.old) }
+{
+    if let Some((_top, around)) = frames.split_last_mut() {
+        advance(around, left);
     }
 }
 
@@ -203,17 +213,24 @@ impl Stack {
         Ok(())
     }
 
-    /// Opens a part in the innermost frame, a container of whose entries so many are still to come with it.
-    pub(crate) fn open_part(&mut self, slot: Slot<'_>, left: Option<usize>) -> Result<(), NoMemory>
-        ensures { self.new ≡ (if is_ok result then with_part (seen_slot slot.entry) left self.old else self.old) }
+    /// Opens a part in the innermost frame.
+    pub(crate) fn push_part(&mut self, slot: Slot<'_>) -> Result<(), NoMemory>
+        ensures { let part = InPart (plain_slot (seen_slot slot.entry)) in
+            self.new ≡ (if is_ok result then part ∷ self.old else self.old) }
     {
         if self.frames.reserve(1).is_err() {
             return Err(NoMemory);
         }
         let part = self.names.keep_slot(slot)?;
-        advance(&mut self.frames, left);
         self.frames.push_reserved(part);
         Ok(())
+    }
+
+    /// Counts the innermost frame, a part, in the container around it, of whose entries so many are still to come.
+    pub(crate) fn advance_around(&mut self, left: Option<usize>)
+        ensures { self.new ≡ under_top (after_part left) self.old }
+    {
+        advance_around(&mut self.frames, left);
     }
 
     /// Closes the innermost frame, if there is one.

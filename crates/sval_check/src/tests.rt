@@ -2,10 +2,14 @@
 
 ghost use Rattle.std.specs.Prelude.{[], ◌∷◌, Some, None, false, codes};
 ghost use Rattle.sval_label.specs.Calls.{TextBegin, TextFragment, TextEnd, Begin, Seq};
+ghost use Rattle.sval_label.specs.Made.{lent_call};
+ghost use Rattle.sval_core.specs.Law.{Answers};
+ghost use Rattle.sval_core.specs.Lenient.{lenient, with_wants};
 ghost use Rattle.sval_core.specs.Values.{makes, fails_after};
 
-use crate::checker::Checker;
-use crate::{CheckError, check};
+mod lists;
+
+use crate::{CheckError, Checked, Why, check};
 use std::alloc::Global;
 use sval_core::{AnyCall, Call, Index, Label, Lent, Name, Result, Stream, Value, refusal, tags};
 
@@ -63,17 +67,53 @@ fn gives_each_answer(rt: HostRuntime) {
     assert_eq!(rt; check(alloc, &Refusing {}), Err(CheckError::Refused));
 }
 
-/// How many of the calls are taken before one is refused.
-fn taken(alloc: Global, calls: &[Call<'_, '_>]) -> usize {
-    let mut checker = Checker::new(alloc);
-    let mut count = 0;
-    for call in calls {
-        if checker.take(*call).is_err() {
-            return count;
+/// Counts the calls that it takes, and has room for so many.
+#[derive(Drop)]
+struct Counted {
+    taken: usize,
+    room: usize,
+    wants: u64,
+}
+
+impl Counted {
+    fn new(room: usize) -> Self {
+        Counted {
+            taken: 0,
+            room,
+            wants: 0,
         }
-        count = count.saturating_add(1);
     }
-    count
+}
+
+impl<'v> Stream<Lent<'v>> for Counted {
+    ghost View = { Unit {0} };
+
+    ghost law = { lenient };
+
+    ghost standing = { λ counted. with_wants counted.wants };
+
+    fn take(&mut self, call: Call<'v, '_>) -> Result
+        ensures { Answers lenient result
+            (with_wants self.old.wants) (lent_call call.entry) (with_wants self.new.wants) }
+    {
+        if self.taken >= self.room {
+            self.wants = self.wants.saturating_add(1);
+            return refusal();
+        }
+        self.taken = self.taken.saturating_add(1);
+        Ok(())
+    }
+}
+
+/// How many of the calls are passed on before one is refused.
+fn taken(alloc: Global, calls: &[Call<'_, '_>]) -> usize {
+    let mut checked = Checked::new(alloc, Counted::new(usize::MAX));
+    for call in calls {
+        if checked.take(*call).is_err() {
+            break;
+        }
+    }
+    checked.into_inner().taken
 }
 
 #[test]
@@ -195,4 +235,34 @@ fn looks_into_enums_and_tagged_values(rt: HostRuntime) {
         taken(alloc, &[AnyCall::EnumBegin(number), AnyCall::Tag(number)]),
         2
     );
+}
+
+#[test]
+fn passes_on_what_is_viable(rt: HostRuntime) {
+    let mut checked = Checked::new(rt.alloc(), Counted::new(9));
+    assert_eq!(rt; checked.is_whole(), false);
+    assert_eq!(rt; checked.text_end().is_err(), true);
+    assert_eq!(rt; checked.why(), Some(Why::NotViable));
+    assert_eq!(rt; checked.text_begin(Some(2)).is_ok(), true);
+    assert_eq!(rt; checked.is_whole(), false);
+    assert_eq!(rt; checked.null().is_err(), true);
+    assert_eq!(rt; checked.text_fragment("ab").is_ok(), true);
+    assert_eq!(rt; checked.text_fragment_computed("c").is_err(), true);
+    assert_eq!(rt; checked.text_end().is_ok(), true);
+    assert_eq!(rt; checked.is_whole(), true);
+    assert_eq!(rt; checked.why(), Some(Why::NotViable));
+    assert_eq!(rt; checked.into_inner().taken, 3);
+}
+
+#[test]
+fn is_as_before_after_a_refusal_inside(rt: HostRuntime) {
+    let mut checked = Checked::new(rt.alloc(), Counted::new(1));
+    assert_eq!(rt; checked.map_begin(Some(1)).is_ok(), true);
+    assert_eq!(rt; checked.map_key_begin().is_err(), true);
+    assert_eq!(rt; checked.why(), Some(Why::Inner));
+    assert_eq!(rt; checked.null().is_err(), true);
+    assert_eq!(rt; checked.why(), Some(Why::NotViable));
+    assert_eq!(rt; checked.map_key_begin().is_err(), true);
+    assert_eq!(rt; checked.why(), Some(Why::Inner));
+    assert_eq!(rt; checked.into_inner().taken, 1);
 }

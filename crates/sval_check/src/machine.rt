@@ -1,0 +1,315 @@
+//! The machine that goes on with the calls which can still be completed.
+
+ghost use Rattle.std.specs.Prelude.{◌≡◌, true, false, [], is_none};
+ghost use Rattle.sval_label.specs.Made.{call_of};
+ghost use Rattle.sval_label.specs.SeenName.{seen_name};
+ghost use Rattle.sval_label.specs.Grouped.{seen_head, seen_slot};
+ghost use Rattle.sval_core.specs.Trees.{plain_name, plain_head, first_kind};
+ghost use Rattle.sval_core.specs.Checker.{InContainer, State};
+ghost use Rattle.sval_core.specs.CheckerSteps.{unfilled, has_room, Variant, form_of_head, value, begin, at_top, next};
+ghost use Rattle.sval_core.specs.CheckerSteps.{tagged_end, enum_end, end, part_begin, part_end, is_whole_tree};
+ghost use Rattle.sval_core.specs.Stacks.{top_of};
+ghost use Rattle.sval_check.specs.Checks.{opens};
+ghost use Rattle.sval_check.specs.Kept.{value_frame};
+ghost use Rattle.sval_check.specs.Frames.{begun_frame, begun_form, seen_form};
+ghost use Rattle.sval_check.specs.Tops.{content_fragment, content_end};
+ghost use Rattle.sval_check.specs.Dues.{Readies, finished, undone};
+
+use crate::frame::{Begin, Content, Form};
+use crate::kept::NamedValue;
+use crate::measured::Measured;
+use crate::stack::Stack;
+use std::alloc::Global;
+use std::marker::Model;
+use sval_core::{AnyCall, Fragment, GroupedCall, Head, Name, Slot};
+
+/// Why the machine doesn't go on with a call.
+#[derive(Clone, Copy, PartialEq, Eq)]
+pub(crate) enum Refusal {
+    /// No value goes on with it.
+    NotViable,
+    /// Memory was wanting.
+    NoMemory,
+}
+
+/// What is still to be done for a call that was made ready, where it is taken.
+#[derive(Clone, Copy)]
+pub(crate) enum Due {
+    /// Nothing.
+    Nothing,
+    /// A whole value comes to stand in the innermost frame.
+    Filled,
+    /// Nothing: the frame of a value was opened.
+    Opened,
+    /// The frame of a part was opened, and of the container around it so many entries are still to come with it.
+    Advanced(Option<usize>),
+    /// So much is still to come of the text or binary.
+    Left(Content, Option<usize>),
+    /// The innermost frame closes, and then a whole value stands in the one around it, or none.
+    Closed(bool),
+}
+
+/// Whether a whole value stands in the innermost frame, and all that is open.
+///
+/// A size counts down to what is still to come, so that none is too great to be kept.
+#[derive(Drop)]
+pub(crate) struct Machine {
+    /// A whole value stands directly in the innermost frame.
+    filled: bool,
+    frames: Stack,
+}
+
+impl Model for Machine {
+    ghost Value = { State };
+
+    ghost view = { λ machine. record { filled = machine.filled; frames = machine.frames } };
+}
+
+impl Machine {
+    /// The machine before any call, which takes no memory yet.
+    pub(crate) fn new(alloc: Global) -> Self
+        ensures { result ≡ unfilled [] }
+    {
+        Machine {
+            filled: false,
+            frames: Stack::new(alloc),
+        }
+    }
+
+    /// One whole value stands outside all that is open.
+    pub(crate) fn is_whole(&self) -> bool
+        ensures { result ≡ is_whole_tree self.now }
+    {
+        self.filled && self.frames.is_empty()
+    }
+
+    /// Nothing is open.
+    pub(crate) fn is_closed(&self) -> bool
+        ensures { result ≡ is_none (top_of self.now.frames) }
+    {
+        self.frames.is_empty()
+    }
+
+    /// Forgets that a whole value stands directly in the innermost frame, so that the next one may begin.
+    pub(crate) fn clear(&mut self)
+        ensures { self.new ≡ unfilled self.old.frames }
+    {
+        self.filled = false;
+    }
+
+    /// Makes ready for a call, or says why it doesn't go on: opens what the call opens, and leaves the rest.
+    #[inline(always)]
+    pub(crate) fn ready<L: Measured>(
+        &mut self,
+        call: AnyCall<'_, L::Text, L::Bytes>,
+    ) -> Result<Due, Refusal>
+        ensures { let call = call_of L.text L.bytes call.entry in
+            Readies (opens call) (next self.old call) self.old self.new result }
+    {
+        match call.grouped() {
+            GroupedCall::Null | GroupedCall::Bool(_) | GroupedCall::Int(_) => {
+                self.value(Form::Other)
+            }
+            GroupedCall::Tag(_) => self.value(Form::Variant),
+            GroupedCall::TagHint(_) => Ok(Due::Nothing),
+            GroupedCall::TextBegin(size) => self.begin(Begin::Text(size)),
+            GroupedCall::TextFragment(Fragment::Borrowed(text)) => {
+                self.fragment(Content::Text, L::text_len(text))
+            }
+            GroupedCall::TextFragment(Fragment::Computed(text)) => {
+                self.fragment(Content::Text, text.len())
+            }
+            GroupedCall::TextEnd => self.content_end(Content::Text),
+            GroupedCall::BinaryBegin(size) => self.begin(Begin::Binary(size)),
+            GroupedCall::BinaryFragment(Fragment::Borrowed(bytes)) => {
+                self.fragment(Content::Binary, L::bytes_len(bytes))
+            }
+            GroupedCall::BinaryFragment(Fragment::Computed(bytes)) => {
+                self.fragment(Content::Binary, bytes.len())
+            }
+            GroupedCall::BinaryEnd => self.content_end(Content::Binary),
+            GroupedCall::EnumBegin(name) => self.begin_named(NamedValue::Enum, name, None),
+            GroupedCall::EnumEnd(name) => self.enum_end(name),
+            GroupedCall::TaggedBegin(name) => self.begin_named(NamedValue::Tagged, name, None),
+            GroupedCall::TaggedEnd(name) => self.tagged_end(name),
+            // By `?`, what is due goes through memory here alone, and nowhere for the other calls.
+            GroupedCall::Begin(head, size) => Ok(self.begin_container(head, size)?),
+            GroupedCall::End(head) => self.end(head),
+            GroupedCall::PartBegin(slot) => self.part_begin(slot),
+            GroupedCall::PartEnd(slot) => self.part_end(slot),
+        }
+    }
+
+    /// Does what is still due for a call that is taken.
+    #[inline(always)]
+    pub(crate) fn finish(&mut self, due: Due)
+        ensures { self.new ≡ finished due self.old }
+    {
+        match due {
+            Due::Nothing | Due::Opened => {}
+            Due::Filled => self.filled = true,
+            Due::Advanced(left) => self.frames.advance_around(left),
+            Due::Left(content, left) => self.frames.set_left(content, left),
+            Due::Closed(filled) => {
+                self.frames.pop();
+                self.filled = filled;
+            }
+        }
+    }
+
+    /// Closes what was opened for a call that isn't taken.
+    pub(crate) fn undo(&mut self, due: Due)
+        ensures { self.new ≡ undone due self.old }
+    {
+        if let Due::Opened | Due::Advanced(_) = due {
+            self.frames.pop();
+        }
+    }
+
+    /// A value of this form may begin here.
+    fn has_room(&self, form: Form) -> bool
+        ensures { result ≡ has_room (seen_form form) self.now }
+    {
+        !self.filled && self.frames.admits(form)
+    }
+
+    /// Makes ready for a value that is one call.
+    fn value(&self, form: Form) -> Result<Due, Refusal>
+        ensures { Readies false (value (seen_form form) self.now) self.now self.now result }
+    {
+        if self.has_room(form) {
+            Ok(Due::Filled)
+        } else {
+            Err(Refusal::NotViable)
+        }
+    }
+
+    /// Opens a value that says no name.
+    #[inline(always)]
+    fn begin(&mut self, call: Begin) -> Result<Due, Refusal>
+        ensures { Readies true (begin (begun_form call) (begun_frame call) self.old) self.old self.new result }
+    {
+        if !self.has_room(call.form()) {
+            return Err(Refusal::NotViable);
+        }
+        self.frames.push(call).map_err(|_| Refusal::NoMemory)?;
+        Ok(Due::Opened)
+    }
+
+    /// Opens a value that says a name, of a container with its size.
+    #[inline(always)]
+    fn begin_named(
+        &mut self,
+        value: NamedValue,
+        name: Name<'_>,
+        size: Option<usize>,
+    ) -> Result<Due, Refusal>
+        ensures { let opened = value_frame value (plain_name (seen_name name.entry)) size in
+            Readies true (begin Variant opened self.old) self.old self.new result }
+    {
+        if !self.has_room(Form::Variant) {
+            return Err(Refusal::NotViable);
+        }
+        self.frames
+            .push_named(value, name, size)
+            .map_err(|_| Refusal::NoMemory)?;
+        Ok(Due::Opened)
+    }
+
+    /// Opens a container.
+    #[inline(never)]
+    fn begin_container(&mut self, head: Head<'_>, size: Option<usize>) -> Result<Due, Refusal>
+        ensures { let head = seen_head head.entry in
+            let opened = InContainer (plain_head head) (first_kind head) size in
+            Readies true (begin (form_of_head head) opened self.old) self.old self.new result }
+    {
+        match head {
+            Head::Seq => self.begin(Begin::Seq(size)),
+            Head::Map => self.begin(Begin::Map(size)),
+            Head::Record(name) => self.begin_named(NamedValue::Record, name, size),
+            Head::Tuple(name) => self.begin_named(NamedValue::Tuple, name, size),
+            Head::RecordTuple(name) => self.begin_named(NamedValue::RecordTuple, name, size),
+        }
+    }
+
+    /// Makes ready for so many bytes of a text or binary.
+    fn fragment(&self, content: Content, size: usize) -> Result<Due, Refusal>
+        ensures { Readies false (at_top (content_fragment content size) self.now) self.now self.now result }
+    {
+        if self.filled {
+            return Err(Refusal::NotViable);
+        }
+        let left = self
+            .frames
+            .content_rest(content, size)
+            .ok_or(Refusal::NotViable)?;
+        Ok(Due::Left(content, left))
+    }
+
+    /// Makes ready for the end of a text or binary.
+    fn content_end(&self, content: Content) -> Result<Due, Refusal>
+        ensures { Readies false (at_top (content_end content) self.now) self.now self.now result }
+    {
+        if !self.filled && self.frames.content_ends(content) {
+            Ok(Due::Closed(true))
+        } else {
+            Err(Refusal::NotViable)
+        }
+    }
+
+    /// Makes ready for the end of a value with a name of its own.
+    fn tagged_end(&self, name: Name<'_>) -> Result<Due, Refusal>
+        ensures { Readies false (at_top (tagged_end (seen_name name.entry)) self.now) self.now self.now result }
+    {
+        if self.filled && self.frames.is_tagged(name) {
+            Ok(Due::Closed(true))
+        } else {
+            Err(Refusal::NotViable)
+        }
+    }
+
+    /// Makes ready for an enum's end.
+    fn enum_end(&self, name: Name<'_>) -> Result<Due, Refusal>
+        ensures { Readies false (at_top (enum_end (seen_name name.entry)) self.now) self.now self.now result }
+    {
+        if self.frames.is_enum(name) {
+            Ok(Due::Closed(true))
+        } else {
+            Err(Refusal::NotViable)
+        }
+    }
+
+    /// Makes ready for a container's end.
+    fn end(&self, head: Head<'_>) -> Result<Due, Refusal>
+        ensures { Readies false (at_top (end (seen_head head.entry)) self.now) self.now self.now result }
+    {
+        if !self.filled && self.frames.ends(head) {
+            Ok(Due::Closed(true))
+        } else {
+            Err(Refusal::NotViable)
+        }
+    }
+
+    /// Opens a part of a container.
+    fn part_begin(&mut self, slot: Slot<'_>) -> Result<Due, Refusal>
+        ensures { Readies true (at_top (part_begin (seen_slot slot.entry)) self.old) self.old self.new result }
+    {
+        if self.filled {
+            return Err(Refusal::NotViable);
+        }
+        let left = self.frames.part_rest(slot).ok_or(Refusal::NotViable)?;
+        self.frames.push_part(slot).map_err(|_| Refusal::NoMemory)?;
+        Ok(Due::Advanced(left))
+    }
+
+    /// Makes ready for a part's end.
+    fn part_end(&self, slot: Slot<'_>) -> Result<Due, Refusal>
+        ensures { Readies false (at_top (part_end (seen_slot slot.entry)) self.now) self.now self.now result }
+    {
+        if self.filled && self.frames.is_slot(slot) {
+            Ok(Due::Closed(false))
+        } else {
+            Err(Refusal::NotViable)
+        }
+    }
+}
