@@ -91,7 +91,7 @@ canon-one_tree t u p q e =
 abbrev all_calls : List Tree → List Call
 all_calls trees = flat_map calls_of trees
 
-printed-append : (cs ds : List Call) → printed (cs ++ ds) ≡ printed cs ++ printed ds
+pub printed-append : (cs ds : List Call) → printed (cs ++ ds) ≡ printed cs ++ printed ds
 unfolding printed
 printed-append [] ds = refl
 printed-append (c ∷ cs) ds =

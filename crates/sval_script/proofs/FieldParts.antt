@@ -1,7 +1,8 @@
 -- The parts of a field, and what is read of them.
-use Rattle.std.specs.Prelude.{◌≡◌, ℕ, Bool, true, false, List, [], ◌∷◌, Option, Some, None, option_map, option_and_then, ℤ, refl}
+use Rattle.std.specs.Prelude.{◌≡◌, ℕ, Bool, true, false, List, [], ◌∷◌, Option, Some, None, option_map, option_and_then, Ok, Err, ℤ, refl}
 use Rattle.std.specs.List.{list_all}
 use Rattle.std.specs.Borrow.{Bor}
+use Rattle.std.specs.Option.{ok_or}
 use Rattle.std.proofs.Common.{ap, sym, ◌∙◌}
 use Rattle.std.proofs.lemmas.Bool.{false_from_ne_true}
 use Rattle.sval_label.specs.Calls as call
@@ -14,6 +15,18 @@ use Rattle.sval_script.specs.declared.tag.TagField.{TagField}
 use Rattle.sval_script.proofs.Cut.{is_not, cut_none}
 use Rattle.sval_script.proofs.FieldCuts.{two_parts}
 use Rattle.sval_script.proofs.TagTable.{tag-clean}
+
+-- what was read, where an error didn't take its place
+pub some_from : {A E : Type 0} {x : A} (made : Option A) (why : E) → Ok x ≡ ok_or made why → made ≡ Some x
+some_from None why is = cc is
+some_from {x = x} (Some other) why is =
+    let same : other ≡ x = cc is in
+    ap Some same
+
+-- nothing was read where an error took its place
+pub none_from : {A E : Type 0} {error : E} (made : Option A) (why : E) → Err error ≡ ok_or made why → made ≡ None
+none_from None why is = refl
+none_from (Some x) why is = cc is
 
 abbrev Parts : Type 0
 Parts = Option (List ℕ × Option call.Tag)

@@ -58,9 +58,6 @@ bytes_stored field digits old new start len h e d s l = record {
   has_len = let whole : length new ≡ length old + length d.bytes = ap length d.stored ∙ length-append old d.bytes in omega arith;
 }
 
-pub bytes_refused : (field digits : List ℕ) → get_or field 0 0 ≡ 61 → digits ≡ take (length field - 1) (drop 1 field) → result_ok (decode_of digits) ≡ None → bytes field ≡ None
-bytes_refused field digits h e none = bytes_behind field digits h e ∙ none
-
 -- what holds of a length holds where it is answered
 pub answered : (P : ℕ → Type 0) (len : ℕ) (r : Result ℕ LineError) → P len → IfOk r (λ n. n ≡ len) → IfOk r P
 answered P len (Ok n) holds same = subst P (sym same) holds

@@ -1,14 +1,13 @@
 -- What a field says, seen by whatever follows it.
-use Rattle.std.specs.Prelude.{◌≡◌, ℕ, List, Option, Some, None, option_map, Ok, refl}
+use Rattle.std.specs.Prelude.{◌≡◌, ℕ, List, Option, Some, None, IfSome, Ok, Err, option_map, refl}
 use Rattle.std.specs.Option.{ok_or}
 use Rattle.std.specs.Borrow.{Bor}
-use Rattle.std.proofs.Common.{◌∙◌, sym, ap}
+use Rattle.std.proofs.Common.{◌∙◌, sym, ap, subst}
 use Rattle.sval_label.specs.Calls.{Call, Name, Label, Index, Tag}
 use Rattle.sval_script.specs.Lines as script
 use Rattle.sval_script.specs.Lines.{LineForm, forms, find_form, call_of_fields}
 use Rattle.sval_script.specs.Fields.{LineLeft, line_ahead}
-use Rattle.sval_script.specs.NextFields.{with_field, NoField, call_before, first_call, EndsBefore, NextIs, NoNext, ReadsNext, ReadsAs, ReadsWord, StoresNext}
-use Rattle.sval_script.specs.FieldValues.{Stores}
+use Rattle.sval_script.specs.NextFields.{with_field, NoField, call_before, first_call, EndsBefore, NextIs, NoNext, ReadsNext, ReadsAs, ReadsWord}
 use Rattle.sval_script.specs.Words.{form_of_word}
 use Rattle.sval_script.specs.LineCalls.{Stored, call_with}
 use Rattle.sval_script.specs.MadeLines.{MakesLine, IsMade}
@@ -49,36 +48,49 @@ word_read first line (Some left) None is said = rw (is, ← said) refl
 word_read first line None (Some word) is said = rw is refl
 word_read first line (Some left) (Some word) is said = rw (is, ← said) refl
 
-pub stored_next : {A : Type 0} (read : List ℕ → Option A) (make : List ℕ → A) (IsGood : List ℕ → Type 0) (old new : List ℕ) (len : ℕ) (first : List ℕ) (line rest : LineLeft)
-    → line ≡ with_field first rest → Stores (read first) make IsGood old new len → StoresNext read make IsGood line rest old new len
-stored_next read make IsGood old new len first line rest is s = record {
-  bytes = s.bytes;
-  spells = field_is read first line rest (make s.bytes) is s.spells;
-  is_good = s.is_good;
-  stored = s.stored;
-  has_len = s.has_len;
-}
+-- where nothing was read, whatever follows, no call is spelled
+pub not_read : {A B : Type 0} (read : List ℕ → Option A) (seen : B → A) (line rest : LineLeft) (made : Option B) (why error : LineError) → ReadsAs read seen line rest made → Err error ≡ ok_or made why → NoNext read line
+not_read read seen line rest None why error reads is = reads
+not_read read seen line rest (Some x) why error reads is = cc is
+
+-- where something was read, it is what the next field says
+pub is_read : {A B : Type 0} (read : List ℕ → Option A) (seen : B → A) (line rest : LineLeft) {x : B} (made : Option B) (why : LineError) → ReadsAs read seen line rest made → Ok x ≡ ok_or made why
+    → NextIs read line rest (seen x)
+is_read read seen line rest None why reads is = cc is
+is_read read seen line rest {x = x} (Some other) why reads is =
+    let same : other ≡ x = cc is in
+    subst (λ y. NextIs read line rest (seen y)) same reads
+
+-- what holds of whatever was read holds of this
+pub holds_read : {B : Type 0} (P : B → Type 0) {x : B} (made : Option B) (why : LineError) → IfSome made P → Ok x ≡ ok_or made why → P x
+holds_read P None why holds is = cc is
+holds_read P {x = x} (Some other) why holds is =
+    let same : other ≡ x = cc is in
+    subst P same holds
 
 pub is_made : (script : List ℕ) {old new : Stored} {made : Line} (word : Word) (line rest : LineLeft) (read : Option Word) (end : Option (Bor (List ℕ))) (why : LineError) (left : Bor (List ℕ))
-    → ReadsWord (line_ahead script) line read → Ok word ≡ ok_or read why → MakesLine (form_of_word word) line rest old new made → EndsBefore rest end → end ≡ Some left
+    → ReadsWord (line_ahead script) line read → Ok word ≡ ok_or read why → MakesLine (form_of_word word) line rest old new made → EndsBefore rest end → Ok left ≡ ok_or end why
     → IsMade (first_call script) left.now old new made
 is_made script word line rest None end why left reads is m ends found = cc is
-is_made script {made = made} word line rest (Some other) end why left reads is m ends found =
+is_made script word line rest (Some other) None why left reads is m ends found = cc found
+is_made script {made = made} word line rest (Some other) (Some behind) why left reads is m ends found =
     let same : other ≡ word = cc is in
+    let here : behind ≡ left = cc found in
     record {
       bytes = m.bytes;
       numbers = m.numbers;
-      spells = reads ∙ ap (λ w. call_before (form_of_word w) line) same ∙ m.spells ∙ ends (call_with m.bytes m.numbers made) ∙ ap (option_map (λ (r : Bor (List ℕ)). let pair : Call × List ℕ = (call_with m.bytes m.numbers made, r.now) in pair)) found;
+      spells = reads ∙ ap (λ w. call_before (form_of_word w) line) same ∙ m.spells ∙ ends (call_with m.bytes m.numbers made) ∙ ap (λ (r : Bor (List ℕ)). let pair : Option (Call × List ℕ) = Some (call_with m.bytes m.numbers made, r.now) in pair) here;
       puts = m.puts;
     }
 
-pub is_not_made : (script : List ℕ) {old new : Stored} {made : Line} (word : Word) (line rest : LineLeft) (read : Option Word) (end : Option (Bor (List ℕ))) (why : LineError)
-    → ReadsWord (line_ahead script) line read → Ok word ≡ ok_or read why → MakesLine (form_of_word word) line rest old new made → EndsBefore rest end → end ≡ None
+pub is_not_made : (script : List ℕ) {old new : Stored} {made : Line} (word : Word) (line rest : LineLeft) (read : Option Word) (end : Option (Bor (List ℕ))) (why error : LineError)
+    → ReadsWord (line_ahead script) line read → Ok word ≡ ok_or read why → MakesLine (form_of_word word) line rest old new made → EndsBefore rest end → Err error ≡ ok_or end why
     → first_call script ≡ None
-is_not_made script word line rest None end why reads is m ends found = cc is
-is_not_made script {made = made} word line rest (Some other) end why reads is m ends found =
+is_not_made script word line rest None end why error reads is m ends found = cc is
+is_not_made script word line rest (Some other) (Some behind) why error reads is m ends found = cc found
+is_not_made script {made = made} word line rest (Some other) None why error reads is m ends found =
     let same : other ≡ word = cc is in
-    reads ∙ ap (λ w. call_before (form_of_word w) line) same ∙ m.spells ∙ ends (call_with m.bytes m.numbers made) ∙ ap (option_map (λ (r : Bor (List ℕ)). let pair : Call × List ℕ = (call_with m.bytes m.numbers made, r.now) in pair)) found
+    reads ∙ ap (λ w. call_before (form_of_word w) line) same ∙ m.spells ∙ ends (call_with m.bytes m.numbers made)
 
 -- ---- names
 

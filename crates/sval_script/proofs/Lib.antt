@@ -1,8 +1,15 @@
 pub mod Cut
 pub mod PrintedFields
 pub mod PrintedLines
+pub mod PrintedPieces
+pub mod Printers
+pub mod CanonPrinters
+pub mod PrintedValues
 pub mod CanonicalScripts
-pub mod RealScripts
+pub mod PrintableScripts
+pub mod PrintableTrees
+pub mod ExactCalls
+pub mod KnownTags
 pub mod Tables
 pub mod WordTable
 pub mod TagTable
@@ -18,6 +25,7 @@ pub mod Decimals
 pub mod FieldTexts
 pub mod ScriptLines
 pub mod ScriptPieces
+pub mod ScriptSlices
 pub mod ScriptStreams
 pub mod ScriptTexts
 pub mod WholeLines

@@ -48,10 +48,6 @@ pub record Spell (words : List (List ℕ)) (call : Call) : Type 0 where
   as_call : call_among forms words ≡ Some call
   inner : are_inner words ≡ true
 
--- a word with one field, and one with a name
-abbrev one_field : List ℕ → List (List ℕ)
-one_field part = part ∷ []
-
 sized-spell : (word : List ℕ) (make : Option ℕ → Call) (n : Option ℕ) → IsShortSize n → list_all is_inner word ≡ true
     → find_form word forms ≡ Some (field size (λ k. complete (make k))) → Spell (word ∷ size_field n ∷ []) (make n)
 sized-spell word make n h w e = record {

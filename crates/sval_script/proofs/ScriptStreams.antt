@@ -16,7 +16,7 @@ pub record IsStreamedUpTo {V : Type 0} (law : Law V) (old now : Standing V) (all
   pub holds : HoldsLines bytes numbers left
   pub streams : Streams law old (makes done) now
 
-here : (lines : List Line) (i : ℕ) (d : Line) → i < length lines → drop i lines ≡ get_or lines i d ∷ drop (i + 1) lines
+pub here : (lines : List Line) (i : ℕ) (d : Line) → i < length lines → drop i lines ≡ get_or lines i d ∷ drop (i + 1) lines
 here lines i d h = rw add-one (drop-cons lines i d h)
 
 -- what is left holds the next line's own

@@ -16,5 +16,6 @@ cut_line (byte ∷ bytes) = if byte == 10 then Some ([], bytes) else option_map 
 abbrev pub line_ahead : List ℕ → LineLeft
 line_ahead script = option_map (λ line. (cut_at 32 line.0, line.1)) (cut_line script)
 
+-- what a cursor has left of its line, which is over where its line feed was read
 abbrev pub line_left : Inside → LineLeft
 line_left fields = if fields.is_over then Some ([], fields.rest.now) else line_ahead fields.rest.now

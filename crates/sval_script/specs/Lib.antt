@@ -1,6 +1,9 @@
 pub mod Lines
 pub mod Printed
 pub mod Canon
+pub mod Printing
+pub mod CanonPrinting
+pub mod PrintedValues
 pub mod Laws
 pub mod Words
 pub mod Tags

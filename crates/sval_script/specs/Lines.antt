@@ -24,6 +24,7 @@ keep test x = if test x then Some x else None
 
 -- ---- one field
 
+-- the number of a decimal
 abbrev pub natural : List ℕ → Option ℕ
 natural field = option_map (digits_value 10) (keep is_decimal field)
 
@@ -45,6 +46,7 @@ whole_number_of type part = option_and_then (keep (is_of_type type)) (integer pa
 abbrev pub or_dash : {A : Type 0} → (List ℕ → Option A) → List ℕ → Option (Option A)
 or_dash read field = if bytes_eq field (codes "-") then Some None else option_map Some (read field)
 
+-- a decimal of 64 bits, or `-` for no size
 abbrev pub size : List ℕ → Option (Option ℕ)
 size = or_dash (λ field. option_and_then (keep (λ n. nat_lt n (2 ^ 64))) (natural field))
 
@@ -53,9 +55,11 @@ abbrev pub bytes : List ℕ → Option (List ℕ)
 bytes [] = None
 bytes (first ∷ digits) = if first == 61 then result_ok (decode_of digits) else None
 
+-- bytes that are UTF-8
 abbrev pub text : List ℕ → Option (List ℕ)
 text field = option_and_then (keep is_utf8) (bytes field)
 
+-- `true` or `false`
 abbrev pub truth : List ℕ → Option Bool
 truth field = if bytes_eq field (codes "true") then Some true else if bytes_eq field (codes "false") then Some false else None
 
@@ -93,6 +97,7 @@ abbrev pub field : {A : Type 0} → (List ℕ → Option A) → (A → LineForm)
 field read next [] = None
 field read next (first ∷ fields) = option_and_then (λ x. next x fields) (read first)
 
+-- a whole number in the type's range, and no field more
 abbrev pub whole_number : IntType → LineForm
 whole_number type = field (whole_number_of type) (λ z. complete (Int type z))
 
@@ -112,6 +117,7 @@ tuple_part make = field (or_dash tag) (λ t. field index (λ i. complete (make (
 abbrev pub record_tuple_part : (Slot → Call) → LineForm
 record_tuple_part make = field (or_dash tag) (λ t. field label (λ l. field index (λ i. complete (make (FieldPlace t l i)))))
 
+-- the 48 words, and the form of the fields behind each
 unfoldable pub forms : List (List ℕ × LineForm)
 forms = (codes "null", complete Null)
     ∷ (codes "bool", field truth (λ b. complete (Truth b)))
@@ -173,6 +179,7 @@ abbrev pub call_among : List (List ℕ × LineForm) → List (List ℕ) → Opti
 call_among table [] = None
 call_among table (word ∷ fields) = option_and_then (λ form. form fields) (find_form word table)
 
+-- the call that a word and its fields spell, if any
 abbrev pub call_of_fields : List (List ℕ) → Option Call
 call_of_fields = call_among forms
 
@@ -204,5 +211,6 @@ lines_from read n [] = Good []
 lines_from read n (rest ∷ []) = after_last n rest
 lines_from read n (line ∷ next ∷ more) = with_call n (read line) (lines_from read (n + 1) (next ∷ more))
 
+-- the lines of a script, which end with line feeds
 unfoldable pub lines : List ℕ → Lines
 lines script = lines_from line_of 1 (cut_at 10 script)

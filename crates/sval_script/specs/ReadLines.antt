@@ -14,6 +14,7 @@ use Rattle.sval_script.specs.declared.reader.ReadLines.{ReadLines}
 abbrev pub calls_of : List Line → Stored → List Call
 calls_of lines store = calls_with store.bytes store.numbers lines
 
+-- the store holds the lines' bytes and numbers, and no others
 abbrev pub Holds : List Line → Stored → Type 0
 Holds lines store = HoldsLines store.bytes store.numbers lines
 

@@ -27,6 +27,7 @@ pub record Reading : Type 0 where
   pub begun : List ℕ
   pub stopped : Option ScriptError
 
+-- the answer that is due, unless the reader stopped, and then why it did
 abbrev pub answer_unless : Option ScriptError → Lines → Result (List Call) ScriptError
 answer_unless None lines = answer_to lines
 answer_unless (Some why) lines = Err why

@@ -1,6 +1,6 @@
 //! What the fields of a line say.
 
-ghost use Rattle.std.specs.Prelude.{◌≡◌, ◌≤◌, None, option_map, option_and_then, IfOk, OnOk, length};
+ghost use Rattle.std.specs.Prelude.{◌≡◌, ◌≤◌, ◌^◌, None, option_map, option_and_then, IfOk, OnOk, length};
 ghost use Rattle.std.specs.Bool.{MatchBool};
 ghost use Rattle.std.specs.Result.{result_ok};
 ghost use Rattle.std.specs.Str.{IsUtf8};
@@ -141,10 +141,7 @@ fn split_tag(field: &[u8]) -> Option<(&[u8], TagField)>
 {
     match colon(field) {
         None => Some((field, TagField::Absent)),
-        Some(end) => match TagField::read(&field[end + 1..]) {
-            None => None,
-            Some(tag) => Some((&field[..end], tag)),
-        },
+        Some(end) => Some((&field[..end], TagField::read(&field[end + 1..])?)),
     }
 }
 
@@ -153,14 +150,8 @@ fn index_of_digits(field: &[u8]) -> Option<(Sign, u64)>
     ensures { option_map index_number result ≡ option_and_then (script.keep is_index) (script.integer field.now) }
 {
     match field {
-        [b'-', ..] => match integer(field) {
-            None => None,
-            Some(number) => Some((Sign::Signed, number.cast_unsigned())),
-        },
-        _ => match natural(field) {
-            None => None,
-            Some(number) => Some((Sign::Natural, number)),
-        },
+        [b'-', ..] => Some((Sign::Signed, integer(field)?.cast_unsigned())),
+        _ => Some((Sign::Natural, natural(field)?)),
     }
 }
 
@@ -169,13 +160,9 @@ fn index_of_digits(field: &[u8]) -> Option<(Sign, u64)>
 pub(crate) fn index(field: &[u8]) -> Option<IndexRead>
     ensures { option_map index_of result ≡ script.index field.now }
 {
-    match split_tag(field) {
-        None => None,
-        Some((part, tag)) => match index_of_digits(part) {
-            None => None,
-            Some((sign, number)) => Some(IndexRead { sign, tag, number }),
-        },
-    }
+    let (part, tag) = split_tag(field)?;
+    let (sign, number) = index_of_digits(part)?;
+    Some(IndexRead { sign, tag, number })
 }
 
 /// An index, or `-` where there is none, and its number.
@@ -184,10 +171,10 @@ pub(crate) fn index_or_dash(field: &[u8]) -> Option<(IndexField, u64)>
 {
     match field {
         b"-" => Some((IndexField::Absent, 0)),
-        _ => match index(field) {
-            None => None,
-            Some(index) => Some((IndexField::Present(index.sign, index.tag), index.number)),
-        },
+        _ => {
+            let index = index(field)?;
+            Some((IndexField::Present(index.sign, index.tag), index.number))
+        }
     }
 }
 
@@ -221,11 +208,9 @@ fn is_utf8(bytes: &[u8]) -> bool
 fn kept_len(len: usize) -> Result<u32, LineError>
     ensures same { IfOk result (λ kept. kept ≡ len) }
     ensures no_memory { ¬ (result ≡ Err LineError.Bad) }
+    ensures too_long { result ≡ Err LineError.NoMemory → 2 ^ 32 ≤ len }
 {
-    match u32::try_from(len) {
-        Ok(len) => Ok(len),
-        Err(_) => Err(LineError::NoMemory),
-    }
+    u32::try_from(len).map_err(|_| LineError::NoMemory)
 }
 
 /// Puts the text that a field spells behind what the store has, and answers how many bytes it has.
@@ -265,13 +250,9 @@ pub(crate) fn store_label(store: &mut Vec<u8>, field: &[u8]) -> Result<LabelRead
     ensures stored { IfOk result (λ label. StoresLabel field.now store.old.items store.new.items label) }
     ensures bad { result ≡ Err LineError.Bad → script.label field.now ≡ None }
 {
-    let Some((part, tag)) = split_tag(field) else {
-        return Err(LineError::Bad);
-    };
-    match store_text(store, part) {
-        Err(error) => Err(error),
-        Ok(len) => Ok(LabelRead { tag, len }),
-    }
+    let (part, tag) = split_tag(field).ok_or(LineError::Bad)?;
+    let len = store_text(store, part)?;
+    Ok(LabelRead { tag, len })
 }
 
 /// Puts a label's text behind what the store has, or nothing for `-`, and answers how many bytes it has.
@@ -285,9 +266,9 @@ pub(crate) fn store_label_or_dash(
 {
     match field {
         b"-" => Ok((LabelField::Absent, 0)),
-        _ => match store_label(store, field) {
-            Err(error) => Err(error),
-            Ok(label) => Ok((LabelField::Present(label.tag), label.len)),
-        },
+        _ => {
+            let label = store_label(store, field)?;
+            Ok((LabelField::Present(label.tag), label.len))
+        }
     }
 }

@@ -225,19 +225,13 @@ impl<'a> Fields<'a> {
         ensures bad { result ≡ Err LineError.Bad
             → (next : call.Name → script.LineForm) → call_before (script.name next) self.old ≡ None }
     {
-        match self.tag_or_dash() {
-            None => Err(LineError::Bad),
-            Some(tag) => match self.label_or_dash(store) {
-                Err(error) => Err(error),
-                Ok((label, len)) => match self.index_or_dash() {
-                    None => Err(LineError::Bad),
-                    Some((index, number)) => Ok(NameRead {
-                        parts: NameFields { tag, label, index },
-                        len,
-                        number,
-                    }),
-                },
-            },
-        }
+        let tag = self.tag_or_dash().ok_or(LineError::Bad)?;
+        let (label, len) = self.label_or_dash(store)?;
+        let (index, number) = self.index_or_dash().ok_or(LineError::Bad)?;
+        Ok(NameRead {
+            parts: NameFields { tag, label, index },
+            len,
+            number,
+        })
     }
 }

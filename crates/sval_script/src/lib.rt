@@ -1,22 +1,31 @@
 //! Scripts: calls as lines of text.
 //!
 //! A [`Script`] is read from bytes, whole or by a [`ScriptReader`] in pieces, and is a value: it makes the calls of its
-//! lines. What a line says stands in
-//! `specs/Lines.antt`, how calls are printed in `specs/Printed.antt`, and [`laws`] has what holds of both.
+//! lines. So is a [`ScriptSlice`] of it. A [`Printer`] is a stream that writes calls as such lines, and [`print_canon`]
+//! prints a value as a canonical script shows it. What a line says stands in `specs/Lines.antt`, how calls are printed
+//! in `specs/Printed.antt`, and [`laws`] has what holds of both.
 #![tactic(auto)]
 
+mod canon;
 mod field;
 mod fields;
 pub mod laws;
 mod line;
 mod making;
 mod number;
+mod print_error;
+mod printer;
 mod reader;
 mod script;
 mod short;
+mod slice;
 mod store;
 mod tag;
 mod word;
 
+pub use canon::print_canon;
+pub use print_error::PrintError;
+pub use printer::Printer;
 pub use reader::ScriptReader;
 pub use script::{Script, ScriptError};
+pub use slice::ScriptSlice;

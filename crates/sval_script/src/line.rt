@@ -72,10 +72,8 @@ fn read_truth(store: &mut Store, fields: &mut Fields) -> Result<Line, LineError>
         MakesLine (form_of_word word.Bool) fields.old fields.new (stored store.old) (stored store.new) line) }
     ensures bad { result ≡ Err LineError.Bad → call_before (form_of_word word.Bool) fields.old ≡ None }
 {
-    match fields.truth() {
-        None => Err(LineError::Bad),
-        Some(value) => Ok(Line::Bool(value)),
-    }
+    let value = fields.truth().ok_or(LineError::Bad)?;
+    Ok(Line::Bool(value))
 }
 
 /// Reads a whole number.
@@ -86,10 +84,8 @@ fn read_number(kind: NumberType, store: &mut Store, fields: &mut Fields) -> Resu
     ensures bad { result ≡ Err LineError.Bad
         → call_before (form_of_word (word.Number kind)) fields.old ≡ None }
 {
-    match fields.number(kind) {
-        None => Err(LineError::Bad),
-        Some(number) => store.put_number(number),
-    }
+    let number = fields.number(kind).ok_or(LineError::Bad)?;
+    store.put_number(number)
 }
 
 /// Reads a size.
@@ -100,14 +96,11 @@ fn read_opening(opening: Opening, store: &mut Store, fields: &mut Fields) -> Res
     ensures bad { result ≡ Err LineError.Bad
         → call_before (form_of_word (word.Opening opening)) fields.old ≡ None }
 {
-    match fields.size() {
-        None => Err(LineError::Bad),
-        Some(None) => Ok(Line::Opening(opening)),
-        Some(Some(size)) => match store.push(size as u64) {
-            Err(error) => Err(error),
-            Ok(()) => Ok(Line::SizedOpening(opening)),
-        },
-    }
+    let Some(size) = fields.size().ok_or(LineError::Bad)? else {
+        return Ok(Line::Opening(opening));
+    };
+    store.push(size as u64)?;
+    Ok(Line::SizedOpening(opening))
 }
 
 /// Reads a text.
@@ -118,10 +111,8 @@ fn read_text(life: Lifetime, store: &mut Store, fields: &mut Fields) -> Result<L
     ensures bad { result ≡ Err LineError.Bad
         → call_before (form_of_word (word.TextFragment life)) fields.old ≡ None }
 {
-    match fields.text(&mut store.bytes) {
-        Err(error) => Err(error),
-        Ok(len) => Ok(Line::TextFragment(life, len)),
-    }
+    let len = fields.text(&mut store.bytes)?;
+    Ok(Line::TextFragment(life, len))
 }
 
 /// Reads bytes.
@@ -132,10 +123,8 @@ fn read_binary(life: Lifetime, store: &mut Store, fields: &mut Fields) -> Result
     ensures bad { result ≡ Err LineError.Bad
         → call_before (form_of_word (word.BinaryFragment life)) fields.old ≡ None }
 {
-    match fields.bytes(&mut store.bytes) {
-        Err(error) => Err(error),
-        Ok(len) => Ok(Line::BinaryFragment(life, len)),
-    }
+    let len = fields.bytes(&mut store.bytes)?;
+    Ok(Line::BinaryFragment(life, len))
 }
 
 /// Reads a tag alone.
@@ -144,10 +133,8 @@ fn read_tag_hint(store: &mut Store, fields: &mut Fields) -> Result<Line, LineErr
         MakesLine (form_of_word word.TagHint) fields.old fields.new (stored store.old) (stored store.new) line) }
     ensures bad { result ≡ Err LineError.Bad → call_before (form_of_word word.TagHint) fields.old ≡ None }
 {
-    match fields.tag() {
-        None => Err(LineError::Bad),
-        Some(tag) => Ok(Line::TagHint(tag)),
-    }
+    let tag = fields.tag().ok_or(LineError::Bad)?;
+    Ok(Line::TagHint(tag))
 }
 
 /// Reads a name.
@@ -158,13 +145,9 @@ fn read_named(named: Named, store: &mut Store, fields: &mut Fields) -> Result<Li
     ensures bad { result ≡ Err LineError.Bad
         → call_before (form_of_word (word.Named named)) fields.old ≡ None }
 {
-    match fields.name(&mut store.bytes) {
-        Err(error) => Err(error),
-        Ok(name) => match store.push_name(name) {
-            Err(error) => Err(error),
-            Ok(()) => Ok(Line::Named(named, name.parts)),
-        },
-    }
+    let name = fields.name(&mut store.bytes)?;
+    store.push_name(name)?;
+    Ok(Line::Named(named, name.parts))
 }
 
 /// Reads a name and a size.
@@ -179,20 +162,13 @@ fn read_named_opening(
     ensures bad { result ≡ Err LineError.Bad
         → call_before (form_of_word (word.NamedOpening opening)) fields.old ≡ None }
 {
-    match fields.name(&mut store.bytes) {
-        Err(error) => Err(error),
-        Ok(name) => match store.push_name(name) {
-            Err(error) => Err(error),
-            Ok(()) => match fields.size() {
-                None => Err(LineError::Bad),
-                Some(None) => Ok(Line::NamedOpening(opening, name.parts)),
-                Some(Some(size)) => match store.push(size as u64) {
-                    Err(error) => Err(error),
-                    Ok(()) => Ok(Line::SizedNamedOpening(opening, name.parts)),
-                },
-            },
-        },
-    }
+    let name = fields.name(&mut store.bytes)?;
+    store.push_name(name)?;
+    let Some(size) = fields.size().ok_or(LineError::Bad)? else {
+        return Ok(Line::NamedOpening(opening, name.parts));
+    };
+    store.push(size as u64)?;
+    Ok(Line::SizedNamedOpening(opening, name.parts))
 }
 
 /// Reads a tag and a label.
@@ -203,13 +179,9 @@ fn read_field(side: Side, store: &mut Store, fields: &mut Fields) -> Result<Line
     ensures bad { result ≡ Err LineError.Bad
         → call_before (form_of_word (word.Field side)) fields.old ≡ None }
 {
-    match fields.tag_or_dash() {
-        None => Err(LineError::Bad),
-        Some(tag) => match fields.label(&mut store.bytes) {
-            Err(error) => Err(error),
-            Ok(label) => Ok(Line::Field(side, tag, label.tag, label.len)),
-        },
-    }
+    let tag = fields.tag_or_dash().ok_or(LineError::Bad)?;
+    let label = fields.label(&mut store.bytes)?;
+    Ok(Line::Field(side, tag, label.tag, label.len))
 }
 
 /// Reads a tag and an index.
@@ -220,16 +192,10 @@ fn read_place(side: Side, store: &mut Store, fields: &mut Fields) -> Result<Line
     ensures bad { result ≡ Err LineError.Bad
         → call_before (form_of_word (word.Place side)) fields.old ≡ None }
 {
-    match fields.tag_or_dash() {
-        None => Err(LineError::Bad),
-        Some(tag) => match fields.index() {
-            None => Err(LineError::Bad),
-            Some(index) => match store.push(index.number) {
-                Err(error) => Err(error),
-                Ok(()) => Ok(Line::Place(side, tag, index.sign, index.tag)),
-            },
-        },
-    }
+    let tag = fields.tag_or_dash().ok_or(LineError::Bad)?;
+    let index = fields.index().ok_or(LineError::Bad)?;
+    store.push(index.number)?;
+    Ok(Line::Place(side, tag, index.sign, index.tag))
 }
 
 /// Reads a tag, a label and an index.
@@ -240,19 +206,11 @@ fn read_field_place(side: Side, store: &mut Store, fields: &mut Fields) -> Resul
     ensures bad { result ≡ Err LineError.Bad
         → call_before (form_of_word (word.FieldPlace side)) fields.old ≡ None }
 {
-    match fields.tag_or_dash() {
-        None => Err(LineError::Bad),
-        Some(tag) => match fields.label(&mut store.bytes) {
-            Err(error) => Err(error),
-            Ok(label) => match fields.index() {
-                None => Err(LineError::Bad),
-                Some(index) => match store.push_two(u64::from(label.len), index.number) {
-                    Err(error) => Err(error),
-                    Ok(()) => Ok(Line::FieldPlace(side, tag, label.tag, index.sign, index.tag)),
-                },
-            },
-        },
-    }
+    let tag = fields.tag_or_dash().ok_or(LineError::Bad)?;
+    let label = fields.label(&mut store.bytes)?;
+    let index = fields.index().ok_or(LineError::Bad)?;
+    store.push_two(u64::from(label.len), index.number)?;
+    Ok(Line::FieldPlace(side, tag, label.tag, index.sign, index.tag))
 }
 
 impl Word {
@@ -292,8 +250,6 @@ pub(crate) fn read_line<'a>(
     let mut fields = Fields::new(script);
     let word = fields.word().ok_or(LineError::Bad)?;
     let made = word.read_fields(store, &mut fields)?;
-    match fields.end() {
-        Some(rest) => Ok((made, rest)),
-        None => Err(LineError::Bad),
-    }
+    let rest = fields.end().ok_or(LineError::Bad)?;
+    Ok((made, rest))
 }

@@ -162,6 +162,7 @@ fn make_alone<L: Lending, S: Stream<L>>(word: Alone, stream: &mut S) -> Result
 }
 
 /// Makes the begin with this size.
+#[inline(always)]
 fn make_opening<L: Lending, S: Stream<L>>(
     opening: Opening,
     size: Option<usize>,

@@ -1,6 +1,6 @@
 //! Scripts that come in pieces.
 
-ghost use Rattle.std.specs.Prelude.{◌≡◌, [], ℕ, List, ◌++◌, ◌<◌, ◌^◌, length, OnOk, IfOk, IfErr};
+ghost use Rattle.std.specs.Prelude.{◌≡◌, [], ℕ, List, ◌++◌, ◌<◌, ◌^◌, length, IsSome, OnOk, IfOk, IfErr};
 ghost use Rattle.sval_script.specs.Lines.{lines};
 ghost use Rattle.sval_script.specs.LineCalls.{stored};
 ghost use Rattle.sval_script.specs.Readings.{answer_to, answer_with, TakesPiece};
@@ -149,9 +149,13 @@ impl ScriptReader {
     }
 
     /// Takes the next piece, which may end within a line. What is wrong with the script, [`finish`](Self::finish) says.
+    ///
+    /// Where a line is found to be bad, or memory is wanting, the reader stops. It then stays as it is, whatever pieces
+    /// come, so no later piece changes what [`finish`](Self::finish) answers.
     pub fn push(&mut self, piece: &[u8])
         ensures takes { TakesPiece self.old piece.now self.new }
         ensures nothing { piece.now ≡ [] → self.new ≡ self.old }
+        ensures stays { IsSome self.old.stopped → self.new ≡ self.old }
     {
         if piece.is_empty() || self.stopped.is_some() {
             return;

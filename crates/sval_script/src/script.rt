@@ -1,6 +1,7 @@
 //! Scripts of calls.
 
-ghost use Rattle.std.specs.Prelude.{◌≡◌, ◌⊎◌, ℕ, ◌<◌, ◌^◌, IfOk, length};
+ghost use Rattle.std.specs.Prelude.{◌≡◌, ◌⊎◌, ◌↔◌, ℕ, ◌<◌, ◌≤◌, ◌^◌, IfOk, IfSome, IsSome, length};
+ghost use Rattle.sval_core.specs.Many.{slice};
 ghost use Rattle.sval_core.specs.Values.{makes};
 ghost use Rattle.sval_script.specs.Lines.{Good, Bad};
 ghost use Rattle.sval_script.specs.Lines as spec;
@@ -9,7 +10,8 @@ ghost use Rattle.sval_script.specs.declared.script.ScriptError.TheVariants as er
 
 use crate::line::Line;
 use crate::reader::ScriptReader;
-use crate::store::{Left, Store};
+use crate::slice::{ScriptSlice, make_lines};
+use crate::store::Store;
 use std::alloc::{AllocError, AllocFailed, Global};
 use std::marker::Model;
 use sval_core::{Lent, Stream, Value};
@@ -94,20 +96,49 @@ impl Script {
     {
         self.lines.len() as u64
     }
+
+    /// All its lines.
+    pub fn as_slice(&self) -> ScriptSlice<'_>
+        ensures { result ≡ self.now }
+    {
+        ScriptSlice {
+            lines: self.lines.as_slice(),
+            bytes: self.store.bytes.as_slice(),
+            numbers: self.store.numbers.as_slice(),
+        }
+    }
+
+    /// The lines after the first `from` up to the line with the number `to`, where the script has them.
+    ///
+    /// It looks at each line up to there. Whoever wants one slice after another cuts
+    /// [`as_slice`](Script::as_slice) by [`split_at_checked`](ScriptSlice::split_at_checked).
+    ///
+    /// ```
+    /// let script = Script::read(alloc, b"null\nbool true\nnull\n")?;
+    /// let slice = script.slice(1, 2);
+    /// ```
+    pub fn slice(&self, from: u64, to: u64) -> Option<ScriptSlice<'_>>
+        ensures calls { IfSome result (λ lines. lines ≡ slice from to self.now) }
+        ensures comes { IsSome result ↔ ((from ≤ to) × (to ≤ length self.now)) }
+    {
+        let count = to.checked_sub(from)?;
+        let (_, behind) = self.as_slice().split_at_checked(from)?;
+        let (lines, _) = behind.split_at_checked(count)?;
+        Some(lines)
+    }
 }
 
 impl<'v> Value<'v, Lent<'v>> for Script {
     ghost emission = { makes };
 
     fn stream<S: Stream<Lent<'v>>>(&'v self, stream: &mut S) -> sval_core::Result {
-        let mut left = Left {
-            bytes: self.store.bytes.as_slice(),
-            numbers: self.store.numbers.as_slice(),
-        };
-        for line in &self.lines {
-            line.make(&mut left, stream)?;
-        }
-        Ok(())
+        let store = &self.store;
+        make_lines(
+            self.lines.as_slice(),
+            store.bytes.as_slice(),
+            store.numbers.as_slice(),
+            stream,
+        )
     }
 }
 

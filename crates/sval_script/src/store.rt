@@ -41,10 +41,7 @@ impl Store {
         ensures numbers { OnOk result (self.new.numbers.items ≡ self.old.numbers.items ++ (number ∷ [])) }
         ensures no_memory { ¬ (result ≡ Err LineError.Bad) }
     {
-        match self.numbers.push(number) {
-            Ok(()) => Ok(()),
-            Err(_) => Err(LineError::NoMemory),
-        }
+        self.numbers.push(number).map_err(|_| LineError::NoMemory)
     }
 
     /// Puts two numbers behind the others.
@@ -55,10 +52,8 @@ impl Store {
             (self.new.numbers.items ≡ self.old.numbers.items ++ (first ∷ second ∷ [])) }
         ensures no_memory { ¬ (result ≡ Err LineError.Bad) }
     {
-        match self.push(first) {
-            Ok(()) => self.push(second),
-            Err(error) => Err(error),
-        }
+        self.push(first)?;
+        self.push(second)
     }
 
     /// Puts a number of 128 bits behind the others, as two numbers.
@@ -102,10 +97,8 @@ impl Store {
         ensures numbers { OnOk result (self.new.numbers.items ≡ self.old.numbers.items ++ name_numbers name) }
         ensures no_memory { ¬ (result ≡ Err LineError.Bad) }
     {
-        match self.push_len(name.parts.label, name.len) {
-            Ok(()) => self.push_index(name.parts.index, name.number),
-            Err(error) => Err(error),
-        }
+        self.push_len(name.parts.label, name.len)?;
+        self.push_index(name.parts.index, name.number)
     }
 
     /// The line of a whole number, of which what finds no place in it goes behind the others.
@@ -118,25 +111,25 @@ impl Store {
             Int::U8(number) => Ok(Line::U8(number)),
             Int::U16(number) => Ok(Line::U16(number)),
             Int::U32(number) => Ok(Line::U32(number)),
-            Int::U64(number) => match self.push(number) {
-                Ok(()) => Ok(Line::U64),
-                Err(error) => Err(error),
-            },
-            Int::U128(number) => match self.push_wide(number) {
-                Ok(()) => Ok(Line::U128),
-                Err(error) => Err(error),
-            },
+            Int::U64(number) => {
+                self.push(number)?;
+                Ok(Line::U64)
+            }
+            Int::U128(number) => {
+                self.push_wide(number)?;
+                Ok(Line::U128)
+            }
             Int::I8(number) => Ok(Line::I8(number)),
             Int::I16(number) => Ok(Line::I16(number)),
             Int::I32(number) => Ok(Line::I32(number)),
-            Int::I64(number) => match self.push(number.cast_unsigned()) {
-                Ok(()) => Ok(Line::I64),
-                Err(error) => Err(error),
-            },
-            Int::I128(number) => match self.push_wide(number.cast_unsigned()) {
-                Ok(()) => Ok(Line::I128),
-                Err(error) => Err(error),
-            },
+            Int::I64(number) => {
+                self.push(number.cast_unsigned())?;
+                Ok(Line::I64)
+            }
+            Int::I128(number) => {
+                self.push_wide(number.cast_unsigned())?;
+                Ok(Line::I128)
+            }
         }
     }
 }

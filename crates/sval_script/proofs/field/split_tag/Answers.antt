@@ -9,17 +9,17 @@ use Rattle.sval_script.proofs.field.split_tag.Goals as goal
 pub returns-in-None : goal.returns-in-None
 returns-in-None c = sym (ap parts_of (one_part 58 c.args.field.now c.in-None.ensures))
 
-pub returns-in-None-read : goal.returns-in-None-read
-returns-in-None-read c =
+pub returns-in_err-read-in-Some : goal.returns-in_err-read-in-Some
+returns-in_err-read-in-Some c =
     let field = c.args.field.now in
     let part = take c.in-Some.end field in
     let rest = take (length field - (c.in-Some.end + 1)) (drop (c.in-Some.end + 1) field) in
-    none_behind part (tag rest) c.in-None-read.ensures.tag ∙ sym (ap parts_of (first_part 58 field c.in-Some.end c.in-Some.ensures) ∙ parts_behind part rest)
+    rw c.from_residual.ensures (none_behind part (tag rest) c.in_err-read-in-Some.ensures.tag ∙ sym (ap parts_of (first_part 58 field c.in-Some.end c.in-Some.ensures) ∙ parts_behind part rest))
 
-pub returns-in-Some-read : goal.returns-in-Some-read
-returns-in-Some-read c =
+pub returns-in_ok-read-in-Some : goal.returns-in_ok-read-in-Some
+returns-in_ok-read-in-Some c =
     let field = c.args.field.now in
     let part = take c.in-Some.end field in
     let rest = take (length field - (c.in-Some.end + 1)) (drop (c.in-Some.end + 1) field) in
-    some_behind part (tag_of c.in-Some-read.tag) (tag rest) c.in-Some-read.ensures.tag
+    some_behind part (tag_of c.in_ok-read-in-Some.field-0) (tag rest) c.in_ok-read-in-Some.ensures.tag
     ∙ sym (ap parts_of (first_part 58 field c.in-Some.end c.in-Some.ensures) ∙ parts_behind part rest)

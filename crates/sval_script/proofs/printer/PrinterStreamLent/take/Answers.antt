@@ -1,0 +1,25 @@
+use Rattle.std.proofs.Common.{subst, Some}
+use Rattle.sval_label.specs.Grouped.{grouped_call}
+use Rattle.sval_core.specs.Law.{Takes, Refuses}
+use Rattle.sval_script.specs.Printing.{printer_law}
+use Rattle.sval_script.proofs.Printers.{stands, takes_call, refuses_call}
+use Rattle.sval_script.proofs.printer.PrinterStreamLent.take.Goals as goal
+
+pub returns-in-Ok : goal.returns-in-Ok
+returns-in-Ok g c =
+    let told = g.K.Sink.told in
+    let old = c.args.self.now in
+    let said = grouped_call (λ text. text.now) (λ bytes. bytes.now) c.grouped.result in
+    let took = c.in-Ok.ensures in
+    subst (λ call. Takes printer_law (stands (told old.out) old.why) call (stands (told c.print_call.new.sink) old.why))
+    (c.grouped.ensures (λ text. text.now) (λ bytes. bytes.now))
+    (takes_call (told old.out) (told c.print_call.new.sink) old.why said took.0 took.1)
+
+pub returns-in-Err : goal.returns-in-Err
+returns-in-Err g c =
+    let told = g.K.Sink.told in
+    let old = c.args.self.now in
+    let said = grouped_call (λ text. text.now) (λ bytes. bytes.now) c.grouped.result in
+    subst (λ call. Refuses printer_law (stands (told old.out) old.why) call (stands (told c.print_call.new.sink) (Some c.in-Err.why)))
+    (c.grouped.ensures (λ text. text.now) (λ bytes. bytes.now))
+    (refuses_call (told old.out) (told c.print_call.new.sink) old.why c.in-Err.why said c.in-Err.ensures)

@@ -1,0 +1,108 @@
+//! Values printed canonically.
+
+ghost use Rattle.std.specs.Prelude.{◌≡◌, option_map};
+ghost use Rattle.sval_label.specs.Grouped.{grouped_call};
+ghost use Rattle.sval_label.specs.Made.{lent_call};
+ghost use Rattle.sval_core.specs.Law.{Answers, Through};
+ghost use Rattle.sval_script.specs.Printed.{canonical_call};
+ghost use Rattle.sval_script.specs.Printing.{Printing};
+ghost use Rattle.sval_script.specs.CanonPrinting.{canon_law, canon_standing};
+ghost use Rattle.sval_script.specs.Canon.{as_canonical};
+ghost use Rattle.sval_script.specs.PrintedValues.{PrintsValue};
+
+use crate::print_error::PrintError;
+use crate::printer::print_call;
+use sval_core::{Call, Error, Fragment, GroupedCall, Lent, Stream};
+use sval_json::Sink;
+use sval_ref::ValueRef;
+
+/// Prints the canonical calls of those that it takes, each as its line.
+#[derive(Drop)]
+pub(crate) struct CanonPrinter<'k, K: Sink> {
+    out: &'k mut K,
+    /// The cause of the last refusal.
+    why: Option<PrintError>,
+}
+
+/// The call as a canonical script shows it, if it does.
+fn canonical<'c>(
+    call: GroupedCall<'c, &'c str, &'c [u8]>,
+) -> Option<GroupedCall<'c, &'c str, &'c [u8]>>
+    ensures { let seen = grouped_call (λ text. text.now) (λ bytes. bytes.now) in
+        option_map seen result ≡ canonical_call (seen call.entry) }
+{
+    match call {
+        GroupedCall::TagHint(_) => None,
+        GroupedCall::Begin(head, _) => Some(GroupedCall::Begin(head, None)),
+        GroupedCall::TextFragment(Fragment::Computed(text)) => {
+            Some(GroupedCall::TextFragment(Fragment::Borrowed(text)))
+        }
+        GroupedCall::BinaryFragment(Fragment::Computed(bytes)) => {
+            Some(GroupedCall::BinaryFragment(Fragment::Borrowed(bytes)))
+        }
+        _ => Some(call),
+    }
+}
+
+impl<'v, 'k, K: Sink> Stream<Lent<'v>> for CanonPrinter<'k, K> {
+    ghost View = { Through Printing };
+
+    ghost law = { canon_law };
+
+    ghost standing = { canon_standing K.told };
+
+    fn take(&mut self, call: Call<'v, '_>) -> sval_core::Result
+        ensures { Answers canon_law result
+            (canon_standing K.told self.old) (lent_call call.entry) (canon_standing K.told self.new) }
+    {
+        let Some(call) = canonical(call.grouped()) else {
+            return Ok(());
+        };
+        match print_call(self.out, call) {
+            Ok(()) => Ok(()),
+            Err(why) => {
+                self.why = Some(why);
+                Err(Error::new())
+            }
+        }
+    }
+}
+
+/// Prints a value's calls as a canonical script shows them: no hint, `-` for the size of each container, and each
+/// fragment as `text_fragment` or `binary_fragment`, also a computed one. All else stands as the call has it.
+///
+/// For a captured value whose calls spell a tree that is the tree's canonical script: [`laws`](crate::laws) say so of
+/// all calls whose texts come whole and whose ends have the names of their begins.
+///
+/// ```
+/// let mut sink = VecSink::new(alloc);
+/// print_canon(&value, &mut sink)?;
+/// assert_eq!(rt; sink.as_slice(), b"seq_begin -\nseq_value_begin\ni32 -7\nseq_value_end\nseq_end\n".as_slice());
+/// ```
+///
+/// # Errors
+///
+/// [`PrintError::UnknownTag`] comes where a call that is no hint has a tag outside the ten names of scripts, after the
+/// lines of all calls before it. [`PrintError::Refused`] comes where the value itself refuses, after the lines of all
+/// its calls. Either always comes where it is so, unless a count of the sink rose.
+///
+/// [`PrintError::Write`] comes only where the sink's count of faults rose, and never where the sink tells room for all
+/// lines. [`PrintError::NoMemory`] comes only where its count of wants rose. After either the sink took a first part of
+/// the lines. No count ever falls. This call takes no memory itself.
+pub fn print_canon<'sval, V: ValueRef<Lent<'sval>>, K: Sink>(
+    value: &V,
+    out: &mut K,
+) -> Result<(), PrintError>
+    ensures { PrintsValue (as_canonical (V.ref_emission value.now)) result (K.told out.old) (K.told out.new) }
+{
+    let mut printer = CanonPrinter { out, why: None };
+    let printed = value.stream_ref(&mut printer);
+    let why = printer.why;
+    match printed {
+        Ok(()) => Ok(()),
+        Err(_) => Err(why.unwrap_or(PrintError::Refused)),
+    }
+}
+
+#[cfg(test)]
+mod tests;
