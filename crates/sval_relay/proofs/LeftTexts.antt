@@ -23,7 +23,7 @@ use Rattle.sval_relay.proofs.Verdicts.{Found, found_bad, found_open, found_whole
 
 -- ---- the texts of trees that are not refused are what they leave
 
-texts_left : (asked : Asked) (end : List ℕ) (trees : List Tree) (text : List ℕ) → texts asked end trees ≡ Ok text → left asked end trees ≡ text
+pub texts_left : (asked : Asked) (end : List ℕ) (trees : List Tree) (text : List ℕ) → texts asked end trees ≡ Ok text → left asked end trees ≡ text
 texts_left asked end [] text e = let same : [] ≡ text = cc e in same
 texts_left asked end (tree ∷ trees) text e = by_tree (λ more h. texts_left asked end trees more h) (tree_text asked tree) (texts asked end trees) refl e
   where

@@ -1,8 +1,18 @@
 pub mod Verdicts
 pub mod LeftTexts
+pub mod TreeVerdicts
 pub mod ReadParts
 pub mod Writing
+pub mod ListTexts
+pub mod PrintedTrees
+pub mod ListSteps
+pub mod Served
 pub mod RelayAnswers
+pub mod RecordCounts
+pub mod ServeAnswers
 pub mod RunAnswers
 pub mod Telling
+pub mod MadeScripts
+pub mod MadeAnswers
+pub mod MadeStreams
 mod examples

@@ -1,124 +1,138 @@
--- From what serving the input says to what each status says.
-use Rattle.std.specs.Prelude.{◌≡◌, ℕ, true, ◌⊎◌, List, String, Option, Some, None, Result, Ok, Err, IfSome, refl}
-use Rattle.std.proofs.Common.{sym, ap, ◌∙◌, subst, arith, inl, inr}
+-- From what serving a form says to what each status says.
+use Rattle.std.specs.Prelude.{◌≡◌, ℕ, ◌≤◌, ◌⊎◌, List, Option, Some, None, Result, Ok, Err, IfSome, refl}
+use Rattle.std.proofs.Common.{sym, ap, subst, arith, inl, inr}
 use Rattle.sval_core.specs.Law.{Rose}
-use Rattle.sval_json.specs.Sinks.{Told, IsSteady}
-use Rattle.sval_json.proofs.Appending.{steady_alone}
-use Rattle.sval_relay.specs.declared.status.TheConstants.{DONE, USAGE, BAD_LINE, BAD_CALL, NO_MEMORY, TOO_LONG}
-use Rattle.sval_relay.specs.declared.way.Way.{Way}
+use Rattle.sval_json.specs.Sinks.{Told, HoldsNothing}
+use Rattle.sval_relay.specs.declared.status.TheConstants.{BAD_LINE, BAD_CALL, READ, NO_MEMORY, TOO_LONG}
+use Rattle.sval_relay.specs.declared.way.Task.{Task}
+use Rattle.sval_relay.specs.declared.way.Form.{Form}
+use Rattle.sval_relay.specs.declared.way.Form.TheVariants.{Serve, Made}
+use Rattle.sval_relay.specs.declared.reading.ReadError.{ReadError}
 use Rattle.sval_relay.specs.declared.reading.ReadError.TheVariants.{Fault, TooLong}
 use Rattle.sval_relay.specs.declared.reading.ReadError.TheVariants as reading
 use Rattle.sval_relay.specs.declared.relaying.RelayError.{RelayError}
 use Rattle.sval_relay.specs.declared.relaying.RelayError.TheVariants as answer
+use Rattle.sval_relay.specs.declared.made.MadeError.{MadeError}
+use Rattle.sval_relay.specs.declared.made.MadeError.TheVariants as made
 use Rattle.sval_relay.specs.declared.failure.Failure.{Failure}
 use Rattle.sval_relay.specs.declared.failure.Failure.TheVariants.{Usage, Input, Relay}
 use Rattle.sval_relay.specs.Sources.{Supply}
 use Rattle.sval_relay.specs.Inputs.{OnShort, TakesAll, TakesOneMore}
-use Rattle.sval_relay.specs.Ways.{way_of, OnBoth, OnAsked}
+use Rattle.sval_relay.specs.Ways.{OnBoth}
 use Rattle.sval_relay.specs.Verdict.{Verdict, BadLine, BadCall, Unfinished, Key, Number, Text, HasBadLine, HasBadCall, OnVerdict}
-use Rattle.sval_relay.specs.Relays.{WritesValue, Grows, MayLeave, IsAnswerTo}
-use Rattle.sval_relay.specs.Statuses.{is_read, IsStatusOf, IsStatusDue, status_of_relayed, status_of}
-use Rattle.sval_relay.specs.Serves.{IsServed, Serves}
-use Rattle.sval_relay.proofs.Writing.{grows_by_nothing, may_stay}
+use Rattle.sval_relay.specs.Relays.{Grows, MayLeave, IsAnswerTo}
+use Rattle.sval_relay.specs.Statuses.{IsStatusOf, IsStatusDue, status_of_relayed, status_of}
+use Rattle.sval_relay.specs.Made.{TellsMade}
+use Rattle.sval_relay.specs.Serves.{IsUnread, IsServed, Serves}
+use Rattle.sval_relay.proofs.Writing.{grows_by_nothing, grows_by_front, may_stay}
 
--- the words and the devices of a run
-pub record Case (A I K : Type 0) : Type 0 where
+-- the devices of a run
+pub record Case (I K : Type 0) : Type 0 where
   pub source : I → Supply
   pub sink : K → Told
-  pub words : List (String A)
   pub before : I
   pub after : I
   pub old : K
   pub new : K
 
-abbrev pub Ran : {A I K : Type 0} → Case A I K → Result (Unit {0}) Failure → Type 0
-Ran k result = Serves k.source k.sink k.words result k.before k.after k.old k.new
+abbrev pub Ran : {I K : Type 0} → Case I K → Option Form → Result (Unit {0}) Failure → Type 0
+Ran k form result = Serves k.source k.sink form result k.before k.after k.old k.new
 
-abbrev Served : {A I K : Type 0} → Case A I K → Result (Unit {0}) RelayError → Type 0
-Served k result = IsServed k.source k.sink k.words result k.before k.after k.old k.new
+abbrev Served : {I K : Type 0} → Case I K → Task → Result (Unit {0}) RelayError → Type 0
+Served k task result = IsServed k.source k.sink task result k.before k.after k.old k.new
+
+abbrev Unread : {I K : Type 0} → Case I K → ReadError → Type 0
+Unread k why = IsUnread k.source why k.before k.after k.old k.new
+
+abbrev ToldMade : {I K : Type 0} → Case I K → ℕ → Result (Unit {0}) MadeError → Type 0
+ToldMade k count result = TellsMade k.sink count result k.old k.new
+
+-- a fact where the form is one of a script, and the source told what it had
+abbrev OnInput : {I K : Type 0} → Case I K → Option Form → (List ℕ → Task → Type 0) → Type 0
+OnInput k form P = OnBoth form (k.source k.before).left P
 
 -- ---- a fact on what was asked for
 
-on_both : (named : Option Way) (left : Option (List ℕ)) (P : List ℕ → Way → Type 0) → ((script : List ℕ) (w : Way) → named ≡ Some w → left ≡ Some script → P script w) → OnBoth named left P
-on_both None left P f = tt
-on_both (Some w) None P f = tt
-on_both (Some w) (Some script) P f = f script w refl refl
-
--- one that holds of whatever was asked for
-on_any : {A : Type 0} (words : List (String A)) (input : Supply) (P : List ℕ → Way → Type 0) → ((script : List ℕ) (way : Way) → P script way) → OnAsked words input P
-on_any words input P f = on_both (way_of words) input.left P (λ script way named told. f script way)
-
-on_no_form : {A : Type 0} (words : List (String A)) (input : Supply) (P : List ℕ → Way → Type 0) → way_of words ≡ None → OnAsked words input P
-on_no_form words input P none = subst (λ named. OnBoth named input.left P) (sym none) tt
+-- one that holds of each script that the source may have told
+on_script : (task : Task) (left : Option (List ℕ)) (P : List ℕ → Task → Type 0) → ((script : List ℕ) → left ≡ Some script → P script task) → OnBoth (Some (Serve task)) left P
+on_script task None P f = tt
+on_script task (Some script) P f = f script refl
 
 -- one that holds of the script that was served
-on_served : {A I K : Type 0} (k : Case A I K) {r : Result (Unit {0}) RelayError} (P : List ℕ → Way → Type 0) (s : Served k r) → P s.script s.way → OnAsked k.words (k.source k.before) P
-on_served k P s p = on_both (way_of k.words) (k.source k.before).left P (λ script way named told.
-    let same : s.way ≡ way = let e : Some s.way ≡ Some way = sym s.asked ∙ named in cc e in
+on_served : {I K : Type 0} (k : Case I K) (task : Task) {r : Result (Unit {0}) RelayError} (P : List ℕ → Task → Type 0) (s : Served k task r) → P s.script task → OnInput k (Some (Serve task)) P
+on_served k task P s p = on_script task (k.source k.before).left P (λ script told.
     let all : TakesAll script s.script (k.source k.after).left = subst (λ left. IfSome left (λ all. TakesAll all s.script (k.source k.after).left)) told s.reads.taken in
-    subst (P script) same (subst (λ x. P x s.way) all.all p))
+    subst (λ script. P script task) all.all p)
 
--- ---- how it ended, by its status
+-- ---- how it ended
 
 -- a fact on each way to end
-by_end : (P : Result (Unit {0}) Failure → Type 0) → P (Ok tt) → P (Err Usage) → P (Err (Input Fault)) → P (Err (Input TooLong)) → P (Err (Input reading.NoMemory))
-    → ((n : ℕ) → P (Err (Relay (answer.BadLine n)))) → ((n : ℕ) → P (Err (Relay (answer.BadCall n)))) → P (Err (Relay answer.Unfinished)) → P (Err (Relay answer.InvalidKey)) → P (Err (Relay answer.InvalidNumber)) → P (Err (Relay answer.Write)) → P (Err (Relay answer.NoMemory))
-    → (r : Result (Unit {0}) Failure) → P r
-by_end P done usage fault long none bad_line bad_call unfinished key number write no_memory (Ok u) = done
-by_end P done usage fault long none bad_line bad_call unfinished key number write no_memory (Err Usage) = usage
-by_end P done usage fault long none bad_line bad_call unfinished key number write no_memory (Err (Input Fault)) = fault
-by_end P done usage fault long none bad_line bad_call unfinished key number write no_memory (Err (Input TooLong)) = long
-by_end P done usage fault long none bad_line bad_call unfinished key number write no_memory (Err (Input reading.NoMemory)) = none
-by_end P done usage fault long none bad_line bad_call unfinished key number write no_memory (Err (Relay (answer.BadLine n))) = bad_line n
-by_end P done usage fault long none bad_line bad_call unfinished key number write no_memory (Err (Relay (answer.BadCall n))) = bad_call n
-by_end P done usage fault long none bad_line bad_call unfinished key number write no_memory (Err (Relay answer.Unfinished)) = unfinished
-by_end P done usage fault long none bad_line bad_call unfinished key number write no_memory (Err (Relay answer.InvalidKey)) = key
-by_end P done usage fault long none bad_line bad_call unfinished key number write no_memory (Err (Relay answer.InvalidNumber)) = number
-by_end P done usage fault long none bad_line bad_call unfinished key number write no_memory (Err (Relay answer.Write)) = write
-by_end P done usage fault long none bad_line bad_call unfinished key number write no_memory (Err (Relay answer.NoMemory)) = no_memory
+by_end : {I K : Type 0} (k : Case I K) (P : Option Form → Result (Unit {0}) Failure → Type 0)
+    → (k.after ≡ k.before → k.new ≡ k.old → P None (Err Usage))
+    → ((task : Task) → Served k task (Ok tt) → HoldsNothing (k.sink k.new) → P (Some (Serve task)) (Ok tt))
+    → ((task : Task) (why : ReadError) → Unread k why → P (Some (Serve task)) (Err (Input why)))
+    → ((task : Task) (why : RelayError) → Served k task (Err why) → P (Some (Serve task)) (Err (Relay why)))
+    → ((count : ℕ) → k.after ≡ k.before → ToldMade k count (Ok tt) → HoldsNothing (k.sink k.new) → P (Some (Made count)) (Ok tt))
+    → ((count : ℕ) → k.after ≡ k.before → ToldMade k count (Err made.Write) → P (Some (Made count)) (Err (Relay answer.Write)))
+    → ((count : ℕ) → k.after ≡ k.before → ToldMade k count (Err made.NoMemory) → P (Some (Made count)) (Err (Relay answer.NoMemory)))
+    → (form : Option Form) (r : Result (Unit {0}) Failure) → Ran k form r → P form r
+by_end k P none done unread stopped told write want None r ran = subst (P None) (sym ran.usage) (none ran.input ran.out)
+by_end k P none done unread stopped told write want (Some (Serve task)) (Ok u) ran = done task ran.0 ran.1
+by_end k P none done unread stopped told write want (Some (Serve task)) (Err Usage) ran = absurd ran
+by_end k P none done unread stopped told write want (Some (Serve task)) (Err (Input why)) ran = unread task why ran
+by_end k P none done unread stopped told write want (Some (Serve task)) (Err (Relay why)) ran = stopped task why ran
+by_end k P none done unread stopped told write want (Some (Made count)) (Ok u) ran = told count ran.0 ran.1.0 ran.1.1
+by_end k P none done unread stopped told write want (Some (Made count)) (Err Usage) ran = absurd ran.1
+by_end k P none done unread stopped told write want (Some (Made count)) (Err (Input why)) ran = absurd ran.1
+by_end k P none done unread stopped told write want (Some (Made count)) (Err (Relay (answer.BadLine n))) ran = absurd ran.1
+by_end k P none done unread stopped told write want (Some (Made count)) (Err (Relay (answer.BadCall n))) ran = absurd ran.1
+by_end k P none done unread stopped told write want (Some (Made count)) (Err (Relay answer.Unfinished)) ran = absurd ran.1
+by_end k P none done unread stopped told write want (Some (Made count)) (Err (Relay answer.InvalidKey)) ran = absurd ran.1
+by_end k P none done unread stopped told write want (Some (Made count)) (Err (Relay answer.InvalidNumber)) ran = absurd ran.1
+by_end k P none done unread stopped told write want (Some (Made count)) (Err (Relay answer.Write)) ran = write count ran.0 ran.1
+by_end k P none done unread stopped told write want (Some (Made count)) (Err (Relay answer.NoMemory)) ran = want count ran.0 ran.1
 
-at_done : (r : Result (Unit {0}) Failure) → status_of r ≡ DONE → r ≡ Ok tt
-at_done r = by_end (λ r. status_of r ≡ DONE → r ≡ Ok tt)
-    (λ e. refl) (λ e. absurd (omega arith)) (λ e. absurd (omega arith)) (λ e. absurd (omega arith)) (λ e. absurd (omega arith))
-    (λ n. λ e. absurd (omega arith)) (λ n. λ e. absurd (omega arith)) (λ e. absurd (omega arith)) (λ e. absurd (omega arith)) (λ e. absurd (omega arith)) (λ e. absurd (omega arith)) (λ e. absurd (omega arith)) r
+-- ---- what a bad line and a bad call say of the script
 
-at_bad_line : (r : Result (Unit {0}) Failure) → status_of r ≡ BAD_LINE → (n : ℕ) × (r ≡ Err (Relay (answer.BadLine n)))
-at_bad_line r = by_end (λ r. status_of r ≡ BAD_LINE → (n : ℕ) × (r ≡ Err (Relay (answer.BadLine n))))
-    (λ e. absurd (omega arith)) (λ e. absurd (omega arith)) (λ e. absurd (omega arith)) (λ e. absurd (omega arith)) (λ e. absurd (omega arith))
-    (λ n. λ e. (n, refl)) (λ n. λ e. absurd (omega arith)) (λ e. absurd (omega arith)) (λ e. absurd (omega arith)) (λ e. absurd (omega arith)) (λ e. absurd (omega arith)) (λ e. absurd (omega arith)) r
+-- reading answers no status of a script
+from_read : (why : ReadError) → READ ≤ status_of (Err (Input why))
+from_read Fault = omega arith
+from_read TooLong = omega arith
+from_read reading.NoMemory = omega arith
 
-at_bad_call : (r : Result (Unit {0}) Failure) → status_of r ≡ BAD_CALL → (n : ℕ) × (r ≡ Err (Relay (answer.BadCall n)))
-at_bad_call r = by_end (λ r. status_of r ≡ BAD_CALL → (n : ℕ) × (r ≡ Err (Relay (answer.BadCall n))))
-    (λ e. absurd (omega arith)) (λ e. absurd (omega arith)) (λ e. absurd (omega arith)) (λ e. absurd (omega arith)) (λ e. absurd (omega arith))
-    (λ n. λ e. absurd (omega arith)) (λ n. λ e. (n, refl)) (λ e. absurd (omega arith)) (λ e. absurd (omega arith)) (λ e. absurd (omega arith)) (λ e. absurd (omega arith)) (λ e. absurd (omega arith)) r
+has_bad_line : {I K : Type 0} (k : Case I K) (task : Task) (why : RelayError) (s : Served k task (Err why)) → status_of_relayed (Err why) ≡ BAD_LINE → HasBadLine s.script task
+has_bad_line k task (answer.BadLine n) s e = (n, s.relays.bad_line n refl)
+has_bad_line k task (answer.BadCall n) s e = absurd (omega arith)
+has_bad_line k task answer.Unfinished s e = absurd (omega arith)
+has_bad_line k task answer.InvalidKey s e = absurd (omega arith)
+has_bad_line k task answer.InvalidNumber s e = absurd (omega arith)
+has_bad_line k task answer.Write s e = absurd (omega arith)
+has_bad_line k task answer.NoMemory s e = absurd (omega arith)
 
--- ---- what each status says
+has_bad_call : {I K : Type 0} (k : Case I K) (task : Task) (why : RelayError) (s : Served k task (Err why)) → status_of_relayed (Err why) ≡ BAD_CALL → HasBadCall s.script task
+has_bad_call k task (answer.BadLine n) s e = absurd (omega arith)
+has_bad_call k task (answer.BadCall n) s e = (n, s.relays.bad_call n refl)
+has_bad_call k task answer.Unfinished s e = absurd (omega arith)
+has_bad_call k task answer.InvalidKey s e = absurd (omega arith)
+has_bad_call k task answer.InvalidNumber s e = absurd (omega arith)
+has_bad_call k task answer.Write s e = absurd (omega arith)
+has_bad_call k task answer.NoMemory s e = absurd (omega arith)
 
-steady_same : {A I K : Type 0} (k : Case A I K) → k.new ≡ k.old → IsSteady (k.sink k.old) (k.sink k.new)
-steady_same k same = subst (λ out. IsSteady (k.sink k.old) (k.sink out)) (sym same) (steady_alone (k.sink k.old))
+pub bad_line : {I K : Type 0} (k : Case I K) (form : Option Form) (r : Result (Unit {0}) Failure) → Ran k form r → status_of r ≡ BAD_LINE → OnInput k form HasBadLine
+bad_line k = by_end k (λ form r. status_of r ≡ BAD_LINE → OnInput k form HasBadLine)
+    (λ input out e. tt)
+    (λ task s held e. absurd (omega arith))
+    (λ task why u e. absurd (omega (arith, e, from_read why)))
+    (λ task why s e. on_served k task HasBadLine s (has_bad_line k task why s e))
+    (λ count input t held e. tt) (λ count input t e. tt) (λ count input t e. tt)
 
-pub steady : {A I K : Type 0} (k : Case A I K) (r : Result (Unit {0}) Failure) → Ran k r → is_read (status_of r) ≡ true → ((k.source k.after).faults ≡ (k.source k.before).faults) × IsSteady (k.sink k.old) (k.sink k.new)
-steady k (Ok u) ran e = (ran.0.reads.faults, ran.0.relays.steady refl)
-steady k (Err Usage) ran e = cc e
-steady k (Err (Input Fault)) ran e = cc e
-steady k (Err (Input TooLong)) ran e = cc e
-steady k (Err (Input reading.NoMemory)) ran e = cc e
-steady k (Err (Relay (answer.BadLine n))) ran e = (ran.reads.faults, steady_same k (ran.relays.untouched refl))
-steady k (Err (Relay (answer.BadCall n))) ran e = (ran.reads.faults, steady_same k (ran.relays.untouched refl))
-steady k (Err (Relay answer.Unfinished)) ran e = (ran.reads.faults, steady_same k (ran.relays.untouched refl))
-steady k (Err (Relay answer.InvalidKey)) ran e = (ran.reads.faults, (ran.relays.invalid_key refl).steady)
-steady k (Err (Relay answer.InvalidNumber)) ran e = (ran.reads.faults, (ran.relays.invalid_number refl).steady)
-steady k (Err (Relay answer.Write)) ran e = cc e
-steady k (Err (Relay answer.NoMemory)) ran e = cc e
-
-pub bad_line : {A I K : Type 0} (k : Case A I K) (r : Result (Unit {0}) Failure) → Ran k r → status_of r ≡ BAD_LINE → OnAsked k.words (k.source k.before) HasBadLine
-bad_line k r ran e = let f = at_bad_line r e in let s = subst (Ran k) f.1 ran in on_served k HasBadLine s (f.0, s.relays.bad_line f.0 refl)
-
-pub bad_call : {A I K : Type 0} (k : Case A I K) (r : Result (Unit {0}) Failure) → Ran k r → status_of r ≡ BAD_CALL → OnAsked k.words (k.source k.before) HasBadCall
-bad_call k r ran e = let f = at_bad_call r e in let s = subst (Ran k) f.1 ran in on_served k HasBadCall s (f.0, s.relays.bad_call f.0 refl)
-
-pub denotes : {A I K : Type 0} (k : Case A I K) (r : Result (Unit {0}) Failure) → Ran k r → status_of r ≡ DONE → OnAsked k.words (k.source k.before) (WritesValue (k.sink k.old) (k.sink k.new))
-denotes k r ran e = let s = subst (Ran k) (at_done r e) ran in on_served k (WritesValue (k.sink k.old) (k.sink k.new)) s.0 (s.0.relays.denotes refl)
+pub bad_call : {I K : Type 0} (k : Case I K) (form : Option Form) (r : Result (Unit {0}) Failure) → Ran k form r → status_of r ≡ BAD_CALL → OnInput k form HasBadCall
+bad_call k = by_end k (λ form r. status_of r ≡ BAD_CALL → OnInput k form HasBadCall)
+    (λ input out e. tt)
+    (λ task s held e. absurd (omega arith))
+    (λ task why u e. absurd (omega (arith, e, from_read why)))
+    (λ task why s e. on_served k task HasBadCall s (has_bad_call k task why s e))
+    (λ count input t held e. tt) (λ count input t e. tt) (λ count input t e. tt)
 
 -- ---- the status that is due
 
@@ -134,36 +148,43 @@ answered_or : (found : Verdict) (result : Result (Unit {0}) RelayError) → IsAn
 answered_or found result (inl h) = inl (answered found result h)
 answered_or found result (inr h) = inr (ap status_of_relayed h)
 
-due_of_served : {A I K : Type 0} (k : Case A I K) {r : Result (Unit {0}) RelayError} → Served k r → (Rose (k.sink k.old).faults (k.sink k.new).faults → ⊥)
-    → OnAsked k.words (k.source k.before) (OnShort (OnVerdict (IsStatusDue (status_of_relayed r))))
-due_of_served k {r} s quiet = on_served k (OnShort (OnVerdict (IsStatusDue (status_of_relayed r)))) s (λ short found is. answered_or found r (s.relays.comes quiet found is))
+due_of_served : {I K : Type 0} (k : Case I K) (task : Task) {r : Result (Unit {0}) RelayError} → Served k task r → (Rose (k.sink k.old).faults (k.sink k.new).faults → ⊥)
+    → OnInput k (Some (Serve task)) (OnShort (OnVerdict (IsStatusDue (status_of_relayed r))))
+due_of_served k task {r} s quiet = on_served k task (OnShort (OnVerdict (IsStatusDue (status_of_relayed r)))) s (λ short found is. answered_or found r (s.relays.comes quiet found is))
 
-pub comes : {A I K : Type 0} (k : Case A I K) (r : Result (Unit {0}) Failure) → Ran k r → (Rose (k.source k.before).faults (k.source k.after).faults → ⊥) → (Rose (k.sink k.old).faults (k.sink k.new).faults → ⊥)
-    → OnAsked k.words (k.source k.before) (OnShort (OnVerdict (IsStatusDue (status_of r))))
-comes k (Ok u) ran quiet_read quiet_write = due_of_served k ran.0 quiet_write
-comes k (Err Usage) ran quiet_read quiet_write = on_no_form k.words (k.source k.before) (OnShort (OnVerdict (IsStatusDue USAGE))) ran.form
-comes k (Err (Input Fault)) ran quiet_read quiet_write = absurd (quiet_read (ran.stops.fault refl))
-comes k (Err (Input TooLong)) ran quiet_read quiet_write = on_both (way_of k.words) (k.source k.before).left (OnShort (OnVerdict (IsStatusDue TOO_LONG))) (λ script way named told short.
-    let long = subst (λ left. IfSome left (λ all. TakesOneMore all (k.source k.after).left)) told (ran.stops.long refl) in absurd (omega (arith, short, long.long)))
-comes k (Err (Input reading.NoMemory)) ran quiet_read quiet_write = on_any k.words (k.source k.before) (OnShort (OnVerdict (IsStatusDue NO_MEMORY))) (λ script way short found is. inr refl)
-comes k (Err (Relay why)) ran quiet_read quiet_write = due_of_served k ran quiet_write
+due_unread : {I K : Type 0} (k : Case I K) (task : Task) (why : ReadError) → Unread k why → (Rose (k.source k.before).faults (k.source k.after).faults → ⊥)
+    → OnInput k (Some (Serve task)) (OnShort (OnVerdict (IsStatusDue (status_of (Err (Input why))))))
+due_unread k task Fault u quiet = absurd (quiet (u.stops.fault refl))
+due_unread k task TooLong u quiet = on_script task (k.source k.before).left (OnShort (OnVerdict (IsStatusDue TOO_LONG))) (λ script told short.
+    let long : TakesOneMore script (k.source k.after).left = subst (λ left. IfSome left (λ all. TakesOneMore all (k.source k.after).left)) told (u.stops.long refl) in absurd (omega (arith, short, long.long)))
+due_unread k task reading.NoMemory u quiet = on_script task (k.source k.before).left (OnShort (OnVerdict (IsStatusDue NO_MEMORY))) (λ script told short found is. inr refl)
+
+pub comes : {I K : Type 0} (k : Case I K) (form : Option Form) (r : Result (Unit {0}) Failure) → Ran k form r → (Rose (k.source k.before).faults (k.source k.after).faults → ⊥)
+    → (Rose (k.sink k.old).faults (k.sink k.new).faults → ⊥) → OnInput k form (OnShort (OnVerdict (IsStatusDue (status_of r))))
+comes k form r ran quiet_read quiet_write = by_end k (λ form r. OnInput k form (OnShort (OnVerdict (IsStatusDue (status_of r)))))
+    (λ input out. tt)
+    (λ task s held. due_of_served k task s quiet_write)
+    (λ task why u. due_unread k task why u quiet_read)
+    (λ task why s. due_of_served k task s quiet_write)
+    (λ count input t held. tt) (λ count input t. tt) (λ count input t. tt) form r ran
 
 -- ---- what is left of the sink
 
-leaves_same : {A I K : Type 0} (k : Case A I K) → k.new ≡ k.old → OnAsked k.words (k.source k.before) (OnShort (OnVerdict (MayLeave (k.sink k.old) (k.sink k.new))))
-leaves_same k same = on_any k.words (k.source k.before) _ (λ script way short found is. subst (λ out. MayLeave (k.sink k.old) (k.sink out) found) (sym same) (may_stay (k.sink k.old) found))
+pub leaves : {I K : Type 0} (k : Case I K) (form : Option Form) (r : Result (Unit {0}) Failure) → Ran k form r → OnInput k form (OnShort (OnVerdict (MayLeave (k.sink k.old) (k.sink k.new))))
+leaves k = by_end k (λ form r. OnInput k form (OnShort (OnVerdict (MayLeave (k.sink k.old) (k.sink k.new)))))
+    (λ input out. tt)
+    (λ task s held. on_served k task (OnShort (OnVerdict (MayLeave (k.sink k.old) (k.sink k.new)))) s (λ short. s.relays.leaves))
+    (λ task why u. on_script task (k.source k.before).left _ (λ script told short found is. subst (λ out. MayLeave (k.sink k.old) (k.sink out) found) (sym u.out) (may_stay (k.sink k.old) found)))
+    (λ task why s. on_served k task (OnShort (OnVerdict (MayLeave (k.sink k.old) (k.sink k.new)))) s (λ short. s.relays.leaves))
+    (λ count input t held. tt) (λ count input t. tt) (λ count input t. tt)
 
-pub leaves : {A I K : Type 0} (k : Case A I K) (r : Result (Unit {0}) Failure) → Ran k r → OnAsked k.words (k.source k.before) (OnShort (OnVerdict (MayLeave (k.sink k.old) (k.sink k.new))))
-leaves k (Ok u) ran = on_served k (OnShort (OnVerdict (MayLeave (k.sink k.old) (k.sink k.new)))) ran.0 (λ short. ran.0.relays.leaves)
-leaves k (Err Usage) ran = leaves_same k ran.out
-leaves k (Err (Input why)) ran = leaves_same k ran.out
-leaves k (Err (Relay why)) ran = on_served k (OnShort (OnVerdict (MayLeave (k.sink k.old) (k.sink k.new)))) ran (λ short. ran.relays.leaves)
-
-grows_same : {A I K : Type 0} (k : Case A I K) → k.new ≡ k.old → Grows (k.sink k.old) (k.sink k.new)
+grows_same : {I K : Type 0} (k : Case I K) → k.new ≡ k.old → Grows (k.sink k.old) (k.sink k.new)
 grows_same k same = subst (λ out. Grows (k.sink k.old) (k.sink out)) (sym same) (grows_by_nothing (k.sink k.old))
 
-pub grows : {A I K : Type 0} (k : Case A I K) (r : Result (Unit {0}) Failure) → Ran k r → Grows (k.sink k.old) (k.sink k.new)
-grows k (Ok u) ran = ran.0.relays.grows
-grows k (Err Usage) ran = grows_same k ran.out
-grows k (Err (Input why)) ran = grows_same k ran.out
-grows k (Err (Relay why)) ran = ran.relays.grows
+pub grows : {I K : Type 0} (k : Case I K) (form : Option Form) (r : Result (Unit {0}) Failure) → Ran k form r → Grows (k.sink k.old) (k.sink k.new)
+grows k = by_end k (λ form r. Grows (k.sink k.old) (k.sink k.new))
+    (λ input out. grows_same k out)
+    (λ task s held. s.relays.grows)
+    (λ task why u. grows_same k u.out)
+    (λ task why s. s.relays.grows)
+    (λ count input t held. grows_by_front t.front) (λ count input t. grows_by_front t.front) (λ count input t. grows_by_front t.front)

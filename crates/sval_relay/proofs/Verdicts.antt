@@ -16,14 +16,14 @@ use Rattle.sval_core.proofs.ManyTaken.{viable_list_is_taken, taken_list_is_viabl
 use Rattle.sval_core.proofs.ManyScanned.{RanAll, StoppedAll, scanned_all, one_first_bad_of_lists, none_bad_of_lists}
 use Rattle.sval_json.specs.Json.{Json, compact}
 use Rattle.sval_json.specs.Number.{Refusal, InvalidKey, InvalidNumber}
+use Rattle.sval_json.specs.declared.style.Variants.{Variants}
 use Rattle.sval_json.specs.declared.style.Variants.TheVariants.{Inside, Beside}
 use Rattle.sval_json.specs.Shape.{json_in, on_ok, map_ok}
 use Rattle.sval_script.specs.Lines.{Lines, Good, Bad, lines}
 use Rattle.sval_script.specs.Canon.{canon, canon_all}
-use Rattle.sval_relay.specs.declared.way.Way.{Way}
-use Rattle.sval_relay.specs.Ways.{style_of}
-use Rattle.sval_relay.specs.Verdict.{Verdict, BadLine, BadCall, Unfinished, Key, Number, Text, Asked, JsonIn, Script, asked_in, texts, tree_written, with_text, left, text_verdict, trees_verdict, CanGoOn, SpellTrees, IsOfCalls, bad_call, unfinished, whole, IsOfLines, IsVerdictOn, IsVerdict, OnVerdict}
-use Rattle.sval_relay.specs.Laws.{BothJsonWaysAgree}
+use Rattle.sval_relay.specs.declared.way.Task.{Task}
+use Rattle.sval_relay.specs.Verdict.{Verdict, BadLine, BadCall, Unfinished, Text, Asked, JsonIn, Script, asked_in, texts, tree_written, with_text, left, text_verdict, trees_verdict, CanGoOn, SpellTrees, IsOfCalls, bad_call, unfinished, whole, IsOfLines, IsVerdictOn, IsVerdict, OnVerdict}
+use Rattle.sval_relay.specs.Laws.{BothJsonWaysAgree, json_verdict}
 
 -- ---- there is a verdict
 
@@ -117,8 +117,8 @@ one_verdict script asked many =
     let found = some_verdict asked many (lines script) in (found.0, found.1, λ other v. one_of_lines (lines script) asked many found.0 other found.1 v)
 
 -- what holds of the verdict found holds of each
-pub of_each : (script : List ℕ) (way : Way) (found : Verdict) (P : Verdict → Type 0) → IsVerdict found script way → P found → OnVerdict P script way
-of_each script way found P v p answer w = subst P (one_of_lines (lines script) (asked_in way) false found answer v w) p
+pub of_each : (script : List ℕ) (task : Task) (found : Verdict) (P : Verdict → Type 0) → IsVerdict found script task → P found → OnVerdict P script task
+of_each script task found P v p answer w = subst P (one_of_lines (lines script) (asked_in task.way) task.many found answer v w) p
 
 pub both_json_ways_agree : BothJsonWaysAgree
 both_json_ways_agree = (
@@ -128,47 +128,39 @@ both_json_ways_agree = (
 
 -- ---- one value's JSON
 
--- what a tree gives that has this JSON, or none, and of which so much is written
-abbrev pub json_verdict : Result Json Refusal → List ℕ → Verdict
-json_verdict (Ok json) written = Text (compact json)
-json_verdict (Err InvalidKey) written = Key written
-json_verdict (Err InvalidNumber) written = Number written
-
 one_json : (json : Result Json Refusal) (written : List ℕ)
     → text_verdict (on_ok (map_ok compact json) (λ text. map_ok (λ more. text ++ ([] ++ more)) (Ok []))) (with_text (map_ok compact json) [] [] written) ≡ json_verdict json written
 one_json (Ok json) written = ap Text (append-nil (compact json))
 one_json (Err InvalidKey) written = refl
 one_json (Err InvalidNumber) written = refl
 
-pub verdict_bad_line : (script : List ℕ) (way : Way) (n : ℕ) → lines script ≡ Bad n → IsVerdict (BadLine n) script way
-verdict_bad_line script way n e = subst (λ found. IsOfLines found (asked_in way) false (BadLine n)) (sym e) refl
+pub verdict_bad_line : (script : List ℕ) (task : Task) (n : ℕ) → lines script ≡ Bad n → IsVerdict (BadLine n) script task
+verdict_bad_line script task n e = subst (λ found. IsOfLines found (asked_in task.way) task.many (BadLine n)) (sym e) refl
 
-verdict_of_calls : (script : List ℕ) (way : Way) (calls : List Call) (answer : Verdict) → lines script ≡ Good calls → IsOfCalls calls (asked_in way) false answer → IsVerdict answer script way
-verdict_of_calls script way calls answer e v = subst (λ found. IsOfLines found (asked_in way) false answer) (sym e) v
+verdict_of_calls : (script : List ℕ) (task : Task) (calls : List Call) (answer : Verdict) → lines script ≡ Good calls → IsOfCalls calls (asked_in task.way) task.many answer → IsVerdict answer script task
+verdict_of_calls script task calls answer e v = subst (λ found. IsOfLines found (asked_in task.way) task.many answer) (sym e) v
 
-pub verdict_bad_call : (script : List ℕ) (way : Way) (front rest : List Call) (call : Call) → lines script ≡ Good (front ++ (call ∷ rest)) → IsViable front → (IsViable (front ++ (call ∷ [])) → ⊥)
-    → IsVerdict (BadCall (length front + 1)) script way
-verdict_bad_call script way front rest call e v n = verdict_of_calls script way _ _ e (bad_call front call rest refl v n)
+pub verdict_bad_call : (script : List ℕ) (task : Task) (front rest : List Call) (call : Call) → lines script ≡ Good (front ++ (call ∷ rest)) → CanGoOn task.many front
+    → (CanGoOn task.many (front ++ (call ∷ [])) → ⊥) → IsVerdict (BadCall (length front + 1)) script task
+verdict_bad_call script task front rest call e v n = verdict_of_calls script task _ _ e (bad_call front call rest refl v n)
 
-pub verdict_unfinished : (script : List ℕ) (way : Way) (calls : List Call) → lines script ≡ Good calls → IsViable calls → ((tree : Tree) → Spells calls tree → ⊥) → IsVerdict Unfinished script way
-verdict_unfinished script way calls e viable none = verdict_of_calls script way calls Unfinished e (unfinished viable (λ trees s. none s.0 s.2))
+pub verdict_unfinished : (script : List ℕ) (task : Task) (calls : List Call) → lines script ≡ Good calls → CanGoOn task.many calls → ((trees : List Tree) → SpellTrees task.many calls trees → ⊥)
+    → IsVerdict Unfinished script task
+verdict_unfinished script task calls e viable none = verdict_of_calls script task calls Unfinished e (unfinished viable none)
 
-pub verdict_tree : (script : List ℕ) (way : Way) (calls : List Call) (tree : Tree) → lines script ≡ Good calls → Spells calls tree → IsVerdict (json_verdict (json_in (style_of way) tree) (tree_written (asked_in way) tree)) script way
-verdict_tree script way calls tree e spells =
-    subst (λ answer. IsVerdict answer script way) (one_json (json_in (style_of way) tree) (tree_written (asked_in way) tree)) (verdict_of_calls script way calls _ e (whole (tree ∷ []) (tree, refl, spells)))
+pub verdict_trees : (script : List ℕ) (task : Task) (calls : List Call) (trees : List Tree) → lines script ≡ Good calls → SpellTrees task.many calls trees
+    → IsVerdict (trees_verdict (asked_in task.way) task.many trees) script task
+verdict_trees script task calls trees e s = verdict_of_calls script task calls _ e (whole trees s)
 
--- ---- the script without a line
+pub verdict_in : (script : List ℕ) (style : Variants) (calls : List Call) (tree : Tree) → lines script ≡ Good calls → Spells calls tree
+    → IsVerdictOn (json_verdict (json_in style tree) (tree_written (JsonIn style) tree)) script (JsonIn style) false
+verdict_in script style calls tree e spells =
+    subst (λ answer. IsVerdictOn answer script (JsonIn style) false) (one_json (json_in style tree) (tree_written (JsonIn style) tree))
+    (subst (λ found. IsOfLines found (JsonIn style) false (trees_verdict (JsonIn style) false (tree ∷ []))) (sym e) (whole (tree ∷ []) (tree, refl, spells)))
 
-empty_is_unfinished : (way : Way) → IsVerdict Unfinished [] way
-unfolding lines
-empty_is_unfinished way = unfinished (taken_is_viable [] (false, [], done)) (λ trees s. let e = runs_determined [] done (spelling_is_run [] s.0 s.2) in cc (e.0))
+-- ---- a script with some line
 
--- any other verdict is of a script with some line
-pub has_a_line : (script : List ℕ) (way : Way) (answer : Verdict) → IsVerdict answer script way → (answer ≡ Unfinished → ⊥) → 0 < length script
-has_a_line [] way answer v other = absurd (other (one_of_lines (lines []) (asked_in way) false answer Unfinished v (empty_is_unfinished way)))
-has_a_line (byte ∷ bytes) way answer v other = omega arith
-
--- and so is any call
+-- one with some call has a line
 pub has_a_call : (script : List ℕ) (calls : List Call) → lines script ≡ Good calls → 0 < length calls → 0 < length script
 unfolding lines
 has_a_call [] calls e some = let none : [] ≡ calls = let both : Good [] ≡ Good calls = e in cc both in absurd (omega (arith, some, ap length none))

@@ -1,26 +1,29 @@
 -- What writing leaves of a sink, step by step.
-use Rattle.std.specs.Prelude.{◌≡◌, ℕ, List, [], Ok, refl}
-use Rattle.std.proofs.Common.{◌∙◌, ap, subst, arith, inl}
+use Rattle.std.specs.Prelude.{◌≡◌, ℕ, Bool, true, false, List, [], Result, Ok, Err, refl}
+use Rattle.std.proofs.Common.{◌∙◌, ap, sym, subst, arith, inl, inr}
 use Rattle.sval_label.specs.Calls.{Call}
+use Rattle.sval_core.specs.Law.{Rose}
+use Rattle.sval_core.specs.Real.{IsReal}
 use Rattle.sval_core.specs.Spells.{Spells}
 use Rattle.sval_core.specs.Trees.{Tree, IsGood, calls_of}
 use Rattle.sval_core.proofs.Spellings.{calls_of-spells}
 use Rattle.sval_json.specs.declared.style.Variants.{Variants}
 use Rattle.sval_json.specs.Json.{Json, compact}
 use Rattle.sval_json.specs.Number.{Refusal}
-use Rattle.sval_json.specs.Shape.{json_in}
+use Rattle.sval_json.specs.Shape.{json_in, map_ok}
 use Rattle.sval_json.specs.Actions.{Outcome}
 use Rattle.sval_json.specs.Steps.{written_in}
 use Rattle.sval_json.specs.Laws.{IsWrittenAs}
-use Rattle.sval_json.specs.Sinks.{Told, NoCountFell, Appends, AppendsFront}
-use Rattle.sval_json.specs.Written.{IsBegunIn, IsRefusedIn, RefusesSpelledTree}
+use Rattle.sval_json.specs.Sinks.{Told, IsSteady, NoCountFell, Appends, AppendsFront}
+use Rattle.sval_json.specs.Written.{IsBegunIn, IsRefusedIn, RefusesSpelledTree, WritesSpelledTree, WritesSpelledValue}
 use Rattle.sval_json.proofs.Appending.{appends_nothing, steady_alone, steady_counts}
 use Rattle.sval_json.proofs.WrittenOnce.{written_once}
 use Rattle.sval_json.proofs.WritingPlain.{spelling_written}
-use Rattle.sval_relay.specs.declared.way.Way.{Way}
-use Rattle.sval_relay.specs.declared.relaying.RelayError.TheVariants as answer
-use Rattle.sval_relay.specs.Verdict.{Verdict, BadLine, BadCall, Unfinished, Key, Number, Text, JsonIn, tree_written}
-use Rattle.sval_relay.specs.Relays.{WritesValue, Grows, MayLeave, RefusesTreeOf, BeginsTree, WritesFrontOfJson}
+use Rattle.sval_relay.specs.declared.way.Task.{Task}
+use Rattle.sval_relay.specs.Ways.{is_captured}
+use Rattle.sval_relay.specs.Verdict.{Verdict, BadLine, BadCall, Unfinished, Key, Number, Text, JsonIn, tree_written, due_of, tree_due}
+use Rattle.sval_relay.specs.Relays.{WritesValue, Grows, MayLeave, IsWantFor, IsWantIn}
+use Rattle.sval_relay.specs.WrittenTrees.{WritesText, RefusesTree}
 
 -- ---- a sink that is as it was
 
@@ -50,18 +53,30 @@ grows_by_front f = (_, f.appends)
 pub appends_kept : {old mid new : Told} {bytes : List ℕ} → Appends old bytes mid → new.text ≡ mid.text → new.room ≡ mid.room → Appends old bytes new
 appends_kept a text room = record { fits = a.fits; text = text ∙ a.text; room = room ∙ a.room }
 
-pub value_kept : {old mid new : Told} (script : List ℕ) (way : Way) → WritesValue old mid script way → new.text ≡ mid.text → new.room ≡ mid.room → WritesValue old new script way
-value_kept script way v text room calls tree is spells promises =
-    let w = v calls tree is spells promises in
-    record { json = w.json; shape = w.shape; value = w.value; is = w.is; appends = appends_kept w.appends text room }
+pub value_kept : {old mid new : Told} (script : List ℕ) (task : Task) → WritesValue old mid script task → new.text ≡ mid.text → new.room ≡ mid.room → WritesValue old new script task
+value_kept script task v text room calls trees is spell =
+    let w = v calls trees is spell in
+    record { bytes = w.bytes; are = w.are; appends = appends_kept w.appends text room }
 
--- nothing was written of the JSON, since memory was wanting before
-pub no_json : {K : Type 0} (told : K → Told) (style : Variants) (calls : List Call) (out : K) → WritesFrontOfJson answer.NoMemory told style calls out out
-no_json told style calls out = record {
-  cause = inl refl;
-  begins = λ tree spells. front_of_nothing (told out) (tree_written (JsonIn style) tree);
-  counts = counts_stay (told out);
-}
+-- ---- want of memory
+
+-- nothing was written
+pub want_before : {K : Type 0} (task : Task) (told : K → Told) (out : K) → IsWantIn task told out out
+want_before {K} task told out = go (is_captured task.way) task.many
+  where
+    go : (captured many : Bool) → IsWantFor captured many told out out
+    go true true = inl (steady_alone (told out))
+    go true false = inl refl
+    go false many = inl refl
+
+-- the sink's own count rose
+pub want_of_sink : {K : Type 0} (task : Task) (told : K → Told) (old new : K) → Rose (told old).wants (told new).wants → IsWantIn task told old new
+want_of_sink {K} task told old new rose = go (is_captured task.way) task.many
+  where
+    go : (captured many : Bool) → IsWantFor captured many told old new
+    go true true = inr rose
+    go true false = inr rose
+    go false many = inr rose
 
 -- ---- what is written of a tree
 
@@ -71,15 +86,40 @@ written_of_json style tree json good shape =
     let w = subst (λ found. IsWrittenAs found (written_in style (calls_of tree))) shape (spelling_written style (calls_of tree) tree (calls_of-spells tree good)) in w.0
 
 -- for any calls that spell it the steps write the same
-written_of_calls : (style : Variants) (calls : List Call) (tree : Tree) → Spells calls tree → (written_in style calls).written ≡ tree_written (JsonIn style) tree
+pub written_of_calls : (style : Variants) (calls : List Call) (tree : Tree) → Spells calls tree → (written_in style calls).written ≡ tree_written (JsonIn style) tree
 written_of_calls style calls tree s = ap (λ (o : Outcome). o.written) (written_once style calls (calls_of tree) tree s (calls_of-spells tree s.0))
 
-pub begins_tree : {old new : Told} (style : Variants) (calls : List Call) → IsBegunIn style calls old new → BeginsTree style calls old new
-begins_tree {old} {new} style calls front tree s = subst (λ bytes. AppendsFront old bytes new) (written_of_calls style calls tree s) front
+-- what is due of a tree is what the steps write of it
+due_is_written : (style : Variants) (tree : Tree) → IsGood tree → tree_due (JsonIn style) tree ≡ tree_written (JsonIn style) tree
+due_is_written style tree good = by_shape (json_in style tree) refl
+  where
+    by_shape : (found : Result Json Refusal) → json_in style tree ≡ found → due_of (map_ok compact found) (tree_written (JsonIn style) tree) ≡ tree_written (JsonIn style) tree
+    by_shape (Ok json) shape = sym (written_of_json style tree json good shape)
+    by_shape (Err why) shape = refl
 
-pub refuses_tree : {old new : Told} (style : Variants) (why : Refusal) (calls : List Call) → IsRefusedIn style why calls old new → RefusesSpelledTree style why calls → RefusesTreeOf style why calls old new
-refuses_tree {old} {new} style why calls r refused tree s = record {
-  shape = refused tree s;
+pub begins_tree : {old new : Told} (style : Variants) (calls : List Call) (tree : Tree) → Spells calls tree → IsBegunIn style calls old new → AppendsFront old (tree_due (JsonIn style) tree) new
+begins_tree {old} {new} style calls tree s front = subst (λ bytes. AppendsFront old bytes new) (written_of_calls style calls tree s ∙ sym (due_is_written style tree s.0)) front
+
+pub refuses_tree : {old new : Told} (style : Variants) (why : Refusal) (calls : List Call) (tree : Tree) → Spells calls tree → IsRefusedIn style why calls old new → RefusesSpelledTree style why calls
+    → RefusesTree (JsonIn style) why tree old new
+refuses_tree {old} {new} style why calls tree s r refused = record {
+  is = ap (map_ok compact) (refused tree s);
   appends = subst (λ bytes. Appends old bytes new) (written_of_calls style calls tree s) r.appends;
   steady = r.steady;
 }
+
+pub writes_tree : {old new : Told} (style : Variants) (calls : List Call) (tree : Tree) → Spells calls tree → IsReal tree → WritesSpelledTree style calls old new → WritesSpelledValue style calls old new
+    → IsSteady old new → WritesText (JsonIn style) tree old new
+writes_tree style calls tree s real spelled value steady =
+    let w = spelled tree s in
+    record {
+      text = compact w.json;
+      is = ap (map_ok compact) w.shape;
+      meant = λ promises.
+          let v = value tree s real promises in
+          let same : Ok w.json ≡ Ok v.json = sym w.shape ∙ v.shape in
+          let json : w.json ≡ v.json = cc same in
+          record { json = v.json; shape = v.shape; is_text = ap compact json; value = v.value; is = v.is };
+      appends = w.appends;
+      steady = steady;
+    }

@@ -1,2 +1,3 @@
+mod MadeRecords
 mod ManyValues
 mod WorkedScripts

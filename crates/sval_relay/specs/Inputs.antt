@@ -6,23 +6,24 @@ use Rattle.sval_script.specs.Readings.{Reading, answer_to, answer_with, TakesPie
 use Rattle.sval_script.specs.declared.script.ScriptError.TheVariants.{NoMemory}
 use Rattle.sval_relay.specs.declared.reading.ReadError.{ReadError}
 use Rattle.sval_relay.specs.declared.reading.ReadError.TheVariants.{Fault, TooLong}
-use Rattle.sval_relay.specs.declared.way.Way.{Way}
+use Rattle.sval_relay.specs.declared.way.Task.{Task}
 use Rattle.sval_relay.specs.Sources.{Supply, Gives}
 
 -- an input of at most 16,777,216 bytes, which is kept whole
 abbrev pub IsShort : List ℕ → Type 0
 IsShort input = length input ≤ 2 ^ 24
 
--- a fact on an input that is short, and on one that isn't
-abbrev pub OnShort : (List ℕ → Way → Type 0) → List ℕ → Way → Type 0
-OnShort P input way = IsShort input → P input way
+-- a fact on an input that is short
+abbrev pub OnShort : (List ℕ → Task → Type 0) → List ℕ → Task → Type 0
+OnShort P input task = IsShort input → P input task
 
-abbrev pub OnLong : Type 0 → List ℕ → Way → Type 0
-OnLong P input way = 2 ^ 24 < length input → P
+-- a fact where the input is longer
+abbrev pub OnLong : Type 0 → List ℕ → Task → Type 0
+OnLong P input task = 2 ^ 24 < length input → P
 
--- nothing is left, where the source told what it had
-abbrev pub IsSpent : Supply → Supply → Type 0
-IsSpent old new = IfSome old.left (λ all. new.left ≡ Some [])
+-- nothing of the input is left
+abbrev pub IsSpent : Supply → List ℕ → Task → Type 0
+IsSpent new input task = new.left ≡ Some []
 
 -- the bytes are all that was left, and nothing is left now
 pub record TakesAll (whole bytes : List ℕ) (rest : Option (List ℕ)) : Type 0 where
@@ -56,8 +57,9 @@ pub record TakesOneMore (whole : List ℕ) (rest : Option (List ℕ)) : Type 0 w
 abbrev pub IsTooLong : Supply → Supply → Type 0
 IsTooLong old new = IfSome old.left (λ all. TakesOneMore all new.left)
 
--- reading stopped, and this is why
+-- reading stopped, and this is why; a count of faults that moved means a fault
 pub record StopsReading (why : ReadError) (old new : Supply) : Type 0 where
   pub fault : why ≡ Fault → Rose old.faults new.faults
+  pub moved : old.faults < new.faults → why ≡ Fault
   pub long : why ≡ TooLong → IsTooLong old new
   pub faults : old.faults ≤ new.faults

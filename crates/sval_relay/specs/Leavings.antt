@@ -30,9 +30,11 @@ IsLeftByCalls asked many calls bytes =
     ((trees : List Tree) → SpellTrees many calls trees → bytes ≡ left asked (ending asked many) trees)
     × (((trees : List Tree) → SpellTrees many calls trees → ⊥) → bytes ≡ [])
 
+-- nothing where a line is bad
 abbrev pub IsLeftByLines : Asked → Bool → Lines → List ℕ → Type 0
 IsLeftByLines asked many (Bad n) bytes = bytes ≡ []
 IsLeftByLines asked many (Good calls) bytes = IsLeftByCalls asked many calls bytes
 
+-- these bytes are left of the script
 abbrev pub IsLeft : Asked → Bool → List ℕ → List ℕ → Type 0
 IsLeft asked many script bytes = IsLeftByLines asked many (lines script) bytes

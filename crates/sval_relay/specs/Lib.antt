@@ -5,7 +5,11 @@ pub mod Ways
 pub mod Verdict
 pub mod Leavings
 pub mod Relays
+pub mod WrittenTrees
 pub mod Statuses
-pub mod Serves
 pub mod Reports
+pub mod Made
+pub mod Serves
+pub mod Runs
+pub mod MadeLaws
 pub mod Laws

@@ -9,6 +9,7 @@ use Rattle.sval_relay.specs.declared.failure.Failure.{Failure}
 use Rattle.sval_relay.specs.declared.failure.Failure.TheVariants as failure
 use Rattle.sval_relay.specs.Verdict.{Verdict, BadLine, BadCall, Unfinished, Key, Number, Text}
 
+-- the status is one of these
 abbrev pub is_among : ℕ → List ℕ → Bool
 is_among status statuses = list_any (λ s. s == status) statuses
 
@@ -24,6 +25,10 @@ is_unwritten status = is_among status (USAGE ∷ BAD_LINE ∷ BAD_CALL ∷ UNFIN
 abbrev pub is_read : ℕ → Bool
 is_read status = is_among status (DONE ∷ BAD_LINE ∷ BAD_CALL ∷ UNFINISHED ∷ INVALID_KEY ∷ INVALID_NUMBER ∷ [])
 
+-- those of a made script
+abbrev pub is_of_made : ℕ → Bool
+is_of_made status = is_among status (DONE ∷ WRITE ∷ NO_MEMORY ∷ [])
+
 -- the status that is due
 abbrev pub IsStatusOf : Verdict → ℕ → Type 0
 IsStatusOf (BadLine n) status = status ≡ BAD_LINE
@@ -37,6 +42,7 @@ IsStatusOf (Number written) status = status ≡ INVALID_NUMBER
 abbrev pub IsStatusDue : ℕ → Verdict → Type 0
 IsStatusDue status answer = IsStatusOf answer status ⊎ (status ≡ NO_MEMORY)
 
+-- the status for an error of serving a script
 abbrev pub status_of_answer : RelayError → ℕ
 status_of_answer (answer.BadLine n) = BAD_LINE
 status_of_answer (answer.BadCall n) = BAD_CALL
@@ -46,10 +52,12 @@ status_of_answer answer.InvalidNumber = INVALID_NUMBER
 status_of_answer answer.Write = WRITE
 status_of_answer answer.NoMemory = NO_MEMORY
 
+-- the status for how serving a script ended
 abbrev pub status_of_relayed : Result (Unit {0}) RelayError → ℕ
 status_of_relayed (Ok done) = DONE
 status_of_relayed (Err why) = status_of_answer why
 
+-- the status for a failure
 abbrev pub status_of_failure : Failure → ℕ
 status_of_failure failure.Usage = USAGE
 status_of_failure (failure.Input reading.Fault) = READ
@@ -57,6 +65,7 @@ status_of_failure (failure.Input reading.TooLong) = TOO_LONG
 status_of_failure (failure.Input reading.NoMemory) = NO_MEMORY
 status_of_failure (failure.Relay why) = status_of_answer why
 
+-- the status for how the program ended
 abbrev pub status_of : Result (Unit {0}) Failure → ℕ
 status_of (Ok done) = DONE
 status_of (Err why) = status_of_failure why

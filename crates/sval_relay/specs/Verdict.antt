@@ -7,12 +7,14 @@ use Rattle.sval_core.specs.Many.{SpellsAll, IsViableAll}
 use Rattle.sval_json.specs.Json.{compact}
 use Rattle.sval_json.specs.Number.{Refusal, InvalidKey, InvalidNumber}
 use Rattle.sval_json.specs.declared.style.Variants.{Variants}
+use Rattle.sval_json.specs.declared.style.Variants.TheVariants.{Inside, Beside}
 use Rattle.sval_json.specs.Shape.{json_in, on_ok, map_ok}
 use Rattle.sval_json.specs.Steps.{written_in}
 use Rattle.sval_script.specs.Lines.{Lines, Good, Bad, lines}
 use Rattle.sval_script.specs.Canon.{canon}
 use Rattle.sval_relay.specs.declared.way.Way.{Way}
-use Rattle.sval_relay.specs.Ways.{style_of}
+use Rattle.sval_relay.specs.declared.way.Way.TheVariants.{Direct, Buffered, Calls, DirectBeside, BufferedBeside}
+use Rattle.sval_relay.specs.declared.way.Task.{Task}
 
 -- the first bad line, or the first call that no value goes on with, each counted from 1; calls that are no whole value; a map's key
 -- that is no text, or a number that is none, each with what is written up to it; or the text
@@ -31,6 +33,7 @@ pub data Asked : Type 0 where
 
 -- ---- what trees give
 
+-- the text that is asked for of a tree, or why it has none: a script there always is
 abbrev pub tree_text : Asked → Tree → Result (List ℕ) Refusal
 tree_text (JsonIn style) tree = map_ok compact (json_in style tree)
 tree_text Script tree = Ok (canon tree)
@@ -51,6 +54,14 @@ abbrev pub tree_written : Asked → Tree → List ℕ
 tree_written (JsonIn style) tree = (written_in style (calls_of tree)).written
 tree_written Script tree = []
 
+-- what is due of a tree by itself: its text, or what is written of it up to the refusal
+abbrev pub due_of : Result (List ℕ) Refusal → List ℕ → List ℕ
+due_of (Ok text) written = text
+due_of (Err why) written = written
+
+abbrev pub tree_due : Asked → Tree → List ℕ
+tree_due asked tree = due_of (tree_text asked tree) (tree_written asked tree)
+
 -- a tree's text with its ending, and what the trees after it leave; or what was written of the tree, where it is refused
 abbrev pub with_text : Result (List ℕ) Refusal → List ℕ → List ℕ → List ℕ → List ℕ
 with_text (Ok text) end later written = text ++ (end ++ later)
@@ -61,11 +72,13 @@ abbrev pub left : Asked → List ℕ → List Tree → List ℕ
 left asked end [] = []
 left asked end (tree ∷ trees) = with_text (tree_text asked tree) end (left asked end trees) (tree_written asked tree)
 
+-- the text of all trees, or the refusal of the first one that is refused, with what is left then
 abbrev pub text_verdict : Result (List ℕ) Refusal → List ℕ → Verdict
 text_verdict (Ok text) left = Text text
 text_verdict (Err InvalidKey) left = Key left
 text_verdict (Err InvalidNumber) left = Number left
 
+-- what these trees give
 abbrev pub trees_verdict : Asked → Bool → List Tree → Verdict
 trees_verdict asked many trees = text_verdict (texts asked (ending asked many) trees) (left asked (ending asked many) trees)
 
@@ -89,6 +102,7 @@ pub data IsOfCalls : List Call → Asked → Bool → Verdict → Type 0 where
       → IsOfCalls calls asked many Unfinished
   whole : {calls : List Call} {asked : Asked} {many : Bool} (trees : List Tree) → SpellTrees many calls trees → IsOfCalls calls asked many (trees_verdict asked many trees)
 
+-- the bad line; or, where there is none, what the calls give
 abbrev pub IsOfLines : Lines → Asked → Bool → Verdict → Type 0
 IsOfLines (Bad n) asked many answer = answer ≡ BadLine n
 IsOfLines (Good calls) asked many answer = IsOfCalls calls asked many answer
@@ -97,22 +111,35 @@ IsOfLines (Good calls) asked many answer = IsOfCalls calls asked many answer
 abbrev pub IsVerdictOn : Verdict → List ℕ → Asked → Bool → Type 0
 IsVerdictOn answer script asked many = IsOfLines (lines script) asked many answer
 
--- ---- what a way asks for: the JSON of one value
+-- ---- what is asked for of a script
 
+-- what a way makes of each tree: JSON in its style, or its canonical script
 abbrev pub asked_in : Way → Asked
-asked_in way = JsonIn (style_of way)
+asked_in Direct = JsonIn Inside
+asked_in Buffered = JsonIn Inside
+asked_in Calls = Script
+asked_in DirectBeside = JsonIn Beside
+asked_in BufferedBeside = JsonIn Beside
 
--- this answer is the script's verdict in this way
-abbrev pub IsVerdict : Verdict → List ℕ → Way → Type 0
-IsVerdict answer script way = IsVerdictOn answer script (asked_in way) false
+-- a way for a script that has to spell one value, and for one that may spell many
+abbrev pub one_in : Way → Task
+one_in way = record { way = way; many = false }
 
--- some line is none, or no value goes on with the call of some line
-abbrev pub HasBadLine : List ℕ → Way → Type 0
-HasBadLine script way = (line : ℕ) × IsVerdict (BadLine line) script way
+abbrev pub all_in : Way → Task
+all_in way = record { way = way; many = true }
 
-abbrev pub HasBadCall : List ℕ → Way → Type 0
-HasBadCall script way = (line : ℕ) × IsVerdict (BadCall line) script way
+-- this answer is the script's verdict, where this is asked for
+abbrev pub IsVerdict : Verdict → List ℕ → Task → Type 0
+IsVerdict answer script task = IsVerdictOn answer script (asked_in task.way) task.many
+
+-- the verdict is that a line is bad, the first one of the script
+abbrev pub HasBadLine : List ℕ → Task → Type 0
+HasBadLine script task = (line : ℕ) × IsVerdict (BadLine line) script task
+
+-- the verdict is that no value goes on with a call, the first such one of the script
+abbrev pub HasBadCall : List ℕ → Task → Type 0
+HasBadCall script task = (line : ℕ) × IsVerdict (BadCall line) script task
 
 -- a fact on the script's verdict
-abbrev pub OnVerdict : (Verdict → Type 0) → List ℕ → Way → Type 0
-OnVerdict P script way = (answer : Verdict) → IsVerdict answer script way → P answer
+abbrev pub OnVerdict : (Verdict → Type 0) → List ℕ → Task → Type 0
+OnVerdict P script task = (answer : Verdict) → IsVerdict answer script task → P answer

@@ -1,48 +1,82 @@
 -- The ways to serve a script, and the words that name them.
-use Rattle.std.specs.Prelude.{ℕ, Bool, true, false, List, [], ◌∷◌, codes, bytes_eq, map, string_bytes, String, Option, Some, None, if◌then◌else◌, ⊤}
-use Rattle.sval_json.specs.declared.style.Variants.{Variants}
-use Rattle.sval_json.specs.declared.style.Variants.TheVariants.{Inside, Beside}
+use Rattle.std.specs.Prelude.{ℕ, nat_le, Bool, true, false, List, [], ◌∷◌, codes, bytes_eq, map, string_bytes, String, Option, Some, None, option_map, option_and_then, if◌then◌else◌, ⊤}
+use Rattle.sval_script.specs.Lines.{keep, natural}
 use Rattle.sval_relay.specs.declared.way.Way.{Way}
-use Rattle.sval_relay.specs.declared.way.Way.TheVariants.{Direct, Buffered, DirectBeside, BufferedBeside}
+use Rattle.sval_relay.specs.declared.way.Way.TheVariants.{Direct, Buffered, Calls, DirectBeside, BufferedBeside}
+use Rattle.sval_relay.specs.declared.way.Task.{Task}
+use Rattle.sval_relay.specs.declared.way.Form.{Form}
+use Rattle.sval_relay.specs.declared.way.Form.TheVariants.{Serve, Made}
 use Rattle.sval_relay.specs.Sources.{Supply}
-
--- the style of variants that a way writes
-abbrev pub style_of : Way → Variants
-style_of Direct = Inside
-style_of Buffered = Inside
-style_of DirectBeside = Beside
-style_of BufferedBeside = Beside
 
 -- whether it captures the value before it writes
 abbrev pub is_captured : Way → Bool
 is_captured Direct = false
 is_captured Buffered = true
+is_captured Calls = true
 is_captured DirectBeside = false
 is_captured BufferedBeside = true
 
+-- ---- the forms of the program's words
+
 -- the way that a word names by itself
 abbrev pub way_alone : List ℕ → Option Way
-way_alone word = if bytes_eq word (codes "direct") then Some Direct else if bytes_eq word (codes "buffered") then Some Buffered else None
+way_alone word =
+    if bytes_eq word (codes "direct") then Some Direct
+    else if bytes_eq word (codes "buffered") then Some Buffered
+    else if bytes_eq word (codes "calls") then Some Calls
+    else None
 
 -- the way that it names before `beside`
 abbrev pub way_beside : List ℕ → Option Way
 way_beside word = if bytes_eq word (codes "direct") then Some DirectBeside else if bytes_eq word (codes "buffered") then Some BufferedBeside else None
 
--- the way that words name, if they are a form
-abbrev pub way_named : List (List ℕ) → Option Way
-way_named (word ∷ []) = way_alone word
-way_named (word ∷ last ∷ []) = if bytes_eq last (codes "beside") then way_beside word else None
-way_named words = None
+-- the number of records that a word asks for: a decimal up to 50,000, without a sign or a leading zero
+abbrev pub records_named : List ℕ → Option ℕ
+records_named word = option_and_then (keep (λ n. nat_le n 50000)) (natural word)
+
+-- a script of one value, or of many, where a way is named
+abbrev pub served_in : Bool → Option Way → Option Form
+served_in many = option_map (λ way. Serve (record { way = way; many = many }))
+
+-- the form that words are, if they are one
+abbrev pub form_named : List (List ℕ) → Option Form
+form_named (word ∷ []) = served_in false (way_alone word)
+form_named (word ∷ last ∷ []) =
+    if bytes_eq word (codes "made") then option_map Made (records_named last)
+    else if bytes_eq last (codes "lines") then served_in true (way_alone word)
+    else if bytes_eq last (codes "beside") then served_in false (way_beside word)
+    else None
+form_named (word ∷ middle ∷ last ∷ []) =
+    if bytes_eq middle (codes "beside") then (if bytes_eq last (codes "lines") then served_in true (way_beside word) else None) else None
+form_named words = None
 
 -- the same of the program's words, which are those after its name
-abbrev pub way_of : {A : Type 0} → List (String A) → Option Way
-way_of words = way_named (map string_bytes words)
+abbrev pub form_of : {A : Type 0} → List (String A) → Option Form
+form_of words = form_named (map string_bytes words)
 
--- a fact on the script and the way, where there are both
-abbrev pub OnBoth : Option Way → Option (List ℕ) → (List ℕ → Way → Type 0) → Type 0
-OnBoth (Some way) (Some script) P = P script way
+-- a fact on the script and what is asked for of it, where there are both
+abbrev pub OnBoth : Option Form → Option (List ℕ) → (List ℕ → Task → Type 0) → Type 0
+OnBoth (Some (Serve task)) (Some script) P = P script task
 OnBoth _ _ P = ⊤
 
--- a fact on the script and the way that were asked for: where the words name a way, and the source tells its bytes
-abbrev pub OnAsked : {A : Type 0} → List (String A) → Supply → (List ℕ → Way → Type 0) → Type 0
-OnAsked words input P = OnBoth (way_of words) input.left P
+-- the same of the program: where the words ask for something of a script, and the source tells its bytes
+abbrev pub OnAsked : {A : Type 0} → List (String A) → Supply → (List ℕ → Task → Type 0) → Type 0
+OnAsked words input P = OnBoth (form_of words) input.left P
+
+-- whether many values may come
+abbrev pub takes_many : Option Form → Bool
+takes_many (Some (Serve task)) = task.many
+takes_many _ = false
+
+-- the same of the program's words
+abbrev pub many_asked : {A : Type 0} → List (String A) → Bool
+many_asked words = takes_many (form_of words)
+
+-- a fact on the number of records, where there is one
+abbrev pub OnRecords : Option Form → (ℕ → Type 0) → Type 0
+OnRecords (Some (Made count)) P = P count
+OnRecords _ P = ⊤
+
+-- the same of the program: where the words ask for a made script
+abbrev pub OnMade : {A : Type 0} → List (String A) → (ℕ → Type 0) → Type 0
+OnMade words P = OnRecords (form_of words) P

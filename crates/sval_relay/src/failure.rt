@@ -3,9 +3,10 @@
 ghost use Rattle.std.specs.Prelude.{◌≡◌, ◌++◌, Err, codes, decimal};
 ghost use Rattle.sval_json.specs.Sinks.{WritesAll};
 ghost use Rattle.sval_relay.specs.Relays.{of_script, of_sink};
-ghost use Rattle.sval_relay.specs.Reports.{TellsLine, report_of, line_of_result};
+ghost use Rattle.sval_relay.specs.Reports.{TellsLine, unfinished_line, report_of, line_of_result};
 ghost use Rattle.sval_relay.specs.Statuses.{status_of, status_of_failure};
 
+use crate::made::MadeError;
 use crate::reading::ReadError;
 use crate::relaying::RelayError;
 use crate::status;
@@ -64,6 +65,19 @@ impl From<SinkError> for Failure {
     }
 }
 
+impl From<MadeError> for Failure {
+    ghost use Rattle.sval_relay.specs.Serves.{failure_of_made};
+
+    ghost from_gives = { λ error failure. failure ≡ failure_of_made error };
+
+    fn from(error: MadeError) -> Failure {
+        match error {
+            MadeError::Write => Failure::Relay(RelayError::Write),
+            MadeError::NoMemory => Failure::Relay(RelayError::NoMemory),
+        }
+    }
+}
+
 impl Failure {
     /// The program's status.
     fn status(&self) -> u8
@@ -85,16 +99,16 @@ impl Failure {
     }
 
     /// Writes this failure's line, and passes it on.
-    fn report<D: Sink>(&self, diag: &mut D) -> Result<(), SinkError>
-        ensures { TellsLine (D.told diag.old) (report_of self.now) (D.told diag.new) }
+    fn report<D: Sink>(&self, many: bool, diag: &mut D) -> Result<(), SinkError>
+        ensures { TellsLine (D.told diag.old) (report_of many self.now) (D.told diag.new) }
     {
-        self.write_line(diag)?;
+        self.write_line(many, diag)?;
         diag.flush()
     }
 
     /// Writes this failure's line.
-    fn write_line<D: Sink>(&self, diag: &mut D) -> Result<(), SinkError>
-        ensures { WritesAll result (D.told diag.old) (report_of self.now) (D.told diag.new) }
+    fn write_line<D: Sink>(&self, many: bool, diag: &mut D) -> Result<(), SinkError>
+        ensures { WritesAll result (D.told diag.old) (report_of many self.now) (D.told diag.new) }
     {
         match self {
             Failure::Usage => write_all(
@@ -114,9 +128,7 @@ impl Failure {
             Failure::Relay(RelayError::BadCall { line }) => {
                 write_at(diag, *line, b": no value goes on with this call\n")
             }
-            Failure::Relay(RelayError::Unfinished) => {
-                write_all(diag, b"the calls are not one whole value\n")
-            }
+            Failure::Relay(RelayError::Unfinished) => write_unfinished(diag, many),
             Failure::Relay(RelayError::InvalidKey) => {
                 write_all(diag, b"attempt to serialize a non-string key\n")
             }
@@ -138,16 +150,27 @@ fn write_at<D: Sink>(diag: &mut D, line: u64, what: &[u8]) -> Result<(), SinkErr
     write_all(diag, what)
 }
 
-/// Tells the third device how the program ended, and answers the status.
-pub(crate) fn conclude<D: Sink>(ended: Result<(), Failure>, diag: &mut D) -> u8
+/// Writes that the calls aren't whole, where one value has to come or where many may.
+fn write_unfinished<D: Sink>(diag: &mut D, many: bool) -> Result<(), SinkError>
+    ensures { WritesAll result (D.told diag.old) (unfinished_line many) (D.told diag.new) }
+{
+    if many {
+        write_all(diag, b"the calls are not whole values\n")
+    } else {
+        write_all(diag, b"the calls are not one whole value\n")
+    }
+}
+
+/// Tells the third device how the program ended, where many values may have come or not, and answers the status.
+pub(crate) fn conclude<D: Sink>(ended: Result<(), Failure>, many: bool, diag: &mut D) -> u8
     ensures status { result ≡ status_of ended }
-    ensures tells { TellsLine (D.told diag.old) (line_of_result ended) (D.told diag.new) }
+    ensures tells { TellsLine (D.told diag.old) (line_of_result many ended) (D.told diag.new) }
 {
     match ended {
         Ok(()) => status::DONE,
         Err(failure) => {
             // Nothing is left to tell where even this fails.
-            let _ = failure.report(diag);
+            let _ = failure.report(many, diag);
             failure.status()
         }
     }

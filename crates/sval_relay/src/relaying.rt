@@ -1,20 +1,17 @@
-//! A script's JSON.
+//! Scripts that stand in memory, served.
 
-ghost use Rattle.std.specs.Prelude.{◌≡◌, ℕ, ◌<◌, ◌^◌, false, List, length, IfOk, IfErr};
-ghost use Rattle.sval_buffer.specs.CapturedValues.{KeepsTree};
-ghost use Rattle.sval_buffer.specs.SeenBuffers.{capture_of};
-ghost use Rattle.sval_core.specs.Spells.{Spells};
-ghost use Rattle.sval_core.specs.Trees.{Tree};
-ghost use Rattle.sval_core.specs.Values.{makes};
+ghost use Rattle.std.specs.Prelude.{◌≡◌, ℕ, ◌<◌, ◌^◌, true, false, List, length};
 ghost use Rattle.sval_script.specs.Lines.{lines, Good};
-ghost use Rattle.sval_relay.specs.Relays.{Relays, WritesJson};
+ghost use Rattle.sval_relay.specs.Verdict.{one_in, all_in};
+ghost use Rattle.sval_relay.specs.Relays.{Relays};
+ghost use Rattle.sval_relay.specs.WrittenTrees.{IsOfScript};
 
-use crate::way::Way;
+use crate::lists::write_list;
+use crate::trees::write_tree;
+use crate::way::{Task, Way};
 use std::alloc::Global;
-use sval_buffer::ValueBuf;
-use sval_check::{CheckError, check};
-use sval_core::{Lent, Value};
-use sval_json::{ErrorKind, Sink, SinkError, Variants, stream_to_io_write_with};
+use sval_check::{CheckError, check, check_all};
+use sval_json::{Sink, SinkError};
 use sval_script::{Script, ScriptError};
 
 /// Why a script wasn't served, or not whole.
@@ -68,12 +65,14 @@ impl From<SinkError> for RelayError {
     }
 }
 
-/// Serves one script that stands in memory: reads its lines, checks their calls, and writes the JSON of the one value
-/// that they spell.
+/// Serves one script that stands in memory: reads its lines, checks their calls, and writes what the way makes of the one
+/// value that they spell.
 ///
-/// On `Ok` the sink took exactly that JSON's text. Where raw texts and identifiers are what their tags promise, that
-/// text denotes the one value that is meant. Where the sink counted no fault, the answer is the one that the script's
-/// verdict asks for, unless memory was wanting. A script may have any length.
+/// On `Ok` the sink took exactly that JSON's text, or that canonical script. Where raw texts and identifiers are what
+/// their tags promise, JSON denotes the one value that is meant; a canonical script spells the value's canonical calls.
+/// Where the sink counted no fault, the answer is the one that the script's verdict asks for, unless memory was wanting.
+/// A script may have any length, but a field that spells a text or a binary of 4 GiB or more is answered as want of
+/// memory.
 ///
 /// ```
 /// let mut sink = VecSink::new(alloc);
@@ -86,26 +85,84 @@ impl From<SinkError> for RelayError {
 /// [`RelayError::BadLine`], [`RelayError::BadCall`] and [`RelayError::Unfinished`] come only where the script is so, in
 /// this order, and leave the sink as it was. [`RelayError::InvalidKey`] and [`RelayError::InvalidNumber`] come only
 /// where the value has no JSON for that cause, the first from left to right; the sink took exactly what is written up
-/// to there. [`RelayError::Write`] comes only where the sink's count of faults rose. [`RelayError::NoMemory`] never
-/// comes for an empty script, and leaves the sink as it was, unless the sink's own count of wants rose. After `Write`,
-/// and after `NoMemory` where that count rose, a first part of what is due may have been taken.
+/// to there. Neither comes in the way `Calls`. [`RelayError::Write`] comes only where the sink's count of faults rose.
+/// [`RelayError::NoMemory`] comes where memory was wanting, or for a field of 4 GiB or more, and never for an empty
+/// script; it leaves the sink as it was, unless the sink's own count of wants rose. After `Write`, and after `NoMemory`
+/// where that count rose, a first part of what is due may have been taken.
 pub fn relay<K: Sink>(alloc: Global, script: &[u8], way: Way, out: &mut K) -> Result<(), RelayError>
-    ensures { Relays K.told script.now way result out.old out.new }
+    ensures relays { Relays K.told script.now (one_in way) result out.old out.new }
+    ensures some_line { result ≡ Err RelayError.NoMemory → 0 < length script.now }
 {
+    // So its length is known to fit.
+    let _length = script.len();
     let script = Script::read(alloc, script)?;
-    serve_script(alloc, &script, way, out)
+    serve_one(alloc, &script, way, out)
+}
+
+/// Serves a script in memory that spells values one after another: what [`relay`] writes of one is written of each, in
+/// JSON with a line feed behind it.
+///
+/// All lines are read and all calls checked before anything is written. In the ways that capture each value is captured
+/// by itself.
+///
+/// ```
+/// let mut sink = VecSink::new(alloc);
+/// relay_lines(alloc, b"null\nbool true\n", Way::Direct, &mut sink)?;
+/// assert_eq!(rt; sink.as_slice(), b"null\ntrue\n".as_slice());
+/// ```
+///
+/// # Errors
+///
+/// Those of [`relay`], for the same causes in the list of values, but that no clause rules [`RelayError::NoMemory`] out
+/// for an empty script. [`RelayError::InvalidKey`] and [`RelayError::InvalidNumber`] are those of the first value that
+/// has no JSON; the sink took all before it, and exactly what is written of it up to there. After
+/// [`RelayError::NoMemory`] in a way that captures, a first part of what is due may have been taken, and no count of the
+/// sink moved, unless its count of wants rose.
+pub fn relay_lines<K: Sink>(
+    alloc: Global,
+    script: &[u8],
+    way: Way,
+    out: &mut K,
+) -> Result<(), RelayError>
+    ensures { Relays K.told script.now (all_in way) result out.old out.new }
+{
+    // So its length is known to fit.
+    let _length = script.len();
+    let script = Script::read(alloc, script)?;
+    serve_list(alloc, &script, way, out)
 }
 
 /// Serves a script that was read. The clause holds of all bytes whose lines are its calls.
 pub(crate) fn serve_script<K: Sink>(
     alloc: Global,
     script: &Script,
+    task: Task,
+    out: &mut K,
+) -> Result<(), RelayError>
+    requires few { length script.now < 2 ^ 64 }
+    requires read { IsOfScript script.now }
+    ensures { (bytes : List ℕ) → length bytes < 2 ^ 64 → lines bytes ≡ Good script.now
+        → Relays K.told bytes task result out.old out.new }
+{
+    if task.many {
+        serve_list(alloc, script, task.way, out)
+    } else {
+        serve_one(alloc, script, task.way, out)
+    }
+}
+
+/// Serves a script that has to spell one value.
+fn serve_one<K: Sink>(
+    alloc: Global,
+    script: &Script,
     way: Way,
     out: &mut K,
 ) -> Result<(), RelayError>
     requires few { length script.now < 2 ^ 64 }
-    ensures { (bytes : List ℕ) → lines bytes ≡ Good script.now
-        → Relays K.told bytes way result out.old out.new }
+    requires read { IsOfScript script.now }
+    ensures relays { (bytes : List ℕ) → length bytes < 2 ^ 64 → lines bytes ≡ Good script.now
+        → Relays K.told bytes (one_in way) result out.old out.new }
+    ensures some_call { result ≡ Err RelayError.NoMemory → 0 < length script.now }
 {
     match check(alloc, script) {
         Ok(()) => {}
@@ -114,62 +171,27 @@ pub(crate) fn serve_script<K: Sink>(
         Err(CheckError::NoMemory) => return Err(RelayError::NoMemory),
         Err(CheckError::Refused) => unreachable!("a script doesn't refuse"),
     }
-    if way.is_captured() {
-        write_captured(alloc, script, way.variants(), out)
-    } else {
-        write_json(out, script, way.variants())
-    }
+    write_tree(alloc, &script.as_slice(), way, out)
 }
 
-/// Captures a script whose calls spell a tree, and writes the JSON of what it captured.
-fn write_captured<K: Sink>(
+/// Serves a script that may spell many values.
+fn serve_list<K: Sink>(
     alloc: Global,
     script: &Script,
-    variants: Variants,
+    way: Way,
     out: &mut K,
 ) -> Result<(), RelayError>
-    requires { (tree : Tree) × Spells script.now tree }
-    ensures { WritesJson result K.told variants script.now out.old out.new }
+    requires few { length script.now < 2 ^ 64 }
+    requires read { IsOfScript script.now }
+    ensures { (bytes : List ℕ) → length bytes < 2 ^ 64 → lines bytes ≡ Good script.now
+        → Relays K.told bytes (all_in way) result out.old out.new }
 {
-    let captured = capture(alloc, script)?;
-    write_json(out, &captured, variants)
-}
-
-/// Captures a script whose calls spell a tree.
-fn capture<'v>(alloc: Global, script: &'v Script) -> Result<ValueBuf<'v>, RelayError>
-    requires { (tree : Tree) × Spells script.now tree }
-    ensures ok { IfOk result (λ captured. KeepsTree (makes script.now) (capture_of captured).forest) }
-    ensures err { IfErr result (λ why. why ≡ RelayError.NoMemory) }
-{
-    // A part takes a line or more; room that isn't filled takes no memory of the system.
-    let parts = script.line_count() as usize;
-    match ValueBuf::collect_with_capacity(alloc, parts, script) {
-        Ok(captured) => Ok(captured),
-        Err(error) => match error.kind() {
-            sval_buffer::ErrorKind::NoAlloc { .. } => Err(RelayError::NoMemory),
-            _ => unreachable!("a value that spells a tree is captured"),
-        },
-    }
-}
-
-/// Writes the JSON of a value that doesn't refuse.
-fn write_json<'v, K: Sink, V: Value<'v, Lent<'v>>>(
-    out: &mut K,
-    value: &'v V,
-    variants: Variants,
-) -> Result<(), RelayError>
-    requires { (V.emission value.now).refuses ≡ false }
-    ensures { WritesJson result K.told variants (V.emission value.now).calls out.old out.new }
-{
-    match stream_to_io_write_with(out, value, variants) {
-        Ok(()) => Ok(()),
-        Err(error) => match error.kind() {
-            ErrorKind::IO => Err(RelayError::Write),
-            ErrorKind::InvalidKey => Err(RelayError::InvalidKey),
-            ErrorKind::InvalidNumber => Err(RelayError::InvalidNumber),
-            ErrorKind::NoMemory => Err(RelayError::NoMemory),
-            ErrorKind::Generic => unreachable!("the value doesn't refuse"),
-        },
+    match check_all(alloc, script) {
+        Ok(ends) => write_list(alloc, script.as_slice(), &ends, way, out),
+        Err(CheckError::BadCall { at }) => Err(RelayError::BadCall { line: at }),
+        Err(CheckError::Unfinished) => Err(RelayError::Unfinished),
+        Err(CheckError::NoMemory) => Err(RelayError::NoMemory),
+        Err(CheckError::Refused) => unreachable!("a script doesn't refuse"),
     }
 }
 

@@ -1,17 +1,19 @@
 //! The whole program, over any words and devices.
 
-ghost use Rattle.std.specs.Prelude.{◌≡◌, ◌⊎◌, ◌≤◌, ◌↔◌, true, None};
+ghost use Rattle.std.specs.Prelude.{◌≡◌, ◌⊎◌, ◌<◌, ◌≤◌, ◌↔◌, true, None};
 ghost use Rattle.sval_core.specs.Law.{Rose};
 ghost use Rattle.sval_json.specs.Sinks.{HoldsNothing, IsSteady, NoCountFell};
 ghost use Rattle.sval_relay.specs.Inputs.{OnShort, OnLong, IsSpent, IsTooLong};
-ghost use Rattle.sval_relay.specs.Ways.{way_of, OnAsked};
+ghost use Rattle.sval_relay.specs.Ways.{form_of, takes_many, OnAsked, OnMade};
 ghost use Rattle.sval_relay.specs.Verdict.{Unfinished, Key, Number, IsVerdict, HasBadLine, HasBadCall, OnVerdict};
-ghost use Rattle.sval_relay.specs.Relays.{WritesText, WritesValue, WritesUpTo, Grows, MayLeave, IsOwnWant};
-ghost use Rattle.sval_relay.specs.Statuses.{is_status, is_unwritten, is_read, IsStatusDue};
-ghost use Rattle.sval_relay.specs.Serves.{Serves};
+ghost use Rattle.sval_relay.specs.Relays.{WritesText, WritesValue, WritesUpTo, Grows, MayLeave};
+ghost use Rattle.sval_relay.specs.Statuses.{is_status, is_of_made, is_unwritten, is_read, IsStatusDue};
+ghost use Rattle.sval_relay.specs.Serves.{ServesScript, ServesMade, Serves};
+ghost use Rattle.sval_relay.specs.Runs.{IsWantAsked, WritesMadeLine, BeginsMadeLine};
 ghost use Rattle.sval_relay.specs.Reports.{Reports};
 
 use crate::failure::{Failure, conclude};
+use crate::made::relay_made;
 use crate::reading::read_script;
 use crate::relaying::serve_script;
 use crate::source::Source;
@@ -19,52 +21,97 @@ use crate::status::{
     BAD_CALL, BAD_LINE, DONE, INVALID_KEY, INVALID_NUMBER, NO_MEMORY, READ, TOO_LONG, UNFINISHED,
     USAGE, WRITE,
 };
-use crate::way::named_way;
+use crate::way::{Form, Task, named_form};
 use std::alloc::Global;
 use sval_json::Sink;
 
-/// Serves the input in the way that the words name.
-fn serve<I: Source, K: Sink>(
+/// Reads the input whole, and serves the script that it is.
+fn serve_input<I: Source, K: Sink>(
     alloc: Global,
-    words: &[String],
+    task: Task,
     input: &mut I,
     out: &mut K,
 ) -> Result<(), Failure>
-    ensures { Serves I.told K.told words.now result input.old input.new out.old out.new }
+    ensures { ServesScript I.told K.told task result input.old input.new out.old out.new }
 {
-    let way = named_way(words).ok_or(Failure::Usage)?;
     let reader = read_script(alloc, input)?;
     let script = reader.finish()?;
-    serve_script(alloc, &script, way, out)?;
+    serve_script(alloc, &script, task, out)?;
     out.flush()?;
     Ok(())
+}
+
+/// Tells the sizes of a script that is made of so many records, and of its JSON.
+fn serve_made<K: Sink>(alloc: Global, count: u32, out: &mut K) -> Result<(), Failure>
+    ensures { ServesMade K.told count result out.old out.new }
+{
+    relay_made(alloc, count, out)?;
+    Ok(out.flush()?)
+}
+
+/// Serves a form.
+fn serve<I: Source, K: Sink>(
+    alloc: Global,
+    form: Option<Form>,
+    input: &mut I,
+    out: &mut K,
+) -> Result<(), Failure>
+    ensures { Serves I.told K.told form result input.old input.new out.old out.new }
+{
+    match form {
+        None => Err(Failure::Usage),
+        Some(Form::Serve(task)) => serve_input(alloc, task, input, out),
+        Some(Form::Made(count)) => serve_made(alloc, count, out),
+    }
+}
+
+/// Whether a form is one of many values.
+fn takes_many(form: Option<Form>) -> bool
+    ensures { result ≡ takes_many form }
+{
+    matches!(form, Some(Form::Serve(Task { many: true, .. })))
 }
 
 /// Runs the program on its words, its devices and an allocator, and answers its status, one of those of
 /// [`status`](crate::status).
 ///
-/// The words are those after the program's name. For `direct` and `buffered` it reads the input to its end, at most
-/// 16,777,216 bytes and one more to see that there are too many, and writes the JSON of the one value that its script's
-/// calls spell, for `buffered` after the value was captured. With `beside` as a second word the variants of enums stand
-/// beside their names. Where the status isn't [`DONE`], it writes one line to `diag` that says why; what `diag` answers
-/// changes nothing.
+/// The words are those after the program's name, and are one of these forms:
+///
+/// | words | writes |
+/// |---|---|
+/// | `direct` | the JSON of the one value that the script's calls spell |
+/// | `buffered` | the same, after the value was captured |
+/// | `direct beside`, `buffered beside` | the same, with the variants of enums beside their names |
+/// | `calls` | the canonical script of the value, after it was captured |
+/// | one of these and `lines` | the same of each of the values that the calls spell; JSON has a line feed behind it |
+/// | `made N` | the line `calls C json B`: how many calls a made script of `N` records has, and how long its JSON is |
+///
+/// The script is the input, which it reads to its end, at most 16,777,216 bytes and one more to see that there are too
+/// many. For `made N`, where `N` is a decimal up to 50,000, it reads nothing: what is due is what
+/// [`relay_made`](crate::relay_made) writes. Where the status isn't [`DONE`], it writes one line to `diag` that says
+/// why; what `diag` answers changes nothing.
 ///
 /// | status | comes |
 /// |---|---|
-/// | 0 | the sink took exactly the JSON text of the tree that the script's calls spell, and holds back nothing of it |
+/// | 0 | the sink took exactly what is due, and holds back nothing of it |
 /// | 2 | the words are no form; nothing is read |
 /// | 3 | a line is no call |
-/// | 4 | no value goes on with the call of a line |
-/// | 5 | the calls are not one whole value |
+/// | 4 | no value, or with `lines` no list of values, goes on with the call of a line |
+/// | 5 | the calls are not one whole value, or with `lines` not whole values |
 /// | 6 | what stands in the place of a map's key can't be one; the sink took what is written up to there |
 /// | 7 | text that stands for a number is none; the sink took what is written up to there |
 /// | 8 | only where the output failed |
-/// | 9 | only where the input failed |
+/// | 9 | only where the input failed, and wherever its count of faults moved |
 /// | 10 | memory was wanting |
 /// | 11 | the input is longer than is kept |
 ///
-/// Where the words are a form and neither device fails, the status is the one that the input's verdict asks for, or 10.
-/// After 10 the sink is as it was, unless its own count of wants rose.
+/// With `lines` all calls are checked before anything is written. After 6 and 7 what stood before the refused value
+/// stays, and neither comes with `calls`. With `made N` only 0, 8 and 10 come.
+///
+/// Where the words ask for a script and neither device fails, the status is the one that the input's verdict asks for,
+/// or 10. After 10 the sink is as it was, unless its own count of wants rose. Only with `lines` after `buffered`,
+/// `buffered beside` or `calls`, where each value is captured by itself, those before may have been written; then too no
+/// count of the sink moved, unless its count of wants rose.
 ///
 /// ```
 /// let mut out = VecSink::new(alloc);
@@ -84,7 +131,7 @@ pub fn run<I: Source, K: Sink, D: Sink>(
     ensures known { is_status result ≡ true }
 
     // Each status comes only where it is so.
-    ensures usage { (result ≡ USAGE) ↔ (way_of words.now ≡ None) }
+    ensures usage { (result ≡ USAGE) ↔ (form_of words.now ≡ None) }
     ensures done { result ≡ DONE
         → OnAsked words.now (I.told input.old) (WritesText (K.told out.old) (K.told out.new)) }
     ensures denotes { result ≡ DONE
@@ -99,8 +146,11 @@ pub fn run<I: Source, K: Sink, D: Sink>(
         → OnAsked words.now (I.told input.old) (WritesUpTo Number (K.told out.old) (K.told out.new)) }
     ensures write { result ≡ WRITE → Rose (K.told out.old).faults (K.told out.new).faults }
     ensures read { result ≡ READ → Rose (I.told input.old).faults (I.told input.new).faults }
-    ensures own_want { result ≡ NO_MEMORY → IsOwnWant K.told out.old out.new }
+    ensures own_want { result ≡ NO_MEMORY → IsWantAsked words.now K.told out.old out.new }
     ensures long { result ≡ TOO_LONG → IsTooLong (I.told input.old) (I.told input.new) }
+
+    // A fault of the source that was counted means READ.
+    ensures read_comes { (I.told input.old).faults < (I.told input.new).faults → result ≡ READ }
 
     // Where the devices don't fail, the status is the one that is due, or memory was wanting.
     ensures comes { ¬ Rose (I.told input.old).faults (I.told input.new).faults
@@ -118,7 +168,7 @@ pub fn run<I: Source, K: Sink, D: Sink>(
 
     // What is left of the source.
     ensures nothing_read { result ≡ USAGE → input.new ≡ input.old }
-    ensures spent { is_read result ≡ true → IsSpent (I.told input.old) (I.told input.new) }
+    ensures spent { is_read result ≡ true → OnAsked words.now (I.told input.old) (IsSpent (I.told input.new)) }
 
     // The counts.
     ensures steady { is_read result ≡ true → ((I.told input.new).faults ≡ (I.told input.old).faults)
@@ -126,11 +176,20 @@ pub fn run<I: Source, K: Sink, D: Sink>(
     ensures counts { ((I.told input.old).faults ≤ (I.told input.new).faults)
         × NoCountFell (K.told out.old) (K.told out.new) }
 
+    // Where the words ask for a made script.
+    ensures made_status { OnMade words.now (λ _. is_of_made result ≡ true) }
+    ensures made_line { result ≡ DONE → OnMade words.now (WritesMadeLine (K.told out.old) (K.told out.new)) }
+    ensures made_begins { OnMade words.now (BeginsMadeLine (K.told out.old) (K.told out.new)) }
+    ensures made_comes { ¬ Rose (K.told out.old).faults (K.told out.new).faults
+        → OnMade words.now (λ _. (result ≡ DONE) ⊎ (result ≡ NO_MEMORY)) }
+    ensures made_reads_nothing { OnMade words.now (λ _. input.new ≡ input.old) }
+
     // What the third device is told.
     ensures reports { Reports words.now (I.told input.old) result (D.told diag.old) (D.told diag.new) }
 {
-    let served = serve(alloc, words, input, out);
-    conclude(served, diag)
+    let form = named_form(words);
+    let served = serve(alloc, form, input, out);
+    conclude(served, takes_many(form), diag)
 }
 
 #[cfg(test)]

@@ -1,6 +1,6 @@
 //! The statuses that the program ends with.
 
-/// The JSON of the script's value was written.
+/// What is due was written.
 pub const DONE: u8 = 0;
 
 /// The words are no form. Nothing was read.
@@ -9,10 +9,10 @@ pub const USAGE: u8 = 2;
 /// A line of the script is no call.
 pub const BAD_LINE: u8 = 3;
 
-/// No value goes on with the call of a line.
+/// No value, or no list of values, goes on with the call of a line.
 pub const BAD_CALL: u8 = 4;
 
-/// The calls are not one whole value.
+/// The calls are not one whole value, or not whole values where many may come.
 pub const UNFINISHED: u8 = 5;
 
 /// What stands in the place of a map's key can't be one.

@@ -1,21 +1,66 @@
-//! The ways to serve a script.
+//! The ways to serve a script, and the forms of the program's words.
 
 ghost use Rattle.std.specs.Prelude.{◌≡◌};
-ghost use Rattle.sval_relay.specs.Ways.{way_of, way_beside, style_of, is_captured};
+ghost use Rattle.sval_relay.specs.Ways.{way_alone, way_beside, served_in, records_named, form_of};
 
-use sval_json::Variants;
-
-/// The ways to serve a script.
+/// The ways to serve a script: what is written of each value that it spells.
 #[derive(Clone, Copy, Debug, PartialEq, Eq)]
 pub enum Way {
     /// Its JSON, written at once.
     Direct,
     /// The same JSON, written from the value as it was captured.
     Buffered,
+    /// Its canonical script, printed from the value as it was captured.
+    Calls,
     /// As `Direct`, with the variants of enums beside their names.
     DirectBeside,
     /// As `Buffered`, with the variants of enums beside their names.
     BufferedBeside,
+}
+
+/// What is asked for of a script.
+#[derive(Clone, Copy, Debug, PartialEq, Eq)]
+pub(crate) struct Task {
+    /// How each value is served.
+    pub(crate) way: Way,
+    /// Whether many values may come, one after another.
+    pub(crate) many: bool,
+}
+
+/// What the program's words ask for.
+#[derive(Clone, Copy, Debug, PartialEq, Eq)]
+pub(crate) enum Form {
+    /// The script that the input is, served.
+    Serve(Task),
+    /// The sizes of a script that is made of so many records, and of its JSON.
+    Made(u32),
+}
+
+/// The greatest number of records that a script is made of.
+const MOST: u32 = 50_000;
+
+impl Form {
+    /// A script of one value, or of many, where a way is named.
+    fn served(way: Option<Way>, many: bool) -> Option<Form>
+        ensures { result ≡ served_in many way }
+    {
+        match way {
+            Some(way) => Some(Form::Serve(Task { way, many })),
+            None => None,
+        }
+    }
+}
+
+/// The way that a word names by itself.
+fn alone(word: &str) -> Option<Way>
+    ensures { result ≡ way_alone word.now }
+{
+    match word {
+        "direct" => Some(Way::Direct),
+        "buffered" => Some(Way::Buffered),
+        "calls" => Some(Way::Calls),
+        _ => None,
+    }
 }
 
 /// The way that a word names before `beside`.
@@ -29,33 +74,36 @@ fn beside(word: &str) -> Option<Way>
     }
 }
 
-/// The way that the program's words name, if they are a form.
-pub(crate) fn named_way(words: &[String]) -> Option<Way>
-    ensures { result ≡ way_of words.now }
+/// The number of records that a word asks for: a decimal up to 50,000, without a sign or a leading zero.
+fn named_records(word: &str) -> Option<u32>
+    ensures { result ≡ records_named word.now }
 {
-    match words {
-        [word] if word.as_str() == "direct" => Some(Way::Direct),
-        [word] if word.as_str() == "buffered" => Some(Way::Buffered),
-        [word, last] if last.as_str() == "beside" => beside(word.as_str()),
-        _ => None,
+    let first = *word.as_bytes().first()?;
+    if first == b'0' {
+        return (word.len() == 1).then_some(0);
     }
+    // A sign is one to `parse`.
+    if first == b'+' {
+        return None;
+    }
+    let records = word.parse().ok()?;
+    (records <= MOST).then_some(records)
 }
 
-impl Way {
-    /// The style of variants that it writes.
-    pub(crate) fn variants(self) -> Variants
-        ensures { result ≡ style_of self }
-    {
-        match self {
-            Way::Direct | Way::Buffered => Variants::Inside,
-            Way::DirectBeside | Way::BufferedBeside => Variants::Beside,
+/// The form that the program's words are, if they are one.
+pub(crate) fn named_form(words: &[String]) -> Option<Form>
+    ensures { result ≡ form_of words.now }
+{
+    match words {
+        [word] => Form::served(alone(word.as_str()), false),
+        [word, number] if word.as_str() == "made" => {
+            Some(Form::Made(named_records(number.as_str())?))
         }
-    }
-
-    /// Whether the value is captured before it is written.
-    pub(crate) fn is_captured(self) -> bool
-        ensures { result ≡ is_captured self }
-    {
-        matches!(self, Way::Buffered | Way::BufferedBeside)
+        [word, last] if last.as_str() == "lines" => Form::served(alone(word.as_str()), true),
+        [word, last] if last.as_str() == "beside" => Form::served(beside(word.as_str()), false),
+        [word, middle, last] if middle.as_str() == "beside" && last.as_str() == "lines" => {
+            Form::served(beside(word.as_str()), true)
+        }
+        _ => None,
     }
 }

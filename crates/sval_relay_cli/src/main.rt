@@ -1,14 +1,18 @@
-//! The program `sval_relay`: reads a script of calls, and writes the JSON of the value that they spell.
+//! The program `sval_relay`: reads a script of calls, and writes the JSON of the value that they spell, or of each of the
+//! values, or their canonical scripts; or it makes a script, and tells how long it and its JSON are.
 //!
 //! It ends with one of the statuses of [`sval_relay::run`], which is one of [`sval_relay::status`], or with 17 where its
 //! words can't be had.
 #![tactic(auto)]
 
-ghost use Rattle.std.specs.Prelude.{◌≡◌, ◌≢◌, ◌⊎◌, true};
+ghost use Rattle.std.specs.Prelude.{◌≡◌, ◌≢◌, ◌⊎◌, true, drop, IfOk};
 ghost use Rattle.std.specs.IoError.{error_kind};
 ghost use Rattle.std.specs.Process.{exit_status};
+ghost use Rattle.std.specs.Vec.Iter.{into_iter_items};
 ghost use Rattle.sval_relay.specs.Statuses.{is_status};
 
+use std::alloc::{AllocError, Global};
+use std::env::Args;
 use std::io::{ErrorKind, Read, Stderr, Stdin, Stdout, Write};
 use std::process::ExitCode;
 use std::rt::Env;
@@ -26,13 +30,17 @@ fn status_of(error: &io::Error) -> u8
     }
 }
 
+/// The words after the first, which is the program's name.
+fn after_name(alloc: Global, mut all: Args) -> Result<Vec<String>, AllocError>
+    ensures { IfOk result (λ words. words.items ≡ drop 1 (into_iter_items all)) }
+{
+    let _name = all.next();
+    all.collect(alloc)
+}
+
 /// The words after the program's name.
 fn words<E: Env + AllocGlobal>(env: &E) -> io::Result<Vec<String>> {
-    let mut words = Vec::new(env.alloc());
-    for word in env::args(env)?.skip(1) {
-        words.push(word)?;
-    }
-    Ok(words)
+    Ok(after_name(env.alloc(), env::args(env)?)?)
 }
 
 /// Runs the program on its words over three streams, and answers its status. Where the words can't be had, nothing is

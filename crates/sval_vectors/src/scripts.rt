@@ -1,8 +1,10 @@
 //! Scripts, and what the program answers and writes for them in each way.
 
+mod canonical;
 mod containers;
 mod fields;
 mod keys;
+mod long;
 mod number_texts;
 mod numbers;
 mod raw;
@@ -111,6 +113,43 @@ fn try_rows(rt: &impl Abort, alloc: Global, rows: &[(&'static str, Wanted)]) -> 
             assert_eq!(rt; ran.out.as_slice(), out.as_bytes(), "{way} at {script:?}");
             assert_eq!(rt; ran.diag.as_slice(), diag.as_bytes(), "{way} at {script:?}");
         }
+        try_canonical(rt, alloc, script, *wanted)?;
     }
+    Ok(())
+}
+
+/// Prints a script's canonical one, where its calls are whole: that gives the same JSON, or the same refusal of it, and
+/// prints as itself.
+fn try_canonical(rt: &impl Abort, alloc: Global, script: &str, wanted: Wanted) -> Result<(), Fail> {
+    let ran = run_script(alloc, "calls", script.as_bytes())?;
+    let (status, out) = wanted.written(false);
+    if let Wanted::BadLine(_) | Wanted::BadCall(_) | Wanted::Unfinished = wanted {
+        assert_eq!(rt; ran.status, status, "calls at {script:?}");
+        assert!(rt; ran.out.is_empty(), "calls at {script:?}");
+        return Ok(());
+    }
+    assert_eq!(rt; ran.status, 0, "calls at {script:?}");
+    let written = run_script(alloc, "direct", &ran.out)?;
+    assert_eq!(rt;
+        written.status,
+        status,
+        "direct of the canonical script of {script:?}"
+    );
+    assert_eq!(rt;
+        written.out.as_slice(),
+        out.as_bytes(),
+        "direct of the canonical script of {script:?}"
+    );
+    let again = run_script(alloc, "calls", &ran.out)?;
+    assert_eq!(rt;
+        again.status,
+        0,
+        "calls of the canonical script of {script:?}"
+    );
+    assert_eq!(rt;
+        again.out.as_slice(),
+        ran.out.as_slice(),
+        "calls of the canonical script of {script:?}"
+    );
     Ok(())
 }

@@ -12,7 +12,7 @@ use Rattle.sval_core.proofs.Completions.{viable_is_taken}
 use Rattle.sval_core.proofs.Spellings.{spelling_is_viable}
 use Rattle.sval_core.proofs.ManySpellings.{one_is_list, list_spelling_is_viable}
 use Rattle.sval_core.proofs.ManyTaken.{taken_list_is_viable, trees_end}
-use Rattle.sval_core.proofs.ListsOfTrees.{not_completed}
+use Rattle.sval_core.proofs.examples.ListsOfTrees.{not_completed}
 use Rattle.sval_script.specs.Lines.{lines, line_of, forms}
 use Rattle.sval_script.specs.Printed.{printed, line}
 use Rattle.sval_relay.specs.declared.way.Way.TheVariants.{Direct, Buffered}

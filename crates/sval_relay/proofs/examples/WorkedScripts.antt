@@ -8,9 +8,11 @@ use Rattle.sval_label.specs.Calls.{Call, Int, I64, TextBegin, TextFragment, Text
 use Rattle.sval_json.specs.declared.style.Variants.TheVariants.{Beside}
 use Rattle.sval_json.specs.Steps.{written, written_in}
 use Rattle.sval_script.specs.Lines.{Good, lines, line_of, forms}
-use Rattle.sval_relay.specs.declared.way.Way.TheVariants.{Direct, Buffered, DirectBeside, BufferedBeside}
+use Rattle.sval_relay.specs.declared.way.Way.TheVariants.{Direct, Buffered, Calls, DirectBeside, BufferedBeside}
+use Rattle.sval_relay.specs.declared.way.Form.TheVariants.{Serve, Made}
 use Rattle.sval_relay.specs.Reports.{report}
-use Rattle.sval_relay.specs.Ways.{way_named}
+use Rattle.sval_relay.specs.Ways.{form_named}
+use Rattle.sval_relay.specs.Verdict.{one_in, all_in}
 
 sequence_calls : List Call
 sequence_calls = Begin Seq (Some 2) ∷ PartBegin Item ∷ Int I64 (negsuc 6) ∷ PartEnd Item
@@ -35,24 +37,45 @@ sequence_text_beside = refl
 
 -- ---- the forms
 
-alone : (way_named (codes "direct" ∷ []) ≡ Some Direct) × (way_named (codes "buffered" ∷ []) ≡ Some Buffered)
-alone = (refl, refl)
+alone : (form_named (codes "direct" ∷ []) ≡ Some (Serve (one_in Direct))) × (form_named (codes "buffered" ∷ []) ≡ Some (Serve (one_in Buffered)))
+    × (form_named (codes "calls" ∷ []) ≡ Some (Serve (one_in Calls)))
+alone = (refl, refl, refl)
 
-with_beside : (way_named (codes "direct" ∷ codes "beside" ∷ []) ≡ Some DirectBeside) × (way_named (codes "buffered" ∷ codes "beside" ∷ []) ≡ Some BufferedBeside)
+with_beside : (form_named (codes "direct" ∷ codes "beside" ∷ []) ≡ Some (Serve (one_in DirectBeside)))
+    × (form_named (codes "buffered" ∷ codes "beside" ∷ []) ≡ Some (Serve (one_in BufferedBeside)))
 with_beside = (refl, refl)
 
-no_forms : (way_named [] ≡ None) × (way_named (codes "beside" ∷ []) ≡ None) × (way_named (codes "calls" ∷ codes "beside" ∷ []) ≡ None)
-    × (way_named (codes "direct" ∷ codes "direct" ∷ []) ≡ None) × (way_named (codes "direct" ∷ codes "beside" ∷ codes "beside" ∷ []) ≡ None)
-no_forms = (refl, refl, refl, refl, refl)
+with_lines : (form_named (codes "direct" ∷ codes "lines" ∷ []) ≡ Some (Serve (all_in Direct)))
+    × (form_named (codes "buffered" ∷ codes "lines" ∷ []) ≡ Some (Serve (all_in Buffered)))
+    × (form_named (codes "calls" ∷ codes "lines" ∷ []) ≡ Some (Serve (all_in Calls)))
+    × (form_named (codes "direct" ∷ codes "beside" ∷ codes "lines" ∷ []) ≡ Some (Serve (all_in DirectBeside)))
+    × (form_named (codes "buffered" ∷ codes "beside" ∷ codes "lines" ∷ []) ≡ Some (Serve (all_in BufferedBeside)))
+with_lines = (refl, refl, refl, refl, refl)
+
+made : (form_named (codes "made" ∷ codes "0" ∷ []) ≡ Some (Made 0)) × (form_named (codes "made" ∷ codes "50000" ∷ []) ≡ Some (Made 50000))
+made = (refl, refl)
+
+no_numbers : (form_named (codes "made" ∷ codes "50001" ∷ []) ≡ None) × (form_named (codes "made" ∷ codes "01" ∷ []) ≡ None)
+    × (form_named (codes "made" ∷ codes "+1" ∷ []) ≡ None) × (form_named (codes "made" ∷ [] ∷ []) ≡ None) × (form_named (codes "made" ∷ []) ≡ None)
+no_numbers = (refl, refl, refl, refl, refl)
+
+no_forms : (form_named [] ≡ None) × (form_named (codes "beside" ∷ []) ≡ None) × (form_named (codes "lines" ∷ []) ≡ None)
+    × (form_named (codes "calls" ∷ codes "beside" ∷ []) ≡ None) × (form_named (codes "direct" ∷ codes "direct" ∷ []) ≡ None)
+    × (form_named (codes "direct" ∷ codes "lines" ∷ codes "beside" ∷ []) ≡ None)
+    × (form_named (codes "direct" ∷ codes "beside" ∷ codes "beside" ∷ []) ≡ None)
+no_forms = (refl, refl, refl, refl, refl, refl, refl)
 
 -- ---- what the third device is told
 
-usage : report 2 0 ≡ codes "usage: sval_relay direct [beside] [lines]|buffered [beside] [lines]|calls [lines]|made N\n"
+usage : report false 2 0 ≡ codes "usage: sval_relay direct [beside] [lines]|buffered [beside] [lines]|calls [lines]|made N\n"
 usage = refl
 
-lines_that_are_named : (report 3 1 ≡ codes "line 1: not a call\n") × (report 4 120 ≡ codes "line 120: no value goes on with this call\n")
+lines_that_are_named : (report false 3 1 ≡ codes "line 1: not a call\n") × (report true 4 120 ≡ codes "line 120: no value goes on with this call\n")
 unfolding digits
 lines_that_are_named = (refl, refl)
 
-nothing_is_told : report 0 7 ≡ []
+not_whole : (report false 5 0 ≡ codes "the calls are not one whole value\n") × (report true 5 0 ≡ codes "the calls are not whole values\n")
+not_whole = (refl, refl)
+
+nothing_is_told : report true 0 7 ≡ []
 nothing_is_told = refl

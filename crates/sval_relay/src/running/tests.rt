@@ -1,6 +1,7 @@
 //! What the program answers and writes.
 
 mod devices;
+mod forms;
 mod layout;
 mod long;
 mod sizes;

@@ -1,4 +1,4 @@
-use Rattle.std.proofs.Common.{rules, arith, ◌≡◌, ◌≤◌, ◌+◌, ◌<◌, ◌∙◌, length}
+use Rattle.std.proofs.Common.{rules, refl, arith, ◌≡◌, ◌≤◌, ◌<◌, ◌∙◌, length}
 use Rattle.std.proofs.lemmas.List.{length-take-le}
 use Rattle.std.proofs.lemmas.Result.{err_from_is_err_and}
 use Rattle.sval_relay.proofs.ReadParts.{reads-none, reads-more, reads-all, read_long}
@@ -42,6 +42,7 @@ returns-in_err-count-clause-err g c =
     let no = c.in_err-count.ensures.err in
     rw (p.1, p.2) record {
       fault = λ e. rw (← r.faults) no.cause;
+      moved = λ m. refl;
       long = λ e. cc e;
       faults = omega (arith, r.faults, no.faults);
     }
@@ -57,6 +58,7 @@ returns-in_default-clause-err g c =
     let one : c.in_ok-read.field-0 ≡ 1 = search rules in
     record {
       fault = λ e. cc e;
+      moved = λ m. absurd (omega (arith, m, c.in_ok-read.ensures.faults, r.faults));
       long = λ e. read_long _ _ _ r.bytes c.read.new.buffer c.in_ok-read.field-0 r.read full c.in_ok-read.ensures one;
       faults = omega (arith, c.in_ok-read.ensures.faults, r.faults);
     }

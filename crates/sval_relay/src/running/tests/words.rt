@@ -18,7 +18,7 @@ fn owned(alloc: Global, texts: &[&str]) -> Result<Vec<String>, AllocError> {
 #[test]
 fn no_form(rt: HostRuntime) -> Result<(), Fail> {
     let alloc = rt.alloc();
-    let table: [&'static [&'static str]; 20] = [
+    let table: [&'static [&'static str]; 35] = [
         &[],
         &[""],
         &["Direct"],
@@ -36,6 +36,21 @@ fn no_form(rt: HostRuntime) -> Result<(), Fail> {
         &["direct", "Beside"],
         &["direct", "besides"],
         &["direct", "inside"],
+        &["direct", "lines", "beside"],
+        &["direct", "beside", "line"],
+        &["direct", "lines", "lines"],
+        &["direct", "beside", "lines", "lines"],
+        &["lines"],
+        &["Calls"],
+        &["calls", "calls"],
+        &["calls", "beside", "lines"],
+        &["calls", "1"],
+        &["made"],
+        &["made", ""],
+        &["made", "50001"],
+        &["made", "01"],
+        &["made", "+1"],
+        &["made", "1", "lines"],
         &["buffered", "beside", "beside"],
         &["--help"],
         &["--version"],

@@ -1,0 +1,63 @@
+-- What printing a captured tree leaves of a sink.
+use Rattle.std.specs.Prelude.{◌≡◌, ℕ, false, List, [], ◌∷◌, ◌++◌, Result, Ok, Err, refl}
+use Rattle.std.proofs.Common.{◌∙◌, sym, ap, subst}
+use Rattle.sval_label.specs.Calls.{Call}
+use Rattle.sval_core.specs.ExactCalls.{AreExact}
+use Rattle.sval_core.specs.Real.{IsPrintable}
+use Rattle.sval_core.specs.Spells.{Spells}
+use Rattle.sval_core.specs.Trees.{Tree}
+use Rattle.sval_core.specs.Values.{makes}
+use Rattle.sval_buffer.specs.Capture.{Capture}
+use Rattle.sval_buffer.specs.CapturedValues.{IsCaptured, KeepsTree}
+use Rattle.sval_buffer.specs.Forest.{Forest, replayed}
+use Rattle.sval_buffer.proofs.ExactReplay.{replay_exact}
+use Rattle.sval_json.specs.Sinks.{Told, Appends, AppendsFront}
+use Rattle.sval_json.proofs.Appending.{front_after, appends_nothing}
+use Rattle.sval_script.specs.Canon.{canon}
+use Rattle.sval_script.specs.Printed.{canonical_calls, printed}
+use Rattle.sval_script.specs.Printing.{HasKnownTags}
+use Rattle.sval_script.specs.PrintedValues.{HaveKnownTags, ArePrinted, AreBegun, EndsUnknown}
+use Rattle.sval_script.proofs.CanonicalScripts.{canon-reads_back, printed-append}
+use Rattle.sval_script.proofs.ExactCalls.{exact_print_canon}
+use Rattle.sval_script.proofs.KnownTags.{exact_known}
+use Rattle.sval_relay.specs.Verdict.{Script, tree_due}
+use Rattle.sval_relay.specs.WrittenTrees.{WritesText}
+
+-- the canonical calls of a captured tree's replay
+abbrev pub shown : Capture → List Call
+shown capture = canonical_calls (replayed capture.forest)
+
+known_at : (front : List Call) (call : Call) (later : List Call) → HaveKnownTags (front ++ (call ∷ later)) → HasKnownTags call
+known_at [] call later h = h.0
+known_at (first ∷ front) call later h = known_at front call later h.1
+
+module _ (calls : List Call) (tree : Tree) (capture : Capture) (s : Spells calls tree) (p : IsPrintable tree) (taken : IsCaptured (makes calls) capture) (keeps : KeepsTree (makes calls) capture.forest) where
+  exact : AreExact (replayed capture.forest)
+  exact = replay_exact calls capture.forest taken.taken
+
+  spells : Spells (replayed capture.forest) tree
+  spells = (keeps tree s).spells
+
+  lines_are : printed (shown capture) ≡ canon tree
+  lines_are = exact_print_canon (replayed capture.forest) tree spells exact
+
+  known : HaveKnownTags (shown capture)
+  known = exact_known (replayed capture.forest) tree spells p exact
+
+  pub prints_tree : {old new : Told} → ArePrinted (shown capture) old new → WritesText Script tree old new
+  prints_tree {old} {new} printed_all = record {
+    text = canon tree;
+    is = refl;
+    meant = canon-reads_back tree p;
+    appends = subst (λ bytes. Appends old bytes new) lines_are printed_all.appends;
+    steady = printed_all.steady;
+  }
+
+  pub begins_script : {old new : Told} → AreBegun (shown capture) old new → AppendsFront old (tree_due Script tree) new
+  begins_script {old} {new} begun =
+      let whole : canon tree ≡ [] ++ (printed begun.front ++ printed begun.begins.later) = sym lines_are ∙ ap printed begun.begins.are ∙ printed-append begun.front begun.begins.later in
+      front_after [] (printed begun.front) (printed begun.begins.later) (appends_nothing old) whole begun.appends
+
+  -- no tag is unknown
+  pub all_are_known : {old new : Told} → EndsUnknown (shown capture) old new → ⊥
+  all_are_known u = u.unknown (known_at u.front u.call u.later (subst HaveKnownTags u.are known))

@@ -1,0 +1,11 @@
+use Rattle.std.proofs.Common.{ap, ◌∙◌}
+use Rattle.sval_json.specs.Taken.{Taken}
+use Rattle.sval_relay.specs.Made.{made_calls}
+use Rattle.sval_relay.proofs.MadeAnswers.{printed_whole}
+use Rattle.sval_relay.proofs.made.print_records.Goals as goal
+
+pub returns-in-Ok-clause-script : goal.returns-in-Ok-clause-script
+returns-in-Ok-clause-script c =
+    let bytes = λ (sink : Taken). sink.bytes in
+    let empty = ap (λ printer. printer.out.bytes) c.new-printer.ensures ∙ ap bytes c.new.ensures in
+    c.into_vec.ensures ∙ ap bytes c.into_inner.ensures ∙ printed_whole (made_calls c.args.count) c.in-Ok.ensures empty

@@ -1,0 +1,68 @@
+//! What is told of scripts that are made.
+
+use super::{MadeError, print_records, relay_made};
+use crate::Way;
+use crate::fakes::FaultySink;
+use crate::relaying::relay;
+use std::test::Fail;
+use sval_json::VecSink;
+
+/// The script of one record.
+const ONE_RECORD: &str = "seq_begin 1\n\
+    seq_value_begin\n\
+    record_begin - - - 2\n\
+    record_value_begin - =6964:VALUE_IDENT\n\
+    u64 0\n\
+    record_value_end - =6964:VALUE_IDENT\n\
+    record_value_begin - =6e616d65:VALUE_IDENT\n\
+    text_begin -\n\
+    text_fragment =6e\n\
+    text_fragment_computed =30\n\
+    text_end\n\
+    record_value_end - =6e616d65:VALUE_IDENT\n\
+    record_end - - -\n\
+    seq_value_end\n\
+    seq_end\n";
+
+#[test]
+fn prints_a_record(rt: HostRuntime) -> Result<(), Fail> {
+    let script = print_records(rt.alloc(), 1)?;
+    assert_eq!(rt; script.as_slice(), ONE_RECORD.as_bytes());
+    Ok(())
+}
+
+#[test]
+fn serves_records(rt: HostRuntime) -> Result<(), Fail> {
+    let alloc = rt.alloc();
+    let script = print_records(alloc, 2)?;
+    let mut out = VecSink::new(alloc);
+    relay(alloc, script.as_slice(), Way::Buffered, &mut out)?;
+    let json = "[{\"id\":0,\"name\":\"n0\"},{\"id\":1,\"name\":\"n1\"}]";
+    assert_eq!(rt; out.as_slice(), json.as_bytes());
+    Ok(())
+}
+
+#[test]
+fn tells_of_scripts(rt: HostRuntime) -> Result<(), Fail> {
+    let alloc = rt.alloc();
+    let table: [(u32, &'static str); 3] = [
+        (0, "calls 2 json 2\n"),
+        (2, "calls 28 json 43\n"),
+        (50_000, "calls 650002 json 1427781\n"),
+    ];
+    for (count, line) in table {
+        let mut out = VecSink::new(alloc);
+        relay_made(alloc, count, &mut out)?;
+        assert_eq!(rt; out.as_slice(), line.as_bytes(), "{count}");
+    }
+    Ok(())
+}
+
+#[test]
+fn a_write_that_fails(rt: HostRuntime) -> Result<(), Fail> {
+    let alloc = rt.alloc();
+    let mut out = FaultySink::new(alloc, 10, true);
+    assert_eq!(rt; relay_made(alloc, 2, &mut out), Err(MadeError::Write));
+    assert_eq!(rt; out.taken.as_slice(), b"calls 28 ".as_slice());
+    Ok(())
+}

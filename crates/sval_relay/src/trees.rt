@@ -1,0 +1,114 @@
+//! What is written of one value.
+
+ghost use Rattle.std.specs.Prelude.{◌≡◌, true, false, IfOk, IfErr};
+ghost use Rattle.sval_buffer.specs.CapturedValues.{IsCaptured, KeepsTree};
+ghost use Rattle.sval_buffer.specs.SeenBuffers.{capture_of};
+ghost use Rattle.sval_core.specs.Real.{IsReal, IsPrintable};
+ghost use Rattle.sval_core.specs.Spells.{Spells};
+ghost use Rattle.sval_core.specs.Trees.{Tree};
+ghost use Rattle.sval_core.specs.Values.{makes};
+ghost use Rattle.sval_relay.specs.Verdict.{JsonIn, Script};
+ghost use Rattle.sval_relay.specs.WrittenTrees.{WritesTree, WritesTreeIn};
+
+use crate::relaying::RelayError;
+use crate::way::Way;
+use std::alloc::Global;
+use sval_buffer::ValueBuf;
+use sval_core::{Lent, Value};
+use sval_json::{ErrorKind, Sink, Variants, stream_to_io_write_with};
+use sval_script::{PrintError, ScriptSlice, print_canon};
+
+/// Writes what the way makes of lines whose calls spell a tree.
+pub(crate) fn write_tree<K: Sink>(
+    alloc: Global,
+    lines: &ScriptSlice<'_>,
+    way: Way,
+    out: &mut K,
+) -> Result<(), RelayError>
+    requires { (tree : Tree) × Spells lines.now tree × IsPrintable tree }
+    ensures { (tree : Tree) → Spells lines.now tree → IsPrintable tree
+        → WritesTreeIn way result K.told tree out.old out.new }
+{
+    match way {
+        Way::Direct => write_json(out, lines, Variants::Inside),
+        Way::DirectBeside => write_json(out, lines, Variants::Beside),
+        Way::Buffered => write_captured(alloc, lines, Variants::Inside, out),
+        Way::BufferedBeside => write_captured(alloc, lines, Variants::Beside, out),
+        Way::Calls => print_captured(alloc, lines, out),
+    }
+}
+
+/// Captures lines whose calls spell a tree, and writes the JSON of what it captured.
+fn write_captured<K: Sink>(
+    alloc: Global,
+    lines: &ScriptSlice<'_>,
+    variants: Variants,
+    out: &mut K,
+) -> Result<(), RelayError>
+    requires { (tree : Tree) × Spells lines.now tree }
+    ensures { (tree : Tree) → Spells lines.now tree → IsReal tree
+        → WritesTree result true K.told (JsonIn variants) tree out.old out.new }
+{
+    let captured = capture(alloc, lines)?;
+    write_json(out, &captured, variants)
+}
+
+/// Captures lines whose calls spell a tree, and prints the canonical script of what it captured.
+fn print_captured<K: Sink>(
+    alloc: Global,
+    lines: &ScriptSlice<'_>,
+    out: &mut K,
+) -> Result<(), RelayError>
+    requires { (tree : Tree) × Spells lines.now tree × IsPrintable tree }
+    ensures { (tree : Tree) → Spells lines.now tree → IsPrintable tree
+        → WritesTree result true K.told Script tree out.old out.new }
+{
+    let captured = capture(alloc, lines)?;
+    match print_canon(&captured, out) {
+        Ok(()) => Ok(()),
+        Err(PrintError::Write) => Err(RelayError::Write),
+        Err(PrintError::NoMemory) => Err(RelayError::NoMemory),
+        Err(PrintError::UnknownTag) => unreachable!("a script names its tags"),
+        Err(PrintError::Refused) => unreachable!("a captured value doesn't refuse"),
+    }
+}
+
+/// Captures lines whose calls spell a tree.
+fn capture<'v>(alloc: Global, lines: &'v ScriptSlice<'v>) -> Result<ValueBuf<'v>, RelayError>
+    requires { (tree : Tree) × Spells lines.now tree }
+    ensures captured { IfOk result (λ captured. IsCaptured (makes lines.now) (capture_of captured)) }
+    ensures keeps { IfOk result (λ captured. KeepsTree (makes lines.now) (capture_of captured).forest) }
+    ensures err { IfErr result (λ why. why ≡ RelayError.NoMemory) }
+{
+    // A part takes a line or more; room that isn't filled takes no memory of the system.
+    let parts = lines.line_count() as usize;
+    match ValueBuf::collect_with_capacity(alloc, parts, lines) {
+        Ok(captured) => Ok(captured),
+        Err(error) => match error.kind() {
+            sval_buffer::ErrorKind::NoAlloc { .. } => Err(RelayError::NoMemory),
+            _ => unreachable!("a value that spells a tree is captured"),
+        },
+    }
+}
+
+/// Writes the JSON of a value that doesn't refuse.
+fn write_json<'v, K: Sink, V: Value<'v, Lent<'v>>>(
+    out: &mut K,
+    value: &'v V,
+    variants: Variants,
+) -> Result<(), RelayError>
+    requires { (V.emission value.now).refuses ≡ false }
+    ensures { (tree : Tree) → Spells (V.emission value.now).calls tree → IsReal tree
+        → WritesTree result false K.told (JsonIn variants) tree out.old out.new }
+{
+    match stream_to_io_write_with(out, value, variants) {
+        Ok(()) => Ok(()),
+        Err(error) => match error.kind() {
+            ErrorKind::IO => Err(RelayError::Write),
+            ErrorKind::InvalidKey => Err(RelayError::InvalidKey),
+            ErrorKind::InvalidNumber => Err(RelayError::InvalidNumber),
+            ErrorKind::NoMemory => Err(RelayError::NoMemory),
+            ErrorKind::Generic => unreachable!("the value doesn't refuse"),
+        },
+    }
+}
