@@ -7,8 +7,6 @@
 #![tactic(auto)]
 
 mod failure;
-#[cfg(test)]
-mod fakes;
 pub mod laws;
 mod lists;
 mod made;

@@ -262,6 +262,3 @@ fn text_field<L: Lending, S: Stream<L>>(
     stream.text_end()?;
     stream.record_value_end(None, label)
 }
-
-#[cfg(test)]
-mod tests;

@@ -69,6 +69,3 @@ impl<R: Read> Source for RealSource<R> {
         Err(self.fault())
     }
 }
-
-#[cfg(test)]
-mod tests;

@@ -194,6 +194,3 @@ fn serve_list<K: Sink>(
         Err(CheckError::Refused) => unreachable!("a script doesn't refuse"),
     }
 }
-
-#[cfg(test)]
-mod tests;

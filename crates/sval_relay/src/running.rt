@@ -191,6 +191,3 @@ pub fn run<I: Source, K: Sink, D: Sink>(
     let served = serve(alloc, form, input, out);
     conclude(served, takes_many(form), diag)
 }
-
-#[cfg(test)]
-mod tests;

@@ -83,6 +83,3 @@ impl<'a> Source for MemSource<'a> {
         Ok(count)
     }
 }
-
-#[cfg(test)]
-mod tests;

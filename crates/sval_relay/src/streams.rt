@@ -82,6 +82,3 @@ fn run_buffered<R: Read + Drop, W: Write + Drop, D: Sink>(
         Err(_) => conclude(Err(Failure::Relay(RelayError::NoMemory)), false, diag),
     }
 }
-
-#[cfg(test)]
-mod tests;

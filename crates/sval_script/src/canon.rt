@@ -103,6 +103,3 @@ pub fn print_canon<'sval, V: ValueRef<Lent<'sval>>, K: Sink>(
         Err(_) => Err(why.unwrap_or(PrintError::Refused)),
     }
 }
-
-#[cfg(test)]
-mod tests;

@@ -3,8 +3,6 @@
 mod digits;
 mod fields;
 mod known;
-#[cfg(test)]
-mod tests;
 mod words;
 
 ghost use Rattle.std.specs.Prelude.{◌≡◌, None};

@@ -141,6 +141,3 @@ impl<'v> Value<'v, Lent<'v>> for Script {
         )
     }
 }
-
-#[cfg(test)]
-mod tests;

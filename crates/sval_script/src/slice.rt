@@ -163,6 +163,3 @@ impl<'a> ValueRef<Lent<'a>> for ScriptSlice<'a> {
         make_lines(self.lines, self.bytes, self.numbers, stream)
     }
 }
-
-#[cfg(test)]
-mod tests;

@@ -5,14 +5,12 @@ ghost use Rattle.sval_label.specs.SeenTags.{seen_tag};
 ghost use Rattle.sval_label.specs.Calls.{TagHint, Null, Standalone};
 ghost use Rattle.sval_core.specs.Values.{makes};
 
-use crate::canon::print_canon;
-use crate::print_error::PrintError;
-use crate::script::Script;
 use std::io::Cursor;
 use std::test::Fail;
 use sval_core::{Lending, Stream, Tag, tags};
 use sval_json::{RealSink, VecSink};
 use sval_ref::ValueRef;
+use sval_script::{PrintError, Script, print_canon};
 
 /// A hint, a null and a name, with one tag.
 #[derive(Drop)]

@@ -5,16 +5,26 @@
 #![tactic(auto)]
 
 #[cfg(test)]
+mod canonical;
+#[cfg(test)]
 mod checked;
 #[cfg(test)]
 mod named_calls;
 #[cfg(test)]
+mod printing;
+#[cfg(test)]
+mod reading;
+#[cfg(test)]
 mod real_sinks;
+#[cfg(test)]
+mod relay;
 mod said;
 #[cfg(test)]
 mod scripts;
 #[cfg(test)]
 mod sinks;
+#[cfg(test)]
+mod slices;
 #[cfg(test)]
 mod written;
 

@@ -1,13 +1,11 @@
 //! What is printed for each kind of call.
 
-use super::Printer;
-use crate::print_error::PrintError;
-use crate::script::{Script, ScriptError};
 use std::alloc::Global;
 use std::io::Cursor;
 use std::test::Fail;
 use sval_core::{Index, Label, Stream, Tag, Value, tags};
 use sval_json::{RealSink, VecSink};
+use sval_script::{PrintError, Printer, Script, ScriptError};
 
 /// A line for each kind of call, with tags, sizes and hints.
 const EACH_CALL: &str = "null\n\

@@ -5,12 +5,11 @@ ghost use Rattle.sval_core.specs.Law.{Answers};
 ghost use Rattle.sval_core.specs.Lenient.{lenient, with_wants};
 ghost use Rattle.sval_label.specs.Made.{lent_call};
 
-use super::{Line, Script, ScriptError};
 use std::alloc::Global;
 use std::fmt::Write;
-use std::mem::size_of;
 use std::test::Fail;
 use sval_core::{Call, Lent, Stream, Value, refusal};
+use sval_script::{Script, ScriptError};
 
 /// How many lines a script has, or which of its lines is the first that spells no call.
 fn count(alloc: Global, script: &str) -> Result<u64, ScriptError> {
@@ -328,10 +327,4 @@ fn makes_calls_with_names(rt: HostRuntime) -> Result<(), Fail> {
     )?;
     assert_eq!(rt; told.as_str(), NAMED);
     Ok(())
-}
-
-/// A script of short lines takes little more memory than its calls.
-#[test]
-fn lines_are_small(rt: HostRuntime) {
-    assert_eq!(rt; size_of::<Line>(), 8);
 }

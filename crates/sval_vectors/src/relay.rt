@@ -1,20 +1,25 @@
 //! What the program answers and writes.
 
 mod devices;
+mod fakes;
 mod forms;
 mod layout;
 mod long;
+mod made;
+mod real_source;
+mod relaying;
 mod sizes;
+mod sources;
+mod streams;
 mod texts;
 mod values;
 mod words;
 
-use super::run;
-use crate::source::{MemSource, Source};
 use std::alloc::{AllocError, Global};
 use std::process::Abort;
 use std::test::Fail;
 use sval_json::{Sink, VecSink};
+use sval_relay::{MemSource, Source, run};
 
 /// What a run answered, and what it wrote.
 #[derive(Drop)]

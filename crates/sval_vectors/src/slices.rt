@@ -1,12 +1,10 @@
 //! Which slices a script has, and the lines of each.
 
-use crate::printer::Printer;
-use crate::script::Script;
-use crate::slice::ScriptSlice;
 use std::alloc::Global;
 use std::test::Fail;
 use sval_core::Value;
 use sval_json::VecSink;
+use sval_script::{Printer, Script, ScriptSlice};
 
 /// Two values between others, with texts and numbers that stand beside their lines.
 const VALUES: &str = "u64 1\n\

@@ -1,7 +1,7 @@
 //! Devices that give and take little at a time, or fail.
 
+use super::fakes::{FaultySink, FaultySource, HoldingSink};
 use super::{WAYS, run_on};
-use crate::fakes::{FaultySink, FaultySource, HoldingSink};
 use std::test::Fail;
 use sval_json::VecSink;
 

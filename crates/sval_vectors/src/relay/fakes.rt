@@ -3,9 +3,9 @@
 ghost use Rattle.std.specs.Prelude.{◌≡◌, ◌≤◌, ◌++◌, None, Some, length};
 ghost use Rattle.sval_core.specs.Law.{one_more};
 
-use crate::source::{Source, SourceError};
 use std::alloc::Global;
 use sval_json::{Sink, SinkError};
+use sval_relay::{Source, SourceError};
 
 /// Gives these bytes, at most `chunk` a call, and fails at one call, counted from 1.
 #[derive(Drop)]

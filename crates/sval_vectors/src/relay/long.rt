@@ -1,7 +1,7 @@
 //! Long and deep scripts.
 
+use super::fakes::LineFeeds;
 use super::{Ran, WAYS, run_on, run_script};
-use crate::fakes::LineFeeds;
 use std::alloc::{AllocError, Global};
 use std::test::Fail;
 use sval_json::VecSink;

@@ -1,8 +1,7 @@
 //! Readers that are interrupted, or fail.
 
-use super::RealSource;
-use crate::source::{Source, SourceError};
 use std::io;
+use sval_relay::{RealSource, Source, SourceError};
 
 /// Fails with this error the first times, and then gives one byte a call.
 #[derive(Drop)]

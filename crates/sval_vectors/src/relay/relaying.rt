@@ -1,14 +1,13 @@
 //! What serving one script answers and writes.
 
-use super::{RelayError, relay};
-use crate::Way;
-use crate::fakes::FaultySink;
+use super::fakes::FaultySink;
 use std::alloc::Global;
 use std::process::Abort;
 use std::test::Fail;
 use sval_buffer::ValueBuf;
 use sval_core::{Call, Stream};
 use sval_json::{VecSink, stream_to_io_write};
+use sval_relay::{RelayError, Way, relay};
 
 #[test]
 fn answers(rt: HostRuntime) -> Result<(), Fail> {

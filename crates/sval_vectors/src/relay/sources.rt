@@ -1,7 +1,7 @@
 //! Reading memory.
 
-use super::{MemSource, Source};
 use std::test::Fail;
+use sval_relay::{MemSource, Source};
 
 #[test]
 fn reads_part_by_part(rt: HostRuntime) {

@@ -1,9 +1,9 @@
 //! What the program answers and writes over std's readers and writers.
 
-use super::relay_streams;
 use std::alloc::{AllocError, Global};
 use std::io;
 use std::test::Fail;
+use sval_relay::relay_streams;
 
 /// A writer that takes so many bytes, and then gives an error.
 #[derive(Drop)]

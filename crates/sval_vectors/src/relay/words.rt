@@ -1,10 +1,10 @@
 //! Words that are no form.
 
-use super::run;
-use crate::fakes::{FaultySink, FaultySource};
+use super::fakes::{FaultySink, FaultySource};
 use std::alloc::{AllocError, Global};
 use std::test::Fail;
 use sval_json::VecSink;
+use sval_relay::run;
 
 /// These words, each as a `String`.
 fn owned(alloc: Global, texts: &[&str]) -> Result<Vec<String>, AllocError> {
