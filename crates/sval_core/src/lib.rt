@@ -10,6 +10,7 @@ pub mod name_laws;
 mod stream;
 mod value;
 pub mod value_laws;
+mod values;
 
 pub use computed::Computed;
 pub use stream::Stream;
@@ -18,3 +19,4 @@ pub use sval_label::{
     NoMemory, Result, Slot, Tag, refusal, tags,
 };
 pub use value::Value;
+pub use values::Null;
