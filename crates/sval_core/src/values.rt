@@ -4,5 +4,8 @@
 
 mod leaves;
 mod names;
+mod pointers;
+mod texts;
 
 pub use leaves::Null;
+pub use texts::stream_str;
