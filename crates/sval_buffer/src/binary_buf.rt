@@ -1,6 +1,7 @@
 //! Binaries that come in fragments.
 
-ghost use Rattle.std.specs.Prelude.{◌≡◌, true, false, [], Some, None, IsOk, OnOk, IfErr, option_map, if◌then◌else◌};
+ghost use Rattle.std.specs.Prelude.{◌≡◌, true, false, [], Some, None, IsOk, OnOk, IfOk, IfErr, option_map, if◌then◌else◌};
+ghost use Rattle.std.specs.Bool.{OnTrue};
 ghost use Rattle.sval_buffer.specs.Pushes.{pushed};
 ghost use Rattle.sval_buffer.specs.Forest.{no_bytes, held_binary_calls};
 ghost use Rattle.sval_buffer.specs.Capture.{IsNoAlloc};
@@ -45,6 +46,48 @@ impl<'sval> BinaryBuf<'sval> {
     {
         BinaryBuf {
             fragments: FragmentBuf::new(alloc),
+        }
+    }
+
+    /// A binary that is borrowed. It takes no memory.
+    ///
+    /// ```
+    /// let binary = BinaryBuf::from_bytes(alloc, bytes);
+    /// assert_eq!(rt; binary.as_borrowed_slice(), Some(bytes));
+    /// ```
+    pub fn from_bytes(alloc: Global, bytes: &'sval [u8]) -> Self
+        ensures { result ≡ record { borrowed = true; bytes = bytes.now } }
+    {
+        BinaryBuf {
+            fragments: FragmentBuf::from_slice(alloc, bytes),
+        }
+    }
+
+    /// The bytes of an array, borrowed. It takes no memory.
+    pub fn from_array<const N: usize>(alloc: Global, bytes: &'sval [u8; N]) -> Self
+        ensures { result ≡ record { borrowed = true; bytes = bytes.now } }
+    {
+        BinaryBuf::from_bytes(alloc, bytes)
+    }
+
+    /// The same bytes, borrowed exactly where these are.
+    ///
+    /// [`ErrorKind::NoAlloc`] comes where memory was wanting, and never where these bytes are borrowed, which takes none.
+    ///
+    /// ```
+    /// let again = binary.try_clone()?;
+    /// assert!(rt; again == binary);
+    /// ```
+    pub fn try_clone(&self) -> std::result::Result<Self, Error>
+        ensures same { IfOk result (λ binary. binary ≡ self.now) }
+        ensures err { IfErr result (λ error. IsNoAlloc error) }
+        ensures borrowed_needs_none { OnTrue self.now.borrowed (IsOk result) }
+    {
+        match self.fragments.try_clone() {
+            Ok(fragments) => Ok(BinaryBuf { fragments }),
+            Err(_) => Err(Error::new(ErrorKind::NoAlloc {
+                method: Word::Binary,
+            })),
         }
     }
 
@@ -125,6 +168,27 @@ impl<'sval> ValueRef<Lent<'sval>> for BinaryBuf<'sval> {
         }
         stream.binary_end()
     }
+}
+
+/// Two binaries are equal exactly if their bytes are, whether they are borrowed or not.
+impl<'sval> PartialEq for BinaryBuf<'sval> {
+    ghost use Rattle.std.proofs.lemmas.Cmp.{nat_list_eq_equiv, on_equiv};
+    ghost use Rattle.std.specs.Cmp.{partial_equiv_from_equiv};
+    ghost use Rattle.sval_buffer.specs.Pushes.{same_bytes};
+
+    ghost eq = { same_bytes };
+
+    ghost laws = { partial_equiv_from_equiv (on_equiv (λ binary. binary.bytes) nat_list_eq_equiv) };
+
+    fn eq(&self, other: &BinaryBuf<'sval>) -> bool {
+        self.as_slice() == other.as_slice()
+    }
+}
+
+impl<'sval> Eq for BinaryBuf<'sval> {
+    ghost use Rattle.std.proofs.lemmas.Cmp.{nat_list_eq_equiv, on_equiv};
+
+    ghost laws = { on_equiv (λ binary. binary.bytes) nat_list_eq_equiv };
 }
 
 impl<'sval> fmt::Debug for BinaryBuf<'sval> {

@@ -1,6 +1,7 @@
 //! Bytes that come in fragments.
 
 ghost use Rattle.std.specs.Prelude.{◌≡◌, true, false, [], IsOk, IfOk, ◌++◌, is_ok, if◌then◌else◌};
+ghost use Rattle.std.specs.Bool.{OnTrue};
 ghost use Rattle.sval_buffer.specs.Pushes.{pushed};
 ghost use Rattle.sval_buffer.specs.Forest.{no_bytes};
 ghost use Rattle.sval_buffer.specs.SeenParts.{fragment_bytes};
@@ -42,6 +43,31 @@ impl<'sval> FragmentBuf<'sval> {
             held: Held::Borrowed(&[]),
             alloc,
         }
+    }
+
+    /// One borrowed fragment. It takes no memory.
+    pub(crate) fn from_slice(alloc: Global, bytes: &'sval [u8]) -> Self
+        ensures { result ≡ record { borrowed = true; bytes = bytes.now } }
+    {
+        FragmentBuf {
+            held: Held::Borrowed(bytes),
+            alloc,
+        }
+    }
+
+    /// The same bytes, borrowed exactly where these are. Borrowed ones take no memory.
+    pub(crate) fn try_clone(&self) -> Result<Self, AllocError>
+        ensures same { IfOk result (λ fragments. fragments ≡ self.now) }
+        ensures borrowed_needs_none { OnTrue self.now.borrowed (IsOk result) }
+    {
+        let held = match &self.held {
+            Held::Borrowed(bytes) => Held::Borrowed(*bytes),
+            Held::Owned(bytes) => Held::Owned(Vec::from_slice(self.alloc, bytes.as_slice())?),
+        };
+        Ok(FragmentBuf {
+            held,
+            alloc: self.alloc,
+        })
     }
 
     /// Forgets all fragments.

@@ -1,6 +1,7 @@
 //! Texts that come in fragments.
 
-ghost use Rattle.std.specs.Prelude.{◌≡◌, true, false, [], Some, None, IsOk, OnOk, IfErr, option_map, if◌then◌else◌};
+ghost use Rattle.std.specs.Prelude.{◌≡◌, true, false, [], Some, None, IsOk, OnOk, IfOk, IfErr, option_map, if◌then◌else◌};
+ghost use Rattle.std.specs.Bool.{OnTrue};
 ghost use Rattle.sval_buffer.specs.Pushes.{pushed};
 ghost use Rattle.std.specs.Str.{IsUtf8};
 ghost use Rattle.sval_buffer.specs.Forest.{no_bytes, held_text_calls};
@@ -53,6 +54,39 @@ impl<'sval> TextBuf<'sval> {
         }
     }
 
+    /// A text that is borrowed. It takes no memory.
+    ///
+    /// ```
+    /// let text = TextBuf::from_text(alloc, "a text");
+    /// assert_eq!(rt; text.as_borrowed_str(), Some("a text"));
+    /// ```
+    pub fn from_text(alloc: Global, text: &'sval str) -> Self
+        ensures { result ≡ record { borrowed = true; bytes = text.now } }
+    {
+        TextBuf {
+            fragments: FragmentBuf::from_slice(alloc, text.as_bytes()),
+        }
+    }
+
+    /// The same text, borrowed exactly where this one is.
+    ///
+    /// [`ErrorKind::NoAlloc`] comes where memory was wanting, and never where this text is borrowed, which takes none.
+    ///
+    /// ```
+    /// let again = text.try_clone()?;
+    /// assert!(rt; again == text);
+    /// ```
+    pub fn try_clone(&self) -> std::result::Result<Self, Error>
+        ensures same { IfOk result (λ text. text ≡ self.now) }
+        ensures err { IfErr result (λ error. IsNoAlloc error) }
+        ensures borrowed_needs_none { OnTrue self.now.borrowed (IsOk result) }
+    {
+        match self.fragments.try_clone() {
+            Ok(fragments) => Ok(TextBuf { fragments }),
+            Err(_) => Err(Error::new(ErrorKind::NoAlloc { method: Word::Text })),
+        }
+    }
+
     /// Forgets all fragments.
     pub fn clear(&mut self)
         ensures { self.new ≡ no_bytes }
@@ -83,6 +117,16 @@ impl<'sval> TextBuf<'sval> {
         self.fragments
             .push_computed(fragment.as_bytes())
             .map_err(|_| Error::new(ErrorKind::NoAlloc { method: Word::Text }))
+    }
+
+    /// Appends a copy of a text, as [`TextBuf::push_fragment_computed`] does: it is what writes texts call.
+    ///
+    /// [`ErrorKind::NoAlloc`] comes where memory was wanting, and then the text stays as it was.
+    pub fn write_str(&mut self, text: &str) -> std::result::Result<(), Error>
+        ensures ok { OnOk result (self.new ≡ pushed self.old (record { borrowed = false; bytes = text.now })) }
+        ensures err { IfErr result (λ error. IsNoAlloc error × (self.new ≡ self.old)) }
+    {
+        self.push_fragment_computed(text)
     }
 
     /// The text, where it is borrowed.
@@ -125,6 +169,27 @@ impl<'sval> ValueRef<Lent<'sval>> for TextBuf<'sval> {
         }
         stream.text_end()
     }
+}
+
+/// Two texts are equal exactly if their bytes are, whether they are borrowed or not.
+impl<'sval> PartialEq for TextBuf<'sval> {
+    ghost use Rattle.std.proofs.lemmas.Cmp.{nat_list_eq_equiv, on_equiv};
+    ghost use Rattle.std.specs.Cmp.{partial_equiv_from_equiv};
+    ghost use Rattle.sval_buffer.specs.Pushes.{same_bytes};
+
+    ghost eq = { same_bytes };
+
+    ghost laws = { partial_equiv_from_equiv (on_equiv (λ text. text.bytes) nat_list_eq_equiv) };
+
+    fn eq(&self, other: &TextBuf<'sval>) -> bool {
+        self.as_str() == other.as_str()
+    }
+}
+
+impl<'sval> Eq for TextBuf<'sval> {
+    ghost use Rattle.std.proofs.lemmas.Cmp.{nat_list_eq_equiv, on_equiv};
+
+    ghost laws = { on_equiv (λ text. text.bytes) nat_list_eq_equiv };
 }
 
 impl<'sval> fmt::Debug for TextBuf<'sval> {

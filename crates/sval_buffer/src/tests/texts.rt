@@ -3,6 +3,7 @@
 use super::{calls_of, calls_of_ref, printed};
 use crate::{BinaryBuf, Error, ErrorKind, TextBuf, Word};
 use std::alloc::AllocError;
+use std::test::Fail;
 use sval_core::Call;
 
 #[test]
@@ -48,6 +49,42 @@ fn joins_fragments_of_binaries(rt: HostRuntime) -> Result<(), AllocError> {
         calls_of_ref(rt.alloc(), &binary)?.as_str(),
         printed(rt.alloc(), &calls)?.as_str()
     );
+    Ok(())
+}
+
+#[test]
+fn makes_texts(rt: HostRuntime) -> Result<(), Fail> {
+    let lent = TextBuf::from_text(rt.alloc(), "abc");
+    assert_eq!(rt; lent.as_borrowed_str(), Some("abc"));
+    let mut own = TextBuf::new(rt.alloc());
+    own.write_str("ab")?;
+    assert_eq!(rt; own.as_borrowed_str(), None);
+    assert!(rt; own != lent);
+    own.write_str("c")?;
+    assert!(rt; own == lent);
+    for text in [&lent, &own] {
+        let again = text.try_clone()?;
+        assert!(rt; again == lent);
+        assert_eq!(rt; again.as_borrowed_str(), text.as_borrowed_str());
+    }
+    Ok(())
+}
+
+#[test]
+fn makes_binaries(rt: HostRuntime) -> Result<(), Fail> {
+    let lent = BinaryBuf::from_array(rt.alloc(), b"abc");
+    assert!(rt; lent.as_borrowed_slice() == Some(b"abc".as_slice()));
+    assert!(rt; lent == BinaryBuf::from_bytes(rt.alloc(), b"abc".as_slice()));
+    let mut own = BinaryBuf::new(rt.alloc());
+    own.push_fragment_computed(b"abc")?;
+    assert!(rt; own == lent);
+    for bytes in [&lent, &own] {
+        let again = bytes.try_clone()?;
+        assert!(rt; again == lent);
+        assert!(rt; again.as_borrowed_slice() == bytes.as_borrowed_slice());
+    }
+    own.push_fragment(b"d")?;
+    assert!(rt; own != lent);
     Ok(())
 }
 
