@@ -7,7 +7,7 @@ use Rattle.sval_buffer.specs.Pushes.{HeldBytes}
 use Rattle.sval_buffer.specs.Forest.{no_bytes}
 use Rattle.sval_buffer.specs.declared.error.Word.TheVariants as word
 use Rattle.sval_buffer.specs.Collected.{text_use, text_collected, binary_use, binary_collected}
-use Rattle.sval_buffer.specs.CollectSteps.{text_step, steps_of, answer_after, binary_step}
+use Rattle.sval_buffer.specs.CollectSteps.{text_step, steps_of, answer_after, binary_step, text_collects, binary_collects}
 use Rattle.sval_buffer.specs.CollectLaws.{StreamCollects}
 use Rattle.sval_buffer.proofs.CollectingFragments.{stream_collects}
 use Rattle.sval_buffer.proofs.CollectedSteps.{steps_collect}
@@ -65,12 +65,12 @@ pub text_steps : (e : Emission) → answer_after word.Text e.refuses (steps_of t
 text_steps e = steps_collect word.Text is_for_texts text_use text_step (λ call held. (call_meets call held).0) e
 
 -- for what collects a text
-pub text_stream : StreamCollects word.Text text_step text_collected
-text_stream = stream_collects word.Text text_step text_collected text_steps
+pub text_stream : StreamCollects text_collects text_collected
+text_stream = stream_collects text_collects text_collected text_steps
 
 pub binary_steps : (e : Emission) → answer_after word.Binary e.refuses (steps_of binary_step no_bytes e.calls) ≡ binary_collected e
 binary_steps e = steps_collect word.Binary is_for_binaries binary_use binary_step (λ call held. (call_meets call held).1) e
 
 -- for what collects a binary
-pub binary_stream : StreamCollects word.Binary binary_step binary_collected
-binary_stream = stream_collects word.Binary binary_step binary_collected binary_steps
+pub binary_stream : StreamCollects binary_collects binary_collected
+binary_stream = stream_collects binary_collects binary_collected binary_steps

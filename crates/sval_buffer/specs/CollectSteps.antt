@@ -1,5 +1,5 @@
 -- What each call does to a buffer that collects, at once and without its lower calls; and the buffer as a stream.
-use Rattle.std.specs.Prelude.{◌≡◌, ℕ, ℤ, Bool, true, false, not, ◌&&◌, List, [], ◌∷◌, nat_abs, if◌then◌else◌, IsOk, Option, Some, None, Result, Ok, Err}
+use Rattle.std.specs.Prelude.{◌≡◌, ℕ, ℤ, Bool, true, false, not, ◌&&◌, List, [], ◌∷◌, ◌++◌, nat_abs, if◌then◌else◌, IsOk, Option, Some, None, Result, Ok, Err}
 use Rattle.std.specs.Fmt.{signed_decimal}
 use Rattle.sval_label.specs.Calls.{Label, Name, IntType, Head, Slot, Call}
 use Rattle.sval_label.specs.Texts.{is_empty}
@@ -7,8 +7,8 @@ use Rattle.sval_label.specs.Ranges.{is_signed}
 use Rattle.sval_core.specs.Law.{Law, Standing}
 use Rattle.sval_core.specs.Names.{says_none}
 use Rattle.sval_buffer.specs.Pushes.{HeldBytes, pushed}
-use Rattle.sval_buffer.specs.Forest.{no_bytes}
-use Rattle.sval_buffer.specs.Capture.{IsNoAlloc, wants_after}
+use Rattle.sval_buffer.specs.Forest.{no_bytes, push_may_grow}
+use Rattle.sval_buffer.specs.Capture.{WantsMemory, wants_after}
 use Rattle.sval_buffer.specs.declared.error.Word.{Word}
 use Rattle.sval_buffer.specs.declared.error.Word.TheVariants as word
 use Rattle.sval_buffer.specs.declared.error.ErrorKind.{ErrorKind}
@@ -95,6 +95,44 @@ binary_step held (Call.Begin head _) = begin_binary held head
 binary_step held (Call.PartBegin slot) = begin_part held slot
 binary_step held _ = Ok held
 
+-- ---- memory
+
+-- a push of this kind takes memory, unless it is a borrowed one onto no bytes
+abbrev pub takes_memory : HeldBytes → Bool → Bool
+takes_memory held borrowed = push_may_grow borrowed (Some held)
+
+-- a label that is static is pushed as a borrowed fragment
+abbrev pub label_takes_memory : HeldBytes → Option Label → Bool
+label_takes_memory held (Some label) = takes_memory held label.is_static
+label_takes_memory held None = false
+
+-- a call may take memory for a text: a fragment, a number that is told as digits, and a label
+abbrev pub text_takes_memory : HeldBytes → Call → Bool
+text_takes_memory held (Call.TextFragment borrowed text) = takes_memory held borrowed
+text_takes_memory held (Call.Int type n) = takes_memory held false
+text_takes_memory held (Call.Standalone name) = label_takes_memory held (own_label name)
+text_takes_memory held _ = false
+
+-- the same for a binary: a fragment, and a byte
+abbrev pub binary_takes_memory : HeldBytes → Call → Bool
+binary_takes_memory held (Call.BinaryFragment borrowed bytes) = takes_memory held borrowed
+binary_takes_memory held (Call.Int type n) = takes_memory held false
+binary_takes_memory held _ = false
+
+-- how a buffer collects: what kind it expects, what each call does to the content, and which calls may take memory
+pub record Collects : Type 0 where
+  pub expected : Word
+  pub step : CollectStep
+  pub grows : HeldBytes → Call → Bool
+
+abbrev pub text_collects : Collects
+text_collects = record { expected = word.Text; step = text_step; grows = text_takes_memory }
+
+abbrev pub binary_collects : Collects
+binary_collects = record { expected = word.Binary; step = binary_step; grows = binary_takes_memory }
+
+-- ---- all calls
+
 -- the content after all calls, or the kind of the first one that doesn't fit
 unfoldable pub steps_of : CollectStep → HeldBytes → List Call → Result HeldBytes Word
 steps_of step held [] = Ok held
@@ -105,6 +143,22 @@ abbrev pub answer_after : Word → Bool → Result HeldBytes Word → Result Hel
 answer_after expected refuses (Err actual) = Err (error.Unsupported actual expected)
 answer_after expected true (Ok held) = Err (error.InvalidValue word.FailedToStream)
 answer_after expected false (Ok held) = Ok held
+
+-- Memory was wanting in one of the calls, where they meet this content: those before it fit, and so does this one, which
+-- may take memory.
+pub record LacksMemoryFrom (how : Collects) (start : HeldBytes) (calls : List Call) : Type 0 where
+  pub before : List Call
+  pub call : Call
+  pub later : List Call
+  pub calls_are : calls ≡ before ++ (call ∷ later)
+  pub held : HeldBytes
+  pub before_fit : steps_of how.step start before ≡ Ok held
+  pub fits : IsOk (how.step held call)
+  pub takes_memory : how.grows held call ≡ true
+
+-- the same of calls that meet no content
+abbrev pub LacksMemory : Collects → List Call → Type 0
+LacksMemory how calls = LacksMemoryFrom how no_bytes calls
 
 -- ---- the stream
 
@@ -123,24 +177,34 @@ abbrev pub held_by : Result HeldBytes Word → HeldBytes → HeldBytes
 held_by (Ok next) held = next
 held_by (Err actual) held = held
 
--- why a call that fits, or doesn't, was refused
-abbrev pub IsUnfitBy : Word → Result HeldBytes Word → ErrorKind → Type 0
-IsUnfitBy expected (Ok next) why = IsNoAlloc why
-IsUnfitBy expected (Err actual) why = why ≡ error.Unsupported actual expected
+-- why a call that fits and may take memory, or doesn't, was refused
+abbrev pub IsUnfitBy : Word → Bool → Result HeldBytes Word → ErrorKind → Type 0
+IsUnfitBy expected grows (Ok next) why = WantsMemory grows why
+IsUnfitBy expected grows (Err actual) why = why ≡ error.Unsupported actual expected
+
+-- what a call leaves of the content, by whether it may take memory and what its step is
+abbrev pub CollectsBy : Word → Bool → Result HeldBytes Word → HeldBytes → Result (Unit {0}) ErrorKind → HeldBytes → Type 0
+CollectsBy expected grows step old (Ok done) new = step ≡ Ok new
+CollectsBy expected grows step old (Err why) new = (new ≡ old) × IsUnfitBy expected grows step why
+
+-- the same by how a buffer collects
+abbrev pub CollectsCall : Collects → HeldBytes → Call → Result (Unit {0}) ErrorKind → HeldBytes → Type 0
+CollectsCall how old call result new = CollectsBy how.expected (how.grows old call) (how.step old call) old result new
 
 -- what a refused call leaves
-pub record IsCollectLeft (expected : Word) (step : CollectStep) (view : Collecting) (call : Call) (left : Collecting) : Type 0 where
+pub record IsCollectLeft (how : Collects) (view : Collecting) (call : Call) (left : Collecting) : Type 0 where
+  pub held : left.held ≡ view.held
   pub why : ErrorKind
   pub refusal : left.refusal ≡ Some why
-  pub cause : IsUnfitBy expected (step view.held call) why
+  pub cause : IsUnfitBy how.expected (how.grows view.held call) (how.step view.held call) why
   pub wants : left.wants ≡ wants_after why view.wants
 
 -- a call is accepted where it fits, leaves the content of its step, and moves nothing else
-abbrev pub collect_law : Word → CollectStep → Law Collecting
-collect_law expected step = record {
-  accepts = λ view call. IsOk (step view.held call);
-  after = λ view call. record { held = held_by (step view.held call) view.held; refusal = view.refusal; wants = view.wants };
-  stopped = IsCollectLeft expected step;
+abbrev pub collect_law : Collects → Law Collecting
+collect_law how = record {
+  accepts = λ view call. IsOk (how.step view.held call);
+  after = λ view call. record { held = held_by (how.step view.held call) view.held; refusal = view.refusal; wants = view.wants };
+  stopped = IsCollectLeft how;
 }
 
 -- where a stream stands that is this
