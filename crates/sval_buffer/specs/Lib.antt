@@ -17,4 +17,5 @@ pub mod ErrorTexts
 pub mod Nested
 pub mod Collected
 pub mod CollectSteps
+pub mod SeenCollectors
 pub mod CollectLaws

@@ -55,7 +55,7 @@ impl fmt::Display for Word {
 /// The kinds of [`Error`].
 #[derive(Clone, Copy, Debug, PartialEq, Eq)]
 pub enum ErrorKind {
-    /// A call of another kind came than the buffer holds. Nothing of this crate answers it yet.
+    /// A call of another kind came than the buffer collects.
     Unsupported {
         /// What came.
         actual: Word,

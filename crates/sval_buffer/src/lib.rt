@@ -7,18 +7,22 @@
 
 mod begins;
 mod binary_buf;
+mod collect_binary;
 pub mod collect_laws;
+mod collect_text;
 mod error;
 mod fragment_buf;
 mod holder;
 mod kept;
 mod kept_int;
 pub mod laws;
+mod lowered;
 mod named;
 mod one_pass;
 mod part;
 mod parts;
 mod recent;
+mod refusals;
 #[cfg(test)]
 mod tests;
 mod text_buf;

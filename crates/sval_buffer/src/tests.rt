@@ -1,5 +1,6 @@
 //! What buffers hold, and what they make of it.
 
+mod collects;
 mod names;
 mod texts;
 

@@ -1,0 +1,22 @@
+use Rattle.std.specs.Prelude.{Err}
+use Rattle.std.proofs.Common.{sym, subst}
+use Rattle.sval_buffer.specs.Capture.{IsNoAlloc}
+use Rattle.sval_buffer.specs.Collected.{IsDue, binary_collected}
+use Rattle.sval_buffer.specs.SeenCollectors.{binary_collecting}
+use Rattle.sval_buffer.proofs.CallSteps.{binary_stream}
+use Rattle.sval_buffer.proofs.binary_buf.BinaryBuf.collect.Goals as goal
+
+pub returns-in-Ok-clause-due : goal.returns-in-Ok-clause-due
+returns-in-Ok-clause-due g c =
+    binary_stream.on_ok (g.V.Value.emission c.args.value.now) (binary_collecting c.new-collector.result) (binary_collecting c.stream.new.stream) c.new-collector.ensures c.in-Ok.ensures
+
+pub returns-clause-due : goal.returns-clause-due
+returns-clause-due g c =
+    let e = g.V.Value.emission c.args.value.now in
+    subst (λ why. IsDue (binary_collected e) (Err why)) (sym c.cause.ensures)
+    (binary_stream.on_err e (binary_collecting c.new-collector.result) (binary_collecting c.stream.new.stream) c.new-collector.ensures c.in-Err.ensures)
+
+pub returns-clause-memory : goal.returns-clause-memory
+returns-clause-memory g c no_alloc =
+    binary_stream.on_want (g.V.Value.emission c.args.value.now) (binary_collecting c.new-collector.result) (binary_collecting c.stream.new.stream) c.new-collector.ensures c.in-Err.ensures
+    (subst IsNoAlloc c.cause.ensures no_alloc)

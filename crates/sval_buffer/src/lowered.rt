@@ -1,0 +1,51 @@
+//! What numbers and tags are lowered to, for a buffer that collects.
+
+ghost use Rattle.std.specs.Prelude.{◌≡◌, Some, None, option_map, if◌then◌else◌};
+ghost use Rattle.std.specs.Fmt.{signed_decimal};
+ghost use Rattle.sval_label.specs.Grouped.{int_number, int_type};
+ghost use Rattle.sval_label.specs.SeenName.{seen_name};
+ghost use Rattle.sval_buffer.specs.CollectSteps.{is_digits, own_label};
+
+use itoa::Buffer;
+use sval_core::tags::RUST_OPTION_NONE;
+use sval_core::{Int, Label, Name};
+
+/// A number that `i64` doesn't hold is lowered to its digits.
+pub(crate) fn is_wide(number: Int) -> bool
+    ensures { result ≡ is_digits (int_type number) (int_number number) }
+{
+    match number {
+        Int::U64(number) => i64::try_from(number).is_err(),
+        Int::U128(number) => i64::try_from(number).is_err(),
+        Int::I128(number) => i64::try_from(number).is_err(),
+        _ => false,
+    }
+}
+
+/// The digits of a number, in decimal, with `-` in front of one below 0. They stand in the buffer.
+pub(crate) fn digits(buffer: &mut Buffer, number: Int) -> &str
+    ensures { result.now ≡ signed_decimal (int_number number) }
+{
+    match number {
+        Int::U8(number) => buffer.format(number),
+        Int::U16(number) => buffer.format(number),
+        Int::U32(number) => buffer.format(number),
+        Int::U64(number) => buffer.format(number),
+        Int::U128(number) => buffer.format(number),
+        Int::I8(number) => buffer.format(number),
+        Int::I16(number) => buffer.format(number),
+        Int::I32(number) => buffer.format(number),
+        Int::I64(number) => buffer.format(number),
+        Int::I128(number) => buffer.format(number),
+    }
+}
+
+/// The label of a tag by itself, where the tag isn't told as null.
+pub(crate) fn label_of<'c>(name: Name<'c>) -> Option<&'c Label<'c>>
+    ensures { option_map (λ label. label.now) result ≡ own_label (seen_name name.entry) }
+{
+    match name.tag {
+        Some(&RUST_OPTION_NONE) => None,
+        _ => name.label,
+    }
+}

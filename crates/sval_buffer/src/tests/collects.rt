@@ -1,0 +1,171 @@
+//! What is collected of values as texts and as binaries.
+
+use super::{Refusing, buffer_of};
+use crate::{BinaryBuf, TextBuf};
+use std::alloc::{AllocError, Global};
+use sval_core::{Call, Label, Name, tags};
+
+/// What is collected of calls as a text, and whether it is borrowed, or why nothing is.
+fn text_of(alloc: Global, calls: &[Call<'_, '_>]) -> Result<String, AllocError> {
+    let value = buffer_of(alloc, calls);
+    match TextBuf::collect(alloc, &value) {
+        Ok(text) => format!(in alloc; "{text:?} {}", text.as_borrowed_str().is_some()),
+        Err(error) => format!(in alloc; "{error}"),
+    }
+}
+
+/// The same as a binary.
+fn binary_of(alloc: Global, calls: &[Call<'_, '_>]) -> Result<String, AllocError> {
+    let value = buffer_of(alloc, calls);
+    match BinaryBuf::collect(alloc, &value) {
+        Ok(bytes) => format!(in alloc; "{bytes:?} {}", bytes.as_borrowed_slice().is_some()),
+        Err(error) => format!(in alloc; "{error}"),
+    }
+}
+
+#[test]
+fn collects_texts(rt: HostRuntime) -> Result<(), AllocError> {
+    let text = [
+        Call::TextBegin(Some(8)),
+        Call::TextFragment("a string"),
+        Call::TextEnd,
+    ];
+    let greatest = [Call::U128(340282366920938463463374607431768211455)];
+    let table: [(&[Call<'_, '_>], &'static str); 10] = [
+        (&[Call::TextBegin(None), Call::TextEnd], "\"\" true"),
+        (&text, "\"a string\" true"),
+        (
+            &greatest,
+            "\"340282366920938463463374607431768211455\" false",
+        ),
+        (
+            &[Call::U64(9223372036854775808)],
+            "\"9223372036854775808\" false",
+        ),
+        (
+            &[Call::I128(-9223372036854775809)],
+            "\"-9223372036854775809\" false",
+        ),
+        (
+            &[Call::U64(9223372036854775807)],
+            "unexpected integer, expected text",
+        ),
+        (&[Call::U8(1)], "unexpected integer, expected text"),
+        (&[Call::Bool(true)], "unexpected boolean, expected text"),
+        (
+            &[Call::MapBegin(None)],
+            "unexpected sequence, expected text",
+        ),
+        (
+            &[Call::BinaryBegin(None)],
+            "unexpected sequence, expected text",
+        ),
+    ];
+    for (calls, want) in table {
+        assert_eq!(rt; text_of(rt.alloc(), calls)?.as_str(), want);
+    }
+    Ok(())
+}
+
+/// The name of a tag by itself, or of a tagged value.
+fn labelled<'c>(label: &'c Label<'c>) -> Name<'c> {
+    Name {
+        tag: None,
+        label: Some(label),
+        index: None,
+    }
+}
+
+#[test]
+fn collects_texts_with_names(rt: HostRuntime) -> Result<(), AllocError> {
+    let kind = Label::new("kind");
+    let width = Label::new_computed("width");
+    let none = Name {
+        tag: Some(&tags::RUST_OPTION_NONE),
+        ..labelled(&kind)
+    };
+    let parts = [
+        Call::TaggedBegin(labelled(&kind)),
+        Call::TextBegin(None),
+        Call::TextFragment("a"),
+        Call::TextFragmentComputed("b"),
+        Call::TextEnd,
+        Call::TaggedEnd(labelled(&kind)),
+    ];
+    let table: [(&[Call<'_, '_>], &'static str); 4] = [
+        (&parts, "\"ab\" false"),
+        (&[Call::Tag(labelled(&kind))], "\"kind\" true"),
+        (&[Call::Tag(labelled(&width))], "\"width\" false"),
+        (&[Call::Tag(none)], "unexpected null, expected text"),
+    ];
+    for (calls, want) in table {
+        assert_eq!(rt; text_of(rt.alloc(), calls)?.as_str(), want);
+    }
+    Ok(())
+}
+
+#[test]
+fn collects_binaries(rt: HostRuntime) -> Result<(), AllocError> {
+    let size = Name {
+        tag: Some(&tags::CONSTANT_SIZE),
+        label: None,
+        index: None,
+    };
+    let array = [
+        Call::TaggedBegin(size),
+        Call::SeqBegin(Some(2)),
+        Call::SeqValueBegin,
+        Call::U8(97),
+        Call::SeqValueEnd,
+        Call::SeqValueBegin,
+        Call::U8(32),
+        Call::SeqValueEnd,
+        Call::SeqEnd,
+        Call::TaggedEnd(size),
+    ];
+    let bytes = [
+        Call::BinaryBegin(None),
+        Call::BinaryFragment(b"ab"),
+        Call::BinaryEnd,
+    ];
+    let label = Label::new("id");
+    let table: [(&[Call<'_, '_>], &'static str); 9] = [
+        (&array, "[97, 32] false"),
+        (&bytes, "[97, 98] true"),
+        (&[Call::U8(7)], "[7] false"),
+        (&[Call::Bool(true)], "unexpected boolean, expected binary"),
+        (&[Call::U16(7)], "unexpected integer, expected binary"),
+        (
+            &[Call::U64(9223372036854775808)],
+            "unexpected text, expected binary",
+        ),
+        (&[Call::TextBegin(None)], "unexpected text, expected binary"),
+        (
+            &[Call::RecordBegin(size, None)],
+            "unexpected map, expected binary",
+        ),
+        (
+            &[Call::RecordValueBegin(None, &label)],
+            "unexpected text, expected binary",
+        ),
+    ];
+    for (calls, want) in table {
+        assert_eq!(rt; binary_of(rt.alloc(), calls)?.as_str(), want);
+    }
+    Ok(())
+}
+
+#[test]
+fn tells_that_a_value_refused(rt: HostRuntime) -> Result<(), AllocError> {
+    let want = "the value is invalid: the value itself failed to stream";
+    let refusing = Refusing {};
+    match TextBuf::collect(rt.alloc(), &refusing) {
+        Ok(_text) => assert!(rt; false),
+        Err(error) => assert_eq!(rt; format!(in rt.alloc(); "{error}")?.as_str(), want),
+    }
+    match BinaryBuf::collect(rt.alloc(), &refusing) {
+        Ok(_binary) => assert!(rt; false),
+        Err(error) => assert_eq!(rt; format!(in rt.alloc(); "{error}")?.as_str(), want),
+    }
+    Ok(())
+}
