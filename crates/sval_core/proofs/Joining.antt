@@ -1,9 +1,10 @@
 -- How emissions join: one after another, and the parts of a list at any place.
-use Rattle.std.specs.Prelude.{◌≡◌, ℕ, ◌+◌, ◌<◌, ◌≤◌, length, take, drop, get_or, Bool, true, false, List, [], ◌∷◌, ◌++◌, refl}
+use Rattle.std.specs.Prelude.{◌≡◌, ℕ, ◌+◌, ◌<◌, ◌≤◌, length, take, drop, get_or, Bool, true, false, List, [], ◌∷◌, ◌++◌, Result, Ok, Err, refl}
 use Rattle.std.proofs.Common.{ap, ◌∙◌, sym, subst, append_assoc, append-nil}
 use Rattle.std.proofs.lemmas.List.{take_more, drop_more, take-append-drop, take_all}
+use Rattle.sval_label.specs.declared.error.Error.{Error}
 use Rattle.sval_label.specs.Calls.{Call}
-use Rattle.sval_core.specs.Law.{Standing, Law, Emission, silent, emits, then_emits, Streams, Stops}
+use Rattle.sval_core.specs.Law.{Standing, Law, Emission, silent, emits, then_emits, Streams, Stops, Emits}
 use Rattle.sval_core.proofs.Emissions.{streams_then, stops_first, stops_later}
 use Rattle.sval_core.specs.Values.{makes, between, parts_emission}
 
@@ -127,3 +128,16 @@ module _ {T : Type 0} (emission : T → Emission) where
         → Stops law old (then_emits front (then_emits (parts_emission emission xs) more)) new
     stops_after_parts {new = new} xs i {more = more} h s t =
         stops_after xs (subst (λ all. Streams law old (then_emits front (parts_emission emission all)) mid) (take_all i xs h) s) t
+
+    -- So what is answered after all parts is answered of the whole.
+    pub emits_after : (new : Standing V) (r : Result (Unit {0}) Error) (xs : List T) (more : Emission)
+        → Streams law old (then_emits front (parts_emission emission xs)) mid → Emits law r mid more new
+        → Emits law r old (then_emits front (then_emits (parts_emission emission xs) more)) new
+    emits_after new (Ok done) xs more s t = streams_after xs s t
+    emits_after new (Err refusal) xs more s t = stops_after xs s t
+
+    pub emits_after_parts : (new : Standing V) (r : Result (Unit {0}) Error) (xs : List T) (i : ℕ) (more : Emission) → length xs ≤ i
+        → Streams law old (then_emits front (parts_emission emission (take i xs))) mid → Emits law r mid more new
+        → Emits law r old (then_emits front (then_emits (parts_emission emission xs) more)) new
+    emits_after_parts new (Ok done) xs i more h s t = streams_after_parts xs i h s t
+    emits_after_parts new (Err refusal) xs i more h s t = stops_after_parts xs i h s t

@@ -19,4 +19,4 @@ pub use sval_label::{
     NoMemory, Result, Slot, Tag, refusal, tags,
 };
 pub use value::Value;
-pub use values::{Null, stream_str};
+pub use values::{Null, stream_seq, stream_str};

@@ -4,8 +4,11 @@
 
 mod leaves;
 mod names;
+mod options;
 mod pointers;
+mod sequences;
 mod texts;
 
 pub use leaves::Null;
+pub use sequences::stream_seq;
 pub use texts::stream_str;
