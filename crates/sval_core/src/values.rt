@@ -2,6 +2,7 @@
 //!
 //! What each makes stands in `specs/Values.antt`, and which tree that spells in `specs/ValueTrees.antt`.
 
+mod arrays;
 mod leaves;
 mod names;
 mod options;
