@@ -1,5 +1,5 @@
 -- What a stream that collects answers to one call.
-use Rattle.std.specs.Prelude.{◌≡◌, ℕ, ◌≤◌, ◌⊎◌, Bool, true, false, List, [], ◌∷◌, not, ◌&&◌, Option, Some, Result, Ok, Err, is_ok, IsOk, OnOk, IfErr, refl}
+use Rattle.std.specs.Prelude.{◌≡◌, ℕ, ◌≤◌, ◌⊎◌, Bool, true, false, List, [], ◌∷◌, not, ◌&&◌, Some, Result, Ok, Err, is_ok, IsOk, OnOk, IfErr, refl}
 use Rattle.std.proofs.Common.{sym, ap, ◌∙◌, subst, arith, inl, inr}
 use Rattle.sval_label.specs.Calls.{Label, Call}
 use Rattle.sval_label.specs.Texts.{is_empty}

@@ -6,7 +6,7 @@ use std::alloc::{AllocError, Global};
 use sval_core::{Call, Label, Name, tags};
 
 /// What is collected of calls as a text, and whether it is borrowed, or why nothing is.
-fn text_of(alloc: Global, calls: &[Call<'_, '_>]) -> Result<String, AllocError> {
+fn text_of<'sval>(alloc: Global, calls: &[Call<'sval, 'sval>]) -> Result<String, AllocError> {
     let value = buffer_of(alloc, calls);
     match TextBuf::collect(alloc, &value) {
         Ok(text) => format!(in alloc; "{text:?} {}", text.as_borrowed_str().is_some()),
@@ -15,7 +15,7 @@ fn text_of(alloc: Global, calls: &[Call<'_, '_>]) -> Result<String, AllocError> 
 }
 
 /// The same as a binary.
-fn binary_of(alloc: Global, calls: &[Call<'_, '_>]) -> Result<String, AllocError> {
+fn binary_of<'sval>(alloc: Global, calls: &[Call<'sval, 'sval>]) -> Result<String, AllocError> {
     let value = buffer_of(alloc, calls);
     match BinaryBuf::collect(alloc, &value) {
         Ok(bytes) => format!(in alloc; "{bytes:?} {}", bytes.as_borrowed_slice().is_some()),
@@ -92,15 +92,16 @@ fn collects_texts_with_names(rt: HostRuntime) -> Result<(), AllocError> {
         Call::TextEnd,
         Call::TaggedEnd(labelled(&kind)),
     ];
-    let table: [(&[Call<'_, '_>], &'static str); 4] = [
-        (&parts, "\"ab\" false"),
-        (&[Call::Tag(labelled(&kind))], "\"kind\" true"),
-        (&[Call::Tag(labelled(&width))], "\"width\" false"),
-        (&[Call::Tag(none)], "unexpected null, expected text"),
-    ];
-    for (calls, want) in table {
-        assert_eq!(rt; text_of(rt.alloc(), calls)?.as_str(), want);
-    }
+    let own = [Call::Tag(labelled(&kind))];
+    let copied = [Call::Tag(labelled(&width))];
+    let null = [Call::Tag(none)];
+    assert_eq!(rt; text_of(rt.alloc(), &parts)?.as_str(), "\"ab\" false");
+    assert_eq!(rt; text_of(rt.alloc(), &own)?.as_str(), "\"kind\" true");
+    assert_eq!(rt; text_of(rt.alloc(), &copied)?.as_str(), "\"width\" false");
+    assert_eq!(rt;
+        text_of(rt.alloc(), &null)?.as_str(),
+        "unexpected null, expected text"
+    );
     Ok(())
 }
 
@@ -123,15 +124,19 @@ fn collects_binaries(rt: HostRuntime) -> Result<(), AllocError> {
         Call::SeqEnd,
         Call::TaggedEnd(size),
     ];
+    assert_eq!(rt; binary_of(rt.alloc(), &array)?.as_str(), "[97, 32] false");
     let bytes = [
         Call::BinaryBegin(None),
         Call::BinaryFragment(b"ab"),
         Call::BinaryEnd,
     ];
-    let label = Label::new("id");
-    let table: [(&[Call<'_, '_>], &'static str); 9] = [
-        (&array, "[97, 32] false"),
-        (&bytes, "[97, 98] true"),
+    assert_eq!(rt; binary_of(rt.alloc(), &bytes)?.as_str(), "[97, 98] true");
+    Ok(())
+}
+
+#[test]
+fn collects_bytes_alone(rt: HostRuntime) -> Result<(), AllocError> {
+    let table: [(&[Call<'_, '_>], &'static str); 6] = [
         (&[Call::U8(7)], "[7] false"),
         (&[Call::Bool(true)], "unexpected boolean, expected binary"),
         (&[Call::U16(7)], "unexpected integer, expected binary"),
@@ -140,14 +145,7 @@ fn collects_binaries(rt: HostRuntime) -> Result<(), AllocError> {
             "unexpected text, expected binary",
         ),
         (&[Call::TextBegin(None)], "unexpected text, expected binary"),
-        (
-            &[Call::RecordBegin(size, None)],
-            "unexpected map, expected binary",
-        ),
-        (
-            &[Call::RecordValueBegin(None, &label)],
-            "unexpected text, expected binary",
-        ),
+        (&[Call::MapBegin(None)], "unexpected map, expected binary"),
     ];
     for (calls, want) in table {
         assert_eq!(rt; binary_of(rt.alloc(), calls)?.as_str(), want);
