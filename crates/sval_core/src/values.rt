@@ -3,7 +3,9 @@
 //! What each makes stands in `specs/Values.antt`, and which tree that spells in `specs/ValueTrees.antt`.
 
 mod arrays;
+mod collections;
 mod leaves;
+mod maps;
 mod names;
 mod options;
 mod pointers;
