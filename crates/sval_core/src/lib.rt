@@ -5,6 +5,7 @@
 #![tactic(auto)]
 
 mod computed;
+mod forwards;
 pub mod laws;
 pub mod name_laws;
 mod stream;
