@@ -5,3 +5,4 @@ pub mod WideNumbers
 pub mod BaseCalls
 pub mod BaseTrees
 mod examples
+pub mod ByteItems

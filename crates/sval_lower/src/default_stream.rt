@@ -1,9 +1,8 @@
 //! What a stream is told in the place of a call that it doesn't take itself: its lower calls.
 //!
 //! There is one function for each call, of the call's name and parameters, and two for values; those of numbers of 128
-//! bits and of computed fragments of binaries aren't there yet. Each makes the lower calls of its call on the stream, in
-//! order, as `specs/Lower.antt` lists them; the first refusal is passed on, and no later call is made. A base call stands
-//! for itself.
+//! bits aren't there yet. Each makes the lower calls of its call on the stream, in order, as `specs/Lower.antt` lists
+//! them; the first refusal is passed on, and no later call is made. A base call stands for itself.
 //!
 //! A stream that lowers wraps another, and tells that one: its own `take` can't call a function that calls `take`.
 
@@ -16,7 +15,7 @@ mod records;
 mod texts;
 mod tuples;
 
-pub use binaries::{binary_begin, binary_end, binary_fragment};
+pub use binaries::{binary_begin, binary_end, binary_fragment, binary_fragment_computed};
 pub use leaves::{bool, null, value, value_computed};
 pub use maps::{
     map_begin, map_end, map_key_begin, map_key_end, map_value_begin, map_value_end, seq_begin,

@@ -4,6 +4,8 @@
 //! `specs/Readers.antt` has each answer, as a function of the value's calls and of whether it refuses. In these pages a
 //! call is passed over if it begins or ends a tagged value or an enum, hints at a tag, or is an empty fragment of a
 //! binary. No reader takes memory.
+//!
+//! [`Readers`](crate::Readers) has these functions as methods of each value.
 
 ghost use Rattle.std.specs.Prelude.{◌≡◌, option_map, pos};
 ghost use Rattle.sval_lower.specs.Readers as read;

@@ -1,13 +1,15 @@
 //! Calls in the place of other calls, and what readers find in a value.
 //!
-//! [`default_stream`] tells a stream what stands for a call that it doesn't take itself, but for numbers of 128 bits and
-//! computed fragments of binaries so far. What that is stands in `specs/Lower.antt` and `specs/Lowered.antt`.
-//! [`default_value`] reads a value by its calls, as `specs/Readers.antt` says. [`laws`] has what holds of all of it.
+//! [`default_stream`] tells a stream what stands for a call that it doesn't take itself. What that is stands in
+//! `specs/Lower.antt` and `specs/Lowered.antt`. [`Readers`] and [`default_value`] read a value by its calls, as
+//! `specs/Readers.antt` says. [`laws`] has what holds of all of it.
 #![tactic(auto)]
 
 pub mod default_stream;
 pub mod default_value;
 pub mod laws;
+mod readers;
 mod reading;
 
+pub use readers::Readers;
 pub use reading::GivenTag;
