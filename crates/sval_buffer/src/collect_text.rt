@@ -15,7 +15,7 @@ ghost use Rattle.sval_buffer.specs.CollectSteps.{Collecting, text_collects, Coll
 ghost use Rattle.sval_buffer.specs.SeenCollectors.{text_collecting};
 
 use crate::error::{Error, ErrorKind, Word};
-use crate::lowered::{digits, is_wide, label_of};
+use crate::lowered::{label_of, wide_digits};
 use crate::refusals::Refusals;
 use crate::text_buf::TextBuf;
 use itoa::Buffer;
@@ -118,10 +118,10 @@ impl<'sval> TextBuf<'sval> {
     fn collect_number(&mut self, number: Int) -> Result<(), Error>
         ensures { CollectsCall text_collects self.old (int_call number) result self.new }
     {
-        if !is_wide(number) {
-            return Err(unfit(Word::Integer));
+        match wide_digits(&mut Buffer::new(), number) {
+            Some(digits) => self.collect_fragment(Fragment::Computed(digits)),
+            None => Err(unfit(Word::Integer)),
         }
-        self.collect_fragment(Fragment::Computed(digits(&mut Buffer::new(), number)))
     }
 
     /// Takes a tag by itself, which is its label or null.

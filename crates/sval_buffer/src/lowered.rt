@@ -22,21 +22,19 @@ pub(crate) fn is_wide(number: Int) -> bool
     }
 }
 
-/// The digits of a number, in decimal, with `-` in front of one below 0. They stand in the buffer.
-pub(crate) fn digits(buffer: &mut Buffer, number: Int) -> &str
-    ensures { result.now ≡ signed_decimal (int_number number) }
+/// The digits of a number that is lowered to them, in decimal, with `-` in front of one below 0. They stand in the buffer.
+pub(crate) fn wide_digits(buffer: &mut Buffer, number: Int) -> Option<&str>
+    ensures { let wide = is_digits (int_type number) (int_number number) in
+        option_map (λ text. text.now) result ≡ (if wide then Some (signed_decimal (int_number number)) else None) }
 {
+    if !is_wide(number) {
+        return None;
+    }
     match number {
-        Int::U8(number) => buffer.format(number),
-        Int::U16(number) => buffer.format(number),
-        Int::U32(number) => buffer.format(number),
-        Int::U64(number) => buffer.format(number),
-        Int::U128(number) => buffer.format(number),
-        Int::I8(number) => buffer.format(number),
-        Int::I16(number) => buffer.format(number),
-        Int::I32(number) => buffer.format(number),
-        Int::I64(number) => buffer.format(number),
-        Int::I128(number) => buffer.format(number),
+        Int::U64(number) => Some(buffer.format(number)),
+        Int::U128(number) => Some(buffer.format(number)),
+        Int::I128(number) => Some(buffer.format(number)),
+        _ => None,
     }
 }
 
