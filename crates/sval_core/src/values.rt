@@ -4,6 +4,7 @@
 
 mod arrays;
 mod collections;
+mod fields;
 mod leaves;
 mod maps;
 mod names;
@@ -11,6 +12,7 @@ mod options;
 mod pointers;
 mod sequences;
 mod texts;
+mod tuples;
 
 pub use leaves::Null;
 pub use sequences::stream_seq;
