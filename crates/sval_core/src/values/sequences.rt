@@ -25,6 +25,16 @@ pub(crate) fn stream_item<'v, T: Value<'v, Lent<'v>>, S: Stream<Lent<'v>>>(
 /// Streams items as a sequence that tells how many they are, as the values `&[T]` and `Vec<T>` do.
 ///
 /// It refuses where an item refuses by itself, after the calls of that item, or where the stream refuses a call.
+///
+/// ```
+/// impl<'v> Value<'v, Lent<'v>> for Names {
+///     ghost emission = { λ names. seq_emission (λ name. str_emission (string_bytes name)) names.all.items };
+///
+///     fn stream<S: Stream<Lent<'v>>>(&'v self, stream: &mut S) -> Result {
+///         stream_seq(stream, self.all.as_slice())
+///     }
+/// }
+/// ```
 pub fn stream_seq<'v, T: Value<'v, Lent<'v>>, S: Stream<Lent<'v>>>(
     stream: &mut S,
     items: &'v [T],
