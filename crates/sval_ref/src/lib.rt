@@ -47,3 +47,19 @@ pub fn stream_ref<L: Lending, S: Stream<L>, V: ValueRef<L>>(stream: &mut S, valu
 {
     value.stream_ref(stream)
 }
+
+impl<'a, L: Lending, T: ValueRef<L>> ValueRef<L> for &'a T {
+    ghost ref_emission = { λ value. T.ref_emission value.now };
+
+    fn stream_ref<S: Stream<L>>(&self, stream: &mut S) -> Result {
+        (**self).stream_ref(stream)
+    }
+}
+
+impl<L: Lending, T: ValueRef<L>> ValueRef<L> for Box<T> {
+    ghost ref_emission = { λ value. T.ref_emission value.value };
+
+    fn stream_ref<S: Stream<L>>(&self, stream: &mut S) -> Result {
+        self.as_ref().stream_ref(stream)
+    }
+}
