@@ -6,3 +6,4 @@ pub mod BaseCalls
 pub mod BaseTrees
 mod examples
 pub mod ByteItems
+pub mod WideStreams

@@ -1,7 +1,7 @@
 -- The lower calls of each call: what a stream that doesn't take it is told in its place.
 use Rattle.std.specs.Prelude.{ℤ, ℕ, pos, true, false, List, [], ◌∷◌, ◌++◌, length, flat_map, Option, Some, None, if◌then◌else◌}
 use Rattle.std.specs.Fmt.{signed_decimal}
-use Rattle.sval_label.specs.Calls.{Label, Name, IntType, Head, Slot, Call}
+use Rattle.sval_label.specs.Calls.{Tag, Label, Name, IntType, Head, Slot, Call}
 use Rattle.sval_label.specs.Ranges.{is_signed}
 use Rattle.sval_core.specs.Names.{number_tag, no_name, tag_alone, untagged, says_none}
 
@@ -17,11 +17,13 @@ label_or_null None = Call.Null ∷ []
 abbrev pub own_calls : Name → List Call
 own_calls name = if says_none name.tag then Call.Null ∷ [] else label_or_null name.label
 
+-- a text of unknown size under a tag
+abbrev pub text_under : Tag → List ℕ → List Call
+text_under tag text = Call.TaggedBegin (tag_alone tag) ∷ Call.TextBegin None ∷ Call.TextFragment false text ∷ Call.TextEnd ∷ Call.TaggedEnd (tag_alone tag) ∷ []
+
 -- a number of 128 bits: one of 64 bits with its sign where it fits, and else its digits as a text
 abbrev pub wide_calls : ℤ → List Call
-wide_calls n =
-    if is_signed 63 n then Call.Int IntType.I64 n ∷ []
-    else Call.TaggedBegin (tag_alone number_tag) ∷ Call.TextBegin None ∷ Call.TextFragment false (signed_decimal n) ∷ Call.TextEnd ∷ Call.TaggedEnd (tag_alone number_tag) ∷ []
+wide_calls n = if is_signed 63 n then Call.Int IntType.I64 n ∷ [] else text_under number_tag (signed_decimal n)
 
 -- a number as one of the next larger type
 abbrev pub int_calls : IntType → ℤ → List Call

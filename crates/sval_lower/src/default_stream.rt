@@ -1,8 +1,8 @@
 //! What a stream is told in the place of a call that it doesn't take itself: its lower calls.
 //!
-//! There is one function for each call, of the call's name and parameters, and two for values; those of numbers of 128
-//! bits aren't there yet. Each makes the lower calls of its call on the stream, in order, as `specs/Lower.antt` lists
-//! them; the first refusal is passed on, and no later call is made. A base call stands for itself.
+//! There is one function for each call, of the call's name and parameters, and two for values. Each makes the lower
+//! calls of its call on the stream, in order, as `specs/Lower.antt` lists them; the first refusal is passed on, and no
+//! later call is made. A base call stands for itself.
 //!
 //! A stream that lowers wraps another, and tells that one: its own `take` can't call a function that calls `take`.
 
@@ -22,7 +22,7 @@ pub use maps::{
     seq_end, seq_value_begin, seq_value_end,
 };
 pub use names::{enum_begin, enum_end, tag, tag_hint, tagged_begin, tagged_end};
-pub use numbers::{i8, i16, i32, i64, u8, u16, u32, u64};
+pub use numbers::{i8, i16, i32, i64, i128, u8, u16, u32, u64, u128};
 pub use records::{
     record_begin, record_end, record_tuple_begin, record_tuple_end, record_tuple_value_begin,
     record_tuple_value_end, record_value_begin, record_value_end,
