@@ -10,3 +10,5 @@ pub mod Told
 pub mod ListsSoFar
 pub mod ListDue
 pub mod ListStops
+pub mod Tokens
+pub mod TokensEqual

@@ -8,3 +8,5 @@ pub mod CheckedLaws
 pub mod Checking
 pub mod ManyChecks
 pub mod Listing
+pub mod Tokens
+pub mod TokenBufs

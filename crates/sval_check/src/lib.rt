@@ -3,7 +3,8 @@
 //! [`check`] streams a value into a machine with a stack, which takes the calls that can still be completed and no
 //! others. Its words stand in `specs/Checks.antt`. [`check_all`] does the same for values one after another, and gives
 //! where each of them ends. Its words stand in `specs/ManyChecks.antt`. [`Checked`] puts the same machine before a
-//! stream of one's own. Its law stands in `specs/Checked.antt`.
+//! stream of one's own. Its law stands in `specs/Checked.antt`. [`TokenBuf`] keeps calls as [`Token`]s, so that a test can
+//! compare them. Its law stands in `specs/TokenBufs.antt`.
 #![tactic(auto)]
 
 ghost use Rattle.std.specs.Prelude.{◌≡◌, ◌⊎◌, ℕ, Err, IfOk, OnOk};
@@ -15,6 +16,7 @@ mod checked;
 mod checker;
 mod ends;
 mod error;
+mod fragments;
 mod frame;
 mod kept;
 pub mod laws;
@@ -26,15 +28,21 @@ mod names;
 mod stack;
 #[cfg(test)]
 mod tests;
+mod token;
+mod token_buf;
+mod token_copies;
 
 use crate::checker::Checker;
 use crate::lister::Lister;
 pub use checked::{Checked, Why};
 pub use ends::Ends;
 pub use error::CheckError;
+pub use fragments::{TokenBytes, TokenText};
 pub use measured::Measured;
 use std::alloc::Global;
 use sval_core::{Lent, Value};
+pub use token::{Token, TokenName};
+pub use token_buf::TokenBuf;
 
 /// Checks that a value's calls spell one whole value, and that the value itself doesn't refuse.
 ///

@@ -1,0 +1,115 @@
+//! Streams whose calls are kept.
+
+ghost use Rattle.std.specs.Prelude.{◌≡◌, List, []};
+ghost use Rattle.sval_label.specs.Calls as calls;
+ghost use Rattle.sval_label.specs.Made.{lent_call};
+ghost use Rattle.sval_core.specs.Law.{Answers};
+ghost use Rattle.sval_check.specs.Tokens.{token_calls};
+ghost use Rattle.sval_check.specs.TokenBufs.{nothing_taken, token_law, token_standing, KeepsCall};
+
+use crate::token::Token;
+use crate::token_copies::token_of;
+use std::alloc::Global;
+use std::marker::Model;
+use sval_core::{Call, Error, Lent, NoMemory, Stream};
+
+/// Keeps the calls that it takes as tokens, so that a test can compare them.
+///
+/// It accepts every call, whatever came before. A call is refused only where memory was wanting for its token, and then
+/// the tokens stay as they were. A borrowed fragment is kept by reference. Computed fragments are copied, and so are the
+/// texts of labels that aren't static.
+///
+/// A user's value, as `sval_core` says how one is written, that is a sequence of one number:
+///
+/// ```
+/// let mut buffer = TokenBuf::new(alloc);
+/// buffer.value(&once)?;
+/// let tokens = [
+///     Token::SeqBegin(Some(1)),
+///     Token::SeqValueBegin,
+///     Token::U64(7),
+///     Token::SeqValueEnd,
+///     Token::SeqEnd,
+/// ];
+/// assert_eq!(rt; buffer.as_tokens(), tokens.as_slice());
+/// ```
+///
+/// After any calls it holds exactly these, in order, which is proved in
+/// [`laws::token_buf_laws`](crate::laws::token_buf_laws).
+#[derive(Drop)]
+pub struct TokenBuf<'sval> {
+    tokens: Vec<Token<'sval>>,
+    /// How often memory was wanting.
+    wants: u64,
+    alloc: Global,
+}
+
+impl<'sval> Model for TokenBuf<'sval> {
+    ghost use Rattle.sval_check.specs.TokenBufs.{TakenCalls};
+
+    ghost Value = { TakenCalls };
+
+    ghost use Rattle.sval_check.specs.Tokens.{token_calls};
+
+    ghost view = { λ buffer. record { calls = token_calls buffer.tokens.items; wants = buffer.wants } };
+}
+
+impl<'sval> TokenBuf<'sval> {
+    /// A buffer that has taken no call, and no memory yet.
+    pub fn new(alloc: Global) -> Self
+        ensures { result ≡ nothing_taken }
+    {
+        TokenBuf {
+            tokens: Vec::new(alloc),
+            wants: 0,
+            alloc,
+        }
+    }
+
+    /// The calls that were taken since the buffer was new or cleared, in order.
+    pub fn as_tokens(&self) -> &[Token<'sval>]
+        ensures { token_calls result.now ≡ self.now.calls }
+    {
+        self.tokens.as_slice()
+    }
+
+    /// Forgets all calls.
+    pub fn clear(&mut self)
+        ensures { self.new ≡ record self.old { calls = [] } }
+    {
+        self.tokens.clear();
+    }
+
+    /// Keeps a call. There is room for its token, and the token is made, before anything changes.
+    fn keep(&mut self, call: Call<'sval, '_>) -> Result<(), NoMemory>
+        ensures { KeepsCall self.old (lent_call call.entry) result self.new }
+    {
+        if self.tokens.reserve(1).is_err() {
+            return Err(NoMemory);
+        }
+        let token = token_of(self.alloc, call)?;
+        self.tokens.push_reserved(token);
+        Ok(())
+    }
+}
+
+impl<'sval> Stream<Lent<'sval>> for TokenBuf<'sval> {
+    ghost View = { List calls.Call };
+
+    ghost law = { token_law };
+
+    ghost standing = { token_standing };
+
+    fn take(&mut self, call: Call<'sval, '_>) -> sval_core::Result
+        ensures { Answers token_law result
+            (token_standing self.old) (lent_call call.entry) (token_standing self.new) }
+    {
+        match self.keep(call) {
+            Ok(()) => Ok(()),
+            Err(_) => {
+                self.wants = self.wants.saturating_add(1);
+                Err(Error::new())
+            }
+        }
+    }
+}
