@@ -8,6 +8,7 @@ ghost use Rattle.sval_core.specs.Lenient.{lenient, with_wants};
 ghost use Rattle.sval_core.specs.Values.{makes, fails_after};
 
 mod lists;
+mod tokens;
 
 use crate::{CheckError, Checked, Why, check};
 use std::alloc::Global;
