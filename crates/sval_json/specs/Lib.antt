@@ -15,6 +15,9 @@ pub mod Promises
 pub mod Fronts
 pub mod Sinks
 pub mod Taken
+pub mod Filled
+pub mod Counted
+pub mod Faulty
 pub mod OverWriter
 pub mod WriterLaw
 pub mod ErrorKinds

@@ -1,9 +1,12 @@
 //! JSON (RFC 8259) of values.
 #![tactic(auto)]
 
+mod count;
 mod digits;
 mod error;
 mod escape;
+mod faulty;
+mod fixed;
 mod json_str;
 pub mod laws;
 mod number;
@@ -14,12 +17,17 @@ pub mod tags;
 #[cfg(test)]
 mod tests;
 mod to_io;
+mod trickle;
 mod writer;
 
+pub use count::CountSink;
 pub use digits::format_int;
 pub use error::{Error, ErrorKind};
+pub use faulty::FaultySink;
+pub use fixed::FixedSink;
 pub use json_str::{JsonStr, JsonString};
 pub use real::RealSink;
 pub use sink::{Sink, SinkError, VecSink, write_all};
 pub use style::Variants;
 pub use to_io::{stream_to_io_write, stream_to_io_write_with};
+pub use trickle::TrickleSink;
