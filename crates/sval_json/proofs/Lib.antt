@@ -26,6 +26,8 @@ pub mod EscapedPieces
 pub mod Doing
 pub mod Combined
 pub mod Streamed
+pub mod Given
+pub mod ToFmt
 pub mod JsonTexts
 pub mod Told
 mod examples

@@ -31,6 +31,11 @@ error_kind None = kind.Generic
 error_kind (Some (Step why)) = refusal_kind (seen_refusal why)
 error_kind (Some (Sink why)) = sink_kind why
 
+-- Generic in place of IO
+abbrev pub without_io : ErrorKind → ErrorKind
+without_io kind.IO = kind.Generic
+without_io found = found
+
 -- what an error says
 abbrev pub error_text : ErrorKind → List ℕ
 error_text kind.Generic = codes "an error occurred serializing a value to JSON"

@@ -22,4 +22,6 @@ pub mod OverWriter
 pub mod WriterLaw
 pub mod ErrorKinds
 pub mod Written
+pub mod Given
+pub mod ToFmt
 pub mod Laws

@@ -1,7 +1,7 @@
 //! Why JSON wasn't written.
 
 ghost use Rattle.std.specs.Prelude.{◌≡◌};
-ghost use Rattle.sval_json.specs.ErrorKinds.{error_kind};
+ghost use Rattle.sval_json.specs.ErrorKinds.{error_kind, without_io};
 
 use crate::sink::SinkError;
 use std::fmt;
@@ -65,6 +65,17 @@ impl Error {
             Some(Stop::Step(Refusal::InvalidNumber)) => ErrorKind::InvalidNumber,
             Some(Stop::Sink(SinkError::Failed)) => ErrorKind::IO,
             Some(Stop::Sink(SinkError::NoMemory)) => ErrorKind::NoMemory,
+        };
+        Error { kind }
+    }
+
+    /// The same error, but that the sink's failure is of no kind of its own.
+    pub(crate) fn without_io(self) -> Error
+        ensures { result ≡ without_io self }
+    {
+        let kind = match self.kind {
+            ErrorKind::IO => ErrorKind::Generic,
+            kind => kind,
         };
         Error { kind }
     }

@@ -16,7 +16,9 @@ mod style;
 pub mod tags;
 #[cfg(test)]
 mod tests;
+mod to_fmt;
 mod to_io;
+mod to_memory;
 mod trickle;
 mod writer;
 
@@ -29,5 +31,7 @@ pub use json_str::{JsonStr, JsonString};
 pub use real::RealSink;
 pub use sink::{Sink, SinkError, VecSink, write_all};
 pub use style::Variants;
+pub use to_fmt::stream_to_fmt_write;
 pub use to_io::{stream_to_io_write, stream_to_io_write_with};
+pub use to_memory::{stream_to_json_str, stream_to_string, stream_to_vec};
 pub use trickle::TrickleSink;
