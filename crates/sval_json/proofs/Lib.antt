@@ -28,6 +28,7 @@ pub mod Combined
 pub mod Streamed
 pub mod Given
 pub mod ToFmt
+pub mod Room
 pub mod JsonTexts
 pub mod Told
 mod examples

@@ -24,4 +24,5 @@ pub mod ErrorKinds
 pub mod Written
 pub mod Given
 pub mod ToFmt
+pub mod Room
 pub mod Laws

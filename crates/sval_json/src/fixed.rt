@@ -10,7 +10,8 @@ use std::marker::Model;
 
 /// A sink over a buffer: it takes what fits, and tells its room. It takes no memory.
 ///
-/// It fails exactly where its buffer is full and the piece isn't empty.
+/// It fails exactly where its buffer is full and the piece isn't empty. Where a value doesn't refuse, its calls spell a
+/// tree that has a JSON, and the text of that has room, [`stream_to_io_write`](crate::stream_to_io_write) answers `Ok`.
 ///
 /// ```
 /// let mut buffer = [0; 64];
