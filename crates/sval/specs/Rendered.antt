@@ -1,0 +1,24 @@
+-- What rendering a value may do to the text that it is appended to.
+use Rattle.std.specs.Prelude.{◌≡◌, ℕ, List, ◌++◌, Bool, true, ⊤, Option, Result, Ok, Err, IfSome}
+use Rattle.sval.specs.declared.render.RenderError.{RenderError, Format, NoMemory}
+
+-- a text begins with another one
+pub record BeginsWith (front text : List ℕ) : Type 0 where
+  pub rest : List ℕ
+  pub is : text ≡ front ++ rest
+
+-- the old text stands in front, and behind it what the value prints, where that is told
+pub record Appended (told : Option (List ℕ)) (old new : List ℕ) : Type 0 where
+  pub stands : BeginsWith old new
+  pub text : IfSome told (λ text. new ≡ old ++ text)
+
+-- the old text stands in front, and behind it a first part of what the value prints, where that is told
+pub record AppendedPart (told : Option (List ℕ)) (old new : List ℕ) : Type 0 where
+  pub stands : BeginsWith old new
+  pub part : IfSome told (λ text. BeginsWith new (old ++ text))
+
+-- a value that can't be printed may say so; whatever prints may lack memory
+abbrev pub Renders : (told : Option (List ℕ)) (unprintable : Bool) → Result (Unit {0}) RenderError → (old new : List ℕ) → Type 0
+Renders told unprintable (Ok _) old new = Appended told old new
+Renders told unprintable (Err Format) old new = (unprintable ≡ true) × AppendedPart told old new
+Renders told unprintable (Err NoMemory) old new = AppendedPart told old new

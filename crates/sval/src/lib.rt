@@ -1,0 +1,31 @@
+//! The one crate that most users need: values, streams, and values in other forms.
+//!
+//! Here are the names of `sval_core` and `sval_lower` again, and values that stand for others: bytes as binaries, pairs as
+//! maps, and printed texts as texts and as numbers. [`Render`] is for what prints itself as a text, and [`Display`] makes
+//! a value of it.
+#![tactic(auto)]
+
+
+mod binaries;
+mod map_slice;
+mod prints;
+mod render;
+mod shown;
+mod std_display;
+mod streaming;
+#[cfg(test)]
+mod tests;
+
+pub use binaries::{BinaryArray, BinarySlice};
+pub use map_slice::MapSlice;
+pub use render::{Render, RenderError};
+pub use shown::{
+    Display, DisplayError, stream_display, stream_display_fragments, stream_number,
+};
+pub use std_display::StdDisplay;
+pub use streaming::{stream, stream_computed};
+pub use sval_core::{
+    AnyCall, Call, Computed, Error, Index, Label, Lending, Lent, Name, NoMemory, Null, Result,
+    Stream, Tag, Value, refusal, stream_seq, stream_str, tags,
+};
+pub use sval_lower::{Readers, default_stream, default_value};

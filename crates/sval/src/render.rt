@@ -1,0 +1,43 @@
+//! What prints itself as a text.
+
+ghost use Rattle.std.specs.Prelude.{ℕ, List, Bool, Option};
+ghost use Rattle.std.specs.String.{string_bytes};
+ghost use Rattle.sval.specs.Rendered.{Renders};
+
+/// Why a value wasn't printed, or not whole.
+#[derive(Clone, Copy, Debug, PartialEq, Eq)]
+pub enum RenderError {
+    /// The value can't be printed.
+    Format,
+    /// Memory was wanting.
+    NoMemory,
+}
+
+/// What prints itself as a text: the bound in place of std's `Display`, whose errors don't tell a value that can't be
+/// printed from memory that is wanting.
+///
+/// Truth values, characters, whole numbers and texts print what `{}` prints of them. Any other type that has std's
+/// `Display` prints through [`StdDisplay`](crate::StdDisplay).
+///
+/// ```
+/// let mut text = String::from_str(alloc, "n = ")?;
+/// (-7i32).render(&mut text)?;
+/// assert_eq!(rt; text.as_str(), "n = -7");
+/// ```
+pub trait Render {
+    /// What it prints, where it tells.
+    ghost printed: { Self → Option (List ℕ) };
+
+    /// Whether it may be that it can't be printed.
+    ghost unprintable: { Self → Bool };
+
+    /// Appends what it prints.
+    ///
+    /// # Errors
+    ///
+    /// [`RenderError::Format`] only where it is a value that can't be printed; [`RenderError::NoMemory`]. After either
+    /// a first part of what it prints may have been appended.
+    fn render(&self, out: &mut String) -> Result<(), RenderError>
+        ensures { Renders (printed self.now) (unprintable self.now) result
+            (string_bytes out.old) (string_bytes out.new) };
+}
