@@ -1,6 +1,7 @@
 -- What rendering a value may do to the text that it is appended to.
-use Rattle.std.specs.Prelude.{◌≡◌, ℕ, List, ◌++◌, Bool, true, ⊤, Option, Result, Ok, Err, IfSome}
-use Rattle.sval.specs.declared.render.RenderError.{RenderError, Format, NoMemory}
+use Rattle.std.specs.Prelude.{◌≡◌, ℕ, List, ◌++◌, Bool, true, Option, Result, Ok, Err, IfSome}
+use Rattle.sval.specs.declared.render.RenderError.{RenderError}
+use Rattle.sval.specs.declared.render.RenderError.TheVariants.{Format, NoMemory}
 
 -- a text begins with another one
 pub record BeginsWith (front text : List ℕ) : Type 0 where

@@ -1,8 +1,8 @@
 -- What the values of this crate hold.
 use Rattle.std.specs.Prelude.{ℕ, List}
 use Rattle.std.specs.String.{string_bytes}
-use Rattle.sval.specs.declared.binaries.BinarySlice.{BinarySlice}
-use Rattle.sval.specs.declared.binaries.BinaryArray.{BinaryArray}
+use Rattle.sval.specs.declared.binary_slice.BinarySlice.{BinarySlice}
+use Rattle.sval.specs.declared.binary_array.BinaryArray.{BinaryArray}
 use Rattle.sval.specs.declared.map_slice.MapSlice.{MapSlice}
 use Rattle.sval.specs.declared.shown.Display.{Display}
 
@@ -11,8 +11,8 @@ abbrev pub slice_bytes : BinarySlice → List ℕ
 slice_bytes binary = binary.binary.now
 
 -- the bytes of a binary of a size that its type fixes
-abbrev pub array_bytes : BinaryArray → List ℕ
-array_bytes binary = binary.binary.now
+abbrev pub array_bytes : {n : ℕ} → BinaryArray n → List ℕ
+array_bytes binary = binary.bytes.now
 
 -- the pairs of a map
 abbrev pub pairs : {K V : Type 0} → MapSlice K V → List (K × V)

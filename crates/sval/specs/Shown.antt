@@ -1,13 +1,13 @@
 -- Values that are shown by the text that they print.
-use Rattle.std.specs.Prelude.{◌≡◌, ℕ, List, [], ◌∷◌, ◌++◌, Bool, true, false, ⊤, ⊥, Option, None, Result, Ok, Err, IfSome}
+use Rattle.std.specs.Prelude.{◌≡◌, ℕ, List, [], ◌∷◌, ◌++◌, Bool, true, false, ⊤, Option, None, Result, Ok, Err, IfSome}
 use Rattle.sval_label.specs.Calls.{Call}
 use Rattle.sval_core.specs.Law.{Standing, Law, Streams, Stops}
 use Rattle.sval_core.specs.Names.{number_tag, constant_size_tag, tag_alone}
 use Rattle.sval_core.specs.Values.{makes}
 use Rattle.sval_core.specs.ValueCalls.{binary_calls}
 use Rattle.sval_label.specs.declared.error.Error.{Error}
-use Rattle.sval.specs.declared.render.RenderError as render
-use Rattle.sval.specs.declared.shown.DisplayError.{DisplayError, Format, Refused, NoMemory}
+use Rattle.sval.specs.declared.shown.DisplayError.{DisplayError}
+use Rattle.sval.specs.declared.shown.DisplayError.TheVariants.{Format, Refused, NoMemory}
 
 -- calls between a begin and an end that say a tag
 abbrev pub tagged_calls : List ℕ → List Call → List Call
@@ -51,11 +51,6 @@ Shows told unprintable calls law (Ok _) old new = SomePrinted told (λ text. Str
 Shows told unprintable calls law (Err Format) old new = (unprintable ≡ true) × (new ≡ old)
 Shows told unprintable calls law (Err Refused) old new = SomePrinted told (λ text. Stops law old (makes (calls text)) new)
 Shows told unprintable calls law (Err NoMemory) old new = new ≡ old
-
--- the same error of what renders and then streams
-abbrev pub of_render : render.RenderError → DisplayError
-of_render render.Format = Format
-of_render render.NoMemory = NoMemory
 
 -- the answer of a stream, as an answer of what renders and then streams
 abbrev pub of_stream : Result (Unit {0}) Error → Result (Unit {0}) DisplayError

@@ -5,8 +5,8 @@
 //! a value of it.
 #![tactic(auto)]
 
-
-mod binaries;
+mod binary_array;
+mod binary_slice;
 mod map_slice;
 mod prints;
 mod render;
@@ -16,12 +16,11 @@ mod streaming;
 #[cfg(test)]
 mod tests;
 
-pub use binaries::{BinaryArray, BinarySlice};
+pub use binary_array::BinaryArray;
+pub use binary_slice::BinarySlice;
 pub use map_slice::MapSlice;
 pub use render::{Render, RenderError};
-pub use shown::{
-    Display, DisplayError, stream_display, stream_display_fragments, stream_number,
-};
+pub use shown::{Display, DisplayError, stream_display, stream_display_fragments, stream_number};
 pub use std_display::StdDisplay;
 pub use streaming::{stream, stream_computed};
 pub use sval_core::{

@@ -25,7 +25,7 @@ fn append_number<I: Integer>(out: &mut String, number: I) -> Result<(), RenderEr
 }
 
 impl Render for bool {
-    ghost use Rattle.std.specs.Prelude.{Some, false, codes};
+    ghost use Rattle.std.specs.Prelude.{Some, false, codes, if◌then◌else◌};
 
     ghost printed = { λ value. Some (if value then codes "true" else codes "false") };
 

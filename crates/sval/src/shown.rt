@@ -24,20 +24,6 @@ pub enum DisplayError {
     NoMemory,
 }
 
-impl From<RenderError> for DisplayError {
-    ghost use Rattle.std.specs.Prelude.{◌≡◌};
-    ghost use Rattle.sval.specs.Shown.{of_render};
-
-    ghost from_gives = { λ error answer. answer ≡ of_render error };
-
-    fn from(error: RenderError) -> DisplayError {
-        match error {
-            RenderError::Format => DisplayError::Format,
-            RenderError::NoMemory => DisplayError::NoMemory,
-        }
-    }
-}
-
 /// A value that is shown by the text that it prints: a text whose size isn't given, in one computed fragment.
 ///
 /// It is printed once, when this is made.
@@ -58,8 +44,11 @@ fn rendered<V: Render>(alloc: Global, value: &V) -> Result<String, DisplayError>
     ensures err { IfErr result (CantRender (V.unprintable value.now)) }
 {
     let mut text = String::new(alloc);
-    value.render(&mut text)?;
-    Ok(text)
+    match value.render(&mut text) {
+        Ok(()) => Ok(text),
+        Err(RenderError::Format) => Err(DisplayError::Format),
+        Err(RenderError::NoMemory) => Err(DisplayError::NoMemory),
+    }
 }
 
 impl<V: Render + Drop> Display<V> {
@@ -101,7 +90,7 @@ impl<'a, V: Render> Display<&'a V> {
     /// Those of [`Display::new`].
     pub fn new_borrowed(alloc: Global, value: &'a V) -> Result<Display<&'a V>, DisplayError>
         ensures text { IfOk result (λ shown. IsPrinted (V.printed value.now) (shown_text shown)) }
-        ensures value { IfOk result (λ shown. shown_value shown ≡ value) }
+        ensures value { IfOk result (λ shown. (shown_value shown).now ≡ value.now) }
         ensures err { IfErr result (CantRender (V.unprintable value.now)) }
     {
         Display::new(alloc, value)

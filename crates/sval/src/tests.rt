@@ -53,7 +53,10 @@ fn holds_what_it_was_given(rt: HostRuntime) -> Result<(), Fail> {
     assert_eq!(rt; Display::new(alloc, 42u8)?.into_inner(), 42);
     assert_eq!(rt; **Display::new_borrowed(alloc, &42u8)?.inner(), 42);
     assert_eq!(rt; BinarySlice::new(b"ab").as_slice(), b"ab".as_slice());
-    assert_eq!(rt; BinaryArray::new(&[1, 2]).as_slice().as_slice(), [1u8, 2].as_slice());
+    assert_eq!(rt;
+        BinaryArray::new(&[1, 2]).as_slice().as_slice(),
+        [1u8, 2].as_slice()
+    );
     assert_eq!(rt; MapSlice::new(&[(1u8, true)]).as_slice().len(), 1);
     Ok(())
 }

@@ -17,14 +17,14 @@ loop-entry-init g c = streams_no_parts (λ (entry : g.row.K.Denot × g.row.V.Den
 
 pub loop-entry-preserved : goal.loop-entry-preserved
 loop-entry-preserved g c =
-    streams_part (λ (entry : g.row.K.Denot × g.row.V.Denot). entry_emission (g.K.Value.emission entry.0) (g.V.Value.emission entry.1)) (emits (Begin Map (Some (length c.args.entries.now)))) c.args.entries.now c.loop-entry.entry-index c.entry-entry.result
-    (omega arith) c.entry-entry.is c.loop-entry.invariant c.in_ok-stream_entry.ensures
+    streams_part (λ (entry : g.row.K.Denot × g.row.V.Denot). entry_emission (g.K.Value.emission entry.0) (g.V.Value.emission entry.1)) (emits (Begin Map (Some (length c.args.entries.now)))) c.args.entries.now c.loop-entry.entry-index c.entry-item.result
+    (omega arith) c.entry-item.is c.loop-entry.invariant c.in_ok-stream_entry.ensures
 
 pub returns-in_err-stream_entry : goal.returns-in_err-stream_entry
 returns-in_err-stream_entry g c =
     passes_on c.from_residual-in_err-stream_entry.result c.from_residual-in_err-stream_entry.ensures.0
-    (stops_at_part (λ (entry : g.row.K.Denot × g.row.V.Denot). entry_emission (g.K.Value.emission entry.0) (g.V.Value.emission entry.1)) (emits (Begin Map (Some (length c.args.entries.now)))) c.args.entries.now c.loop-entry.entry-index c.entry-entry.result (emits (End Map))
-    (omega arith) c.entry-entry.is c.loop-entry.invariant c.in_err-stream_entry.ensures)
+    (stops_at_part (λ (entry : g.row.K.Denot × g.row.V.Denot). entry_emission (g.K.Value.emission entry.0) (g.V.Value.emission entry.1)) (emits (Begin Map (Some (length c.args.entries.now)))) c.args.entries.now c.loop-entry.entry-index c.entry-item.result (emits (End Map))
+    (omega arith) c.entry-item.is c.loop-entry.invariant c.in_err-stream_entry.ensures)
 
 pub returns : goal.returns
 returns g c =

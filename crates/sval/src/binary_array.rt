@@ -1,0 +1,72 @@
+//! Arrays of bytes as binaries.
+
+use std::fmt;
+use sval_core::{Lent, Result, Stream, Tag, Value, tags};
+
+/// Bytes of a number that their type fixes, as a binary that is tagged so.
+///
+/// An array of bytes by itself is a sequence of numbers that is tagged so.
+///
+/// ```
+/// assert_eq!(rt; BinaryArray::new(&[0, 255]).as_slice().len(), 2);
+/// ```
+#[derive(Clone, Copy)]
+pub struct BinaryArray<'a, const N: usize> {
+    array: &'a [u8; N],
+    bytes: &'a [u8],
+    ghost same: { bytes.now ≡ array.now },
+}
+
+ghost use Rattle.std.specs.Prelude.{◌≡◌};
+ghost use Rattle.sval_label.specs.SeenTags.{seen_ref_tag};
+ghost use Rattle.sval_core.specs.Names.{constant_size_tag};
+
+impl<'a, const N: usize> BinaryArray<'a, N> {
+    ghost use Rattle.sval.specs.Seen.{array_bytes};
+
+    /// The binary of these bytes.
+    pub fn new(binary: &'a [u8; N]) -> Self
+        ensures { array_bytes result ≡ binary.now }
+    {
+        BinaryArray {
+            array: binary,
+            bytes: binary,
+        }
+    }
+
+    /// The bytes.
+    pub fn as_slice(&self) -> &'a [u8; N]
+        ensures { result.now ≡ array_bytes self.now }
+    {
+        self.array
+    }
+}
+
+impl<'a, const N: usize> fmt::Debug for BinaryArray<'a, N> {
+    fn fmt<W: fmt::Write>(&self, f: &mut fmt::Formatter<W>) -> fmt::Result {
+        fmt::Debug::fmt(&self.bytes, f)
+    }
+}
+
+/// The tag of what has a size that its type fixes.
+fn constant_size() -> &'static Tag
+    ensures { seen_ref_tag result ≡ constant_size_tag }
+{
+    &tags::CONSTANT_SIZE
+}
+
+impl<'v, 'a, const N: usize> Value<'v, Lent<'v>> for BinaryArray<'a, N> {
+    ghost use Rattle.sval_core.specs.Values.{makes};
+    ghost use Rattle.sval.specs.Seen.{array_bytes};
+    ghost use Rattle.sval.specs.Shown.{constant_size_calls};
+
+    ghost emission = { λ binary. makes (constant_size_calls (array_bytes binary)) };
+
+    fn stream<S: Stream<Lent<'v>>>(&'v self, stream: &mut S) -> Result {
+        stream.tagged_begin(Some(constant_size()), None, None)?;
+        stream.binary_begin(Some(self.bytes.len()))?;
+        stream.binary_fragment(self.bytes)?;
+        stream.binary_end()?;
+        stream.tagged_end(Some(constant_size()), None, None)
+    }
+}
