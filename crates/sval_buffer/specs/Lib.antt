@@ -19,3 +19,4 @@ pub mod Collected
 pub mod CollectSteps
 pub mod SeenCollectors
 pub mod CollectLaws
+pub mod Owned

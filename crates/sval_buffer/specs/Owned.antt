@@ -1,0 +1,40 @@
+-- A forest whose texts and binaries are copies of its own, which borrow nothing.
+use Rattle.std.specs.Prelude.{false, List, map}
+use Rattle.sval_core.specs.Law.{computed}
+use Rattle.sval_buffer.specs.Pushes.{HeldBytes}
+use Rattle.sval_buffer.specs.Forest.{Node, Single, Text, Binary, Container, Nodes, none, ◌and◌, Open, Forest}
+use Rattle.sval_buffer.specs.declared.part.PartKind.{PartKind}
+use Rattle.sval_buffer.specs.declared.part.PartKind.TheVariants as kind
+use Rattle.sval_buffer.specs.declared.part.Part.{Part}
+
+-- the same bytes, not borrowed
+abbrev pub owned_bytes : HeldBytes → HeldBytes
+owned_bytes held = record { borrowed = false; bytes = held.bytes }
+
+abbrev mutual
+  pub owned_node : Node → Node
+  owned_node (Single call) = Single (computed call)
+  owned_node (Text held) = Text (owned_bytes held)
+  owned_node (Binary held) = Binary (owned_bytes held)
+  owned_node (Container begin nodes) = Container (computed begin) (owned_row nodes)
+
+  pub owned_row : Nodes → Nodes
+  owned_row none = none
+  owned_row (nodes and node) = owned_row nodes and owned_node node
+
+-- a container without an end stays without
+abbrev pub owned_open : Open → Open
+owned_open o = record { begin = computed o.begin; nodes = owned_row o.nodes }
+
+-- the same forest, with no text or binary borrowed, not even an empty one
+abbrev pub owned : Forest → Forest
+owned f = record { nodes = owned_row f.nodes; spine = map owned_open f.spine; in_fragments = f.in_fragments }
+
+-- the same of a part of the program
+abbrev pub owned_kind : PartKind → PartKind
+owned_kind (kind.Text held) = kind.Text (owned_bytes held)
+owned_kind (kind.Binary held) = kind.Binary (owned_bytes held)
+owned_kind other = other
+
+abbrev pub owned_part : Part → Part
+owned_part p = record p { kind = owned_kind p.kind }
