@@ -17,6 +17,11 @@ pub record IsCaptured (e : Emission) (buffer : Capture) : Type 0 where
   pub no_refusal : buffer.refusal ≡ None
   pub wants : buffer.wants ≡ 0
 
+-- the value doesn't refuse, and its calls leave this forest
+pub record IsTaken (e : Emission) (f : Forest) : Type 0 where
+  pub willing : e.refuses ≡ false
+  pub taken : forest e.calls ≡ Holds f
+
 -- Memory was wanting in one of the calls, where they meet this forest and the first has this number: those before it are
 -- taken, and so is this one, which may take memory.
 pub record RunsOutFrom (start : Forest) (number : ℕ) (calls : List Call) : Type 0 where

@@ -33,6 +33,13 @@ impl Holder {
         }
     }
 
+    /// The same place once more.
+    pub(crate) fn again(&self) -> Holder
+        ensures { result ≡ self.now }
+    {
+        Holder { after: self.after }
+    }
+
     /// The place.
     pub(crate) fn get(&self) -> Option<usize>
         ensures { result ≡ self.now }

@@ -5,17 +5,20 @@
 //! What they hold stands in `specs/Pushes.antt` and `specs/Forest.antt`, and [`laws`] has what holds of it.
 #![tactic(auto)]
 
+mod any_value;
 mod begins;
 mod binary_buf;
 mod collect_binary;
 pub mod collect_laws;
 mod collect_text;
+mod copies;
 mod error;
 mod fragment_buf;
 mod holder;
 mod kept;
 mod kept_int;
 pub mod laws;
+mod listed;
 mod lowered;
 mod named;
 mod one_pass;
@@ -23,13 +26,18 @@ mod part;
 mod parts;
 mod recent;
 mod refusals;
+mod refused;
+mod streamed;
 #[cfg(test)]
 mod tests;
 mod text_buf;
 mod value_buf;
 
+pub use any_value::{AnyValue, Value};
 pub use binary_buf::BinaryBuf;
 pub use error::{Error, ErrorKind, Word};
 pub use named::{CallStore, NamedCalls};
+pub use refused::Refused;
+pub use streamed::stream_to_value;
 pub use text_buf::TextBuf;
 pub use value_buf::{AnyValueBuf, ValueBuf};

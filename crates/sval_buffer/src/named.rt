@@ -1,19 +1,19 @@
 //! The calls with names of a captured value.
 
-ghost use Rattle.std.specs.Prelude.{◌≡◌, ◌<◌, ℕ, Some, List, [], ◌∷◌, ◌++◌, length, IfOk, IfSome, OnOk, OnErr, string_bytes};
+ghost use Rattle.std.specs.Prelude.{◌≡◌, ◌<◌, ℕ, Some, List, [], ◌∷◌, ◌++◌, length, map, IfOk, IfSome, OnOk, OnErr, string_bytes};
 ghost use Rattle.std.specs.Bool.{OnTrue};
 ghost use Rattle.sval_label.specs.Grouped.{grouped_call, seen_head, seen_slot};
 ghost use Rattle.sval_label.specs.Calls.{Call};
 ghost use Rattle.sval_label.specs.SeenTags.{seen_ref_tag};
 ghost use Rattle.sval_label.specs.SeenName.{seen_name};
-ghost use Rattle.sval_core.specs.Law.{Emits};
+ghost use Rattle.sval_core.specs.Law.{Emits, computed};
 ghost use Rattle.sval_core.specs.Values.{makes};
 ghost use Rattle.sval_buffer.specs.Forest.{end_of};
 ghost use Rattle.sval_buffer.specs.SeenNames.{hinted, named_head, named_slot, named_call, call_at, HasParts, HasName, Extends, Keeps};
 
 use crate::kept::{NamedCall, keep, shown_label};
 use crate::recent::{Recent, slot_of};
-use std::alloc::Global;
+use std::alloc::{AllocError, Global};
 use std::marker::Model;
 use sval_core::{GroupedCall, Head, Lending, Name, NoMemory, Result, Slot, Stream, Tag};
 
@@ -180,6 +180,14 @@ pub trait CallStore: Sized + Drop {
         requires { at < length (calls self.now) }
         ensures { let made = end_of (call_at (calls self.now) at) ∷ [] in
             Emits S.law result (S.standing stream.old) (makes made) (S.standing stream.new) };
+
+    /// A copy of the calls.
+    fn try_clone(&self, alloc: Global) -> std::result::Result<Self, AllocError>
+        ensures { IfOk result (λ copy. calls copy ≡ calls self.now) };
+
+    /// Shows that no call is a fragment, so that none borrows. It does nothing when it runs.
+    fn show_names_alone(&self)
+        ensures { map computed (calls self.now) ≡ calls self.now };
 }
 
 impl CallStore for NamedCalls {
@@ -220,6 +228,19 @@ impl CallStore for NamedCalls {
         let call = &self.calls[at];
         let label = shown_label(self.texts.as_str(), &call.label);
         make(call.kind.end(call.name(label.as_ref())), stream)
+    }
+
+    fn try_clone(&self, alloc: Global) -> std::result::Result<NamedCalls, AllocError> {
+        Ok(NamedCalls {
+            calls: Vec::from_slice(alloc, self.calls.as_slice())?,
+            texts: String::from_str(alloc, self.texts.as_str())?,
+            recent: Recent::new(alloc),
+        })
+    }
+
+    fn show_names_alone(&self) {
+        // What a field holds is known once it is read.
+        let _calls = &self.calls;
     }
 }
 

@@ -1,6 +1,6 @@
 //! The parts of a captured value, in a flat list.
 
-ghost use Rattle.std.specs.Prelude.{◌≡◌, ◌-◌, true, false, [], not, length, slice_get, if◌then◌else◌};
+ghost use Rattle.std.specs.Prelude.{◌≡◌, ◌-◌, true, false, [], not, length, slice_get, IfOk, IfErr, if◌then◌else◌};
 ghost use Rattle.sval_label.specs.Calls as calls;
 ghost use Rattle.sval_label.specs.Made.{lent_call};
 ghost use Rattle.sval_label.specs.Grouped.{int_call};
@@ -12,10 +12,12 @@ ghost use Rattle.sval_buffer.specs.Forest as forest;
 ghost use Rattle.sval_buffer.specs.Forest.{Becomes, add, with_flag, begun, push_into_text, push_into_binary, close_newest, text_may_grow, binary_may_grow, may_grow, empty_forest};
 ghost use Rattle.sval_buffer.specs.FlatForest.{forest_in};
 ghost use Rattle.sval_buffer.specs.Capture.{CapturesBy};
+ghost use Rattle.sval_buffer.specs.Owned.{owned};
 ghost use Rattle.sval_buffer.specs.SeenNames.{named_call, IsBegin, HasName};
 ghost use Rattle.sval_buffer.specs.SeenParts.{single_call, begin_call, no_fragments, fragment_bytes};
 
 use crate::binary_buf::BinaryBuf;
+use crate::copies::{copied_parts, owned_parts};
 use crate::error::{ErrorKind, Word};
 use crate::holder::Holder;
 use crate::kept_int::KeptInt;
@@ -23,7 +25,7 @@ use crate::named::{CallStore, NamedKind};
 use crate::one_pass::replay_parts;
 use crate::part::{Begin, Medium, Part, PartKind, Single};
 use crate::text_buf::TextBuf;
-use std::alloc::Global;
+use std::alloc::{AllocError, Global};
 use std::marker::Model;
 use sval_core::{Call, Fragment, GroupedCall, Int, Lent, Name, Stream, Tag};
 
@@ -297,6 +299,39 @@ impl<'sval, N: CallStore + 'sval> Parts<'sval, N> {
             return stream.null();
         }
         replay_parts(self.parts.as_slice(), &self.named, stream)
+    }
+
+    /// A copy, which borrows what these parts borrow.
+    pub(crate) fn try_clone(&self) -> Result<Self, AllocError>
+        ensures { IfOk result (λ copy. copy ≡ self.now) }
+    {
+        let alloc = *self.parts.allocator();
+        let parts = copied_parts(alloc, self.parts.as_slice())?;
+        let named = self.named.try_clone(alloc)?;
+        let places = Vec::from_slice(alloc, self.places.as_slice())?;
+        Ok(Parts {
+            parts,
+            named,
+            places,
+            in_fragments: self.in_fragments,
+        })
+    }
+
+    /// The parts with no text or binary borrowed. Without memory for that they are handed back as they are.
+    pub(crate) fn into_owned<'o>(self) -> Result<Parts<'o, N>, Self>
+        ensures ok { IfOk result (λ parts. forest_in parts ≡ owned (forest_in self.entry)) }
+        ensures err { IfErr result (λ parts. parts ≡ self.entry) }
+    {
+        self.named.show_names_alone();
+        match owned_parts(*self.parts.allocator(), self.parts.as_slice()) {
+            Ok(parts) => Ok(Parts {
+                parts,
+                named: self.named,
+                places: self.places,
+                in_fragments: self.in_fragments,
+            }),
+            Err(_) => Err(self),
+        }
     }
 
     /// Takes a call.

@@ -1,20 +1,25 @@
 //! Captured values.
 
-ghost use Rattle.std.specs.Prelude.{◌≡◌, ◌≤◌, false, Some, IfOk, IfErr};
+ghost use Rattle.std.specs.Prelude.{◌≡◌, ◌≤◌, false, Some, map, IfOk, IfErr};
 ghost use Rattle.sval_label.specs.Made.{lent_call};
 ghost use Rattle.sval_core.specs.Trees.{Tree};
 ghost use Rattle.sval_core.specs.Spells.{Spells};
-ghost use Rattle.sval_core.specs.Law.{Answers};
+ghost use Rattle.sval_core.specs.Law.{Answers, computed};
 ghost use Rattle.sval_buffer.specs.Forest as forest;
-ghost use Rattle.sval_buffer.specs.Capture.{Capture, no_calls, wants_after, capture_law};
+ghost use Rattle.sval_buffer.specs.Capture.{Capture, IsNoAlloc, no_calls, wants_after, capture_law};
+ghost use Rattle.sval_buffer.specs.Owned.{owned};
+ghost use Rattle.sval_buffer.specs.FlatForest.{forest_in};
 ghost use Rattle.sval_core.specs.Values.{makes};
 ghost use Rattle.sval_buffer.specs.SeenBuffers.{capture_of, buffer_standing};
 ghost use Rattle.sval_buffer.specs.CapturedValues.{IsCaptured, KeepsTree, IsCollectCause, IsOkOrNoAlloc, cause_by};
 
+use crate::any_value::AnyValue;
 use crate::error::{Error, ErrorKind, Word};
 use crate::named::{CallStore, NamedCalls};
 use crate::parts::Parts;
+use crate::refused::{Refused, no_memory};
 use std::alloc::Global;
+use std::fmt;
 use sval_core::{Call, Lent, Stream, Value};
 use sval_ref::ValueRef;
 
@@ -124,6 +129,66 @@ impl<'sval, N: CallStore + 'sval> AnyValueBuf<'sval, N> {
         }
     }
 
+    /// A value that makes the calls of this buffer: a copy of its parts.
+    ///
+    /// [`ErrorKind::NoAlloc`] comes where memory was wanting.
+    pub fn to_value(&self) -> Result<AnyValue<'sval, N>, Error>
+        ensures ok { IfOk result (λ value. forest_in value ≡ (capture_of self.now).forest) }
+        ensures err { IfErr result IsNoAlloc }
+    {
+        match self.parts.try_clone() {
+            Ok(parts) => Ok(AnyValue::new(parts)),
+            Err(_) => Err(no_memory()),
+        }
+    }
+
+    /// A value that makes the calls of this buffer, of its parts. It takes no memory.
+    pub fn into_value(self) -> AnyValue<'sval, N>
+        ensures { forest_in result ≡ (capture_of self.entry).forest }
+    {
+        AnyValue::new(self.parts)
+    }
+
+    /// The same buffer for every lifetime: it holds a copy of each text and binary, and borrows none, not even an empty
+    /// one. So its replay makes the same calls, each with a computed fragment in place of a borrowed one.
+    ///
+    /// Containers without an end stay so, and so does the last refusal. [`ErrorKind::NoAlloc`] comes where memory was
+    /// wanting, and then the buffer is handed back as it was.
+    ///
+    /// ```
+    /// let owned = ValueBuf::collect(alloc, &value)?.into_owned().map_err(|refused| refused.error)?;
+    /// stream.value(&owned)?;
+    /// ```
+    #[tactic(auto, using(crate::proofs::OwnedForest::replay_computed))]
+    pub fn into_owned<'o>(self) -> Result<AnyValueBuf<'o, N>, Refused<Self>>
+    where
+        N: 'o,
+        ensures ok { let was = capture_of self.entry in
+            IfOk result (λ buffer. capture_of buffer ≡ record was { forest = owned was.forest }) }
+        ensures replay { let calls = forest.replayed (capture_of self.entry).forest in
+            IfOk result (λ buffer. forest.replayed (capture_of buffer).forest ≡ map computed calls) }
+        ensures no_alloc { IfErr result (λ refused. IsNoAlloc refused.error) }
+        ensures handed_back { IfErr result (λ refused. capture_of refused.value ≡ capture_of self.entry) }
+    {
+        match self.parts.into_owned() {
+            Ok(parts) => Ok(AnyValueBuf {
+                parts,
+                refusal: self.refusal,
+                wants: self.wants,
+                alloc: self.alloc,
+            }),
+            Err(parts) => Err(Refused {
+                value: AnyValueBuf {
+                    parts,
+                    refusal: self.refusal,
+                    wants: self.wants,
+                    alloc: self.alloc,
+                },
+                error: no_memory(),
+            }),
+        }
+    }
+
     /// There is a part, each container has its end, and no text or binary has begun without one of either ending since.
     pub fn is_complete(&self) -> bool
         ensures { result ≡ forest.is_complete (capture_of self.now).forest }
@@ -206,5 +271,12 @@ impl<'sval, N: CallStore + 'sval> ValueRef<Lent<'sval>> for AnyValueBuf<'sval, N
 
     fn stream_ref<S: Stream<Lent<'sval>>>(&self, stream: &mut S) -> sval_core::Result {
         self.parts.replay(stream)
+    }
+}
+
+/// Lists the calls that it makes.
+impl<'sval, N: CallStore + 'sval> fmt::Debug for AnyValueBuf<'sval, N> {
+    fn fmt<W: fmt::Write>(&self, f: &mut fmt::Formatter<W>) -> fmt::Result {
+        fmt::Debug::fmt(&self.parts, f)
     }
 }

@@ -1,0 +1,135 @@
+//! Captured values that take no more calls.
+
+ghost use Rattle.std.specs.Prelude.{◌≡◌, false, map, IfOk, IfErr};
+ghost use Rattle.sval_core.specs.Trees.{Tree};
+ghost use Rattle.sval_core.specs.Spells.{Spells};
+ghost use Rattle.sval_core.specs.Law.{computed};
+ghost use Rattle.sval_core.specs.Values.{makes};
+ghost use Rattle.sval_buffer.specs.Forest.{replayed};
+ghost use Rattle.sval_buffer.specs.FlatForest.{forest_in};
+ghost use Rattle.sval_buffer.specs.Capture.{IsNoAlloc};
+ghost use Rattle.sval_buffer.specs.Owned.{owned};
+ghost use Rattle.sval_buffer.specs.CapturedValues.{IsTaken, KeepsTree, IsCollectCause, IsOkOrNoAlloc};
+
+use crate::error::Error;
+use crate::named::{CallStore, NamedCalls};
+use crate::parts::Parts;
+use crate::refused::{Refused, no_memory};
+use crate::value_buf::AnyValueBuf;
+use std::alloc::Global;
+use std::fmt;
+use std::marker::Model;
+use sval_core::{Lent, Stream};
+use sval_ref::ValueRef;
+
+/// A captured value that takes no more calls, and makes those that it holds.
+///
+/// A [`ValueBuf`](crate::ValueBuf) makes one of its parts, or of a copy of them.
+///
+/// ```
+/// let value = Value::collect(alloc, &point)?;
+/// stream.value(&value)?;
+/// ```
+pub type Value<'sval> = AnyValue<'sval, NamedCalls>;
+
+/// A captured value, for any store `N` of the calls with names. Most code says [`Value`].
+#[derive(Drop)]
+pub struct AnyValue<'sval, N: CallStore + 'sval> {
+    parts: Parts<'sval, N>,
+}
+
+impl<'sval, N: CallStore + 'sval> Model for AnyValue<'sval, N> {
+    ghost use Rattle.sval_buffer.specs.FlatForest.{FlatForest};
+
+    ghost Value = { FlatForest };
+
+    ghost view = { λ value. value.parts };
+}
+
+impl<'sval, N: CallStore + 'sval> AnyValue<'sval, N> {
+    /// A value of these parts.
+    pub(crate) fn new(parts: Parts<'sval, N>) -> Self
+        ensures { result ≡ parts.entry }
+    {
+        AnyValue { parts }
+    }
+
+    /// Captures a value. It answers as [`ValueBuf::collect`](crate::ValueBuf::collect) does.
+    pub fn collect<V: sval_core::Value<'sval, Lent<'sval>>>(
+        alloc: Global,
+        v: &'sval V,
+    ) -> Result<Self, Error>
+        ensures ok { IfOk result (λ value. IsTaken (V.emission v.now) (forest_in value)) }
+        ensures err { IfErr result (λ why. IsCollectCause (V.emission v.now) why) }
+        ensures keeps_the_tree { IfOk result (λ value. KeepsTree (V.emission v.now) (forest_in value)) }
+        ensures complete { let e = V.emission v.now in
+            (tree : Tree) → e.refuses ≡ false → Spells e.calls tree → IsOkOrNoAlloc result }
+    {
+        let collected: Result<AnyValueBuf<'sval, N>, Error> = AnyValueBuf::collect(alloc, v);
+        match collected {
+            Ok(buffer) => Ok(buffer.into_value()),
+            Err(error) => Err(error),
+        }
+    }
+
+    /// A copy, which makes the same calls.
+    ///
+    /// [`ErrorKind::NoAlloc`](crate::ErrorKind::NoAlloc) comes where memory was wanting.
+    pub fn try_clone(&self) -> Result<Self, Error>
+        ensures ok { IfOk result (λ copy. copy ≡ self.now) }
+        ensures err { IfErr result IsNoAlloc }
+    {
+        match self.parts.try_clone() {
+            Ok(parts) => Ok(AnyValue::new(parts)),
+            Err(_) => Err(no_memory()),
+        }
+    }
+
+    /// The same value for every lifetime: it holds a copy of each text and binary, and borrows none, not even an empty
+    /// one. So it makes the same calls, each with a computed fragment in place of a borrowed one.
+    ///
+    /// [`ErrorKind::NoAlloc`](crate::ErrorKind::NoAlloc) comes where memory was wanting, and then the value is handed
+    /// back as it was.
+    #[tactic(auto, using(crate::proofs::OwnedForest::replay_computed))]
+    pub fn into_owned<'o>(self) -> Result<AnyValue<'o, N>, Refused<Self>>
+    where
+        N: 'o,
+        ensures ok { IfOk result (λ value. forest_in value ≡ owned (forest_in self.entry)) }
+        ensures replay { let calls = replayed (forest_in self.entry) in
+            IfOk result (λ value. replayed (forest_in value) ≡ map computed calls) }
+        ensures no_alloc { IfErr result (λ refused. IsNoAlloc refused.error) }
+        ensures handed_back { IfErr result (λ refused. refused.value ≡ self.entry) }
+    {
+        match self.parts.into_owned() {
+            Ok(parts) => Ok(AnyValue::new(parts)),
+            Err(parts) => Err(Refused {
+                value: AnyValue::new(parts),
+                error: no_memory(),
+            }),
+        }
+    }
+}
+
+impl<'v, 'sval, N: CallStore + 'sval> sval_core::Value<'v, Lent<'v>> for AnyValue<'sval, N> {
+    ghost emission = { λ value. makes (replayed (forest_in value)) };
+
+    fn stream<S: Stream<Lent<'v>>>(&'v self, stream: &mut S) -> sval_core::Result {
+        let shorter: &'v AnyValue<'v, N> = self;
+        shorter.parts.replay(stream)
+    }
+}
+
+impl<'sval, N: CallStore + 'sval> ValueRef<Lent<'sval>> for AnyValue<'sval, N> {
+    ghost ref_emission = { λ value. makes (replayed (forest_in value)) };
+
+    fn stream_ref<S: Stream<Lent<'sval>>>(&self, stream: &mut S) -> sval_core::Result {
+        self.parts.replay(stream)
+    }
+}
+
+/// Lists the calls that it makes.
+impl<'sval, N: CallStore + 'sval> fmt::Debug for AnyValue<'sval, N> {
+    fn fmt<W: fmt::Write>(&self, f: &mut fmt::Formatter<W>) -> fmt::Result {
+        fmt::Debug::fmt(&self.parts, f)
+    }
+}

@@ -1,0 +1,23 @@
+//! What a call that takes a value hands back where it is refused.
+
+ghost use Rattle.sval_buffer.specs.Capture.{IsNoAlloc};
+
+use crate::error::{Error, ErrorKind, Word};
+
+/// A value that a call took and hands back, and why.
+#[derive(Debug, Drop)]
+pub struct Refused<T> {
+    /// The value, as it was.
+    pub value: T,
+    /// Why the call was refused.
+    pub error: Error,
+}
+
+/// Says that there was no memory for the parts of a value.
+pub(crate) fn no_memory() -> Error
+    ensures { IsNoAlloc result }
+{
+    Error::new(ErrorKind::NoAlloc {
+        method: Word::Sequence,
+    })
+}
