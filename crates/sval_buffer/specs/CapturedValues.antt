@@ -1,5 +1,5 @@
 -- What capturing a value answers.
-use Rattle.std.specs.Prelude.{◌≡◌, ℕ, true, false, List, [], ◌∷◌, ◌++◌, Option, Some, None, Result, Ok, Err, ⊤}
+use Rattle.std.specs.Prelude.{◌≡◌, ◌⊎◌, ℕ, true, false, List, [], ◌∷◌, ◌++◌, Option, Some, None, Result, Ok, Err, ⊤}
 use Rattle.sval_label.specs.Calls.{Call}
 use Rattle.sval_core.specs.Trees.{Tree}
 use Rattle.sval_core.specs.Spells.{Spells}
@@ -9,6 +9,7 @@ use Rattle.sval_buffer.specs.declared.error.Word.TheVariants as word
 use Rattle.sval_buffer.specs.declared.error.ErrorKind.{ErrorKind}
 use Rattle.sval_buffer.specs.declared.error.ErrorKind.TheVariants as error
 use Rattle.sval_buffer.specs.Capture.{Capture, IsNoAlloc, IsAccepted}
+use Rattle.sval_buffer.specs.Owned.{owned}
 
 -- all calls were taken, and none was refused; and the value doesn't refuse
 pub record IsCaptured (e : Emission) (buffer : Capture) : Type 0 where
@@ -66,3 +67,24 @@ IsOkOrNoAlloc (Err why) = IsNoAlloc why
 abbrev pub cause_by : Option ErrorKind → ErrorKind
 cause_by (Some why) = why
 cause_by None = error.InvalidValue word.FailedToStream
+
+-- The value doesn't refuse, and its calls were taken, whose texts and binaries are then copies of the buffer's own, not even an empty one of
+-- which is borrowed.
+pub record IsCapturedOwned (e : Emission) (buffer : Capture) : Type 0 where
+  pub willing : e.refuses ≡ false
+  pub held : Forest
+  pub taken : forest e.calls ≡ Holds held
+  pub copies : buffer.forest ≡ owned held
+  pub no_refusal : buffer.refusal ≡ None
+  pub wants : buffer.wants ≡ 0
+
+-- the same of a value that takes no more calls
+pub record IsTakenOwned (e : Emission) (f : Forest) : Type 0 where
+  pub willing : e.refuses ≡ false
+  pub held : Forest
+  pub taken : forest e.calls ≡ Holds held
+  pub copies : f ≡ owned held
+
+-- capturing has this cause, or memory was wanting for the copies
+abbrev pub IsOwnedCause : Emission → ErrorKind → Type 0
+IsOwnedCause e why = IsCollectCause e why ⊎ IsNoAlloc why

@@ -9,7 +9,7 @@ ghost use Rattle.sval_buffer.specs.Forest.{replayed};
 ghost use Rattle.sval_buffer.specs.FlatForest.{forest_in};
 ghost use Rattle.sval_buffer.specs.Capture.{IsNoAlloc};
 ghost use Rattle.sval_buffer.specs.Owned.{owned};
-ghost use Rattle.sval_buffer.specs.CapturedValues.{IsTaken, KeepsTree, IsCollectCause, IsOkOrNoAlloc};
+ghost use Rattle.sval_buffer.specs.CapturedValues.{IsTaken, IsTakenOwned, IsOwnedCause, KeepsTree, IsCollectCause, IsOkOrNoAlloc};
 
 use crate::error::Error;
 use crate::named::{CallStore, NamedCalls};
@@ -66,6 +66,27 @@ impl<'sval, N: CallStore + 'sval> AnyValue<'sval, N> {
             (tree : Tree) → e.refuses ≡ false → Spells e.calls tree → IsOkOrNoAlloc result }
     {
         let collected: Result<AnyValueBuf<'sval, N>, Error> = AnyValueBuf::collect(alloc, v);
+        match collected {
+            Ok(buffer) => Ok(buffer.into_value()),
+            Err(error) => Err(error),
+        }
+    }
+
+    /// Captures a value by copies of its texts and binaries. It answers as
+    /// [`ValueBuf::collect_owned`](crate::ValueBuf::collect_owned) does.
+    pub fn collect_owned<'o, V: sval_core::Value<'sval, Lent<'sval>>>(
+        alloc: Global,
+        v: &'sval V,
+    ) -> Result<AnyValue<'o, N>, Error>
+    where
+        N: 'o,
+        ensures ok { IfOk result (λ value. IsTakenOwned (V.emission v.now) (forest_in value)) }
+        ensures err { IfErr result (λ why. IsOwnedCause (V.emission v.now) why) }
+        ensures keeps_the_tree { IfOk result (λ value. KeepsTree (V.emission v.now) (forest_in value)) }
+        ensures complete { let e = V.emission v.now in
+            (tree : Tree) → e.refuses ≡ false → Spells e.calls tree → IsOkOrNoAlloc result }
+    {
+        let collected: Result<AnyValueBuf<'o, N>, Error> = AnyValueBuf::collect_owned(alloc, v);
         match collected {
             Ok(buffer) => Ok(buffer.into_value()),
             Err(error) => Err(error),

@@ -38,6 +38,6 @@ pub use binary_buf::BinaryBuf;
 pub use error::{Error, ErrorKind, Word};
 pub use named::{CallStore, NamedCalls};
 pub use refused::Refused;
-pub use streamed::stream_to_value;
+pub use streamed::{stream_to_value, stream_to_value_owned};
 pub use text_buf::TextBuf;
 pub use value_buf::{AnyValueBuf, ValueBuf};

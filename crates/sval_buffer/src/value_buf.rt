@@ -11,7 +11,7 @@ ghost use Rattle.sval_buffer.specs.Owned.{owned};
 ghost use Rattle.sval_buffer.specs.FlatForest.{forest_in};
 ghost use Rattle.sval_core.specs.Values.{makes};
 ghost use Rattle.sval_buffer.specs.SeenBuffers.{capture_of, buffer_standing};
-ghost use Rattle.sval_buffer.specs.CapturedValues.{IsCaptured, KeepsTree, IsCollectCause, IsOkOrNoAlloc, cause_by};
+ghost use Rattle.sval_buffer.specs.CapturedValues.{IsCaptured, IsCapturedOwned, IsOwnedCause, KeepsTree, IsCollectCause, IsOkOrNoAlloc, cause_by};
 
 use crate::any_value::AnyValue;
 use crate::error::{Error, ErrorKind, Word};
@@ -186,6 +186,37 @@ impl<'sval, N: CallStore + 'sval> AnyValueBuf<'sval, N> {
                 },
                 error: no_memory(),
             }),
+        }
+    }
+
+    /// Captures a value by copies of its texts and binaries, so that the buffer borrows nothing and is for every lifetime.
+    ///
+    /// It holds what [`collect`](AnyValueBuf::collect) and then [`into_owned`](AnyValueBuf::into_owned) hold, and answers
+    /// the errors of both.
+    ///
+    /// ```
+    /// let event: ValueBuf<'_> = ValueBuf::collect_owned(alloc, &value)?;
+    /// stream.value(&event)?;
+    /// ```
+    pub fn collect_owned<'o, V: Value<'sval, Lent<'sval>>>(
+        alloc: Global,
+        v: &'sval V,
+    ) -> Result<AnyValueBuf<'o, N>, Error>
+    where
+        N: 'o,
+        ensures ok { IfOk result (λ buffer. IsCapturedOwned (V.emission v.now) (capture_of buffer)) }
+        ensures err { IfErr result (λ why. IsOwnedCause (V.emission v.now) why) }
+        ensures keeps_the_tree { IfOk result (λ buffer. KeepsTree (V.emission v.now) (capture_of buffer).forest) }
+        ensures complete { let e = V.emission v.now in
+            (tree : Tree) → e.refuses ≡ false → Spells e.calls tree → IsOkOrNoAlloc result }
+    {
+        let collected: Result<AnyValueBuf<'sval, N>, Error> = AnyValueBuf::collect(alloc, v);
+        match collected {
+            Ok(buffer) => match buffer.into_owned() {
+                Ok(owned) => Ok(owned),
+                Err(refused) => Err(refused.error),
+            },
+            Err(error) => Err(error),
         }
     }
 
