@@ -1,8 +1,8 @@
 //! The one crate that most users need: values, streams, and values in other forms.
 //!
-//! Here are the names of `sval_core` and `sval_lower` again, and values that stand for others: bytes as binaries, pairs as
-//! maps, and printed texts as texts and as numbers. [`Render`] is for what prints itself as a text, and [`Display`] makes
-//! a value of it.
+//! Here are the names of `sval_core` and `sval_lower` again, and values that stand for others: bytes as binaries,
+//! pairs as maps, and printed texts as texts and as numbers. [`Render`] is for what prints itself as a text, and
+//! [`Display`] makes a value of it.
 #![tactic(auto)]
 
 mod binary_array;

@@ -11,6 +11,11 @@ use sval_core::{Lent, Result, Stream, Value};
 /// Pairs as a map, in their order. Nothing looks whether keys stand twice.
 ///
 /// A slice of pairs by itself is a sequence of tuples.
+///
+/// ```
+/// let map = MapSlice::new(&[("a", 1u8), ("b", 2)]);
+/// assert_eq!(rt; map.as_slice().len(), 2);
+/// ```
 #[derive(Clone, Copy, Debug)]
 pub struct MapSlice<'a, K, V> {
     map: &'a [(K, V)],

@@ -152,9 +152,13 @@ fn stream_number_text<L: Lending, S: Stream<L>>(stream: &mut S, text: &str) -> s
 ///
 /// # Errors
 ///
-/// [`DisplayError::Format`] only for a value that can't be printed; [`DisplayError::NoMemory`]; after both the stream is
-/// as it was. [`DisplayError::Refused`] only where the stream refused one of the calls, and then it has taken those before
-/// that one.
+/// [`DisplayError::Format`] only for a value that can't be printed; [`DisplayError::NoMemory`]; after both the stream
+/// is as it was. [`DisplayError::Refused`] only where the stream refused one of the calls, and then it has taken those
+/// before that one.
+///
+/// ```
+/// stream_display(alloc, &mut stream, &42u8)?; // text_begin(None), text_fragment_computed("42"), text_end
+/// ```
 pub fn stream_display<L: Lending, S: Stream<L>, V: Render>(
     alloc: Global,
     stream: &mut S,

@@ -11,8 +11,8 @@ use sval_core::{Lending, Lent, Result, Stream, Value};
 /// It refuses where the value refuses by itself, after all its calls, or at the first call that the stream refuses.
 ///
 /// ```
-/// let mut tokens = TokenBuf::new(alloc);
-/// stream(&mut tokens, &42u64)?;
+/// let mut buffer = ValueBuf::new(alloc);
+/// stream(&mut buffer, &42u64)?;
 /// ```
 pub fn stream<'v, L: Lending, S: Stream<L>, V: Value<'v, L>>(stream: &mut S, value: &'v V) -> Result
     ensures { Emits S.law result (S.standing stream.old) (V.emission value.now) (S.standing stream.new) }
