@@ -1,7 +1,7 @@
 -- What was written of a script that was checked, as what serving it answers.
 use Rattle.std.specs.Prelude.{◌≡◌, ℕ, ◌+◌, ◌<◌, ◌≤◌, ◌^◌, Bool, true, false, List, [], ◌∷◌, length, map, Result, refl}
 use Rattle.std.proofs.Common.{sym, ap, ◌∙◌, subst, arith, inr}
-use Rattle.std.proofs.lemmas.List.{length-append}
+use Rattle.std.proofs.lemmas.List.{length-append, length-map}
 use Rattle.sval_label.specs.Calls.{Call}
 use Rattle.sval_core.specs.Law.{Rose}
 use Rattle.sval_core.specs.Many.{SpellsAll, EndAfter}
@@ -70,6 +70,18 @@ found_trees calls ends few of found =
         end_there = subst (EndAfter 0 calls found.trees) (sym same) found.end_there;
       },
     )
+
+-- who has an end has a call
+some_call : (past : ℕ) (calls : List Call) (trees : List Tree) (ends : List ℕ) → EndAfter past calls trees ends → 0 < length ends → 0 < length calls
+some_call past calls [] ends (none, e) some = absurd (omega (arith, some, ap length e))
+some_call past calls (tree ∷ trees) ends (front, last, more, others, is, counts, spells, e, there) some =
+    let all : length calls ≡ length front + (length more + 1) = ap length is ∙ length-append front (last ∷ more) ∙ omega arith in
+    omega (arith, all)
+
+-- calls in which some value ends are some
+pub some_of_ends : (calls : List Call) (ends : List ℕ) → AreValues (makes calls) ends → 0 < length ends → 0 < length calls
+some_of_ends calls ends found some =
+    some_call 0 calls found.trees found.ends found.end_there (omega (arith, some, ap length found.are_kept, length-map found.ends as_kept))
 
 want_among_many : {K : Type 0} (captured : Bool) (told : K → Told) (old new : K) → IsWantAmong captured told old new → IsWantFor captured true told old new
 want_among_many false told old new want = inr want

@@ -1,6 +1,6 @@
 //! What is written of values one after another.
 
-ghost use Rattle.std.specs.Prelude.{◌≡◌, ◌∷◌, [], true, List};
+ghost use Rattle.std.specs.Prelude.{◌≡◌, ◌<◌, ◌∷◌, [], true, List, length};
 ghost use Rattle.sval_core.specs.Real.{IsPrintable};
 ghost use Rattle.sval_core.specs.Spells.{Spells};
 ghost use Rattle.sval_core.specs.Trees.{Tree};
@@ -50,8 +50,9 @@ pub(crate) fn write_list<K: Sink>(
     out: &mut K,
 ) -> Result<(), RelayError>
     requires { (trees : List Tree) × AreTrees lines ends.now trees }
-    ensures { (trees : List Tree) → AreTrees lines.entry ends.now trees
+    ensures writes { (trees : List Tree) → AreTrees lines.entry ends.now trees
         → WritesListIn way result K.told trees out.old out.new }
+    ensures some_end { result ≡ Err RelayError.NoMemory → 0 < length ends.now }
 {
     let mut rest = lines;
     let mut from = 0;

@@ -113,18 +113,18 @@ pub fn relay<K: Sink>(alloc: Global, script: &[u8], way: Way, out: &mut K) -> Re
 ///
 /// # Errors
 ///
-/// Those of [`relay`], for the same causes in the list of values, but that no clause rules [`RelayError::NoMemory`] out
-/// for an empty script. [`RelayError::InvalidKey`] and [`RelayError::InvalidNumber`] are those of the first value that
-/// has no JSON; the sink took all before it, and exactly what is written of it up to there. After
-/// [`RelayError::NoMemory`] in a way that captures, a first part of what is due may have been taken, and no count of the
-/// sink moved, unless its count of wants rose.
+/// Those of [`relay`], for the same causes in the list of values. [`RelayError::InvalidKey`] and
+/// [`RelayError::InvalidNumber`] are those of the first value that has no JSON; the sink took all before it, and exactly
+/// what is written of it up to there. After [`RelayError::NoMemory`] in a way that captures, a first part of what is due
+/// may have been taken, and no count of the sink moved, unless its count of wants rose.
 pub fn relay_lines<K: Sink>(
     alloc: Global,
     script: &[u8],
     way: Way,
     out: &mut K,
 ) -> Result<(), RelayError>
-    ensures { Relays K.told script.now (all_in way) result out.old out.new }
+    ensures relays { Relays K.told script.now (all_in way) result out.old out.new }
+    ensures some_line { result ≡ Err RelayError.NoMemory → 0 < length script.now }
 {
     // So its length is known to fit.
     let _length = script.len();
@@ -183,8 +183,9 @@ fn serve_list<K: Sink>(
 ) -> Result<(), RelayError>
     requires few { length script.now < 2 ^ 64 }
     requires read { IsOfScript script.now }
-    ensures { (bytes : List ℕ) → length bytes < 2 ^ 64 → lines bytes ≡ Good script.now
+    ensures relays { (bytes : List ℕ) → length bytes < 2 ^ 64 → lines bytes ≡ Good script.now
         → Relays K.told bytes (all_in way) result out.old out.new }
+    ensures some_call { result ≡ Err RelayError.NoMemory → 0 < length script.now }
 {
     match check_all(alloc, script) {
         Ok(ends) => write_list(alloc, script.as_slice(), &ends, way, out),

@@ -27,8 +27,8 @@ write_item-requires g c =
     let next = next_at c.args.ends.now c.loop-to.to-index within (c.loop-to.invariant c.requires.0 c.requires.1) in
     (next.tree, rw (c.in-Some.tree-is, c.in-Some.ensures.first, c.as_slice-to-items.ensures) next.spells, next.printable)
 
-pub returns-in_err-write_item : goal.returns-in_err-write_item
-returns-in_err-write_item g c = λ trees are.
+pub returns-in_err-write_item-clause-writes : goal.returns-in_err-write_item-clause-writes
+returns-in_err-write_item-clause-writes g c = λ trees are.
     let e = err_from_is_err_and c.from_residual.result c.from_residual.ensures.1 in
     let within : c.loop-to.to-index < length c.args.ends.now = rw (← c.as_slice-to-items.ensures) c.loop-to-test.true in
     let next = next_at c.args.ends.now c.loop-to.to-index within (c.loop-to.invariant trees are) in
@@ -42,7 +42,12 @@ loop-to-preserved g c = λ trees are.
     let item = c.in_ok-write_item.ensures next.tree (rw (c.in-Some.tree-is, c.in-Some.ensures.first, c.as_slice-to-items.ensures) next.spells) next.printable in
     rw (c.in-Some.behind-is, c.in-Some.ensures.behind, c.as_slice-to-items.ensures) (served_next next item)
 
-pub returns : goal.returns
-returns g c = λ trees are.
+pub returns-in_err-write_item-clause-some_end : goal.returns-in_err-write_item-clause-some_end
+returns-in_err-write_item-clause-some_end g c = λ e.
+    let within : c.loop-to.to-index < length c.args.ends.now = rw (← c.as_slice-to-items.ensures) c.loop-to-test.true in
+    omega (arith, within)
+
+pub returns-clause-writes : goal.returns-clause-writes
+returns-clause-writes g c = λ trees are.
     let past : length c.args.ends.now ≤ c.loop-to.to-index = omega (arith, c.loop-to-test.false, ap length c.as_slice-to-items.ensures) in
     served_to_end c.args.ends.now c.loop-to.to-index past (c.loop-to.invariant trees are)

@@ -3,7 +3,7 @@ use Rattle.sval_relay.specs.declared.relaying.RelayError.TheVariants as answer
 use Rattle.sval_relay.specs.Verdict.{all_in}
 use Rattle.sval_relay.specs.WrittenTrees.{AreTrees}
 use Rattle.sval_relay.proofs.RelayAnswers.{first_bad_of_list, list_not_finished, relays_refused}
-use Rattle.sval_relay.proofs.Served.{found_trees, serves_many}
+use Rattle.sval_relay.proofs.Served.{found_trees, some_of_ends, serves_many}
 use Rattle.sval_relay.proofs.relaying.serve_list.Goals as goal
 
 pub write_list-requires : goal.write_list-requires
@@ -11,18 +11,21 @@ write_list-requires g c =
     let (trees, are) = found_trees c.args.script.now c.in-Ok.ends c.requires.few c.requires.read c.in-Ok.ensures.ok in
     (trees, rw c.as_slice.ensures are)
 
-pub returns-in-Ok : goal.returns-in-Ok
-returns-in-Ok g c = λ bytes small is.
+pub returns-in-Ok-clause-relays : goal.returns-in-Ok-clause-relays
+returns-in-Ok-clause-relays g c = λ bytes small is.
     let (trees, are) = found_trees c.args.script.now c.in-Ok.ends c.requires.few c.requires.read c.in-Ok.ensures.ok in
-    serves_many g.K.Sink.told bytes c.args.way c.args.script.now c.in-Ok.ends trees c.args.out.now c.write_list.new.out c.write_list.result is are (c.write_list.ensures trees (rw c.as_slice.ensures are))
+    serves_many g.K.Sink.told bytes c.args.way c.args.script.now c.in-Ok.ends trees c.args.out.now c.write_list.new.out c.write_list.result is are (c.write_list.ensures.writes trees (rw c.as_slice.ensures are))
 
-pub returns-in-Err-BadCall : goal.returns-in-Err-BadCall
-returns-in-Err-BadCall g c = λ bytes small is.
+pub returns-in-Ok-clause-some_call : goal.returns-in-Ok-clause-some_call
+returns-in-Ok-clause-some_call g c = λ e. some_of_ends c.args.script.now c.in-Ok.ends c.in-Ok.ensures.ok (c.write_list.ensures.some_end e)
+
+pub returns-in-Err-BadCall-clause-relays : goal.returns-in-Err-BadCall-clause-relays
+returns-in-Err-BadCall-clause-relays g c = λ bytes small is.
     let bad = c.in-Err-BadCall.ensures.bad_call c.in-Err-BadCall.at (ap Err c.in-Err-BadCall.field-0-is) in
     let found = first_bad_of_list bytes c.args.way c.args.script.now c.in-Err-BadCall.at c.requires.few is bad in
     rw c.in-Err-BadCall.at-is (relays_refused g.K.Sink.told bytes (all_in c.args.way) c.args.out.now (answer.BadCall c.in-Err-BadCall.at) (found, refl))
 
-pub returns-in-Err-Unfinished : goal.returns-in-Err-Unfinished
-returns-in-Err-Unfinished g c = λ bytes small is.
+pub returns-in-Err-Unfinished-clause-relays : goal.returns-in-Err-Unfinished-clause-relays
+returns-in-Err-Unfinished-clause-relays g c = λ bytes small is.
     let found = list_not_finished bytes c.args.way (record { calls = c.args.script.now; refuses = _ }) is (c.in-Err-Unfinished.ensures.unfinished (ap Err c.in-Err-Unfinished.field-0-is)) in
     relays_refused g.K.Sink.told bytes (all_in c.args.way) c.args.out.now answer.Unfinished (found, refl)
