@@ -78,26 +78,42 @@ fn labelled<'c>(label: &'c Label<'c>) -> Name<'c> {
 
 #[test]
 fn collects_texts_with_names(rt: HostRuntime) -> Result<(), AllocError> {
-    let kind = Label::new("kind");
-    let width = Label::new_computed("width");
-    let none = Name {
-        tag: Some(&tags::RUST_OPTION_NONE),
-        ..labelled(&kind)
+    let name = Name {
+        tag: Some(&tags::CONSTANT_SIZE),
+        label: None,
+        index: None,
     };
     let parts = [
-        Call::TaggedBegin(labelled(&kind)),
+        Call::TaggedBegin(name),
         Call::TextBegin(None),
         Call::TextFragment("a"),
         Call::TextFragmentComputed("b"),
         Call::TextEnd,
-        Call::TaggedEnd(labelled(&kind)),
+        Call::TaggedEnd(name),
     ];
-    let own = [Call::Tag(labelled(&kind))];
-    let copied = [Call::Tag(labelled(&width))];
-    let null = [Call::Tag(none)];
     assert_eq!(rt; text_of(rt.alloc(), &parts)?.as_str(), "\"ab\" false");
+    Ok(())
+}
+
+#[test]
+fn collects_labels(rt: HostRuntime) -> Result<(), AllocError> {
+    let kind = Label::new("kind");
+    let own = [Call::Tag(labelled(&kind))];
     assert_eq!(rt; text_of(rt.alloc(), &own)?.as_str(), "\"kind\" true");
+    let width = Label::new_computed("width");
+    let copied = [Call::Tag(labelled(&width))];
     assert_eq!(rt; text_of(rt.alloc(), &copied)?.as_str(), "\"width\" false");
+    Ok(())
+}
+
+#[test]
+fn collects_no_text_of_none(rt: HostRuntime) -> Result<(), AllocError> {
+    let kind = Label::new("kind");
+    let none = Name {
+        tag: Some(&tags::RUST_OPTION_NONE),
+        ..labelled(&kind)
+    };
+    let null = [Call::Tag(none)];
     assert_eq!(rt;
         text_of(rt.alloc(), &null)?.as_str(),
         "unexpected null, expected text"
