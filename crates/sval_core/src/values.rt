@@ -2,10 +2,17 @@
 //!
 //! What each makes stands in `specs/Values.antt`, and which tree that spells in `specs/ValueTrees.antt`.
 
+/// References to fields, one before the others.
+macro_rules! fields {
+    () => { () };
+    ($first:expr $(, $others:expr)*) => { (&$first, fields!($($others),*)) };
+}
+
 mod arrays;
 mod collections;
 mod fields;
 mod leaves;
+mod long_tuples;
 mod maps;
 mod names;
 mod options;

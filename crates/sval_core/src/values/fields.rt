@@ -1,6 +1,6 @@
 //! The fields of tuples of any length.
 
-ghost use Rattle.std.specs.Prelude.{◌≡◌, ◌+◌, ◌^◌, ◌<◌, List, [], ◌∷◌, length, None};
+ghost use Rattle.std.specs.Prelude.{◌≡◌, ◌+◌, ◌^◌, ◌<◌, List, [], ◌∷◌, ◌++◌, length, None};
 ghost use Rattle.sval_label.specs.Calls.{PartBegin, PartEnd, Place};
 ghost use Rattle.sval_core.specs.Law.{Emission, Answers, Emits};
 ghost use Rattle.sval_core.specs.Names.{offset};
@@ -86,5 +86,39 @@ pub(crate) fn stream_tuple<'v, F: Fields<'v, Lent<'v>>, S: Stream<Lent<'v>>>(
 {
     stream.tuple_begin(None, None, None, Some(size))?;
     fields.stream_fields(stream, 0)?;
+    stream.tuple_end(None, None, None)
+}
+
+/// Streams the fields of a first half, which are eight, and those of a second.
+#[tactic(auto, using(crate::proofs::Places::of_halves))]
+fn stream_halves<'v, A: Fields<'v, Lent<'v>>, B: Fields<'v, Lent<'v>>, S: Stream<Lent<'v>>>(
+    stream: &mut S,
+    first: A,
+    second: B,
+) -> Result
+    requires eight { length (A.emissions first) ≡ 8 }
+    requires in_range { 8 + length (B.emissions second) < 2 ^ 64 }
+    ensures { Emits S.law result (S.standing stream.old)
+        (places_emission 0 (A.emissions first ++ B.emissions second)) (S.standing stream.new) }
+{
+    first.stream_fields(stream, 0)?;
+    second.stream_fields(stream, 8)
+}
+
+/// Streams so many fields, of which the first half are eight, as a tuple without a name.
+#[tactic(auto, using(crate::proofs::Between::of_between))]
+pub(crate) fn stream_long_tuple<
+    'v,
+    A: Fields<'v, Lent<'v>>,
+    B: Fields<'v, Lent<'v>>,
+    S: Stream<Lent<'v>>,
+>(stream: &mut S, size: usize, first: A, second: B) -> Result
+    requires eight { length (A.emissions first) ≡ 8 }
+    requires counted { length (A.emissions first ++ B.emissions second) ≡ size }
+    ensures { Emits S.law result (S.standing stream.old)
+        (tuple_emission (A.emissions first ++ B.emissions second)) (S.standing stream.new) }
+{
+    stream.tuple_begin(None, None, None, Some(size))?;
+    stream_halves(stream, first, second)?;
     stream.tuple_end(None, None, None)
 }

@@ -8,12 +8,6 @@ use crate::value::Value;
 use crate::values::fields::stream_tuple;
 use sval_label::{Lent, Result};
 
-/// References to fields, one before the others.
-macro_rules! fields {
-    () => { () };
-    ($first:expr $(, $others:expr)*) => { (&$first, fields!($($others),*)) };
-}
-
 impl<'v, A: Value<'v, Lent<'v>>> Value<'v, Lent<'v>> for (A,) {
     ghost emission = { λ tuple. tuple_emission (A.emission tuple.0 ∷ []) };
 
