@@ -1,4 +1,5 @@
 pub mod Pushes
+pub mod Displays
 pub mod Forest
 pub mod Flat
 pub mod Replay

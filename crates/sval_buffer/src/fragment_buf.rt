@@ -1,13 +1,18 @@
 //! Bytes that come in fragments.
 
-ghost use Rattle.std.specs.Prelude.{◌≡◌, true, false, [], IsOk, IfOk, ◌++◌, is_ok, if◌then◌else◌};
+ghost use Rattle.std.specs.Prelude.{◌≡◌, true, false, [], IsOk, OnOk, OnErr, IfOk, IfErr, ◌++◌, is_ok, if◌then◌else◌};
 ghost use Rattle.std.specs.Bool.{OnTrue};
+ghost use Rattle.std.specs.Str.{IsUtf8};
+ghost use Rattle.sval.specs.Shown.{SomePrinted};
 ghost use Rattle.sval_buffer.specs.Pushes.{pushed};
 ghost use Rattle.sval_buffer.specs.Forest.{no_bytes};
+ghost use Rattle.sval_buffer.specs.Displays.{IsRenderCause};
 ghost use Rattle.sval_buffer.specs.SeenParts.{fragment_bytes};
 
 use std::alloc::{AllocError, Global};
 use std::marker::Model;
+use std::mem;
+use sval::{Render, RenderError};
 use sval_core::Fragment;
 
 /// Where the bytes lie.
@@ -108,6 +113,28 @@ impl<'sval> FragmentBuf<'sval> {
         }
     }
 
+    /// Appends what a value prints to a copy of the bytes, or to the bytes where they are one. They are a text. An error
+    /// changes nothing.
+    pub(crate) fn push_display<D: Render>(&mut self, value: &D) -> Result<(), RenderError>
+        requires { IsUtf8 self.old.bytes }
+        ensures ok { OnOk result (SomePrinted (D.printed value.now) (λ text.
+            self.new ≡ pushed self.old (record { borrowed = false; bytes = text }))) }
+        ensures err { IfErr result (IsRenderCause (D.unprintable value.now)) }
+        ensures keeps { OnErr result (self.new ≡ self.old) }
+        ensures utf8 { IsUtf8 self.new.bytes }
+    {
+        match &mut self.held {
+            Held::Owned(bytes) => append_display(bytes, value),
+            Held::Borrowed(bytes) => match with_display(self.alloc, bytes, value) {
+                Ok(text) => {
+                    self.held = Held::Owned(text);
+                    Ok(())
+                }
+                Err(error) => Err(error),
+            },
+        }
+    }
+
     /// The bytes in one fragment, which is borrowed where they are.
     pub(crate) fn fragment(&self) -> Fragment<&'sval [u8], &[u8]>
         ensures { fragment_bytes result ≡ self.now }
@@ -137,4 +164,46 @@ fn joined(alloc: Global, first: &[u8], second: &[u8]) -> Result<Vec<u8>, AllocEr
     bytes.extend_from_slice(first)?;
     bytes.extend_from_slice(second)?;
     Ok(bytes)
+}
+
+/// A copy of a text, with what a value prints behind it.
+fn with_display<D: Render>(alloc: Global, text: &[u8], value: &D) -> Result<Vec<u8>, RenderError>
+    requires { IsUtf8 text.now }
+    ensures ok { IfOk result (λ bytes. SomePrinted (D.printed value.now) (λ printed. bytes.items ≡ text.now ++ printed)) }
+    ensures err { IfErr result (IsRenderCause (D.unprintable value.now)) }
+    ensures utf8 { IfOk result (λ bytes. IsUtf8 bytes.items) }
+{
+    match Vec::from_slice(alloc, text) {
+        Ok(mut bytes) => match append_display(&mut bytes, value) {
+            Ok(()) => Ok(bytes),
+            Err(error) => Err(error),
+        },
+        Err(_) => Err(RenderError::NoMemory),
+    }
+}
+
+/// Appends what a value prints to a text, which isn't copied. An error changes nothing.
+fn append_display<D: Render>(bytes: &mut Vec<u8>, value: &D) -> Result<(), RenderError>
+    requires { IsUtf8 bytes.old.items }
+    ensures ok { OnOk result (SomePrinted (D.printed value.now) (λ printed.
+        bytes.new.items ≡ bytes.old.items ++ printed)) }
+    ensures err { IfErr result (IsRenderCause (D.unprintable value.now)) }
+    ensures keeps { OnErr result (bytes.new.items ≡ bytes.old.items) }
+    ensures utf8 { IsUtf8 bytes.new.items }
+{
+    let len = bytes.len();
+    let nothing = Vec::new(*bytes.allocator());
+    // SAFETY: they are a text.
+    let mut text = unsafe { String::from_utf8_unchecked(mem::replace(bytes, nothing)) };
+    match value.render(&mut text) {
+        Ok(()) => {
+            *bytes = text.into_bytes();
+            Ok(())
+        }
+        Err(error) => {
+            *bytes = text.into_bytes();
+            bytes.truncate(len);
+            Err(error)
+        }
+    }
 }

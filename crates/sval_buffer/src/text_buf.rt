@@ -1,7 +1,9 @@
 //! Texts that come in fragments.
 
-ghost use Rattle.std.specs.Prelude.{◌≡◌, true, false, [], Some, None, IsOk, OnOk, IfOk, IfErr, option_map, if◌then◌else◌};
+ghost use Rattle.std.specs.Prelude.{◌≡◌, Bool, true, false, [], Some, None, IsOk, OnOk, OnErr, IfOk, IfErr, option_map, if◌then◌else◌};
 ghost use Rattle.std.specs.Bool.{OnTrue};
+ghost use Rattle.sval.specs.Shown.{SomePrinted};
+ghost use Rattle.sval_buffer.specs.Displays.{IsRenderCause, IsDisplayCause};
 ghost use Rattle.sval_buffer.specs.Pushes.{pushed};
 ghost use Rattle.std.specs.Str.{IsUtf8};
 ghost use Rattle.sval_buffer.specs.Forest.{no_bytes, held_text_calls};
@@ -13,12 +15,14 @@ use crate::fragment_buf::FragmentBuf;
 use std::alloc::Global;
 use std::fmt;
 use std::marker::Model;
+use sval::{Render, RenderError};
 use sval_core::{Fragment, Lent, Result, Stream, Value};
 use sval_ref::ValueRef;
 
 /// A text that comes in fragments.
 ///
 /// Where its last fragment is borrowed and those before it are empty, the text is kept by reference. Else it is copied.
+/// What a value prints is a fragment too, which is printed straight into the text.
 ///
 /// ```
 /// let mut text = TextBuf::new(alloc);
@@ -65,6 +69,27 @@ impl<'sval> TextBuf<'sval> {
     {
         TextBuf {
             fragments: FragmentBuf::from_slice(alloc, text.as_bytes()),
+        }
+    }
+
+    /// What a value prints, owned: it counts as computed also where it is empty.
+    ///
+    /// [`ErrorKind::InvalidValue`] with [`Word::FormattingFailed`] comes only for a value that can't be printed, and
+    /// [`ErrorKind::NoAlloc`] where memory was wanting.
+    ///
+    /// ```
+    /// let text = TextBuf::collect_display(alloc, &true)?;
+    /// assert_eq!(rt; text.as_str(), "true");
+    /// ```
+    pub fn collect_display<D: Render>(alloc: Global, value: &D) -> std::result::Result<Self, Error>
+        ensures ok { IfOk result (λ text. SomePrinted (D.printed value.now) (λ printed.
+            text ≡ record { borrowed = false; bytes = printed })) }
+        ensures err { IfErr result (IsDisplayCause (D.unprintable value.now)) }
+    {
+        let mut text = TextBuf::new(alloc);
+        match text.push_display(value) {
+            Ok(()) => Ok(text),
+            Err(error) => Err(error),
         }
     }
 
@@ -127,6 +152,28 @@ impl<'sval> TextBuf<'sval> {
         ensures err { IfErr result (λ error. IsNoAlloc error × (self.new ≡ self.old)) }
     {
         self.push_fragment_computed(text)
+    }
+
+    /// Appends what a value prints. It is printed straight into the text, which is copied first where it is borrowed.
+    ///
+    /// [`ErrorKind::InvalidValue`] with [`Word::FormattingFailed`] comes only for a value that can't be printed, and
+    /// [`ErrorKind::NoAlloc`] where memory was wanting. After both the text is as it was.
+    ///
+    /// ```
+    /// let mut text = TextBuf::from_text(alloc, "n = ");
+    /// text.push_display(&42u8)?;
+    /// assert_eq!(rt; text.as_str(), "n = 42");
+    /// ```
+    pub fn push_display<D: Render>(&mut self, value: &D) -> std::result::Result<(), Error>
+        ensures ok { OnOk result (SomePrinted (D.printed value.now) (λ printed.
+            self.new ≡ pushed self.old (record { borrowed = false; bytes = printed }))) }
+        ensures err { IfErr result (IsDisplayCause (D.unprintable value.now)) }
+        ensures keeps { OnErr result (self.new ≡ self.old) }
+    {
+        match self.fragments.push_display(value) {
+            Ok(()) => Ok(()),
+            Err(error) => Err(not_displayed(error)),
+        }
     }
 
     /// The text, where it is borrowed.
@@ -205,4 +252,16 @@ fn text(bytes: &[u8]) -> &str
 {
     // SAFETY: they are joined texts.
     unsafe { std::str::from_utf8_unchecked(bytes) }
+}
+
+/// The error of a value that wasn't printed.
+fn not_displayed(error: RenderError) -> Error
+    ensures { (unprintable : Bool) → IsRenderCause unprintable error → IsDisplayCause unprintable result }
+{
+    Error::new(match error {
+        RenderError::Format => ErrorKind::InvalidValue {
+            reason: Word::FormattingFailed,
+        },
+        RenderError::NoMemory => ErrorKind::NoAlloc { method: Word::Text },
+    })
 }
