@@ -169,17 +169,14 @@ fn joined(alloc: Global, first: &[u8], second: &[u8]) -> Result<Vec<u8>, AllocEr
 /// A copy of a text, with what a value prints behind it.
 fn with_display<D: Render>(alloc: Global, text: &[u8], value: &D) -> Result<Vec<u8>, RenderError>
     requires { IsUtf8 text.now }
-    ensures ok { IfOk result (λ bytes. SomePrinted (D.printed value.now) (λ printed. bytes.items ≡ text.now ++ printed)) }
+    ensures ok { IfOk result (λ bytes. SomePrinted (D.printed value.now) (λ printed.
+        bytes.items ≡ text.now ++ printed)) }
     ensures err { IfErr result (IsRenderCause (D.unprintable value.now)) }
     ensures utf8 { IfOk result (λ bytes. IsUtf8 bytes.items) }
 {
-    match Vec::from_slice(alloc, text) {
-        Ok(mut bytes) => match append_display(&mut bytes, value) {
-            Ok(()) => Ok(bytes),
-            Err(error) => Err(error),
-        },
-        Err(_) => Err(RenderError::NoMemory),
-    }
+    let mut bytes = Vec::from_slice(alloc, text).map_err(|_| RenderError::NoMemory)?;
+    append_display(&mut bytes, value)?;
+    Ok(bytes)
 }
 
 /// Appends what a value prints to a text, which isn't copied. An error changes nothing.

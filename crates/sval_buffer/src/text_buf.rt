@@ -87,10 +87,8 @@ impl<'sval> TextBuf<'sval> {
         ensures err { IfErr result (IsDisplayCause (D.unprintable value.now)) }
     {
         let mut text = TextBuf::new(alloc);
-        match text.push_display(value) {
-            Ok(()) => Ok(text),
-            Err(error) => Err(error),
-        }
+        text.push_display(value)?;
+        Ok(text)
     }
 
     /// The same text, borrowed exactly where this one is.
