@@ -12,3 +12,4 @@ pub mod ListDue
 pub mod ListStops
 pub mod Tokens
 pub mod TokensEqual
+pub mod TokensMatch

@@ -78,3 +78,7 @@ compared (End head) = End (bare_head head)
 compared (PartBegin slot) = PartBegin (bare_slot slot)
 compared (PartEnd slot) = PartEnd (bare_slot slot)
 compared call = call
+
+-- the same of calls one after another
+abbrev pub all_compared : List Call → List Call
+all_compared calls = map compared calls

@@ -23,6 +23,7 @@ pub mod laws;
 mod left;
 mod lister;
 mod machine;
+mod matching;
 mod measured;
 mod names;
 mod stack;

@@ -1,12 +1,13 @@
 //! Streams whose calls are kept.
 
-ghost use Rattle.std.specs.Prelude.{◌≡◌, List, []};
+ghost use Rattle.std.specs.Prelude.{◌≡◌, ◌↔◌, ◌<◌, IsTrue, List, []};
 ghost use Rattle.sval_label.specs.Calls as calls;
 ghost use Rattle.sval_label.specs.Made.{lent_call};
 ghost use Rattle.sval_core.specs.Law.{Answers};
-ghost use Rattle.sval_check.specs.Tokens.{token_calls};
+ghost use Rattle.sval_check.specs.Tokens.{token_calls, all_compared};
 ghost use Rattle.sval_check.specs.TokenBufs.{nothing_taken, token_law, token_standing, KeepsCall};
 
+use crate::matching::all_equal;
 use crate::token::Token;
 use crate::token_copies::token_of;
 use std::alloc::Global;
@@ -31,7 +32,7 @@ use sval_core::{Call, Error, Lent, NoMemory, Stream};
 ///     Token::SeqValueEnd,
 ///     Token::SeqEnd,
 /// ];
-/// assert_eq!(rt; buffer.as_tokens(), tokens.as_slice());
+/// assert!(rt; buffer.matches(&tokens));
 /// ```
 ///
 /// After any calls it holds exactly these, in order, which is proved in
@@ -71,6 +72,21 @@ impl<'sval> TokenBuf<'sval> {
         ensures { token_calls result.now ≡ self.now.calls }
     {
         self.tokens.as_slice()
+    }
+
+    /// Whether the calls that were taken are these, all of them and in order. Each is compared as by `==` of two tokens
+    /// ([`laws::tokens_are_equal`](crate::laws::tokens_are_equal)).
+    pub fn matches(&self, expected: &[Token<'_>]) -> bool
+        ensures { IsTrue result ↔ (all_compared self.now.calls ≡ all_compared (token_calls expected.now)) }
+    {
+        all_equal(self.as_tokens(), expected)
+    }
+
+    /// Whether memory was wanting for a call, since the buffer was new.
+    pub fn lacked_memory(&self) -> bool
+        ensures { IsTrue result ↔ (0 < self.now.wants) }
+    {
+        self.wants > 0
     }
 
     /// Forgets all calls.

@@ -5,23 +5,9 @@ ghost use Rattle.sval_label.specs.Calls.{Int, U64};
 ghost use Rattle.sval_core.specs.Values.{makes};
 ghost use Rattle.sval_core.specs.ValueCalls.{seq_calls};
 
-use crate::laws::tokens_are_equal;
 use crate::{Token, TokenBuf, TokenBytes, TokenName, TokenText};
 use std::test::Fail;
 use sval_core::{Index, Label, Lent, Result, Stream, Value, tags};
-
-/// Whether these are as many tokens as those, each equal to the one in its place.
-fn are_equal(some: &[Token<'_>], others: &[Token<'_>]) -> bool {
-    if some.len() != others.len() {
-        return false;
-    }
-    for index in 0..some.len() {
-        if !tokens_are_equal(&some[index], &others[index]) {
-            return false;
-        }
-    }
-    true
-}
 
 #[test]
 fn keeps_fragments(rt: HostRuntime) -> std::result::Result<(), Fail> {
@@ -45,14 +31,12 @@ fn keeps_fragments(rt: HostRuntime) -> std::result::Result<(), Fail> {
         Token::BinaryFragmentComputed(TokenBytes::new(vec![in alloc; 3]?)),
         Token::BinaryEnd,
     ]?;
-    let as_made = are_equal(buffer.as_tokens(), tokens.as_slice());
-    assert!(rt; as_made);
+    assert!(rt; buffer.matches(&tokens));
     buffer.clear();
     assert_eq!(rt; buffer.as_tokens().len(), 0);
     buffer.text_fragment_computed("ab")?;
     let borrowed = vec![in rt.alloc(); Token::TextFragment("ab")]?;
-    let as_borrowed = are_equal(buffer.as_tokens(), borrowed.as_slice());
-    assert!(rt; !as_borrowed);
+    assert!(rt; !buffer.matches(&borrowed));
     Ok(())
 }
 
@@ -77,8 +61,7 @@ fn keeps_numbers_and_parts(rt: HostRuntime) -> std::result::Result<(), Fail> {
         Token::Bool(true),
         Token::TagHint(tags::NUMBER),
     ]?;
-    let as_made = are_equal(buffer.as_tokens(), tokens.as_slice());
-    assert!(rt; as_made);
+    assert!(rt; buffer.matches(&tokens));
     Ok(())
 }
 
@@ -114,8 +97,7 @@ fn keeps_names(rt: HostRuntime) -> std::result::Result<(), Fail> {
         Token::RecordTupleValueBegin(Some(tags::RUST_UNIT), Label::new("id"), Index::new(1)),
         Token::RecordValueEnd(None, Label::new("id")),
     ]?;
-    let as_made = are_equal(buffer.as_tokens(), tokens.as_slice());
-    assert!(rt; as_made);
+    assert!(rt; buffer.matches(&tokens));
     match &buffer.as_tokens()[3] {
         Token::RecordValueEnd(_, label) => {
             assert_eq!(rt; label.tag(), Some(&tags::VALUE_IDENT));
@@ -161,14 +143,15 @@ fn takes_a_users_value(rt: HostRuntime) -> std::result::Result<(), Fail> {
     let once = Once { number: 7 };
     let mut buffer = TokenBuf::new(rt.alloc());
     buffer.value(&once)?;
-    let tokens = vec![in rt.alloc();
+    let tokens = [
         Token::SeqBegin(Some(1)),
         Token::SeqValueBegin,
         Token::U64(7),
         Token::SeqValueEnd,
         Token::SeqEnd,
-    ]?;
-    let as_made = are_equal(buffer.as_tokens(), tokens.as_slice());
-    assert!(rt; as_made);
+    ];
+    assert!(rt; buffer.matches(&tokens));
+    assert!(rt; !buffer.matches(&tokens[..4]));
+    assert!(rt; !buffer.lacked_memory());
     Ok(())
 }
