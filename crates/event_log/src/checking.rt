@@ -1,0 +1,48 @@
+//! Whether a value may be an event.
+
+ghost use Rattle.std.specs.Prelude.{◌≡◌, OnOk, IfErr};
+ghost use Rattle.event_log.specs.Events.{unfit, HasJson, IsCause};
+
+use std::alloc::Global;
+use sval_check::{CheckError, check};
+use sval_core::{Lent, Value};
+use sval_json::{CountSink, stream_to_io_write};
+
+/// Why an event wasn't recorded.
+#[derive(Clone, Copy, Debug, PartialEq, Eq)]
+pub enum RecordError {
+    /// The event refuses, or its calls are not one whole value.
+    NotOneValue,
+    /// The event is one whole value that has no JSON: a key or a number in it can't be one.
+    NoJson,
+    /// Memory was wanting.
+    NoMemory,
+}
+
+/// Why a value that didn't pass the check is no event.
+fn unfit(error: CheckError) -> RecordError
+    ensures { result ≡ unfit error }
+{
+    match error {
+        CheckError::NoMemory => RecordError::NoMemory,
+        _ => RecordError::NotOneValue,
+    }
+}
+
+/// Checks that a value is one whole value, and writes its JSON to a sink that only counts, so that it can be written.
+pub(crate) fn check_event<'v, V: Value<'v, Lent<'v>>>(
+    alloc: Global,
+    event: &'v V,
+) -> Result<(), RecordError>
+    ensures ok { OnOk result (HasJson (V.emission event.now)) }
+    ensures cause { IfErr result (λ why. IsCause why (V.emission event.now)) }
+{
+    match check(alloc, event) {
+        Ok(()) => {}
+        Err(error) => return Err(unfit(error)),
+    }
+    match stream_to_io_write(&mut CountSink::new(), event) {
+        Ok(()) => Ok(()),
+        Err(_) => Err(RecordError::NoJson),
+    }
+}

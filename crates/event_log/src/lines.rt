@@ -1,0 +1,45 @@
+//! The lines of events.
+
+ghost use Rattle.sval_json.specs.Sinks.{WritesAll};
+ghost use Rattle.sval_json.specs.Steps.{written};
+ghost use Rattle.event_log.specs.Logs.{HasLine, AreLines, event_calls, line_of, lines_of};
+
+use sval_buffer::Value;
+use sval_json::{ErrorKind, Sink, SinkError, stream_to_io_write, write_all};
+
+/// Writes the JSON of an event.
+fn write_json<K: Sink>(sink: &mut K, event: &Value<'_>) -> Result<(), SinkError>
+    requires { HasLine event.now }
+    ensures { let json = (written (event_calls event.now)).written in
+        WritesAll result (K.told sink.old) json (K.told sink.new) }
+{
+    match stream_to_io_write(sink, event) {
+        Ok(()) => Ok(()),
+        Err(error) => match error.kind() {
+            ErrorKind::IO => Err(SinkError::Failed),
+            ErrorKind::NoMemory => Err(SinkError::NoMemory),
+            ErrorKind::Generic => unreachable!("a captured value doesn't refuse"),
+            ErrorKind::InvalidKey | ErrorKind::InvalidNumber => unreachable!("an event has a JSON"),
+        },
+    }
+}
+
+/// Writes the line of an event.
+fn write_line<K: Sink>(sink: &mut K, event: &Value<'_>) -> Result<(), SinkError>
+    requires { HasLine event.now }
+    ensures { WritesAll result (K.told sink.old) (line_of event.now) (K.told sink.new) }
+{
+    write_json(sink, event)?;
+    write_all(sink, b"\n")
+}
+
+/// Writes the lines of events.
+pub(crate) fn write_lines<K: Sink>(sink: &mut K, events: &[Value<'_>]) -> Result<(), SinkError>
+    requires { AreLines events.now }
+    ensures { WritesAll result (K.told sink.old) (lines_of events.now) (K.told sink.new) }
+{
+    for event in events {
+        write_line(sink, event)?;
+    }
+    Ok(())
+}
