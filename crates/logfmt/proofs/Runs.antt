@@ -1,0 +1,95 @@
+-- What the writer has done after calls, by its law.
+use Rattle.std.specs.Prelude.{◌≡◌, ℕ, Bool, true, false, List, [], ◌∷◌, Option, Some, None, Result, Ok, Err, is_ok, refl}
+use Rattle.std.proofs.Common.{sym, ap, ◌∙◌, subst, arith, inl, inr}
+use Rattle.sval_label.specs.declared.error.Error.{Error}
+use Rattle.sval_label.specs.Calls.{Call}
+use Rattle.sval_core.specs.Law.{Standing, Answers, Refuses, Ran, Streams, StoppedIn, Stops, Emission}
+use Rattle.logfmt.specs.declared.error.LogfmtError.{LogfmtError}
+use Rattle.logfmt.specs.declared.error.LogfmtError.TheVariants as error
+use Rattle.logfmt.specs.Pairs.{and_then}
+use Rattle.logfmt.specs.Steps.{Begun, Step, step, steps}
+use Rattle.logfmt.specs.Writing.{Writing, nothing_written, IsStoppedBy, Does, begun_after, writing_law, writing_standing, cause_of, ended, written, Fails}
+
+-- ---- one call
+
+-- a step that is refused has a cause
+own : (call : Call) (old new : Writing) (why : LogfmtError) → step call old.begun ≡ Err why → new.wants ≡ old.wants → IsStoppedBy new.why (step call old.begun) old new
+    → Refuses writing_law (writing_standing old) call (writing_standing new)
+own call old new why is same left = record {
+  cause = inl (λ accepted. let never : true ≡ false = sym accepted ∙ ap is_ok is in cc never);
+  left = left;
+  faults = omega arith;
+  wants = omega (arith, same);
+}
+
+refuses : (call : Call) (old new : Writing) (why : Option LogfmtError) → new.why ≡ why → IsStoppedBy why (step call old.begun) old new → Refuses writing_law (writing_standing old) call (writing_standing new)
+refuses call old new None is stop = absurd stop
+refuses call old new (Some error.NoMemory) is stop = record {
+  cause = inr (inr (omega (arith, stop.0)));
+  left = subst (λ w. IsStoppedBy w (step call old.begun) old new) (sym is) stop;
+  faults = omega arith;
+  wants = stop.1;
+}
+refuses call old new (Some error.NotFlat) is stop = own call old new error.NotFlat stop.0 (ap (λ (w : Writing). w.wants) stop.1) (subst (λ w. IsStoppedBy w (step call old.begun) old new) (sym is) stop)
+refuses call old new (Some error.InvalidKey) is stop = own call old new error.InvalidKey stop.0 (ap (λ (w : Writing). w.wants) stop.1) (subst (λ w. IsStoppedBy w (step call old.begun) old new) (sym is) stop)
+refuses call old new (Some error.Refused) is stop = own call old new error.Refused stop.0 (ap (λ (w : Writing). w.wants) stop.1) (subst (λ w. IsStoppedBy w (step call old.begun) old new) (sym is) stop)
+refuses call old new (Some error.Unfinished) is stop = own call old new error.Unfinished stop.0 (ap (λ (w : Writing). w.wants) stop.1) (subst (λ w. IsStoppedBy w (step call old.begun) old new) (sym is) stop)
+
+-- what is said of a step is what the law asks
+pub answers : (call : Call) (result : Result (Unit {0}) Error) (old new : Writing) → Does (step call old.begun) result old new → Answers writing_law result (writing_standing old) call (writing_standing new)
+answers call (Ok done) old new does = record {
+  accepted = ap is_ok does.0;
+  view = does.1 ∙ ap (λ b. let same : Writing = record old { begun = b } in same) (sym (ap (λ s. begun_after s old.begun) does.0));
+  faults = refl;
+  wants = ap (λ (w : Writing). w.wants) does.1;
+}
+answers call (Err refusal) old new does = refuses call old new new.why refl does
+
+-- ---- many calls
+
+ok_then : (s : Step) (begun : Begun) (next : Begun → Step) → is_ok s ≡ true → and_then s next ≡ next (begun_after s begun)
+ok_then (Ok b) begun next is = refl
+ok_then (Err why) begun next is = cc is
+
+-- calls that were taken are steps that were done
+ran_steps : (calls : List Call) (v u : Writing) → Ran writing_law v calls u → steps calls v.begun ≡ Ok u.begun
+ran_steps [] v u ran = ap (λ (w : Writing). Ok w.begun) (sym ran)
+ran_steps (call ∷ calls) v u ran =
+    ok_then (step call v.begun) v.begun (steps calls) ran.0 ∙ ran_steps calls (record v { begun = begun_after (step call v.begun) v.begun }) u ran.1
+
+-- a call that was stopped gives its cause
+at_call : (why : Option LogfmtError) (s : Step) (next : Begun → Step) (last : Begun → Result (List ℕ) LogfmtError) (v left : Writing) → IsStoppedBy why s v left
+    → Fails (cause_of why) (and_then (and_then s next) last)
+at_call None s next last v left stop = absurd stop
+at_call (Some error.NoMemory) s next last v left stop = tt
+at_call (Some error.NotFlat) s next last v left stop = ap (λ is. and_then (and_then is next) last) stop.0
+at_call (Some error.InvalidKey) s next last v left stop = ap (λ is. and_then (and_then is next) last) stop.0
+at_call (Some error.Refused) s next last v left stop = ap (λ is. and_then (and_then is next) last) stop.0
+at_call (Some error.Unfinished) s next last v left stop = ap (λ is. and_then (and_then is next) last) stop.0
+
+itself : (refuses : Bool) (why : Option LogfmtError) (begun : Begun) → refuses ≡ true → why ≡ None → Fails (cause_of why) (ended refuses begun)
+itself refuses why begun is none = rw (is, none) refl
+
+stopped : (calls : List Call) (refuses : Bool) (old new : Standing Writing) (v : Writing) → v.why ≡ None → StoppedIn writing_law old new v calls refuses
+    → Fails (cause_of new.view.why) (and_then (steps calls v.begun) (ended refuses))
+stopped [] refuses old new v none s = itself refuses new.view.why v.begun s.0 (ap (λ (w : Writing). w.why) s.1 ∙ none)
+stopped (call ∷ calls) refuses old new v none (inl s) = at_call new.view.why (step call v.begun) (steps calls) (ended refuses) v new.view s.1
+stopped (call ∷ calls) refuses old new v none (inr s) =
+    subst (λ is. Fails (cause_of new.view.why) (and_then is (ended refuses)))
+    (sym (ok_then (step call v.begun) v.begun (steps calls) s.0))
+    (stopped calls refuses old new (record v { begun = begun_after (step call v.begun) v.begun }) none s.1)
+
+-- ---- a value
+
+-- where all was taken, the line is what is whole of it
+pub streamed : (e : Emission) (first last : Writing) → first ≡ nothing_written → Streams writing_law (writing_standing first) e (writing_standing last) → written e ≡ ended false last.begun
+streamed e first last new s =
+    let taken : steps e.calls nothing_written.begun ≡ Ok last.begun = subst (λ (v : Writing). steps e.calls v.begun ≡ Ok last.begun) new (ran_steps e.calls first last s.ran) in
+    rw (taken, s.willing) refl
+
+-- where it stopped, the cause is what is due, or memory was wanting
+pub stops : (e : Emission) (first last : Writing) → first ≡ nothing_written → Stops writing_law (writing_standing first) e (writing_standing last)
+    → Fails (cause_of last.why) (written e)
+stops e first last new s =
+    subst (λ (v : Writing). Fails (cause_of last.why) (and_then (steps e.calls v.begun) (ended e.refuses))) new
+    (stopped e.calls e.refuses (writing_standing first) (writing_standing last) first (ap (λ (v : Writing). v.why) new) s.stopped)

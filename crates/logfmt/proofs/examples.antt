@@ -1,0 +1,2 @@
+-- What the definitions come to, and used by no program.
+mod Lines

@@ -1,0 +1,63 @@
+//! Values as lines of [logfmt](https://brandur.org/logfmt): a writer of a format of one's own, as a user of these crates
+//! writes one.
+//!
+//! - [`to_logfmt`] gives the line of a record or a map of leaves. What a line is stands in `specs/Pairs.antt`, over trees.
+//! - The writer is a stream. Call by call it does the steps of `specs/Steps.antt`, which is its law
+//!   (`specs/Writing.antt`).
+//!
+//! # What the proofs take
+//!
+//! 1. Each method of the writer is one step, and the stream's `take` is a match over groups of calls.
+//! 2. That a run of the law is a run of the steps is an induction over calls (`proofs/Runs.antt`).
+//! 3. That the steps of calls that spell a tree write the line of the tree is one over its parts
+//!    (`proofs/Spelled.antt`): a part that is no leaf is refused at its first call, so nothing recurses into it.
+#![tactic(auto)]
+
+ghost use Rattle.std.specs.Prelude.{string_bytes};
+ghost use Rattle.sval_core.specs.Trees.{Tree};
+ghost use Rattle.sval_core.specs.ValueTrees.{Tells};
+ghost use Rattle.logfmt.specs.Pairs.{line_of};
+ghost use Rattle.logfmt.specs.Writing.{Gives, written};
+
+mod error;
+mod escape;
+#[cfg(test)]
+mod tests;
+mod writer;
+
+pub use error::LogfmtError;
+use std::alloc::Global;
+use sval_core::{Lent, Value};
+use writer::LogfmtWriter;
+
+/// The line of a value: `key=value` for each entry of a record or a map, with one space between each two.
+///
+/// A number, a truth value and null stand plainly, and a text between quotes, escaped as in JSON. There is no line feed
+/// at the end. Where the value's calls spell a tree, the answer is what `line_of` says of the tree, unless memory is
+/// wanting.
+///
+/// ```
+/// let line = to_logfmt(alloc, &value)?;
+/// assert_eq!(rt; line.as_str(), "level=\"info\" status=200 ok=true");
+/// ```
+///
+/// # Errors
+///
+/// [`LogfmtError::NotFlat`] comes where the value is no record and no map, or where one of its values is no number, truth
+/// value, null or text; [`LogfmtError::InvalidKey`] where a key can't stand in a line. The first that is found comes.
+/// [`LogfmtError::Refused`] comes where the value itself refuses, and [`LogfmtError::Unfinished`] where its calls end too
+/// early; neither comes where they spell a tree. [`LogfmtError::NoMemory`] may come in place of any answer, and would
+/// also stand for bytes that aren't UTF-8, which texts and labels never give.
+pub fn to_logfmt<'v, V: Value<'v, Lent<'v>>>(
+    alloc: Global,
+    value: &'v V,
+) -> Result<String, LogfmtError>
+    ensures tree { (tree : Tree) → Tells (V.emission value.now) tree → Gives string_bytes result (line_of tree) }
+    ensures calls { Gives string_bytes result (written (V.emission value.now)) }
+{
+    let mut writer = LogfmtWriter::new(alloc);
+    match value.stream(&mut writer) {
+        Ok(()) => writer.into_line(),
+        Err(_) => Err(writer.cause()),
+    }
+}
