@@ -41,8 +41,14 @@ fn plain_bytes(bytes: &[u8]) -> usize
         .unwrap_or(bytes.len())
 }
 
-/// The place of the first byte that is escaped, or the length where there is none: block by block, then byte by byte.
-fn first_escape(bytes: &[u8]) -> usize
+/// The place of the first byte that is escaped where a text stands between quotes, or the length where there is none: of
+/// a quote, a backslash, or a byte below 0x20. It takes no memory.
+///
+/// ```
+/// assert_eq!(rt; first_escape(b"ab\"c"), 2);
+/// assert_eq!(rt; first_escape(b"abc"), 3);
+/// ```
+pub fn first_escape(bytes: &[u8]) -> usize
     ensures within { result ≤ length bytes.now }
     ensures plain { AllPass is_plain (take result bytes.now) }
     ensures found { result < length bytes.now → is_escaped (slice_index bytes.now result) ≡ true }

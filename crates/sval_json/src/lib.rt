@@ -4,7 +4,7 @@
 mod count;
 mod digits;
 mod error;
-mod escape;
+pub mod escape;
 mod faulty;
 mod fixed;
 mod json_str;
