@@ -1,4 +1,5 @@
 pub mod Sources
+pub mod FaultySources
 pub mod OverReader
 pub mod Inputs
 pub mod Ways

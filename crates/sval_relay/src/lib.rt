@@ -7,6 +7,7 @@
 #![tactic(auto)]
 
 mod failure;
+mod faulty_source;
 pub mod laws;
 mod lists;
 mod made;
@@ -20,6 +21,7 @@ mod streams;
 mod trees;
 mod way;
 
+pub use faulty_source::FaultySource;
 pub use made::{MadeError, relay_made};
 pub use real_source::RealSource;
 pub use relaying::{RelayError, relay, relay_lines};
