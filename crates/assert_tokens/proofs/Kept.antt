@@ -1,0 +1,17 @@
+-- What a buffer of tokens holds that took a value, and when that is what is expected.
+use Rattle.std.specs.Prelude.{◌≡◌, ◌↔◌, Bool, IsTrue, List, refl}
+use Rattle.std.proofs.Common.{◌∙◌, subst}
+use Rattle.sval_label.specs.Calls.{Call}
+use Rattle.sval_core.specs.Law.{Emission, Ran}
+use Rattle.sval_check.specs.Tokens.{all_compared}
+use Rattle.sval_check.specs.TokenBufs.{TakenCalls, nothing_taken, token_law}
+use Rattle.sval_check.proofs.Tokens.{keeps_all}
+use Rattle.assert_tokens.specs.Matches.{Makes}
+
+all_kept : (old new : TakenCalls) (calls : List Call) → old ≡ nothing_taken → Ran token_law old.calls calls new.calls → new.calls ≡ calls
+all_kept old new calls start ran = keeps_all old.calls calls new.calls ran ∙ rw start refl
+
+pub matches_made : (e : Emission) (expected : List Call) (old new : TakenCalls) (same : Bool) → old ≡ nothing_taken → Ran token_law old.calls e.calls new.calls
+    → (IsTrue same ↔ (all_compared new.calls ≡ all_compared expected)) → (IsTrue same ↔ Makes e expected)
+matches_made e expected old new same start ran matches =
+    subst (λ calls. IsTrue same ↔ (all_compared calls ≡ all_compared expected)) (all_kept old new e.calls start ran) matches

@@ -1,0 +1,45 @@
+//! The tokens of a point.
+
+use crate::{Point, tokens_match};
+use std::test::Fail;
+use sval_check::{Token, TokenName};
+use sval_core::Label;
+
+/// What the record of a point is called: nothing.
+fn no_name() -> TokenName {
+    TokenName {
+        tag: None,
+        label: None,
+        index: None,
+    }
+}
+
+#[test]
+fn a_point_is_a_record(rt: HostRuntime) -> Result<(), Fail> {
+    let point = Point { x: 3, y: -4 };
+    let tokens = [
+        Token::RecordBegin(no_name(), Some(2)),
+        Token::RecordValueBegin(None, Label::new("x")),
+        Token::I64(3),
+        Token::RecordValueEnd(None, Label::new("x")),
+        Token::RecordValueBegin(None, Label::new("y")),
+        Token::I64(-4),
+        Token::RecordValueEnd(None, Label::new("y")),
+        Token::RecordEnd(no_name()),
+    ];
+    let same = tokens_match(rt.alloc(), &point, &tokens);
+    assert_eq!(rt; same, Ok(true));
+    Ok(())
+}
+
+#[test]
+fn other_tokens_are_told(rt: HostRuntime) -> Result<(), Fail> {
+    let point = Point { x: 3, y: -4 };
+    let too_few = tokens_match(
+        rt.alloc(),
+        &point,
+        &[Token::RecordBegin(no_name(), Some(2))],
+    );
+    assert_eq!(rt; too_few, Ok(false));
+    Ok(())
+}
