@@ -16,6 +16,7 @@ use Rattle.sval_check.specs.declared.kept.Named.TheVariants as named
 abbrev pub kept_label : List ℕ → KeptLabel → Label
 kept_label texts label = record { text = drop (length texts - label.size) texts; tag = option_map seen_tag label.tag; is_static = false }
 
+-- a name: its label's text is the last of the texts
 abbrev pub kept_name : List ℕ → KeptName → Name
 kept_name texts name = record { tag = option_map seen_tag name.tag; label = option_map (kept_label texts) name.label; index = option_map seen_index name.index }
 
@@ -39,9 +40,11 @@ abbrev pub size_of : Option KeptLabel → ℕ
 size_of None = 0
 size_of (Some label) = label.size
 
+-- how many bytes of the texts are those of a name's label
 abbrev pub name_size : KeptName → ℕ
 name_size name = size_of name.label
 
+-- how many bytes of the texts are those of the label that a begin said
 abbrev pub named_size : Named → ℕ
 named_size (named.Value begun name) = name_size name
 named_size (named.Field tag label) = label.size

@@ -9,9 +9,11 @@ pub record TakenCalls : Type 0 where
   pub calls : List Call
   pub wants : ℕ
 
+-- before any call: no call was taken, and memory was never wanting
 abbrev pub nothing_taken : TakenCalls
 nothing_taken = record { calls = []; wants = 0 }
 
+-- with this call behind those that were taken
 abbrev pub with_call : TakenCalls → Call → TakenCalls
 with_call taken call = record taken { calls = taken.calls ++ (call ∷ []) }
 

@@ -9,6 +9,7 @@ use Rattle.sval_check.specs.declared.token.TokenName.{TokenName}
 use Rattle.sval_check.specs.declared.token.Token.{Token}
 use Rattle.sval_check.specs.declared.token.Token.TheVariants as token
 
+-- the name that a token gives
 abbrev pub token_name : TokenName → calls.Name
 token_name name = record { tag = option_map seen_tag name.tag; label = name.label; index = option_map seen_index name.index }
 
@@ -63,6 +64,7 @@ token_call (token.RecordTupleValueBegin tag label index) = PartBegin (FieldPlace
 token_call (token.RecordTupleValueEnd tag label index) = PartEnd (FieldPlace (option_map seen_tag tag) label (seen_index index))
 token_call (token.RecordTupleEnd name) = End (RecordTuple (token_name name))
 
+-- the calls that tokens are, one for each
 abbrev pub token_calls : List Token → List Call
 token_calls tokens = map token_call tokens
 

@@ -13,19 +13,22 @@ use Rattle.sval_check.specs.declared.frame.Frame.TheVariants as frame
 use Rattle.sval_check.specs.declared.frame.Content.{Content}
 use Rattle.sval_check.specs.declared.frame.Content.TheVariants as content
 
--- an end's name is that of its begin
+-- the innermost is a tagged value, and an end's name is that of its begin
 abbrev pub is_tagged : Option machine.Frame → Name → Bool
 is_tagged (Some (InTagged name)) ended = same_name ended name
 is_tagged top ended = false
 
+-- the innermost is an enum, and an end's name is that of its begin
 abbrev pub is_enum : Option machine.Frame → Name → Bool
 is_enum (Some (InEnum name)) ended = same_name ended name
 is_enum top ended = false
 
+-- the innermost is a container, and an end says what its begin said
 abbrev pub is_head : Option machine.Frame → Head → Bool
 is_head (Some (InContainer head kind left)) ended = same_head ended head
 is_head top ended = false
 
+-- the innermost is a part, and an end says what its begin said
 abbrev pub is_slot : Option machine.Frame → Slot → Bool
 is_slot (Some (InPart slot)) ended = same_slot ended slot
 is_slot top ended = false
@@ -68,7 +71,7 @@ abbrev pub after_part : Option ℕ → List machine.Frame → List machine.Frame
 after_part left (InContainer head kind _ ∷ around) = InContainer head (next_kind kind) left ∷ around
 after_part left frames = frames
 
--- the same two of the checker's own frames
+-- the checker's own frame of a container, of which so much is still to come after its next part
 abbrev pub with_next : Option ℕ → Frame → Frame
 with_next left (frame.Seq _) = frame.Seq left
 with_next left (frame.Map _) = frame.Entry left
@@ -76,6 +79,7 @@ with_next left (frame.Entry _) = frame.Map left
 with_next left (frame.Named _) = frame.Named left
 with_next left kept = kept
 
+-- the checker's own frame of a text or binary, of which so much is still to come
 abbrev pub with_rest : Content → Option ℕ → Frame → Frame
 with_rest content.Text left (frame.Text _) = frame.Text left
 with_rest content.Binary left (frame.Binary _) = frame.Binary left
@@ -91,11 +95,12 @@ abbrev pub under_top : {A : Type 0} → (List A → List A) → List A → List 
 under_top f [] = []
 under_top f (top ∷ around) = top ∷ f around
 
--- the rows of the machine for a text and for a binary
+-- the machine's step of a fragment of a text, or of a binary, with so many bytes
 abbrev pub content_fragment : Content → ℕ → steps.Step
 content_fragment content.Text = steps.text_fragment
 content_fragment content.Binary = steps.binary_fragment
 
+-- the machine's step of the end of a text, or of a binary
 abbrev pub content_end : Content → steps.Step
 content_end content.Text = steps.text_end
 content_end content.Binary = steps.binary_end

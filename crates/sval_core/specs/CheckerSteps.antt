@@ -16,16 +16,19 @@ pub data Form : Type 0 where
   Variant : Form
   Other : Form
 
+-- the value is a text
 abbrev pub is_text : Form → Bool
 is_text OneText = true
 is_text Variant = false
 is_text Other = false
 
+-- the value is what an enum may hold
 abbrev pub is_variant : Form → Bool
 is_variant OneText = false
 is_variant Variant = true
 is_variant Other = false
 
+-- the form of a container: an enum may hold it unless it is a sequence or a map
 abbrev pub form_of_head : Head → Form
 form_of_head Head.Seq = Other
 form_of_head Head.Map = Other
@@ -58,6 +61,7 @@ abbrev pub is_used_up : Option ℕ → Bool
 is_used_up None = true
 is_used_up (Some due) = due == 0
 
+-- the two kinds of parts are the same
 abbrev pub same_kind : Kind → Kind → Bool
 same_kind Item Item = true
 same_kind Key Key = true
@@ -72,10 +76,11 @@ abbrev pub may_end : Kind → Bool
 may_end Value = false
 may_end kind = true
 
--- a whole value stands directly in the innermost of the frames, and none does
+-- the state of these frames where a whole value stands directly in the innermost
 abbrev pub filled : List Frame → State
 filled frames = record { filled = true; frames = frames }
 
+-- the state of these frames where no whole value stands directly in the innermost
 abbrev pub unfilled : List Frame → State
 unfilled frames = record { filled = false; frames = frames }
 
@@ -97,35 +102,41 @@ begin form frame s = then_some (has_room form s) (unfilled (frame ∷ s.frames))
 abbrev pub Step : Type 0
 Step = Bool → Option Frame → List Frame → Option State
 
+-- what a step makes of a state
 abbrev pub at_top : Step → State → Option State
 at_top step s = step s.filled (top_of s.frames) (below s.frames)
 
--- so many bytes of a text
+-- the step of a text's fragment, which has so many bytes
 abbrev pub text_fragment : ℕ → Step
 text_fragment n false (Some (InText left)) around = option_map (λ rest. unfilled (InText rest ∷ around)) (take_off left n)
 text_fragment n b top around = None
 
+-- the step of a text's end: of a size that was given nothing is still to come
 abbrev pub text_end : Step
 text_end false (Some (InText left)) around = then_some (is_used_up left) (filled around)
 text_end b top around = None
 
+-- the step of a binary's fragment, which has so many bytes
 abbrev pub binary_fragment : ℕ → Step
 binary_fragment n false (Some (InBinary left)) around = option_map (λ rest. unfilled (InBinary rest ∷ around)) (take_off left n)
 binary_fragment n b top around = None
 
+-- the step of a binary's end: of a size that was given nothing is still to come
 abbrev pub binary_end : Step
 binary_end false (Some (InBinary left)) around = then_some (is_used_up left) (filled around)
 binary_end b top around = None
 
+-- the step of a tagged value's end: it holds a whole value, and its end says the name of its begin
 abbrev pub tagged_end : Name → Step
 tagged_end ended true (Some (InTagged name)) around = then_some (same_name ended name) (filled around)
 tagged_end ended b top around = None
 
--- an enum may be empty
+-- the step of an enum's end, which says the name of its begin; an enum may be empty
 abbrev pub enum_end : Name → Step
 enum_end ended b (Some (InEnum name)) around = then_some (same_name ended name) (filled around)
 enum_end ended b top around = None
 
+-- the step of a container's end, which says what its begin said: no key waits, of a given size nothing is to come
 abbrev pub end : Head → Step
 end ended false (Some (InContainer head kind left)) around = then_some (same_head ended head && (may_end kind && is_used_up left)) (filled around)
 end ended b top around = None
@@ -135,11 +146,13 @@ abbrev pub begun_part : Bool → Slot → Head → Kind → List Frame → Optio
 begun_part true slot head kind around (Some rest) = Some (unfilled (InPart (plain_slot slot) ∷ InContainer head (next_kind kind) rest ∷ around))
 begun_part b slot head kind around left = None
 
+-- the step of a part's begin: its kind comes next in its container, whose size, if it was given, has room for it
 abbrev pub part_begin : Slot → Step
 part_begin slot false (Some (InContainer head kind left)) around =
     begun_part (same_kind (kind_of slot) kind) slot head kind around (take_off left (new_entries slot))
 part_begin slot b top around = None
 
+-- the step of a part's end, which says what its begin said: a whole value stands in the part
 abbrev pub part_end : Slot → Step
 part_end ended true (Some (InPart slot)) around = then_some (same_slot ended slot) (unfilled around)
 part_end ended b top around = None

@@ -34,5 +34,6 @@ AreExactFrom due (End head ∷ calls) = (outer : List Call) × (due ≡ End head
 AreExactFrom due (PartEnd slot ∷ calls) = (outer : List Call) × (due ≡ PartEnd slot ∷ outer) × AreExactFrom outer calls
 AreExactFrom due (call ∷ calls) = AreExactFrom due calls
 
+-- texts and binaries come whole, and each end says what the begin said that it ends
 abbrev pub AreExact : List Call → Type 0
 AreExact calls = AreExactFrom [] calls

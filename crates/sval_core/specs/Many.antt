@@ -14,6 +14,7 @@ SpellsAll calls (tree ∷ trees) =
 abbrev pub IsViableAll : List Call → Type 0
 IsViableAll calls = (more : List Call) × (trees : List Tree) × SpellsAll (calls ++ more) trees
 
+-- the call is no hint at a tag
 abbrev pub IsNoHint : Call → Type 0
 IsNoHint call = plain_call call ≡ None → ⊥
 

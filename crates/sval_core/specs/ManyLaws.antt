@@ -14,10 +14,11 @@ SpellsOneList = (calls : List Call) (trees others : List Tree) → SpellsAll cal
 abbrev pub OneTreeIsAList : Type 0
 OneTreeIsAList = (calls : List Call) (tree : Tree) → (Spells calls tree → SpellsAll calls (tree ∷ [])) × (SpellsAll calls (tree ∷ []) → Spells calls tree)
 
--- every front of calls that can be completed can be completed, and so can each spelling
+-- where calls can be completed to a list of trees, so can every front of them
 abbrev pub ListFrontsAreViable : Type 0
 ListFrontsAreViable = (front rest : List Call) → IsViableAll (front ++ rest) → IsViableAll front
 
+-- calls that spell a list of trees can be completed to one
 abbrev pub ListSpellingsAreViable : Type 0
 ListSpellingsAreViable = (calls : List Call) (trees : List Tree) → SpellsAll calls trees → IsViableAll calls
 

@@ -2,10 +2,11 @@
 use Rattle.std.specs.Prelude.{ℕ, Bool, true, List, [], ◌∷◌, ◌++◌, length, flat_map, Some}
 use Rattle.sval_label.specs.Calls.{Head, Slot, Call}
 
--- a text, and a binary, each in one fragment after its length
+-- a text in one fragment after its length
 abbrev pub text_calls : (borrowed : Bool) → List ℕ → List Call
 text_calls borrowed text = Call.TextBegin (Some (length text)) ∷ Call.TextFragment borrowed text ∷ Call.TextEnd ∷ []
 
+-- a binary in one borrowed fragment after its length
 abbrev pub binary_calls : List ℕ → List Call
 binary_calls bytes = Call.BinaryBegin (Some (length bytes)) ∷ Call.BinaryFragment true bytes ∷ Call.BinaryEnd ∷ []
 
@@ -17,9 +18,10 @@ part_calls slot calls = Call.PartBegin slot ∷ (calls ++ Call.PartEnd slot ∷ 
 abbrev pub container_calls : Head → ℕ → List Call → List Call
 container_calls head size parts = Call.Begin head (Some size) ∷ (parts ++ Call.End head ∷ [])
 
--- an item of a sequence, and the sequence
+-- an item of a sequence
 abbrev pub item_calls : {T : Type 0} → (T → List Call) → T → List Call
 item_calls calls x = part_calls Slot.Item (calls x)
 
+-- a sequence of items, which tells how many they are
 abbrev pub seq_calls : {T : Type 0} → (T → List Call) → List T → List Call
 seq_calls calls xs = container_calls Head.Seq (length xs) (flat_map (item_calls calls) xs)

@@ -11,9 +11,11 @@ use Rattle.sval_core.specs.ValueTrees.{Tells, TellsParts, tagged_tree, unit_tree
 
 -- ---- joining
 
+-- it makes no difference which two of three emissions are joined first
 abbrev pub EmissionsAssociate : Type 0
 EmissionsAssociate = (a b c : Emission) → then_emits (then_emits a b) c ≡ then_emits a (then_emits b c)
 
+-- joining what makes no call and doesn't refuse changes nothing
 abbrev pub SilentIsUnit : Type 0
 SilentIsUnit = (e : Emission) → (then_emits silent e ≡ e) × (then_emits e silent ≡ e)
 
@@ -23,6 +25,7 @@ PartsJoin T = (emission : T → Emission) (first second : List T) → parts_emis
 
 -- ---- values that are built of no others
 
+-- each of these values is whole, and spells its tree
 pub record PlainValuesTell : Type 0 where
   pub null : Tells null_emission tree.Null
   pub truth : (b : Bool) → Tells (truth_emission b) (tree.Truth b)
@@ -44,10 +47,11 @@ pub record EnumsTell : Type 0 where
   pub of_variant : (name : Name) (e : Emission) (t : Tree) → IsVariant t → Tells e t → Tells (enum_emission name e) (tree.Enum (plain_name name) t)
   pub empty : (name : Name) → Tells (enum_emission name silent) (tree.EmptyEnum (plain_name name))
 
--- no part, and one part before others
+-- what makes no call is no part
 abbrev pub NoPartTells : Type 0
 NoPartTells = TellsParts silent tree.none
 
+-- a whole value in a part, in front of other parts, is one part more
 abbrev pub PartTells : Type 0
 PartTells = (slot : Slot) (e more : Emission) (t : Tree) (parts : Parts) → Tells e t → TellsParts more parts
     → TellsParts (then_emits (part_emission slot e) more) (tree.part (plain_slot slot) t parts)
@@ -62,10 +66,12 @@ abbrev pub SequencesTell : Type 0 → Type 0
 SequencesTell T = (emission : T → Emission) (t : T → Tree) (xs : List T) → AllByRecursion (λ x. Tells (emission x) (t x)) xs
     → Tells (seq_emission emission xs) (seq_tree t xs) × Tells (array_emission emission xs) (array_tree t xs)
 
+-- where what an option holds is a whole value, the option is
 abbrev pub OptionsTell : Type 0 → Type 0
 OptionsTell T = (emission : T → Emission) (t : T → Tree) (o : Option T) → ((x : T) → o ≡ Some x → Tells (emission x) (t x))
     → Tells (option_emission emission o) (option_tree t o)
 
+-- where each key and each value is a whole value, the map of them is
 abbrev pub MapsTell : Type 0 → Type 0 → Type 0
 MapsTell K V = (key : K → Emission) (value : V → Emission) (k : K → Tree) (v : V → Tree) (all : List (K × V))
     → AllByRecursion (λ entry. Tells (key entry.0) (k entry.0) × Tells (value entry.1) (v entry.1)) all → Tells (map_emission key value all) (map_tree k v all)
@@ -76,5 +82,6 @@ TellEach [] [] = ⊤
 TellEach (e ∷ es) (t ∷ ts) = Tells e t × TellEach es ts
 TellEach _ _ = ⊥
 
+-- where each part is a whole value, the tuple of them is
 abbrev pub TuplesTell : Type 0
 TuplesTell = (es : List Emission) (ts : List Tree) → TellEach es ts → Tells (tuple_emission es) (tuple_tree ts)

@@ -20,6 +20,7 @@ same_label a b = bytes_eq a.text b.text
 abbrev pub same_index : Index → Index → Bool
 same_index a b = int_eq a.number b.number
 
+-- two indexes are ordered by their numbers alone
 abbrev pub index_cmp : Index → Index → Ordering
 index_cmp a b = int_cmp a.number b.number
 
@@ -29,6 +30,7 @@ label_writes label = str label.text
 
 -- ---- the laws, as facts
 
+-- tags are equal exactly where their texts are, which is an equivalence
 pub record TagsByTexts : Type 0 where
   pub decides : (a b : Tag) → Decides (same_tag a b) (a ≡ b)
   pub equivalence : IsEquivalence same_tag

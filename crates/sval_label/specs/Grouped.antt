@@ -16,7 +16,7 @@ use Rattle.sval_label.specs.SeenTags.{seen_ref_tag}
 use Rattle.sval_label.specs.SeenName.{seen_option_tag, seen_name}
 use Rattle.sval_label.specs.Calls as calls
 
--- its number
+-- the number that a whole number of the program is
 abbrev pub int_number : made_int.Int → ℤ
 int_number (int.U8 n) = pos n
 int_number (int.U16 n) = pos n
@@ -29,7 +29,7 @@ int_number (int.I32 n) = n
 int_number (int.I64 n) = n
 int_number (int.I128 n) = n
 
--- its type
+-- the type that a whole number of the program has
 abbrev pub int_type : made_int.Int → calls.IntType
 int_type (int.U8 n) = calls.U8
 int_type (int.U16 n) = calls.U16
@@ -46,15 +46,17 @@ int_type (int.I128 n) = calls.I128
 abbrev pub int_call : made_int.Int → calls.Call
 int_call n = calls.Int (int_type n) (int_number n)
 
--- `lent` reads a borrowed fragment
+-- the call of a text's fragment; `lent` reads a borrowed one
 abbrev pub text_call : {T : Type 0} → (T → List ℕ) → made_fragment.Fragment T (Bor (List ℕ)) → calls.Call
 text_call lent (Borrowed fragment) = calls.TextFragment true (lent fragment)
 text_call lent (Computed fragment) = calls.TextFragment false fragment.now
 
+-- the call of a binary's fragment; `lent` reads a borrowed one
 abbrev pub binary_call : {B : Type 0} → (B → List ℕ) → made_fragment.Fragment B (Bor (List ℕ)) → calls.Call
 binary_call lent (Borrowed fragment) = calls.BinaryFragment true (lent fragment)
 binary_call lent (Computed fragment) = calls.BinaryFragment false fragment.now
 
+-- what a container's begin and end say of it: which it is, and its name, if it has one
 abbrev pub seen_head : made_head.Head → calls.Head
 seen_head head.Seq = calls.Seq
 seen_head head.Map = calls.Map
@@ -62,6 +64,7 @@ seen_head (head.Record name) = calls.Record (seen_name name)
 seen_head (head.Tuple name) = calls.Tuple (seen_name name)
 seen_head (head.RecordTuple name) = calls.RecordTuple (seen_name name)
 
+-- what a part's begin and end say of its place: which it is, and its tag, label and index, as far as it has them
 abbrev pub seen_slot : made_slot.Slot → calls.Slot
 seen_slot slot.Item = calls.Item
 seen_slot slot.Key = calls.Key
@@ -70,7 +73,7 @@ seen_slot (slot.Field tag label) = calls.Field (seen_option_tag tag) label.now
 seen_slot (slot.Place tag index) = calls.Place (seen_option_tag tag) (seen_index index.now)
 seen_slot (slot.FieldPlace tag label index) = calls.FieldPlace (seen_option_tag tag) label.now (seen_index index.now)
 
--- `text` and `bytes` read a borrowed fragment
+-- the call that a call in its group is; `text` and `bytes` read a borrowed fragment
 abbrev pub grouped_call : {T B : Type 0} → (T → List ℕ) → (B → List ℕ) → GroupedCall T B → calls.Call
 grouped_call text bytes grouped.Null = calls.Null
 grouped_call text bytes (grouped.Bool b) = calls.Truth b

@@ -8,7 +8,7 @@ use Rattle.sval_label.specs.SeenTags.{seen_ref_tag}
 use Rattle.sval_label.specs.SeenName.{seen_option_tag, seen_name}
 use Rattle.sval_label.specs.Calls.{Call, Null, Truth, Int, U8, U16, U32, U64, U128, I8, I16, I32, I64, I128, Standalone, TagHint, TextBegin, TextFragment, TextEnd, BinaryBegin, BinaryFragment, BinaryEnd, EnumBegin, EnumEnd, TaggedBegin, TaggedEnd, Begin, End, PartBegin, PartEnd, Seq, Map, Record, Tuple, RecordTuple, Item, Key, Value, Field, Place, FieldPlace}
 
--- `text` and `bytes` read a borrowed fragment
+-- the call that a call of the program is; `text` and `bytes` read a borrowed fragment
 abbrev pub call_of : {T B : Type 0} → (T → List ℕ) → (B → List ℕ) → AnyCall T B → Call
 call_of text bytes made.Null = Null
 call_of text bytes (made.Bool b) = Truth b

@@ -5,9 +5,11 @@ use Rattle.sval_label.specs.Calls as calls
 use Rattle.sval_label.specs.Ranges.{is_signed}
 use Rattle.sval_label.specs.SeenTags.{seen_tag}
 
+-- its number, and its tag, if it has one
 abbrev pub seen_index : program.Index → calls.Index
 seen_index index = record { number = index.number; tag = option_map seen_tag index.tag }
 
+-- the index of this number that has no tag
 abbrev pub untagged : ℤ → calls.Index
 untagged number = record { number = number; tag = None }
 

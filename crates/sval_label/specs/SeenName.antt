@@ -9,6 +9,7 @@ use Rattle.sval_label.specs.Calls as calls
 use Rattle.sval_label.specs.SeenTags.{seen_ref_tag}
 use Rattle.sval_label.specs.SeenIndex.{seen_index}
 
+-- the tag, where one is given
 abbrev pub seen_option_tag : Option (Bor program_tag.Tag) → Option calls.Tag
 seen_option_tag tag = option_map seen_ref_tag tag
 
@@ -16,5 +17,6 @@ seen_option_tag tag = option_map seen_ref_tag tag
 abbrev pub name_of : Option (Bor program_tag.Tag) → Option (Bor program_label.Label) → Option (Bor program_index.Index) → calls.Name
 name_of tag label index = record { tag = seen_option_tag tag; label = option_map (λ label. label.now) label; index = option_map (λ index. seen_index index.now) index }
 
+-- its tag, its label and its index, each where it is given
 abbrev pub seen_name : program.Name → calls.Name
 seen_name name = name_of name.tag name.label name.index

@@ -7,5 +7,6 @@ use Rattle.sval_label.specs.Calls as calls
 abbrev pub seen_tag : program.Tag → calls.Tag
 seen_tag tag = tag.text.now
 
+-- the text of the tag that is referred to
 abbrev pub seen_ref_tag : Bor program.Tag → calls.Tag
 seen_ref_tag tag = seen_tag tag.now

@@ -12,6 +12,7 @@ use Rattle.sval_lower.specs.Lowered.{is_base, lowered}
 abbrev pub wide_tree : ℤ → Tree
 wide_tree n = if is_signed 63 n then Int IntType.I64 n else Text (signed_decimal n)
 
+-- a number of a signed type up to 64 bits is an `i64`; of any other it is one where it fits, and else its digits
 abbrev pub int_tree : IntType → ℤ → Tree
 int_tree IntType.I8 n = Int IntType.I64 n
 int_tree IntType.I16 n = Int IntType.I64 n
@@ -19,10 +20,12 @@ int_tree IntType.I32 n = Int IntType.I64 n
 int_tree IntType.I64 n = Int IntType.I64 n
 int_tree _ n = wide_tree n
 
+-- a label as a text, and no label as `null`
 abbrev pub label_tree : Option Label → Tree
 label_tree (Some label) = Text label.text
 label_tree None = Null
 
+-- a tag by itself: `null` where it says that there is no value, or has no label, and else its label
 abbrev pub own_tree : Name → Tree
 own_tree name = if says_none name.tag then Null else label_tree name.label
 
@@ -30,6 +33,7 @@ own_tree name = if says_none name.tag then Null else label_tree name.label
 abbrev pub pair_tree : Tree → Tree → Tree
 pair_tree first second = Container Head.Seq (part Slot.Item first (part Slot.Item second none))
 
+-- the bytes of a binary as the items of a sequence, each a number
 abbrev pub byte_parts : List ℕ → Parts
 byte_parts [] = none
 byte_parts (byte ∷ bytes) = part Slot.Item (int_tree IntType.U8 (pos byte)) (byte_parts bytes)
@@ -48,6 +52,7 @@ abbrev mutual
   base_tree (Enum _ tree) = base_tree tree
   base_tree (Container _ parts) = Container Head.Seq (base_parts parts)
 
+  -- each part or entry as an item; the last row is met by no good tree, where keys and values come in pairs
   pub base_parts : Parts → Parts
   base_parts none = none
   base_parts (part Slot.Item tree parts) = part Slot.Item (base_tree tree) (base_parts parts)
@@ -66,6 +71,7 @@ abbrev mutual
   HoldsVariants (Container _ parts) = HoldVariants parts
   HoldsVariants _ = ⊤
 
+  -- each enum in the parts' trees holds a variant
   pub HoldVariants : Parts → Type 0
   HoldVariants none = ⊤
   HoldVariants (part _ tree parts) = HoldsVariants tree × HoldVariants parts

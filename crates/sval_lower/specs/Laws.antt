@@ -25,10 +25,11 @@ LeavesBase = (calls : List Call) → AllByRecursion (λ call. is_base call ≡ t
 abbrev pub LowersJoined : Type 0
 LowersJoined = (taken : Call → Bool) (first second : List Call) → lowered taken (first ++ second) ≡ lowered taken first ++ lowered taken second
 
--- a call that is taken stays, and another one is lowered as its lower calls are
+-- a call that is taken stays
 abbrev pub KeepsTaken : Type 0
 KeepsTaken = (taken : Call → Bool) (call : Call) → taken call ≡ true → lowered taken (call ∷ []) ≡ call ∷ []
 
+-- a call that isn't taken is lowered as its lower calls are
 abbrev pub LowersByStep : Type 0
 LowersByStep = (taken : Call → Bool) (call : Call) → taken call ≡ false → lowered taken (call ∷ []) ≡ lowered taken (lower call)
 

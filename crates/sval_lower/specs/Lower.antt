@@ -9,6 +9,7 @@ use Rattle.sval_core.specs.Names.{number_tag, no_name, tag_alone, untagged, says
 abbrev pub label_calls : Label → List Call
 label_calls label = Call.TextBegin (Some (length label.text)) ∷ Call.TextFragment label.is_static label.text ∷ Call.TextEnd ∷ []
 
+-- a label as a text, and no label as `null`
 abbrev pub label_or_null : Option Label → List Call
 label_or_null (Some label) = label_calls label
 label_or_null None = Call.Null ∷ []
@@ -42,6 +43,7 @@ int_calls IntType.I128 n = wide_calls n
 abbrev pub byte_calls : ℕ → List Call
 byte_calls byte = Call.PartBegin Slot.Item ∷ Call.Int IntType.U8 (pos byte) ∷ Call.PartEnd Slot.Item ∷ []
 
+-- a map begins as a sequence, a record as a tagged map, a tuple as a tagged sequence, a record tuple as a record
 abbrev pub begin_calls : Head → Option ℕ → List Call
 begin_calls Head.Seq size = Call.Begin Head.Seq size ∷ []
 begin_calls Head.Map size = Call.Begin Head.Seq size ∷ []
@@ -49,6 +51,7 @@ begin_calls (Head.Record name) size = Call.TaggedBegin name ∷ Call.Begin Head.
 begin_calls (Head.Tuple name) size = Call.TaggedBegin name ∷ Call.Begin Head.Seq size ∷ []
 begin_calls (Head.RecordTuple name) size = Call.Begin (Head.Record name) size ∷ []
 
+-- a container's end ends all that its begin began
 abbrev pub end_calls : Head → List Call
 end_calls Head.Seq = Call.End Head.Seq ∷ []
 end_calls Head.Map = Call.End Head.Seq ∷ []
@@ -65,6 +68,7 @@ part_begin_calls (Slot.Field tag label) = Call.PartBegin Slot.Key ∷ (label_cal
 part_begin_calls (Slot.Place tag index) = Call.PartBegin Slot.Item ∷ []
 part_begin_calls (Slot.FieldPlace tag label index) = Call.PartBegin (Slot.Field tag label) ∷ []
 
+-- a part's end ends what its begin began, but the item and the pair that a key's began end with its value
 abbrev pub part_end_calls : Slot → List Call
 part_end_calls Slot.Item = Call.PartEnd Slot.Item ∷ []
 part_end_calls Slot.Key = Call.PartEnd (Slot.Place None (untagged 0)) ∷ []

@@ -27,7 +27,7 @@ pub data LowersTo (taken : Call → Bool) : List Call → List Call → Type 0 w
   keeps : {call : Call} {calls result : List Call} → taken call ≡ true → LowersTo taken calls result → LowersTo taken (call ∷ calls) (call ∷ result)
   replaces : {call : Call} {calls result : List Call} → taken call ≡ false → LowersTo taken (lower call ++ calls) result → LowersTo taken (call ∷ calls) result
 
--- how often a call can be lowered: more often than each of its lower calls
+-- how often a whole number can be lowered, with its lower calls in turn, at most
 abbrev pub int_rank : IntType → ℕ
 int_rank IntType.U8 = 6
 int_rank IntType.U16 = 5
@@ -40,6 +40,7 @@ int_rank IntType.I32 = 1
 int_rank IntType.I64 = 0
 int_rank IntType.I128 = 2
 
+-- how often the begin or the end of a container can be lowered, with its lower calls in turn, at most
 abbrev pub head_rank : Head → ℕ
 head_rank Head.Seq = 0
 head_rank Head.Map = 1
@@ -47,6 +48,7 @@ head_rank (Head.Record _) = 2
 head_rank (Head.Tuple _) = 2
 head_rank (Head.RecordTuple _) = 3
 
+-- how often the begin or the end of a part can be lowered, with its lower calls in turn, at most
 abbrev pub slot_rank : Slot → ℕ
 slot_rank Slot.Item = 0
 slot_rank Slot.Key = 3
@@ -55,6 +57,7 @@ slot_rank (Slot.Field _ _) = 4
 slot_rank (Slot.Place _ _) = 1
 slot_rank (Slot.FieldPlace _ _ _) = 5
 
+-- how often a call can be lowered at most, with its lower calls in turn: more often than each of these
 abbrev pub rank : Call → ℕ
 rank (Call.Int type _) = int_rank type
 rank (Call.Standalone _) = 2
@@ -79,6 +82,7 @@ unfoldable pub lowered_within : ℕ → (Call → Bool) → Call → List Call
 lowered_within zero taken call = call ∷ []
 lowered_within (suc n) taken call = elim (taken call) [ true ↦ call ∷ [] | false ↦ flat_map (lowered_within n taken) (lower call) ]
 
+-- one call as the stream is told it
 abbrev pub lowered_call : (Call → Bool) → Call → List Call
 lowered_call taken call = lowered_within (rank call) taken call
 

@@ -9,6 +9,7 @@ use Rattle.sval_script.specs.declared.print_error.PrintError.TheVariants as erro
 use Rattle.sval_script.specs.Printed.{printed}
 use Rattle.sval_script.specs.Printing.{HasKnownTags}
 
+-- all tags of the calls are among the ten names
 abbrev pub HaveKnownTags : List Call → Type 0
 HaveKnownTags calls = AllByRecursion HasKnownTags calls
 
