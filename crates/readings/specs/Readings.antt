@@ -9,18 +9,20 @@ use Rattle.sval_core.specs.ValueTrees.{seq_tree}
 use Rattle.readings.specs.declared.Reading.{Reading}
 use Rattle.readings.specs.declared.Reading.TheVariants.{Note, Measure}
 
--- a text, or a number
+-- the calls of a reading: those of a text, or a number
 abbrev pub reading_calls : Reading → List Call
 reading_calls (Note text) = text_calls true (string_bytes text)
 reading_calls (Measure n) = Int I64 n ∷ []
 
+-- the tree of a reading: a text, or a number
 abbrev pub reading_tree : Reading → Tree
 reading_tree (Note text) = tree.Text (string_bytes text)
 reading_tree (Measure n) = tree.Int I64 n
 
--- the sequence of them
+-- the calls of the sequence of them
 abbrev pub readings_calls : List Reading → List Call
 readings_calls readings = seq_calls reading_calls readings
 
+-- the tree of the sequence of them
 abbrev pub readings_tree : List Reading → Tree
 readings_tree readings = seq_tree reading_tree readings

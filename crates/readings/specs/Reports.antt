@@ -13,10 +13,11 @@ use Rattle.readings.specs.Readings.{readings_calls}
 unfoldable pub title_item : List ℕ → Emission
 title_item title = makes (part_calls Item (text_calls true title))
 
--- the readings, and these as an item
+-- the sequence of the readings
 unfoldable pub all_readings : Readings → Emission
 all_readings all = makes (readings_calls all.readings.items)
 
+-- that sequence as an item
 abbrev pub readings_item : Readings → Emission
 readings_item all = part_emission Item (all_readings all)
 
@@ -24,5 +25,6 @@ readings_item all = part_emission Item (all_readings all)
 abbrev pub report_parts : Report → Emission
 report_parts report = then_emits (title_item (string_bytes report.title)) (readings_item report.readings)
 
+-- a report: the sequence of the two items
 abbrev pub report_emission : Report → Emission
 report_emission report = container_emission Seq 2 (report_parts report)

@@ -9,6 +9,7 @@ abbrev pub added : ℤ → Call → ℤ
 added total (Int I64 n) = saturate_signed w64 (total +ℤ n)
 added total _ = total
 
+-- the law of a total: every call is accepted, and the `i64` numbers are added up
 abbrev pub total_law : Law ℤ
 total_law = record { accepts = λ _ _. ⊤; after = added; stopped = λ _ _ _. ⊤ }
 

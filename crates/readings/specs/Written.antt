@@ -11,6 +11,7 @@ abbrev pub reading_shape : Reading → Json
 reading_shape (Note note) = text (string_bytes note)
 reading_shape (Measure n) = number (signed_decimal n)
 
+-- the readings as the items of an array, in order
 abbrev pub reading_items : List Reading → Items
 reading_items [] = no_item
 reading_items (reading ∷ readings) = item (reading_shape reading) (reading_items readings)

@@ -53,10 +53,12 @@ abbrev mutual
   cbor (array items) = 0x9f ∷ cbor_items items ++ (0xff ∷ [])
   cbor (object pairs) = 0xbf ∷ cbor_pairs pairs ++ (0xff ∷ [])
 
+  -- the bytes of an array's items, in order
   pub cbor_items : Items → List ℕ
   cbor_items no_item = []
   cbor_items (item json items) = cbor json ++ cbor_items items
 
+  -- the bytes of an object's pairs, in order, each a key, which is a text, and its value
   pub cbor_pairs : Pairs → List ℕ
   cbor_pairs no_pair = []
   cbor_pairs (pair key json pairs) = string 3 (key_bytes key) ++ cbor json ++ cbor_pairs pairs

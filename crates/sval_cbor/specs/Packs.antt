@@ -95,11 +95,12 @@ abbrev mutual
   packs (Container (Head.Tuple name) parts) variant = map_ok (λ places. wrap Inside variant name (array places)) (packed_items parts)
   packs (Container (Head.RecordTuple name) parts) variant = map_ok (λ fields. wrap Inside variant name (object fields)) (packed_pairs parts)
 
+  -- the items that parts pack to, in order, or the first refusal
   pub packed_items : Parts → Result Items PackRefusal
   packed_items none = Ok no_item
   packed_items (part _ tree parts) = on_ok (packs tree false) (λ json. map_ok (item json) (packed_items parts))
 
-  -- a map's key and value, or a field by its label, is a pair
+  -- a map's key and value, or a field by its label, is a pair; no other part stands in a good map or record
   pub packed_pairs : Parts → Result Pairs PackRefusal
   packed_pairs (part Slot.Key name (part _ tree parts)) = on_ok (pack_key name) (λ k. on_ok (packs tree false) (λ json. map_ok (pair k json) (packed_pairs parts)))
   packed_pairs (part (Slot.Field _ label) tree parts) = on_ok (packs tree false) (λ json. map_ok (pair (escaped_key label.text) json) (packed_pairs parts))

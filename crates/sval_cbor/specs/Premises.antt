@@ -34,6 +34,7 @@ abbrev mutual
   IsShort (Container head parts) = IsShortName (head_name head) × AreShort parts
   IsShort _ = ⊤
 
+  -- each text and each label in the parts is shorter than 2 ^ 64 bytes
   pub AreShort : Parts → Type 0
   AreShort none = ⊤
   AreShort (part slot tree parts) = IsShortSlot slot × IsShort tree × AreShort parts
@@ -46,6 +47,7 @@ abbrev mutual
   HasPlainIdentifiers (Container _ parts) = HavePlainIdentifiers parts
   HasPlainIdentifiers _ = ⊤
 
+  -- each field's label in the parts that is tagged `VALUE_IDENT` needs no escapes
   pub HavePlainIdentifiers : Parts → Type 0
   HavePlainIdentifiers none = ⊤
   HavePlainIdentifiers (part slot tree parts) = KeepsSlotPromise slot × HasPlainIdentifiers tree × HavePlainIdentifiers parts

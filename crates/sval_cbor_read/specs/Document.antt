@@ -26,6 +26,7 @@ abbrev mutual
   item_calls truth more = Call.Truth true ∷ more
   item_calls null more = Call.Null ∷ more
 
+  -- the calls of what a head stands for, in front of others
   pub body_calls : {major n : ℕ} {after rest : List ℕ} {tree : Tree} → IsBody major n after tree rest → List Call → List Call
   body_calls (unsigned {n = n}) more = Call.Int U64 (pos n) ∷ more
   body_calls (negative {n = n}) more = Call.Int (negative_type n) (negsuc n) ∷ more
@@ -37,18 +38,22 @@ abbrev mutual
   body_calls (negative_big {content = content} s h) more = Call.Int I128 (negsuc (big_endian content)) ∷ more
   body_calls (tagged h k i) more = item_calls i more
 
+  -- the calls of as many items as a head says, each as a part, in front of others
   pub items_calls : {n : ℕ} {bytes rest : List ℕ} {parts : Parts} → AreItems n bytes parts rest → List Call → List Call
   items_calls no_items more = more
   items_calls (an_item i s) more = part_calls calls.Item (item_calls i) (items_calls s more)
 
+  -- the calls of as many pairs as a head says, each as a key and a value, in front of others
   pub entries_calls : {n : ℕ} {bytes rest : List ℕ} {parts : Parts} → AreEntries n bytes parts rest → List Call → List Call
   entries_calls no_pairs more = more
   entries_calls (a_pair i v s) more = part_calls calls.Key (item_calls i) (part_calls calls.Value (item_calls v) (entries_calls s more))
 
+  -- the calls of the items up to a break, each as a part, in front of others
   pub items_to_break_calls : {bytes rest : List ℕ} {parts : Parts} → ItemsToBreak bytes parts rest → List Call → List Call
   items_to_break_calls items_end more = more
   items_to_break_calls (items_go_on i s) more = part_calls calls.Item (item_calls i) (items_to_break_calls s more)
 
+  -- the calls of the pairs up to a break, each as a key and a value, in front of others
   pub entries_to_break_calls : {bytes rest : List ℕ} {parts : Parts} → EntriesToBreak bytes parts rest → List Call → List Call
   entries_to_break_calls entries_end more = more
   entries_to_break_calls (entries_go_on i v s) more = part_calls calls.Key (item_calls i) (part_calls calls.Value (item_calls v) (entries_to_break_calls s more))

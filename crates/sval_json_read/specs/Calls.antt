@@ -11,6 +11,7 @@ pub data Piece : Type 0 where
   run : List ℕ → Piece
   escape : List ℕ → Piece
 
+-- the bytes of a string's text that the piece stands for
 abbrev pub piece_bytes : Piece → List ℕ
 piece_bytes (run bytes) = bytes
 piece_bytes (escape bytes) = bytes
@@ -38,6 +39,7 @@ unit_escape (Some high) (Some low) =
 unit_escape (Some unit) None = record { stands_for = encode_utf8 unit; follow = 5 }
 unit_escape None _ = record { stands_for = []; follow = 0 }
 
+-- the escape of one letter, where it stands for this byte, and else another escape
 abbrev pub short_or : Option ℕ → Escape → Escape
 short_or (Some byte) _ = record { stands_for = byte ∷ []; follow = 1 }
 short_or None other = other
@@ -54,6 +56,7 @@ pieces_after (suc skipped) (byte ∷ bytes) = pieces_after skipped bytes
 pieces_after zero (byte ∷ bytes) =
     if byte == 92 then escape (escape_after bytes).stands_for ∷ pieces_after (escape_after bytes).follow bytes else byte_before byte (pieces_after 0 bytes)
 
+-- the pieces of a string's bytes
 abbrev pub pieces : List ℕ → List Piece
 pieces bytes = pieces_after 0 bytes
 
@@ -62,27 +65,31 @@ abbrev pub piece_call : Piece → Call
 piece_call (run bytes) = Call.TextFragment true bytes
 piece_call (escape bytes) = Call.TextFragment false bytes
 
+-- a string: a text whose length isn't told, with a fragment for each piece
 abbrev pub text_calls : List ℕ → List Call
 text_calls bytes = Call.TextBegin None ∷ (map piece_call (pieces bytes) ++ (Call.TextEnd ∷ []))
 
+-- a number: an `i64` where it has no fraction and no exponent and fits, and else its text under the tag `NUMBER`
 abbrev pub number_calls : List ℕ → List Call
 number_calls text =
     if fits_i64 text then Call.Int I64 (whole_value text) ∷ []
     else Call.TaggedBegin number_name ∷ Call.TextBegin (Some (length text)) ∷ Call.TextFragment true text ∷ Call.TextEnd ∷ Call.TaggedEnd number_name ∷ []
 
+-- the begin of the part that a value in this place stands in, if it stands in one
 abbrev pub place_begins : Place → List Call
 place_begins Alone = []
 place_begins Item = Call.PartBegin Slot.Item ∷ []
 place_begins Key = Call.PartBegin Slot.Key ∷ []
 place_begins Value = Call.PartBegin Slot.Value ∷ []
 
+-- the end of the part that a value in this place stands in, if it stands in one
 abbrev pub place_ends : Place → List Call
 place_ends Alone = []
 place_ends Item = Call.PartEnd Slot.Item ∷ []
 place_ends Key = Call.PartEnd Slot.Key ∷ []
 place_ends Value = Call.PartEnd Slot.Value ∷ []
 
--- arrays and objects are sequences and maps without sizes
+-- the calls of a token in this place; arrays and objects are sequences and maps without sizes
 abbrev pub calls_in : Place → Token → List Call
 calls_in place Null = place_begins place ++ (Call.Null ∷ place_ends place)
 calls_in place (Truth b) = place_begins place ++ (Call.Truth b ∷ place_ends place)
@@ -93,8 +100,10 @@ calls_in place EndArray = Call.End Head.Seq ∷ place_ends place
 calls_in place BeginObject = place_begins place ++ (Call.Begin Head.Map None ∷ [])
 calls_in place EndObject = Call.End Head.Map ∷ place_ends place
 
+-- the calls of a token in its place
 abbrev pub token_calls : Placed → List Call
 token_calls placed = calls_in placed.place placed.token
 
+-- the calls of the tokens, one token after the other
 abbrev pub document_calls : List Placed → List Call
 document_calls tokens = flat_map token_calls tokens

@@ -41,6 +41,7 @@ AreLongest (run (_ ∷ _) ∷ run _ ∷ _) = ⊥
 AreLongest (run (_ ∷ _) ∷ pieces) = AreLongest pieces
 AreLongest (escape _ ∷ pieces) = AreLongest pieces
 
+-- the runs among a string's pieces are as long as they can be
 abbrev pub RunsAreLongest : Type 0
 RunsAreLongest = (bytes : List ℕ) → AreLongest (pieces bytes)
 
@@ -52,6 +53,7 @@ DocumentsSpell = (bytes : List ℕ) (tokens : List Placed) (document : IsDocumen
 abbrev pub NodesSpell : Type 0
 NodesSpell = (bytes : List ℕ) (nodes : List Node) (document : IsDocument bytes (tokens_in bytes nodes)) → Spells (streamed bytes nodes) (tree_of document.value)
 
+-- nodes make the calls of the tokens that they keep
 abbrev pub NodesMakeTheCalls : Type 0
 NodesMakeTheCalls = (bytes : List ℕ) (nodes : List Node) → streamed bytes nodes ≡ document_calls (tokens_in bytes nodes)
 
@@ -71,12 +73,13 @@ ReadsTheDocuments = (bytes : List ℕ) (tokens : List Placed) → (IsDocument by
 abbrev pub RefusesTheOthers : Type 0
 RefusesTheOthers = (bytes : List ℕ) → IsUtf8 bytes → read bytes ≡ None → IsBadJson bytes (taken bytes)
 
--- bytes that are UTF-8 are a document or fail, and not both
+-- bytes that are UTF-8 are a document or fail
 abbrev pub IsReadOrBad : Type 0
 IsReadOrBad =
     (bytes : List ℕ) → IsUtf8 bytes
     → ((tokens : List Placed) × IsDocument bytes tokens) ⊎ ((n : ℕ) × IsBadJson bytes n)
 
+-- no bytes are a document and fail too
 abbrev pub NotBoth : Type 0
 NotBoth = (bytes : List ℕ) (tokens : List Placed) (n : ℕ) → IsDocument bytes tokens → IsBadJson bytes n → ⊥
 

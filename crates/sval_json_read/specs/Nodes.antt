@@ -17,10 +17,12 @@ pub data Kept : Type 0 where
   BeginObject : Kept
   EndObject : Kept
 
+-- a token as it is kept, with its place
 pub record Node : Type 0 where
   pub place : Place
   pub kept : Kept
 
+-- the token that is kept so, whose number or string stands in these bytes
 abbrev pub token_in : List ℕ → Kept → Token
 token_in bytes Null = token.Null
 token_in bytes (Truth b) = token.Truth b
@@ -31,9 +33,11 @@ token_in bytes EndArray = token.EndArray
 token_in bytes BeginObject = token.BeginObject
 token_in bytes EndObject = token.EndObject
 
+-- the token of a node, in its place
 abbrev pub placed_in : List ℕ → Node → Placed
 placed_in bytes node = at node.place (token_in bytes node.kept)
 
+-- the tokens of the nodes, in order
 abbrev pub tokens_in : List ℕ → List Node → List Placed
 tokens_in bytes nodes = map (placed_in bytes) nodes
 

@@ -40,10 +40,11 @@ first_digit byte = if byte == zero_digit then Some Zero else when (is_ascii_digi
 abbrev pub first_phase : ℕ → Option Phase
 first_phase byte = if byte == minus then Some Minus else first_digit byte
 
--- after the integral digits, and after the fraction
+-- an exponent begins, with its mark
 abbrev pub exponent_begins : ℕ → Option Phase
 exponent_begins byte = when (is_exponent_mark byte) Mark
 
+-- after the integral digits a fraction begins, with its point, or an exponent
 abbrev pub tail_begins : ℕ → Option Phase
 tail_begins byte = if byte == point then Some Point else exponent_begins byte
 

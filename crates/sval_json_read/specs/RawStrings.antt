@@ -22,6 +22,7 @@ IsProperToken (token.Number text) = is_json_number text ≡ true
 IsProperToken (token.Text bytes) = IsRaw bytes
 IsProperToken _ = ⊤
 
+-- each number of the tokens is one of JSON, and each string's bytes are raw
 abbrev pub AreProperTokens : List Placed → Type 0
 AreProperTokens tokens = AllByRecursion (λ (placed : Placed). IsProperToken placed.token) tokens
 

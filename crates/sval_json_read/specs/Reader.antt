@@ -41,6 +41,7 @@ pub record State : Type 0 where
   pub opened : List Opened
   pub tokens : List Placed
 
+-- before the first byte: a value comes next, nothing is open, and no token was read
 abbrev pub start : State
 start = record { expected = AValue; opened = []; tokens = [] }
 
@@ -52,11 +53,12 @@ expects state expected = record { expected = expected; opened = state.opened; to
 abbrev pub adds : State → Place → Token → Expected → State
 adds state place token expected = record { expected = expected; opened = state.opened; tokens = state.tokens ++ (at place token ∷ []) }
 
--- an array or object begins or ends
+-- an array or object begins
 abbrev pub opens : State → Opened → Token → Expected → State
 opens state container token expected =
     record { expected = expected; opened = container ∷ state.opened; tokens = state.tokens ++ (at (place_in state.opened) token ∷ []) }
 
+-- an array or object ends, and these around it stay open
 abbrev pub ends : State → List Opened → Token → State
 ends state around token = record { expected = Next; opened = around; tokens = state.tokens ++ (at (place_in around) token ∷ []) }
 
@@ -95,10 +97,11 @@ abbrev pub letters_left : List ℕ → Expected
 letters_left [] = Next
 letters_left (letter ∷ letters) = Letter letter letters
 
--- a number ends with the byte before, and a string with its quote
+-- a number ends with the byte before
 abbrev pub number_ends : State → List ℕ → State
 number_ends state text = adds state (place_in state.opened) (token.Number text) Next
 
+-- a string ends with its quote: after a key a colon comes next
 abbrev pub string_ends : State → Bool → List ℕ → State
 string_ends state true bytes = adds state Key (token.Text bytes) Colon
 string_ends state false bytes = adds state (place_in state.opened) (token.Text bytes) Next
@@ -119,6 +122,7 @@ step_in (InString is_key within bytes) state byte =
     if closes within byte then Some (string_ends state is_key bytes)
     else option_map (λ next. expects state (InString is_key next (bytes ++ (byte ∷ [])))) (next_within within byte)
 
+-- one more byte; none where no text that denotes a value goes on with it
 abbrev pub step : State → ℕ → Option State
 step state byte = step_in state.expected state byte
 
@@ -133,6 +137,7 @@ at_end_in Next [] tokens = Some tokens
 at_end_in (InNumber phase text) [] tokens = if may_end phase then Some (tokens ++ (at Alone (token.Number text) ∷ [])) else None
 at_end_in _ _ tokens = None
 
+-- the tokens, where the text may end in this state
 abbrev pub at_end : State → Option (List Placed)
 at_end state = at_end_in state.expected state.opened state.tokens
 
@@ -145,5 +150,6 @@ abbrev pub taken_from : State → List ℕ → ℕ
 taken_from state [] = zero
 taken_from state (byte ∷ bytes) = option_map_or (λ next. suc (taken_from next bytes)) (step state byte) zero
 
+-- how many bytes of a text are taken before one is refused
 abbrev pub taken : List ℕ → ℕ
 taken bytes = taken_from start bytes

@@ -31,6 +31,7 @@ pub data Within : Type 0 where
 abbrev pub when : Bool → Within → Option Within
 when test within = if test then Some within else None
 
+-- a hex digit, in either case
 abbrev pub is_hex : ℕ → Bool
 is_hex byte = is_digit byte 16
 

@@ -26,6 +26,7 @@ pub record Placed : Type 0 where
   pub place : Place
   pub token : Token
 
+-- the token in this place
 abbrev pub at : Place → Token → Placed
 at place token = record { place = place; token = token }
 
@@ -51,10 +52,12 @@ abbrev mutual
   tokens_of place (json.empty_object _) = at place BeginObject ∷ at place EndObject ∷ []
   tokens_of place (json.object members) = at place BeginObject ∷ (pair_tokens members ++ (at place EndObject ∷ []))
 
+  -- the tokens of an array's items, in order
   pub item_tokens : {bytes rest : List ℕ} {values : Values} → AreValues bytes values rest → List Placed
   item_tokens (last_value value _) = tokens_of Item value
   item_tokens (more_values value _ values) = tokens_of Item value ++ item_tokens values
 
+  -- the tokens of an object's pairs, in order, each its key and then its value
   pub pair_tokens : {bytes rest : List ℕ} {members : Members} → AreMembers bytes members rest → List Placed
   pair_tokens (last_member key _ value _) = at Key (Text (between_quotes key)) ∷ tokens_of Value value
   pair_tokens (more_members key _ value _ members) = at Key (Text (between_quotes key)) ∷ (tokens_of Value value ++ pair_tokens members)

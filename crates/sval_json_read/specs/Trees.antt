@@ -12,13 +12,15 @@ use Rattle.sval_json.specs.Number.{is_negative}
 use Rattle.sval_json.specs.Grammar as json
 use Rattle.sval_json.specs.Grammar.{JsonValue, Values, no_values, a_value, Members, no_members, a_member}
 
--- a number without fraction and exponent, and its value
+-- a number without fraction and exponent
 abbrev pub is_whole : List ℕ → Bool
 is_whole text = is_empty (after_digits (without_minus text))
 
+-- the value of a number without fraction and exponent
 abbrev pub whole_value : List ℕ → ℤ
 whole_value text = let n = digits_value 10 (digits_of (without_minus text)) in if is_negative text then neg_ℤ (pos n) else pos n
 
+-- a number without fraction and exponent, in the range of `i64`
 abbrev pub fits_i64 : List ℕ → Bool
 fits_i64 text = is_whole text && is_of_type I64 (whole_value text)
 
@@ -26,10 +28,12 @@ fits_i64 text = is_whole text && is_of_type I64 (whole_value text)
 abbrev pub number_name : Name
 number_name = tag_alone number_tag
 
+-- a number: an `i64` where it has no fraction and no exponent and fits, and else its text under the tag `NUMBER`
 abbrev pub number_tree : List ℕ → Tree
 number_tree text = if fits_i64 text then Int I64 (whole_value text) else Tagged number_name (Text text)
 
 abbrev mutual
+  -- the tree of a value: an array is a sequence, and an object a map
   pub tree_of : JsonValue → Tree
   tree_of json.Null = Null
   tree_of (json.Truth b) = Truth b
@@ -38,10 +42,12 @@ abbrev mutual
   tree_of (json.Array values) = Container Head.Seq (items_of values)
   tree_of (json.Object members) = Container Head.Map (entries_of members)
 
+  -- the items of an array, in order
   pub items_of : Values → Parts
   items_of no_values = none
   items_of (a_value value values) = part Slot.Item (tree_of value) (items_of values)
 
+  -- the pairs of an object, in order, each a key, which is a text, and its value
   pub entries_of : Members → Parts
   entries_of no_members = none
   entries_of (a_member text value members) = part Slot.Key (Text text) (part Slot.Value (tree_of value) (entries_of members))
@@ -60,10 +66,12 @@ abbrev mutual
   settled (json.Array values) = json.Array (settled_values values)
   settled (json.Object members) = json.Object (settled_members members)
 
+  -- an array's values with each number `-0` replaced by `0`
   pub settled_values : Values → Values
   settled_values no_values = no_values
   settled_values (a_value value values) = a_value (settled value) (settled_values values)
 
+  -- an object's pairs with each number `-0` in their values replaced by `0`
   pub settled_members : Members → Members
   settled_members no_members = no_members
   settled_members (a_member text value members) = a_member text (settled value) (settled_members members)
