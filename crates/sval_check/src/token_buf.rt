@@ -20,6 +20,8 @@ use sval_core::{Call, Error, Lent, NoMemory, Stream};
 /// the tokens stay as they were. A borrowed fragment is kept by reference. Computed fragments are copied, and so are the
 /// texts of labels that aren't static.
 ///
+/// An `Option` makes `Tag` or `TaggedBegin` with its tag, its label `None` or `Some`, and its index 0 or 1.
+///
 /// A user's value, as `sval_core` says how one is written, that is a sequence of one number:
 ///
 /// ```

@@ -39,7 +39,7 @@ pub fn to_bool<'v, V: Value<'v, Lent<'v>>>(value: &'v V) -> Option<bool>
 }
 
 /// The last `i8`, where the value doesn't refuse and each call is an `i8` or passed over; and else what [`to_i128`]
-/// gives, where that is in range. Another type with a sign gives none.
+/// gives, where that is in range. Any type but this one and `i128` gives none, with a sign or without.
 pub fn to_i8<'v, V: Value<'v, Lent<'v>>>(value: &'v V) -> Option<i8>
     ensures { result ≡ read.to_i8 (V.emission value.now) }
 {
@@ -50,7 +50,7 @@ pub fn to_i8<'v, V: Value<'v, Lent<'v>>>(value: &'v V) -> Option<i8>
 }
 
 /// The last `i16`, where the value doesn't refuse and each call is an `i16` or passed over; and else what [`to_i128`]
-/// gives, where that is in range. Another type with a sign gives none.
+/// gives, where that is in range. Any type but this one and `i128` gives none, with a sign or without.
 pub fn to_i16<'v, V: Value<'v, Lent<'v>>>(value: &'v V) -> Option<i16>
     ensures { result ≡ read.to_i16 (V.emission value.now) }
 {
@@ -61,7 +61,7 @@ pub fn to_i16<'v, V: Value<'v, Lent<'v>>>(value: &'v V) -> Option<i16>
 }
 
 /// The last `i32`, where the value doesn't refuse and each call is an `i32` or passed over; and else what [`to_i128`]
-/// gives, where that is in range. Another type with a sign gives none.
+/// gives, where that is in range. Any type but this one and `i128` gives none, with a sign or without.
 pub fn to_i32<'v, V: Value<'v, Lent<'v>>>(value: &'v V) -> Option<i32>
     ensures { result ≡ read.to_i32 (V.emission value.now) }
 {
@@ -72,7 +72,7 @@ pub fn to_i32<'v, V: Value<'v, Lent<'v>>>(value: &'v V) -> Option<i32>
 }
 
 /// The last `i64`, where the value doesn't refuse and each call is an `i64` or passed over; and else what [`to_i128`]
-/// gives, where that is in range. Another type with a sign gives none.
+/// gives, where that is in range. Any type but this one and `i128` gives none, with a sign or without.
 pub fn to_i64<'v, V: Value<'v, Lent<'v>>>(value: &'v V) -> Option<i64>
     ensures { result ≡ read.to_i64 (V.emission value.now) }
 {
@@ -82,8 +82,8 @@ pub fn to_i64<'v, V: Value<'v, Lent<'v>>>(value: &'v V) -> Option<i64>
     }
 }
 
-/// The last `i128`, where the value doesn't refuse and each call is an `i128` or passed over. A smaller number gives
-/// none.
+/// The last `i128`, where the value doesn't refuse and each call is an `i128` or passed over. A number of any other
+/// type gives none.
 pub fn to_i128<'v, V: Value<'v, Lent<'v>>>(value: &'v V) -> Option<i128>
     ensures { result ≡ read.to_i128 (V.emission value.now) }
 {

@@ -103,7 +103,7 @@ impl<'a> ScriptSlice<'a> {
         self.lines.len() as u64
     }
 
-    /// Its first lines, as many as that, and the lines behind them. There are none where it has fewer.
+    /// Its first lines, as many as that, and the lines behind them. `None` where it has fewer lines.
     ///
     /// It looks at each of the first lines, and at none behind. So whoever cuts a script from its front to its end, and
     /// each time what the last cut left behind, looks at each line once.
