@@ -79,7 +79,7 @@ IsReadOrBad =
     (bytes : List ℕ) → IsUtf8 bytes
     → ((tokens : List Placed) × IsDocument bytes tokens) ⊎ ((n : ℕ) × IsBadJson bytes n)
 
--- no bytes are a document and fail too
+-- no bytes both are a document and fail
 abbrev pub NotBoth : Type 0
 NotBoth = (bytes : List ℕ) (tokens : List Placed) (n : ℕ) → IsDocument bytes tokens → IsBadJson bytes n → ⊥
 
