@@ -19,9 +19,26 @@ pub record CheckedView (V : Type 0) : Type 0 where
   pub why : Option Why
   pub wants : ℕ
 
+-- the machine's state, which stands for the calls so far
+abbrev pub state_of : {S : Type 0} → Checked S → State
+state_of checked = checked.machine
+
+-- the inner stream
+abbrev pub inner_of : {S : Type 0} → Checked S → S
+inner_of checked = checked.inner
+
+-- the cause of the last refusal
+abbrev pub last_why : {S : Type 0} → Checked S → Option Why
+last_why checked = checked.why
+
+-- how often it refused a call that can be completed
+abbrev pub own_wants : {S : Type 0} → Checked S → ℕ
+own_wants checked = checked.wants
+
 -- the view of one over a stream that stands where this says
 abbrev pub seen : {S V : Type 0} → (S → Standing V) → Checked S → CheckedView V
-seen standing checked = record { state = checked.machine; inner = standing checked.inner; why = checked.why; wants = checked.wants }
+seen standing checked =
+    record { state = state_of checked; inner = standing (inner_of checked); why = last_why checked; wants = own_wants checked }
 
 -- the faults are the inner stream's, and the wants its own
 abbrev pub checked_standing : {V : Type 0} → CheckedView V → Standing (CheckedView V)

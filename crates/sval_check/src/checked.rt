@@ -8,7 +8,7 @@ ghost use Rattle.sval_core.specs.Law.{Answers};
 ghost use Rattle.sval_core.specs.CheckerSteps.{unfilled, is_whole_tree};
 ghost use Rattle.sval_core.specs.Spells.{Spells};
 ghost use Rattle.sval_core.specs.Trees.{Tree};
-ghost use Rattle.sval_check.specs.Checked.{CheckedView, Passes, seen, checked_law, checked_standing, wants_after, StandsFor};
+ghost use Rattle.sval_check.specs.Checked.{CheckedView, Passes, StandsFor, checked_law, checked_standing, inner_of, last_why, own_wants, seen, state_of, wants_after};
 
 use crate::machine::{Machine, Refusal};
 use crate::measured::Measured;
@@ -79,11 +79,11 @@ pub struct Checked<S> {
 impl<S> Checked<S> {
     /// A stream over this one, which has taken no call. What calls begin is kept in memory of `alloc`.
     pub fn new(alloc: Global, stream: S) -> Self
-        ensures fresh { result.machine ≡ unfilled [] }
-        ensures stands_for { StandsFor result.machine [] }
-        ensures inner { result.inner ≡ stream }
-        ensures why { result.why ≡ None }
-        ensures wants { result.wants ≡ 0 }
+        ensures fresh { state_of result ≡ unfilled [] }
+        ensures stands_for { StandsFor (state_of result) [] }
+        ensures inner { inner_of result ≡ stream }
+        ensures why { last_why result ≡ None }
+        ensures wants { own_wants result ≡ 0 }
     {
         Checked {
             machine: Machine::new(alloc),
@@ -95,8 +95,8 @@ impl<S> Checked<S> {
 
     /// Whether the calls so far are one whole value.
     pub fn is_whole(&self) -> bool
-        ensures state { result ≡ is_whole_tree self.now.machine }
-        ensures spells { (calls : List Call) → StandsFor self.now.machine calls
+        ensures state { result ≡ is_whole_tree (state_of self.now) }
+        ensures spells { (calls : List Call) → StandsFor (state_of self.now) calls
             → Decides result ((tree : Tree) × Spells calls tree) }
     {
         self.machine.is_whole()
@@ -104,14 +104,14 @@ impl<S> Checked<S> {
 
     /// The cause of the last refusal, if there was one. A call that is taken leaves it.
     pub fn why(&self) -> Option<Why>
-        ensures { result ≡ self.now.why }
+        ensures { result ≡ last_why self.now }
     {
         self.why
     }
 
     /// The inner stream, as the calls that were passed on left it.
     pub fn into_inner(self) -> S
-        ensures { result ≡ self.inner }
+        ensures { result ≡ inner_of self }
     {
         self.inner
     }

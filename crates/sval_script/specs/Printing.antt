@@ -102,10 +102,19 @@ printer_law = record {
 
 -- ---- the printer in code
 
+-- the sink that it prints to
+abbrev pub sink_of : {K : Type 0} → Printer K → K
+sink_of printer = printer.out
+
+-- the cause of the last refusal
+abbrev pub last_error : {K : Type 0} → Printer K → Option PrintError
+last_error printer = printer.why
+
 -- the printer as its law sees it; `told` is what the sink tells
 abbrev pub printing_of : {K : Type 0} → (K → Told) → Printer K → Printing
-printing_of told printer = record { told = record (told printer.out) { held = None }; why = printer.why }
+printing_of told printer = record { told = record (told (sink_of printer)) { held = None }; why = last_error printer }
 
 -- the same with the two counts of the sink
 abbrev pub printer_standing : {K : Type 0} → (K → Told) → Printer K → Standing Printing
-printer_standing told printer = record { view = printing_of told printer; faults = (told printer.out).faults; wants = (told printer.out).wants }
+printer_standing told printer =
+    let sink = told (sink_of printer) in record { view = printing_of told printer; faults = sink.faults; wants = sink.wants }

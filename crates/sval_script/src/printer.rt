@@ -10,7 +10,7 @@ ghost use Rattle.sval_label.specs.Made.{lent_call};
 ghost use Rattle.sval_label.specs.Grouped.{grouped_call};
 ghost use Rattle.sval_core.specs.Law.{Answers};
 ghost use Rattle.sval_json.specs.Sinks.{WritesAll};
-ghost use Rattle.sval_script.specs.Printing.{Printing, PrintsLine, whole_line, printer_law, printer_standing};
+ghost use Rattle.sval_script.specs.Printing.{Printing, PrintsLine, last_error, printer_law, printer_standing, sink_of, whole_line};
 
 use crate::print_error::PrintError;
 use crate::printer::fields::write_fields;
@@ -48,21 +48,22 @@ pub struct Printer<K> {
 impl<K: Sink> Printer<K> {
     /// A printer to a sink, which has refused no call yet.
     pub fn new(out: K) -> Self
-        ensures { result ≡ record { out = out; why = None } }
+        ensures sink { sink_of result ≡ out }
+        ensures why { last_error result ≡ None }
     {
         Printer { out, why: None }
     }
 
     /// The cause of the last refusal. A call that is accepted leaves it.
     pub fn why(&self) -> Option<PrintError>
-        ensures { result ≡ self.now.why }
+        ensures { result ≡ last_error self.now }
     {
         self.why
     }
 
     /// The sink, with what was printed.
     pub fn into_inner(self) -> K
-        ensures { result ≡ self.out }
+        ensures { result ≡ sink_of self }
     {
         self.out
     }
