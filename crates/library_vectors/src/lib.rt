@@ -1,5 +1,5 @@
-//! Tests of the library as a user calls it, across its crates: what adapters and lowerings make, what readers answer,
-//! what captured values make again, and what is written of values of std.
+//! Tests of the library as a user calls it: what adapters and lowerings make, what readers answer, what checking says,
+//! what tokens keep, what buffers capture and make again, and what is written of values of std.
 #![tactic(auto)]
 
 #[cfg(test)]
@@ -7,10 +7,16 @@ mod adapters;
 #[cfg(test)]
 mod captured;
 #[cfg(test)]
+mod checked;
+#[cfg(test)]
+mod lists;
+#[cfg(test)]
 mod lowered;
 #[cfg(test)]
 mod owned;
 #[cfg(test)]
 mod read;
+#[cfg(test)]
+mod tokens;
 #[cfg(test)]
 mod written;

@@ -27,8 +27,6 @@ mod matching;
 mod measured;
 mod names;
 mod stack;
-#[cfg(test)]
-mod tests;
 mod token;
 mod token_buf;
 mod token_copies;

@@ -5,8 +5,8 @@ ghost use Rattle.sval_label.specs.Calls as call;
 ghost use Rattle.sval_core.specs.Names.{number_tag};
 ghost use Rattle.sval_core.specs.Values.{makes, fails_after};
 
-use crate::{CheckError, check_all};
 use std::alloc::AllocError;
+use sval_check::{CheckError, check_all};
 use sval_core::{Lent, Result, Stream, Value, refusal, tags};
 
 /// No call.

@@ -5,8 +5,8 @@ ghost use Rattle.sval_label.specs.Calls.{Int, U64};
 ghost use Rattle.sval_core.specs.Values.{makes};
 ghost use Rattle.sval_core.specs.ValueCalls.{seq_calls};
 
-use crate::{Token, TokenBuf, TokenBytes, TokenName, TokenText};
 use std::test::Fail;
+use sval_check::{Token, TokenBuf, TokenBytes, TokenName, TokenText};
 use sval_core::{Index, Label, Lent, Result, Stream, Value, tags};
 
 #[test]

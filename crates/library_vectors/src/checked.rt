@@ -1,4 +1,4 @@
-//! Each answer once, and the ends of each kind of begin.
+//! What checking answers, and what a checked stream passes on.
 
 ghost use Rattle.std.specs.Prelude.{[], ◌∷◌, Some, None, false, codes};
 ghost use Rattle.sval_label.specs.Calls.{TextBegin, TextFragment, TextEnd, Begin, Seq};
@@ -7,11 +7,8 @@ ghost use Rattle.sval_core.specs.Law.{Answers};
 ghost use Rattle.sval_core.specs.Lenient.{lenient, with_wants};
 ghost use Rattle.sval_core.specs.Values.{makes, fails_after};
 
-mod lists;
-mod tokens;
-
-use crate::{CheckError, Checked, Why, check};
 use std::alloc::Global;
+use sval_check::{CheckError, Checked, Why, check};
 use sval_core::{AnyCall, Call, Index, Label, Lent, Name, Result, Stream, Value, refusal, tags};
 
 /// A text of two bytes, which says this size.
