@@ -5,17 +5,29 @@
 #[cfg(test)]
 mod adapters;
 #[cfg(test)]
+mod buffered;
+#[cfg(test)]
+mod calls;
+#[cfg(test)]
 mod captured;
 #[cfg(test)]
 mod checked;
+#[cfg(test)]
+mod collected;
+#[cfg(test)]
+mod fragments;
 #[cfg(test)]
 mod lists;
 #[cfg(test)]
 mod lowered;
 #[cfg(test)]
+mod names;
+#[cfg(test)]
 mod owned;
 #[cfg(test)]
 mod read;
+#[cfg(test)]
+mod replayed;
 #[cfg(test)]
 mod tokens;
 #[cfg(test)]

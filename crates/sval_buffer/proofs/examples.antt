@@ -1,3 +1,4 @@
 -- Values that are computed here, and not by any program.
 mod CapturedCalls
 mod WorkedCollects
+mod WorkedErrors

@@ -28,8 +28,6 @@ mod recent;
 mod refusals;
 mod refused;
 mod streamed;
-#[cfg(test)]
-mod tests;
 mod text_buf;
 mod value_buf;
 

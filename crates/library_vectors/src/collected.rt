@@ -1,8 +1,8 @@
 //! What is collected of values as texts and as binaries.
 
-use super::{Refusing, buffer_of};
-use crate::{BinaryBuf, TextBuf};
+use crate::calls::{Refusing, buffer_of};
 use std::alloc::{AllocError, Global};
+use sval_buffer::{BinaryBuf, TextBuf};
 use sval_core::{Call, Label, Name, tags};
 
 /// What is collected of calls as a text, and whether it is borrowed, or why nothing is.

@@ -1,9 +1,9 @@
 //! What buffers for texts and binaries hold, what they make of it, and the texts of errors.
 
-use super::{calls_of, calls_of_ref, printed};
-use crate::{BinaryBuf, Error, ErrorKind, TextBuf, Word};
+use crate::calls::{buffer_of, calls_of, calls_of_ref, printed};
 use std::alloc::AllocError;
 use std::test::Fail;
+use sval_buffer::{BinaryBuf, TextBuf};
 use sval_core::Call;
 
 #[test]
@@ -110,34 +110,19 @@ fn prints_what_it_holds(rt: HostRuntime) -> Result<(), AllocError> {
 fn says_what_went_wrong(rt: HostRuntime) -> Result<(), AllocError> {
     let table = [
         (
-            ErrorKind::Unsupported {
-                actual: Word::Null,
-                expected: Word::Text,
-            },
-            "unexpected null, expected text",
-        ),
-        (
-            ErrorKind::InvalidValue {
-                reason: Word::Unbalanced,
-            },
+            Call::SeqEnd,
             "the value is invalid: unbalanced calls to `begin` and `end`",
         ),
         (
-            ErrorKind::OutsideContainer {
-                method: Word::Binary,
-            },
+            Call::BinaryFragment(b"a"),
             "expected a fragment while buffering binary",
         ),
-        (
-            ErrorKind::NoAlloc {
-                method: Word::Sequence,
-            },
-            "cannot allocate for sequence",
-        ),
     ];
-    for (kind, want) in table {
-        let text = format!(in rt.alloc(); "{}", Error::new(kind))?;
-        assert_eq!(rt; text.as_str(), want);
+    for (call, want) in table {
+        match buffer_of(rt.alloc(), &[call]).into_err() {
+            Some(error) => assert_eq!(rt; format!(in rt.alloc(); "{error}")?.as_str(), want),
+            None => assert!(rt; false),
+        }
     }
     Ok(())
 }
