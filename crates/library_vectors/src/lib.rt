@@ -17,6 +17,10 @@ mod collected;
 #[cfg(test)]
 mod fragments;
 #[cfg(test)]
+mod json;
+#[cfg(test)]
+mod json_calls;
+#[cfg(test)]
 mod lists;
 #[cfg(test)]
 mod lowered;

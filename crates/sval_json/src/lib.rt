@@ -14,8 +14,6 @@ mod real;
 mod sink;
 mod style;
 pub mod tags;
-#[cfg(test)]
-mod tests;
 mod to_fmt;
 mod to_io;
 mod to_memory;

@@ -5,8 +5,6 @@ mod names;
 mod parts;
 mod short;
 mod tagged;
-#[cfg(test)]
-mod tests;
 mod texts;
 
 ghost use Rattle.std.specs.Prelude.{◌≡◌, ◌++◌};

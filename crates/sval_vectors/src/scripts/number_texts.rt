@@ -29,6 +29,11 @@ fn numbers_in_pieces(rt: HostRuntime) -> Result<(), Fail> {
              tagged_end NUMBER - -\n",
             Json("12.5"),
         ),
+        (
+            "tagged_begin NUMBER - -\ntext_begin -\ntext_fragment =2d69\ntext_fragment_computed =6e66\n\
+             text_end\ntagged_end NUMBER - -\n",
+            Json("null"),
+        ),
     ];
     try_rows(&rt, rt.alloc(), &rows)
 }

@@ -1,38 +1,13 @@
-//! What an error prints, JSON in texts, and what it is written to.
+//! JSON that is written as it is, what takes JSON, and why none is written.
 
-use crate::error::{Refusal, Stop};
-use crate::{
-    CountSink, Error, ErrorKind, FaultySink, FixedSink, JsonStr, JsonString, SinkError,
-    TrickleSink, VecSink, stream_to_fmt_write, stream_to_io_write, stream_to_json_str,
-    stream_to_string, stream_to_vec,
-};
+use crate::calls::{Refusing, buffer_of};
+use std::alloc::{AllocError, Global};
 use std::test::Fail;
-use sval_core::{Lent, Result as Answer, Stream, Value, refusal};
-
-#[test]
-fn says_why_nothing_was_written(rt: HostRuntime) -> Result<(), Fail> {
-    let table: [(Option<Stop>, &'static str); 5] = [
-        (None, "an error occurred serializing a value to JSON"),
-        (Some(Stop::Sink(SinkError::Failed)), "failed to write JSON"),
-        (
-            Some(Stop::Step(Refusal::InvalidKey)),
-            "attempt to serialize a non-string key",
-        ),
-        (
-            Some(Stop::Step(Refusal::InvalidNumber)),
-            "attempt to serialize an invalid number",
-        ),
-        (
-            Some(Stop::Sink(SinkError::NoMemory)),
-            "cannot allocate for JSON",
-        ),
-    ];
-    for (why, want) in table {
-        let text = format!(in rt.alloc(); "{}", Error::of(why))?;
-        assert_eq!(rt; text.as_str(), want);
-    }
-    Ok(())
-}
+use sval_core::{Call, Lent, Name, Result as Answer, Stream, Value, tags};
+use sval_json::{
+    CountSink, Error, ErrorKind, FaultySink, FixedSink, JsonStr, JsonString, TrickleSink, VecSink,
+    stream_to_fmt_write, stream_to_io_write, stream_to_json_str, stream_to_string, stream_to_vec,
+};
 
 #[test]
 fn writes_json_as_it_is(rt: HostRuntime) -> Result<(), Fail> {
@@ -46,19 +21,6 @@ fn writes_json_as_it_is(rt: HostRuntime) -> Result<(), Fail> {
     let shown = format!(in rt.alloc(); "{text}")?;
     assert_eq!(rt; shown.as_str(), "[1, 2]");
     Ok(())
-}
-
-/// A value that makes no call, and refuses.
-struct Refusing;
-
-impl<'v> Value<'v, Lent<'v>> for Refusing {
-    ghost use Rattle.std.specs.Prelude.{[], true};
-
-    ghost emission = { λ _. record { calls = []; refuses = true } };
-
-    fn stream<S: Stream<Lent<'v>>>(&'v self, _stream: &mut S) -> Answer {
-        refusal()
-    }
 }
 
 /// A map with a sequence as its key.
@@ -148,10 +110,48 @@ fn writes_the_same_to_all_targets(rt: HostRuntime) -> Result<(), Fail> {
 #[test]
 fn tells_why_there_is_no_text(rt: HostRuntime) {
     let alloc = rt.alloc();
-    let refused = stream_to_string(alloc, &Refusing);
+    let refused = stream_to_string(alloc, &Refusing {});
     assert_eq!(rt; kind_of(refused.err()), Some(ErrorKind::Generic));
     let key = Some(ErrorKind::InvalidKey);
     assert_eq!(rt; kind_of(stream_to_vec(alloc, &SeqAsKey).err()), key);
     assert_eq!(rt; kind_of(stream_to_string(alloc, &SeqAsKey).err()), key);
     assert_eq!(rt; kind_of(stream_to_json_str(alloc, &SeqAsKey).err()), key);
+}
+
+/// What an error prints, or nothing where there is none.
+fn printed(alloc: Global, error: Option<Error>) -> Result<String, AllocError> {
+    match error {
+        Some(error) => format!(in alloc; "{error}"),
+        None => Ok(String::new(alloc)),
+    }
+}
+
+#[test]
+fn says_why_nothing_was_written(rt: HostRuntime) -> Result<(), Fail> {
+    let alloc = rt.alloc();
+    let refused = stream_to_string(alloc, &Refusing {}).err();
+    let want = "an error occurred serializing a value to JSON";
+    assert_eq!(rt; printed(alloc, refused)?.as_str(), want);
+    let mut buffer = [0; 10];
+    let mut sink = FixedSink::new(&mut buffer);
+    let failed = stream_to_io_write(&mut sink, &JsonStr::new(FIELD)).err();
+    assert_eq!(rt; printed(alloc, failed)?.as_str(), "failed to write JSON");
+    let key = stream_to_string(alloc, &SeqAsKey).err();
+    let want = "attempt to serialize a non-string key";
+    assert_eq!(rt; printed(alloc, key)?.as_str(), want);
+    let tagged = Name {
+        tag: Some(&tags::NUMBER),
+        label: None,
+        index: None,
+    };
+    let no_number = [
+        Call::TaggedBegin(tagged),
+        Call::TextBegin(None),
+        Call::TextEnd,
+        Call::TaggedEnd(tagged),
+    ];
+    let number = stream_to_string(alloc, &buffer_of(alloc, &no_number)).err();
+    let want = "attempt to serialize an invalid number";
+    assert_eq!(rt; printed(alloc, number)?.as_str(), want);
+    Ok(())
 }

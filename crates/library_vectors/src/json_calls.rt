@@ -1,38 +1,24 @@
-//! What is written for each kind of call.
+//! The JSON that is written for each kind of call.
 
-use crate::error::{Refusal, Stop};
-use crate::sink::{Sink, VecSink};
-use crate::style::Variants;
-use crate::tags::{JSON_NUMBER, JSON_TEXT, JSON_VALUE};
-use crate::writer::{Handler, Writer};
+use crate::calls::buffer_of;
 use std::alloc::Global;
 use std::test::Fail;
-use sval_core::{Call, Index, Label, Name, Stream, Tag, tags};
+use sval_core::{Call, Index, Label, Name, Tag, tags};
+use sval_json::{ErrorKind, Variants, VecSink, stream_to_io_write_with, tags as json};
 
-/// What is written for these calls, and what stopped the writer.
-fn written(calls: &[Call<'_, '_>], variants: Variants, alloc: Global) -> (Vec<u8>, Option<Stop>) {
+/// What is written for these calls, and why not all.
+fn written<'c>(
+    calls: &[Call<'c, 'c>],
+    variants: Variants,
+    alloc: Global,
+) -> (Vec<u8>, Option<ErrorKind>) {
+    let value = buffer_of(alloc, calls);
     let mut sink = VecSink::new(alloc);
-    let why = write_calls(&mut sink, calls, variants);
-    (sink.into_vec(), why)
-}
-
-/// Writes these calls up to the first that is refused, and tells why it was.
-fn write_calls<K: Sink>(sink: &mut K, calls: &[Call<'_, '_>], variants: Variants) -> Option<Stop> {
-    let mut writer = Writer {
-        sink,
-        variants,
-        named: false,
-        empty: true,
-        quoted: true,
-        handler: Handler::Escapes,
-        why: None,
+    let why = match stream_to_io_write_with(&mut sink, &value, variants) {
+        Ok(()) => None,
+        Err(error) => Some(error.kind()),
     };
-    for call in calls {
-        if writer.take(*call).is_err() {
-            break;
-        }
-    }
-    writer.why
+    (sink.into_vec(), why)
 }
 
 /// A name that is this label or this index.
@@ -45,7 +31,11 @@ fn named<'c>(label: Option<&'c Label<'c>>, index: Option<&'c Index>) -> Name<'c>
 }
 
 /// Writes an empty tuple of this name, as a variant.
-fn write_variant(name: Name<'_>, variants: Variants, alloc: Global) -> (Vec<u8>, Option<Stop>) {
+fn write_variant(
+    name: Name<'_>,
+    variants: Variants,
+    alloc: Global,
+) -> (Vec<u8>, Option<ErrorKind>) {
     let calls: [Call<'_, '_>; 4] = [
         Call::EnumBegin(named(None, None)),
         Call::TupleBegin(name, None),
@@ -56,7 +46,7 @@ fn write_variant(name: Name<'_>, variants: Variants, alloc: Global) -> (Vec<u8>,
 }
 
 /// Writes an enum of this name, in which nothing stands, in another.
-fn write_empty(name: Name<'_>, alloc: Global) -> (Vec<u8>, Option<Stop>) {
+fn write_empty(name: Name<'_>, alloc: Global) -> (Vec<u8>, Option<ErrorKind>) {
     let calls: [Call<'_, '_>; 4] = [
         Call::EnumBegin(named(None, None)),
         Call::EnumBegin(name),
@@ -67,7 +57,7 @@ fn write_empty(name: Name<'_>, alloc: Global) -> (Vec<u8>, Option<Stop>) {
 }
 
 /// Writes a record of one field.
-fn write_field(label: &Label<'_>, alloc: Global) -> (Vec<u8>, Option<Stop>) {
+fn write_field(label: &Label<'_>, alloc: Global) -> (Vec<u8>, Option<ErrorKind>) {
     let calls: [Call<'_, '_>; 5] = [
         Call::RecordBegin(named(None, None), None),
         Call::RecordValueBegin(None, label),
@@ -79,7 +69,7 @@ fn write_field(label: &Label<'_>, alloc: Global) -> (Vec<u8>, Option<Stop>) {
 }
 
 /// Writes a text under a tag.
-fn write_tagged(tag: &Tag, text: &str, alloc: Global) -> (Vec<u8>, Option<Stop>) {
+fn write_tagged(tag: &Tag, text: &str, alloc: Global) -> (Vec<u8>, Option<ErrorKind>) {
     let name = Name {
         tag: Some(tag),
         label: None,
@@ -156,9 +146,9 @@ fn writes_empty_enums(rt: HostRuntime) -> Result<(), Fail> {
 fn writes_texts_by_their_tags(rt: HostRuntime) -> Result<(), Fail> {
     let table: [(Tag, &str, &[u8]); 5] = [
         (tags::NUMBER, "-0", b"0"),
-        (JSON_VALUE, "[1, 2]", b"[1, 2]"),
-        (JSON_TEXT, "\\n", b"\"\\n\""),
-        (JSON_NUMBER, "1E5", b"1E5"),
+        (json::JSON_VALUE, "[1, 2]", b"[1, 2]"),
+        (json::JSON_TEXT, "\\n", b"\"\\n\""),
+        (json::JSON_NUMBER, "1E5", b"1E5"),
         (tags::RUST_UNIT, "\n", b"\"\\n\""),
     ];
     for (tag, text, want) in table {
@@ -171,16 +161,24 @@ fn writes_texts_by_their_tags(rt: HostRuntime) -> Result<(), Fail> {
 
 #[test]
 fn refuses_what_is_none(rt: HostRuntime) -> Result<(), Fail> {
-    let (json, why) = write_tagged(&tags::NUMBER, "1.", rt.alloc());
-    assert_eq!(rt; why, Some(Stop::Step(Refusal::InvalidNumber)));
-    assert_eq!(rt; json.as_slice(), b"1.".as_slice());
-    let calls: [Call<'_, '_>; 3] = [
+    for (text, start) in [("1.", "1."), ("1\"2", "1")] {
+        let (json, why) = write_tagged(&tags::NUMBER, text, rt.alloc());
+        assert_eq!(rt; why, Some(ErrorKind::InvalidNumber));
+        assert_eq!(rt; json.as_slice(), start.as_bytes());
+    }
+    let calls: [Call<'_, '_>; 9] = [
         Call::MapBegin(None),
         Call::MapKeyBegin,
         Call::BinaryBegin(None),
+        Call::BinaryEnd,
+        Call::MapKeyEnd,
+        Call::MapValueBegin,
+        Call::Null,
+        Call::MapValueEnd,
+        Call::MapEnd,
     ];
     let (json, why) = written(&calls, Variants::Inside, rt.alloc());
-    assert_eq!(rt; why, Some(Stop::Step(Refusal::InvalidKey)));
+    assert_eq!(rt; why, Some(ErrorKind::InvalidKey));
     assert_eq!(rt; json.as_slice(), b"{\"".as_slice());
     Ok(())
 }
