@@ -1,5 +1,5 @@
-//! Tests of the library as a user calls it: what adapters and lowerings make, what readers answer, what checking says,
-//! what tokens keep, what buffers capture and make again, and what is written of values of std.
+//! Tests of the library as a user calls it: what labels keep, what adapters and lowerings make, what readers answer,
+//! what checking says, what tokens keep, what buffers capture and make again, and what is written as JSON.
 #![tactic(auto)]
 
 #[cfg(test)]
@@ -21,6 +21,8 @@ mod json;
 #[cfg(test)]
 mod json_calls;
 #[cfg(test)]
+mod labels;
+#[cfg(test)]
 mod lists;
 #[cfg(test)]
 mod lowered;
@@ -30,6 +32,8 @@ mod names;
 mod owned;
 #[cfg(test)]
 mod read;
+#[cfg(test)]
+mod rendered;
 #[cfg(test)]
 mod replayed;
 #[cfg(test)]

@@ -13,8 +13,6 @@ mod render;
 mod shown;
 mod std_display;
 mod streaming;
-#[cfg(test)]
-mod tests;
 
 pub use binary_array::BinaryArray;
 pub use binary_slice::BinarySlice;

@@ -13,8 +13,6 @@ pub mod laws;
 mod name;
 mod tag;
 pub mod tags;
-#[cfg(test)]
-mod tests;
 
 pub use call::{AnyCall, Call, Lending, Lent};
 pub use error::{Error, NoMemory, Result, refusal};

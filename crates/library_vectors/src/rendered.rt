@@ -1,10 +1,10 @@
 //! Values that print themselves, and that can't.
 
-use crate::{
-    BinaryArray, BinarySlice, Display, DisplayError, MapSlice, Render, RenderError, StdDisplay,
-};
 use std::fmt;
 use std::test::Fail;
+use sval::{
+    BinaryArray, BinarySlice, Display, DisplayError, MapSlice, Render, RenderError, StdDisplay,
+};
 
 /// A value that can't be printed.
 #[derive(Drop)]

@@ -1,7 +1,7 @@
 //! What a refusal says, and what labels and indexes keep.
 
-use crate::{Error, Index, Label, Tag, refusal, tags};
 use std::test::Fail;
+use sval_core::{Error, Index, Label, Tag, refusal, tags};
 
 #[test]
 fn says_nothing_of_a_cause(rt: HostRuntime) -> Result<(), Fail> {
