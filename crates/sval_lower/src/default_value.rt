@@ -11,8 +11,7 @@ ghost use Rattle.std.specs.Prelude.{◌≡◌, option_map, pos};
 ghost use Rattle.sval_lower.specs.Readers as read;
 
 use crate::reading::{
-    FirstTag, GivenTag, OfBinary, OfI8, OfI16, OfI32, OfI64, OfI128, OfText, OfTruth, OfUnsigned,
-    last, only,
+    FirstTag, GivenTag, OfBinary, OfSigned, OfText, OfTruth, OfUnsigned, last, only,
 };
 use sval_core::{Lent, Value};
 
@@ -43,7 +42,7 @@ pub fn to_bool<'v, V: Value<'v, Lent<'v>>>(value: &'v V) -> Option<bool>
 pub fn to_i8<'v, V: Value<'v, Lent<'v>>>(value: &'v V) -> Option<i8>
     ensures { result ≡ read.to_i8 (V.emission value.now) }
 {
-    match last::<Lent, i8, OfI8, V>(value) {
+    match last::<Lent, i8, OfSigned, V>(value) {
         Some(number) => Some(number),
         None => i8::try_from(to_i128(value)?).ok(),
     }
@@ -54,7 +53,7 @@ pub fn to_i8<'v, V: Value<'v, Lent<'v>>>(value: &'v V) -> Option<i8>
 pub fn to_i16<'v, V: Value<'v, Lent<'v>>>(value: &'v V) -> Option<i16>
     ensures { result ≡ read.to_i16 (V.emission value.now) }
 {
-    match last::<Lent, i16, OfI16, V>(value) {
+    match last::<Lent, i16, OfSigned, V>(value) {
         Some(number) => Some(number),
         None => i16::try_from(to_i128(value)?).ok(),
     }
@@ -65,7 +64,7 @@ pub fn to_i16<'v, V: Value<'v, Lent<'v>>>(value: &'v V) -> Option<i16>
 pub fn to_i32<'v, V: Value<'v, Lent<'v>>>(value: &'v V) -> Option<i32>
     ensures { result ≡ read.to_i32 (V.emission value.now) }
 {
-    match last::<Lent, i32, OfI32, V>(value) {
+    match last::<Lent, i32, OfSigned, V>(value) {
         Some(number) => Some(number),
         None => i32::try_from(to_i128(value)?).ok(),
     }
@@ -76,7 +75,7 @@ pub fn to_i32<'v, V: Value<'v, Lent<'v>>>(value: &'v V) -> Option<i32>
 pub fn to_i64<'v, V: Value<'v, Lent<'v>>>(value: &'v V) -> Option<i64>
     ensures { result ≡ read.to_i64 (V.emission value.now) }
 {
-    match last::<Lent, i64, OfI64, V>(value) {
+    match last::<Lent, i64, OfSigned, V>(value) {
         Some(number) => Some(number),
         None => i64::try_from(to_i128(value)?).ok(),
     }
@@ -87,7 +86,7 @@ pub fn to_i64<'v, V: Value<'v, Lent<'v>>>(value: &'v V) -> Option<i64>
 pub fn to_i128<'v, V: Value<'v, Lent<'v>>>(value: &'v V) -> Option<i128>
     ensures { result ≡ read.to_i128 (V.emission value.now) }
 {
-    last::<Lent, i128, OfI128, V>(value)
+    last::<Lent, i128, OfSigned, V>(value)
 }
 
 /// What [`to_u128`] gives, where that is in the range of `u8`.

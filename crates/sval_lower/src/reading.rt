@@ -10,7 +10,7 @@ ghost use Rattle.std.specs.Prelude.{◌≡◌, Bool, Option, option_map};
 ghost use Rattle.sval_label.specs.Made.{call_of};
 ghost use Rattle.sval_label.specs.Calls.{Call};
 
-pub(crate) use kinds::{OfI8, OfI16, OfI32, OfI64, OfI128, OfTruth, OfUnsigned};
+pub(crate) use kinds::{OfSigned, OfTruth, OfUnsigned};
 pub(crate) use last::last;
 pub(crate) use lent::{OfBinary, OfText};
 pub(crate) use only::only;

@@ -93,137 +93,100 @@ impl<'v> Reading<Lent<'v>, u128> for OfUnsigned {
     }
 }
 
-/// Reads whole numbers of 8 bits with their sign.
-pub(crate) struct OfI8;
+/// A type of whole numbers with a sign, which has a call of its own.
+pub(crate) trait Signed: Copy {
+    /// The type, as calls say it.
+    ghost kind: { IntType };
 
-impl<'v> Reading<Lent<'v>, i8> for OfI8 {
-    ghost Read = { ℤ };
+    /// The number that it stands for.
+    ghost number: { Self → ℤ };
 
-    ghost seen = { λ n. n };
+    /// The number of a call of this type.
+    fn of_call(call: &Call<'_, '_>) -> Option<Self>
+        ensures { option_map number result ≡ number_of (is_type kind) (lent_call call.now) };
+}
 
-    ghost read_of = { number_of (is_type IntType.I8) };
+impl Signed for i8 {
+    ghost kind = { IntType.I8 };
 
-    ghost over = { is_passed_over };
+    ghost number = { λ n. n };
 
-    fn read(call: &Call<'v, '_>) -> Option<i8>
-        ensures { option_map (λ n. n) result ≡ number_of (is_type IntType.I8) (lent_call call.now) }
-    {
+    fn of_call(call: &Call<'_, '_>) -> Option<i8> {
         match call {
             AnyCall::I8(value) => Some(*value),
             _ => None,
         }
     }
-
-    fn passes_over(call: &Call<'v, '_>) -> bool
-        ensures { result ≡ is_passed_over (lent_call call.now) }
-    {
-        is_passed_over(call)
-    }
 }
 
-/// Reads whole numbers of 16 bits with their sign.
-pub(crate) struct OfI16;
+impl Signed for i16 {
+    ghost kind = { IntType.I16 };
 
-impl<'v> Reading<Lent<'v>, i16> for OfI16 {
-    ghost Read = { ℤ };
+    ghost number = { λ n. n };
 
-    ghost seen = { λ n. n };
-
-    ghost read_of = { number_of (is_type IntType.I16) };
-
-    ghost over = { is_passed_over };
-
-    fn read(call: &Call<'v, '_>) -> Option<i16>
-        ensures { option_map (λ n. n) result ≡ number_of (is_type IntType.I16) (lent_call call.now) }
-    {
+    fn of_call(call: &Call<'_, '_>) -> Option<i16> {
         match call {
             AnyCall::I16(value) => Some(*value),
             _ => None,
         }
     }
-
-    fn passes_over(call: &Call<'v, '_>) -> bool
-        ensures { result ≡ is_passed_over (lent_call call.now) }
-    {
-        is_passed_over(call)
-    }
 }
 
-/// Reads whole numbers of 32 bits with their sign.
-pub(crate) struct OfI32;
+impl Signed for i32 {
+    ghost kind = { IntType.I32 };
 
-impl<'v> Reading<Lent<'v>, i32> for OfI32 {
-    ghost Read = { ℤ };
+    ghost number = { λ n. n };
 
-    ghost seen = { λ n. n };
-
-    ghost read_of = { number_of (is_type IntType.I32) };
-
-    ghost over = { is_passed_over };
-
-    fn read(call: &Call<'v, '_>) -> Option<i32>
-        ensures { option_map (λ n. n) result ≡ number_of (is_type IntType.I32) (lent_call call.now) }
-    {
+    fn of_call(call: &Call<'_, '_>) -> Option<i32> {
         match call {
             AnyCall::I32(value) => Some(*value),
             _ => None,
         }
     }
-
-    fn passes_over(call: &Call<'v, '_>) -> bool
-        ensures { result ≡ is_passed_over (lent_call call.now) }
-    {
-        is_passed_over(call)
-    }
 }
 
-/// Reads whole numbers of 64 bits with their sign.
-pub(crate) struct OfI64;
+impl Signed for i64 {
+    ghost kind = { IntType.I64 };
 
-impl<'v> Reading<Lent<'v>, i64> for OfI64 {
-    ghost Read = { ℤ };
+    ghost number = { λ n. n };
 
-    ghost seen = { λ n. n };
-
-    ghost read_of = { number_of (is_type IntType.I64) };
-
-    ghost over = { is_passed_over };
-
-    fn read(call: &Call<'v, '_>) -> Option<i64>
-        ensures { option_map (λ n. n) result ≡ number_of (is_type IntType.I64) (lent_call call.now) }
-    {
+    fn of_call(call: &Call<'_, '_>) -> Option<i64> {
         match call {
             AnyCall::I64(value) => Some(*value),
             _ => None,
         }
     }
-
-    fn passes_over(call: &Call<'v, '_>) -> bool
-        ensures { result ≡ is_passed_over (lent_call call.now) }
-    {
-        is_passed_over(call)
-    }
 }
 
-/// Reads whole numbers of 128 bits with their sign.
-pub(crate) struct OfI128;
+impl Signed for i128 {
+    ghost kind = { IntType.I128 };
 
-impl<'v> Reading<Lent<'v>, i128> for OfI128 {
-    ghost Read = { ℤ };
+    ghost number = { λ n. n };
 
-    ghost seen = { λ n. n };
-
-    ghost read_of = { number_of (is_type IntType.I128) };
-
-    ghost over = { is_passed_over };
-
-    fn read(call: &Call<'v, '_>) -> Option<i128>
-        ensures { option_map (λ n. n) result ≡ number_of (is_type IntType.I128) (lent_call call.now) }
-    {
+    fn of_call(call: &Call<'_, '_>) -> Option<i128> {
         match call {
             AnyCall::I128(value) => Some(*value),
             _ => None,
         }
+    }
+}
+
+/// Reads whole numbers of one type with a sign.
+pub(crate) struct OfSigned;
+
+impl<'v, T: Signed> Reading<Lent<'v>, T> for OfSigned {
+    ghost Read = { ℤ };
+
+    ghost seen = { T.number };
+
+    ghost read_of = { number_of (is_type T.kind) };
+
+    ghost over = { is_passed_over };
+
+    fn read(call: &Call<'v, '_>) -> Option<T>
+        ensures { option_map T.number result ≡ number_of (is_type T.kind) (lent_call call.now) }
+    {
+        T::of_call(call)
     }
 
     fn passes_over(call: &Call<'v, '_>) -> bool
