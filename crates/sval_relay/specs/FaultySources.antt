@@ -1,5 +1,5 @@
 -- What a source has left that fails at calls that are given.
-use Rattle.std.specs.Prelude.{◌≡◌, ℕ, List, Some, Contains}
+use Rattle.std.specs.Prelude.{◌≡◌, ℕ, List, Some, Contains, length, min}
 use Rattle.sval_core.specs.Law.{one_more}
 use Rattle.sval_relay.specs.Sources.{Supply}
 
@@ -14,6 +14,10 @@ pub record FaultySupply : Type 0 where
 -- it tells the bytes that are left
 abbrev pub faulty_told : FaultySupply → Supply
 faulty_told faulty = record { left = Some faulty.left; faults = faulty.faults }
+
+-- how many bytes a call that doesn't fail gives into a buffer of this length
+abbrev pub given : FaultySupply → ℕ → ℕ
+given faulty room = min faulty.chunk (min room (length faulty.left))
 
 -- the next call is one of those that fail
 abbrev pub IsDueToFail : FaultySupply → Type 0

@@ -16,8 +16,8 @@ use Rattle.sval_relay.specs.declared.way.Way.{Way}
 use Rattle.sval_relay.specs.declared.way.Way.TheVariants.{Direct, Buffered, Calls, DirectBeside, BufferedBeside}
 use Rattle.sval_relay.specs.declared.way.Task.{Task}
 
--- the first bad line, or the first call that no value goes on with, each counted from 1; calls that are no whole value; a map's key
--- that is no text, or a number that is none, each with what is written up to it; or the text
+-- the first bad line, or the first call that no value goes on with, each counted from 1; calls that are no whole value; what
+-- can't be a map's key, or a number that is none, each with what is written up to it; or the text
 pub data Verdict : Type 0 where
   BadLine : ℕ → Verdict
   BadCall : ℕ → Verdict

@@ -1,8 +1,8 @@
 //! A source that fails where it is told to.
 
-ghost use Rattle.std.specs.Prelude.{◌≡◌, ◌↔◌, ◌≤◌, IfOk, OnErr, length, min};
+ghost use Rattle.std.specs.Prelude.{◌≡◌, ◌↔◌, ◌≤◌, IfOk, OnErr, length};
 ghost use Rattle.sval_core.specs.Law.{one_more};
-ghost use Rattle.sval_relay.specs.FaultySources.{faulty_told, HasPlanOf, IsDueToFail};
+ghost use Rattle.sval_relay.specs.FaultySources.{faulty_told, given, HasPlanOf, IsDueToFail};
 ghost use Rattle.sval_relay.specs.Sources.{ReadsInto};
 
 use crate::source::{Source, SourceError};
@@ -71,7 +71,7 @@ impl<'a> Source for FaultySource<'a> {
     ghost told = { faulty_told };
 
     fn read(&mut self, buffer: &mut [u8]) -> Result<usize, SourceError>
-        ensures chunk { IfOk result (λ count. count ≡ min self.old.chunk (min (length buffer.old) (length self.old.left))) }
+        ensures chunk { IfOk result (λ count. count ≡ given self.old (length buffer.old)) }
         ensures fails { (result ≡ Err SourceError.Failed) ↔ IsDueToFail self.old }
         ensures reads { ReadsInto result (faulty_told self.old) buffer.new (faulty_told self.new) }
         ensures once { OnErr result (self.new.faults ≡ one_more self.old.faults) }

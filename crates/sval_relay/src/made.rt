@@ -55,7 +55,8 @@ impl From<SinkError> for MadeError {
 /// # Errors
 ///
 /// [`MadeError::Write`] comes only where the sink's count of faults rose. [`MadeError::NoMemory`] leaves the sink as it
-/// was, unless the sink's own count of wants rose. A first part of the line may have been taken.
+/// was, unless the sink's own count of wants rose. After the first, and where that count rose, a first part of the line
+/// may have been taken. The sink isn't flushed.
 pub fn relay_made<K: Sink>(alloc: Global, count: u32, out: &mut K) -> Result<(), MadeError>
     ensures { TellsMade K.told count result out.old out.new }
 {
