@@ -1,6 +1,6 @@
 //! A source that fails where it is told to.
 
-ghost use Rattle.std.specs.Prelude.{◌≡◌, ◌↔◌, ◌≤◌, IfOk, OnErr, length};
+ghost use Rattle.std.specs.Prelude.{◌≡◌, ◌↔◌, ◌≤◌, IfOk, OnErr, drop, length};
 ghost use Rattle.sval_core.specs.Law.{one_more};
 ghost use Rattle.sval_relay.specs.FaultySources.{faulty_told, given, HasPlanOf, IsDueToFail};
 ghost use Rattle.sval_relay.specs.Sources.{ReadsInto};
@@ -10,7 +10,8 @@ use std::marker::Model;
 
 /// A source in memory that gives so many bytes a call at most, and fails at the calls whose numbers are given.
 ///
-/// All calls are counted, from 1. A call that fails takes nothing of what is left, and leaves the buffer as it was.
+/// All calls are counted, from 1. A call that fails takes nothing of what is left, and leaves the buffer as it was; one
+/// that gives bytes leaves it so behind them.
 ///
 /// ```
 /// let mut source = FaultySource::new(b"null\n", 3, &[2]);
@@ -75,6 +76,7 @@ impl<'a> Source for FaultySource<'a> {
         ensures fails { (result ≡ Err SourceError.Failed) ↔ IsDueToFail self.old }
         ensures reads { ReadsInto result (faulty_told self.old) buffer.new (faulty_told self.new) }
         ensures once { OnErr result (self.new.faults ≡ one_more self.old.faults) }
+        ensures rest { IfOk result (λ count. drop count buffer.new ≡ drop count buffer.old) }
         ensures untouched { OnErr result (buffer.new ≡ buffer.old) }
         ensures numbered { self.new.calls ≡ one_more self.old.calls }
         ensures plan { HasPlanOf self.old self.new }

@@ -1,6 +1,6 @@
 //! Where a script is read from.
 
-ghost use Rattle.std.specs.Prelude.{◌≡◌, ℕ, List, Ok, min, length};
+ghost use Rattle.std.specs.Prelude.{◌≡◌, ℕ, List, Ok, IfOk, min, drop, length};
 ghost use Rattle.sval_relay.specs.Sources.{Supply, ReadsInto, in_memory};
 
 use std::marker::Model;
@@ -71,10 +71,11 @@ impl<'a> MemSource<'a> {
 impl<'a> Source for MemSource<'a> {
     ghost told = { in_memory };
 
-    /// Gives all that fits.
+    /// Gives all that fits, and leaves the buffer behind that as it was.
     fn read(&mut self, buffer: &mut [u8]) -> Result<usize, SourceError>
         ensures reads { ReadsInto result (in_memory self.old) buffer.new (in_memory self.new) }
         ensures all { result ≡ Ok (min (length buffer.old) (length self.old)) }
+        ensures rest { IfOk result (λ count. drop count buffer.new ≡ drop count buffer.old) }
     {
         let count = buffer.len().min(self.bytes.len());
         let (given, left) = self.bytes.split_at(count);
