@@ -7,13 +7,14 @@ use Rattle.sval_json.specs.declared.sink.SinkError.{SinkError}
 use Rattle.sval_json.specs.declared.sink.SinkError.TheVariants as sink
 use Rattle.sval_json.specs.Number.{Refusal, InvalidKey, InvalidNumber}
 use Rattle.sval_json.specs.Shape.{on_ok, map_ok}
-use Rattle.sval_json.specs.Sinks.{Told, IsSteady, IsCounted, Appends, AppendsFront, WritesWhole, WritesFront}
-use Rattle.sval_json.proofs.Appending.{appends_nothing, appends_both, front_after, steady_alone, steady_both, counts_since, counted_since}
+use Rattle.sval_json.specs.Sinks.{Told, IsSteady, IsCounted, LacksRoom, Appends, AppendsFront, WritesWhole, WritesFront}
+use Rattle.sval_json.proofs.Appending.{lacks_both, appends_nothing, appends_both, front_after, steady_alone, steady_both, counts_since, counted_since}
 use Rattle.sval_relay.specs.declared.relaying.RelayError.{RelayError}
 use Rattle.sval_relay.specs.declared.relaying.RelayError.TheVariants as answer
 use Rattle.sval_relay.specs.Verdict.{Asked, tree_text, tree_written, tree_due, due_of, with_text, texts, left}
 use Rattle.sval_relay.specs.Relays.{of_sink, IsMeant, AreMeant}
-use Rattle.sval_relay.specs.WrittenTrees.{IsWantOfTree, IsWantAmong, WritesText, RefusesTree, IsCauseOf, StopsTree, WritesTree, WritesTexts, RefusesSome, IsCauseAmong, StopsAmong, WritesTrees}
+use Rattle.sval_relay.specs.WrittenTrees.{IsWantOfTree, IsWantAmong, FailsFull, WritesTextOf, RefusesTree, IsCauseOf, StopsTree, WritesTree, WritesTexts, RefusesSome, IsCauseAmong, StopsAmong, WritesTrees}
+use Rattle.sval_relay.proofs.Writing.{lacks_more}
 
 -- ---- a tree in front of others
 
@@ -134,6 +135,15 @@ stopped_at {K} {asked} {end} {trees} {rest} captured told old mid new why tree s
   counts = counts_since so.steady s.counts;
 }
   where
+    fails : FailsFull (left asked end (tree ∷ [])) (told mid) (told new) → FailsFull (left asked end trees) (told old) (told new)
+    fails f = record {
+      fault = counted_since (told new) sink.Failed so.steady f.fault;
+      full =
+          let (more, before) = left_before asked end tree rest in
+          let whole : so.front ++ (left asked end (tree ∷ []) ++ more) ≡ left asked end trees = ap (λ x. so.front ++ x) (sym before) ∙ sym so.left_so in
+          subst (LacksRoom (told old)) whole (lacks_both (told old) (told mid) so.front (left asked end (tree ∷ [])) more so.appends f.full);
+    }
+
     refuses : (refusal : Refusal) → RefusesSome asked end refusal (tree ∷ []) (told mid) (told new) → RefusesSome asked end refusal trees (told old) (told new)
     refuses refusal r = record {
       is = so.texts_so ∙ ap (map_ok (λ more. so.front ++ more)) (refused_with asked end tree rest refusal r.is);
@@ -149,7 +159,7 @@ stopped_at {K} {asked} {end} {trees} {rest} captured told old mid new why tree s
     by_cause answer.Unfinished c = absurd c
     by_cause answer.InvalidKey c = refuses InvalidKey c
     by_cause answer.InvalidNumber c = refuses InvalidNumber c
-    by_cause answer.Write c = counted_since (told new) sink.Failed so.steady c
+    by_cause answer.Write c = fails c
     by_cause answer.NoMemory c = want_since captured told old mid new so.steady c
 
 -- ---- one tree as a list of one
@@ -161,7 +171,7 @@ module _ {K : Type 0} (told : K → Told) (asked : Asked) (tree : Tree) where
   meant_with : (end text : List ℕ) → IsMeant asked tree text → AreMeant asked end (tree ∷ []) (text ++ end)
   meant_with end text is = (text, [], ap (λ x. text ++ x) (sym (append-nil end)), is, refl)
 
-  pub with_ending : {old mid new : Told} (end : List ℕ) → WritesText asked tree old mid → WritesWhole mid end new → WritesTexts asked end (tree ∷ []) old new
+  pub with_ending : {old mid new : Told} (end : List ℕ) → WritesTextOf asked tree old mid → WritesWhole mid end new → WritesTexts asked end (tree ∷ []) old new
   with_ending end w e = record {
     text = w.text ++ end;
     is = text_with end w.text w.is;
@@ -181,6 +191,11 @@ module _ {K : Type 0} (told : K → Told) (asked : Asked) (tree : Tree) where
   due_stopped : {old new : Told} (end : List ℕ) → AppendsFront old (tree_due asked tree) new → AppendsFront old (left asked end (tree ∷ [])) new
   due_stopped {old} end f = let before = due_before end in front_after [] (tree_due asked tree) before.0 (appends_nothing old) before.1 f
 
+  fails_alone : {old new : Told} (end : List ℕ) → FailsFull (tree_due asked tree) old new → FailsFull (left asked end (tree ∷ [])) old new
+  fails_alone {old} end f =
+      let (more, whole) = due_before end in
+      record { fault = f.fault; full = subst (LacksRoom old) (sym whole) (lacks_more old (tree_due asked tree) more f.full) }
+
   refuses_alone : {old new : Told} (end : List ℕ) (why : Refusal) → RefusesTree asked why tree old new → RefusesSome asked end why (tree ∷ []) old new
   refuses_alone {old} {new} end why r = record {
     is = ap (λ found. on_ok found (λ text. Ok (text ++ (end ++ [])))) r.is;
@@ -198,7 +213,7 @@ module _ {K : Type 0} (told : K → Told) (asked : Asked) (tree : Tree) where
       by_cause answer.Unfinished c = absurd c
       by_cause answer.InvalidKey c = refuses_alone end InvalidKey c
       by_cause answer.InvalidNumber c = refuses_alone end InvalidNumber c
-      by_cause answer.Write c = c
+      by_cause answer.Write c = fails_alone end c
       by_cause answer.NoMemory c = wants c
 
   among : (captured : Bool) (old new : K) → IsWantOfTree captured told old new → IsWantAmong captured told old new
@@ -210,23 +225,24 @@ module _ {K : Type 0} (told : K → Told) (asked : Asked) (tree : Tree) where
   stops_among captured end old new why s = stops_with (IsWantAmong captured told) captured end old new why (among captured old new) s
 
   -- the ending wasn't written
-  pub stops_ending : (captured : Bool) (end : List ℕ) (old mid new : K) (why : SinkError) → WritesText asked tree (told old) (told mid) → WritesFront why (told mid) end (told new)
+  pub stops_ending : (captured : Bool) (end : List ℕ) (old mid new : K) (why : SinkError) → WritesTextOf asked tree (told old) (told mid) → WritesFront why (told mid) end (told new)
       → StopsAmong (of_sink why) (IsWantAmong captured told) told asked end (tree ∷ []) old new
   stops_ending captured end old mid new why w f = record {
-    cause = by_cause why (counted_since (told new) why w.steady f.cause);
-    begins =
-        let whole : left asked end (tree ∷ []) ≡ w.text ++ (end ++ []) = ap (λ found. with_text found end [] (tree_written asked tree)) w.is in
-        front_after w.text end [] w.appends whole f.front;
+    cause = by_cause why f.full (counted_since (told new) why w.steady f.cause);
+    begins = front_after w.text end [] w.appends whole f.front;
     counts = counts_since w.steady f.counts;
   }
     where
+      whole : left asked end (tree ∷ []) ≡ w.text ++ (end ++ [])
+      whole = ap (λ found. with_text found end [] (tree_written asked tree)) w.is
+
       want : (b : Bool) → Rose (told old).wants (told new).wants → IsWantAmong b told old new
       want false c = c
       want true c = inr c
 
-      by_cause : (e : SinkError) → IsCounted e (told old) (told new) → IsCauseAmong (of_sink e) (IsWantAmong captured told) told asked end (tree ∷ []) old new
-      by_cause sink.Failed c = c
-      by_cause sink.NoMemory c = want captured c
+      by_cause : (e : SinkError) → (e ≡ sink.Failed → LacksRoom (told mid) end) → IsCounted e (told old) (told new) → IsCauseAmong (of_sink e) (IsWantAmong captured told) told asked end (tree ∷ []) old new
+      by_cause sink.Failed full c = record { fault = c; full = subst (LacksRoom (told old)) (sym whole) (lacks_both (told old) (told mid) w.text end [] w.appends (full refl)) }
+      by_cause sink.NoMemory full c = want captured c
 
   -- one tree by itself, without an ending
   pub alone : (captured : Bool) (old new : K) (result : Result (Unit {0}) RelayError) → WritesTree result captured told asked tree old new → WritesTrees result (IsWantOfTree captured told) told asked [] (tree ∷ []) old new

@@ -1,5 +1,5 @@
 -- From what printing, serving and writing answered to what is told of a made script.
-use Rattle.std.specs.Prelude.{◌≡◌, ℕ, ◌<◌, ◌^◌, List, [], ◌++◌, length, Some, Ok, Err, refl}
+use Rattle.std.specs.Prelude.{◌≡◌, ℕ, ◌<◌, ◌^◌, List, [], ◌++◌, length, Some, Result, Ok, Err, refl}
 use Rattle.std.proofs.Common.{ap, ◌∙◌, sym, inl, inr}
 use Rattle.sval_label.specs.Calls.{Call}
 use Rattle.sval_core.specs.Law.{Streams}
@@ -17,10 +17,11 @@ use Rattle.sval_script.specs.Printing.{printer_law, printing_of, printer_standin
 use Rattle.sval_script.proofs.Printers.{prints_all}
 use Rattle.sval_relay.specs.declared.way.Task.{Task}
 use Rattle.sval_relay.specs.declared.way.Way.TheVariants.{Buffered}
+use Rattle.sval_relay.specs.declared.made.MadeError.{MadeError}
 use Rattle.sval_relay.specs.declared.made.MadeError.TheVariants as answer
 use Rattle.sval_relay.specs.Relays.{WritesText}
 use Rattle.sval_relay.specs.Verdict.{Text, one_in, IsVerdict, asked_in}
-use Rattle.sval_relay.specs.Made.{made_script, made_calls, made_error, sizes_line, IsMadeLine, TellsMade}
+use Rattle.sval_relay.specs.Made.{made_script, made_calls, made_error, sizes_line, IsMadeLine, LacksRoomForLine, TellsMade}
 use Rattle.sval_relay.specs.MadeLaws.{made_json, OneMadeLine}
 use Rattle.sval_relay.proofs.MadeScripts.{made_is_text}
 use Rattle.sval_relay.proofs.Verdicts.{one_of_lines}
@@ -107,6 +108,12 @@ module _ {K : Type 0} (told : K → Told) (count : ℕ) where
     front = f.front;
     counts = f.counts;
   }
+
+  -- the sink failed only where there was no room for the line
+  pub full_for_line : {old new : K} {line : List ℕ} (why : SinkError) → IsMadeLine count line → WritesFront why (told old) line (told new)
+      → ◌≡◌ {A = Result (Unit {0}) MadeError} (Err (made_error why)) (Err answer.Write) → LacksRoomForLine (told old) count
+  full_for_line {line = line} Failed is f e = record { line = line; is = is; lacks = f.full refl }
+  full_for_line NoMemory is f e = cc e
 
   pub tells_whole : {old new : K} {line : List ℕ} → IsMadeLine count line → WritesWhole (told old) line (told new) → TellsMade told count (Ok tt) old new
   tells_whole {line = line} is w = record {

@@ -11,17 +11,18 @@ use Rattle.sval_buffer.specs.Capture.{Capture}
 use Rattle.sval_buffer.specs.CapturedValues.{IsCaptured, KeepsTree}
 use Rattle.sval_buffer.specs.Forest.{Forest, replayed}
 use Rattle.sval_buffer.proofs.ExactReplay.{replay_exact}
-use Rattle.sval_json.specs.Sinks.{Told, Appends, AppendsFront}
+use Rattle.sval_json.specs.Sinks.{Told, LacksRoom, Appends, AppendsFront}
 use Rattle.sval_json.proofs.Appending.{front_after, appends_nothing}
 use Rattle.sval_script.specs.Canon.{canon}
 use Rattle.sval_script.specs.Printed.{canonical_calls, printed}
 use Rattle.sval_script.specs.Printing.{HasKnownTags}
-use Rattle.sval_script.specs.PrintedValues.{HaveKnownTags, ArePrinted, AreBegun, EndsUnknown}
+use Rattle.sval_script.specs.PrintedValues.{HaveKnownTags, ArePrinted, AreBegun, AreTooLongFor, EndsUnknown}
 use Rattle.sval_script.proofs.CanonicalScripts.{canon-reads_back, printed-append}
 use Rattle.sval_script.proofs.ExactCalls.{exact_print_canon}
 use Rattle.sval_script.proofs.KnownTags.{exact_known}
 use Rattle.sval_relay.specs.Verdict.{Script, tree_due}
-use Rattle.sval_relay.specs.WrittenTrees.{WritesText}
+use Rattle.sval_relay.specs.WrittenTrees.{WritesTextOf}
+use Rattle.sval_relay.proofs.Writing.{lacks_more}
 
 -- the canonical calls of a captured tree's replay
 abbrev pub shown : Capture → List Call
@@ -44,7 +45,7 @@ module _ (calls : List Call) (tree : Tree) (capture : Capture) (s : Spells calls
   known : HaveKnownTags (shown capture)
   known = exact_known (replayed capture.forest) tree spells p exact
 
-  pub prints_tree : {old new : Told} → ArePrinted (shown capture) old new → WritesText Script tree old new
+  pub prints_tree : {old new : Told} → ArePrinted (shown capture) old new → WritesTextOf Script tree old new
   prints_tree {old} {new} printed_all = record {
     text = canon tree;
     is = refl;
@@ -53,10 +54,16 @@ module _ (calls : List Call) (tree : Tree) (capture : Capture) (s : Spells calls
     steady = printed_all.steady;
   }
 
+  begins_canon : (front later : List Call) → shown capture ≡ front ++ later → canon tree ≡ printed front ++ printed later
+  begins_canon front later are = sym lines_are ∙ ap printed are ∙ printed-append front later
+
   pub begins_script : {old new : Told} → AreBegun (shown capture) old new → AppendsFront old (tree_due Script tree) new
   begins_script {old} {new} begun =
-      let whole : canon tree ≡ [] ++ (printed begun.front ++ printed begun.begins.later) = sym lines_are ∙ ap printed begun.begins.are ∙ printed-append begun.front begun.begins.later in
-      front_after [] (printed begun.front) (printed begun.begins.later) (appends_nothing old) whole begun.appends
+      front_after [] (printed begun.front) (printed begun.begins.later) (appends_nothing old) (begins_canon begun.front begun.begins.later begun.begins.are) begun.appends
+
+  pub lacks_script : {old : Told} → AreTooLongFor (shown capture) old → LacksRoom old (tree_due Script tree)
+  lacks_script {old} long =
+      subst (LacksRoom old) (sym (begins_canon long.front long.begins.later long.begins.are)) (lacks_more old (printed long.front) (printed long.begins.later) long.lacks)
 
   -- no tag is unknown
   pub all_are_known : {old new : Told} → EndsUnknown (shown capture) old new → ⊥

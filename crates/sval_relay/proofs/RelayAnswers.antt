@@ -10,7 +10,7 @@ use Rattle.sval_check.specs.ManyChecks.{IsFirstBadOfList, IsUnfinishedList}
 use Rattle.sval_json.specs.declared.sink.SinkError.{SinkError}
 use Rattle.sval_json.specs.declared.sink.SinkError.TheVariants as sink
 use Rattle.sval_json.specs.Number.{Refusal, InvalidKey, InvalidNumber}
-use Rattle.sval_json.specs.Sinks.{Told, IsSteady, NoCountFell, AppendsFront, IsCounted, PassesOn, Declines}
+use Rattle.sval_json.specs.Sinks.{Told, IsSteady, NoCountFell, LacksRoom, AppendsFront, IsCounted, PassesOn, Declines}
 use Rattle.sval_json.proofs.Appending.{all_is_front, steady_both, steady_counts, counts_since, counted_since}
 use Rattle.sval_script.specs.declared.script.ScriptError.{ScriptError}
 use Rattle.sval_script.specs.declared.script.ScriptError.TheVariants as reading
@@ -23,8 +23,8 @@ use Rattle.sval_relay.specs.declared.relaying.RelayError.TheVariants as answer
 use Rattle.sval_relay.specs.Sources.{Supply}
 use Rattle.sval_relay.specs.Inputs.{HasRead}
 use Rattle.sval_relay.specs.Verdict.{Verdict, BadLine, BadCall, Unfinished, Key, Number, Text, asked_in, ending, texts, left, text_verdict, one_in, all_in, SpellTrees, IsVerdict, OnVerdict}
-use Rattle.sval_relay.specs.Relays.{of_script, of_sink, is_of_script, WritesText, WritesMeant, Grows, MayLeave, WritesValue, WritesUpTo, IsWantIn, IsAnswerTo, Relays}
-use Rattle.sval_relay.specs.WrittenTrees.{WritesTexts, RefusesSome, IsCauseAmong, WritesTrees}
+use Rattle.sval_relay.specs.Relays.{of_script, of_sink, is_of_script, WritesText, WritesMeant, Grows, MayLeave, LacksRoomFor, WritesValue, WritesUpTo, IsWantIn, IsAnswerTo, Relays}
+use Rattle.sval_relay.specs.WrittenTrees.{FailsFull, WritesTexts, RefusesSome, IsCauseAmong, WritesTrees}
 use Rattle.sval_relay.proofs.Verdicts.{of_each, one_spelled, verdict_bad_line, verdict_bad_call, verdict_unfinished, verdict_trees}
 use Rattle.sval_relay.proofs.LeftTexts.{texts_left}
 use Rattle.sval_relay.proofs.Writing.{counts_stay, grows_by_nothing, grows_by_front, may_stay, appends_kept, value_kept, want_before, want_of_sink}
@@ -117,6 +117,11 @@ pub relays_unread : {K : Type 0} (told : K → Told) (script : List ℕ) (task :
 relays_unread told script task out (reading.BadLine n) bad = relays_refused told script task out (answer.BadLine n) (verdict_bad_line script task n (bad n refl), refl)
 relays_unread told script task out reading.NoMemory bad = relays_refused told script task out answer.NoMemory (want_before task told out)
 
+-- no reader answers that the sink failed
+pub read_before_write : (e : ScriptError) → ◌≡◌ {A = Result (Unit {0}) RelayError} (Err (of_script e)) (Err answer.Write) → ⊥
+read_before_write (reading.BadLine n) never = cc never
+read_before_write reading.NoMemory never = cc never
+
 -- there was no memory to check it
 pub relays_unchecked : {K : Type 0} (told : K → Told) (script : List ℕ) (task : Task) (out : K) → Relays told script task (Err answer.NoMemory) out out
 relays_unchecked told script task out = relays_refused told script task out answer.NoMemory (want_before task told out)
@@ -175,15 +180,23 @@ module _ (script : List ℕ) (task : Task) (calls : List Call) (trees : List Tre
     steady = r.steady;
   }
 
-  front_may_stay : {old new : Told} → AppendsFront old (left (asked_in task.way) (ending (asked_in task.way) task.many) trees) new → OnVerdict (MayLeave old new) script task
-  front_may_stay {old} {new} begun = by_texts (texts (asked_in task.way) (ending (asked_in task.way) task.many) trees) refl
+  -- a fact on what is due of the trees, as a fact on the verdict
+  on_due : (P : List ℕ → Type 0) (Q : Verdict → Type 0) → ((bytes : List ℕ) → P bytes → Q (Text bytes) × Q (Key bytes) × Q (Number bytes))
+      → P (left (asked_in task.way) (ending (asked_in task.way) task.many) trees) → OnVerdict Q script task
+  on_due P Q all p = by_texts (texts (asked_in task.way) (ending (asked_in task.way) task.many) trees) refl
     where
-      by_texts : (found : Result (List ℕ) Refusal) → texts (asked_in task.way) (ending (asked_in task.way) task.many) trees ≡ found → OnVerdict (MayLeave old new) script task
+      by_texts : (found : Result (List ℕ) Refusal) → texts (asked_in task.way) (ending (asked_in task.way) task.many) trees ≡ found → OnVerdict Q script task
       by_texts (Ok text) e =
-          of_each script task (Text text) (MayLeave old new) (verdict_of (Ok text) e)
-          (subst (λ bytes. AppendsFront old bytes new) (texts_left (asked_in task.way) (ending (asked_in task.way) task.many) trees text e) begun)
-      by_texts (Err InvalidKey) e = of_each script task _ (MayLeave old new) (verdict_of (Err InvalidKey) e) begun
-      by_texts (Err InvalidNumber) e = of_each script task _ (MayLeave old new) (verdict_of (Err InvalidNumber) e) begun
+          let same = texts_left (asked_in task.way) (ending (asked_in task.way) task.many) trees text e in
+          of_each script task (Text text) Q (verdict_of (Ok text) e) (all text (subst P same p)).0
+      by_texts (Err InvalidKey) e = of_each script task _ Q (verdict_of (Err InvalidKey) e) (all _ p).1
+      by_texts (Err InvalidNumber) e = of_each script task _ Q (verdict_of (Err InvalidNumber) e) (all _ p).2
+
+  front_may_stay : {old new : Told} → AppendsFront old (left (asked_in task.way) (ending (asked_in task.way) task.many) trees) new → OnVerdict (MayLeave old new) script task
+  front_may_stay {old} {new} begun = on_due (λ bytes. AppendsFront old bytes new) (MayLeave old new) (λ bytes front. (front, front, front)) begun
+
+  full_for_due : (old : Told) → LacksRoom old (left (asked_in task.way) (ending (asked_in task.way) task.many) trees) → OnVerdict (LacksRoomFor old) script task
+  full_for_due old full = on_due (LacksRoom old) (LacksRoomFor old) (λ bytes lacks. (lacks, lacks, lacks)) full
 
   pub relays_written : {K : Type 0} (told : K → Told) (Want : K → K → Type 0) (old new : K) (result : Result (Unit {0}) RelayError)
       → WritesTrees result Want told (asked_in task.way) (ending (asked_in task.way) task.many) trees old new → (Want old new → IsWantIn task told old new) → Relays told script task result old new
@@ -196,8 +209,18 @@ module _ (script : List ℕ) (task : Task) (calls : List Call) (trees : List Tre
       by_cause answer.Unfinished c = absurd c
       by_cause answer.InvalidKey c = writes_up_to InvalidKey c Key (λ written. refl)
       by_cause answer.InvalidNumber c = writes_up_to InvalidNumber c Number (λ written. refl)
-      by_cause answer.Write c = c
+      by_cause answer.Write c = c.fault
       by_cause answer.NoMemory c = wants c
+
+  -- the sink failed only where there was no room
+  pub full_where_failed : {K : Type 0} (told : K → Told) (Want : K → K → Type 0) (old new : K) (result : Result (Unit {0}) RelayError)
+      → WritesTrees result Want told (asked_in task.way) (ending (asked_in task.way) task.many) trees old new → result ≡ Err answer.Write → OnVerdict (LacksRoomFor (told old)) script task
+  full_where_failed told Want old new (Ok done) w e = cc e
+  full_where_failed told Want old new (Err why) w e =
+      let same : why ≡ answer.Write = cc e in
+      let cause : FailsFull (left (asked_in task.way) (ending (asked_in task.way) task.many) trees) (told old) (told new) =
+      subst (λ why. IsCauseAmong why Want told (asked_in task.way) (ending (asked_in task.way) task.many) trees old new) same w.cause in
+      full_for_due (told old) cause.full
 
 -- ---- what flushing answered after that
 

@@ -1,5 +1,5 @@
 -- What was written of a script that was checked, as what serving it answers.
-use Rattle.std.specs.Prelude.{◌≡◌, ℕ, ◌+◌, ◌<◌, ◌≤◌, ◌^◌, Bool, true, false, List, [], ◌∷◌, length, map, Result, refl}
+use Rattle.std.specs.Prelude.{◌≡◌, ℕ, ◌+◌, ◌<◌, ◌≤◌, ◌^◌, Bool, true, false, List, [], ◌∷◌, length, map, Result, Err, refl}
 use Rattle.std.proofs.Common.{sym, ap, ◌∙◌, subst, arith, inr}
 use Rattle.std.proofs.lemmas.List.{length-append, length-map}
 use Rattle.sval_label.specs.Calls.{Call}
@@ -16,12 +16,13 @@ use Rattle.sval_script.proofs.PrintableTrees.{script_tree, script_trees}
 use Rattle.sval_relay.specs.declared.way.Way.{Way}
 use Rattle.sval_relay.specs.declared.way.Way.TheVariants.{Direct, Buffered, Calls, DirectBeside, BufferedBeside}
 use Rattle.sval_relay.specs.declared.relaying.RelayError.{RelayError}
+use Rattle.sval_relay.specs.declared.relaying.RelayError.TheVariants.{Write}
 use Rattle.sval_relay.specs.Ways.{is_captured}
-use Rattle.sval_relay.specs.Verdict.{asked_in, ending, one_in, all_in}
-use Rattle.sval_relay.specs.Relays.{IsWantFor, Relays}
+use Rattle.sval_relay.specs.Verdict.{asked_in, ending, one_in, all_in, OnVerdict}
+use Rattle.sval_relay.specs.Relays.{LacksRoomFor, IsWantFor, Relays}
 use Rattle.sval_relay.specs.WrittenTrees.{IsWantOfTree, IsWantAmong, WritesTreeIn, WritesTrees, WritesListIn, AreTrees, IsOfScript}
 use Rattle.sval_relay.proofs.ListTexts.{alone}
-use Rattle.sval_relay.proofs.RelayAnswers.{relays_written}
+use Rattle.sval_relay.proofs.RelayAnswers.{relays_written, full_where_failed}
 
 -- ---- one value
 
@@ -40,13 +41,21 @@ want_of_one : {K : Type 0} (captured : Bool) (told : K → Told) (old new : K) �
 want_of_one false told old new want = inr want
 want_of_one true told old new want = want
 
+as_list : {K : Type 0} (told : K → Told) (way : Way) (tree : Tree) (old new : K) (result : Result (Unit {0}) RelayError) → WritesTreeIn way result told tree old new
+    → WritesTrees result (IsWantOfTree (is_captured way) told) told (asked_in way) (ending (asked_in way) false) (tree ∷ []) old new
+as_list told way tree old new result w =
+    subst (λ end. WritesTrees result (IsWantOfTree (is_captured way) told) told (asked_in way) end (tree ∷ []) old new) (no_ending way)
+    (alone told (asked_in way) tree (is_captured way) old new result w)
+
 pub serves_one : {K : Type 0} (told : K → Told) (bytes : List ℕ) (way : Way) (calls : List Call) (tree : Tree) (old new : K) (result : Result (Unit {0}) RelayError) → lines bytes ≡ Good calls → Spells calls tree
     → WritesTreeIn way result told tree old new → Relays told bytes (one_in way) result old new
-serves_one {K} told bytes way calls tree old new result is s w =
-    let Want : K → K → Type 0 = IsWantOfTree (is_captured way) told in
-    let one = alone told (asked_in way) tree (is_captured way) old new result w in
-    relays_written bytes (one_in way) calls (tree ∷ []) is (tree, refl, s) told Want old new result
-    (subst (λ end. WritesTrees result Want told (asked_in way) end (tree ∷ []) old new) (no_ending way) one) (want_of_one (is_captured way) told old new)
+serves_one told bytes way calls tree old new result is s w =
+    relays_written bytes (one_in way) calls (tree ∷ []) is (tree, refl, s) told (IsWantOfTree (is_captured way) told) old new result (as_list told way tree old new result w) (want_of_one (is_captured way) told old new)
+
+pub full_for_one : {K : Type 0} (told : K → Told) (bytes : List ℕ) (way : Way) (calls : List Call) (tree : Tree) (old new : K) (result : Result (Unit {0}) RelayError) → lines bytes ≡ Good calls → Spells calls tree
+    → WritesTreeIn way result told tree old new → result ≡ Err Write → OnVerdict (LacksRoomFor (told old)) bytes (one_in way)
+full_for_one told bytes way calls tree old new result is s w =
+    full_where_failed bytes (one_in way) calls (tree ∷ []) is (tree, refl, s) told (IsWantOfTree (is_captured way) told) old new result (as_list told way tree old new result w)
 
 -- ---- many values
 
@@ -92,3 +101,8 @@ pub serves_many : {K : Type 0} (told : K → Told) (bytes : List ℕ) (way : Way
 serves_many {K} told bytes way calls ends trees old new result is are w =
     let Want : K → K → Type 0 = IsWantAmong (is_captured way) told in
     relays_written bytes (all_in way) calls trees is are.spell told Want old new result w (want_among_many (is_captured way) told old new)
+
+pub full_for_many : {K : Type 0} (told : K → Told) (bytes : List ℕ) (way : Way) (calls : List Call) (ends : List ℕ) (trees : List Tree) (old new : K) (result : Result (Unit {0}) RelayError) → lines bytes ≡ Good calls
+    → AreTrees calls ends trees → WritesListIn way result told trees old new → result ≡ Err Write → OnVerdict (LacksRoomFor (told old)) bytes (all_in way)
+full_for_many told bytes way calls ends trees old new result is are w =
+    full_where_failed bytes (all_in way) calls trees is are.spell told (IsWantAmong (is_captured way) told) old new result w

@@ -11,7 +11,7 @@ use Rattle.sval_json.specs.Shape.{json_in}
 use Rattle.sval_json.specs.Steps.{written_in}
 use Rattle.sval_script.specs.Lines.{Lines, Good, Bad, lines}
 use Rattle.sval_relay.specs.Verdict.{Verdict, Text, Asked, JsonIn, IsOfCalls, bad_call, unfinished, whole, IsOfLines, IsVerdictOn}
-use Rattle.sval_relay.specs.Laws.{json_verdict, SpellsJson}
+use Rattle.sval_relay.specs.Laws.{json_verdict, ScriptSpellsJson}
 use Rattle.sval_relay.proofs.Verdicts.{one_of_lines, verdict_in}
 use Rattle.sval_relay.proofs.Writing.{written_of_calls}
 
@@ -41,7 +41,7 @@ has_json (Ok json) written text same = (json, refl, cc same)
 has_json (Err InvalidKey) written text same = cc same
 has_json (Err InvalidNumber) written text same = cc same
 
-pub only_json_gives_text : (script text : List ℕ) (style : Variants) → IsVerdictOn (Text text) script (JsonIn style) false → (json : Json) × SpellsJson script style json × (text ≡ compact json)
+pub only_json_gives_text : (script text : List ℕ) (style : Variants) → IsVerdictOn (Text text) script (JsonIn style) false → (json : Json) × ScriptSpellsJson script style json × (text ≡ compact json)
 only_json_gives_text script text style v =
     let read = read_good (lines script) (JsonIn style) text v in
     let tree = spelled text read.2 refl in

@@ -1,5 +1,5 @@
 -- What writing leaves of a sink, step by step.
-use Rattle.std.specs.Prelude.{◌≡◌, ℕ, Bool, true, false, List, [], Result, Ok, Err, refl}
+use Rattle.std.specs.Prelude.{◌≡◌, ℕ, Bool, true, false, List, [], ◌++◌, Result, Ok, Err, refl}
 use Rattle.std.proofs.Common.{◌∙◌, ap, sym, subst, arith, inl, inr}
 use Rattle.sval_label.specs.Calls.{Call}
 use Rattle.sval_core.specs.Law.{Rose}
@@ -14,16 +14,16 @@ use Rattle.sval_json.specs.Shape.{json_in, map_ok}
 use Rattle.sval_json.specs.Actions.{Outcome}
 use Rattle.sval_json.specs.Steps.{written_in}
 use Rattle.sval_json.specs.Laws.{IsWrittenAs}
-use Rattle.sval_json.specs.Sinks.{Told, IsSteady, NoCountFell, Appends, AppendsFront}
-use Rattle.sval_json.specs.Written.{IsBegunIn, IsRefusedIn, RefusesSpelledTree, WritesSpelledTree, WritesSpelledValue}
-use Rattle.sval_json.proofs.Appending.{appends_nothing, steady_alone, steady_counts}
+use Rattle.sval_json.specs.Sinks.{Told, IsSteady, NoCountFell, LacksRoom, Appends, AppendsFront}
+use Rattle.sval_json.specs.Written.{IsBegunIn, IsRefusedIn, IsTooLongFor, RefusesSpelledTree, WritesSpelledTree, WritesSpelledValue}
+use Rattle.sval_json.proofs.Appending.{lacks_both, appends_nothing, steady_alone, steady_counts}
 use Rattle.sval_json.proofs.WrittenOnce.{written_once}
 use Rattle.sval_json.proofs.WritingPlain.{spelling_written}
 use Rattle.sval_relay.specs.declared.way.Task.{Task}
 use Rattle.sval_relay.specs.Ways.{is_captured}
 use Rattle.sval_relay.specs.Verdict.{Verdict, BadLine, BadCall, Unfinished, Key, Number, Text, JsonIn, tree_written, due_of, tree_due}
 use Rattle.sval_relay.specs.Relays.{WritesValue, Grows, MayLeave, IsWantFor, IsWantIn}
-use Rattle.sval_relay.specs.WrittenTrees.{WritesText, RefusesTree}
+use Rattle.sval_relay.specs.WrittenTrees.{WritesTextOf, RefusesTree}
 
 -- ---- a sink that is as it was
 
@@ -57,6 +57,12 @@ pub value_kept : {old mid new : Told} (script : List ℕ) (task : Task) → Writ
 value_kept script task v text room calls trees is spell =
     let w = v calls trees is spell in
     record { bytes = w.bytes; are = w.are; appends = appends_kept w.appends text room }
+
+-- ---- one without room
+
+-- what has no place has none with more behind it
+pub lacks_more : (told : Told) (bytes more : List ℕ) → LacksRoom told bytes → LacksRoom told (bytes ++ more)
+lacks_more told bytes more lacks = lacks_both told told [] bytes more (appends_nothing told) lacks
 
 -- ---- want of memory
 
@@ -100,6 +106,9 @@ due_is_written style tree good = by_shape (json_in style tree) refl
 pub begins_tree : {old new : Told} (style : Variants) (calls : List Call) (tree : Tree) → Spells calls tree → IsBegunIn style calls old new → AppendsFront old (tree_due (JsonIn style) tree) new
 begins_tree {old} {new} style calls tree s front = subst (λ bytes. AppendsFront old bytes new) (written_of_calls style calls tree s ∙ sym (due_is_written style tree s.0)) front
 
+pub lacks_tree : (old : Told) (style : Variants) (calls : List Call) (tree : Tree) → Spells calls tree → IsTooLongFor style calls old → LacksRoom old (tree_due (JsonIn style) tree)
+lacks_tree old style calls tree s lacks = subst (LacksRoom old) (written_of_calls style calls tree s ∙ sym (due_is_written style tree s.0)) lacks
+
 pub refuses_tree : {old new : Told} (style : Variants) (why : Refusal) (calls : List Call) (tree : Tree) → Spells calls tree → IsRefusedIn style why calls old new → RefusesSpelledTree style why calls
     → RefusesTree (JsonIn style) why tree old new
 refuses_tree {old} {new} style why calls tree s r refused = record {
@@ -109,7 +118,7 @@ refuses_tree {old} {new} style why calls tree s r refused = record {
 }
 
 pub writes_tree : {old new : Told} (style : Variants) (calls : List Call) (tree : Tree) → Spells calls tree → IsReal tree → WritesSpelledTree style calls old new → WritesSpelledValue style calls old new
-    → IsSteady old new → WritesText (JsonIn style) tree old new
+    → IsSteady old new → WritesTextOf (JsonIn style) tree old new
 writes_tree style calls tree s real spelled value steady =
     let w = spelled tree s in
     record {

@@ -50,7 +50,7 @@ TreeGivesJson =
     → IsVerdictOn answer script (JsonIn style) false ↔ (answer ≡ json_verdict (json_in style tree) (written_in style calls).written)
 
 -- the script's calls spell a tree that has this JSON in the style
-pub record SpellsJson (script : List ℕ) (style : Variants) (json : Json) : Type 0 where
+pub record ScriptSpellsJson (script : List ℕ) (style : Variants) (json : Json) : Type 0 where
   pub calls : List Call
   pub tree : Tree
   pub good : lines script ≡ Good calls
@@ -60,7 +60,7 @@ pub record SpellsJson (script : List ℕ) (style : Variants) (json : Json) : Typ
 -- a verdict is a text only there, and it is that JSON's
 abbrev pub OnlyJsonGivesText : Type 0
 OnlyJsonGivesText =
-    (script text : List ℕ) (style : Variants) → IsVerdictOn (Text text) script (JsonIn style) false → (json : Json) × SpellsJson script style json × (text ≡ compact json)
+    (script text : List ℕ) (style : Variants) → IsVerdictOn (Text text) script (JsonIn style) false → (json : Json) × ScriptSpellsJson script style json × (text ≡ compact json)
 
 -- ---- what is left
 

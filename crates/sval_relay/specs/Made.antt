@@ -7,7 +7,7 @@ use Rattle.sval_core.specs.Names.{ident_tag, no_name}
 use Rattle.sval_core.specs.ValueCalls.{part_calls, container_calls, item_calls}
 use Rattle.sval_json.specs.declared.sink.SinkError.{SinkError}
 use Rattle.sval_json.specs.declared.sink.SinkError.TheVariants as sink
-use Rattle.sval_json.specs.Sinks.{Told, IsSteady, NoCountFell, Appends, AppendsFront}
+use Rattle.sval_json.specs.Sinks.{Told, IsSteady, NoCountFell, LacksRoom, Appends, AppendsFront}
 use Rattle.sval_script.specs.Printed.{printed}
 use Rattle.sval_relay.specs.declared.way.Way.TheVariants.{Buffered}
 use Rattle.sval_relay.specs.declared.made.MadeError.{MadeError}
@@ -54,6 +54,12 @@ pub record IsMadeLine (count : ℕ) (line : List ℕ) : Type 0 where
   pub text : List ℕ
   pub is : IsVerdict (Text text) (made_script count) (one_in Buffered)
   pub says : line ≡ sizes_line (length (made_calls count)) (length text)
+
+-- that line has no place in the room that the sink tells
+pub record LacksRoomForLine (old : Told) (count : ℕ) : Type 0 where
+  pub line : List ℕ
+  pub is : IsMadeLine count line
+  pub lacks : LacksRoom old line
 
 -- the error of a sink that refused
 abbrev pub made_error : SinkError → MadeError

@@ -6,7 +6,7 @@ use Rattle.sval_core.specs.Trees.{Tree, calls_of}
 use Rattle.sval_json.specs.declared.sink.SinkError.{SinkError}
 use Rattle.sval_json.specs.declared.sink.SinkError.TheVariants as sink
 use Rattle.sval_json.specs.declared.style.Variants.{Variants}
-use Rattle.sval_json.specs.Sinks.{Told, IsSteady, NoCountFell, Appends, AppendsFront}
+use Rattle.sval_json.specs.Sinks.{Told, IsSteady, NoCountFell, LacksRoom, Appends, AppendsFront}
 use Rattle.sval_json.specs.Json.{Json, compact}
 use Rattle.sval_json.specs.Number.{Refusal, InvalidKey, InvalidNumber}
 use Rattle.sval_json.specs.Shape.{json_in}
@@ -99,6 +99,13 @@ MayLeave old new (Text text) = AppendsFront old text new
 MayLeave old new (Key written) = AppendsFront old written new
 MayLeave old new (Number written) = AppendsFront old written new
 MayLeave old new _ = new ≡ old
+
+-- the verdict's text, or what is written up to its refusal, has no place in the room that is told; never so where it has neither
+abbrev pub LacksRoomFor : Told → Verdict → Type 0
+LacksRoomFor old (Text text) = LacksRoom old text
+LacksRoomFor old (Key written) = LacksRoom old written
+LacksRoomFor old (Number written) = LacksRoom old written
+LacksRoomFor old _ = ⊥
 
 -- memory was wanting for the sink itself, or the sink is as it was
 abbrev pub IsOwnWant : {K : Type 0} → (K → Told) → K → K → Type 0

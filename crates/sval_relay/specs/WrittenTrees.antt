@@ -6,7 +6,7 @@ use Rattle.sval_core.specs.Law.{Rose}
 use Rattle.sval_core.specs.Many.{SpellsAll, AreEnds}
 use Rattle.sval_core.specs.Real.{IsPrintable}
 use Rattle.sval_core.specs.Trees.{Tree}
-use Rattle.sval_json.specs.Sinks.{Told, IsSteady, NoCountFell, Appends, AppendsFront}
+use Rattle.sval_json.specs.Sinks.{Told, IsSteady, NoCountFell, LacksRoom, Appends, AppendsFront}
 use Rattle.sval_json.specs.Number.{Refusal, InvalidKey, InvalidNumber}
 use Rattle.sval_script.specs.Lines.{lines, Good}
 use Rattle.sval_relay.specs.declared.way.Way.{Way}
@@ -28,10 +28,17 @@ abbrev pub IsWantAmong : {K : Type 0} → (captured : Bool) → (K → Told) →
 IsWantAmong false told old new = Rose (told old).wants (told new).wants
 IsWantAmong true told old new = IsWantBetween told old new
 
+-- ---- a sink that failed
+
+-- its count of faults rose, and what is due had no place in the room that it told
+pub record FailsFull (due : List ℕ) (old new : Told) : Type 0 where
+  pub fault : Rose old.faults new.faults
+  pub full : LacksRoom old due
+
 -- ---- one tree
 
 -- exactly the tree's text was taken, and is what is meant
-pub record WritesText (asked : Asked) (tree : Tree) (old new : Told) : Type 0 where
+pub record WritesTextOf (asked : Asked) (tree : Tree) (old new : Told) : Type 0 where
   pub text : List ℕ
   pub is : tree_text asked tree ≡ Ok text
   pub meant : IsMeant asked tree text
@@ -48,7 +55,7 @@ pub record RefusesTree (asked : Asked) (why : Refusal) (tree : Tree) (old new : 
 abbrev pub IsCauseOf : {K : Type 0} → RelayError → (captured : Bool) → (K → Told) → Asked → Tree → K → K → Type 0
 IsCauseOf answer.InvalidKey captured told asked tree old new = RefusesTree asked InvalidKey tree (told old) (told new)
 IsCauseOf answer.InvalidNumber captured told asked tree old new = RefusesTree asked InvalidNumber tree (told old) (told new)
-IsCauseOf answer.Write captured told asked tree old new = Rose (told old).faults (told new).faults
+IsCauseOf answer.Write captured told asked tree old new = FailsFull (tree_due asked tree) (told old) (told new)
 IsCauseOf answer.NoMemory captured told asked tree old new = IsWantOfTree captured told old new
 IsCauseOf _ captured told asked tree old new = ⊥
 
@@ -60,7 +67,7 @@ pub record StopsTree {K : Type 0} (why : RelayError) (captured : Bool) (told : K
 
 -- the tree's text was written, or a first part of what is due of it
 abbrev pub WritesTree : {K : Type 0} → Result (Unit {0}) RelayError → (captured : Bool) → (K → Told) → Asked → Tree → K → K → Type 0
-WritesTree (Ok done) captured told asked tree old new = WritesText asked tree (told old) (told new)
+WritesTree (Ok done) captured told asked tree old new = WritesTextOf asked tree (told old) (told new)
 WritesTree (Err why) captured told asked tree old new = StopsTree why captured told asked tree old new
 
 -- the same in a way
@@ -87,7 +94,7 @@ pub record RefusesSome (asked : Asked) (end : List ℕ) (why : Refusal) (trees :
 abbrev pub IsCauseAmong : {K : Type 0} → RelayError → (Want : K → K → Type 0) → (K → Told) → Asked → List ℕ → List Tree → K → K → Type 0
 IsCauseAmong answer.InvalidKey Want told asked end trees old new = RefusesSome asked end InvalidKey trees (told old) (told new)
 IsCauseAmong answer.InvalidNumber Want told asked end trees old new = RefusesSome asked end InvalidNumber trees (told old) (told new)
-IsCauseAmong answer.Write Want told asked end trees old new = Rose (told old).faults (told new).faults
+IsCauseAmong answer.Write Want told asked end trees old new = FailsFull (left asked end trees) (told old) (told new)
 IsCauseAmong answer.NoMemory Want told asked end trees old new = Want old new
 IsCauseAmong _ Want told asked end trees old new = ⊥
 

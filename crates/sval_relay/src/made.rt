@@ -8,7 +8,7 @@ ghost use Rattle.sval_core.specs.Values.{makes};
 ghost use Rattle.sval_core.specs.ValueCalls.{item_calls, part_calls};
 ghost use Rattle.sval_json.specs.Sinks.{WritesAll};
 ghost use Rattle.sval_relay.specs.Verdict.{Text, one_in, IsVerdict};
-ghost use Rattle.sval_relay.specs.Made.{id_calls, name_calls, record_calls, made_calls, made_script, sizes_line, IsMadeLine, TellsMade};
+ghost use Rattle.sval_relay.specs.Made.{id_calls, name_calls, record_calls, made_calls, made_script, sizes_line, IsMadeLine, LacksRoomForLine, TellsMade};
 
 use crate::relaying::{RelayError, relay};
 use crate::way::Way;
@@ -54,11 +54,13 @@ impl From<SinkError> for MadeError {
 ///
 /// # Errors
 ///
-/// [`MadeError::Write`] comes only where the sink's count of faults rose. [`MadeError::NoMemory`] leaves the sink as it
-/// was, unless the sink's own count of wants rose. After the first, and where that count rose, a first part of the line
-/// may have been taken. The sink isn't flushed.
+/// [`MadeError::Write`] comes only where the sink's count of faults rose, and of a sink that tells its room only where
+/// the line has no place in it. [`MadeError::NoMemory`] leaves the sink as it was, unless the sink's own count of wants
+/// rose. After the first, and where that count rose, a first part of the line may have been taken. The sink isn't
+/// flushed.
 pub fn relay_made<K: Sink>(alloc: Global, count: u32, out: &mut K) -> Result<(), MadeError>
-    ensures { TellsMade K.told count result out.old out.new }
+    ensures tells { TellsMade K.told count result out.old out.new }
+    ensures write_room { result ≡ Err MadeError.Write → LacksRoomForLine (K.told out.old) count }
 {
     let sizes = measure(alloc, count)?;
     write_sizes(out, sizes)?;

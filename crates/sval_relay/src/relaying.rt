@@ -2,8 +2,8 @@
 
 ghost use Rattle.std.specs.Prelude.{◌≡◌, ℕ, ◌<◌, ◌^◌, true, false, List, length};
 ghost use Rattle.sval_script.specs.Lines.{lines, Good};
-ghost use Rattle.sval_relay.specs.Verdict.{one_in, all_in};
-ghost use Rattle.sval_relay.specs.Relays.{Relays};
+ghost use Rattle.sval_relay.specs.Verdict.{one_in, all_in, OnVerdict};
+ghost use Rattle.sval_relay.specs.Relays.{LacksRoomFor, Relays};
 ghost use Rattle.sval_relay.specs.WrittenTrees.{IsOfScript};
 
 use crate::lists::write_list;
@@ -85,12 +85,15 @@ impl From<SinkError> for RelayError {
 /// [`RelayError::BadLine`], [`RelayError::BadCall`] and [`RelayError::Unfinished`] come only where the script is so, in
 /// this order, and leave the sink as it was. [`RelayError::InvalidKey`] and [`RelayError::InvalidNumber`] come only
 /// where the value has no JSON for that cause, the first from left to right; the sink took exactly what is written up
-/// to there. Neither comes in the way `Calls`. [`RelayError::Write`] comes only where the sink's count of faults rose.
-/// [`RelayError::NoMemory`] comes where memory was wanting, or for a field of 4 GiB or more, and never for an empty
-/// script; it leaves the sink as it was, unless the sink's own count of wants rose. After `Write`, and after `NoMemory`
-/// where that count rose, a first part of what is due may have been taken.
+/// to there. Neither comes in the way `Calls`. [`RelayError::Write`] comes only where the sink's count of faults rose,
+/// and of a sink that tells its room only where what is due has no place in it. [`RelayError::NoMemory`] comes where
+/// memory was wanting, or for a field of 4 GiB or more, and never for an empty script; it leaves the sink as it was,
+/// unless the sink's own count of wants rose. After `Write`, and after `NoMemory` where that count rose, a first part
+/// of what is due may have been taken. The sink isn't flushed.
 pub fn relay<K: Sink>(alloc: Global, script: &[u8], way: Way, out: &mut K) -> Result<(), RelayError>
     ensures relays { Relays K.told script.now (one_in way) result out.old out.new }
+    ensures write_room { result ≡ Err RelayError.Write
+        → OnVerdict (LacksRoomFor (K.told out.old)) script.now (one_in way) }
     ensures some_line { result ≡ Err RelayError.NoMemory → 0 < length script.now }
 {
     // So its length is known to fit.
@@ -124,6 +127,8 @@ pub fn relay_lines<K: Sink>(
     out: &mut K,
 ) -> Result<(), RelayError>
     ensures relays { Relays K.told script.now (all_in way) result out.old out.new }
+    ensures write_room { result ≡ Err RelayError.Write
+        → OnVerdict (LacksRoomFor (K.told out.old)) script.now (all_in way) }
     ensures some_line { result ≡ Err RelayError.NoMemory → 0 < length script.now }
 {
     // So its length is known to fit.
@@ -162,6 +167,8 @@ fn serve_one<K: Sink>(
     requires read { IsOfScript script.now }
     ensures relays { (bytes : List ℕ) → length bytes < 2 ^ 64 → lines bytes ≡ Good script.now
         → Relays K.told bytes (one_in way) result out.old out.new }
+    ensures write_room { (bytes : List ℕ) → lines bytes ≡ Good script.now → result ≡ Err RelayError.Write
+        → OnVerdict (LacksRoomFor (K.told out.old)) bytes (one_in way) }
     ensures some_call { result ≡ Err RelayError.NoMemory → 0 < length script.now }
 {
     match check(alloc, script) {
@@ -185,6 +192,8 @@ fn serve_list<K: Sink>(
     requires read { IsOfScript script.now }
     ensures relays { (bytes : List ℕ) → length bytes < 2 ^ 64 → lines bytes ≡ Good script.now
         → Relays K.told bytes (all_in way) result out.old out.new }
+    ensures write_room { (bytes : List ℕ) → lines bytes ≡ Good script.now → result ≡ Err RelayError.Write
+        → OnVerdict (LacksRoomFor (K.told out.old)) bytes (all_in way) }
     ensures some_call { result ≡ Err RelayError.NoMemory → 0 < length script.now }
 {
     match check_all(alloc, script) {

@@ -3,7 +3,7 @@ use Rattle.sval_relay.specs.declared.relaying.RelayError.TheVariants as answer
 use Rattle.sval_relay.specs.Verdict.{all_in}
 use Rattle.sval_relay.specs.WrittenTrees.{AreTrees}
 use Rattle.sval_relay.proofs.RelayAnswers.{first_bad_of_list, list_not_finished, relays_refused}
-use Rattle.sval_relay.proofs.Served.{found_trees, some_of_ends, serves_many}
+use Rattle.sval_relay.proofs.Served.{found_trees, some_of_ends, serves_many, full_for_many}
 use Rattle.sval_relay.proofs.relaying.serve_list.Goals as goal
 
 pub write_list-requires : goal.write_list-requires
@@ -15,6 +15,11 @@ pub returns-in-Ok-clause-relays : goal.returns-in-Ok-clause-relays
 returns-in-Ok-clause-relays g c = λ bytes small is.
     let (trees, are) = found_trees c.args.script.now c.in-Ok.ends c.requires.few c.requires.read c.in-Ok.ensures.ok in
     serves_many g.K.Sink.told bytes c.args.way c.args.script.now c.in-Ok.ends trees c.args.out.now c.write_list.new.out c.write_list.result is are (c.write_list.ensures.writes trees (rw c.as_slice.ensures are))
+
+pub returns-in-Ok-clause-write_room : goal.returns-in-Ok-clause-write_room
+returns-in-Ok-clause-write_room g c = λ bytes is.
+    let (trees, are) = found_trees c.args.script.now c.in-Ok.ends c.requires.few c.requires.read c.in-Ok.ensures.ok in
+    full_for_many g.K.Sink.told bytes c.args.way c.args.script.now c.in-Ok.ends trees c.args.out.now c.write_list.new.out c.write_list.result is are (c.write_list.ensures.writes trees (rw c.as_slice.ensures are))
 
 pub returns-in-Ok-clause-some_call : goal.returns-in-Ok-clause-some_call
 returns-in-Ok-clause-some_call g c = λ e. some_of_ends c.args.script.now c.in-Ok.ends c.in-Ok.ensures.ok (c.write_list.ensures.some_end e)

@@ -2,7 +2,7 @@ use Rattle.std.proofs.Common.{ap, Err, refl}
 use Rattle.sval_relay.specs.declared.relaying.RelayError.TheVariants as answer
 use Rattle.sval_relay.specs.Verdict.{one_in}
 use Rattle.sval_relay.proofs.RelayAnswers.{first_bad, not_finished, relays_refused}
-use Rattle.sval_relay.proofs.Served.{one_printable, serves_one}
+use Rattle.sval_relay.proofs.Served.{one_printable, serves_one, full_for_one}
 use Rattle.sval_relay.proofs.relaying.serve_one.Goals as goal
 
 pub returns-in-Err-BadCall-clause-relays : goal.returns-in-Err-BadCall-clause-relays
@@ -26,3 +26,9 @@ returns-clause-relays g c = λ bytes small is.
     let (tree, s) = c.in-Ok.ensures.ok.spells in
     let written = c.write_tree.ensures tree (rw c.as_slice.ensures s) (one_printable c.args.script.now tree c.requires.read s) in
     serves_one g.K.Sink.told bytes c.args.way c.args.script.now tree c.args.out.now c.write_tree.new.out c.write_tree.result is s written
+
+pub returns-clause-write_room : goal.returns-clause-write_room
+returns-clause-write_room g c = λ bytes is.
+    let (tree, s) = c.in-Ok.ensures.ok.spells in
+    let written = c.write_tree.ensures tree (rw c.as_slice.ensures s) (one_printable c.args.script.now tree c.requires.read s) in
+    full_for_one g.K.Sink.told bytes c.args.way c.args.script.now tree c.args.out.now c.write_tree.new.out c.write_tree.result is s written
