@@ -113,7 +113,14 @@ pub(crate) fn is_all_plain(bytes: &[u8]) -> bool
 
 /// Writes a text as it stands between quotes: each run without an escape as one piece, and each escape as one. After an
 /// error a first part of what stands there was taken.
-pub(crate) fn write_escaped<K: Sink>(sink: &mut K, bytes: &[u8]) -> Result<(), SinkError>
+///
+/// It is for whoever writes texts between quotes, as JSON does.
+///
+/// ```
+/// write_escaped(&mut sink, b"a\"b")?;
+/// assert_eq!(rt; sink.as_slice(), b"a\\\"b".as_slice());
+/// ```
+pub fn write_escaped<K: Sink>(sink: &mut K, bytes: &[u8]) -> Result<(), SinkError>
     ensures { WritesAll result (K.told sink.old) (escaped bytes.now) (K.told sink.new) }
 {
     let run = first_escape(bytes);
