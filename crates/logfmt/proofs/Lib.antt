@@ -1,3 +1,4 @@
+pub mod Nonempty
 pub mod Runs
 pub mod Spelled
 mod examples

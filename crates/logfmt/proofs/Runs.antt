@@ -1,14 +1,14 @@
 -- What the writer has done after calls, by its law.
-use Rattle.std.specs.Prelude.{◌≡◌, ℕ, Bool, true, false, List, [], ◌∷◌, Option, Some, None, Result, Ok, Err, is_ok, refl}
-use Rattle.std.proofs.Common.{sym, ap, ◌∙◌, subst, arith, inl, inr}
+use Rattle.std.specs.Prelude.{◌≡◌, ℕ, ◌<◌, Bool, true, false, List, [], ◌∷◌, length, Option, Some, None, Result, Ok, Err, is_ok, refl}
+use Rattle.std.proofs.Common.{sym, ap, ◌∙◌, subst, append-nil, arith, inl, inr}
 use Rattle.sval_label.specs.declared.error.Error.{Error}
 use Rattle.sval_label.specs.Calls.{Call}
 use Rattle.sval_core.specs.Law.{Standing, Answers, Refuses, Ran, Streams, StoppedIn, Stops, Emission}
-use Rattle.logfmt.specs.declared.error.LogfmtError.{LogfmtError}
-use Rattle.logfmt.specs.declared.error.LogfmtError.TheVariants as error
+use Rattle.logfmt.specs.declared.LogfmtError.{LogfmtError}
+use Rattle.logfmt.specs.declared.LogfmtError.TheVariants as error
 use Rattle.logfmt.specs.Pairs.{and_then}
 use Rattle.logfmt.specs.Steps.{Begun, Step, step, steps}
-use Rattle.logfmt.specs.Writing.{Writing, nothing_written, IsStoppedBy, Does, begun_after, writing_law, writing_standing, cause_of, ended, written, Fails}
+use Rattle.logfmt.specs.Writing.{Writing, nothing_written, HasText, LacksMemory, IsStoppedBy, Does, begun_after, writing_law, writing_standing, cause_of, ended, written, WritesText, Fails}
 
 -- ---- one call
 
@@ -25,10 +25,10 @@ own call old new why is same left = record {
 refuses : (call : Call) (old new : Writing) (why : Option LogfmtError) → new.why ≡ why → IsStoppedBy why (step call old.begun) old new → Refuses writing_law (writing_standing old) call (writing_standing new)
 refuses call old new None is stop = absurd stop
 refuses call old new (Some error.NoMemory) is stop = record {
-  cause = inr (inr (omega (arith, stop.0)));
+  cause = inr (inr stop.rose);
   left = subst (λ w. IsStoppedBy w (step call old.begun) old new) (sym is) stop;
   faults = omega arith;
-  wants = stop.1;
+  wants = stop.wants;
 }
 refuses call old new (Some error.NotFlat) is stop = own call old new error.NotFlat stop.0 (ap (λ (w : Writing). w.wants) stop.1) (subst (λ w. IsStoppedBy w (step call old.begun) old new) (sym is) stop)
 refuses call old new (Some error.InvalidKey) is stop = own call old new error.InvalidKey stop.0 (ap (λ (w : Writing). w.wants) stop.1) (subst (λ w. IsStoppedBy w (step call old.begun) old new) (sym is) stop)
@@ -93,3 +93,44 @@ pub stops : (e : Emission) (first last : Writing) → first ≡ nothing_written 
 stops e first last new s =
     subst (λ (v : Writing). Fails (cause_of last.why) (and_then (steps e.calls v.begun) (ended e.refuses))) new
     (stopped e.calls e.refuses (writing_standing first) (writing_standing last) first (ap (λ (v : Writing). v.why) new) s.stopped)
+
+-- ---- want of memory
+
+last_step : (s : Step) → HasText s → HasText (and_then s (steps []))
+last_step (Ok begun) text = text
+last_step (Err why) text = text
+
+-- where memory was wanting, the steps up to that call wrote text
+wanted : (calls : List Call) (refuses : Bool) (old new : Standing Writing) (v : Writing) → v.why ≡ None → new.view.why ≡ Some error.NoMemory
+    → StoppedIn writing_law old new v calls refuses → WritesText calls v.begun
+wanted [] refuses old new v none want s = let same : v.why ≡ Some error.NoMemory = sym (ap (λ (w : Writing). w.why) s.1) ∙ want in cc
+wanted (call ∷ calls) refuses old new v none want (inl s) =
+    let lacks : LacksMemory (step call v.begun) v new.view = subst (λ why. IsStoppedBy why (step call v.begun) v new.view) want s.1 in
+    record { front = call ∷ []; rest = calls; is = refl; text = last_step (step call v.begun) lacks.text }
+wanted (call ∷ calls) refuses old new v none want (inr s) =
+    let next : Writing = record v { begun = begun_after (step call v.begun) v.begun } in
+    let later = wanted calls refuses old new next none want s.1 in
+    record {
+      front = call ∷ later.front;
+      rest = later.rest;
+      is = ap (λ more. call ∷ more) later.is;
+      text = subst HasText (sym (ok_then (step call v.begun) v.begun (steps later.front) s.0)) later.text;
+    }
+
+-- the cause is want of memory only where that stopped a call
+wants_memory : (why : Option LogfmtError) → cause_of why ≡ error.NoMemory → why ≡ Some error.NoMemory
+wants_memory None is = cc is
+wants_memory (Some why) is = ap (λ cause. Some cause) is
+
+pub stops_for_memory : (e : Emission) (first last : Writing) → first ≡ nothing_written → Stops writing_law (writing_standing first) e (writing_standing last)
+    → cause_of last.why ≡ error.NoMemory → WritesText e.calls nothing_written.begun
+stops_for_memory e first last new s is =
+    subst (λ (v : Writing). WritesText e.calls v.begun) new
+    (wanted e.calls e.refuses (writing_standing first) (writing_standing last) first (ap (λ (v : Writing). v.why) new) (wants_memory last.why is) s.stopped)
+
+-- where all was taken, and there is text, all calls wrote it
+pub streamed_text : (e : Emission) (first last : Writing) → first ≡ nothing_written → Streams writing_law (writing_standing first) e (writing_standing last)
+    → 0 < length last.begun.text → WritesText e.calls nothing_written.begun
+streamed_text e first last new s text =
+    let taken : steps e.calls nothing_written.begun ≡ Ok last.begun = subst (λ (v : Writing). steps e.calls v.begun ≡ Ok last.begun) new (ran_steps e.calls first last s.ran) in
+    record { front = e.calls; rest = []; is = sym (append-nil e.calls); text = subst HasText (sym taken) text }

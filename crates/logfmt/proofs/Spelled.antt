@@ -1,21 +1,20 @@
 -- What the steps of calls that spell a tree write: its line.
-use Rattle.std.specs.Prelude.{◌≡◌, ℕ, Bool, true, false, ◌&&◌, List, [], ◌∷◌, ◌++◌, map, codes, flat_map, if◌then◌else◌, Option, Some, None, Result, Ok, Err, refl}
-use Rattle.std.specs.List.{concat, cons_option, list_all}
-use Rattle.std.proofs.Common.{sym, ap, ◌∙◌, subst, append_assoc, append-nil}
-use Rattle.std.proofs.lemmas.List.Folds.{list_all-append}
-use Rattle.sval_label.specs.Calls.{Call, Head, Slot}
+use Rattle.std.specs.Prelude.{◌≡◌, ℕ, false, List, [], ◌∷◌, ◌++◌, map, codes, flat_map, Option, Some, None, Result, Ok, Err, refl}
+use Rattle.std.specs.List.{concat, cons_option}
+use Rattle.std.proofs.Common.{sym, ap, ◌∙◌, append_assoc, append-nil}
+use Rattle.sval_label.specs.Calls.{Call, Head, Slot, Tag, Label, Name}
 use Rattle.sval_core.specs.Law.{Emission}
-use Rattle.sval_core.specs.Spells.{Says, SayParts, plain, plain_call, bare_head, bare_slot}
+use Rattle.sval_core.specs.Spells.{Says, SayParts, plain, plain_call, bare_name, bare_label}
 use Rattle.sval_core.specs.Trees as tree
-use Rattle.sval_core.specs.Trees.{Tree, Parts, none, part, Kind, kind_of, next_kind, AreInOrder, IsGood}
+use Rattle.sval_core.specs.Trees.{Tree, Parts, none, part, Kind, next_kind, AreInOrder, IsGood}
 use Rattle.sval_core.specs.ValueTrees.{Tells}
 use Rattle.sval_json.specs.Escape.{escaped, in_quotes}
 use Rattle.sval_json.proofs.Texts.{escaped-append}
-use Rattle.logfmt.specs.declared.error.LogfmtError.{LogfmtError}
-use Rattle.logfmt.specs.declared.error.LogfmtError.TheVariants.{NotFlat, InvalidKey}
+use Rattle.logfmt.specs.declared.LogfmtError.{LogfmtError}
+use Rattle.logfmt.specs.declared.LogfmtError.TheVariants.{NotFlat}
 use Rattle.logfmt.specs.declared.writer.Due.{Due}
 use Rattle.logfmt.specs.declared.writer.Due.TheVariants as due
-use Rattle.logfmt.specs.Pairs.{and_then, is_key_byte, is_key, a_key, key_of, leaf, and_pairs, pairs, line, line_of}
+use Rattle.logfmt.specs.Pairs.{and_then, a_key, leaf, and_pairs, pairs, line, line_of}
 use Rattle.logfmt.specs.Steps.{Begun, Step, space_after, step, steps}
 use Rattle.logfmt.specs.Writing.{nothing_written, ended, written}
 
@@ -51,6 +50,17 @@ same_step (Call.PartBegin Slot.Value) begun = refl
 same_step (Call.PartBegin (Slot.Field tag label)) begun = refl
 same_step (Call.PartBegin (Slot.Place tag index)) begun = refl
 same_step (Call.PartBegin (Slot.FieldPlace tag label index)) begun = refl
+same_step (Call.End Head.Seq) begun = refl
+same_step (Call.End Head.Map) begun = refl
+same_step (Call.End (Head.Record name)) begun = refl
+same_step (Call.End (Head.Tuple name)) begun = refl
+same_step (Call.End (Head.RecordTuple name)) begun = refl
+same_step (Call.PartEnd Slot.Item) begun = refl
+same_step (Call.PartEnd Slot.Key) begun = refl
+same_step (Call.PartEnd Slot.Value) begun = refl
+same_step (Call.PartEnd (Slot.Field tag label)) begun = refl
+same_step (Call.PartEnd (Slot.Place tag index)) begun = refl
+same_step (Call.PartEnd (Slot.FieldPlace tag label index)) begun = refl
 same_step _ begun = refl
 
 plain_one : (other : Option Call) (call : Call) (plainly calls : List Call) (begun : Begun) → SameStep other call begun → ((b : Begun) → steps plainly b ≡ steps calls b)
@@ -96,65 +106,6 @@ leaf_written (tree.EmptyEnum name) calls rest t s = ap (λ c. steps c (at due.Va
 leaf_written (tree.Enum name inner) calls rest t s = ap (λ c. steps c (at due.Value t)) s.1
 leaf_written (tree.Container head parts) calls rest t s = ap (λ c. steps c (at due.Value t)) s.3 ∙ ap (λ is. and_then is (steps s.1)) (begin_in_value head s.0 t)
 
--- ---- keys
-
-a_key_first : {U : Type 0} (good : Bool) (begun : Begun) (next : Begun → Result U LogfmtError) → and_then (if good then Ok begun else Err InvalidKey) next ≡ (if good then next begun else Err InvalidKey)
-a_key_first true begun next = refl
-a_key_first false begun next = refl
-
-both_good : (a b whole : Bool) (s x : Step) → whole ≡ (a && b) → s ≡ (if b then x else Err InvalidKey) → (if a then s else Err InvalidKey) ≡ (if whole then x else Err InvalidKey)
-both_good true b whole s x is rest = rest ∙ ap (λ good. if good then x else Err InvalidKey) (sym is)
-both_good false b whole s x is rest = ap (λ good. if good then x else Err InvalidKey) (sym is)
-
-more_key : (pieces : List (List ℕ)) (rest : List Call) (t : List ℕ) →
-    steps (map (Call.TextFragment false) pieces ++ rest) (at due.KeyText t)
-    ≡ (if list_all is_key_byte (concat pieces) then steps rest (at due.KeyText (t ++ concat pieces)) else Err InvalidKey)
-more_key [] rest t = ap (λ x. steps rest (at due.KeyText x)) (sym (append-nil t))
-more_key (p ∷ pieces) rest t =
-    let later = steps (map (Call.TextFragment false) pieces ++ rest) in
-    let good = list_all is_key_byte (concat pieces) in
-    a_key_first (list_all is_key_byte p) (at due.KeyText (t ++ p)) later
-    ∙ both_good (list_all is_key_byte p) good (list_all is_key_byte (p ++ concat pieces)) (later (at due.KeyText (t ++ p))) (steps rest (at due.KeyText (t ++ (p ++ concat pieces))))
-    (list_all-append is_key_byte p (concat pieces))
-    (more_key pieces rest (t ++ p) ∙ ap (λ x. if good then steps rest (at due.KeyText x) else Err InvalidKey) (append_assoc t p (concat pieces)))
-
-whole_key : (pieces : List (List ℕ)) (rest : List Call) (t : List ℕ) →
-    steps (map (Call.TextFragment false) pieces ++ (Call.TextEnd ∷ rest)) (at due.KeyStart t)
-    ≡ (if is_key (concat pieces) then steps rest (at due.Between (t ++ (concat pieces ++ codes "="))) else Err InvalidKey)
-whole_key [] rest t = refl
-whole_key ([] ∷ pieces) rest t = whole_key pieces rest t
-whole_key ((b ∷ p) ∷ pieces) rest t =
-    more_key ((b ∷ p) ∷ pieces) (Call.TextEnd ∷ rest) t
-    ∙ ap (λ x. if list_all is_key_byte (b ∷ (p ++ concat pieces)) then steps rest (at due.Between x) else Err InvalidKey) (append_assoc t (b ∷ (p ++ concat pieces)) (codes "="))
-
-begin_in_key : (head : Head) (size : Option ℕ) (t : List ℕ) → step (Call.Begin head size) (at due.Key t) ≡ Err NotFlat
-begin_in_key Head.Seq size t = refl
-begin_in_key Head.Map size t = refl
-begin_in_key (Head.Record name) size t = refl
-begin_in_key (Head.Tuple name) size t = refl
-begin_in_key (Head.RecordTuple name) size t = refl
-
-key_then : (good : Bool) (key : List ℕ) (next : List ℕ → Step) → (if good then next key else Err InvalidKey) ≡ and_then (let found : Result (List ℕ) LogfmtError = if good then Ok key else Err InvalidKey in found) next
-key_then true key next = refl
-key_then false key next = refl
-
--- a key is written, or refused
-key_written : (tree : Tree) (calls rest : List Call) (t : List ℕ) → Says tree calls rest → steps calls (at due.Key t) ≡ and_then (key_of tree) (λ key. steps rest (at due.Between (t ++ (key ++ codes "="))))
-key_written tree.Null calls rest t s = ap (λ c. steps c (at due.Key t)) s
-key_written (tree.Truth b) calls rest t s = ap (λ c. steps c (at due.Key t)) s
-key_written (tree.Int type number) calls rest t s = ap (λ c. steps c (at due.Key t)) s
-key_written (tree.Text text) calls rest t s =
-    ap (λ c. steps c (at due.Key t)) s.4
-    ∙ whole_key s.1 rest t
-    ∙ ap (λ x. if is_key x then steps rest (at due.Between (t ++ (x ++ codes "="))) else Err InvalidKey) s.3
-    ∙ key_then (is_key text) text (λ key. steps rest (at due.Between (t ++ (key ++ codes "="))))
-key_written (tree.Binary bytes) calls rest t s = ap (λ c. steps c (at due.Key t)) s.4
-key_written (tree.Standalone name) calls rest t s = ap (λ c. steps c (at due.Key t)) s
-key_written (tree.Tagged name inner) calls rest t s = ap (λ c. steps c (at due.Key t)) s.1
-key_written (tree.EmptyEnum name) calls rest t s = ap (λ c. steps c (at due.Key t)) s
-key_written (tree.Enum name inner) calls rest t s = ap (λ c. steps c (at due.Key t)) s.1
-key_written (tree.Container head parts) calls rest t s = ap (λ c. steps c (at due.Key t)) s.3 ∙ ap (λ is. and_then is (steps s.1)) (begin_in_key head s.0 t)
-
 -- ---- pairs
 
 -- these pairs after this text
@@ -175,9 +126,6 @@ after_pair (b ∷ key) text all = refl
 regroup : (t s k e w f : List ℕ) → ((t ++ (s ++ k ++ e)) ++ w) ++ f ≡ t ++ ((s ++ (k ++ e ++ w)) ++ f)
 regroup t s k e w f = simp append_assoc
 
-regroup_key : (t s k e : List ℕ) → (t ++ s) ++ (k ++ e) ≡ t ++ (s ++ k ++ e)
-regroup_key t s k e = simp append_assoc
-
 -- a pair more
 pair_more : (t key text : List ℕ) (all : List (List ℕ)) →
     let now = (t ++ (space_after t ++ key ++ codes "=")) ++ text in
@@ -195,19 +143,16 @@ entry (Ok k) (Err why) others f = refl
 entry (Err why) value others f = refl
 
 -- the value of a key, and what comes after it
-value_written : (value : Tree) (parts : Parts) (slot : Slot) (inner after rest : List Call) (t key : List ℕ) → Says value inner (Call.PartEnd slot ∷ after)
+value_written : (value : Tree) (parts : Parts) (tag : Option Tag) (label : Label) (inner after rest : List Call) (t key : List ℕ)
+    → Says value inner (Call.PartEnd (Slot.Field tag label) ∷ after)
     → ((now : List ℕ) → steps after (at due.Pair now) ≡ and_then (pairs parts) (λ all. steps rest (at due.Pair (now ++ more now all))))
     → steps inner (at due.Value (t ++ (space_after t ++ key ++ codes "=")))
     ≡ and_then (leaf value) (λ text. and_then (pairs parts) (λ all. steps rest (at due.Pair (t ++ more t ((key ++ codes "=" ++ text) ∷ all)))))
-value_written value parts slot inner after rest t key says others =
-    leaf_written value inner (Call.PartEnd slot ∷ after) (t ++ (space_after t ++ key ++ codes "=")) says
+value_written value parts tag label inner after rest t key says others =
+    leaf_written value inner (Call.PartEnd (Slot.Field tag label) ∷ after) (t ++ (space_after t ++ key ++ codes "=")) says
     ∙ then_same (leaf value) _ _ (λ text.
     others ((t ++ (space_after t ++ key ++ codes "=")) ++ text)
     ∙ then_same (pairs parts) _ _ (λ all. ap (λ x. steps rest (at due.Pair x)) (pair_more t key text all)))
-
--- of a map's parts a value comes after each key
-absurd_kind : {A : Type 0} (kind : Kind) (other : Kind) → tree.Key ≡ kind → other ≡ next_kind kind → (other ≡ tree.Value → ⊥) → A
-absurd_kind kind other is next never = absurd (never (next ∙ ap next_kind (sym is)))
 
 parts_written : (parts : Parts) (kind : Kind) (calls rest : List Call) (t : List ℕ) → AreInOrder kind parts → SayParts parts calls rest
     → steps calls (at due.Pair t) ≡ and_then (pairs parts) (λ all. steps rest (at due.Pair (t ++ more t all)))
@@ -216,25 +161,10 @@ parts_written (part (Slot.Field tag label) value parts) kind calls rest t o s =
     ap (λ c. steps c (at due.Pair t)) s.2
     ∙ then_then (a_key label.text) (λ key. Ok (at due.Value (t ++ (space_after t ++ key ++ codes "=")))) (steps s.0)
     ∙ then_same (a_key label.text) (λ key. steps s.0 (at due.Value (t ++ (space_after t ++ key ++ codes "=")))) _
-    (λ key. value_written value parts (bare_slot (Slot.Field tag label)) s.0 s.1 rest t key s.3 (λ now. parts_written parts (next_kind kind) s.1 rest now o.1 s.4))
+    (λ key. value_written value parts tag (bare_label label) s.0 s.1 rest t key s.3 (λ now. parts_written parts (next_kind kind) s.1 rest now o.1 s.4))
     ∙ sym (entry (a_key label.text) (leaf value) (pairs parts) (λ all. steps rest (at due.Pair (t ++ more t all))))
-parts_written (part Slot.Key key (part Slot.Value value parts)) kind calls rest t o s =
-    let v = s.4 in
-    ap (λ c. steps c (at due.Pair t)) s.2
-    ∙ key_written key s.0 (Call.PartEnd Slot.Key ∷ s.1) (t ++ space_after t) s.3
-    ∙ then_same (key_of key) (λ k. steps s.1 (at due.Between ((t ++ space_after t) ++ (k ++ codes "=")))) _
-    (λ k.
-    ap (λ c. steps c (at due.Between ((t ++ space_after t) ++ (k ++ codes "=")))) v.2
-    ∙ ap (λ x. steps v.0 (at due.Value x)) (regroup_key t (space_after t) k (codes "="))
-    ∙ value_written value parts Slot.Value v.0 v.1 rest t k v.3 (λ now. parts_written parts (next_kind (next_kind kind)) v.1 rest now o.1.1 v.4))
-    ∙ sym (entry (key_of key) (leaf value) (pairs parts) (λ all. steps rest (at due.Pair (t ++ more t all))))
-parts_written (part Slot.Key key none) kind calls rest t o s = absurd (subst (λ k. AreInOrder (next_kind k) none) (sym o.0) o.1)
-parts_written (part Slot.Key key (part Slot.Item value parts)) kind calls rest t o s = absurd_kind kind tree.Item o.0 o.1.0 (λ e. cc e)
-parts_written (part Slot.Key key (part Slot.Key value parts)) kind calls rest t o s = absurd_kind kind tree.Key o.0 o.1.0 (λ e. cc e)
-parts_written (part Slot.Key key (part (Slot.Field tag label) value parts)) kind calls rest t o s = absurd_kind kind tree.Field o.0 o.1.0 (λ e. cc e)
-parts_written (part Slot.Key key (part (Slot.Place tag index) value parts)) kind calls rest t o s = absurd_kind kind tree.Place o.0 o.1.0 (λ e. cc e)
-parts_written (part Slot.Key key (part (Slot.FieldPlace tag label index) value parts)) kind calls rest t o s = absurd_kind kind tree.FieldPlace o.0 o.1.0 (λ e. cc e)
 parts_written (part Slot.Item value parts) kind calls rest t o s = ap (λ c. steps c (at due.Pair t)) s.2
+parts_written (part Slot.Key value parts) kind calls rest t o s = ap (λ c. steps c (at due.Pair t)) s.2
 parts_written (part Slot.Value value parts) kind calls rest t o s = ap (λ c. steps c (at due.Pair t)) s.2
 parts_written (part (Slot.Place tag index) value parts) kind calls rest t o s = ap (λ c. steps c (at due.Pair t)) s.2
 parts_written (part (Slot.FieldPlace tag label index) value parts) kind calls rest t o s = ap (λ c. steps c (at due.Pair t)) s.2
@@ -244,11 +174,11 @@ parts_written (part (Slot.FieldPlace tag label index) value parts) kind calls re
 abbrev start : Begun
 start = nothing_written.begun
 
-finished : (parts : Parts) (kind : Kind) (head : Head) (inner : List Call) → AreInOrder kind parts → SayParts parts inner (Call.End head ∷ [])
+finished : (parts : Parts) (kind : Kind) (name : Name) (inner : List Call) → AreInOrder kind parts → SayParts parts inner (Call.End (Head.Record name) ∷ [])
     → and_then (steps inner (at due.Pair [])) (ended false) ≡ and_then (pairs parts) (λ all. Ok (line all))
 unfolding more
-finished parts kind head inner o s =
-    ap (λ is. and_then is (ended false)) (parts_written parts kind inner (Call.End head ∷ []) [] o s)
+finished parts kind name inner o s =
+    ap (λ is. and_then is (ended false)) (parts_written parts kind inner (Call.End (Head.Record name) ∷ []) [] o s)
     ∙ then_then (pairs parts) (λ all. Ok (at due.Nothing (line all))) (ended false)
 
 tree_written : (t : Tree) (calls : List Call) → IsGood t → Says t calls [] → and_then (steps calls start) (ended false) ≡ line_of t
@@ -262,9 +192,9 @@ tree_written (tree.Tagged name inner) calls good s = ap (λ c. and_then (steps c
 tree_written (tree.EmptyEnum name) calls good s = ap (λ c. and_then (steps c start) (ended false)) s
 tree_written (tree.Enum name inner) calls good s = ap (λ c. and_then (steps c start) (ended false)) s.1
 tree_written (tree.Container Head.Seq parts) calls good s = ap (λ c. and_then (steps c start) (ended false)) s.3
-tree_written (tree.Container Head.Map parts) calls good s = ap (λ c. and_then (steps c start) (ended false)) s.3 ∙ finished parts tree.Key Head.Map s.1 good.1 s.4
+tree_written (tree.Container Head.Map parts) calls good s = ap (λ c. and_then (steps c start) (ended false)) s.3
 tree_written (tree.Container (Head.Record name) parts) calls good s =
-    ap (λ c. and_then (steps c start) (ended false)) s.3 ∙ finished parts tree.Field (bare_head (Head.Record name)) s.1 good.1 s.4
+    ap (λ c. and_then (steps c start) (ended false)) s.3 ∙ finished parts tree.Field (bare_name name) s.1 good.1 s.4
 tree_written (tree.Container (Head.Tuple name) parts) calls good s = ap (λ c. and_then (steps c start) (ended false)) s.3
 tree_written (tree.Container (Head.RecordTuple name) parts) calls good s = ap (λ c. and_then (steps c start) (ended false)) s.3
 

@@ -6,15 +6,15 @@ use Rattle.sval_label.specs.Calls.{Head, Slot}
 use Rattle.sval_label.specs.Texts.{truth_text}
 use Rattle.sval_core.specs.Trees.{Tree, Null, Truth, Int, Text, Container, Parts, none, part}
 use Rattle.sval_json.specs.Escape.{escaped, in_quotes}
-use Rattle.logfmt.specs.declared.error.LogfmtError.{LogfmtError}
-use Rattle.logfmt.specs.declared.error.LogfmtError.TheVariants.{NotFlat, InvalidKey}
+use Rattle.logfmt.specs.declared.LogfmtError.{LogfmtError}
+use Rattle.logfmt.specs.declared.LogfmtError.TheVariants.{NotFlat, InvalidKey}
 
 -- what comes next, unless there was an error
 abbrev pub and_then : {T U : Type 0} → Result T LogfmtError → (T → Result U LogfmtError) → Result U LogfmtError
 and_then (Ok x) next = next x
 and_then (Err why) next = Err why
 
--- a key's bytes: no space or control character, no quote and no `=`
+-- a key's bytes: no space, and nothing below it, no quote and no `=`
 abbrev pub is_key_byte : ℕ → Bool
 is_key_byte byte = nat_lt 32 byte && not (byte == 34) && not (byte == 61)
 
@@ -27,11 +27,6 @@ is_key key = list_all is_key_byte key
 abbrev pub a_key : List ℕ → Result (List ℕ) LogfmtError
 a_key text = if is_key text then Ok text else Err InvalidKey
 
--- the key that a tree is
-abbrev pub key_of : Tree → Result (List ℕ) LogfmtError
-key_of (Text text) = a_key text
-key_of _ = Err NotFlat
-
 -- the text of a leaf: a text between quotes, escaped as in JSON, and all else plainly
 abbrev pub leaf : Tree → Result (List ℕ) LogfmtError
 leaf Null = Ok (codes "null")
@@ -40,19 +35,18 @@ leaf (Int type number) = Ok (signed_decimal number)
 leaf (Text text) = Ok (in_quotes (escaped text))
 leaf _ = Err NotFlat
 
--- a pair: the key, `=` and the value
-abbrev pub pair : Result (List ℕ) LogfmtError → Tree → Result (List ℕ) LogfmtError
-pair key value = and_then key (λ key. and_then (leaf value) (λ text. Ok (key ++ codes "=" ++ text)))
+-- a pair: the field's label as the key, `=` and the value
+abbrev pub pair : List ℕ → Tree → Result (List ℕ) LogfmtError
+pair label value = and_then (a_key label) (λ key. and_then (leaf value) (λ text. Ok (key ++ codes "=" ++ text)))
 
 -- this pair in front of those
 abbrev pub and_pairs : Result (List ℕ) LogfmtError → Result (List (List ℕ)) LogfmtError → Result (List (List ℕ)) LogfmtError
 and_pairs first rest = and_then first (λ pair. and_then rest (λ pairs. Ok (pair ∷ pairs)))
 
--- the pairs of a record's fields, or of a map's entries
+-- the pairs of a record's fields
 abbrev pub pairs : Parts → Result (List (List ℕ)) LogfmtError
 pairs none = Ok []
-pairs (part (Slot.Field tag label) value parts) = and_pairs (pair (a_key label.text) value) (pairs parts)
-pairs (part Slot.Key key (part Slot.Value value parts)) = and_pairs (pair (key_of key) value) (pairs parts)
+pairs (part (Slot.Field tag label) value parts) = and_pairs (pair label.text value) (pairs parts)
 pairs (part _ _ _) = Err NotFlat
 
 -- one space between each two
@@ -60,8 +54,7 @@ abbrev pub line : List (List ℕ) → List ℕ
 line [] = []
 line (pair ∷ pairs) = pair ++ flat_map (λ next. codes " " ++ next) pairs
 
--- the line of a record or a map of leaves
+-- the line of a record of leaves
 abbrev pub line_of : Tree → Result (List ℕ) LogfmtError
 line_of (Container (Head.Record name) parts) = and_then (pairs parts) (λ all. Ok (line all))
-line_of (Container Head.Map parts) = and_then (pairs parts) (λ all. Ok (line all))
 line_of _ = Err NotFlat

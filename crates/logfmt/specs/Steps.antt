@@ -1,15 +1,14 @@
 -- The line call by call: what is due, and what a call writes.
-use Rattle.std.specs.Prelude.{ℕ, List, [], ◌∷◌, ◌++◌, codes, if◌then◌else◌, Result, Ok, Err}
-use Rattle.std.specs.List.{list_all}
+use Rattle.std.specs.Prelude.{ℕ, List, [], ◌∷◌, ◌++◌, codes, Result, Ok, Err}
 use Rattle.std.specs.Fmt.{signed_decimal}
-use Rattle.sval_label.specs.Calls.{Call, Null, Truth, Int, TagHint, TextBegin, TextFragment, TextEnd, Begin, End, PartBegin, PartEnd, Record, Map, Field, Key, Value}
+use Rattle.sval_label.specs.Calls.{Call, Null, Truth, Int, TagHint, TextBegin, TextFragment, TextEnd, Begin, End, PartBegin, PartEnd, Record, Field}
 use Rattle.sval_label.specs.Texts.{truth_text}
 use Rattle.sval_json.specs.Escape.{escaped}
-use Rattle.logfmt.specs.declared.error.LogfmtError.{LogfmtError}
-use Rattle.logfmt.specs.declared.error.LogfmtError.TheVariants.{NotFlat, InvalidKey}
+use Rattle.logfmt.specs.declared.LogfmtError.{LogfmtError}
+use Rattle.logfmt.specs.declared.LogfmtError.TheVariants.{NotFlat}
 use Rattle.logfmt.specs.declared.writer.Due.{Due}
 use Rattle.logfmt.specs.declared.writer.Due.TheVariants as due
-use Rattle.logfmt.specs.Pairs.{and_then, is_key_byte, a_key}
+use Rattle.logfmt.specs.Pairs.{and_then, a_key}
 
 -- what is due, and the text so far
 pub record Begun : Type 0 where
@@ -36,37 +35,19 @@ space_after (byte ∷ text) = codes " "
 abbrev pub label_step : List ℕ → List ℕ → Step
 label_step label text = and_then (a_key label) (λ key. adds text (space_after text ++ key ++ codes "=") due.Value)
 
--- more of a key
-abbrev pub key_step : List ℕ → List ℕ → Step
-key_step bytes text = if list_all is_key_byte bytes then adds text bytes due.KeyText else Err InvalidKey
-
--- the first part of a key, which may be empty
-abbrev pub key_start : List ℕ → List ℕ → Step
-key_start [] text = waits text due.KeyStart
-key_start (byte ∷ bytes) text = key_step (byte ∷ bytes) text
-
 -- what a call does where this is due, after this text; hints are passed over
 abbrev pub step_at : Call → Due → List ℕ → Step
 step_at (TagHint tag) due text = waits text due
 step_at (Begin (Record name) size) due.Line text = waits text due.Pair
-step_at (Begin Map size) due.Line text = waits text due.Pair
 step_at (PartBegin (Field tag label)) due.Pair text = label_step label.text text
-step_at (PartBegin Key) due.Pair text = adds text (space_after text) due.Key
-step_at (End head) due.Pair text = waits text due.Nothing
-step_at (TextBegin size) due.Key text = waits text due.KeyStart
-step_at (TextFragment borrowed bytes) due.KeyStart text = key_start bytes text
-step_at (TextFragment borrowed bytes) due.KeyText text = key_step bytes text
-step_at TextEnd due.KeyStart text = Err InvalidKey
-step_at TextEnd due.KeyText text = adds text (codes "=") due.Between
-step_at (PartEnd slot) due.Between text = waits text due.Between
-step_at (PartBegin Value) due.Between text = waits text due.Value
+step_at (End (Record name)) due.Pair text = waits text due.Nothing
 step_at Null due.Value text = adds text (codes "null") due.ValueEnd
 step_at (Truth b) due.Value text = adds text (truth_text b) due.ValueEnd
 step_at (Int type number) due.Value text = adds text (signed_decimal number) due.ValueEnd
 step_at (TextBegin size) due.Value text = adds text (codes "\"") due.Text
 step_at (TextFragment borrowed bytes) due.Text text = adds text (escaped bytes) due.Text
 step_at TextEnd due.Text text = adds text (codes "\"") due.ValueEnd
-step_at (PartEnd slot) due.ValueEnd text = waits text due.Pair
+step_at (PartEnd (Field tag label)) due.ValueEnd text = waits text due.Pair
 step_at _ _ text = Err NotFlat
 
 abbrev pub step : Call → Begun → Step

@@ -1,9 +1,10 @@
 -- The writer as a stream: its law is that it does the steps. And what a value's line is by its calls.
-use Rattle.std.specs.Prelude.{◌≡◌, ◌≤◌, ℕ, ⊤, Bool, true, false, List, [], Option, Some, None, Result, Ok, Err, is_ok, unwrap_or}
+use Rattle.std.specs.Prelude.{◌≡◌, ◌<◌, ◌≤◌, ℕ, ⊤, Bool, true, false, List, [], ◌++◌, length, Option, Some, None, Result, Ok, Err, is_ok, unwrap_or}
 use Rattle.sval_label.specs.declared.error.Error.{Error}
-use Rattle.sval_core.specs.Law.{Law, Standing, Emission, one_more}
-use Rattle.logfmt.specs.declared.error.LogfmtError.{LogfmtError}
-use Rattle.logfmt.specs.declared.error.LogfmtError.TheVariants as error
+use Rattle.sval_label.specs.Calls.{Call}
+use Rattle.sval_core.specs.Law.{Law, Standing, Emission, Rose}
+use Rattle.logfmt.specs.declared.LogfmtError.{LogfmtError}
+use Rattle.logfmt.specs.declared.LogfmtError.TheVariants as error
 use Rattle.logfmt.specs.declared.writer.Due.{Due}
 use Rattle.logfmt.specs.declared.writer.Due.TheVariants as due
 use Rattle.logfmt.specs.Pairs.{and_then}
@@ -19,18 +20,29 @@ pub record Writing : Type 0 where
 abbrev pub nothing_written : Writing
 nothing_written = record { begun = record { due = due.Line; text = [] }; why = None; wants = 0 }
 
-abbrev pub wants_after : LogfmtError → ℕ → ℕ
-wants_after error.NoMemory wants = one_more wants
-wants_after _ wants = wants
+-- a call was taken, the line stays, and then this is due
+abbrev pub waiting : Due → Writing → Writing
+waiting due writing = record writing { begun = record { due = due; text = writing.begun.text } }
 
 -- a call was refused for this cause, and the line stays
 abbrev pub refused : LogfmtError → Writing → Writing
-refused why writing = record writing { why = Some why; wants = wants_after why writing.wants }
+refused why writing = record writing { why = Some why }
+
+-- a step that isn't refused, after which there is text
+abbrev pub HasText : Step → Type 0
+HasText (Ok begun) = 0 < length begun.text
+HasText (Err why) = ⊥
+
+-- memory was wanting for the text that a step writes
+pub record LacksMemory (due : Step) (old new : Writing) : Type 0 where
+  pub text : HasText due
+  pub rose : Rose old.wants new.wants
+  pub wants : old.wants ≤ new.wants
 
 -- what a step may leave where it is stopped for this: the line as it was, unless memory was wanting
 abbrev pub IsStoppedBy : Option LogfmtError → Step → Writing → Writing → Type 0
 IsStoppedBy None due old new = ⊥
-IsStoppedBy (Some error.NoMemory) due old new = (new.wants ≡ one_more old.wants) × (old.wants ≤ new.wants)
+IsStoppedBy (Some error.NoMemory) due old new = LacksMemory due old new
 IsStoppedBy (Some why) due old new = (due ≡ Err why) × (new ≡ refused why old)
 
 -- what an answer says where this step is due: it was done, or stopped for a cause
@@ -74,6 +86,13 @@ ended false begun = whole begun.due begun.text
 -- the line of a value by its calls
 abbrev pub written : Emission → Result (List ℕ) LogfmtError
 written e = and_then (steps e.calls nothing_written.begun) (ended e.refuses)
+
+-- the steps of some first calls are done, and text stands then
+pub record WritesText (calls : List Call) (begun : Begun) : Type 0 where
+  pub front : List Call
+  pub rest : List Call
+  pub is : calls ≡ front ++ rest
+  pub text : HasText (steps front begun)
 
 -- this error is due, unless memory is wanting
 abbrev pub Fails : LogfmtError → Result (List ℕ) LogfmtError → Type 0

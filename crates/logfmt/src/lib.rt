@@ -1,7 +1,6 @@
-//! Values as lines of [logfmt](https://brandur.org/logfmt): a writer of a format of one's own, as a user of these crates
-//! writes one.
+//! Values as lines of logfmt: a writer of a format of one's own, as a user of these crates writes one.
 //!
-//! - [`to_logfmt`] gives the line of a record or a map of leaves. What a line is stands in `specs/Pairs.antt`, over trees.
+//! - [`to_logfmt`] gives the line of a record of leaves. What a line is stands in `specs/Pairs.antt`, over trees.
 //! - The writer is a stream. Call by call it does the steps of `specs/Steps.antt`, which is its law
 //!   (`specs/Writing.antt`).
 //!
@@ -13,28 +12,42 @@
 //!    (`proofs/Spelled.antt`): a part that is no leaf is refused at its first call, so nothing recurses into it.
 #![tactic(auto)]
 
-ghost use Rattle.std.specs.Prelude.{string_bytes};
+ghost use Rattle.std.specs.Prelude.{◌≡◌, Err, string_bytes};
 ghost use Rattle.sval_core.specs.Trees.{Tree};
 ghost use Rattle.sval_core.specs.ValueTrees.{Tells};
+ghost use Rattle.logfmt.specs.declared.LogfmtError.TheVariants as error;
 ghost use Rattle.logfmt.specs.Pairs.{line_of};
-ghost use Rattle.logfmt.specs.Writing.{Gives, written};
+ghost use Rattle.logfmt.specs.Writing.{Gives, WritesText, nothing_written, written};
 
-mod error;
-mod escape;
 #[cfg(test)]
 mod tests;
 mod writer;
 
-pub use error::LogfmtError;
 use std::alloc::Global;
 use sval_core::{Lent, Value};
 use writer::LogfmtWriter;
 
-/// The line of a value: `key=value` for each entry of a record or a map, with one space between each two.
+/// Why a value was not written as a line of pairs.
+#[derive(Clone, Copy, Debug, PartialEq, Eq)]
+pub enum LogfmtError {
+    /// The value is something else than a record whose values are leaves.
+    NotFlat,
+    /// A key is empty, or holds a space, a control character below the space, a quote or a `=`.
+    InvalidKey,
+    /// The value itself refused.
+    Refused,
+    /// The value's calls ended within a record, or before one.
+    Unfinished,
+    /// Memory was wanting.
+    NoMemory,
+}
+
+/// The line of a value: `key=value` for each field of a record, with one space between each two.
 ///
 /// A number, a truth value and null stand plainly, and a text between quotes, escaped as in JSON. There is no line feed
 /// at the end. Where the value's calls spell a tree, the answer is what `line_of` says of the tree, unless memory is
-/// wanting.
+/// wanting. Other calls are taken as far as a line goes on with them: sizes aren't looked at, nor whether the record's name
+/// and the labels at ends are those of the begins.
 ///
 /// ```
 /// let line = to_logfmt(alloc, &value)?;
@@ -43,17 +56,19 @@ use writer::LogfmtWriter;
 ///
 /// # Errors
 ///
-/// [`LogfmtError::NotFlat`] comes where the value is no record and no map, or where one of its values is no number, truth
-/// value, null or text; [`LogfmtError::InvalidKey`] where a key can't stand in a line. The first that is found comes.
+/// [`LogfmtError::NotFlat`] comes where the value is no record, or where one of its values is no number, truth value, null
+/// or text; [`LogfmtError::InvalidKey`] where a key can't stand in a line. The first that is found comes.
 /// [`LogfmtError::Refused`] comes where the value itself refuses, and [`LogfmtError::Unfinished`] where its calls end too
-/// early; neither comes where they spell a tree. [`LogfmtError::NoMemory`] may come in place of any answer, and would
-/// also stand for bytes that aren't UTF-8, which texts and labels never give.
+/// early; neither comes where they spell a tree. [`LogfmtError::NoMemory`] may come in place of any answer, but only
+/// where some first calls of the value write text. It would also stand for bytes that aren't UTF-8, which texts and
+/// labels never give.
 pub fn to_logfmt<'v, V: Value<'v, Lent<'v>>>(
     alloc: Global,
     value: &'v V,
 ) -> Result<String, LogfmtError>
     ensures tree { (tree : Tree) → Tells (V.emission value.now) tree → Gives string_bytes result (line_of tree) }
     ensures calls { Gives string_bytes result (written (V.emission value.now)) }
+    ensures memory { result ≡ Err error.NoMemory → WritesText (V.emission value.now).calls nothing_written.begun }
 {
     let mut writer = LogfmtWriter::new(alloc);
     match value.stream(&mut writer) {

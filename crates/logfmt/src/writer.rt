@@ -1,40 +1,29 @@
 //! The writer: a stream that writes a line of pairs to memory.
 
-ghost use Rattle.std.specs.Prelude.{◌≡◌, ◌≤◌, false, Err, string_bytes};
-ghost use Rattle.std.specs.Fmt.{signed_decimal};
-ghost use Rattle.std.specs.List.{list_all};
-ghost use Rattle.sval_label.specs.Calls.{TextFragment};
-ghost use Rattle.sval_label.specs.Grouped.{int_number, grouped_call};
+ghost use Rattle.std.specs.Prelude.{◌≡◌, ◌<◌, Ok, Err, string_bytes, length};
+ghost use Rattle.sval_label.specs.Grouped.{text_call, grouped_call};
 ghost use Rattle.sval_label.specs.Made.{lent_call};
 ghost use Rattle.sval_core.specs.Law.{Answers};
+ghost use Rattle.logfmt.specs.declared.LogfmtError.TheVariants as error;
 ghost use Rattle.logfmt.specs.declared.writer.Due.TheVariants as due;
-ghost use Rattle.logfmt.specs.Pairs.{is_key, is_key_byte};
-ghost use Rattle.logfmt.specs.Steps.{waits, adds, label_step, space_after, step};
-ghost use Rattle.logfmt.specs.Writing.{Writing, Does, Gives, refused, nothing_written, cause_of, whole, writing_law, writing_standing};
+ghost use Rattle.logfmt.specs.Pairs.{is_key};
+ghost use Rattle.logfmt.specs.Steps.{adds, label_step, space_after, step_at, step};
+ghost use Rattle.logfmt.specs.Writing.{Writing, Does, Gives, waiting, refused, nothing_written, cause_of, whole, writing_law, writing_standing};
 
-use crate::error::LogfmtError;
-use crate::escape::push_escaped;
+use crate::LogfmtError;
 use itoa::Buffer;
 use std::alloc::Global;
 use std::marker::Model;
-use sval_core::{Call, Error, Fragment, GroupedCall, Head, Int, Lent, Result, Slot, Stream};
-use sval_json::format_int;
+use sval_core::{Call, Error, Fragment, GroupedCall, Head, Label, Lent, Result, Slot, Stream};
+use sval_json::{VecSink, escape, format_int, write_all};
 
 /// What comes next.
 #[derive(Clone, Copy)]
 pub(crate) enum Due {
-    /// The record or the map.
+    /// The record.
     Line,
     /// A pair, or the end.
     Pair,
-    /// A map's key.
-    Key,
-    /// The first byte of a key.
-    KeyStart,
-    /// More of a key, or its end.
-    KeyText,
-    /// The value of a map's key.
-    Between,
     /// A leaf.
     Value,
     /// More of a text, or its end.
@@ -49,11 +38,9 @@ pub(crate) enum Due {
 #[derive(Drop)]
 pub(crate) struct LogfmtWriter {
     due: Due,
-    text: Vec<u8>,
+    text: VecSink,
     /// The cause of the last refusal.
     why: Option<LogfmtError>,
-    /// How often memory was wanting.
-    wants: u64,
 }
 
 impl Model for LogfmtWriter {
@@ -62,25 +49,18 @@ impl Model for LogfmtWriter {
     ghost Value = { Writing };
 
     ghost view = { λ writer. record {
-      begun = record { due = writer.due; text = writer.text.items };
+      begun = record { due = writer.due; text = writer.text.bytes };
       why = writer.why;
-      wants = writer.wants;
+      wants = writer.text.wants;
     } };
-}
-
-fn are_key_bytes(bytes: &[u8]) -> bool
-    ensures { result ≡ list_all is_key_byte bytes.now }
-{
-    bytes
-        .iter()
-        .all(|byte| *byte > b' ' && *byte != b'"' && *byte != b'=')
 }
 
 /// Whether a text can stand in front of `=`.
 fn is_key(text: &[u8]) -> bool
     ensures { result ≡ is_key text.now }
 {
-    matches!(text, [_, ..]) && are_key_bytes(text)
+    let fits = |byte: &u8| *byte > b' ' && *byte != b'"' && *byte != b'=';
+    !text.is_empty() && text.iter().all(fits)
 }
 
 impl LogfmtWriter {
@@ -90,21 +70,19 @@ impl LogfmtWriter {
     {
         LogfmtWriter {
             due: Due::Line,
-            text: Vec::new(alloc),
+            text: VecSink::new(alloc),
             why: None,
-            wants: 0,
         }
     }
 
     /// The whole line.
     pub(crate) fn into_line(self) -> Result<String, LogfmtError>
-        ensures { Gives string_bytes result (whole self.begun.due self.begun.text) }
+        ensures line { Gives string_bytes result (whole self.begun.due self.begun.text) }
+        ensures memory { result ≡ Err error.NoMemory → 0 < length self.begun.text }
     {
-        match self.due {
-            Due::Nothing => match String::from_utf8(self.text) {
-                Ok(line) => Ok(line),
-                Err(_) => Err(LogfmtError::NoMemory),
-            },
+        match (self.due, String::from_utf8(self.text.into_vec())) {
+            (Due::Nothing, Ok(line)) => Ok(line),
+            (Due::Nothing, Err(_)) => Err(LogfmtError::NoMemory),
             _ => Err(LogfmtError::Unfinished),
         }
     }
@@ -120,84 +98,67 @@ impl LogfmtWriter {
     fn refuse(&mut self, why: LogfmtError) -> Result
         ensures refused { self.new ≡ refused why self.old }
         ensures answer { result ≡ Err (record {}) }
-        ensures never_falls { self.old.wants ≤ self.new.wants }
     {
-        if why == LogfmtError::NoMemory {
-            self.wants = self.wants.saturating_add(1);
-        }
         self.why = Some(why);
         Err(Error::new())
     }
 
     /// Writes nothing, and then this is due.
     fn wait_for(&mut self, due: Due) -> Result
-        ensures { Does (waits self.old.begun.text due) result self.old self.new }
+        ensures waiting { self.new ≡ waiting due self.old }
+        ensures answer { result ≡ Ok tt }
     {
         self.due = due;
         Ok(())
     }
 
-    /// Writes these bytes, and then this is due.
+    /// Writes these bytes, of which there is one at least, and then this is due.
     fn write(&mut self, bytes: &[u8], due: Due) -> Result
+        requires { 0 < length bytes.now }
         ensures { Does (adds self.old.begun.text bytes.now due) result self.old self.new }
     {
-        match self.text.extend_from_slice(bytes) {
-            Ok(()) => {
-                self.due = due;
-                Ok(())
-            }
+        match write_all(&mut self.text, bytes) {
+            Ok(()) => self.wait_for(due),
             Err(_) => self.refuse(LogfmtError::NoMemory),
         }
     }
 
-    /// Writes a whole number.
-    fn write_int(&mut self, number: Int) -> Result
-        ensures { Does (adds self.old.begun.text (signed_decimal (int_number number)) due.ValueEnd)
-            result self.old self.new }
+    /// Writes a part of a text, and then more of it is due.
+    fn write_part(&mut self, part: Fragment<&str, &str>) -> Result
+        ensures { let said = text_call (λ text. text.now) part.entry in
+            Does (step_at said due.Text self.old.begun.text) result self.old self.new }
     {
-        let mut buffer = Buffer::new();
-        self.write(format_int(&mut buffer, number).as_bytes(), Due::ValueEnd)
+        let (Fragment::Borrowed(text) | Fragment::Computed(text)) = part;
+        if text.is_empty() {
+            return self.wait_for(Due::Text);
+        }
+        match escape::write_escaped(&mut self.text, text.as_bytes()) {
+            Ok(()) => self.wait_for(Due::Text),
+            Err(_) => self.refuse(LogfmtError::NoMemory),
+        }
     }
 
     /// Writes a space, unless nothing stands before it.
     fn write_space(&mut self) -> Result
-        ensures { Does (adds self.old.begun.text (space_after self.old.begun.text) due.Key) result self.old self.new }
+        ensures { Does (adds self.old.begun.text (space_after self.old.begun.text) due.Pair) result self.old self.new }
     {
         match self.text.as_slice() {
-            [] => self.write(b"", Due::Key),
-            _ => self.write(b" ", Due::Key),
+            [] => self.wait_for(Due::Pair),
+            _ => self.write(b" ", Due::Pair),
         }
     }
 
     /// Writes a label as a key, and what stands around it.
-    fn write_label(&mut self, label: &[u8]) -> Result
-        ensures { Does (label_step label.now self.old.begun.text) result self.old self.new }
+    fn write_key(&mut self, label: &Label) -> Result
+        ensures { Does (label_step label.now.text self.old.begun.text) result self.old self.new }
     {
-        if !is_key(label) {
+        let key = label.as_str().as_bytes();
+        if !is_key(key) {
             return self.refuse(LogfmtError::InvalidKey);
         }
         self.write_space()?;
-        self.write(label, Due::Key)?;
+        self.write(key, Due::Pair)?;
         self.write(b"=", Due::Value)
-    }
-
-    /// Writes a part of a text or of a key.
-    fn write_fragment(&mut self, text: &[u8]) -> Result
-        ensures { Does (step (TextFragment false text.now) self.old.begun) result self.old self.new }
-    {
-        match (self.due, text) {
-            (Due::KeyStart, []) => Ok(()),
-            (Due::KeyStart | Due::KeyText, _) if are_key_bytes(text) => self.write(
-                text,
-                Due::KeyText,
-            ),
-            (Due::KeyStart | Due::KeyText, _) => self.refuse(LogfmtError::InvalidKey),
-            (Due::Text, _) => match push_escaped(&mut self.text, text) {
-                Ok(()) => Ok(()),
-                Err(_) => self.refuse(LogfmtError::NoMemory),
-            },
-            _ => self.refuse(LogfmtError::NotFlat),
-        }
     }
 
     /// Writes what is due of a call.
@@ -206,30 +167,21 @@ impl LogfmtWriter {
             Does (step said self.old.begun) result self.old self.new }
     {
         match (self.due, call) {
-            (_, GroupedCall::TagHint(_)) => Ok(()),
-            (Due::Line, GroupedCall::Begin(Head::Record(_) | Head::Map, _)) => {
-                self.wait_for(Due::Pair)
-            }
-            (Due::Pair, GroupedCall::PartBegin(Slot::Field(_, label))) => {
-                self.write_label(label.as_str().as_bytes())
-            }
-            (Due::Pair, GroupedCall::PartBegin(Slot::Key)) => self.write_space(),
-            (Due::Pair, GroupedCall::End(_)) => self.wait_for(Due::Nothing),
-            (Due::Key, GroupedCall::TextBegin(_)) => self.wait_for(Due::KeyStart),
-            (Due::KeyStart, GroupedCall::TextEnd) => self.refuse(LogfmtError::InvalidKey),
-            (Due::KeyText, GroupedCall::TextEnd) => self.write(b"=", Due::Between),
-            (Due::Between, GroupedCall::PartEnd(_)) => Ok(()),
-            (Due::Between, GroupedCall::PartBegin(Slot::Value)) => self.wait_for(Due::Value),
+            (due, GroupedCall::TagHint(_)) => self.wait_for(due),
+            (Due::Line, GroupedCall::Begin(Head::Record(_), _)) => self.wait_for(Due::Pair),
+            (Due::Pair, GroupedCall::PartBegin(Slot::Field(_, label))) => self.write_key(label),
+            (Due::Pair, GroupedCall::End(Head::Record(_))) => self.wait_for(Due::Nothing),
             (Due::Value, GroupedCall::Null) => self.write(b"null", Due::ValueEnd),
             (Due::Value, GroupedCall::Bool(true)) => self.write(b"true", Due::ValueEnd),
             (Due::Value, GroupedCall::Bool(false)) => self.write(b"false", Due::ValueEnd),
-            (Due::Value, GroupedCall::Int(number)) => self.write_int(number),
-            (Due::Value, GroupedCall::TextBegin(_)) => self.write(b"\"", Due::Text),
-            (_, GroupedCall::TextFragment(Fragment::Borrowed(text) | Fragment::Computed(text))) => {
-                self.write_fragment(text.as_bytes())
+            (Due::Value, GroupedCall::Int(number)) => {
+                let mut buffer = Buffer::new();
+                self.write(format_int(&mut buffer, number).as_bytes(), Due::ValueEnd)
             }
+            (Due::Value, GroupedCall::TextBegin(_)) => self.write(b"\"", Due::Text),
+            (Due::Text, GroupedCall::TextFragment(part)) => self.write_part(part),
             (Due::Text, GroupedCall::TextEnd) => self.write(b"\"", Due::ValueEnd),
-            (Due::ValueEnd, GroupedCall::PartEnd(_)) => self.wait_for(Due::Pair),
+            (Due::ValueEnd, GroupedCall::PartEnd(Slot::Field(_, _))) => self.wait_for(Due::Pair),
             _ => self.refuse(LogfmtError::NotFlat),
         }
     }

@@ -1,34 +1,34 @@
 -- Trees and their lines.
 use Rattle.std.specs.Prelude.{◌≡◌, ℕ, true, false, List, codes, pos, None, Ok, Err, refl}
 use Rattle.std.specs.Fmt.{digits}
-use Rattle.sval_label.specs.Calls.{U16, Field, Key, Value, Seq, Record, Map}
+use Rattle.sval_label.specs.Calls.{U16, Field, Seq, Record, Map}
 use Rattle.sval_core.specs.Names.{no_name}
 use Rattle.sval_core.specs.Trees.{Tree, Null, Truth, Int, Text, Container, Parts, none, part}
-use Rattle.logfmt.specs.declared.error.LogfmtError.TheVariants.{NotFlat, InvalidKey}
+use Rattle.logfmt.specs.declared.LogfmtError.TheVariants.{NotFlat, InvalidKey}
 use Rattle.logfmt.specs.Pairs.{line_of}
 
 abbrev field : List ℕ → Tree → Parts → Parts
 field name value parts = part (Field None (record { text = name; tag = None; is_static = false })) value parts
-
-abbrev entry : List ℕ → Tree → Parts → Parts
-entry key value parts = part Key (Text key) (part Value value parts)
 
 three_fields : line_of (Container (Record no_name) (field (codes "level") (Text (codes "info")) (field (codes "status") (Int U16 (pos 200)) (field (codes "ok") (Truth true) none))))
     ≡ Ok (codes "level=\"info\" status=200 ok=true")
 unfolding digits
 three_fields = refl
 
-no_entry : line_of (Container Map none) ≡ Ok (codes "")
-no_entry = refl
+no_field : line_of (Container (Record no_name) none) ≡ Ok (codes "")
+no_field = refl
 
-escaped_entry : line_of (Container Map (entry (codes "said") (Text (codes "a \"b\"\n")) none)) ≡ Ok (codes "said=\"a \\\"b\\\"\\n\"")
-escaped_entry = refl
+escaped_text : line_of (Container (Record no_name) (field (codes "said") (Text (codes "a \"b\"\n")) none)) ≡ Ok (codes "said=\"a \\\"b\\\"\\n\"")
+escaped_text = refl
 
-empty_key : line_of (Container Map (entry (codes "") Null none)) ≡ Err InvalidKey
+empty_key : line_of (Container (Record no_name) (field (codes "") Null none)) ≡ Err InvalidKey
 empty_key = refl
 
-key_with_a_space : line_of (Container Map (entry (codes "a b") Null none)) ≡ Err InvalidKey
+key_with_a_space : line_of (Container (Record no_name) (field (codes "a b") Null none)) ≡ Err InvalidKey
 key_with_a_space = refl
 
 nested : line_of (Container (Record no_name) (field (codes "a") (Container Seq none) none)) ≡ Err NotFlat
 nested = refl
+
+map : line_of (Container Map none) ≡ Err NotFlat
+map = refl
