@@ -1,4 +1,3 @@
 pub mod Captured
 pub mod Checked
 pub mod Joined
-pub mod Own

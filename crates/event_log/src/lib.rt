@@ -4,7 +4,8 @@
 //! - An [`EventLog`] is seen as the events that it holds, each as it was captured, and its capacity (`specs/Logs.antt`).
 //!   [`EventLog::record`] takes any value that is one whole value and has a JSON; [`EventLog::write_lines`] writes to any
 //!   sink, and can fail only where the sink does.
-//! - [`Event`] is an event of this crate's own; [`note`] records one, and fails only where memory is wanting.
+//! - An event is any value of the program: a map of the standard library, or a type of the user's own, whose calls and
+//!   proof the crates `readings` and `assert_tokens` show.
 //!
 //! # What the proofs take
 //!
@@ -18,12 +19,10 @@
 #![tactic(auto)]
 
 mod checking;
-mod event;
 mod lines;
 mod log;
 #[cfg(test)]
 mod tests;
 
 pub use checking::RecordError;
-pub use event::{Event, Level, note};
 pub use log::{AnyEventLog, EventLog};

@@ -103,7 +103,7 @@ impl<'o> EventLog<'o> {
     }
 
     /// Writes a line for each event, the oldest first: its JSON, which is the text of the tree that the event's calls
-    /// spelled, and a line feed. The log stays as it is.
+    /// spelled, and a line feed. The log stays as it is. It doesn't flush the sink.
     ///
     /// It answers as [`write_all`](sval_json::write_all) of all the lines does, and takes no memory itself.
     ///

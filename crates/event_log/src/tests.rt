@@ -1,29 +1,30 @@
 //! Events that are recorded and written.
 
-use crate::{Event, EventLog, Level, RecordError, note};
+use crate::EventLog;
 use std::alloc::{AllocError, Global};
+use std::collections::BTreeMap;
 use std::test::Fail;
-use sval_core::Stream;
 use sval_json::VecSink;
 
-/// An event.
-fn event(alloc: Global, level: Level, message: &str) -> Result<Event, AllocError> {
-    Ok(Event {
-        level,
-        message: String::from_str(alloc, message)?,
-    })
+/// An event: a level and a message.
+fn event<'a>(
+    alloc: Global,
+    level: &'a str,
+    message: &'a str,
+) -> Result<BTreeMap<&'a str, &'a str>, AllocError> {
+    let mut event = BTreeMap::new(alloc);
+    event.insert("level", level)?;
+    event.insert("message", message)?;
+    Ok(event)
 }
 
 #[test]
 fn keeps_the_two_newest(rt: HostRuntime) -> Result<(), Fail> {
     let alloc = rt.alloc();
     let mut log = EventLog::new(alloc, 2)?;
-    note(&mut log, &event(alloc, Level::Info, "started")?)?;
-    note(
-        &mut log,
-        &event(alloc, Level::Warning, "disk \"a\" is full")?,
-    )?;
-    note(&mut log, &event(alloc, Level::Error, "stopped")?)?;
+    log.record(&event(alloc, "info", "started")?)?;
+    log.record(&event(alloc, "warning", "disk \"a\" is full")?)?;
+    log.record(&event(alloc, "error", "stopped")?)?;
     assert_eq!(rt; log.len(), 2);
 
     let mut sink = VecSink::new(alloc);
