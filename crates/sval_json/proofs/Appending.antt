@@ -106,8 +106,9 @@ writes_both xs ys w v = record { appends = appends_both xs ys w.appends v.append
 
 -- after some first bytes, it stopped within the next
 pub stops_after : {old mid new : Told} {why : SinkError} {whole : List ℕ} (xs ys zs : List ℕ) → WritesWhole old xs mid → whole ≡ xs ++ (ys ++ zs) → WritesFront why mid ys new → WritesFront why old whole new
-stops_after {old} {mid} {new} {why} xs ys zs w e f = record {
+stops_after {old} {mid} {new} {why} {whole} xs ys zs w e f = record {
   front = front_after xs ys zs w.appends e f.front;
+  some = let size : length whole ≡ length xs + (length ys + length zs) = ap length e ∙ length-append xs (ys ++ zs) ∙ ap (λ n. length xs + n) (length-append ys zs) in omega (arith, size, f.some);
   cause = counted_since new why w.steady f.cause;
   full = λ failed. subst (LacksRoom old) (sym e) (lacks_both old mid xs ys zs w.appends (f.full failed));
   counts = counts_since w.steady f.counts;

@@ -1,10 +1,11 @@
 -- A piece that is written bit by bit.
-use Rattle.std.specs.Prelude.{◌≡◌, ℕ, ◌+◌, ◌-◌, ◌≤◌, List, ◌++◌, take, drop, length}
-use Rattle.std.proofs.Common.{sym, ap, ◌∙◌, subst, arith}
-use Rattle.std.proofs.lemmas.List.{length-drop, drop-drop, take_rest}
+use Rattle.std.specs.Prelude.{◌≡◌, ℕ, ◌+◌, ◌-◌, ◌<◌, ◌≤◌, List, [], ◌++◌, Option, Some, None, IfSome, take, drop, length}
+use Rattle.std.proofs.Common.{sym, ap, ◌∙◌, subst, arith, append-nil}
+use Rattle.std.proofs.lemmas.List.{length-drop, drop-drop, take_rest, take-append-drop}
 use Rattle.std.proofs.Math.Seq.{take-add}
-use Rattle.sval_json.specs.Sinks.{Told, TakesSome, WritesWhole}
-use Rattle.sval_json.proofs.Appending.{writes_both}
+use Rattle.sval_json.specs.Sinks.{Told, LacksRoom, TakesSome, TakesNothing, WritesWhole, WritesFront}
+use Rattle.sval_json.specs.declared.sink.SinkError.{SinkError}
+use Rattle.sval_json.proofs.Appending.{counted_since, counts_since, lacks_both, writes_both}
 
 -- some first bytes of the piece were taken, and the rest is due
 pub record IsPartlyWritten (old : Told) (piece rest : List ℕ) (new : Told) : Type 0 where
@@ -25,3 +26,36 @@ written_on {old} {mid} {new} {piece} {rest} n w t =
       rest_is = take_rest rest n ∙ ap (drop n) w.rest_is ∙ drop-drop n w.count piece;
       writes = subst (λ bytes. WritesWhole old bytes new) taken (writes_both (take w.count piece) (take n rest) w.writes (record { appends = t.appends; steady = t.steady }));
     }
+
+-- no bytes of an empty piece are due
+pub nothing_due : {old new : Told} {piece rest : List ℕ} → IsPartlyWritten old piece rest new → piece ≡ [] → 0 < length rest → ⊥
+nothing_due {piece = piece} {rest = rest} w none some =
+    let size : length rest ≡ length piece - w.count = ap length w.rest_is ∙ length-drop w.count piece in
+    let empty : length piece ≡ 0 = ap length none in omega (arith, size, empty, some)
+
+-- the sink took nothing of what was due
+pub stopped_in_rest : {old mid new : Told} {piece rest : List ℕ} {why : SinkError} → IsPartlyWritten old piece rest mid → 0 < length rest → TakesNothing why mid new
+    → WritesFront why old piece new
+stopped_in_rest {old} {mid} {new} {piece} {rest} {why} w some t =
+    let size : length rest ≡ length piece - w.count = ap length w.rest_is ∙ length-drop w.count piece in
+    let whole : piece ≡ take w.count piece ++ (rest ++ []) =
+    sym (take-append-drop w.count piece) ∙ ap (λ due. take w.count piece ++ due) (sym w.rest_is ∙ sym (append-nil rest)) in
+    record {
+      front = record {
+        count = w.count;
+        within = w.within;
+        appends = record {
+          fits = w.writes.appends.fits;
+          text = t.declines.text ∙ w.writes.appends.text;
+          room = t.declines.room ∙ w.writes.appends.room;
+        };
+      };
+      some = let due : 0 < length piece = omega (arith, size, some) in due;
+      cause = counted_since new why w.writes.steady t.declines.cause;
+      full = λ failed. subst (LacksRoom old) (sym whole) (lacks_both old mid (take w.count piece) rest [] w.writes.appends (none_left mid.room (t.full failed)));
+      counts = counts_since w.writes.steady t.declines.counts;
+    }
+  where
+    none_left : (room : Option ℕ) → IfSome room (λ left. left ≡ 0) → IfSome room (λ left. left < length rest)
+    none_left None full = tt
+    none_left (Some left) full = omega (arith, full, some)

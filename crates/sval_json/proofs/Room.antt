@@ -13,7 +13,7 @@ use Rattle.sval_json.specs.Json.{Json, compact}
 use Rattle.sval_json.specs.Laws.{IsWrittenAs}
 use Rattle.sval_json.specs.Steps.{written_in}
 use Rattle.sval_json.specs.Written.{StreamsJson}
-use Rattle.sval_json.specs.Room.{SpellsJson, RoomIsEnough}
+use Rattle.sval_json.specs.Room.{EmitsJson, RoomIsEnough}
 use Rattle.sval_json.proofs.WritingPlain.{spelling_written}
 
 calm : Rose 0 0 → ⊥
@@ -21,7 +21,7 @@ calm rose = omega (arith, rose)
 
 -- no error has a cause
 module _ {style : Variants} {e : Emission} {old new : Filled} (found : ErrorKind) (streams : StreamsJson style e (Err found) (filled_told old) (filled_told new))
-    (json : Json) (spelled : SpellsJson style e json) (fits : length (compact json) ≤ old.room) where
+    (json : Json) (spelled : EmitsJson style e json) (fits : length (compact json) ≤ old.room) where
   written : IsWrittenAs (Ok json) (written_in style e.calls)
   written = subst (λ shape. IsWrittenAs shape (written_in style e.calls)) spelled.shape (spelling_written style e.calls spelled.tree spelled.spells)
 

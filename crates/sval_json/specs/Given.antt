@@ -16,7 +16,7 @@ use Rattle.sval_json.specs.Steps.{written_in}
 use Rattle.sval_json.specs.Grammar.{JsonValue}
 use Rattle.sval_json.specs.Promises.{KeepsPromises}
 use Rattle.sval_json.specs.Laws.{IsTheValueOf}
-use Rattle.sval_json.specs.Written.{RefusesItself, RefusesSpelledTree}
+use Rattle.sval_json.specs.Written.{WritesSome, RefusesItself, RefusesSpelledTree}
 
 -- no step refuses a call, and the bytes are exactly what the steps write in this style
 pub record IsTextIn (style : Variants) (calls : List Call) (bytes : List ℕ) : Type 0 where
@@ -55,7 +55,7 @@ abbrev pub ComesInMemory : ErrorKind → Result (List ℕ) ErrorKind → Type 0
 ComesInMemory found result = (result ≡ Err found) ⊎ (result ≡ Err kind.NoMemory)
 
 -- On Ok the bytes are what the steps write, which is the text of the tree that the calls spell, and denotes what is meant.
--- Each error comes only where it is so, and comes there unless memory is wanting. No sink fails.
+-- Each error comes only where it is so, and comes there unless memory is wanting, which it never is for no bytes. No sink fails.
 pub record GivesJson (style : Variants) (emission : Emission) (result : Result (List ℕ) ErrorKind) : Type 0 where
   pub written : IfOk result (IsTextIn style emission.calls)
   pub tree : IfOk result (IsSpelledTextIn style emission.calls)
@@ -67,3 +67,4 @@ pub record GivesJson (style : Variants) (emission : Emission) (result : Result (
   pub refused : (why : Refusal) → result ≡ Err (refusal_kind why) → (written_in style emission.calls).refusal ≡ Some why
   pub tree_refused : (why : Refusal) → result ≡ Err (refusal_kind why) → RefusesSpelledTree style why emission.calls
   pub io : result ≡ Err kind.IO → ⊥
+  pub no_memory : result ≡ Err kind.NoMemory → WritesSome style emission.calls

@@ -9,6 +9,7 @@ pub mod Actions
 pub mod Steps
 pub mod SeenWriter
 pub mod JsonTexts
+pub mod SameTexts
 pub mod Grammar
 pub mod Means
 pub mod Promises

@@ -11,7 +11,7 @@ use Rattle.sval_json.specs.Shape.{json_in}
 use Rattle.sval_json.specs.Written.{StreamsJson}
 
 -- the value doesn't refuse, and its calls spell a tree that has this JSON shape in this style
-pub record SpellsJson (style : Variants) (emission : Emission) (json : Json) : Type 0 where
+pub record EmitsJson (style : Variants) (emission : Emission) (json : Json) : Type 0 where
   pub refuses : emission.refuses ≡ false
   pub tree : Tree
   pub spells : Spells emission.calls tree
@@ -21,4 +21,4 @@ pub record SpellsJson (style : Variants) (emission : Emission) (json : Json) : T
 -- whatever memory there is
 abbrev pub RoomIsEnough : Type 0
 RoomIsEnough = (style : Variants) (emission : Emission) (result : Result (Unit {0}) ErrorKind) (old new : Filled) → StreamsJson style emission result (filled_told old) (filled_told new)
-    → (json : Json) → SpellsJson style emission json → length (compact json) ≤ old.room → result ≡ Ok tt
+    → (json : Json) → EmitsJson style emission json → length (compact json) ≤ old.room → result ≡ Ok tt

@@ -1,6 +1,6 @@
 -- What a sink tells of itself, and what writing to it and flushing it make of that.
 use Rattle.std.specs.Prelude.{◌≡◌, ℕ, ◌-◌, ◌<◌, ◌≤◌, List, ◌++◌, Option, option_map, IfSome, Result, Ok, Err, take, length}
-use Rattle.sval_core.specs.Law.{Rose}
+use Rattle.sval_core.specs.Law.{Rose, one_more}
 use Rattle.sval_json.specs.declared.sink.SinkError.{SinkError}
 use Rattle.sval_json.specs.declared.sink.SinkError.TheVariants.{Failed, NoMemory}
 
@@ -34,6 +34,11 @@ pub record IsQuiet (old new : Told) : Type 0 where
 abbrev pub IsCounted : SinkError → Told → Told → Type 0
 IsCounted Failed old new = Rose old.faults new.faults
 IsCounted NoMemory old new = Rose old.wants new.wants
+
+-- the count of this refusal rose by one, up to its type's end, and the other stayed
+abbrev pub IsCountedOnce : SinkError → Told → Told → Type 0
+IsCountedOnce Failed old new = (new.faults ≡ one_more old.faults) × (new.wants ≡ old.wants)
+IsCountedOnce NoMemory old new = (new.wants ≡ one_more old.wants) × (new.faults ≡ old.faults)
 
 -- ---- the text and the room
 
@@ -112,10 +117,11 @@ pub record WritesWhole (old : Told) (piece : List ℕ) (new : Told) : Type 0 whe
   pub appends : Appends old piece new
   pub steady : IsSteady old new
 
--- a first part of the piece was taken, and a count says why it stopped there: a sink that tells its room failed only where the
--- piece had no place in it
+-- a first part of the piece, which isn't empty, was taken, and a count says why it stopped there: a sink that tells its room failed
+-- only where the piece had no place in it
 pub record WritesFront (why : SinkError) (old : Told) (piece : List ℕ) (new : Told) : Type 0 where
   pub front : AppendsFront old piece new
+  pub some : 0 < length piece
   pub cause : IsCounted why old new
   pub full : why ≡ Failed → LacksRoom old piece
   pub counts : NoCountFell old new

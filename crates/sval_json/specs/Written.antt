@@ -1,5 +1,5 @@
 -- What streaming a value to JSON leaves of a sink.
-use Rattle.std.specs.Prelude.{◌≡◌, true, false, List, None, Some, Result, Ok, Err, OnOk, OnErr}
+use Rattle.std.specs.Prelude.{◌≡◌, ◌<◌, true, false, length, List, None, Some, Result, Ok, Err, OnOk, OnErr}
 use Rattle.sval_label.specs.Calls.{Call}
 use Rattle.sval_core.specs.Law.{Emission, Rose}
 use Rattle.sval_core.specs.Spells.{Spells}
@@ -26,6 +26,10 @@ pub record IsWrittenIn (style : Variants) (calls : List Call) (old new : Told) :
 -- a first part of what the steps write was taken
 abbrev pub IsBegunIn : Variants → List Call → Told → Told → Type 0
 IsBegunIn style calls old new = AppendsFront old (written_in style calls).written new
+
+-- the steps write something
+abbrev pub WritesSome : Variants → List Call → Type 0
+WritesSome style calls = 0 < length (written_in style calls).written
 
 -- a step refuses a call for this cause, and exactly what the steps write up to there was taken
 pub record IsRefusedIn (style : Variants) (why : Refusal) (calls : List Call) (old new : Told) : Type 0 where
@@ -84,7 +88,7 @@ pub record EndsRefused (style : Variants) (emission : Emission) (old new : Told)
 
 -- On Ok the sink took what the steps write, which is the text of the tree that the calls spell, and denotes what is meant. Each error
 -- comes only where it is so, and where no count of the sink moved, the answer that is due comes. Whatever comes, a first part of what
--- the steps write was taken, and no count falls.
+-- the steps write was taken, which is something where the sink declined, and no count falls.
 pub record StreamsJson (style : Variants) (emission : Emission) (result : Result (Unit {0}) ErrorKind) (old new : Told) : Type 0 where
   pub written : OnOk result (IsWrittenIn style emission.calls old new)
   pub tree : OnOk result (WritesSpelledTree style emission.calls old new)
@@ -99,7 +103,9 @@ pub record StreamsJson (style : Variants) (emission : Emission) (result : Result
   pub tree_refused : (why : Refusal) → result ≡ Err (refusal_kind why) → RefusesSpelledTree style why emission.calls
   pub io : result ≡ Err kind.IO → Rose old.faults new.faults
   pub io_room : result ≡ Err kind.IO → IsTooLongFor style emission.calls old
+  pub io_some : result ≡ Err kind.IO → WritesSome style emission.calls
   pub no_memory : result ≡ Err kind.NoMemory → Rose old.wants new.wants
+  pub no_memory_some : result ≡ Err kind.NoMemory → WritesSome style emission.calls
   pub counts : NoCountFell old new
   pub prefix : OnErr result (IsBegunIn style emission.calls old new)
   pub tree_prefix : OnErr result (BeginsSpelledTree style emission.calls old new)

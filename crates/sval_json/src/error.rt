@@ -10,7 +10,7 @@ use std::marker::Model;
 /// The kinds of [`Error`].
 #[derive(Clone, Copy, Debug, PartialEq, Eq)]
 pub enum ErrorKind {
-    /// The value itself refused.
+    /// The value itself refused; of `stream_to_fmt_write` also: the sink failed.
     Generic,
     /// The sink failed.
     IO,
@@ -25,7 +25,7 @@ pub enum ErrorKind {
 /// Why a step of the writer refuses a call.
 #[derive(Clone, Copy, Debug, PartialEq, Eq)]
 pub(crate) enum Refusal {
-    /// A key that is no text.
+    /// A key that can't be one: a container, a binary, a text under `JSON_VALUE`, or a variant with its name.
     InvalidKey,
     /// A number that is none.
     InvalidNumber,

@@ -1,9 +1,8 @@
 //! A sink that fails where it is told to.
 
-ghost use Rattle.std.specs.Prelude.{◌≡◌, ◌↔◌, ◌≤◌, [], IfOk, OnErr, length, min};
-ghost use Rattle.sval_core.specs.Law.{one_more};
+ghost use Rattle.std.specs.Prelude.{◌≡◌, ◌↔◌, ◌≤◌, [], IfOk, IfErr, length, min};
 ghost use Rattle.sval_json.specs.Faulty.{faulty_told, calls_after, HasPlanOf, IsDueToFail};
-ghost use Rattle.sval_json.specs.Sinks.{Writes, Flushes};
+ghost use Rattle.sval_json.specs.Sinks.{IsCountedOnce, Writes, Flushes};
 
 use crate::sink::{Sink, SinkError, VecSink};
 use std::alloc::Global;
@@ -11,7 +10,7 @@ use std::marker::Model;
 
 /// A sink in memory that takes so many bytes a call at most, and fails at the calls whose numbers are given.
 ///
-/// Calls are counted from 1, over pieces that aren't empty.
+/// Calls are counted from 1, over pieces that aren't empty. Each error counts once, and a flush never fails.
 #[derive(Drop)]
 pub struct FaultySink<'a> {
     taken: VecSink,
@@ -76,6 +75,7 @@ impl<'a> Sink for FaultySink<'a> {
         ensures chunk { IfOk result (λ count. count ≡ min self.old.chunk (length piece.now)) }
         ensures fails { (result ≡ Err SinkError.Failed) ↔ IsDueToFail self.old piece.now }
         ensures writes { Writes result (faulty_told self.old) piece.now (faulty_told self.new) }
+        ensures once { IfErr result (λ why. IsCountedOnce why (faulty_told self.old) (faulty_told self.new)) }
         ensures numbered { self.new.calls ≡ calls_after self.old.calls piece.now }
         ensures plan { HasPlanOf self.old self.new }
     {

@@ -60,6 +60,22 @@ impl<'a> FixedSink<'a> {
         &self.buffer[..self.taken]
     }
 
+    /// The bytes taken, for as long as the buffer is lent.
+    ///
+    /// ```
+    /// let mut buffer = [0; 64];
+    /// let mut sink = FixedSink::new(&mut buffer);
+    /// stream_to_io_write(&mut sink, &value)?;
+    /// let json = sink.into_slice();
+    /// assert_eq!(rt; json, b"[-7,\"a\"]".as_slice());
+    /// ```
+    pub fn into_slice(self) -> &'a [u8]
+        ensures { result.now ≡ self.entry.bytes }
+    {
+        let buffer = self.buffer;
+        &buffer[..self.taken]
+    }
+
     /// How many bytes are free.
     pub fn room(&self) -> usize
         ensures { result ≡ self.now.room }

@@ -46,7 +46,8 @@ pub trait Sink {
 /// After an error a first part of it was taken. An empty piece makes no call. A sink that tells its room fails only
 /// where the piece has no place in it.
 pub fn write_all<K: Sink>(sink: &mut K, piece: &[u8]) -> Result<(), SinkError>
-    ensures { WritesAll result (K.told sink.old) piece.now (K.told sink.new) }
+    ensures writes { WritesAll result (K.told sink.old) piece.now (K.told sink.new) }
+    ensures nothing { piece.now ≡ [] → (result ≡ Ok tt) × (sink.new ≡ sink.old) }
 {
     let mut rest = piece;
     while !rest.is_empty() {

@@ -21,7 +21,8 @@ use sval_core::{Lent, Value};
 /// # Errors
 ///
 /// [`InvalidKey`], [`InvalidNumber`] and [`Generic`] come exactly where they come there, unless memory is wanting.
-/// [`NoMemory`] may come in place of any answer. Nothing else is answered. Memory is taken for the bytes alone.
+/// [`NoMemory`] may come in place of any answer, but for a value of which nothing is written. Nothing else is answered.
+/// Memory is taken for the bytes alone.
 ///
 /// [`InvalidKey`]: crate::ErrorKind::InvalidKey
 /// [`InvalidNumber`]: crate::ErrorKind::InvalidNumber
@@ -51,6 +52,7 @@ pub fn stream_to_vec<'v, V: Value<'v, Lent<'v>>>(alloc: Global, v: &'v V) -> Res
 ///
 /// Those of [`stream_to_vec`]. [`NoMemory`](crate::ErrorKind::NoMemory) would also stand for bytes that aren't UTF-8,
 /// which texts and labels, being UTF-8 themselves, never give.
+#[tactic(auto, using(crate::proofs::Given::given_no_text))]
 pub fn stream_to_string<'v, V: Value<'v, Lent<'v>>>(
     alloc: Global,
     v: &'v V,

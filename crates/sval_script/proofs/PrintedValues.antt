@@ -223,6 +223,7 @@ module _ (e : Emission) (old new : Told) where
       let w = cut_front s.front s.call s.has_printed.whole s.cut.1 in
       ends_failed (s.front ++ (s.call ∷ [])) (begins_with s.front s.call s.later s.are s.has_printed.known s.cut.0) (record {
         front = record { count = w.front.count; within = w.front.within; appends = record { fits = w.front.appends.fits; text = w.front.appends.text; room = w.front.appends.room } };
+        some = w.some;
         cause = w.cause;
         full = w.full;
         counts = record { faults = w.counts.faults; wants = w.counts.wants };
@@ -231,6 +232,7 @@ module _ (e : Emission) (old new : Told) where
       let w = cut_front s.front s.call s.has_printed.whole s.cut.1 in
       ends_without_memory (s.front ++ (s.call ∷ [])) (begins_with s.front s.call s.later s.are s.has_printed.known s.cut.0) (record {
         front = record { count = w.front.count; within = w.front.within; appends = record { fits = w.front.appends.fits; text = w.front.appends.text; room = w.front.appends.room } };
+        some = w.some;
         cause = w.cause;
         full = w.full;
         counts = record { faults = w.counts.faults; wants = w.counts.wants };

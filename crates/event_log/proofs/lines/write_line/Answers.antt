@@ -13,4 +13,4 @@ returns-in_err-write_json g c =
 
 pub returns : goal.returns
 unfolding line_of
-returns g c = goes_on (g.K.Sink.told c.write_all.new.sink) c.write_all.result (written (event_calls c.args.event.now)).written (codes "\n") c.in_ok-write_json.ensures c.write_all.ensures
+returns g c = goes_on (g.K.Sink.told c.write_all.new.sink) c.write_all.result (written (event_calls c.args.event.now)).written (codes "\n") c.in_ok-write_json.ensures c.write_all.ensures.writes

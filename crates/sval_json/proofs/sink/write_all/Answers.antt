@@ -1,5 +1,20 @@
-use Rattle.sval_json.proofs.Pieces.{written_on}
+use Rattle.std.proofs.Common.{◌<◌, length, rules, arith}
+use Rattle.std.proofs.lemmas.Bool.Decides.{nat_tests}
+use Rattle.sval_json.proofs.Pieces.{written_on, nothing_due, stopped_in_rest}
 use Rattle.sval_json.proofs.sink.write_all.Goals as goal
 
 pub loop-rest-preserved : goal.loop-rest-preserved
-loop-rest-preserved g c = written_on c.in_ok-count.count c.loop-rest.invariant c.in_ok-count.ensures
+loop-rest-preserved g c =
+    let some : 0 < length c.loop-rest.rest.now = grind (arith, nat_tests, c.loop-rest-test.true, c.is_empty.ensures) in record {
+      partly = written_on c.in_ok-count.count c.loop-rest.invariant.partly c.in_ok-count.ensures;
+      nothing = λ none. absurd (nothing_due c.loop-rest.invariant.partly none some);
+    }
+
+pub returns-in_err-count-clause-writes : goal.returns-in_err-count-clause-writes
+returns-in_err-count-clause-writes g c =
+    let some : 0 < length c.loop-rest.rest.now = grind (arith, nat_tests, c.loop-rest-test.true, c.is_empty.ensures) in
+    let stops = stopped_in_rest c.loop-rest.invariant.partly some c.in_err-count.ensures in search rules
+
+pub returns-in_err-count-clause-nothing : goal.returns-in_err-count-clause-nothing
+returns-in_err-count-clause-nothing g c none =
+    let some : 0 < length c.loop-rest.rest.now = grind (arith, nat_tests, c.loop-rest-test.true, c.is_empty.ensures) in absurd (nothing_due c.loop-rest.invariant.partly none some)

@@ -16,8 +16,8 @@ returns-in_err-write_all g c = λ tree s p.
     let e = err_from_is_err_and c.from_residual-in_err-write_all.result c.from_residual-in_err-write_all.ensures.1 in
     rw (e.1, e.2)
     (stops_ending g.K.Sink.told (asked_in c.args.way) tree (is_captured c.args.way) (ending (asked_in c.args.way) true) c.args.out.now c.write_tree.new.out c.write_all.new.sink c.in_err-write_all.field-0.0 (c.in_ok-write_tree.ensures tree s p)
-    (rw (← c.ending.ensures) c.in_err-write_all.ensures))
+    (rw (← c.ending.ensures) c.in_err-write_all.ensures.writes))
 
 pub returns : goal.returns
 returns g c = λ tree s p.
-    with_ending g.K.Sink.told (asked_in c.args.way) tree (ending (asked_in c.args.way) true) (c.in_ok-write_tree.ensures tree s p) (rw (← c.ending.ensures) c.in_ok-write_all.ensures)
+    with_ending g.K.Sink.told (asked_in c.args.way) tree (ending (asked_in c.args.way) true) (c.in_ok-write_tree.ensures tree s p) (rw (← c.ending.ensures) c.in_ok-write_all.ensures.writes)

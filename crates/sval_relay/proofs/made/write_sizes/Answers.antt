@@ -20,5 +20,5 @@ returns g c =
     let first = codes "calls " ++ decimal c.args.sizes.calls in
     let second = codes " json " ++ decimal c.args.sizes.bytes in
     let r = c.write_all.result in
-    let later = goes_on _ r second (codes "\n") refl c.in_ok-write_size-2.ensures c.write_all.ensures in
+    let later = goes_on _ r second (codes "\n") refl c.in_ok-write_size-2.ensures c.write_all.ensures.writes in
     goes_on _ r first (second ++ codes "\n") refl c.in_ok-write_size.ensures later

@@ -8,7 +8,7 @@ pub returns-in_err-write_all : goal.returns-in_err-write_all
 returns-in_err-write_all g c =
     let call = grouped_call (λ text. text.now) (λ bytes. bytes.now) c.args.call in
     let piece = c.word.result.now in
-    let stops = stops_first piece (spaced (fields_of call) ++ (10 ∷ [])) (line_split call piece c.word.ensures) c.in_err-write_all.ensures in search rules
+    let stops = stops_first piece (spaced (fields_of call) ++ (10 ∷ [])) (line_split call piece c.word.ensures) c.in_err-write_all.ensures.writes in search rules
 
 pub returns-in_err-write_fields : goal.returns-in_err-write_fields
 returns-in_err-write_fields g c =
@@ -16,7 +16,7 @@ returns-in_err-write_fields g c =
     let piece = c.word.result.now in
     let fields = spaced (fields_of call) in
     let stops = stops_first fields (10 ∷ []) refl c.in_err-write_fields.ensures in
-    let all = goes_on _ (Err c.in_err-write_fields.field-0.0) piece (fields ++ (10 ∷ [])) (line_split call piece c.word.ensures) c.in_ok-write_all.ensures stops in search rules
+    let all = goes_on _ (Err c.in_err-write_fields.field-0.0) piece (fields ++ (10 ∷ [])) (line_split call piece c.word.ensures) c.in_ok-write_all.ensures.writes stops in search rules
 
 pub returns : goal.returns
 returns g c =
@@ -24,5 +24,5 @@ returns g c =
     let piece = c.word.result.now in
     let fields = spaced (fields_of call) in
     let r = c.write_all-2.result in
-    let later = goes_on _ r fields (10 ∷ []) refl c.in_ok-write_fields.ensures c.write_all-2.ensures in
-    goes_on _ r piece (fields ++ (10 ∷ [])) (line_split call piece c.word.ensures) c.in_ok-write_all.ensures later
+    let later = goes_on _ r fields (10 ∷ []) refl c.in_ok-write_fields.ensures c.write_all-2.ensures.writes in
+    goes_on _ r piece (fields ++ (10 ∷ [])) (line_split call piece c.word.ensures) c.in_ok-write_all.ensures.writes later

@@ -8,4 +8,4 @@ pub returns : goal.returns
 returns g c =
     goes_on _ c.write_all-2.result (codes ":") c.as_bytes.result.now
     (ap (λ tag. hint_text (seen_option_tag tag)) c.in-Some.is ∙ ap (λ text. 58 ∷ text) (sym c.as_bytes.ensures.value))
-    c.in_ok-write_all.ensures c.write_all-2.ensures
+    c.in_ok-write_all.ensures.writes c.write_all-2.ensures.writes
