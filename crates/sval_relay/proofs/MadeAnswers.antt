@@ -13,7 +13,7 @@ use Rattle.sval_json.proofs.Appending.{all_is_front, steady_counts}
 use Rattle.sval_script.specs.declared.printer.Printer.{Printer}
 use Rattle.sval_script.specs.Lines.{lines}
 use Rattle.sval_script.specs.Printed.{printed}
-use Rattle.sval_script.specs.Printing.{printer_law, printing_of, printer_standing}
+use Rattle.sval_script.specs.Printing.{printer_law, printer_standing, printing_of, sink_of}
 use Rattle.sval_script.proofs.Printers.{prints_all}
 use Rattle.sval_relay.specs.declared.way.Task.{Task}
 use Rattle.sval_relay.specs.declared.way.Way.TheVariants.{Buffered}
@@ -34,11 +34,11 @@ one_text script task {text} {other} is also =
 
 -- a printer into memory that was empty holds the lines of the calls that it took
 pub printed_whole : (calls : List Call) {old new : Printer Taken} → Streams printer_law (printer_standing taken_told old) (makes calls) (printer_standing taken_told new)
-    → old.out.bytes ≡ [] → new.out.bytes ≡ printed calls
+    → (sink_of old).bytes ≡ [] → (sink_of new).bytes ≡ printed calls
 printed_whole calls {old} {new} s empty =
     let (known, done) = prints_all calls (printing_of taken_told old) (printing_of taken_told new) s.ran in
-    let text : Some new.out.bytes ≡ Some (old.out.bytes ++ printed calls) = ap (λ printing. printing.told.text) done in
-    let same : new.out.bytes ≡ old.out.bytes ++ printed calls = cc text in
+    let text : Some (sink_of new).bytes ≡ Some ((sink_of old).bytes ++ printed calls) = ap (λ printing. printing.told.text) done in
+    let same : (sink_of new).bytes ≡ (sink_of old).bytes ++ printed calls = cc text in
     same ∙ ap (λ bytes. bytes ++ printed calls) empty
 
 -- and memory that was empty holds the text that is the script's verdict

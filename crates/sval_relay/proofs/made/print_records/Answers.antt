@@ -7,5 +7,5 @@ use Rattle.sval_relay.proofs.made.print_records.Goals as goal
 pub returns-in-Ok-clause-script : goal.returns-in-Ok-clause-script
 returns-in-Ok-clause-script c =
     let bytes = λ (sink : Taken). sink.bytes in
-    let empty = ap (λ printer. printer.out.bytes) c.new-printer.ensures ∙ ap bytes c.new.ensures in
+    let empty = ap bytes (c.new-printer.ensures.sink ∙ c.new.ensures) in
     c.into_vec.ensures ∙ ap bytes c.into_inner.ensures ∙ printed_whole (made_calls c.args.count) c.in-Ok.ensures empty
