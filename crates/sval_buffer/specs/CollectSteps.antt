@@ -125,9 +125,11 @@ pub record Collects : Type 0 where
   pub step : CollectStep
   pub grows : HeldBytes → Call → Bool
 
+-- how a buffer for texts does
 abbrev pub text_collects : Collects
 text_collects = record { expected = word.Text; step = text_step; grows = text_takes_memory }
 
+-- how a buffer for binaries does
 abbrev pub binary_collects : Collects
 binary_collects = record { expected = word.Binary; step = binary_step; grows = binary_takes_memory }
 

@@ -25,7 +25,8 @@ text_use (Call.Truth _) = Unfit word.Boolean
 text_use (Call.Int _ _) = Unfit word.Integer
 text_use _ = Unfit word.Sequence
 
--- to a buffer for binaries, which takes sequences too, and each number of 8 bits as a byte
+-- To a buffer for binaries, which takes sequences too, and each number of 8 bits as a byte. The calls that are not listed
+-- are the begin and the end of a binary and those of sequences, which keep nothing: any other is lowered before it comes.
 abbrev pub binary_use : Call → Use
 binary_use (Call.BinaryFragment borrowed bytes) = Push (record { borrowed = borrowed; bytes = bytes })
 binary_use (Call.Int IntType.U8 n) = Push (record { borrowed = false; bytes = nat_abs n ∷ [] })

@@ -3,14 +3,15 @@ use Rattle.std.specs.Prelude.{ℕ, ◌+◌, List, [], ◌∷◌, ◌++◌, lengt
 use Rattle.sval_buffer.specs.Forest.{Node, Single, Text, Binary, Container, Nodes, none, ◌and◌, Open, Forest}
 use Rattle.sval_buffer.specs.Flat.{flat_row, flat_spine}
 
--- of the parts from one place on, where this container holds the first of them
 abbrev mutual
+  -- what holds a part and those in it, where the part stands at this place and this container holds it
   pub holders_node : ℕ → Option ℕ → Node → List (Option ℕ)
   holders_node place holder (Single call) = holder ∷ []
   holders_node place holder (Text held) = holder ∷ []
   holders_node place holder (Binary held) = holder ∷ []
   holders_node place holder (Container begin nodes) = holder ∷ holders_row (place + 1) (Some place) nodes
 
+  -- the same of parts in a row, of which the first stands at this place
   pub holders_row : ℕ → Option ℕ → Nodes → List (Option ℕ)
   holders_row place holder none = []
   holders_row place holder (nodes and node) = holders_row place holder nodes ++ holders_node (place + length (flat_row nodes)) holder node

@@ -12,12 +12,14 @@ abbrev pub owned_bytes : HeldBytes → HeldBytes
 owned_bytes held = record { borrowed = false; bytes = held.bytes }
 
 abbrev mutual
+  -- the same part, with no text or binary in it borrowed
   pub owned_node : Node → Node
   owned_node (Single call) = Single (computed call)
   owned_node (Text held) = Text (owned_bytes held)
   owned_node (Binary held) = Binary (owned_bytes held)
   owned_node (Container begin nodes) = Container (computed begin) (owned_row nodes)
 
+  -- the same of parts in a row
   pub owned_row : Nodes → Nodes
   owned_row none = none
   owned_row (nodes and node) = owned_row nodes and owned_node node
@@ -30,11 +32,12 @@ owned_open o = record { begin = computed o.begin; nodes = owned_row o.nodes }
 abbrev pub owned : Forest → Forest
 owned f = record { nodes = owned_row f.nodes; spine = map owned_open f.spine; in_fragments = f.in_fragments }
 
--- the same of a part of the program
+-- what a part of the program is, with its text or binary owned
 abbrev pub owned_kind : PartKind → PartKind
 owned_kind (kind.Text held) = kind.Text (owned_bytes held)
 owned_kind (kind.Binary held) = kind.Binary (owned_bytes held)
 owned_kind other = other
 
+-- the same part of the program, with its text or binary owned
 abbrev pub owned_part : Part → Part
 owned_part p = record p { kind = owned_kind p.kind }

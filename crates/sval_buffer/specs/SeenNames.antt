@@ -41,6 +41,7 @@ HasName (kind.Part part) name = HasParts part name
 HasName kind.Hint name = IsSome name.tag
 HasName _ name = ⊤
 
+-- what a hint is kept as
 abbrev pub hinted : NamedKind
 hinted = kind.Hint
 
@@ -64,6 +65,7 @@ abbrev pub kept_text : List ℕ → KeptText → List ℕ
 kept_text texts (Static text) = text.now
 kept_text texts (Stored start end) = slice_range texts start end
 
+-- the label that has this text is static
 abbrev pub kept_static : KeptText → Bool
 kept_static (Static text) = true
 kept_static (Stored start end) = false
@@ -86,9 +88,11 @@ abbrev pub TextStands : List ℕ → KeptText → Type 0
 TextStands texts (Static text) = ⊤
 TextStands texts (Stored start end) = (start ≤ end) × IsCharBoundary texts start × IsCharBoundary texts end
 
+-- the same of a label's text
 abbrev pub LabelStands : List ℕ → KeptLabel → Type 0
 LabelStands texts label = TextStands texts label.text
 
+-- the same of a label, if there is one
 abbrev pub OptionStands : List ℕ → Option KeptLabel → Type 0
 OptionStands texts (Some label) = LabelStands texts label
 OptionStands texts None = ⊤
@@ -98,6 +102,7 @@ pub record Stands (texts : List ℕ) (call : NamedCall) : Type 0 where
   pub label : OptionStands texts call.label
   pub name : HasName call.kind (kept_name texts call)
 
+-- the same of all calls that are kept
 abbrev pub AllStand : List ℕ → List NamedCall → Type 0
 AllStand texts [] = ⊤
 AllStand texts (call ∷ calls) = Stands texts call × AllStand texts calls

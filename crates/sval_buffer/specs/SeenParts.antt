@@ -57,6 +57,7 @@ abbrev pub closed_kind : FlatKind → ℕ → ℕ → ℕ
 closed_kind (flat.Holder begin) parts holds = parts
 closed_kind _ parts holds = holds
 
+-- this part, where it holds so many if it is a container
 abbrev pub with_length : SeenPart → ℕ → SeenPart
 with_length p parts = record p { holds = closed_kind p.kind parts p.holds }
 
@@ -91,6 +92,7 @@ holds_of (kind.Container begin holds) = holds
 holds_of (kind.NamedContainer at holds) = holds
 holds_of _ = 0
 
+-- a part of the program, with the calls that have names
 abbrev pub seen_part : List Call → Part → SeenPart
 seen_part calls p = record { kind = flat_kind calls p.kind; holds = holds_of p.kind; holder = p.holder }
 
@@ -98,6 +100,7 @@ seen_part calls p = record { kind = flat_kind calls p.kind; holds = holds_of p.k
 abbrev pub stored_part : List Call → Part → FlatPart
 stored_part calls p = stored (seen_part calls p)
 
+-- the same of all parts
 abbrev pub seen_parts : List Call → List Part → List SeenPart
 seen_parts calls parts = map (seen_part calls) parts
 
@@ -107,6 +110,7 @@ IsKept calls (kind.Named at) = at < calls
 IsKept calls (kind.NamedContainer at holds) = at < calls
 IsKept calls _ = ⊤
 
+-- the same of all parts
 abbrev pub AllKept : ℕ → List Part → Type 0
 AllKept calls [] = ⊤
 AllKept calls (p ∷ parts) = IsKept calls p.kind × AllKept calls parts
@@ -121,6 +125,7 @@ abbrev pub no_fragments_yet : Medium → PartKind
 no_fragments_yet media.Text = kind.Text no_bytes
 no_fragments_yet media.Binary = kind.Binary no_bytes
 
+-- the same part as the forest has it
 abbrev pub no_fragments : Medium → Node
 no_fragments media.Text = Text no_bytes
 no_fragments media.Binary = Binary no_bytes

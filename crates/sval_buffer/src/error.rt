@@ -62,7 +62,7 @@ pub enum ErrorKind {
         /// What the buffer holds.
         expected: Word,
     },
-    /// The value refused, or its calls are no value's.
+    /// The value refused, can't be printed, or its calls are no value's.
     InvalidValue {
         /// What is wrong with it.
         reason: Word,

@@ -142,7 +142,7 @@ impl<'sval> TextBuf<'sval> {
             .map_err(|_| Error::new(ErrorKind::NoAlloc { method: Word::Text }))
     }
 
-    /// Appends a copy of a text, as [`TextBuf::push_fragment_computed`] does: it is what writes texts call.
+    /// Appends a copy of a text, as [`TextBuf::push_fragment_computed`] does, for callers that write a text piece by piece.
     ///
     /// [`ErrorKind::NoAlloc`] comes where memory was wanting, and then the text stays as it was.
     pub fn write_str(&mut self, text: &str) -> std::result::Result<(), Error>
