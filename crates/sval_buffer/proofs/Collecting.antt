@@ -9,7 +9,7 @@ use Rattle.sval_buffer.specs.Forest.{Forest, CaptureAnswer, Becomes, Rejects, Mi
 use Rattle.sval_buffer.specs.declared.error.Word.TheVariants as word
 use Rattle.sval_buffer.specs.declared.error.ErrorKind.{ErrorKind}
 use Rattle.sval_buffer.specs.declared.error.ErrorKind.TheVariants as error
-use Rattle.sval_buffer.specs.Capture.{Capture, no_calls, error_of, IsNoAlloc, IsAccepted, forest_by, IsCaptureCause, wants_after, capture_law, capture_standing}
+use Rattle.sval_buffer.specs.Capture.{Capture, no_calls, error_of, IsNoAlloc, IsAccepted, forest_by, IsCaptureCause, wants_after, capture_law, capture_law_by, capture_standing}
 use Rattle.sval_buffer.specs.CapturedValues.{IsCaptured, RunsOutFrom, RunsOut, IsCollectCause, SpellsAgain, KeepsTree, cause_by}
 use Rattle.sval_buffer.proofs.SameTree.{capture_keeps}
 
@@ -21,10 +21,11 @@ rose_once (error.Unsupported actual expected) wants h = absurd h
 rose_once (error.InvalidValue reason) wants h = absurd h
 rose_once (error.OutsideContainer method) wants h = absurd h
 
-pub refuses_by : (old new : Capture) (call : Call) (f : Forest) (why : ErrorKind) → f ≡ old.forest → IsCaptureCause (may_grow old.forest call) (take old.forest call) why
-    → new ≡ record { forest = f; refusal = Some why; wants = wants_after why old.wants } → old.wants ≤ new.wants → Refuses capture_law (capture_standing old) call (capture_standing new)
-refuses_by old new call f why same cause now rises = record {
-  cause = go (take old.forest call) cause;
+pub refuses_by : (grows : Forest → Call → Bool) (answer : Forest → Call → CaptureAnswer) (old new : Capture) (call : Call) (f : Forest) (why : ErrorKind) → f ≡ old.forest
+    → IsCaptureCause (grows old.forest call) (answer old.forest call) why → new ≡ record { forest = f; refusal = Some why; wants = wants_after why old.wants } → old.wants ≤ new.wants
+    → Refuses (capture_law_by grows answer) (capture_standing old) call (capture_standing new)
+refuses_by grows answer old new call f why same cause now rises = record {
+  cause = go (answer old.forest call) cause;
   left = record {
     forest = ap (λ (c : Capture). c.forest) now ∙ same;
     why = why;
@@ -36,7 +37,7 @@ refuses_by old new call f why same cause now rises = record {
   wants = rises;
 }
   where
-    go : (a : CaptureAnswer) → IsCaptureCause (may_grow old.forest call) a why → (IsAccepted a → ⊥) ⊎ (Rose 0 0 ⊎ Rose old.wants new.wants)
+    go : (a : CaptureAnswer) → IsCaptureCause (grows old.forest call) a why → (IsAccepted a → ⊥) ⊎ (Rose 0 0 ⊎ Rose old.wants new.wants)
     go (Becomes g) h = let now_wants = ap (λ (c : Capture). c.wants) now in let r = rose_once why old.wants h.no_alloc in inr (inr (omega (arith, r, now_wants)))
     go (Rejects misfit) h = inl (λ no. no)
 

@@ -54,21 +54,26 @@ abbrev pub wants_after : ErrorKind → ℕ → ℕ
 wants_after (error.NoAlloc method) wants = one_more wants
 wants_after _ wants = wants
 
--- a refused call leaves the forest, and is the last one that was refused
-pub record IsCaptureLeft (view : Capture) (call : Call) (left : Capture) : Type 0 where
+-- a refused call, by whether it may take memory and what the forest answers, leaves the forest, and is the last one that was refused
+pub record IsCaptureLeft (grows : Bool) (answer : CaptureAnswer) (view left : Capture) : Type 0 where
   pub forest : left.forest ≡ view.forest
   pub why : ErrorKind
   pub refusal : left.refusal ≡ Some why
-  pub cause : IsCaptureCause (may_grow view.forest call) (take view.forest call) why
+  pub cause : IsCaptureCause grows answer why
   pub wants : left.wants ≡ wants_after why view.wants
 
--- a call is accepted where the forest takes it, leaves what the forest becomes, and moves nothing else
-abbrev pub capture_law : Law Capture
-capture_law = record {
-  accepts = λ view call. IsAccepted (take view.forest call);
-  after = λ view call. record { forest = forest_by (take view.forest call) view.forest; refusal = view.refusal; wants = view.wants };
-  stopped = IsCaptureLeft;
+-- A call is accepted where the forest takes it, leaves what the forest becomes, and moves nothing else. So it is by which
+-- calls may take memory, and what a forest answers.
+abbrev pub capture_law_by : (Forest → Call → Bool) → (Forest → Call → CaptureAnswer) → Law Capture
+capture_law_by grows answer = record {
+  accepts = λ view call. IsAccepted (answer view.forest call);
+  after = λ view call. record { forest = forest_by (answer view.forest call) view.forest; refusal = view.refusal; wants = view.wants };
+  stopped = λ view call left. IsCaptureLeft (grows view.forest call) (answer view.forest call) view left;
 }
+
+-- the law of a buffer
+abbrev pub capture_law : Law Capture
+capture_law = capture_law_by may_grow take
 
 -- where a stream stands that is this
 abbrev pub capture_standing : Capture → Standing Capture

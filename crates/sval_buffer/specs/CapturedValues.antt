@@ -1,9 +1,9 @@
 -- What capturing a value answers.
-use Rattle.std.specs.Prelude.{◌≡◌, ◌⊎◌, ℕ, true, false, List, [], ◌∷◌, ◌++◌, Option, Some, None, Result, Ok, Err, ⊤}
+use Rattle.std.specs.Prelude.{◌≡◌, ℕ, true, false, List, [], ◌∷◌, ◌++◌, map, Option, Some, None, Result, Ok, Err, ⊤}
 use Rattle.sval_label.specs.Calls.{Call}
 use Rattle.sval_core.specs.Trees.{Tree}
 use Rattle.sval_core.specs.Spells.{Spells}
-use Rattle.sval_core.specs.Law.{Emission}
+use Rattle.sval_core.specs.Law.{Emission, computed}
 use Rattle.sval_buffer.specs.Forest.{Forest, Holds, RefusedAt, Unbalanced, OutsideText, OutsideBinary, empty_forest, take, may_grow, forest, forest_from, replayed, is_complete}
 use Rattle.sval_buffer.specs.declared.error.Word.TheVariants as word
 use Rattle.sval_buffer.specs.declared.error.ErrorKind.{ErrorKind}
@@ -85,6 +85,7 @@ pub record IsTakenOwned (e : Emission) (f : Forest) : Type 0 where
   pub taken : forest e.calls ≡ Holds held
   pub copies : f ≡ owned held
 
--- capturing has this cause, or memory was wanting for the copies
+-- what capturing by copies blames: the same, but that each fragment may take memory, as a computed one may
 abbrev pub IsOwnedCause : Emission → ErrorKind → Type 0
-IsOwnedCause e why = IsCollectCause e why ⊎ IsNoAlloc why
+IsOwnedCause e (error.NoAlloc method) = RunsOut (map computed e.calls)
+IsOwnedCause e why = IsCollectCause e why

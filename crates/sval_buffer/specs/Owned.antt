@@ -1,8 +1,10 @@
 -- A forest whose texts and binaries are copies of its own, which borrow nothing.
-use Rattle.std.specs.Prelude.{false, List, map}
-use Rattle.sval_core.specs.Law.{computed}
+use Rattle.std.specs.Prelude.{true, false, List, map}
+use Rattle.sval_label.specs.Calls.{Call, TextBegin, BinaryBegin}
+use Rattle.sval_core.specs.Law.{Law, computed}
 use Rattle.sval_buffer.specs.Pushes.{HeldBytes}
-use Rattle.sval_buffer.specs.Forest.{Node, Single, Text, Binary, Container, Nodes, none, ◌and◌, Open, Forest}
+use Rattle.sval_buffer.specs.Forest.{Node, Single, Text, Binary, Container, Nodes, none, ◌and◌, Open, Forest, CaptureAnswer, Becomes, Rejects, add, with_flag, no_bytes, take, may_grow}
+use Rattle.sval_buffer.specs.Capture.{Capture, capture_law_by}
 use Rattle.sval_buffer.specs.declared.part.PartKind.{PartKind}
 use Rattle.sval_buffer.specs.declared.part.PartKind.TheVariants as kind
 use Rattle.sval_buffer.specs.declared.part.Part.{Part}
@@ -31,6 +33,21 @@ owned_open o = record { begin = computed o.begin; nodes = owned_row o.nodes }
 -- the same forest, with no text or binary borrowed, not even an empty one
 abbrev pub owned : Forest → Forest
 owned f = record { nodes = owned_row f.nodes; spine = map owned_open f.spine; in_fragments = f.in_fragments }
+
+-- the same of what a forest answers
+abbrev pub owned_answer : CaptureAnswer → CaptureAnswer
+owned_answer (Becomes f) = Becomes (owned f)
+owned_answer (Rejects misfit) = Rejects misfit
+
+-- what a call makes of a forest that keeps copies: a text or a binary begins with bytes of its own, and a fragment is computed
+unfoldable pub take_owned : Forest → Call → CaptureAnswer
+take_owned f (TextBegin size) = Becomes (with_flag true (add (Text (owned_bytes no_bytes)) f))
+take_owned f (BinaryBegin size) = Becomes (with_flag true (add (Binary (owned_bytes no_bytes)) f))
+take_owned f call = take f (computed call)
+
+-- the law of a buffer that keeps copies, in which each fragment may take memory
+abbrev pub owning_law : Law Capture
+owning_law = capture_law_by (λ f call. may_grow f (computed call)) take_owned
 
 -- what a part of the program is, with its text or binary owned
 abbrev pub owned_kind : PartKind → PartKind

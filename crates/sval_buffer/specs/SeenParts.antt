@@ -18,6 +18,8 @@ use Rattle.sval_buffer.specs.declared.part.Single.{Single}
 use Rattle.sval_buffer.specs.declared.part.Single.TheVariants.{Null, Bool as Truth, Int}
 use Rattle.sval_buffer.specs.declared.part.Begin.{Begin}
 use Rattle.sval_buffer.specs.declared.part.Begin.TheVariants as begin
+use Rattle.sval_buffer.specs.declared.part.Keeping.{Keeping}
+use Rattle.sval_buffer.specs.declared.part.Keeping.TheVariants as keeping
 use Rattle.sval_buffer.specs.declared.part.Medium.{Medium}
 use Rattle.sval_buffer.specs.declared.part.Medium.TheVariants as media
 use Rattle.sval_buffer.specs.declared.part.PartKind.{PartKind}
@@ -25,6 +27,7 @@ use Rattle.sval_buffer.specs.declared.part.PartKind.TheVariants as kind
 use Rattle.sval_buffer.specs.declared.part.Part.{Part}
 use Rattle.sval_buffer.specs.declared.error.ErrorKind.{ErrorKind}
 use Rattle.sval_buffer.specs.Capture.{WantsMemory, error_of}
+use Rattle.sval_buffer.specs.Owned.{owned_bytes}
 
 -- ---- a part as replay sees it
 
@@ -120,15 +123,20 @@ pub record PartsTell (calls : List Call) (parts : List Part) (places : List ℕ)
   pub tells : TellsForest (seen_parts calls parts) places (told (seen_parts calls parts) places within)
   pub kept : AllKept (length calls) parts
 
+-- what a text or a binary holds before its first fragment, which counts as borrowed where fragments are kept by reference
+abbrev pub first_bytes : Keeping → HeldBytes
+first_bytes keeping.ByReference = no_bytes
+first_bytes keeping.ByCopy = owned_bytes no_bytes
+
 -- a part without fragments
-abbrev pub no_fragments_yet : Medium → PartKind
-no_fragments_yet media.Text = kind.Text no_bytes
-no_fragments_yet media.Binary = kind.Binary no_bytes
+abbrev pub no_fragments_yet : Medium → Keeping → PartKind
+no_fragments_yet media.Text keeps = kind.Text (first_bytes keeps)
+no_fragments_yet media.Binary keeps = kind.Binary (first_bytes keeps)
 
 -- the same part as the forest has it
-abbrev pub no_fragments : Medium → Node
-no_fragments media.Text = Text no_bytes
-no_fragments media.Binary = Binary no_bytes
+abbrev pub no_fragments : Medium → Keeping → Node
+no_fragments media.Text keeps = Text (first_bytes keeps)
+no_fragments media.Binary keeps = Binary (first_bytes keeps)
 
 -- a fragment with whether it is borrowed
 abbrev pub fragment_bytes : grouped.Fragment (Bor (List ℕ)) (Bor (List ℕ)) → HeldBytes

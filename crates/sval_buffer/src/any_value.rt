@@ -34,11 +34,11 @@ pub type Value<'sval> = AnyValue<'sval, NamedCalls>;
 
 /// A captured value, for any store `N` of the calls with names. Most code says [`Value`].
 #[derive(Drop)]
-pub struct AnyValue<'sval, N: CallStore + 'sval> {
+pub struct AnyValue<'sval, N: CallStore> {
     parts: Parts<'sval, N>,
 }
 
-impl<'sval, N: CallStore + 'sval> Model for AnyValue<'sval, N> {
+impl<'sval, N: CallStore> Model for AnyValue<'sval, N> {
     ghost use Rattle.sval_buffer.specs.FlatForest.{FlatForest};
 
     ghost Value = { FlatForest };
@@ -46,7 +46,7 @@ impl<'sval, N: CallStore + 'sval> Model for AnyValue<'sval, N> {
     ghost view = { λ value. value.parts };
 }
 
-impl<'sval, N: CallStore + 'sval> AnyValue<'sval, N> {
+impl<'sval, N: CallStore> AnyValue<'sval, N> {
     /// A value of these parts.
     pub(crate) fn new(parts: Parts<'sval, N>) -> Self
         ensures { result ≡ parts.entry }
@@ -59,6 +59,8 @@ impl<'sval, N: CallStore + 'sval> AnyValue<'sval, N> {
         alloc: Global,
         v: &'sval V,
     ) -> Result<Self, Error>
+    where
+        N: 'sval,
         ensures ok { IfOk result (λ value. IsTaken (V.emission v.now) (forest_in value)) }
         ensures err { IfErr result (λ why. IsCollectCause (V.emission v.now) why) }
         ensures keeps_the_tree { IfOk result (λ value. KeepsTree (V.emission v.now) (forest_in value)) }
@@ -78,8 +80,6 @@ impl<'sval, N: CallStore + 'sval> AnyValue<'sval, N> {
         alloc: Global,
         v: &'sval V,
     ) -> Result<AnyValue<'o, N>, Error>
-    where
-        N: 'o,
         ensures ok { IfOk result (λ value. IsTakenOwned (V.emission v.now) (forest_in value)) }
         ensures err { IfErr result (λ why. IsOwnedCause (V.emission v.now) why) }
         ensures keeps_the_tree { IfOk result (λ value. KeepsTree (V.emission v.now) (forest_in value)) }
@@ -113,8 +113,6 @@ impl<'sval, N: CallStore + 'sval> AnyValue<'sval, N> {
     /// back as it was.
     #[tactic(auto, using(crate::proofs::OwnedForest::replay_computed))]
     pub fn into_owned<'o>(self) -> Result<AnyValue<'o, N>, Refused<Self>>
-    where
-        N: 'o,
         ensures ok { IfOk result (λ value. forest_in value ≡ owned (forest_in self.entry)) }
         ensures replay { let calls = replayed (forest_in self.entry) in
             IfOk result (λ value. replayed (forest_in value) ≡ map computed calls) }
@@ -131,7 +129,7 @@ impl<'sval, N: CallStore + 'sval> AnyValue<'sval, N> {
     }
 }
 
-impl<'v, 'sval, N: CallStore + 'sval> sval_core::Value<'v, Lent<'v>> for AnyValue<'sval, N> {
+impl<'v, 'sval, N: CallStore> sval_core::Value<'v, Lent<'v>> for AnyValue<'sval, N> {
     ghost emission = { λ value. makes (replayed (forest_in value)) };
 
     fn stream<S: Stream<Lent<'v>>>(&'v self, stream: &mut S) -> sval_core::Result {
@@ -140,7 +138,7 @@ impl<'v, 'sval, N: CallStore + 'sval> sval_core::Value<'v, Lent<'v>> for AnyValu
     }
 }
 
-impl<'sval, N: CallStore + 'sval> ValueRef<Lent<'sval>> for AnyValue<'sval, N> {
+impl<'sval, N: CallStore> ValueRef<Lent<'sval>> for AnyValue<'sval, N> {
     ghost ref_emission = { λ value. makes (replayed (forest_in value)) };
 
     fn stream_ref<S: Stream<Lent<'sval>>>(&self, stream: &mut S) -> sval_core::Result {
@@ -149,7 +147,7 @@ impl<'sval, N: CallStore + 'sval> ValueRef<Lent<'sval>> for AnyValue<'sval, N> {
 }
 
 /// Lists the calls that it makes.
-impl<'sval, N: CallStore + 'sval> fmt::Debug for AnyValue<'sval, N> {
+impl<'sval, N: CallStore> fmt::Debug for AnyValue<'sval, N> {
     fn fmt<W: fmt::Write>(&self, f: &mut fmt::Formatter<W>) -> fmt::Result {
         fmt::Debug::fmt(&self.parts, f)
     }

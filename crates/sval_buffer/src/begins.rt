@@ -17,7 +17,7 @@ use crate::part::Begin;
 use crate::parts::Parts;
 use sval_core::{Head, Index, Label, Name, Slot, Tag};
 
-impl<'sval, N: CallStore + 'sval> Parts<'sval, N> {
+impl<'sval, N: CallStore> Parts<'sval, N> {
     /// Begins an enum.
     pub(crate) fn begin_enum(&mut self, name: Name<'_>) -> Result<(), ErrorKind>
         ensures { let begin = calls.EnumBegin (seen_name name.entry) in

@@ -49,6 +49,15 @@ impl<'sval> BinaryBuf<'sval> {
         }
     }
 
+    /// An empty binary that borrows nothing. It takes no memory yet.
+    pub(crate) fn owned(alloc: Global) -> Self
+        ensures { result ≡ record { borrowed = false; bytes = [] } }
+    {
+        BinaryBuf {
+            fragments: FragmentBuf::owned(alloc),
+        }
+    }
+
     /// A binary that is borrowed. It takes no memory.
     ///
     /// ```

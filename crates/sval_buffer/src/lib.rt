@@ -22,6 +22,7 @@ mod listed;
 mod lowered;
 mod named;
 mod one_pass;
+mod owning;
 mod part;
 mod parts;
 mod recent;

@@ -31,7 +31,7 @@ impl<'f, 'sval, W: fmt::Write> Stream<Lent<'sval>> for Listed<'f, W> {
     }
 }
 
-impl<'sval, N: CallStore + 'sval> fmt::Debug for Parts<'sval, N> {
+impl<'sval, N: CallStore> fmt::Debug for Parts<'sval, N> {
     fn fmt<W: fmt::Write>(&self, f: &mut fmt::Formatter<W>) -> fmt::Result {
         let mut listed = Listed {
             list: f.debug_list(),

@@ -94,6 +94,15 @@ impl Begin {
     }
 }
 
+/// How a text or a binary keeps its fragments.
+#[derive(Clone, Copy)]
+pub(crate) enum Keeping {
+    /// By reference where one borrowed fragment is all of it, and else by a copy.
+    ByReference,
+    /// By a copy.
+    ByCopy,
+}
+
 /// What fragments are of.
 #[derive(Clone, Copy)]
 pub(crate) enum Medium {
@@ -111,12 +120,14 @@ impl Medium {
     }
 
     /// A part without fragments.
-    pub(crate) fn empty<'sval>(self, alloc: Global) -> PartKind<'sval>
-        ensures { result ≡ no_fragments_yet self }
+    pub(crate) fn empty<'sval>(self, keeping: Keeping, alloc: Global) -> PartKind<'sval>
+        ensures { result ≡ no_fragments_yet self keeping }
     {
-        match self {
-            Medium::Text => PartKind::Text(TextBuf::new(alloc)),
-            Medium::Binary => PartKind::Binary(BinaryBuf::new(alloc)),
+        match (self, keeping) {
+            (Medium::Text, Keeping::ByReference) => PartKind::Text(TextBuf::new(alloc)),
+            (Medium::Text, Keeping::ByCopy) => PartKind::Text(TextBuf::owned(alloc)),
+            (Medium::Binary, Keeping::ByReference) => PartKind::Binary(BinaryBuf::new(alloc)),
+            (Medium::Binary, Keeping::ByCopy) => PartKind::Binary(BinaryBuf::owned(alloc)),
         }
     }
 }

@@ -23,7 +23,7 @@ use crate::holder::Holder;
 use crate::kept_int::KeptInt;
 use crate::named::{CallStore, NamedKind};
 use crate::one_pass::replay_parts;
-use crate::part::{Begin, Medium, Part, PartKind, Single};
+use crate::part::{Begin, Keeping, Medium, Part, PartKind, Single};
 use crate::text_buf::TextBuf;
 use std::alloc::{AllocError, Global};
 use std::marker::Model;
@@ -31,7 +31,7 @@ use sval_core::{Call, Fragment, GroupedCall, Int, Lent, Name, Stream, Tag};
 
 /// The parts of a captured value. `forest_in` reads the forest that they are.
 #[derive(Drop)]
-pub(crate) struct Parts<'sval, N: CallStore + 'sval> {
+pub(crate) struct Parts<'sval, N: CallStore> {
     parts: Vec<Part<'sval>>,
     /// The calls with names that the parts speak of.
     named: N,
@@ -41,7 +41,7 @@ pub(crate) struct Parts<'sval, N: CallStore + 'sval> {
     in_fragments: bool,
 }
 
-impl<'sval, N: CallStore + 'sval> Model for Parts<'sval, N> {
+impl<'sval, N: CallStore> Model for Parts<'sval, N> {
     ghost use Rattle.std.specs.Prelude.{map};
     ghost use Rattle.sval_buffer.specs.FlatForest.{FlatForest};
 
@@ -56,7 +56,7 @@ impl<'sval, N: CallStore + 'sval> Model for Parts<'sval, N> {
     ghost invariant = { λ p. PartsTell (N.calls p.named) p.parts.items p.places.items p.in_fragments };
 }
 
-impl<'sval, N: CallStore + 'sval> Parts<'sval, N> {
+impl<'sval, N: CallStore> Parts<'sval, N> {
     /// No parts, which take no memory yet.
     pub(crate) fn new(alloc: Global) -> Self
         ensures { forest_in result ≡ empty_forest }
@@ -123,7 +123,7 @@ impl<'sval, N: CallStore + 'sval> Parts<'sval, N> {
     }
 
     /// Adds the call of no value.
-    fn null(&mut self) -> Result<(), ErrorKind>
+    pub(crate) fn null(&mut self) -> Result<(), ErrorKind>
         ensures { let node = forest.Single calls.Null in
             CapturesBy (λ _. true) (λ f. Becomes (add node f)) self.old result self.new }
     {
@@ -131,7 +131,7 @@ impl<'sval, N: CallStore + 'sval> Parts<'sval, N> {
     }
 
     /// Adds a truth value.
-    fn truth(&mut self, value: bool) -> Result<(), ErrorKind>
+    pub(crate) fn truth(&mut self, value: bool) -> Result<(), ErrorKind>
         ensures { let node = forest.Single (calls.Truth value) in
             CapturesBy (λ _. true) (λ f. Becomes (add node f)) self.old result self.new }
     {
@@ -139,7 +139,7 @@ impl<'sval, N: CallStore + 'sval> Parts<'sval, N> {
     }
 
     /// Adds a whole number.
-    fn int(&mut self, value: Int) -> Result<(), ErrorKind>
+    pub(crate) fn int(&mut self, value: Int) -> Result<(), ErrorKind>
         ensures { let node = forest.Single (int_call value) in
             CapturesBy (λ _. true) (λ f. Becomes (add node f)) self.old result self.new }
     {
@@ -147,7 +147,7 @@ impl<'sval, N: CallStore + 'sval> Parts<'sval, N> {
     }
 
     /// Adds a tag.
-    fn tag(&mut self, name: Name<'_>) -> Result<(), ErrorKind>
+    pub(crate) fn tag(&mut self, name: Name<'_>) -> Result<(), ErrorKind>
         ensures { let node = forest.Single (calls.Standalone (seen_name name.entry)) in
             CapturesBy (λ _. true) (λ f. Becomes (add node f)) self.old result self.new }
     {
@@ -155,7 +155,7 @@ impl<'sval, N: CallStore + 'sval> Parts<'sval, N> {
     }
 
     /// Adds a hint, but within a text or a binary.
-    fn hint(&mut self, tag: &Tag) -> Result<(), ErrorKind>
+    pub(crate) fn hint(&mut self, tag: &Tag) -> Result<(), ErrorKind>
         ensures { let node = forest.Single (calls.TagHint (seen_ref_tag tag.entry)) in
             CapturesBy (λ f. not f.in_fragments) (λ f. Becomes (if f.in_fragments then f else add node f))
             self.old result self.new }
@@ -195,12 +195,17 @@ impl<'sval, N: CallStore + 'sval> Parts<'sval, N> {
 
     /// Begins a text or a binary.
     #[inline(always)]
-    fn begin_fragments(&mut self, alloc: Global, medium: Medium) -> Result<(), ErrorKind>
-        ensures { let node = no_fragments medium in
+    pub(crate) fn begin_fragments(
+        &mut self,
+        alloc: Global,
+        medium: Medium,
+        keeping: Keeping,
+    ) -> Result<(), ErrorKind>
+        ensures { let node = no_fragments medium keeping in
             CapturesBy (λ _. true) (λ f. Becomes (with_flag true (add node f))) self.old result self.new }
     {
         let part = Part {
-            kind: medium.empty(alloc),
+            kind: medium.empty(keeping, alloc),
             holder: self.newest(),
         };
         if self.parts.push(part).is_err() {
@@ -213,14 +218,17 @@ impl<'sval, N: CallStore + 'sval> Parts<'sval, N> {
     }
 
     /// Ends a text or a binary.
-    fn end_fragments(&mut self)
+    pub(crate) fn end_fragments(&mut self)
         ensures { forest_in self.new ≡ with_flag false (forest_in self.old) }
     {
         self.in_fragments = false;
     }
 
     /// Pushes a fragment into the last part, if that is a text.
-    fn push_text(&mut self, fragment: Fragment<&'sval str, &str>) -> Result<(), ErrorKind>
+    pub(crate) fn push_text(
+        &mut self,
+        fragment: Fragment<&'sval str, &str>,
+    ) -> Result<(), ErrorKind>
         ensures { let pushed = fragment_bytes fragment.entry in
             CapturesBy (text_may_grow pushed.borrowed) (push_into_text pushed) self.old result self.new }
     {
@@ -231,7 +239,10 @@ impl<'sval, N: CallStore + 'sval> Parts<'sval, N> {
     }
 
     /// Pushes a fragment into the last part, if that is a binary.
-    fn push_binary(&mut self, fragment: Fragment<&'sval [u8], &[u8]>) -> Result<(), ErrorKind>
+    pub(crate) fn push_binary(
+        &mut self,
+        fragment: Fragment<&'sval [u8], &[u8]>,
+    ) -> Result<(), ErrorKind>
         ensures { let pushed = fragment_bytes fragment.entry in
             CapturesBy (binary_may_grow pushed.borrowed) (push_into_binary pushed) self.old result self.new }
     {
@@ -346,8 +357,14 @@ impl<'sval, N: CallStore + 'sval> Parts<'sval, N> {
             GroupedCall::Int(value) => self.int(value),
             GroupedCall::Tag(name) => self.tag(name),
             GroupedCall::TagHint(tag) => self.hint(tag),
-            GroupedCall::TextBegin(_) => self.begin_fragments(alloc, Medium::Text),
-            GroupedCall::BinaryBegin(_) => self.begin_fragments(alloc, Medium::Binary),
+            GroupedCall::TextBegin(_) => self.begin_fragments(
+                alloc,
+                Medium::Text,
+                Keeping::ByReference,
+            ),
+            GroupedCall::BinaryBegin(_) => {
+                self.begin_fragments(alloc, Medium::Binary, Keeping::ByReference)
+            }
             GroupedCall::TextFragment(fragment) => self.push_text(fragment),
             GroupedCall::BinaryFragment(fragment) => self.push_binary(fragment),
             GroupedCall::TextEnd | GroupedCall::BinaryEnd => {
@@ -366,7 +383,7 @@ impl<'sval, N: CallStore + 'sval> Parts<'sval, N> {
     }
 
     /// Ends the newest container without an end.
-    fn end(&mut self) -> Result<(), ErrorKind>
+    pub(crate) fn end(&mut self) -> Result<(), ErrorKind>
         ensures { CapturesBy (λ _. false) close_newest self.old result self.new }
     {
         match self.places.pop() {

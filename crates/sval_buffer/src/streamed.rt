@@ -36,7 +36,7 @@ pub fn stream_to_value<'sval, N: CallStore + 'sval, V: Value<'sval, Lent<'sval>>
 /// ```
 /// let buffer: ValueBuf<'_> = stream_to_value_owned(alloc, &point)?;
 /// ```
-pub fn stream_to_value_owned<'sval, 'o, N: CallStore + 'sval + 'o, V: Value<'sval, Lent<'sval>>>(
+pub fn stream_to_value_owned<'sval, 'o, N: CallStore, V: Value<'sval, Lent<'sval>>>(
     alloc: Global,
     v: &'sval V,
 ) -> Result<AnyValueBuf<'o, N>, Error>

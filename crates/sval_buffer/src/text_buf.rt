@@ -58,6 +58,15 @@ impl<'sval> TextBuf<'sval> {
         }
     }
 
+    /// An empty text that borrows nothing. It takes no memory yet.
+    pub(crate) fn owned(alloc: Global) -> Self
+        ensures { result ≡ record { borrowed = false; bytes = [] } }
+    {
+        TextBuf {
+            fragments: FragmentBuf::owned(alloc),
+        }
+    }
+
     /// A text that is borrowed. It takes no memory.
     ///
     /// ```

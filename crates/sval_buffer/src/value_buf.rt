@@ -4,10 +4,10 @@ ghost use Rattle.std.specs.Prelude.{◌≡◌, ◌≤◌, false, Some, map, IfOk
 ghost use Rattle.sval_label.specs.Made.{lent_call};
 ghost use Rattle.sval_core.specs.Trees.{Tree};
 ghost use Rattle.sval_core.specs.Spells.{Spells};
-ghost use Rattle.sval_core.specs.Law.{Answers, computed};
+ghost use Rattle.sval_core.specs.Law.{Answers, Emits, computed};
 ghost use Rattle.sval_buffer.specs.Forest as forest;
 ghost use Rattle.sval_buffer.specs.Capture.{Capture, IsNoAlloc, no_calls, wants_after, capture_law};
-ghost use Rattle.sval_buffer.specs.Owned.{owned};
+ghost use Rattle.sval_buffer.specs.Owned.{owned, owning_law};
 ghost use Rattle.sval_buffer.specs.FlatForest.{forest_in};
 ghost use Rattle.sval_core.specs.Values.{makes};
 ghost use Rattle.sval_buffer.specs.SeenBuffers.{capture_of, buffer_standing};
@@ -53,7 +53,7 @@ pub type ValueBuf<'sval> = AnyValueBuf<'sval, NamedCalls>;
 
 /// A captured value, for any store `N` of the calls with names. Most code says [`ValueBuf`].
 #[derive(Drop)]
-pub struct AnyValueBuf<'sval, N: CallStore + 'sval> {
+pub struct AnyValueBuf<'sval, N: CallStore> {
     parts: Parts<'sval, N>,
     /// Why the last refused call was refused.
     refusal: Option<ErrorKind>,
@@ -62,7 +62,7 @@ pub struct AnyValueBuf<'sval, N: CallStore + 'sval> {
     alloc: Global,
 }
 
-impl<'sval, N: CallStore + 'sval> AnyValueBuf<'sval, N> {
+impl<'sval, N: CallStore> AnyValueBuf<'sval, N> {
     /// A buffer that has taken no call, and takes no memory yet.
     pub fn new(alloc: Global) -> Self
         ensures { capture_of result ≡ no_calls 0 }
@@ -98,6 +98,8 @@ impl<'sval, N: CallStore + 'sval> AnyValueBuf<'sval, N> {
     /// stream.value(&buffer)?;
     /// ```
     pub fn collect<V: Value<'sval, Lent<'sval>>>(alloc: Global, v: &'sval V) -> Result<Self, Error>
+    where
+        N: 'sval,
         ensures ok { IfOk result (λ buffer. IsCaptured (V.emission v.now) (capture_of buffer)) }
         ensures err { IfErr result (λ why. IsCollectCause (V.emission v.now) why) }
         ensures keeps_the_tree { IfOk result (λ buffer. KeepsTree (V.emission v.now) (capture_of buffer).forest) }
@@ -116,6 +118,8 @@ impl<'sval, N: CallStore + 'sval> AnyValueBuf<'sval, N> {
         parts: usize,
         v: &'sval V,
     ) -> Result<Self, Error>
+    where
+        N: 'sval,
         ensures ok { IfOk result (λ buffer. IsCaptured (V.emission v.now) (capture_of buffer)) }
         ensures err { IfErr result (λ why. IsCollectCause (V.emission v.now) why) }
         ensures keeps_the_tree { IfOk result (λ buffer. KeepsTree (V.emission v.now) (capture_of buffer).forest) }
@@ -161,8 +165,6 @@ impl<'sval, N: CallStore + 'sval> AnyValueBuf<'sval, N> {
     /// ```
     #[tactic(auto, using(crate::proofs::OwnedForest::replay_computed))]
     pub fn into_owned<'o>(self) -> Result<AnyValueBuf<'o, N>, Refused<Self>>
-    where
-        N: 'o,
         ensures ok { let was = capture_of self.entry in
             IfOk result (λ buffer. capture_of buffer ≡ record was { forest = owned was.forest }) }
         ensures replay { let calls = forest.replayed (capture_of self.entry).forest in
@@ -191,8 +193,8 @@ impl<'sval, N: CallStore + 'sval> AnyValueBuf<'sval, N> {
 
     /// Captures a value by copies of its texts and binaries, so that the buffer borrows nothing and is for every lifetime.
     ///
-    /// It holds what [`collect`](AnyValueBuf::collect) and then [`into_owned`](AnyValueBuf::into_owned) hold, and answers
-    /// the errors of both.
+    /// It holds what [`collect`](AnyValueBuf::collect) and then [`into_owned`](AnyValueBuf::into_owned) hold, but copies
+    /// each fragment once, as it comes. It answers the errors of `collect`; each fragment may take memory.
     ///
     /// ```
     /// let event: ValueBuf<'_> = ValueBuf::collect_owned(alloc, &value)?;
@@ -202,21 +204,16 @@ impl<'sval, N: CallStore + 'sval> AnyValueBuf<'sval, N> {
         alloc: Global,
         v: &'sval V,
     ) -> Result<AnyValueBuf<'o, N>, Error>
-    where
-        N: 'o,
         ensures ok { IfOk result (λ buffer. IsCapturedOwned (V.emission v.now) (capture_of buffer)) }
         ensures err { IfErr result (λ why. IsOwnedCause (V.emission v.now) why) }
         ensures keeps_the_tree { IfOk result (λ buffer. KeepsTree (V.emission v.now) (capture_of buffer).forest) }
         ensures complete { let e = V.emission v.now in
             (tree : Tree) → e.refuses ≡ false → Spells e.calls tree → IsOkOrNoAlloc result }
     {
-        let collected: Result<AnyValueBuf<'sval, N>, Error> = AnyValueBuf::collect(alloc, v);
-        match collected {
-            Ok(buffer) => match buffer.into_owned() {
-                Ok(owned) => Ok(owned),
-                Err(refused) => Err(refused.error),
-            },
-            Err(error) => Err(error),
+        let mut owning: Owning<'o, N> = Owning::new(alloc);
+        match owning.take_all(v) {
+            Ok(()) => Ok(owning.buffer),
+            Err(_) => Err(owning.buffer.cause()),
         }
     }
 
@@ -267,7 +264,7 @@ impl<'sval, N: CallStore + 'sval> AnyValueBuf<'sval, N> {
     }
 }
 
-impl<'sval, N: CallStore + 'sval> Stream<Lent<'sval>> for AnyValueBuf<'sval, N> {
+impl<'sval, N: CallStore> Stream<Lent<'sval>> for AnyValueBuf<'sval, N> {
     ghost View = { Capture };
 
     ghost law = { capture_law };
@@ -288,7 +285,54 @@ impl<'sval, N: CallStore + 'sval> Stream<Lent<'sval>> for AnyValueBuf<'sval, N> 
     }
 }
 
-impl<'v, 'sval, N: CallStore + 'sval> Value<'v, Lent<'v>> for AnyValueBuf<'sval, N> {
+/// A buffer that keeps each fragment by a copy, so that it takes what is lent for any lifetime.
+#[derive(Drop)]
+struct Owning<'o, N: CallStore> {
+    buffer: AnyValueBuf<'o, N>,
+}
+
+impl<'o, N: CallStore> Owning<'o, N> {
+    /// A stream that has taken no call.
+    fn new(alloc: Global) -> Self
+        ensures { capture_of result.buffer ≡ no_calls 0 }
+    {
+        Owning {
+            buffer: AnyValueBuf::new(alloc),
+        }
+    }
+
+    /// Takes the calls of a value.
+    fn take_all<'v, V: Value<'v, Lent<'v>>>(&mut self, v: &'v V) -> sval_core::Result
+        ensures { let e = V.emission v.now in
+            Emits owning_law result (buffer_standing self.old.buffer) e (buffer_standing self.new.buffer) }
+    {
+        v.stream(self)
+    }
+}
+
+impl<'b, 'o, N: CallStore> Stream<Lent<'b>> for Owning<'o, N> {
+    ghost View = { Capture };
+
+    ghost law = { owning_law };
+
+    ghost standing = { λ owning. buffer_standing owning.buffer };
+
+    fn take(&mut self, call: Call<'b, '_>) -> sval_core::Result
+        ensures { let taken = lent_call call.entry in
+            Answers owning_law result (buffer_standing self.old.buffer) taken (buffer_standing self.new.buffer) }
+    {
+        let alloc = self.buffer.alloc;
+        match self.buffer.parts.capture_owned(alloc, call) {
+            Ok(()) => Ok(()),
+            Err(why) => {
+                self.buffer.keep(why);
+                Err(sval_core::Error::new())
+            }
+        }
+    }
+}
+
+impl<'v, 'sval, N: CallStore> Value<'v, Lent<'v>> for AnyValueBuf<'sval, N> {
     ghost emission = { λ buffer. makes (forest.replayed (capture_of buffer).forest) };
 
     fn stream<S: Stream<Lent<'v>>>(&'v self, stream: &mut S) -> sval_core::Result {
@@ -297,7 +341,7 @@ impl<'v, 'sval, N: CallStore + 'sval> Value<'v, Lent<'v>> for AnyValueBuf<'sval,
     }
 }
 
-impl<'sval, N: CallStore + 'sval> ValueRef<Lent<'sval>> for AnyValueBuf<'sval, N> {
+impl<'sval, N: CallStore> ValueRef<Lent<'sval>> for AnyValueBuf<'sval, N> {
     ghost ref_emission = { λ buffer. makes (forest.replayed (capture_of buffer).forest) };
 
     fn stream_ref<S: Stream<Lent<'sval>>>(&self, stream: &mut S) -> sval_core::Result {
@@ -306,7 +350,7 @@ impl<'sval, N: CallStore + 'sval> ValueRef<Lent<'sval>> for AnyValueBuf<'sval, N
 }
 
 /// Lists the calls that it makes.
-impl<'sval, N: CallStore + 'sval> fmt::Debug for AnyValueBuf<'sval, N> {
+impl<'sval, N: CallStore> fmt::Debug for AnyValueBuf<'sval, N> {
     fn fmt<W: fmt::Write>(&self, f: &mut fmt::Formatter<W>) -> fmt::Result {
         fmt::Debug::fmt(&self.parts, f)
     }

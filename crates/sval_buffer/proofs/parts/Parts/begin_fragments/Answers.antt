@@ -5,6 +5,7 @@ use Rattle.sval_buffer.specs.Flat.{flat_part, flat_node}
 use Rattle.sval_buffer.specs.Holders.{holders_node}
 use Rattle.sval_buffer.specs.SeenParts.{no_fragments, no_fragments_yet, flat_kind, holds_of, IsKept}
 use Rattle.sval_buffer.specs.declared.part.Part.{Part}
+use Rattle.sval_buffer.specs.declared.part.Keeping.{Keeping}
 use Rattle.sval_buffer.specs.declared.part.Medium.{Medium}
 use Rattle.sval_buffer.specs.declared.part.Medium.TheVariants as medium
 use Rattle.sval_buffer.specs.FlatForest.{forest_in}
@@ -12,25 +13,25 @@ use Rattle.sval_buffer.proofs.Steps.{was_pushed}
 use Rattle.sval_buffer.proofs.KeptParts.{Holds, holds_it, newest_again, holds_added, holds_flagged, tell}
 use Rattle.sval_buffer.proofs.parts.Parts.begin_fragments.Goals as goal
 
-one : (calls : List Call) (m : Medium) → flat_node (no_fragments m) ≡ flat_part (flat_kind calls (no_fragments_yet m)) (holds_of (no_fragments_yet m)) ∷ []
-one calls medium.Text = refl
-one calls medium.Binary = refl
+one : (calls : List Call) (m : Medium) (k : Keeping) → flat_node (no_fragments m k) ≡ flat_part (flat_kind calls (no_fragments_yet m k)) (holds_of (no_fragments_yet m k)) ∷ []
+one calls medium.Text k = refl
+one calls medium.Binary k = refl
 
-own : (m : Medium) (place : ℕ) (o : _) → holders_node place o (no_fragments m) ≡ o ∷ []
-own medium.Text place o = refl
-own medium.Binary place o = refl
+own : (m : Medium) (k : Keeping) (place : ℕ) (o : _) → holders_node place o (no_fragments m k) ≡ o ∷ []
+own medium.Text k place o = refl
+own medium.Binary k place o = refl
 
-kept : (n : ℕ) (m : Medium) → IsKept n (no_fragments_yet m)
-kept n medium.Text = tt
-kept n medium.Binary = tt
+kept : (n : ℕ) (m : Medium) (k : Keeping) → IsKept n (no_fragments_yet m k)
+kept n medium.Text k = tt
+kept n medium.Binary k = tt
 
 pub invariant_of-self-2 : goal.invariant_of-self-2
 invariant_of-self-2 g c =
     let h : Holds (g.N.CallStore.calls c.self.inside.named) c.self.inside.parts.items c.self.inside.places.items c.self.inside.in_fragments (forest_in c.args.self.now) = holds_it _ c.self.invariant (ap forest_in c.self.view_is) in
     let calls = g.N.CallStore.calls c.self.inside.named in
     let e = was_pushed c.push.result _ _ c.push.ensures.items c.if-is_err.ensures.negation in
-    let p : Part = record { kind = no_fragments_yet c.args.medium; holder = c.newest.result } in
-    let now = holds_flagged (holds_added h p (no_fragments c.args.medium) (one calls c.args.medium) (own c.args.medium) (newest_again c.newest.ensures c.self.view_is) (kept (length calls) c.args.medium)) true in
+    let p : Part = record { kind = no_fragments_yet c.args.medium c.args.keeping; holder = c.newest.result } in
+    let now = holds_flagged (holds_added h p (no_fragments c.args.medium c.args.keeping) (one calls c.args.medium c.args.keeping) (own c.args.medium c.args.keeping) (newest_again c.newest.ensures c.self.view_is) (kept (length calls) c.args.medium c.args.keeping)) true in
     rw (e, c.empty.ensures) (tell now)
 
 pub returns : goal.returns
@@ -38,6 +39,6 @@ returns g c =
     let h : Holds (g.N.CallStore.calls c.self.inside.named) c.self.inside.parts.items c.self.inside.places.items c.self.inside.in_fragments (forest_in c.args.self.now) = holds_it _ c.self.invariant (ap forest_in c.self.view_is) in
     let calls = g.N.CallStore.calls c.self.inside.named in
     let e = was_pushed c.push.result _ _ c.push.ensures.items c.if-is_err.ensures.negation in
-    let p : Part = record { kind = no_fragments_yet c.args.medium; holder = c.newest.result } in
-    let now = holds_flagged (holds_added h p (no_fragments c.args.medium) (one calls c.args.medium) (own c.args.medium) (newest_again c.newest.ensures c.self.view_is) (kept (length calls) c.args.medium)) true in
+    let p : Part = record { kind = no_fragments_yet c.args.medium c.args.keeping; holder = c.newest.result } in
+    let now = holds_flagged (holds_added h p (no_fragments c.args.medium c.args.keeping) (one calls c.args.medium c.args.keeping) (own c.args.medium c.args.keeping) (newest_again c.newest.ensures c.self.view_is) (kept (length calls) c.args.medium c.args.keeping)) true in
     ap Becomes (sym (rw (e, c.empty.ensures) now.is.view))
