@@ -5,8 +5,9 @@ ghost use Rattle.sval_label.specs.Calls.{TextBegin, TextFragment, TextEnd, Begin
 ghost use Rattle.sval_label.specs.Made.{lent_call};
 ghost use Rattle.sval_core.specs.Law.{Answers};
 ghost use Rattle.sval_core.specs.Lenient.{lenient, with_wants};
-ghost use Rattle.sval_core.specs.Values.{makes, fails_after};
+ghost use Rattle.sval_core.specs.Values.{makes};
 
+use crate::calls::Refusing;
 use std::alloc::Global;
 use sval_check::{CheckError, Checked, Why, check};
 use sval_core::{AnyCall, Call, Index, Label, Lent, Name, Result, Stream, Value, refusal, tags};
@@ -35,17 +36,6 @@ impl<'v> Value<'v, Lent<'v>> for Open {
 
     fn stream<S: Stream<Lent<'v>>>(&'v self, stream: &mut S) -> Result {
         stream.seq_begin(None)
-    }
-}
-
-/// A refusal, and no call.
-struct Refusing {}
-
-impl<'v> Value<'v, Lent<'v>> for Refusing {
-    ghost emission = { λ _. fails_after [] };
-
-    fn stream<S: Stream<Lent<'v>>>(&'v self, _stream: &mut S) -> Result {
-        refusal()
     }
 }
 
