@@ -17,7 +17,7 @@ returns-in-Err c =
     let some : 0 < length (escaped text) = escaped_some text (sym c.is_empty.ensures ∙ c.if-is_empty.false) in
     let has : HasText (adds before (escaped text) due.Text) = omega (arith, length-append before (escaped text), some) in
     let same : step_at (text_call {T = Bor (List ℕ)} (λ text. text.now) c.args.part) due.Text before ≡ adds before (escaped text) due.Text =
-        elim c.match-part.branch [ in-Borrowed w ↦ search rules | in-Borrowed-2 w ↦ search rules ] in
+    elim c.match-part.branch [ in-Borrowed w ↦ search rules | in-Borrowed-2 w ↦ search rules ] in
     subst (λ (step : Step). Does step c.refuse.result c.args.self.now c.refuse.new.self) (sym same)
     (stops_writing (adds before (escaped text) due.Text) c.in-Err.field-0 (escaped c.as_bytes.result.now) c.self.inside.text c.write_escaped.new.sink
     c.args.self.now c.refuse.new.self c.refuse.result (record {}) c.in-Err.ensures has
