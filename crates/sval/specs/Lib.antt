@@ -1,3 +1,5 @@
 pub mod Seen
 pub mod Rendered
 pub mod Shown
+pub mod Emissions
+pub mod Laws

@@ -2,20 +2,11 @@
 use Rattle.std.specs.Prelude.{◌≡◌, ℕ, List, [], ◌∷◌, ◌++◌, Bool, true, false, ⊤, Option, None, Result, Ok, Err, IfSome}
 use Rattle.sval_label.specs.Calls.{Call}
 use Rattle.sval_core.specs.Law.{Standing, Law, Streams, Stops}
-use Rattle.sval_core.specs.Names.{number_tag, constant_size_tag, tag_alone}
+use Rattle.sval_core.specs.Names.{number_tag, tag_alone}
 use Rattle.sval_core.specs.Values.{makes}
-use Rattle.sval_core.specs.ValueCalls.{binary_calls}
 use Rattle.sval_label.specs.declared.error.Error.{Error}
 use Rattle.sval.specs.declared.shown.DisplayError.{DisplayError}
 use Rattle.sval.specs.declared.shown.DisplayError.TheVariants.{Format, Refused, NoMemory}
-
--- calls between a begin and an end that say a tag
-abbrev pub tagged_calls : List ℕ → List Call → List Call
-tagged_calls tag calls = Call.TaggedBegin (tag_alone tag) ∷ (calls ++ Call.TaggedEnd (tag_alone tag) ∷ [])
-
--- a binary of a size that its type fixes
-abbrev pub constant_size_calls : List ℕ → List Call
-constant_size_calls bytes = tagged_calls constant_size_tag (binary_calls bytes)
 
 -- a part of a text
 abbrev pub fragment_calls : List ℕ → List Call
@@ -27,7 +18,7 @@ shown_calls text = Call.TextBegin None ∷ Call.TextFragment false text ∷ Call
 
 -- a text that is a number
 abbrev pub number_calls : List ℕ → List Call
-number_calls text = tagged_calls number_tag (shown_calls text)
+number_calls text = Call.TaggedBegin (tag_alone number_tag) ∷ (shown_calls text ++ Call.TaggedEnd (tag_alone number_tag) ∷ [])
 
 -- the text is what the value prints, where that is told
 abbrev pub IsPrinted : Option (List ℕ) → List ℕ → Type 0

@@ -1,4 +1,5 @@
 //! Arrays of bytes as binaries.
+#![tactic(auto, unfolding(sval_core::specs::Law::emits, sval_core::specs::Law::then_emits))]
 
 use std::fmt;
 use sval_core::{Lent, Result, Stream, Tag, Value, tags};
@@ -56,11 +57,9 @@ fn constant_size() -> &'static Tag
 }
 
 impl<'v, 'a, const N: usize> Value<'v, Lent<'v>> for BinaryArray<'a, N> {
-    ghost use Rattle.sval_core.specs.Values.{makes};
-    ghost use Rattle.sval.specs.Seen.{array_bytes};
-    ghost use Rattle.sval.specs.Shown.{constant_size_calls};
+    ghost use Rattle.sval.specs.Emissions.{array_emission};
 
-    ghost emission = { λ binary. makes (constant_size_calls (array_bytes binary)) };
+    ghost emission = { array_emission };
 
     fn stream<S: Stream<Lent<'v>>>(&'v self, stream: &mut S) -> Result {
         stream.tagged_begin(Some(constant_size()), None, None)?;

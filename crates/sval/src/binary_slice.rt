@@ -1,4 +1,5 @@
 //! Bytes as binaries.
+#![tactic(auto, unfolding(sval_core::specs::Law::emits, sval_core::specs::Law::then_emits))]
 
 ghost use Rattle.std.specs.Prelude.{◌≡◌};
 ghost use Rattle.sval.specs.Seen.{slice_bytes};
@@ -34,11 +35,9 @@ impl<'a> BinarySlice<'a> {
 }
 
 impl<'v, 'a> Value<'v, Lent<'v>> for BinarySlice<'a> {
-    ghost use Rattle.sval_core.specs.Values.{makes};
-    ghost use Rattle.sval_core.specs.ValueCalls.{binary_calls};
-    ghost use Rattle.sval.specs.Seen.{slice_bytes};
+    ghost use Rattle.sval.specs.Emissions.{slice_emission};
 
-    ghost emission = { λ binary. makes (binary_calls (slice_bytes binary)) };
+    ghost emission = { slice_emission };
 
     fn stream<S: Stream<Lent<'v>>>(&'v self, stream: &mut S) -> Result {
         stream.binary_begin(Some(self.binary.len()))?;

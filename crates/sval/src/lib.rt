@@ -7,6 +7,7 @@
 
 mod binary_array;
 mod binary_slice;
+pub mod laws;
 mod map_slice;
 mod prints;
 mod render;

@@ -98,11 +98,9 @@ impl<'a, V: Render> Display<&'a V> {
 }
 
 impl<'v, V> Value<'v, Lent<'v>> for Display<V> {
-    ghost use Rattle.sval_core.specs.Values.{makes};
-    ghost use Rattle.sval.specs.Seen.{shown_text};
-    ghost use Rattle.sval.specs.Shown.{shown_calls};
+    ghost use Rattle.sval.specs.Emissions.{display_emission};
 
-    ghost emission = { λ shown. makes (shown_calls (shown_text shown)) };
+    ghost emission = { display_emission };
 
     fn stream<S: Stream<Lent<'v>>>(&'v self, stream: &mut S) -> sval_core::Result {
         stream.text_begin(None)?;

@@ -1,0 +1,12 @@
+//! The laws of this crate's values, each as a clause that is proved.
+
+ghost use Rattle.sval.specs.Laws.{BinarySlicesTell, BinaryArraysTell, DisplaysTell, ShownTextsTell, ShownNumbersTell};
+
+/// Which trees the values of this crate spell, and the texts that it prints.
+pub fn tree_laws<V>()
+    ensures binary_slices_tell { BinarySlicesTell }
+    ensures binary_arrays_tell { BinaryArraysTell }
+    ensures displays_tell { DisplaysTell V }
+    ensures shown_texts_tell { ShownTextsTell }
+    ensures shown_numbers_tell { ShownNumbersTell }
+{}
