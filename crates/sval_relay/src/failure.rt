@@ -111,14 +111,14 @@ impl Failure {
         ensures { WritesAll result (D.told diag.old) (report_of many self.now) (D.told diag.new) }
     {
         match self {
-            Failure::Usage => write_all(
+            Failure::Usage => write_text(
                 diag,
                 b"usage: sval_relay direct [beside] [lines]|buffered [beside] [lines]|calls [lines]|made N\n",
             ),
-            Failure::Input(ReadError::Fault) => write_all(diag, b"read fault\n"),
-            Failure::Input(ReadError::NoMemory) => write_all(diag, b"out of memory\n"),
+            Failure::Input(ReadError::Fault) => write_text(diag, b"read fault\n"),
+            Failure::Input(ReadError::NoMemory) => write_text(diag, b"out of memory\n"),
             Failure::Input(ReadError::TooLong) => {
-                write_all(diag, b"the input is longer than 16777216 bytes\n")
+                write_text(diag, b"the input is longer than 16777216 bytes\n")
             }
             Failure::Relay(RelayError::BadLine { line }) => write_at(
                 diag,
@@ -130,15 +130,22 @@ impl Failure {
             }
             Failure::Relay(RelayError::Unfinished) => write_unfinished(diag, many),
             Failure::Relay(RelayError::InvalidKey) => {
-                write_all(diag, b"attempt to serialize a non-string key\n")
+                write_text(diag, b"attempt to serialize a non-string key\n")
             }
             Failure::Relay(RelayError::InvalidNumber) => {
-                write_all(diag, b"attempt to serialize an invalid number\n")
+                write_text(diag, b"attempt to serialize an invalid number\n")
             }
-            Failure::Relay(RelayError::Write) => write_all(diag, b"write fault\n"),
-            Failure::Relay(RelayError::NoMemory) => write_all(diag, b"out of memory\n"),
+            Failure::Relay(RelayError::Write) => write_text(diag, b"write fault\n"),
+            Failure::Relay(RelayError::NoMemory) => write_text(diag, b"out of memory\n"),
         }
     }
+}
+
+/// Writes a line that stands here.
+fn write_text<D: Sink>(diag: &mut D, line: &[u8]) -> Result<(), SinkError>
+    ensures { WritesAll result (D.told diag.old) line.now (D.told diag.new) }
+{
+    write_all(diag, line)
 }
 
 /// Writes what is wrong at a line.

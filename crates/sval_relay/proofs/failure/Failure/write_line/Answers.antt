@@ -22,9 +22,9 @@ returns-in-Relay-Unfinished g c =
 pub returns-in-Relay-Write : goal.returns-in-Relay-Write
 returns-in-Relay-Write g c =
     let why = rw c.in-Relay-Write.is at c.in-Relay-Write.field-0-is in
-    subst (λ failure. WritesAll c.write_all-in-Relay-Write.result (g.D.Sink.told c.args.diag.now) (report_of c.args.many failure) (g.D.Sink.told c.write_all-in-Relay-Write.new.sink)) (sym (c.in-Relay-Write.is ∙ ap Relay why)) c.write_all-in-Relay-Write.ensures
+    subst (λ failure. WritesAll c.write_text-in-Relay-Write.result (g.D.Sink.told c.args.diag.now) (report_of c.args.many failure) (g.D.Sink.told c.write_text-in-Relay-Write.new.diag)) (sym (c.in-Relay-Write.is ∙ ap Relay why)) c.write_text-in-Relay-Write.ensures
 
 pub returns-in-Relay-NoMemory : goal.returns-in-Relay-NoMemory
 returns-in-Relay-NoMemory g c =
     let why = rw c.in-Relay-NoMemory.is at c.in-Relay-NoMemory.field-0-is in
-    subst (λ failure. WritesAll c.write_all-in-Relay-NoMemory.result (g.D.Sink.told c.args.diag.now) (report_of c.args.many failure) (g.D.Sink.told c.write_all-in-Relay-NoMemory.new.sink)) (sym (c.in-Relay-NoMemory.is ∙ ap Relay why)) c.write_all-in-Relay-NoMemory.ensures
+    subst (λ failure. WritesAll c.write_text-in-Relay-NoMemory.result (g.D.Sink.told c.args.diag.now) (report_of c.args.many failure) (g.D.Sink.told c.write_text-in-Relay-NoMemory.new.diag)) (sym (c.in-Relay-NoMemory.is ∙ ap Relay why)) c.write_text-in-Relay-NoMemory.ensures
