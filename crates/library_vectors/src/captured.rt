@@ -71,7 +71,7 @@ fn makes_an_empty_map_again(rt: HostRuntime) -> Result<(), Fail> {
     let map = MapSlice::new(&no_pairs);
     let captured: ValueBuf<'_> = ValueBuf::collect(alloc, &map)?;
     let mut tokens = TokenBuf::new(alloc);
-    tokens.value(&captured)?;
+    stream_ref(&mut tokens, &captured)?;
     let expected = [Token::MapBegin(Some(0)), Token::MapEnd];
     assert!(rt; tokens.matches(&expected));
     Ok(())
