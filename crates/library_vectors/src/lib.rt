@@ -1,25 +1,11 @@
 //! Tests of the library as a user calls it: what labels keep, what adapters and lowerings make, what readers answer,
-//! what checking says, what tokens keep, what buffers capture and make again, and what is written as JSON.
+//! where values of a list end, what tokens keep, and what is captured and made again.
 #![tactic(auto)]
 
 #[cfg(test)]
 mod adapters;
 #[cfg(test)]
-mod buffered;
-#[cfg(test)]
-mod calls;
-#[cfg(test)]
 mod captured;
-#[cfg(test)]
-mod checked;
-#[cfg(test)]
-mod collected;
-#[cfg(test)]
-mod fragments;
-#[cfg(test)]
-mod json;
-#[cfg(test)]
-mod json_calls;
 #[cfg(test)]
 mod labels;
 #[cfg(test)]
@@ -27,15 +13,11 @@ mod lists;
 #[cfg(test)]
 mod lowered;
 #[cfg(test)]
-mod names;
-#[cfg(test)]
 mod owned;
 #[cfg(test)]
 mod read;
 #[cfg(test)]
 mod rendered;
-#[cfg(test)]
-mod replayed;
 #[cfg(test)]
 mod tokens;
 #[cfg(test)]

@@ -1,6 +1,6 @@
 //! The JSON that is written for each kind of call.
 
-use crate::calls::buffer_of;
+use crate::values::buffer_of;
 use std::alloc::Global;
 use std::test::Fail;
 use sval_core::{Call, Index, Label, Name, Tag, tags};

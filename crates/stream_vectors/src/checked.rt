@@ -7,7 +7,7 @@ ghost use Rattle.sval_core.specs.Law.{Answers};
 ghost use Rattle.sval_core.specs.Lenient.{lenient, with_wants};
 ghost use Rattle.sval_core.specs.Values.{makes};
 
-use crate::calls::Refusing;
+use crate::values::Refusing;
 use std::alloc::Global;
 use sval_check::{CheckError, Checked, Why, check};
 use sval_core::{AnyCall, Call, Index, Label, Lent, Name, Result, Stream, Value, refusal, tags};

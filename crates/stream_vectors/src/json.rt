@@ -1,6 +1,6 @@
 //! JSON that is written as it is, what takes JSON, and why none is written.
 
-use crate::calls::{Refusing, buffer_of};
+use crate::values::{Refusing, buffer_of};
 use std::alloc::{AllocError, Global};
 use std::test::Fail;
 use sval_core::{Call, Lent, Name, Result as Answer, Stream, Value, tags};
