@@ -3,7 +3,6 @@ use Rattle.std.specs.Prelude.{◌≡◌, ℕ, ◌+◌, ◌<◌, ◌≤◌, lengt
 use Rattle.std.proofs.Common.{ap, ◌∙◌, sym, subst, append-nil, append_assoc}
 use Rattle.std.proofs.lemmas.List.{take_more, take-append-drop, take_all}
 use Rattle.std.proofs.lemmas.Grind.{flat_map-append}
-use Rattle.sval_label.specs.Calls.{Call}
 use Rattle.sval_core.specs.Law.{Standing, Law, then_emits, Streams, Stops}
 use Rattle.sval_core.specs.Values.{makes}
 use Rattle.sval_core.proofs.Emissions.{streams_then, stops_first, stops_later, passes_on}

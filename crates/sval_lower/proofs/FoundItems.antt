@@ -4,9 +4,9 @@ use Rattle.std.specs.List.{list_all, cons_option}
 use Rattle.std.specs.Option.{option_or}
 use Rattle.std.proofs.Common.{◌∙◌, sym, arith, inl, inr}
 use Rattle.sval_label.specs.Calls.{Tag, Call}
-use Rattle.sval_core.specs.Law.{Law, Ran, Streams, HasCause, StoppedIn, Stops}
+use Rattle.sval_core.specs.Law.{Law, Ran, HasCause, StoppedIn}
 use Rattle.sval_lower.specs.Readers.{last_of, only_of, found, says_no_tag, tag_of}
-use Rattle.sval_lower.specs.Reading.{holding, last_law, may_go_on, only_law, tag_law}
+use Rattle.sval_lower.specs.Reading.{holding, may_go_on, item_of, item_law, tag_law}
 use Rattle.sval_lower.specs.ReaderLaws.{IsFound, TagIsHeld}
 
 -- a reader counts nothing, so it refused a call only because it doesn't take it
@@ -31,6 +31,11 @@ module _ {T : Type 0} (read : Call → Option T) (over : Call → Bool) where
   abbrev fits : Call → Bool
   fits call = is_some (read call) || over call
 
+  -- where more than one item may be read, each call that fits goes on
+  fits_alone : (held item : Option T) (over : Bool) → may_go_on false held item over ≡ (is_some item || over)
+  fits_alone held (Some x) over = refl
+  fits_alone held None over = refl
+
   any_other : (held other : Option T) (x : T) (items : List T) → option_or (last_of (x ∷ items)) held ≡ option_or (last_of (x ∷ items)) other
   any_other held other x [] = refl
   any_other held other x (y ∷ items) = any_other held other y items
@@ -44,28 +49,30 @@ module _ {T : Type 0} (read : Call → Option T) (over : Call → Bool) where
   last_more held (Some x) [] = refl
   last_more held (Some x) (y ∷ items) = any_other (Some x) held y items
 
-  last_ran : (calls : List Call) (held last : Option T) → Ran (last_law read over) held calls last
+  last_ran : (calls : List Call) (held last : Option T) → Ran (item_law false read over) held calls last
       → (list_all fits calls ≡ true) × (last ≡ last_from held (filter_map read calls))
   last_ran [] held last e = (refl, e)
   last_ran (call ∷ calls) held last r =
       let rest = last_ran calls (option_or (read call) held) last r.1 in
-      let here = r.0 in
+      let here = sym (fits_alone held (read call) (over call)) ∙ r.0 in
       (rw here rest.0, rest.1 ∙ last_more held (read call) (filter_map read calls))
 
-  last_stopped : (calls : List Call) (held old new : Option T) (refuses : Bool) → StoppedIn (last_law read over) (holding old) (holding new) held calls refuses
+  last_stopped : (calls : List Call) (held old new : Option T) (refuses : Bool) → StoppedIn (item_law false read over) (holding old) (holding new) held calls refuses
       → (not refuses && list_all fits calls) ≡ false
   last_stopped [] held old new refuses p = let h = p.0 in rw h refl
   last_stopped (call ∷ calls) held old new refuses (inl p) =
-      unfit_here refuses (fits call) (list_all fits calls) (not_true (fits call) (not_accepted (last_law read over) held call old new p.0))
+      unfit_here refuses (fits call) (list_all fits calls)
+      (sym (fits_alone held (read call) (over call))
+      ∙ not_true (may_go_on false held (read call) (over call)) (not_accepted (item_law false read over) held call old new p.0))
   last_stopped (call ∷ calls) held old new refuses (inr p) =
-      unfit_later refuses (fits call) (list_all fits calls) p.0 (last_stopped calls (option_or (read call) held) old new refuses p.1)
+      unfit_later refuses (fits call) (list_all fits calls) (sym (fits_alone held (read call) (over call)) ∙ p.0) (last_stopped calls (option_or (read call) held) old new refuses p.1)
 
   last_or_none : (items : List T) → last_from None items ≡ last_of items
   last_or_none [] = refl
   last_or_none (x ∷ []) = refl
   last_or_none (x ∷ y ∷ items) = last_or_none (y ∷ items)
 
-  pub last_is_found : IsFound (last_law read over) (found last_of read over)
+  pub last_is_found : IsFound (item_law false read over) (found last_of read over)
   last_is_found = record {
     on_ok = λ e held s.
         let r = last_ran e.calls None held s.ran in
@@ -80,7 +87,7 @@ module _ {T : Type 0} (read : Call → Option T) (over : Call → Bool) where
   abbrev only_from : Option T → Bool → List Call → Option T
   only_from held refuses calls = if not refuses && list_all fits calls then only_of (cons_option held (filter_map read calls)) else None
 
-  goes_on : (held item : Option T) (over fit refuses : Bool) (items : List T) → may_go_on held item over ≡ true
+  goes_on : (held item : Option T) (over fit refuses : Bool) (items : List T) → may_go_on true held item over ≡ true
       → (if not refuses && ((is_some item || over) && fit) then only_of (cons_option held (cons_option item items)) else None)
       ≡ (if not refuses && fit then only_of (cons_option (option_or item held) items) else None)
   goes_on held None over fit refuses items e = rw e refl
@@ -91,7 +98,7 @@ module _ {T : Type 0} (read : Call → Option T) (over : Call → Bool) where
   none_by true o e = e
   none_by false o e = refl
 
-  ends_here : (held item : Option T) (over fit refuses : Bool) (items : List T) → may_go_on held item over ≡ false
+  ends_here : (held item : Option T) (over fit refuses : Bool) (items : List T) → may_go_on true held item over ≡ false
       → (if not refuses && ((is_some item || over) && fit) then only_of (cons_option held (cons_option item items)) else None) ≡ None
   ends_here held None over fit true items e = refl
   ends_here held None over fit false items e = rw e refl
@@ -102,26 +109,30 @@ module _ {T : Type 0} (read : Call → Option T) (over : Call → Bool) where
   only_held None = refl
   only_held (Some x) = refl
 
-  only_ran : (calls : List Call) (held last : Option T) → Ran (only_law read over) held calls last → last ≡ only_from held false calls
+  only_ran : (calls : List Call) (held last : Option T) → Ran (item_law true read over) held calls last → last ≡ only_from held false calls
   only_ran [] held last e = e ∙ only_held held
   only_ran (call ∷ calls) held last r =
       only_ran calls (option_or (read call) held) last r.1 ∙ sym (goes_on held (read call) (over call) (list_all fits calls) false (filter_map read calls) r.0)
 
-  only_stopped : (calls : List Call) (held old new : Option T) (refuses : Bool) → StoppedIn (only_law read over) (holding old) (holding new) held calls refuses
+  only_stopped : (calls : List Call) (held old new : Option T) (refuses : Bool) → StoppedIn (item_law true read over) (holding old) (holding new) held calls refuses
       → only_from held refuses calls ≡ None
   only_stopped [] held old new refuses p = let h = p.0 in rw h refl
   only_stopped (call ∷ calls) held old new refuses (inl p) =
       ends_here held (read call) (over call) (list_all fits calls) refuses (filter_map read calls)
-      (not_true (may_go_on held (read call) (over call)) (not_accepted (only_law read over) held call old new p.0))
+      (not_true (may_go_on true held (read call) (over call)) (not_accepted (item_law true read over) held call old new p.0))
   only_stopped (call ∷ calls) held old new refuses (inr p) =
       goes_on held (read call) (over call) (list_all fits calls) refuses (filter_map read calls) p.0
       ∙ only_stopped calls (option_or (read call) held) old new refuses p.1
 
-  pub only_is_found : IsFound (only_law read over) (found only_of read over)
+  pub only_is_found : IsFound (item_law true read over) (found only_of read over)
   only_is_found = record {
     on_ok = λ e held s. let r = only_ran e.calls None held s.ran in let w = s.willing in rw w r;
     on_err = λ e held s. sym (only_stopped e.calls None None held e.refuses s.stopped);
   }
+
+pub item_is_found : {T : Type 0} (once : Bool) (read : Call → Option T) (over : Call → Bool) → IsFound (item_law once read over) (found (item_of once) read over)
+item_is_found true read over = only_is_found read over
+item_is_found false read over = last_is_found read over
 
 -- ---- the tag
 

@@ -1,5 +1,5 @@
 -- How a number of 128 bits is streamed: as one of 64 bits where it fits, and else as a text.
-use Rattle.std.specs.Prelude.{◌≡◌, ℤ, Bool, true, false, List, [], ◌∷◌, Option, Some, None, if◌then◌else◌, refl, Result, Ok, Err}
+use Rattle.std.specs.Prelude.{◌≡◌, ℤ, Bool, true, false, List, [], ◌∷◌, Some, None, if◌then◌else◌, refl, Result, Ok, Err}
 use Rattle.std.specs.Fmt.{signed_decimal}
 use Rattle.sval_label.specs.declared.error.Error.{Error}
 use Rattle.sval_label.specs.Calls.{IntType, Call}

@@ -1,9 +1,9 @@
 -- The laws of readers, as facts.
-use Rattle.std.specs.Prelude.{◌≡◌, Bool, Option, None}
+use Rattle.std.specs.Prelude.{◌≡◌, Bool, true, false, Option, None}
 use Rattle.sval_label.specs.Calls.{Tag, Call}
 use Rattle.sval_core.specs.Law.{Law, Emission, Streams, Stops}
 use Rattle.sval_lower.specs.Readers.{last_of, only_of, found, tag}
-use Rattle.sval_lower.specs.Reading.{holding, last_law, only_law, tag_law}
+use Rattle.sval_lower.specs.Reading.{holding, item_law, tag_law}
 
 -- where the stream took all calls it holds what the reader finds, and where it was stopped the reader finds nothing
 pub record IsFound {T : Type 0} (law : Law (Option T)) (reader : Emission → Option T) : Type 0 where
@@ -12,11 +12,11 @@ pub record IsFound {T : Type 0} (law : Law (Option T)) (reader : Emission → Op
 
 -- for the stream that holds the last item
 abbrev pub LastIsFound : Type 0 → Type 0
-LastIsFound T = (read : Call → Option T) (over : Call → Bool) → IsFound (last_law read over) (found last_of read over)
+LastIsFound T = (read : Call → Option T) (over : Call → Bool) → IsFound (item_law false read over) (found last_of read over)
 
 -- for the stream that holds the only one
 abbrev pub OnlyIsFound : Type 0 → Type 0
-OnlyIsFound T = (read : Call → Option T) (over : Call → Bool) → IsFound (only_law read over) (found only_of read over)
+OnlyIsFound T = (read : Call → Option T) (over : Call → Bool) → IsFound (item_law true read over) (found only_of read over)
 
 -- the stream for tags holds the tag, whether it took all calls or was stopped
 abbrev pub TagIsHeld : Type 0

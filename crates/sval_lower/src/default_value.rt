@@ -10,9 +10,7 @@
 ghost use Rattle.std.specs.Prelude.{◌≡◌, option_map, pos};
 ghost use Rattle.sval_lower.specs.Readers as read;
 
-use crate::reading::{
-    FirstTag, GivenTag, OfBinary, OfSigned, OfText, OfTruth, OfUnsigned, last, only,
-};
+use crate::reading::{FirstTag, GivenTag, OfBinary, OfSigned, OfText, OfTruth, OfUnsigned, item};
 use sval_core::{Lent, Value};
 
 /// The tag of a value: that which its first call gives, after hints, ends of tagged values and enums, and empty
@@ -34,7 +32,7 @@ pub fn tag<'v, T: GivenTag, V: Value<'v, Lent<'v>>>(value: &'v V) -> Option<T>
 pub fn to_bool<'v, V: Value<'v, Lent<'v>>>(value: &'v V) -> Option<bool>
     ensures { result ≡ read.to_bool (V.emission value.now) }
 {
-    last::<Lent, bool, OfTruth, V>(value)
+    item::<Lent, bool, OfTruth, V>(value)
 }
 
 /// The last `i8`, where the value doesn't refuse and each call is an `i8` or passed over; and else what [`to_i128`]
@@ -42,7 +40,7 @@ pub fn to_bool<'v, V: Value<'v, Lent<'v>>>(value: &'v V) -> Option<bool>
 pub fn to_i8<'v, V: Value<'v, Lent<'v>>>(value: &'v V) -> Option<i8>
     ensures { result ≡ read.to_i8 (V.emission value.now) }
 {
-    match last::<Lent, i8, OfSigned, V>(value) {
+    match item::<Lent, i8, OfSigned, V>(value) {
         Some(number) => Some(number),
         None => i8::try_from(to_i128(value)?).ok(),
     }
@@ -53,7 +51,7 @@ pub fn to_i8<'v, V: Value<'v, Lent<'v>>>(value: &'v V) -> Option<i8>
 pub fn to_i16<'v, V: Value<'v, Lent<'v>>>(value: &'v V) -> Option<i16>
     ensures { result ≡ read.to_i16 (V.emission value.now) }
 {
-    match last::<Lent, i16, OfSigned, V>(value) {
+    match item::<Lent, i16, OfSigned, V>(value) {
         Some(number) => Some(number),
         None => i16::try_from(to_i128(value)?).ok(),
     }
@@ -64,7 +62,7 @@ pub fn to_i16<'v, V: Value<'v, Lent<'v>>>(value: &'v V) -> Option<i16>
 pub fn to_i32<'v, V: Value<'v, Lent<'v>>>(value: &'v V) -> Option<i32>
     ensures { result ≡ read.to_i32 (V.emission value.now) }
 {
-    match last::<Lent, i32, OfSigned, V>(value) {
+    match item::<Lent, i32, OfSigned, V>(value) {
         Some(number) => Some(number),
         None => i32::try_from(to_i128(value)?).ok(),
     }
@@ -75,7 +73,7 @@ pub fn to_i32<'v, V: Value<'v, Lent<'v>>>(value: &'v V) -> Option<i32>
 pub fn to_i64<'v, V: Value<'v, Lent<'v>>>(value: &'v V) -> Option<i64>
     ensures { result ≡ read.to_i64 (V.emission value.now) }
 {
-    match last::<Lent, i64, OfSigned, V>(value) {
+    match item::<Lent, i64, OfSigned, V>(value) {
         Some(number) => Some(number),
         None => i64::try_from(to_i128(value)?).ok(),
     }
@@ -86,7 +84,7 @@ pub fn to_i64<'v, V: Value<'v, Lent<'v>>>(value: &'v V) -> Option<i64>
 pub fn to_i128<'v, V: Value<'v, Lent<'v>>>(value: &'v V) -> Option<i128>
     ensures { result ≡ read.to_i128 (V.emission value.now) }
 {
-    last::<Lent, i128, OfSigned, V>(value)
+    item::<Lent, i128, OfSigned, V>(value)
 }
 
 /// What [`to_u128`] gives, where that is in the range of `u8`.
@@ -122,7 +120,7 @@ pub fn to_u64<'v, V: Value<'v, Lent<'v>>>(value: &'v V) -> Option<u64>
 pub fn to_u128<'v, V: Value<'v, Lent<'v>>>(value: &'v V) -> Option<u128>
     ensures { option_map (λ n. pos n) result ≡ read.to_u128 (V.emission value.now) }
 {
-    last::<Lent, u128, OfUnsigned, V>(value)
+    item::<Lent, u128, OfUnsigned, V>(value)
 }
 
 /// The text of the one borrowed fragment, where the value doesn't refuse and each other call begins or ends a text or
@@ -133,7 +131,7 @@ pub fn to_u128<'v, V: Value<'v, Lent<'v>>>(value: &'v V) -> Option<u128>
 pub fn to_text<'v, V: Value<'v, Lent<'v>>>(value: &'v V) -> Option<&'v str>
     ensures { option_map (λ text. text.now) result ≡ read.to_text (V.emission value.now) }
 {
-    only::<Lent, &str, OfText, V>(value)
+    item::<Lent, &str, OfText, V>(value)
 }
 
 /// The bytes of the one borrowed fragment, where the value doesn't refuse and each other call begins or ends a binary,
@@ -141,5 +139,5 @@ pub fn to_text<'v, V: Value<'v, Lent<'v>>>(value: &'v V) -> Option<&'v str>
 pub fn to_binary<'v, V: Value<'v, Lent<'v>>>(value: &'v V) -> Option<&'v [u8]>
     ensures { option_map (λ binary. binary.now) result ≡ read.to_binary (V.emission value.now) }
 {
-    only::<Lent, &[u8], OfBinary, V>(value)
+    item::<Lent, &[u8], OfBinary, V>(value)
 }

@@ -1,19 +1,17 @@
 //! The streams of readers: each refuses the first call that its answer doesn't allow, and keeps no list.
 
+mod item;
 mod kinds;
-mod last;
 mod lent;
-mod only;
 mod tag;
 
 ghost use Rattle.std.specs.Prelude.{◌≡◌, Bool, Option, option_map};
 ghost use Rattle.sval_label.specs.Made.{call_of};
 ghost use Rattle.sval_label.specs.Calls.{Call};
 
+pub(crate) use item::item;
 pub(crate) use kinds::{OfSigned, OfTruth, OfUnsigned};
-pub(crate) use last::last;
 pub(crate) use lent::{OfBinary, OfText};
-pub(crate) use only::only;
 use sval_core::{AnyCall, Lending};
 pub(crate) use tag::FirstTag;
 pub use tag::GivenTag;
@@ -31,6 +29,13 @@ pub(crate) trait Reading<L: Lending, T> {
 
     /// Which calls are passed over, of those of which nothing is read.
     ghost over: { Call → Bool };
+
+    /// Whether no second item is read.
+    ghost once: { Bool };
+
+    /// Whether no second item is read.
+    fn reads_one() -> bool
+        ensures { result ≡ once };
 
     /// What is read of a call.
     fn read(call: &AnyCall<'_, L::Text, L::Bytes>) -> Option<T>

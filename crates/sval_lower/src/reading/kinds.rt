@@ -1,6 +1,6 @@
 //! What is read of calls as truth values and numbers.
 
-ghost use Rattle.std.specs.Prelude.{◌≡◌, Bool, ℤ, pos, option_map};
+ghost use Rattle.std.specs.Prelude.{◌≡◌, Bool, false, ℤ, pos, option_map};
 ghost use Rattle.sval_label.specs.Made.{lent_call};
 ghost use Rattle.sval_label.specs.Calls.{IntType};
 ghost use Rattle.sval_lower.specs.Readers.{truth_of, number_of, is_type, has_no_sign, is_around, is_passed_over};
@@ -45,6 +45,14 @@ impl<'v> Reading<Lent<'v>, bool> for OfTruth {
 
     ghost over = { is_passed_over };
 
+    ghost once = { false };
+
+    fn reads_one() -> bool
+        ensures { result ≡ false }
+    {
+        false
+    }
+
     fn read(call: &Call<'v, '_>) -> Option<bool>
         ensures { option_map (λ b. b) result ≡ truth_of (lent_call call.now) }
     {
@@ -72,6 +80,14 @@ impl<'v> Reading<Lent<'v>, u128> for OfUnsigned {
     ghost read_of = { number_of has_no_sign };
 
     ghost over = { is_passed_over };
+
+    ghost once = { false };
+
+    fn reads_one() -> bool
+        ensures { result ≡ false }
+    {
+        false
+    }
 
     fn read(call: &Call<'v, '_>) -> Option<u128>
         ensures { option_map (λ n. pos n) result ≡ number_of has_no_sign (lent_call call.now) }
@@ -182,6 +198,14 @@ impl<'v, T: Signed> Reading<Lent<'v>, T> for OfSigned {
     ghost read_of = { number_of (is_type T.kind) };
 
     ghost over = { is_passed_over };
+
+    ghost once = { false };
+
+    fn reads_one() -> bool
+        ensures { result ≡ false }
+    {
+        false
+    }
 
     fn read(call: &Call<'v, '_>) -> Option<T>
         ensures { option_map T.number result ≡ number_of (is_type T.kind) (lent_call call.now) }

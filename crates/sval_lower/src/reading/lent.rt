@@ -1,6 +1,6 @@
 //! What is read of calls as texts and binaries that are lent.
 
-ghost use Rattle.std.specs.Prelude.{◌≡◌, ℕ, List, option_map};
+ghost use Rattle.std.specs.Prelude.{◌≡◌, ℕ, true, List, option_map};
 ghost use Rattle.sval_label.specs.Made.{lent_call};
 ghost use Rattle.sval_label.specs.Calls as call;
 ghost use Rattle.sval_label.specs.SeenName.{seen_name};
@@ -21,6 +21,14 @@ impl<'v> Reading<Lent<'v>, &'v str> for OfText {
     ghost read_of = { lent_text };
 
     ghost over = { is_beside_text };
+
+    ghost once = { true };
+
+    fn reads_one() -> bool
+        ensures { result ≡ true }
+    {
+        true
+    }
 
     fn read(call: &Call<'v, '_>) -> Option<&'v str>
         ensures { option_map (λ text. text.now) result ≡ lent_text (lent_call call.now) }
@@ -65,6 +73,14 @@ impl<'v> Reading<Lent<'v>, &'v [u8]> for OfBinary {
     ghost read_of = { lent_binary };
 
     ghost over = { is_beside_binary };
+
+    ghost once = { true };
+
+    fn reads_one() -> bool
+        ensures { result ≡ true }
+    {
+        true
+    }
 
     fn read(call: &Call<'v, '_>) -> Option<&'v [u8]>
         ensures { option_map (λ bytes. bytes.now) result ≡ lent_binary (lent_call call.now) }

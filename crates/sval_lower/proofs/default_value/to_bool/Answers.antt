@@ -3,4 +3,4 @@ use Rattle.std.proofs.lemmas.Iterator.Adapters.{option_map_id}
 use Rattle.sval_lower.proofs.default_value.to_bool.Goals as goal
 
 pub returns : goal.returns
-returns g c = sym (option_map_id c.last.result) ∙ c.last.ensures
+returns g c = sym (option_map_id c.item.result) ∙ c.item.ensures
