@@ -1,6 +1,7 @@
 //! What the types of std print.
 
 ghost use Rattle.std.specs.Prelude.{Some, false};
+ghost use Rattle.std.specs.Fmt.{decimal, signed_decimal};
 ghost use Rattle.std.specs.String.{string_bytes};
 ghost use Rattle.sval.specs.Rendered.{Renders};
 
@@ -37,9 +38,6 @@ impl Render for bool {
 }
 
 impl Render for u8 {
-    ghost use Rattle.std.specs.Prelude.{Some, false};
-    ghost use Rattle.std.specs.Fmt.{decimal};
-
     ghost printed = { λ number. Some (decimal number) };
 
     ghost unprintable = { λ _. false };
@@ -50,9 +48,6 @@ impl Render for u8 {
 }
 
 impl Render for u16 {
-    ghost use Rattle.std.specs.Prelude.{Some, false};
-    ghost use Rattle.std.specs.Fmt.{decimal};
-
     ghost printed = { λ number. Some (decimal number) };
 
     ghost unprintable = { λ _. false };
@@ -63,9 +58,6 @@ impl Render for u16 {
 }
 
 impl Render for u32 {
-    ghost use Rattle.std.specs.Prelude.{Some, false};
-    ghost use Rattle.std.specs.Fmt.{decimal};
-
     ghost printed = { λ number. Some (decimal number) };
 
     ghost unprintable = { λ _. false };
@@ -76,9 +68,6 @@ impl Render for u32 {
 }
 
 impl Render for u64 {
-    ghost use Rattle.std.specs.Prelude.{Some, false};
-    ghost use Rattle.std.specs.Fmt.{decimal};
-
     ghost printed = { λ number. Some (decimal number) };
 
     ghost unprintable = { λ _. false };
@@ -89,9 +78,6 @@ impl Render for u64 {
 }
 
 impl Render for u128 {
-    ghost use Rattle.std.specs.Prelude.{Some, false};
-    ghost use Rattle.std.specs.Fmt.{decimal};
-
     ghost printed = { λ number. Some (decimal number) };
 
     ghost unprintable = { λ _. false };
@@ -102,9 +88,6 @@ impl Render for u128 {
 }
 
 impl Render for i8 {
-    ghost use Rattle.std.specs.Prelude.{Some, false};
-    ghost use Rattle.std.specs.Fmt.{signed_decimal};
-
     ghost printed = { λ number. Some (signed_decimal number) };
 
     ghost unprintable = { λ _. false };
@@ -115,9 +98,6 @@ impl Render for i8 {
 }
 
 impl Render for i16 {
-    ghost use Rattle.std.specs.Prelude.{Some, false};
-    ghost use Rattle.std.specs.Fmt.{signed_decimal};
-
     ghost printed = { λ number. Some (signed_decimal number) };
 
     ghost unprintable = { λ _. false };
@@ -128,9 +108,6 @@ impl Render for i16 {
 }
 
 impl Render for i32 {
-    ghost use Rattle.std.specs.Prelude.{Some, false};
-    ghost use Rattle.std.specs.Fmt.{signed_decimal};
-
     ghost printed = { λ number. Some (signed_decimal number) };
 
     ghost unprintable = { λ _. false };
@@ -141,9 +118,6 @@ impl Render for i32 {
 }
 
 impl Render for i64 {
-    ghost use Rattle.std.specs.Prelude.{Some, false};
-    ghost use Rattle.std.specs.Fmt.{signed_decimal};
-
     ghost printed = { λ number. Some (signed_decimal number) };
 
     ghost unprintable = { λ _. false };
@@ -154,9 +128,6 @@ impl Render for i64 {
 }
 
 impl Render for i128 {
-    ghost use Rattle.std.specs.Prelude.{Some, false};
-    ghost use Rattle.std.specs.Fmt.{signed_decimal};
-
     ghost printed = { λ number. Some (signed_decimal number) };
 
     ghost unprintable = { λ _. false };
