@@ -31,4 +31,5 @@ pub mod ToFmt
 pub mod Room
 pub mod JsonTexts
 pub mod Told
+pub mod FaultyWrites
 mod examples

@@ -18,6 +18,7 @@ pub mod Sinks
 pub mod Taken
 pub mod Filled
 pub mod Counted
+pub mod FaultPlans
 pub mod Faulty
 pub mod OverWriter
 pub mod WriterLaw

@@ -1,29 +1,22 @@
 -- What a source has left that fails at calls that are given.
-use Rattle.std.specs.Prelude.{◌≡◌, ℕ, List, Some, Contains, length, min}
-use Rattle.sval_core.specs.Law.{one_more}
+use Rattle.std.specs.Prelude.{ℕ, List, Result, Ok, Err, Some, length, min}
+use Rattle.sval_json.specs.FaultPlans.{Plan, went_well, failed}
 use Rattle.sval_relay.specs.Sources.{Supply}
 
--- the bytes that are left, how many a call gives at most, the numbers of the calls that fail, how many calls came, and how often it failed
+-- the bytes that are left, and the plan of its calls
 pub record FaultySupply : Type 0 where
   pub left : List ℕ
-  pub chunk : ℕ
-  pub failing : List ℕ
-  pub calls : ℕ
-  pub faults : ℕ
+  pub plan : Plan
 
 -- it tells the bytes that are left
 abbrev pub faulty_told : FaultySupply → Supply
-faulty_told faulty = record { left = Some faulty.left; faults = faulty.faults }
+faulty_told faulty = record { left = Some faulty.left; faults = faulty.plan.faults }
 
 -- how many bytes a call that doesn't fail gives into a buffer of this length
 abbrev pub given : FaultySupply → ℕ → ℕ
-given faulty room = min faulty.chunk (min room (length faulty.left))
+given faulty room = min faulty.plan.chunk (min room (length faulty.left))
 
--- the next call is one of those that fail
-abbrev pub IsDueToFail : FaultySupply → Type 0
-IsDueToFail faulty = Contains faulty.failing (one_more faulty.calls)
-
--- it goes on to give as many bytes a call, and to fail at the same calls
-pub record HasPlanOf (old new : FaultySupply) : Type 0 where
-  pub chunk : new.chunk ≡ old.chunk
-  pub failing : new.failing ≡ old.failing
+-- the plan after a call that was answered so
+abbrev pub after_read : {E : Type 0} → Result ℕ E → Plan → Plan
+after_read (Ok count) plan = went_well plan
+after_read (Err why) plan = failed plan

@@ -1,12 +1,13 @@
 //! A source that fails where it is told to.
 
 ghost use Rattle.std.specs.Prelude.{◌≡◌, ◌↔◌, ◌≤◌, IfOk, OnErr, drop, length};
-ghost use Rattle.sval_core.specs.Law.{one_more};
-ghost use Rattle.sval_relay.specs.FaultySources.{faulty_told, given, HasPlanOf, IsDueToFail};
+ghost use Rattle.sval_json.specs.FaultPlans.{new_plan, IsDueToFail};
+ghost use Rattle.sval_relay.specs.FaultySources.{after_read, faulty_told, given};
 ghost use Rattle.sval_relay.specs.Sources.{ReadsInto};
 
 use crate::source::{Source, SourceError};
 use std::marker::Model;
+use sval_json::FaultPlan;
 
 /// A source in memory that gives so many bytes a call at most, and fails at the calls whose numbers are given.
 ///
@@ -23,47 +24,26 @@ use std::marker::Model;
 #[derive(Drop)]
 pub struct FaultySource<'a> {
     left: &'a [u8],
-    chunk: usize,
-    failing: &'a [u64],
-    calls: u64,
-    faults: u64,
+    plan: FaultPlan<'a>,
 }
 
 impl<'a> Model for FaultySource<'a> {
-    ghost use Rattle.std.specs.Prelude.{◌≤◌};
     ghost use Rattle.sval_relay.specs.FaultySources.{FaultySupply};
 
     ghost Value = { FaultySupply };
 
-    ghost view = { λ source. record {
-      left = source.left.now;
-      chunk = source.chunk;
-      failing = source.failing.now;
-      calls = source.calls;
-      faults = source.faults;
-    } };
-
-    ghost invariant = { λ source. 1 ≤ source.chunk };
+    ghost view = { λ source. record { left = source.left.now; plan = source.plan } };
 }
 
 impl<'a> FaultySource<'a> {
     /// A source that has these bytes.
     pub fn new(bytes: &'a [u8], chunk: usize, failing: &'a [u64]) -> Self
         requires { 1 ≤ chunk }
-        ensures { result ≡ record {
-          left = bytes.now;
-          chunk = chunk;
-          failing = failing.now;
-          calls = 0;
-          faults = 0;
-        } }
+        ensures { result ≡ record { left = bytes.now; plan = new_plan chunk failing.now } }
     {
         FaultySource {
             left: bytes,
-            chunk,
-            failing,
-            calls: 0,
-            faults: 0,
+            plan: FaultPlan::new(chunk, failing),
         }
     }
 }
@@ -73,20 +53,16 @@ impl<'a> Source for FaultySource<'a> {
 
     fn read(&mut self, buffer: &mut [u8]) -> Result<usize, SourceError>
         ensures chunk { IfOk result (λ count. count ≡ given self.old (length buffer.old)) }
-        ensures fails { (result ≡ Err SourceError.Failed) ↔ IsDueToFail self.old }
+        ensures fails { (result ≡ Err SourceError.Failed) ↔ IsDueToFail self.old.plan }
         ensures reads { ReadsInto result (faulty_told self.old) buffer.new (faulty_told self.new) }
-        ensures once { OnErr result (self.new.faults ≡ one_more self.old.faults) }
         ensures rest { IfOk result (λ count. drop count buffer.new ≡ drop count buffer.old) }
         ensures untouched { OnErr result (buffer.new ≡ buffer.old) }
-        ensures numbered { self.new.calls ≡ one_more self.old.calls }
-        ensures plan { HasPlanOf self.old self.new }
+        ensures plan { self.new.plan ≡ after_read result self.old.plan }
     {
-        self.calls = self.calls.saturating_add(1);
-        if self.failing.contains(&self.calls) {
-            self.faults = self.faults.saturating_add(1);
+        if self.plan.fails_next() {
             return Err(SourceError::Failed);
         }
-        let count = buffer.len().min(self.left.len()).min(self.chunk);
+        let count = self.plan.share(buffer.len().min(self.left.len()));
         let (given, left) = self.left.split_at(count);
         buffer[..count].copy_from_slice(given);
         self.left = left;
