@@ -1,5 +1,5 @@
 -- What printing a captured tree leaves of a sink.
-use Rattle.std.specs.Prelude.{◌≡◌, ℕ, false, List, [], ◌∷◌, ◌++◌, Result, Ok, Err, refl}
+use Rattle.std.specs.Prelude.{◌≡◌, List, [], ◌∷◌, ◌++◌, refl}
 use Rattle.std.proofs.Common.{◌∙◌, sym, ap, subst}
 use Rattle.sval_label.specs.Calls.{Call}
 use Rattle.sval_core.specs.ExactCalls.{AreExact}
@@ -9,7 +9,7 @@ use Rattle.sval_core.specs.Trees.{Tree}
 use Rattle.sval_core.specs.Values.{makes}
 use Rattle.sval_buffer.specs.Capture.{Capture}
 use Rattle.sval_buffer.specs.CapturedValues.{IsCaptured, KeepsTree}
-use Rattle.sval_buffer.specs.Forest.{Forest, replayed}
+use Rattle.sval_buffer.specs.Forest.{replayed}
 use Rattle.sval_buffer.proofs.ExactReplay.{replay_exact}
 use Rattle.sval_json.specs.Sinks.{Told, LacksRoom, Appends, AppendsFront}
 use Rattle.sval_json.proofs.Appending.{front_after, appends_nothing}

@@ -1,10 +1,12 @@
 -- From what reading, checking and writing a script answered to what serving it answers.
-use Rattle.std.specs.Prelude.{◌≡◌, ℕ, ◌+◌, ◌<◌, ◌^◌, ◌⊎◌, true, false, List, [], ◌∷◌, length, String, Some, Result, Ok, Err, refl}
+use Rattle.std.specs.Prelude.{◌≡◌, ℕ, ◌+◌, ◌<◌, ◌^◌, ◌⊎◌, true, List, [], ◌∷◌, length, Some, Result, Ok, Err, refl}
 use Rattle.std.proofs.Common.{ap, ◌∙◌, sym, subst, arith, inl, inr}
 use Rattle.std.proofs.lemmas.List.{length-append}
 use Rattle.sval_label.specs.Calls.{Call}
 use Rattle.sval_core.specs.Law.{Emission, Rose}
 use Rattle.sval_core.specs.Trees.{Tree}
+use Rattle.sval_check.specs.declared.error.CheckError.{CheckError}
+use Rattle.sval_check.specs.declared.error.CheckError.TheVariants as checking
 use Rattle.sval_check.specs.Checks.{IsFirstBad, IsUnfinished}
 use Rattle.sval_check.specs.ManyChecks.{IsFirstBadOfList, IsUnfinishedList}
 use Rattle.sval_json.specs.declared.sink.SinkError.{SinkError}
@@ -23,7 +25,7 @@ use Rattle.sval_relay.specs.declared.relaying.RelayError.TheVariants as answer
 use Rattle.sval_relay.specs.Sources.{Supply}
 use Rattle.sval_relay.specs.Inputs.{HasRead}
 use Rattle.sval_relay.specs.Verdict.{Verdict, BadLine, BadCall, Unfinished, Key, Number, Text, asked_in, ending, texts, left, text_verdict, one_in, all_in, SpellTrees, IsVerdict, OnVerdict}
-use Rattle.sval_relay.specs.Relays.{of_script, of_sink, is_of_script, WritesText, WritesMeant, Grows, MayLeave, LacksRoomFor, WritesValue, WritesUpTo, IsWantIn, IsAnswerTo, Relays}
+use Rattle.sval_relay.specs.Relays.{of_script, of_check, of_sink, is_of_script, WritesText, WritesMeant, Grows, MayLeave, LacksRoomFor, WritesValue, WritesUpTo, IsWantIn, IsAnswerTo, Relays}
 use Rattle.sval_relay.specs.WrittenTrees.{FailsFull, WritesTexts, RefusesSome, IsCauseAmong, WritesTrees}
 use Rattle.sval_relay.proofs.Verdicts.{of_each, one_spelled, verdict_bad_line, verdict_bad_call, verdict_unfinished, verdict_trees}
 use Rattle.sval_relay.proofs.LeftTexts.{texts_left}
@@ -122,9 +124,19 @@ pub read_before_write : (e : ScriptError) → ◌≡◌ {A = Result (Unit {0}) R
 read_before_write (reading.BadLine n) never = cc never
 read_before_write reading.NoMemory never = cc never
 
--- there was no memory to check it
-pub relays_unchecked : {K : Type 0} (told : K → Told) (script : List ℕ) (task : Task) (out : K) → Relays told script task (Err answer.NoMemory) out out
-relays_unchecked told script task out = relays_refused told script task out answer.NoMemory (want_before task told out)
+-- its calls are no value, or there was no memory to check them
+pub relays_unchecked : {K : Type 0} (told : K → Told) (script : List ℕ) (task : Task) (out : K) (e : CheckError) (why : RelayError) → of_check e ≡ Some why
+    → ((n : ℕ) → e ≡ checking.BadCall n → IsVerdict (BadCall n) script task) → (e ≡ checking.Unfinished → IsVerdict Unfinished script task) → Relays told script task (Err why) out out
+relays_unchecked told script task out (checking.BadCall n) why is bad unfinished =
+    let same : answer.BadCall n ≡ why = cc is in
+    subst (λ w. Relays told script task (Err w) out out) same (relays_refused told script task out (answer.BadCall n) (bad n refl, refl))
+relays_unchecked told script task out checking.Unfinished why is bad unfinished =
+    let same : answer.Unfinished ≡ why = cc is in
+    subst (λ w. Relays told script task (Err w) out out) same (relays_refused told script task out answer.Unfinished (unfinished refl, refl))
+relays_unchecked told script task out checking.NoMemory why is bad unfinished =
+    let same : answer.NoMemory ≡ why = cc is in
+    subst (λ w. Relays told script task (Err w) out out) same (relays_refused told script task out answer.NoMemory (want_before task told out))
+relays_unchecked told script task out checking.Refused why is bad unfinished = absurd (cc is)
 
 -- ---- after the text was written
 

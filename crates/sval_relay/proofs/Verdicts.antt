@@ -3,8 +3,8 @@ use Rattle.std.specs.Prelude.{◌≡◌, ℕ, ◌+◌, ◌<◌, ◌⊎◌, Bool,
 use Rattle.std.proofs.Common.{sym, ap, ◌∙◌, subst, inl, inr, append-nil, arith}
 use Rattle.sval_label.specs.Calls.{Call}
 use Rattle.sval_core.specs.Trees.{Tree}
-use Rattle.sval_core.specs.Spells.{Spells, IsViable, plain}
-use Rattle.sval_core.specs.Checker.{Frame, Runs, done}
+use Rattle.sval_core.specs.Spells.{Spells, plain}
+use Rattle.sval_core.specs.Checker.{Frame, Runs}
 use Rattle.sval_core.specs.ManyChecker.{RunsAll, Progress}
 use Rattle.sval_core.proofs.Completions.{viable_is_taken, taken_is_viable, spelling_is_run, run_is_spelling}
 use Rattle.sval_core.proofs.Spellings.{spells_one, spelling_is_viable}

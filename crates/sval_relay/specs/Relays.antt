@@ -1,14 +1,15 @@
 -- What serving a script says of it, and what it makes of the sink.
-use Rattle.std.specs.Prelude.{◌≡◌, ℕ, ◌⊎◌, ◌++◌, Bool, true, false, List, [], ◌∷◌, Result, Ok, Err, IfErr}
+use Rattle.std.specs.Prelude.{◌≡◌, ℕ, ◌⊎◌, ◌++◌, Bool, true, false, List, [], ◌∷◌, Option, Some, None, Result, Ok, Err, IfErr}
 use Rattle.sval_label.specs.Calls.{Call}
 use Rattle.sval_core.specs.Law.{Rose}
 use Rattle.sval_core.specs.Trees.{Tree, calls_of}
+use Rattle.sval_check.specs.declared.error.CheckError.{CheckError}
+use Rattle.sval_check.specs.declared.error.CheckError.TheVariants as checking
 use Rattle.sval_json.specs.declared.sink.SinkError.{SinkError}
 use Rattle.sval_json.specs.declared.sink.SinkError.TheVariants as sink
 use Rattle.sval_json.specs.declared.style.Variants.{Variants}
 use Rattle.sval_json.specs.Sinks.{Told, IsSteady, NoCountFell, LacksRoom, Appends, AppendsFront}
 use Rattle.sval_json.specs.Json.{Json, compact}
-use Rattle.sval_json.specs.Number.{Refusal, InvalidKey, InvalidNumber}
 use Rattle.sval_json.specs.Shape.{json_in}
 use Rattle.sval_json.specs.Grammar.{JsonValue}
 use Rattle.sval_json.specs.Promises.{KeepsPromises}
@@ -28,6 +29,13 @@ use Rattle.sval_relay.specs.Verdict.{Verdict, BadLine, BadCall, Unfinished, Key,
 abbrev pub of_script : ScriptError → RelayError
 of_script (reading.BadLine n) = answer.BadLine n
 of_script reading.NoMemory = answer.NoMemory
+
+-- the answer where checking a script's calls found that they are no value, which it never does by a refusal
+abbrev pub of_check : CheckError → Option RelayError
+of_check (checking.BadCall n) = Some (answer.BadCall n)
+of_check checking.Unfinished = Some answer.Unfinished
+of_check checking.NoMemory = Some answer.NoMemory
+of_check checking.Refused = None
 
 -- the answer where the sink refused
 abbrev pub of_sink : SinkError → RelayError

@@ -1,9 +1,9 @@
 //! Scripts that stand in memory, served.
 
-ghost use Rattle.std.specs.Prelude.{◌≡◌, ℕ, ◌<◌, ◌^◌, true, false, List, length};
+ghost use Rattle.std.specs.Prelude.{◌≡◌, ℕ, ◌<◌, ◌^◌, true, false, List, Some, length};
 ghost use Rattle.sval_script.specs.Lines.{lines, Good};
 ghost use Rattle.sval_relay.specs.Verdict.{one_in, all_in, OnVerdict};
-ghost use Rattle.sval_relay.specs.Relays.{LacksRoomFor, Relays};
+ghost use Rattle.sval_relay.specs.Relays.{of_check, LacksRoomFor, Relays};
 ghost use Rattle.sval_relay.specs.WrittenTrees.{IsOfScript};
 
 use crate::lists::write_list;
@@ -137,6 +137,19 @@ pub fn relay_lines<K: Sink>(
     serve_list(alloc, &script, way, out)
 }
 
+/// What checking the calls of a script found, which never refuses.
+fn found(error: CheckError) -> RelayError
+    requires { error ≡ CheckError.Refused → ⊥ }
+    ensures { of_check error ≡ Some result }
+{
+    match error {
+        CheckError::BadCall { at } => RelayError::BadCall { line: at },
+        CheckError::Unfinished => RelayError::Unfinished,
+        CheckError::NoMemory => RelayError::NoMemory,
+        CheckError::Refused => unreachable!("a script doesn't refuse"),
+    }
+}
+
 /// Serves a script that was read. The clause holds of all bytes whose lines are its calls.
 pub(crate) fn serve_script<K: Sink>(
     alloc: Global,
@@ -172,13 +185,9 @@ fn serve_one<K: Sink>(
     ensures some_call { result ≡ Err RelayError.NoMemory → 0 < length script.now }
 {
     match check(alloc, script) {
-        Ok(()) => {}
-        Err(CheckError::BadCall { at }) => return Err(RelayError::BadCall { line: at }),
-        Err(CheckError::Unfinished) => return Err(RelayError::Unfinished),
-        Err(CheckError::NoMemory) => return Err(RelayError::NoMemory),
-        Err(CheckError::Refused) => unreachable!("a script doesn't refuse"),
+        Ok(()) => write_tree(alloc, &script.as_slice(), way, out),
+        Err(error) => Err(found(error)),
     }
-    write_tree(alloc, &script.as_slice(), way, out)
 }
 
 /// Serves a script that may spell many values.
@@ -198,9 +207,6 @@ fn serve_list<K: Sink>(
 {
     match check_all(alloc, script) {
         Ok(ends) => write_list(alloc, script.as_slice(), &ends, way, out),
-        Err(CheckError::BadCall { at }) => Err(RelayError::BadCall { line: at }),
-        Err(CheckError::Unfinished) => Err(RelayError::Unfinished),
-        Err(CheckError::NoMemory) => Err(RelayError::NoMemory),
-        Err(CheckError::Refused) => unreachable!("a script doesn't refuse"),
+        Err(error) => Err(found(error)),
     }
 }

@@ -1,4 +1,4 @@
-use Rattle.std.proofs.Common.{◌≡◌, true, List, drop}
+use Rattle.std.proofs.Common.{true, List, drop}
 use Rattle.sval_core.specs.Trees.{Tree}
 use Rattle.sval_relay.specs.Verdict.{asked_in, ending}
 use Rattle.sval_relay.specs.WrittenTrees.{AreTrees}

@@ -1,8 +1,6 @@
-use Rattle.std.proofs.Common.{ap, Err, refl}
-use Rattle.sval_relay.specs.declared.relaying.RelayError.TheVariants as answer
+use Rattle.std.proofs.Common.{ap, Err}
 use Rattle.sval_relay.specs.Verdict.{all_in}
-use Rattle.sval_relay.specs.WrittenTrees.{AreTrees}
-use Rattle.sval_relay.proofs.RelayAnswers.{first_bad_of_list, list_not_finished, relays_refused}
+use Rattle.sval_relay.proofs.RelayAnswers.{first_bad_of_list, list_not_finished, relays_unchecked}
 use Rattle.sval_relay.proofs.Served.{found_trees, some_of_ends, serves_many, full_for_many}
 use Rattle.sval_relay.proofs.relaying.serve_list.Goals as goal
 
@@ -24,13 +22,8 @@ returns-in-Ok-clause-write_room g c = λ bytes is.
 pub returns-in-Ok-clause-some_call : goal.returns-in-Ok-clause-some_call
 returns-in-Ok-clause-some_call g c = λ e. some_of_ends c.args.script.now c.in-Ok.ends c.in-Ok.ensures.ok (c.write_list.ensures.some_end e)
 
-pub returns-in-Err-BadCall-clause-relays : goal.returns-in-Err-BadCall-clause-relays
-returns-in-Err-BadCall-clause-relays g c = λ bytes small is.
-    let bad = c.in-Err-BadCall.ensures.bad_call c.in-Err-BadCall.at (ap Err c.in-Err-BadCall.field-0-is) in
-    let found = first_bad_of_list bytes c.args.way c.args.script.now c.in-Err-BadCall.at c.requires.few is bad in
-    rw c.in-Err-BadCall.at-is (relays_refused g.K.Sink.told bytes (all_in c.args.way) c.args.out.now (answer.BadCall c.in-Err-BadCall.at) (found, refl))
-
-pub returns-in-Err-Unfinished-clause-relays : goal.returns-in-Err-Unfinished-clause-relays
-returns-in-Err-Unfinished-clause-relays g c = λ bytes small is.
-    let found = list_not_finished bytes c.args.way (record { calls = c.args.script.now; refuses = _ }) is (c.in-Err-Unfinished.ensures.unfinished (ap Err c.in-Err-Unfinished.field-0-is)) in
-    relays_refused g.K.Sink.told bytes (all_in c.args.way) c.args.out.now answer.Unfinished (found, refl)
+pub returns-in-Err-clause-relays : goal.returns-in-Err-clause-relays
+returns-in-Err-clause-relays g c = λ bytes small is.
+    relays_unchecked g.K.Sink.told bytes (all_in c.args.way) c.args.out.now c.in-Err.error c.found.result c.found.ensures
+    (λ n found. first_bad_of_list bytes c.args.way c.args.script.now n c.requires.few is (c.in-Err.ensures.bad_call n (ap Err found)))
+    (λ found. list_not_finished bytes c.args.way (record { calls = c.args.script.now; refuses = _ }) is (c.in-Err.ensures.unfinished (ap Err found)))

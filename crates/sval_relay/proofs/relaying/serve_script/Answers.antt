@@ -1,4 +1,4 @@
-use Rattle.std.proofs.Common.{◌≡◌, Bool, false, ap, sym, subst}
+use Rattle.std.proofs.Common.{◌≡◌, Bool, ap, sym, subst}
 use Rattle.sval_relay.specs.declared.way.Task.{Task}
 use Rattle.sval_relay.specs.Verdict.{one_in}
 use Rattle.sval_relay.specs.Relays.{Relays}

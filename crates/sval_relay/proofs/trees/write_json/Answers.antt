@@ -1,6 +1,6 @@
 use Rattle.std.proofs.Common.{rules}
 use Rattle.sval_json.specs.Number.{InvalidKey, InvalidNumber}
-use Rattle.sval_relay.proofs.Writing.{begins_tree, lacks_tree, refuses_tree, writes_tree}
+use Rattle.sval_relay.proofs.Writing.{begins_tree, lacks_tree, refuses_tree}
 use Rattle.sval_relay.proofs.trees.write_json.Goals as goal
 
 -- what is written of the calls is written of the tree that they spell
