@@ -22,6 +22,7 @@ pub mod NumberTexts
 pub mod Meaning
 pub mod Appending
 pub mod Pieces
+mod EscapeLanes
 pub mod EscapedPieces
 pub mod Doing
 pub mod Combined

@@ -1,32 +1,20 @@
 //! How a text stands between quotes (RFC 8259, section 7).
 
-ghost use Rattle.std.specs.Prelude.{◌≡◌, ℕ, ◌<◌, ◌≤◌, true, false, length, slice_index, take};
+ghost use Rattle.std.specs.Prelude.{◌≡◌, ℕ, ◌<◌, ◌≤◌, true, length, slice_index, take, map};
 ghost use Rattle.std.specs.Char.{digit_char};
 ghost use Rattle.std.specs.List.{AllPass};
+ghost use Rattle.std.specs.Simd.Lanes.{mask_l};
 ghost use Rattle.sval_json.specs.Escape.{escape, escaped, is_escaped, is_plain};
 ghost use Rattle.sval_json.specs.Sinks.{WritesAll};
 
 use crate::sink::{Sink, SinkError, write_all};
+use std::simd::prelude::*;
 
 /// Whether a byte doesn't stand as it is between quotes.
 fn needs_escape(byte: u8) -> bool
     ensures { result ≡ is_escaped byte }
 {
     byte < b' ' || byte == b'"' || byte == b'\\'
-}
-
-/// How many bytes are tested together.
-const BLOCK: usize = 16;
-
-/// Whether a byte of the block is escaped. Each byte is looked at, so many are tested at once.
-fn any_escape(block: &[u8; BLOCK]) -> bool
-    ensures plain { result ≡ false → AllPass is_plain block.now }
-{
-    let mut found = false;
-    for byte in block {
-        found |= needs_escape(*byte);
-    }
-    found
 }
 
 /// How many bytes come before the first that is escaped, looked at one by one.
@@ -41,6 +29,56 @@ fn plain_bytes(bytes: &[u8]) -> usize
         .unwrap_or(bytes.len())
 }
 
+/// How many bytes are tested together.
+const LANES: usize = 32;
+
+/// Which of the first bytes are escaped: bit k tells it of byte k.
+#[inline(always)]
+fn escapes_ahead(bytes: &[u8]) -> u64
+    requires { 32 ≤ length bytes.now }
+    ensures { result ≡ mask_l (map is_escaped (take 32 bytes.now)) }
+{
+    let ahead = u8x32::from_slice(bytes);
+    let low = ahead.simd_lt(u8x32::splat(b' '));
+    let quotes = ahead.simd_eq(u8x32::splat(b'"'));
+    let backslashes = ahead.simd_eq(u8x32::splat(b'\\'));
+    (low | quotes | backslashes).to_bitmask()
+}
+
+/// How many of the first bytes come before one that is escaped, looked at together.
+#[inline(always)]
+fn plain_ahead(bytes: &[u8]) -> usize
+    requires { 32 ≤ length bytes.now }
+    ensures within { result ≤ 32 }
+    ensures plain { AllPass is_plain (take result bytes.now) }
+    ensures found { result < 32 → is_escaped (slice_index bytes.now result) ≡ true }
+{
+    let escapes = escapes_ahead(bytes);
+    if escapes == 0 {
+        return LANES;
+    }
+    escapes.trailing_zeros() as usize
+}
+
+/// How many bytes come before the first that is escaped. The last of them may be looked at twice.
+fn plain_by_lanes(bytes: &[u8]) -> usize
+    requires { 32 ≤ length bytes.now }
+    ensures within { result ≤ length bytes.now }
+    ensures plain { AllPass is_plain (take result bytes.now) }
+    ensures found { result < length bytes.now → is_escaped (slice_index bytes.now result) ≡ true }
+{
+    let last = bytes.len() - LANES;
+    let mut start = 0;
+    while start < last {
+        let run = plain_ahead(&bytes[start..]);
+        if run < LANES {
+            return start + run;
+        }
+        start += LANES;
+    }
+    last + plain_ahead(&bytes[last..])
+}
+
 /// The place of the first byte that is escaped where a text stands between quotes, or the length where there is none: of
 /// a quote, a backslash, or a byte below 0x20. It takes no memory.
 ///
@@ -53,16 +91,10 @@ pub fn first_escape(bytes: &[u8]) -> usize
     ensures plain { AllPass is_plain (take result bytes.now) }
     ensures found { result < length bytes.now → is_escaped (slice_index bytes.now result) ≡ true }
 {
-    let mut start = 0;
-    let mut rest = bytes;
-    while let Some((block, after)) = rest.split_first_chunk::<BLOCK>() {
-        if any_escape(block) {
-            break;
-        }
-        start += BLOCK;
-        rest = after;
+    if bytes.len() < LANES {
+        return plain_bytes(bytes);
     }
-    start + plain_bytes(rest)
+    plain_by_lanes(bytes)
 }
 
 /// A hex digit in lower case.
