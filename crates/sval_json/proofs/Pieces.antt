@@ -1,11 +1,11 @@
 -- A piece that is written bit by bit.
-use Rattle.std.specs.Prelude.{◌≡◌, ℕ, ◌+◌, ◌-◌, ◌<◌, ◌≤◌, List, [], ◌++◌, Option, Some, None, IfSome, take, drop, length}
+use Rattle.std.specs.Prelude.{◌≡◌, ℕ, ◌+◌, ◌-◌, ◌<◌, ◌≤◌, List, [], ◌++◌, Option, Some, None, IfSome, Result, Ok, Err, take, drop, length}
 use Rattle.std.proofs.Common.{sym, ap, ◌∙◌, subst, arith, append-nil}
 use Rattle.std.proofs.lemmas.List.{length-drop, drop-drop, take_rest, take-append-drop}
 use Rattle.std.proofs.Math.Seq.{take-add}
-use Rattle.sval_json.specs.Sinks.{Told, LacksRoom, TakesSome, TakesNothing, WritesWhole, WritesFront}
+use Rattle.sval_json.specs.Sinks.{Told, LacksRoom, TakesSome, TakesNothing, WritesWhole, WritesFront, WritesAll}
 use Rattle.sval_json.specs.declared.sink.SinkError.{SinkError}
-use Rattle.sval_json.proofs.Appending.{counted_since, counts_since, lacks_both, writes_both}
+use Rattle.sval_json.proofs.Appending.{counted_since, counts_since, lacks_both, writes_both, stops_after}
 
 -- some first bytes of the piece were taken, and the rest is due
 pub record IsPartlyWritten (old : Told) (piece rest : List ℕ) (new : Told) : Type 0 where
@@ -26,12 +26,6 @@ written_on {old} {mid} {new} {piece} {rest} n w t =
       rest_is = take_rest rest n ∙ ap (drop n) w.rest_is ∙ drop-drop n w.count piece;
       writes = subst (λ bytes. WritesWhole old bytes new) taken (writes_both (take w.count piece) (take n rest) w.writes (record { appends = t.appends; steady = t.steady }));
     }
-
--- no bytes of an empty piece are due
-pub nothing_due : {old new : Told} {piece rest : List ℕ} → IsPartlyWritten old piece rest new → piece ≡ [] → 0 < length rest → ⊥
-nothing_due {piece = piece} {rest = rest} w none some =
-    let size : length rest ≡ length piece - w.count = ap length w.rest_is ∙ length-drop w.count piece in
-    let empty : length piece ≡ 0 = ap length none in omega (arith, size, empty, some)
 
 -- the sink took nothing of what was due
 pub stopped_in_rest : {old mid new : Told} {piece rest : List ℕ} {why : SinkError} → IsPartlyWritten old piece rest mid → 0 < length rest → TakesNothing why mid new
@@ -59,3 +53,18 @@ stopped_in_rest {old} {mid} {new} {piece} {rest} {why} w some t =
     none_left : (room : Option ℕ) → IfSome room (λ left. left ≡ 0) → IfSome room (λ left. left < length rest)
     none_left None full = tt
     none_left (Some left) full = omega (arith, full, some)
+
+-- the first call took a part, and then the rest was written, or a first part of it
+pub then_rest : {old mid : Told} {piece : List ℕ} (new : Told) (r : Result (Unit {0}) SinkError) (n : ℕ) → TakesSome n old piece mid
+    → WritesAll r mid (take (length piece - n) (drop n piece)) new → WritesAll r old piece new
+then_rest {old} {mid} {piece} new r n t written = both r (subst (λ rest. WritesAll r mid rest new) (take_rest piece n) written)
+  where
+    first : WritesWhole old (take n piece) mid
+    first = record { appends = t.appends; steady = t.steady }
+
+    whole : piece ≡ take n piece ++ drop n piece
+    whole = sym (take-append-drop n piece)
+
+    both : (r : Result (Unit {0}) SinkError) → WritesAll r mid (drop n piece) new → WritesAll r old piece new
+    both (Ok done) w = subst (λ bytes. WritesWhole old bytes new) (sym whole) (writes_both (take n piece) (drop n piece) first w)
+    both (Err why) w = stops_after (take n piece) (drop n piece) [] first (whole ∙ ap (λ rest. take n piece ++ rest) (sym (append-nil (drop n piece)))) w

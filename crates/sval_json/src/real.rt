@@ -1,6 +1,7 @@
 //! The sink over std's writers: the trusted edge.
 
-ghost use Rattle.std.specs.Prelude.{◌≡◌, None, OnOk, OnErr, IsSome};
+ghost use Rattle.std.specs.Prelude.{◌≡◌, ◌<◌, None, OnOk, OnErr, IfOk, IsSome, length};
+ghost use Rattle.std.specs.Io.{WritesAtMost};
 ghost use Rattle.std.specs.Io.KnownBytes.{Keeps, WriteAppends};
 ghost use Rattle.sval_core.specs.Law.{one_more};
 ghost use Rattle.sval_json.specs.OverWriter.{OverWriter, over_writer_told};
@@ -52,6 +53,7 @@ impl<W> RealSink<W> {
     }
 
     /// Counts a fault.
+    #[cold]
     fn fault(&mut self, kind: io::ErrorKind) -> SinkError
         ensures failed { result ≡ SinkError.Failed }
         ensures declines { Declines result (over_writer_told self.old) (over_writer_told self.new) }
@@ -63,9 +65,52 @@ impl<W> RealSink<W> {
     }
 }
 
+impl<W: Write> RealSink<W> {
+    /// Writes a piece, and answers what kind of error that was. To take nothing of a piece that isn't empty is one.
+    #[inline(always)]
+    fn write_once(&mut self, piece: &[u8]) -> Result<usize, io::ErrorKind>
+        ensures told { over_writer_told self.new ≡ over_writer_told self.old }
+        ensures last_kept { self.new.last_error ≡ self.old.last_error }
+        ensures bound { WritesAtMost result piece.now }
+        ensures some { IfOk result (λ count. 0 < length piece.now → 0 < count) }
+        ensures passed_on { WriteAppends (W.contents self.old.writer) (W.contents self.new.writer) result piece.now }
+    {
+        match self.writer.write(piece) {
+            Ok(0) if !piece.is_empty() => Err(io::ErrorKind::WriteZero),
+            Ok(count) => Ok(count),
+            Err(error) => Err(error.kind()),
+        }
+    }
+
+    /// Writes a piece again after an error of this kind, as often as it is interrupted.
+    #[cold]
+    #[inline(never)]
+    fn write_again(&mut self, kind: io::ErrorKind, piece: &[u8]) -> Result<usize, SinkError>
+        ensures writes { Writes result (over_writer_told self.old) piece.now (over_writer_told self.new) }
+        ensures failed { OnErr result (result ≡ Err SinkError.Failed) }
+        ensures once { OnErr result (self.new.faults ≡ one_more self.old.faults) }
+        ensures passed_on { WriteAppends (W.contents self.old.writer) (W.contents self.new.writer) result piece.now }
+        ensures last_kept { OnOk result (self.new.last_error ≡ self.old.last_error) }
+        ensures last_told { OnErr result (IsSome self.new.last_error) }
+    {
+        let mut kind = kind;
+        for _ in 1..TRIES {
+            if kind != io::ErrorKind::Interrupted {
+                return Err(self.fault(kind));
+            }
+            match self.write_once(piece) {
+                Ok(count) => return Ok(count),
+                Err(next) => kind = next,
+            }
+        }
+        Err(self.fault(kind))
+    }
+}
+
 impl<W: Write> Sink for RealSink<W> {
     ghost told = { over_writer_told };
 
+    #[inline(always)]
     fn write(&mut self, piece: &[u8]) -> Result<usize, SinkError>
         ensures writes { Writes result (over_writer_told self.old) piece.now (over_writer_told self.new) }
         ensures failed { OnErr result (result ≡ Err SinkError.Failed) }
@@ -74,18 +119,10 @@ impl<W: Write> Sink for RealSink<W> {
         ensures last_kept { OnOk result (self.new.last_error ≡ self.old.last_error) }
         ensures last_told { OnErr result (IsSome self.new.last_error) }
     {
-        for _ in 0..TRIES {
-            match self.writer.write(piece) {
-                Ok(0) if !piece.is_empty() => return Err(self.fault(io::ErrorKind::WriteZero)),
-                Ok(count) => return Ok(count),
-                Err(error) => {
-                    if error.kind() != io::ErrorKind::Interrupted {
-                        return Err(self.fault(error.kind()));
-                    }
-                }
-            }
+        match self.write_once(piece) {
+            Ok(count) => Ok(count),
+            Err(kind) => self.write_again(kind, piece),
         }
-        Err(self.fault(io::ErrorKind::Interrupted))
     }
 
     fn flush(&mut self) -> Result<(), SinkError>

@@ -45,9 +45,35 @@ pub trait Sink {
 ///
 /// After an error a first part of it was taken. An empty piece makes no call. A sink that tells its room fails only
 /// where the piece has no place in it.
+#[inline(never)]
 pub fn write_all<K: Sink>(sink: &mut K, piece: &[u8]) -> Result<(), SinkError>
     ensures writes { WritesAll result (K.told sink.old) piece.now (K.told sink.new) }
     ensures nothing { piece.now ≡ [] → (result ≡ Ok tt) × (sink.new ≡ sink.old) }
+{
+    write_in_place(sink, piece)
+}
+
+/// Does the same within its caller, which is less work for a piece of a byte or two that the caller names.
+#[inline(always)]
+pub(crate) fn write_in_place<K: Sink>(sink: &mut K, piece: &[u8]) -> Result<(), SinkError>
+    ensures writes { WritesAll result (K.told sink.old) piece.now (K.told sink.new) }
+    ensures nothing { piece.now ≡ [] → (result ≡ Ok tt) × (sink.new ≡ sink.old) }
+{
+    if piece.is_empty() {
+        return Ok(());
+    }
+    let count = sink.write(piece)?;
+    if count == piece.len() {
+        return Ok(());
+    }
+    write_rest(sink, &piece[count..])
+}
+
+/// Writes what a first call left of a piece.
+#[cold]
+#[inline(never)]
+fn write_rest<K: Sink>(sink: &mut K, piece: &[u8]) -> Result<(), SinkError>
+    ensures { WritesAll result (K.told sink.old) piece.now (K.told sink.new) }
 {
     let mut rest = piece;
     while !rest.is_empty() {

@@ -23,7 +23,7 @@ use crate::digits::format_int;
 use crate::error::{Refusal, Stop};
 use crate::escape::write_escaped;
 use crate::number::NumberMachine;
-use crate::sink::{Sink, write_all};
+use crate::sink::{Sink, write_all, write_in_place};
 use crate::style::Variants;
 use crate::writer::short::{Quoted, push_between};
 use arrayvec::ArrayString;
@@ -67,6 +67,20 @@ impl<'k, K: Sink> Writer<'k, K> {
         ensures { Does (write bytes.now) result (writer_view K.told self.old) (writer_view K.told self.new) }
     {
         match write_all(self.sink, bytes) {
+            Ok(()) => Ok(()),
+            Err(why) => {
+                self.why = Some(Stop::Sink(why));
+                Err(Error::new())
+            }
+        }
+    }
+
+    /// Writes a mark of a byte or two.
+    #[inline(always)]
+    fn write_mark(&mut self, mark: &[u8]) -> Result
+        ensures { Does (write mark.now) result (writer_view K.told self.old) (writer_view K.told self.new) }
+    {
+        match write_in_place(self.sink, mark) {
             Ok(()) => Ok(()),
             Err(why) => {
                 self.why = Some(Stop::Sink(why));
@@ -162,20 +176,22 @@ impl<'k, K: Sink> Writer<'k, K> {
     }
 
     /// Opens what other values may stand in.
+    #[inline(always)]
     fn open(&mut self, bracket: &[u8]) -> Result
         ensures { Does (opens bracket.now) result (writer_view K.told self.old) (writer_view K.told self.new) }
     {
         self.refuse_in_key()?;
         self.empty = true;
-        self.write(bracket)
+        self.write_mark(bracket)
     }
 
     /// Closes what was opened.
+    #[inline(always)]
     fn close(&mut self, bracket: &[u8]) -> Result
         ensures { Does (closes bracket.now) result (writer_view K.told self.old) (writer_view K.told self.new) }
     {
         self.empty = false;
-        self.write(bracket)
+        self.write_mark(bracket)
     }
 }
 

@@ -58,6 +58,7 @@ impl<'k, K: Sink> Writer<'k, K> {
     }
 
     /// Ends a container.
+    #[inline(always)]
     pub(crate) fn end_container(&mut self, head: Head) -> Result
         ensures { Does (container_ends (seen_head head.entry)) result
             (writer_view K.told self.old) (writer_view K.told self.new) }
@@ -72,6 +73,7 @@ impl<'k, K: Sink> Writer<'k, K> {
     }
 
     /// Begins an item: with a comma, unless it is the first.
+    #[inline(never)]
     pub(crate) fn begin_item(&mut self) -> Result
         ensures { Does item_begins result (writer_view K.told self.old) (writer_view K.told self.new) }
     {
@@ -79,7 +81,7 @@ impl<'k, K: Sink> Writer<'k, K> {
         if self.empty {
             return Ok(());
         }
-        self.write(b",")
+        self.write_mark(b",")
     }
 
     /// Begins a pair of a map, up to the key's text.
@@ -89,12 +91,13 @@ impl<'k, K: Sink> Writer<'k, K> {
     {
         self.named = false;
         if self.empty {
-            return self.write(b"\"");
+            return self.write_mark(b"\"");
         }
-        self.write(b",\"")
+        self.write_mark(b",\"")
     }
 
     /// Begins a key of a map.
+    #[inline(never)]
     fn begin_key(&mut self) -> Result
         ensures { Does (part_begins call.Key) result (writer_view K.told self.old) (writer_view K.told self.new) }
     {
@@ -104,10 +107,11 @@ impl<'k, K: Sink> Writer<'k, K> {
     }
 
     /// Ends a key of a map.
+    #[inline(never)]
     fn end_key(&mut self) -> Result
         ensures { Does (part_ends call.Key) result (writer_view K.told self.old) (writer_view K.told self.new) }
     {
-        self.write(b"\":")?;
+        self.write_mark(b"\":")?;
         self.quoted = true;
         self.named = false;
         Ok(())
@@ -127,6 +131,7 @@ impl<'k, K: Sink> Writer<'k, K> {
     }
 
     /// Begins a part of a container.
+    #[inline(always)]
     pub(crate) fn begin_part(&mut self, slot: Slot) -> Result
         ensures { Does (part_begins (seen_slot slot.entry)) result
             (writer_view K.told self.old) (writer_view K.told self.new) }
@@ -141,6 +146,7 @@ impl<'k, K: Sink> Writer<'k, K> {
     }
 
     /// Ends a part of a container.
+    #[inline(always)]
     pub(crate) fn end_part(&mut self, slot: Slot) -> Result
         ensures { Does (part_ends (seen_slot slot.entry)) result
             (writer_view K.told self.old) (writer_view K.told self.new) }

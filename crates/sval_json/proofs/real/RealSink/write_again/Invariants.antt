@@ -1,7 +1,7 @@
 use Rattle.std.proofs.Common.{◌≡◌}
 use Rattle.std.specs.Io.KnownBytes.{Keeps}
 use Rattle.sval_json.specs.OverWriter.{over_writer_told}
-use Rattle.sval_json.proofs.real.RealSinkSink.write.Given as goal
+use Rattle.sval_json.proofs.real.RealSink.write_again.Given as goal
 
 -- nothing was taken, and no fault was counted
 abbrev pub invariant-loop : goal.invariant-loop
