@@ -1,13 +1,13 @@
 //! How a text stands between quotes (RFC 8259, section 7).
 
-ghost use Rattle.std.specs.Prelude.{◌≡◌, ℕ, ◌<◌, ◌≤◌, true, length, slice_index, take, map};
+ghost use Rattle.std.specs.Prelude.{◌≡◌, ℕ, ◌<◌, ◌≤◌, ◌++◌, true, codes, length, slice_index, take, map};
 ghost use Rattle.std.specs.Char.{digit_char};
 ghost use Rattle.std.specs.List.{AllPass};
 ghost use Rattle.std.specs.Simd.Lanes.{mask_l};
-ghost use Rattle.sval_json.specs.Escape.{escape, escaped, is_escaped, is_plain};
+ghost use Rattle.sval_json.specs.Escape.{escape, escaped, is_escaped, is_plain, low_byte, short_escape};
 ghost use Rattle.sval_json.specs.Sinks.{WritesAll};
 
-use crate::sink::{Sink, SinkError, write_all};
+use crate::sink::{Sink, SinkError, write_all, write_in_place};
 use std::simd::prelude::*;
 
 /// Whether a byte doesn't stand as it is between quotes.
@@ -109,30 +109,41 @@ fn hex_digit(digit: u8) -> u8
     }
 }
 
+/// The letter of a byte's short escape, if it has one.
+fn escape_letter(byte: u8) -> Option<u8>
+    ensures { result ≡ short_escape byte }
+{
+    match byte {
+        0x08 => Some(b'b'),
+        b'\t' => Some(b't'),
+        b'\n' => Some(b'n'),
+        0x0c => Some(b'f'),
+        b'\r' => Some(b'r'),
+        b'"' => Some(b'"'),
+        b'\\' => Some(b'\\'),
+        _ => None,
+    }
+}
+
+/// Writes the escape of a byte that has no short one.
+#[inline(never)]
+fn write_long_escape<K: Sink>(sink: &mut K, byte: u8) -> Result<(), SinkError>
+    ensures { WritesAll result (K.told sink.old) (codes "\\u00" ++ low_byte byte) (K.told sink.new) }
+{
+    let high = hex_digit(byte / 16);
+    let low = hex_digit(byte % 16);
+    write_all(sink, &[b'\\', b'u', b'0', b'0', high, low])
+}
+
 /// Writes the escape of a byte that has one.
+#[inline(always)]
 fn write_escape<K: Sink>(sink: &mut K, byte: u8) -> Result<(), SinkError>
     requires { is_escaped byte ≡ true }
     ensures { WritesAll result (K.told sink.old) (escape byte) (K.told sink.new) }
 {
-    match byte {
-        0x08 => write_all(sink, b"\\b"),
-        b'\t' => write_all(sink, b"\\t"),
-        b'\n' => write_all(sink, b"\\n"),
-        0x0c => write_all(sink, b"\\f"),
-        b'\r' => write_all(sink, b"\\r"),
-        b'"' => write_all(sink, b"\\\""),
-        b'\\' => write_all(sink, b"\\\\"),
-        _ => write_all(
-            sink,
-            &[
-                b'\\',
-                b'u',
-                b'0',
-                b'0',
-                hex_digit(byte / 16),
-                hex_digit(byte % 16),
-            ],
-        ),
+    match escape_letter(byte) {
+        Some(letter) => write_in_place(sink, &[b'\\', letter]),
+        None => write_long_escape(sink, byte),
     }
 }
 
