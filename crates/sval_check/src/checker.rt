@@ -60,9 +60,7 @@ impl Checker {
         ensures { Steps (checking self.old) (call_of L.text L.bytes call.entry) (checking self.new) result }
     {
         self.taken = self.taken.saturating_add(1);
-        let due = self.machine.ready::<L>(call)?;
-        self.machine.finish(due);
-        Ok(())
+        self.machine.step::<L>(call)
     }
 }
 
@@ -73,7 +71,7 @@ impl<L: Measured> Stream<L> for Checker {
 
     ghost standing = { λ checker. checking_standing (checking checker) };
 
-    #[inline(never)]
+    #[inline(always)]
     fn take(&mut self, call: AnyCall<'_, L::Text, L::Bytes>) -> sval_core::Result
         ensures { Answers checking_law result (checking_standing (checking self.old))
             (call_of L.text L.bytes call.entry) (checking_standing (checking self.new)) }

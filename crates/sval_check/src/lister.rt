@@ -65,6 +65,7 @@ impl<L: Measured> Stream<L> for Lister {
 
     ghost standing = { λ lister. listed_standing (listed lister) };
 
+    #[inline(always)]
     fn take(&mut self, call: AnyCall<'_, L::Text, L::Bytes>) -> sval_core::Result
         ensures { Answers listing_law result (listed_standing (listed self.old))
             (call_of L.text L.bytes call.entry) (listed_standing (listed self.new)) }

@@ -15,6 +15,8 @@ ghost use Rattle.sval_check.specs.Frames.{begun_frame, begun_form, seen_form};
 ghost use Rattle.sval_check.specs.Tops.{content_fragment, content_end};
 ghost use Rattle.sval_check.specs.Dues.{Readies, finished, undone};
 
+mod step;
+
 use crate::frame::{Begin, Content, Form};
 use crate::kept::NamedValue;
 use crate::measured::Measured;
@@ -167,6 +169,7 @@ impl Machine {
     }
 
     /// A value of this form may begin here.
+    #[inline(always)]
     fn has_room(&self, form: Form) -> bool
         ensures { result ≡ has_room (seen_form form) self.now }
     {
@@ -174,6 +177,7 @@ impl Machine {
     }
 
     /// Makes ready for a value that is one call.
+    #[inline(always)]
     fn value(&self, form: Form) -> Result<Due, Refusal>
         ensures { Readies false (value (seen_form form) self.now) self.now self.now result }
     {
@@ -233,6 +237,7 @@ impl Machine {
     }
 
     /// Makes ready for so many bytes of a text or binary.
+    #[inline(always)]
     fn fragment(&self, content: Content, size: usize) -> Result<Due, Refusal>
         ensures { Readies false (at_top (content_fragment content size) self.now) self.now self.now result }
     {
@@ -247,6 +252,7 @@ impl Machine {
     }
 
     /// Makes ready for the end of a text or binary.
+    #[inline(always)]
     fn content_end(&self, content: Content) -> Result<Due, Refusal>
         ensures { Readies false (at_top (content_end content) self.now) self.now self.now result }
     {
@@ -258,6 +264,7 @@ impl Machine {
     }
 
     /// Makes ready for the end of a value with a name of its own.
+    #[inline(always)]
     fn tagged_end(&self, name: Name<'_>) -> Result<Due, Refusal>
         ensures { Readies false (at_top (tagged_end (seen_name name.entry)) self.now) self.now self.now result }
     {
@@ -269,6 +276,7 @@ impl Machine {
     }
 
     /// Makes ready for an enum's end.
+    #[inline(always)]
     fn enum_end(&self, name: Name<'_>) -> Result<Due, Refusal>
         ensures { Readies false (at_top (enum_end (seen_name name.entry)) self.now) self.now self.now result }
     {
@@ -280,6 +288,7 @@ impl Machine {
     }
 
     /// Makes ready for a container's end.
+    #[inline(always)]
     fn end(&self, head: Head<'_>) -> Result<Due, Refusal>
         ensures { Readies false (at_top (end (seen_head head.entry)) self.now) self.now self.now result }
     {
@@ -291,6 +300,7 @@ impl Machine {
     }
 
     /// Opens a part of a container.
+    #[inline(always)]
     fn part_begin(&mut self, slot: Slot<'_>) -> Result<Due, Refusal>
         ensures { Readies true (at_top (part_begin (seen_slot slot.entry)) self.old) self.old self.new result }
     {
@@ -303,6 +313,7 @@ impl Machine {
     }
 
     /// Makes ready for a part's end.
+    #[inline(always)]
     fn part_end(&self, slot: Slot<'_>) -> Result<Due, Refusal>
         ensures { Readies false (at_top (part_end (seen_slot slot.entry)) self.now) self.now self.now result }
     {

@@ -56,6 +56,7 @@ impl Names {
     }
 
     /// Keeps the begin of a value that says a name, and gives its frame; of a container so much is still to come.
+    #[inline(always)]
     pub(crate) fn keep_value(
         &mut self,
         value: NamedValue,
@@ -72,6 +73,7 @@ impl Names {
     }
 
     /// Keeps the begin of a container's part, and gives its frame.
+    #[inline(always)]
     pub(crate) fn keep_slot(&mut self, slot: Slot<'_>) -> Result<Frame, NoMemory>
         ensures { Keeps self.old self.new (InPart (plain_slot (seen_slot slot.entry))) result }
     {
@@ -86,6 +88,7 @@ impl Names {
     }
 
     /// Keeps the begin of a field of a record.
+    #[inline(always)]
     fn keep_field(&mut self, tag: Option<&Tag>, label: &Label<'_>) -> Result<Frame, NoMemory>
         ensures { Keeps self.old self.new (InPart (plain_slot (seen_slot (Slot.Field tag.entry label.entry)))) result }
     {
@@ -97,6 +100,7 @@ impl Names {
     }
 
     /// Keeps the begin of a field of a tuple.
+    #[inline(always)]
     fn keep_place(&mut self, tag: Option<&Tag>, index: &Index) -> Result<Frame, NoMemory>
         ensures { Keeps self.old self.new (InPart (plain_slot (seen_slot (Slot.Place tag.entry index.entry)))) result }
     {
@@ -104,6 +108,7 @@ impl Names {
     }
 
     /// Keeps the begin of a field of a record that is a tuple too.
+    #[inline(always)]
     fn keep_field_place(
         &mut self,
         tag: Option<&Tag>,
@@ -154,6 +159,7 @@ impl Names {
     }
 
     /// The innermost begin with a name is that of a container which has parts at such places.
+    #[inline(always)]
     pub(crate) fn has_parts(&self, slot: Slot<'_>) -> bool
         ensures { result ≡ has_parts (named_top self.now None) (seen_slot slot.entry) }
     {
@@ -169,6 +175,7 @@ impl Names {
     }
 
     /// The innermost begin with a name is that of a tagged value of this name.
+    #[inline(always)]
     pub(crate) fn is_tagged(&self, name: Name<'_>) -> bool
         ensures { result ≡ is_tagged (named_top self.now None) (seen_name name.entry) }
     {
@@ -179,6 +186,7 @@ impl Names {
     }
 
     /// The innermost begin with a name is that of an enum of this name.
+    #[inline(always)]
     pub(crate) fn is_enum(&self, name: Name<'_>) -> bool
         ensures { result ≡ is_enum (named_top self.now None) (seen_name name.entry) }
     {
@@ -189,6 +197,7 @@ impl Names {
     }
 
     /// The innermost begin with a name is that of a container of this head.
+    #[inline(always)]
     pub(crate) fn is_head(&self, head: Head<'_>) -> bool
         ensures { result ≡ is_head (named_top self.now None) (seen_head head.entry) }
     {
@@ -203,6 +212,7 @@ impl Names {
     }
 
     /// The innermost begin with a name is that of a part at this place.
+    #[inline(always)]
     pub(crate) fn is_slot(&self, slot: Slot<'_>) -> bool
         ensures { result ≡ is_slot (named_top self.now None) (seen_slot slot.entry) }
     {
@@ -243,6 +253,7 @@ impl Names {
     }
 
     /// A label is the one that was kept last.
+    #[inline(always)]
     fn is_label(&self, begun: &KeptLabel, label: &Label<'_>) -> bool
         ensures { result ≡ equal.same_label label.now (kept_label self.now.texts.items begun.now) }
     {

@@ -41,6 +41,7 @@ impl Model for Stack {
 }
 
 /// The innermost frame.
+#[inline(always)]
 fn innermost(frames: &[Frame]) -> Option<Frame>
     ensures { top_of (reverse frames.now) ≡ result }
 {
@@ -48,6 +49,7 @@ fn innermost(frames: &[Frame]) -> Option<Frame>
 }
 
 /// Puts a part into the innermost frame, a container of whose entries so many are still to come with it.
+#[inline(always)]
 fn advance(frames: &mut [Frame], left: Option<usize>)
     ensures { reverse frames.new ≡ on_top (with_next left) (reverse frames.old) }
 {
@@ -66,6 +68,7 @@ fn advance_around(frames: &mut [Frame], left: Option<usize>)
 }
 
 /// Puts what is still to come of a text or binary into the innermost frame, if it is in one.
+#[inline(always)]
 fn set_left(frames: &mut [Frame], content: Content, left: Option<usize>)
     ensures { reverse frames.new ≡ on_top (with_rest content left) (reverse frames.old) }
 {
@@ -94,6 +97,7 @@ impl Stack {
     }
 
     /// A value of this form may begin directly in the innermost frame, or outside all.
+    #[inline(always)]
     pub(crate) fn admits(&self, form: Form) -> bool
         ensures { result ≡ admits (top_of self.now) (seen_form form) }
     {
@@ -105,6 +109,7 @@ impl Stack {
     }
 
     /// What is still to come of a text or binary in which the innermost frame is, after so many bytes.
+    #[inline(always)]
     pub(crate) fn content_rest(&self, content: Content, size: usize) -> Option<Option<usize>>
         ensures { result ≡ content_rest content size (top_of self.now) }
     {
@@ -116,6 +121,7 @@ impl Stack {
     }
 
     /// The innermost frame is in a text or binary, of which nothing is still to come.
+    #[inline(always)]
     pub(crate) fn content_ends(&self, content: Content) -> bool
         ensures { result ≡ content_ends content (top_of self.now) }
     {
@@ -127,6 +133,7 @@ impl Stack {
     }
 
     /// The innermost frame is in a value with a name of its own, which is this name.
+    #[inline(always)]
     pub(crate) fn is_tagged(&self, name: Name<'_>) -> bool
         ensures { result ≡ is_tagged (top_of self.now) (seen_name name.entry) }
     {
@@ -137,6 +144,7 @@ impl Stack {
     }
 
     /// The innermost frame is in an enum of this name.
+    #[inline(always)]
     pub(crate) fn is_enum(&self, name: Name<'_>) -> bool
         ensures { result ≡ is_enum (top_of self.now) (seen_name name.entry) }
     {
@@ -147,6 +155,7 @@ impl Stack {
     }
 
     /// The innermost frame is in a container that may end with this head.
+    #[inline(always)]
     pub(crate) fn ends(&self, head: Head<'_>) -> bool
         ensures { result ≡ ends (top_of self.now) (seen_head head.entry) }
     {
@@ -159,6 +168,7 @@ impl Stack {
     }
 
     /// What is still to come of a container in which the innermost frame is, after a part at this place.
+    #[inline(always)]
     pub(crate) fn part_rest(&self, slot: Slot<'_>) -> Option<Option<usize>>
         ensures { result ≡ part_rest (seen_slot slot.entry) (top_of self.now) }
     {
@@ -172,6 +182,7 @@ impl Stack {
     }
 
     /// The innermost frame is in a part at this place.
+    #[inline(always)]
     pub(crate) fn is_slot(&self, slot: Slot<'_>) -> bool
         ensures { result ≡ is_slot (top_of self.now) (seen_slot slot.entry) }
     {
@@ -185,6 +196,7 @@ impl Stack {
     }
 
     /// Opens the frame of a value that says no name in the innermost one.
+    #[inline(always)]
     pub(crate) fn push(&mut self, begin: Begin) -> Result<(), NoMemory>
         ensures { self.new ≡ (if is_ok result then begun_frame begin ∷ self.old else self.old) }
     {
@@ -196,6 +208,7 @@ impl Stack {
     }
 
     /// Opens the frame of a value that says a name in the innermost one; of a container so much is still to come.
+    #[inline(always)]
     pub(crate) fn push_named(
         &mut self,
         value: NamedValue,
@@ -214,6 +227,7 @@ impl Stack {
     }
 
     /// Opens a part in the innermost frame.
+    #[inline(always)]
     pub(crate) fn push_part(&mut self, slot: Slot<'_>) -> Result<(), NoMemory>
         ensures { let part = InPart (plain_slot (seen_slot slot.entry)) in
             self.new ≡ (if is_ok result then part ∷ self.old else self.old) }
@@ -226,6 +240,14 @@ impl Stack {
         Ok(())
     }
 
+    /// Counts a part in the innermost frame, a container of whose entries so many are still to come with it.
+    #[inline(always)]
+    pub(crate) fn advance(&mut self, left: Option<usize>)
+        ensures { self.new ≡ after_part left self.old }
+    {
+        advance(&mut self.frames, left);
+    }
+
     /// Counts the innermost frame, a part, in the container around it, of whose entries so many are still to come.
     pub(crate) fn advance_around(&mut self, left: Option<usize>)
         ensures { self.new ≡ under_top (after_part left) self.old }
@@ -234,6 +256,7 @@ impl Stack {
     }
 
     /// Closes the innermost frame, if there is one.
+    #[inline(always)]
     pub(crate) fn pop(&mut self)
         ensures { self.new ≡ below self.old }
     {
@@ -243,6 +266,7 @@ impl Stack {
     }
 
     /// Puts what is still to come of a text or binary into the innermost frame, if it is in one.
+    #[inline(always)]
     pub(crate) fn set_left(&mut self, content: Content, left: Option<usize>)
         ensures { self.new ≡ with_left content left self.old }
     {
