@@ -19,7 +19,7 @@ use Rattle.sval_relay.specs.declared.relaying.RelayError.TheVariants.{Write}
 use Rattle.sval_relay.specs.Ways.{is_captured}
 use Rattle.sval_relay.specs.Verdict.{asked_in, ending, one_in, all_in, OnVerdict}
 use Rattle.sval_relay.specs.Relays.{LacksRoomFor, IsWantFor, Relays}
-use Rattle.sval_relay.specs.WrittenTrees.{IsWantOfTree, IsWantAmong, WritesTreeIn, WritesTrees, WritesListIn, AreTrees, IsOfScript}
+use Rattle.sval_relay.specs.WrittenTrees.{IsWantOfTree, IsWantAmong, WritesTreeBy, WritesTrees, WritesListIn, AreTrees, IsOfScript}
 use Rattle.sval_relay.proofs.ListTexts.{alone}
 use Rattle.sval_relay.proofs.RelayAnswers.{relays_written, full_where_failed}
 
@@ -40,19 +40,19 @@ want_of_one : {K : Type 0} (captured : Bool) (told : K → Told) (old new : K) �
 want_of_one false told old new want = inr want
 want_of_one true told old new want = want
 
-as_list : {K : Type 0} (told : K → Told) (way : Way) (tree : Tree) (old new : K) (result : Result (Unit {0}) RelayError) → WritesTreeIn way result told tree old new
+as_list : {K : Type 0} (told : K → Told) (way : Way) (tree : Tree) (old new : K) (result : Result (Unit {0}) RelayError) → WritesTreeBy way result told tree old new
     → WritesTrees result (IsWantOfTree (is_captured way) told) told (asked_in way) (ending (asked_in way) false) (tree ∷ []) old new
 as_list told way tree old new result w =
     subst (λ end. WritesTrees result (IsWantOfTree (is_captured way) told) told (asked_in way) end (tree ∷ []) old new) (no_ending way)
     (alone told (asked_in way) tree (is_captured way) old new result w)
 
 pub serves_one : {K : Type 0} (told : K → Told) (bytes : List ℕ) (way : Way) (calls : List Call) (tree : Tree) (old new : K) (result : Result (Unit {0}) RelayError) → lines bytes ≡ Good calls → Spells calls tree
-    → WritesTreeIn way result told tree old new → Relays told bytes (one_in way) result old new
+    → WritesTreeBy way result told tree old new → Relays told bytes (one_in way) result old new
 serves_one told bytes way calls tree old new result is s w =
     relays_written bytes (one_in way) calls (tree ∷ []) is (tree, refl, s) told (IsWantOfTree (is_captured way) told) old new result (as_list told way tree old new result w) (want_of_one (is_captured way) told old new)
 
 pub full_for_one : {K : Type 0} (told : K → Told) (bytes : List ℕ) (way : Way) (calls : List Call) (tree : Tree) (old new : K) (result : Result (Unit {0}) RelayError) → lines bytes ≡ Good calls → Spells calls tree
-    → WritesTreeIn way result told tree old new → result ≡ Err Write → OnVerdict (LacksRoomFor (told old)) bytes (one_in way)
+    → WritesTreeBy way result told tree old new → result ≡ Err Write → OnVerdict (LacksRoomFor (told old)) bytes (one_in way)
 full_for_one told bytes way calls tree old new result is s w =
     full_where_failed bytes (one_in way) calls (tree ∷ []) is (tree, refl, s) told (IsWantOfTree (is_captured way) told) old new result (as_list told way tree old new result w)
 

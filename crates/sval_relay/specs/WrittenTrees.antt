@@ -71,8 +71,8 @@ WritesTree (Ok done) captured told asked tree old new = WritesTextOf asked tree 
 WritesTree (Err why) captured told asked tree old new = StopsTree why captured told asked tree old new
 
 -- the same in a way
-abbrev pub WritesTreeIn : {K : Type 0} → Way → Result (Unit {0}) RelayError → (K → Told) → Tree → K → K → Type 0
-WritesTreeIn way result told tree old new = WritesTree result (is_captured way) told (asked_in way) tree old new
+abbrev pub WritesTreeBy : {K : Type 0} → Way → Result (Unit {0}) RelayError → (K → Told) → Tree → K → K → Type 0
+WritesTreeBy way result told tree old new = WritesTree result (is_captured way) told (asked_in way) tree old new
 
 -- ---- trees one after another
 

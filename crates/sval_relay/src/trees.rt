@@ -8,7 +8,7 @@ ghost use Rattle.sval_core.specs.Spells.{Spells};
 ghost use Rattle.sval_core.specs.Trees.{Tree};
 ghost use Rattle.sval_core.specs.Values.{makes};
 ghost use Rattle.sval_relay.specs.Verdict.{JsonIn, Script};
-ghost use Rattle.sval_relay.specs.WrittenTrees.{WritesTree, WritesTreeIn};
+ghost use Rattle.sval_relay.specs.WrittenTrees.{WritesTree, WritesTreeBy};
 
 use crate::relaying::RelayError;
 use crate::way::Way;
@@ -27,7 +27,7 @@ pub(crate) fn write_tree<K: Sink>(
 ) -> Result<(), RelayError>
     requires { (tree : Tree) × Spells lines.now tree × IsPrintable tree }
     ensures { (tree : Tree) → Spells lines.now tree → IsPrintable tree
-        → WritesTreeIn way result K.told tree out.old out.new }
+        → WritesTreeBy way result K.told tree out.old out.new }
 {
     match way {
         Way::Direct => write_json(out, lines, Variants::Inside),
