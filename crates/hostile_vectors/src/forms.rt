@@ -1,0 +1,61 @@
+//! The forms of the program's words, and a run of one over any devices.
+
+use std::alloc::{AllocError, Global};
+use sval_json::Sink;
+use sval_relay::{Source, run};
+
+/// Each form that reads a script, its words with a space between two.
+pub(crate) const FORMS: [&'static str; 10] = [
+    "direct",
+    "buffered",
+    "direct beside",
+    "buffered beside",
+    "calls",
+    "direct lines",
+    "buffered lines",
+    "direct beside lines",
+    "buffered beside lines",
+    "calls lines",
+];
+
+/// What is written of a value.
+#[derive(Clone, Copy)]
+pub(crate) enum Text {
+    /// JSON with variants under their names.
+    Inside,
+    /// JSON with variants beside their names.
+    Beside,
+    /// A canonical script.
+    Calls,
+}
+
+/// What a form writes of a value.
+pub(crate) fn text_of(form: &str) -> Text {
+    if form.starts_with("calls") {
+        Text::Calls
+    } else if form.contains("beside") {
+        Text::Beside
+    } else {
+        Text::Inside
+    }
+}
+
+/// Whether a form takes many values.
+pub(crate) fn takes_many(form: &str) -> bool {
+    form.ends_with("lines")
+}
+
+/// Runs a form over these devices, and answers the status.
+pub(crate) fn run_over<I: Source, K: Sink, D: Sink>(
+    alloc: Global,
+    form: &str,
+    input: &mut I,
+    out: &mut K,
+    diag: &mut D,
+) -> Result<u8, AllocError> {
+    let mut words = Vec::new(alloc);
+    for word in form.split(' ') {
+        words.push(String::from_str(alloc, word)?)?;
+    }
+    Ok(run(alloc, words.as_slice(), input, out, diag))
+}
