@@ -1,13 +1,20 @@
 -- What a field says, seen by whatever follows it.
-use Rattle.std.specs.Prelude.{◌≡◌, ℕ, List, Option, Some, None, IfSome, Ok, Err, option_map, refl}
+use Rattle.std.specs.Prelude.{◌≡◌, ℕ, List, [], ◌∷◌, ◌++◌, Option, Some, None, IfSome, Ok, Err, option_map, refl}
 use Rattle.std.specs.Option.{ok_or}
 use Rattle.std.specs.Borrow.{Bor}
 use Rattle.std.proofs.Common.{◌∙◌, sym, ap, subst}
+use Rattle.std.proofs.lemmas.List.{append-nil}
 use Rattle.sval_label.specs.Calls.{Call, Name, Label, Index, Tag}
 use Rattle.sval_script.specs.Lines as script
 use Rattle.sval_script.specs.Lines.{LineForm, forms, find_form, call_of_fields}
 use Rattle.sval_script.specs.Fields.{LineLeft, line_ahead}
 use Rattle.sval_script.specs.NextFields.{with_field, NoField, call_before, first_call, EndsBefore, NextIs, NoNext, ReadsNext, ReadsAs, ReadsWord}
+use Rattle.sval_script.specs.NextFields.{StoresNextLabelField}
+use Rattle.sval_script.specs.Tags.{tag_of}
+use Rattle.sval_script.specs.FieldValues.{index_field_of}
+use Rattle.sval_script.specs.declared.tag.TagField.TheVariants as tag_field
+use Rattle.sval_script.specs.declared.field.LabelField.TheVariants as label_field
+use Rattle.sval_script.specs.declared.field.IndexField.TheVariants as index_field
 use Rattle.sval_script.specs.Words.{form_of_word}
 use Rattle.sval_script.specs.LineCalls.{Stored, call_with}
 use Rattle.sval_script.specs.MadeLines.{MakesLine, IsMade}
@@ -40,6 +47,25 @@ pub read_as : {A B : Type 0} (read : List ℕ → Option A) (seen : B → A) (fi
     → ReadsAs read seen line rest made
 read_as read seen first line rest None is said = field_is_none read first line rest is (sym said)
 read_as read seen first line rest (Some x) is said = field_is read first line rest (seen x) is (sym said)
+
+-- the next field is `-`, and says that there is no size, no tag, no index or no label
+pub dash_size_read : (line rest : LineLeft) → line ≡ with_field (45 ∷ []) rest → ReadsNext script.size line rest (Some None)
+dash_size_read line rest is = field_is script.size (45 ∷ []) line rest None is refl
+
+pub dash_tag_read : (line rest : LineLeft) → line ≡ with_field (45 ∷ []) rest → ReadsAs (script.or_dash script.tag) tag_of line rest (Some tag_field.Absent)
+dash_tag_read line rest is = field_is (script.or_dash script.tag) (45 ∷ []) line rest None is refl
+
+pub dash_index_read : (line rest : LineLeft) → line ≡ with_field (45 ∷ []) rest → ReadsAs (script.or_dash script.index) index_field_of line rest (Some (index_field.Absent, 0))
+dash_index_read line rest is = field_is (script.or_dash script.index) (45 ∷ []) line rest None is refl
+
+pub dash_label_stored : (line rest : LineLeft) (old : List ℕ) → line ≡ with_field (45 ∷ []) rest → StoresNextLabelField line rest old old label_field.Absent 0
+dash_label_stored line rest old is = record {
+  bytes = [];
+  spells = field_is (script.or_dash script.label) (45 ∷ []) line rest None is refl;
+  is_good = refl;
+  stored = sym (append-nil old);
+  has_len = refl;
+}
 
 pub word_read : (first : List ℕ) (line rest : LineLeft) (made : Option Word) → line ≡ with_field first rest → option_map form_of_word made ≡ find_form first forms
     → ReadsWord line rest made

@@ -8,6 +8,7 @@ pub mod Laws
 pub mod Words
 pub mod Tags
 pub mod Fields
+pub mod SeenBytes
 pub mod FieldValues
 pub mod NextFields
 pub mod NameNumbers

@@ -1,17 +1,16 @@
 //! What the fields of a line say.
 
-ghost use Rattle.std.specs.Prelude.{◌≡◌, ◌≤◌, ◌^◌, None, option_map, option_and_then, IfOk, OnOk, length};
+ghost use Rattle.std.specs.Prelude.{◌≡◌, ◌≤◌, ◌^◌, None, option_map, option_and_then, IfOk, length};
 ghost use Rattle.std.specs.Bool.{MatchBool};
-ghost use Rattle.std.specs.Result.{result_ok};
 ghost use Rattle.std.specs.Str.{IsUtf8};
-ghost use Rattle.hex.specs.Hex.{decode_of};
 ghost use Rattle.sval_label.specs.Ranges.{is_index};
 ghost use Rattle.sval_script.specs.Lines as script;
-ghost use Rattle.sval_script.specs.FieldValues.{Decodes, StoresText, StoresBytes, StoresLabel, StoresLabelField};
+ghost use Rattle.sval_script.specs.FieldValues.{StoresText, StoresBytes, StoresLabel, StoresLabelField};
 ghost use Rattle.sval_script.specs.FieldValues.{parts_of, part_and_tag, index_number, index_of, index_field_of};
 ghost use Rattle.sval_script.specs.NameNumbers.{label_count, label_len, index_count};
 ghost use Rattle.sval_script.specs.declared.field.LineError.TheVariants.{NoMemory};
 
+use crate::bytes::Bytes;
 use crate::number::{integer, natural};
 use crate::short::colon;
 use crate::tag::TagField;
@@ -126,6 +125,7 @@ pub(crate) fn truth(field: &[u8]) -> Option<bool>
 }
 
 /// A size, or `-` where there is none.
+#[inline(always)]
 pub(crate) fn size(field: &[u8]) -> Option<Option<usize>>
     ensures { result ≡ script.size field.now }
 {
@@ -136,6 +136,7 @@ pub(crate) fn size(field: &[u8]) -> Option<Option<usize>>
 }
 
 /// What stands before a field's `:`, and the tag behind it.
+#[inline(always)]
 fn split_tag(field: &[u8]) -> Option<(&[u8], TagField)>
     ensures { option_map part_and_tag result ≡ parts_of (script.cut_at 58 field.now) }
 {
@@ -146,6 +147,7 @@ fn split_tag(field: &[u8]) -> Option<(&[u8], TagField)>
 }
 
 /// The number of an index.
+#[inline(always)]
 fn index_of_digits(field: &[u8]) -> Option<(Sign, u64)>
     ensures { option_map index_number result ≡ option_and_then (script.keep is_index) (script.integer field.now) }
 {
@@ -166,6 +168,7 @@ pub(crate) fn index(field: &[u8]) -> Option<IndexRead>
 }
 
 /// An index, or `-` where there is none, and its number.
+#[inline(always)]
 pub(crate) fn index_or_dash(field: &[u8]) -> Option<(IndexField, u64)>
     ensures { option_map index_field_of result ≡ script.or_dash script.index field.now }
 {
@@ -176,17 +179,6 @@ pub(crate) fn index_or_dash(field: &[u8]) -> Option<(IndexField, u64)>
             Some((IndexField::Present(index.sign, index.tag), index.number))
         }
     }
-}
-
-/// Puts the bytes that hex digits spell behind those before them.
-#[inline(always)]
-fn decode(store: &mut Vec<u8>, digits: &[u8]) -> Result<(), LineError>
-    ensures decoded { OnOk result (Decodes digits.now store.old.items store.new.items) }
-    ensures bad { result ≡ Err LineError.Bad → result_ok (decode_of digits.now) ≡ None }
-{
-    let start = store.len();
-    store.resize(start + digits.len() / 2, 0)?;
-    hex::decode_to_slice(digits, &mut store[start..]).map_err(|_| LineError::Bad)
 }
 
 /// Bytes are UTF-8. Most texts of scripts are short and ASCII, which is told sooner.
@@ -215,7 +207,7 @@ fn kept_len(len: usize) -> Result<u32, LineError>
 
 /// Puts the text that a field spells behind what the store has, and answers how many bytes it has.
 #[inline(never)]
-pub(crate) fn store_text(store: &mut Vec<u8>, field: &[u8]) -> Result<u32, LineError>
+pub(crate) fn store_text(store: &mut Bytes, field: &[u8]) -> Result<u32, LineError>
     ensures stored { IfOk result (λ len. StoresText field.now store.old.items store.new.items len) }
     ensures bad { result ≡ Err LineError.Bad → script.text field.now ≡ None }
 {
@@ -223,8 +215,8 @@ pub(crate) fn store_text(store: &mut Vec<u8>, field: &[u8]) -> Result<u32, LineE
         return Err(LineError::Bad);
     };
     let start = store.len();
-    decode(store, digits)?;
-    if is_text(&store[start..]) {
+    store.decode(digits)?;
+    if is_text(&store.as_slice()[start..]) {
         kept_len(store.len() - start)
     } else {
         Err(LineError::Bad)
@@ -232,7 +224,7 @@ pub(crate) fn store_text(store: &mut Vec<u8>, field: &[u8]) -> Result<u32, LineE
 }
 
 /// Puts the bytes that a field spells behind what the store has, and answers how many they are.
-pub(crate) fn store_bytes(store: &mut Vec<u8>, field: &[u8]) -> Result<u32, LineError>
+pub(crate) fn store_bytes(store: &mut Bytes, field: &[u8]) -> Result<u32, LineError>
     ensures stored { IfOk result (λ len. StoresBytes field.now store.old.items store.new.items len) }
     ensures bad { result ≡ Err LineError.Bad → script.bytes field.now ≡ None }
 {
@@ -240,13 +232,13 @@ pub(crate) fn store_bytes(store: &mut Vec<u8>, field: &[u8]) -> Result<u32, Line
         return Err(LineError::Bad);
     };
     let start = store.len();
-    decode(store, digits)?;
+    store.decode(digits)?;
     kept_len(store.len() - start)
 }
 
 /// Puts a label's text behind what the store has.
 #[inline(always)]
-pub(crate) fn store_label(store: &mut Vec<u8>, field: &[u8]) -> Result<LabelRead, LineError>
+pub(crate) fn store_label(store: &mut Bytes, field: &[u8]) -> Result<LabelRead, LineError>
     ensures stored { IfOk result (λ label. StoresLabel field.now store.old.items store.new.items label) }
     ensures bad { result ≡ Err LineError.Bad → script.label field.now ≡ None }
 {
@@ -256,8 +248,9 @@ pub(crate) fn store_label(store: &mut Vec<u8>, field: &[u8]) -> Result<LabelRead
 }
 
 /// Puts a label's text behind what the store has, or nothing for `-`, and answers how many bytes it has.
+#[inline(always)]
 pub(crate) fn store_label_or_dash(
-    store: &mut Vec<u8>,
+    store: &mut Bytes,
     field: &[u8],
 ) -> Result<(LabelField, u32), LineError>
     ensures stored { IfOk result (λ read.

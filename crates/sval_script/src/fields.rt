@@ -1,6 +1,6 @@
 //! The fields of a line.
 
-ghost use Rattle.std.specs.Prelude.{◌≡◌, None, IfOk, IfSome, MatchOption, get_or};
+ghost use Rattle.std.specs.Prelude.{◌≡◌, None, IfOk, IfSome, MatchOption, get_or, ◌∷◌, []};
 ghost use Rattle.sval_label.specs.Calls as call;
 ghost use Rattle.sval_label.specs.Grouped.{int_number, int_type};
 ghost use Rattle.sval_script.specs.Lines as script;
@@ -13,6 +13,7 @@ ghost use Rattle.sval_script.specs.NextFields.{ReadsWord, ReadsNext, ReadsAs, No
 ghost use Rattle.sval_script.specs.NextFields.{StoresNextText, StoresNextBytes, StoresNextLabel, StoresNextLabelField, ReadsName};
 ghost use Rattle.sval_script.specs.NameNumbers.{label_count, name_count};
 
+use crate::bytes::Bytes;
 use crate::field::{
     IndexField, IndexRead, LabelField, LabelRead, LineError, index, index_or_dash, size,
     store_bytes, store_label, store_label_or_dash, store_text, truth,
@@ -60,6 +61,7 @@ impl NameFields {
     }
 
     /// The index's number, if there is an index, where these are the name's numbers.
+    #[inline(always)]
     pub(crate) fn number(self, numbers: &[u64]) -> u64
         ensures { result ≡ get_or numbers.now (label_count self.label) 0 }
     {
@@ -90,6 +92,7 @@ impl<'a> Fields<'a> {
     }
 
     /// The next field.
+    #[inline(always)]
     pub(crate) fn next(&mut self) -> Option<&'a [u8]>
         ensures { MatchOption result (NoField self.old) (λ field. self.old ≡ with_field field.now self.new) }
     {
@@ -105,7 +108,29 @@ impl<'a> Fields<'a> {
         Some(field)
     }
 
+    /// What is left behind the next field, if that is `-`: most that may be are, and no search is needed for its end.
+    #[inline(always)]
+    fn behind_dash(&self) -> Option<Fields<'a>>
+        ensures { IfSome result (λ rest. self.now ≡ with_field (45 ∷ []) rest) }
+    {
+        if self.is_over {
+            return None;
+        }
+        match self.rest {
+            [b'-', b' ', rest @ ..] => Some(Fields {
+                rest,
+                is_over: false,
+            }),
+            [b'-', b'\n', rest @ ..] => Some(Fields {
+                rest,
+                is_over: true,
+            }),
+            _ => None,
+        }
+    }
+
     /// What stands behind the line, if all of its fields were read.
+    #[inline(always)]
     pub(crate) fn end(&self) -> Option<&'a [u8]>
         ensures { EndsBefore self.now result }
     {
@@ -114,6 +139,7 @@ impl<'a> Fields<'a> {
 
     /// The next field, a word.
     #[tactic(auto, using(crate::proofs::FieldsRead::no_word_read, crate::proofs::FieldsRead::word_read))]
+    #[inline(always)]
     pub(crate) fn word(&mut self) -> Option<Word>
         ensures { ReadsWord self.old self.new result }
     {
@@ -122,6 +148,7 @@ impl<'a> Fields<'a> {
 
     /// The next field, a truth value.
     #[tactic(auto, using(crate::proofs::FieldsRead::none_read, crate::proofs::FieldsRead::field_read))]
+    #[inline(always)]
     pub(crate) fn truth(&mut self) -> Option<bool>
         ensures { ReadsNext script.truth self.old self.new result }
     {
@@ -130,6 +157,7 @@ impl<'a> Fields<'a> {
 
     /// The next field, a whole number in the type's range.
     #[tactic(auto, using(crate::proofs::FieldsRead::none_read, crate::proofs::FieldsRead::read_as))]
+    #[inline(always)]
     pub(crate) fn number(&mut self, kind: NumberType) -> Option<Int>
         ensures number { ReadsAs (script.whole_number_of (type_of kind)) int_number self.old self.new result }
         ensures of_type { IfSome result (λ number. int_type number ≡ type_of kind) }
@@ -138,15 +166,21 @@ impl<'a> Fields<'a> {
     }
 
     /// The next field, a size, or `-` where there is none.
-    #[tactic(auto, using(crate::proofs::FieldsRead::none_read, crate::proofs::FieldsRead::field_read))]
+    #[tactic(auto, using(crate::proofs::FieldsRead::none_read, crate::proofs::FieldsRead::field_read, crate::proofs::FieldsRead::dash_size_read))]
+    #[inline(always)]
     pub(crate) fn size(&mut self) -> Option<Option<usize>>
         ensures { ReadsNext script.size self.old self.new result }
     {
+        if let Some(behind) = self.behind_dash() {
+            *self = behind;
+            return Some(None);
+        }
         size(self.next()?)
     }
 
     /// The next field, a tag.
     #[tactic(auto, using(crate::proofs::FieldsRead::none_read, crate::proofs::FieldsRead::read_as))]
+    #[inline(always)]
     pub(crate) fn tag(&mut self) -> Option<TagField>
         ensures { ReadsAs script.tag tag_text self.old self.new result }
     {
@@ -154,10 +188,15 @@ impl<'a> Fields<'a> {
     }
 
     /// The next field, a tag, or `-` where there is none.
-    #[tactic(auto, using(crate::proofs::FieldsRead::none_read, crate::proofs::FieldsRead::read_as))]
+    #[tactic(auto, using(crate::proofs::FieldsRead::none_read, crate::proofs::FieldsRead::read_as, crate::proofs::FieldsRead::dash_tag_read))]
+    #[inline(always)]
     pub(crate) fn tag_or_dash(&mut self) -> Option<TagField>
         ensures { ReadsAs (script.or_dash script.tag) tag_of self.old self.new result }
     {
+        if let Some(behind) = self.behind_dash() {
+            *self = behind;
+            return Some(TagField::Absent);
+        }
         TagField::read_or_dash(self.next()?)
     }
 
@@ -171,15 +210,21 @@ impl<'a> Fields<'a> {
     }
 
     /// The next field, an index, or `-` where there is none, and its number.
-    #[tactic(auto, using(crate::proofs::FieldsRead::none_read, crate::proofs::FieldsRead::read_as))]
+    #[tactic(auto, using(crate::proofs::FieldsRead::none_read, crate::proofs::FieldsRead::read_as, crate::proofs::FieldsRead::dash_index_read))]
+    #[inline(always)]
     pub(crate) fn index_or_dash(&mut self) -> Option<(IndexField, u64)>
         ensures { ReadsAs (script.or_dash script.index) index_field_of self.old self.new result }
     {
+        if let Some(behind) = self.behind_dash() {
+            *self = behind;
+            return Some((IndexField::Absent, 0));
+        }
         index_or_dash(self.next()?)
     }
 
     /// The next field, a text, which goes behind what the store has. Answers how many bytes it has.
-    pub(crate) fn text(&mut self, store: &mut Vec<u8>) -> Result<u32, LineError>
+    #[inline(always)]
+    pub(crate) fn text(&mut self, store: &mut Bytes) -> Result<u32, LineError>
         ensures stored { IfOk result (λ len.
             StoresNextText self.old self.new store.old.items store.new.items len) }
         ensures bad { result ≡ Err LineError.Bad → NoNext script.text self.old }
@@ -188,8 +233,8 @@ impl<'a> Fields<'a> {
     }
 
     /// The next field, bytes, which go behind what the store has. Answers how many they are.
-    #[inline(never)]
-    pub(crate) fn bytes(&mut self, store: &mut Vec<u8>) -> Result<u32, LineError>
+    #[inline(always)]
+    pub(crate) fn bytes(&mut self, store: &mut Bytes) -> Result<u32, LineError>
         ensures stored { IfOk result (λ len.
             StoresNextBytes self.old self.new store.old.items store.new.items len) }
         ensures bad { result ≡ Err LineError.Bad → NoNext script.bytes self.old }
@@ -198,7 +243,8 @@ impl<'a> Fields<'a> {
     }
 
     /// The next field, a label, whose text goes behind what the store has.
-    pub(crate) fn label(&mut self, store: &mut Vec<u8>) -> Result<LabelRead, LineError>
+    #[inline(always)]
+    pub(crate) fn label(&mut self, store: &mut Bytes) -> Result<LabelRead, LineError>
         ensures stored { IfOk result (λ label.
             StoresNextLabel self.old self.new store.old.items store.new.items label) }
         ensures bad { result ≡ Err LineError.Bad → NoNext script.label self.old }
@@ -208,19 +254,26 @@ impl<'a> Fields<'a> {
 
     /// The next field, a label, whose text goes behind what the store has, or `-` where there is none. Answers also how
     /// many bytes the text has.
+    #[tactic(auto, using(crate::proofs::FieldsRead::dash_label_stored))]
+    #[inline(always)]
     pub(crate) fn label_or_dash(
         &mut self,
-        store: &mut Vec<u8>,
+        store: &mut Bytes,
     ) -> Result<(LabelField, u32), LineError>
         ensures stored { IfOk result (λ read.
             StoresNextLabelField self.old self.new store.old.items store.new.items read.0 read.1) }
         ensures bad { result ≡ Err LineError.Bad → NoNext (script.or_dash script.label) self.old }
     {
+        if let Some(behind) = self.behind_dash() {
+            *self = behind;
+            return Ok((LabelField::Absent, 0));
+        }
         store_label_or_dash(store, self.next().ok_or(LineError::Bad)?)
     }
 
     /// The next three fields, a name, whose label's text goes behind what the store has.
-    pub(crate) fn name(&mut self, store: &mut Vec<u8>) -> Result<NameRead, LineError>
+    #[inline(always)]
+    pub(crate) fn name(&mut self, store: &mut Bytes) -> Result<NameRead, LineError>
         ensures stored { IfOk result (λ name. ReadsName self.old self.new store.old.items store.new.items name) }
         ensures bad { result ≡ Err LineError.Bad
             → (next : call.Name → script.LineForm) → call_before (script.name next) self.old ≡ None }

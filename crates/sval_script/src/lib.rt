@@ -6,6 +6,7 @@
 //! in `specs/Printed.antt`, and [`laws`] has what holds of both.
 #![tactic(auto)]
 
+mod bytes;
 mod canon;
 mod field;
 mod fields;

@@ -67,6 +67,7 @@ pub(crate) enum Line {
 }
 
 /// Reads a truth value.
+#[inline(always)]
 fn read_truth(store: &mut Store, fields: &mut Fields) -> Result<Line, LineError>
     ensures made { IfOk result (λ line.
         MakesLine (form_of_word word.Bool) fields.old fields.new (stored store.old) (stored store.new) line) }
@@ -77,6 +78,7 @@ fn read_truth(store: &mut Store, fields: &mut Fields) -> Result<Line, LineError>
 }
 
 /// Reads a whole number.
+#[inline(always)]
 fn read_number(kind: NumberType, store: &mut Store, fields: &mut Fields) -> Result<Line, LineError>
     ensures made { IfOk result (λ line.
         MakesLine (form_of_word (word.Number kind)) fields.old fields.new
@@ -89,6 +91,7 @@ fn read_number(kind: NumberType, store: &mut Store, fields: &mut Fields) -> Resu
 }
 
 /// Reads a size.
+#[inline(always)]
 fn read_opening(opening: Opening, store: &mut Store, fields: &mut Fields) -> Result<Line, LineError>
     ensures made { IfOk result (λ line.
         MakesLine (form_of_word (word.Opening opening)) fields.old fields.new
@@ -104,6 +107,7 @@ fn read_opening(opening: Opening, store: &mut Store, fields: &mut Fields) -> Res
 }
 
 /// Reads a text.
+#[inline(always)]
 fn read_text(life: Lifetime, store: &mut Store, fields: &mut Fields) -> Result<Line, LineError>
     ensures made { IfOk result (λ line.
         MakesLine (form_of_word (word.TextFragment life)) fields.old fields.new
@@ -116,6 +120,7 @@ fn read_text(life: Lifetime, store: &mut Store, fields: &mut Fields) -> Result<L
 }
 
 /// Reads bytes.
+#[inline(always)]
 fn read_binary(life: Lifetime, store: &mut Store, fields: &mut Fields) -> Result<Line, LineError>
     ensures made { IfOk result (λ line.
         MakesLine (form_of_word (word.BinaryFragment life)) fields.old fields.new
@@ -128,6 +133,7 @@ fn read_binary(life: Lifetime, store: &mut Store, fields: &mut Fields) -> Result
 }
 
 /// Reads a tag alone.
+#[inline(always)]
 fn read_tag_hint(store: &mut Store, fields: &mut Fields) -> Result<Line, LineError>
     ensures made { IfOk result (λ line.
         MakesLine (form_of_word word.TagHint) fields.old fields.new (stored store.old) (stored store.new) line) }
@@ -138,6 +144,7 @@ fn read_tag_hint(store: &mut Store, fields: &mut Fields) -> Result<Line, LineErr
 }
 
 /// Reads a name.
+#[inline(always)]
 fn read_named(named: Named, store: &mut Store, fields: &mut Fields) -> Result<Line, LineError>
     ensures made { IfOk result (λ line.
         MakesLine (form_of_word (word.Named named)) fields.old fields.new
@@ -151,6 +158,7 @@ fn read_named(named: Named, store: &mut Store, fields: &mut Fields) -> Result<Li
 }
 
 /// Reads a name and a size.
+#[inline(always)]
 fn read_named_opening(
     opening: NamedOpening,
     store: &mut Store,
@@ -172,6 +180,7 @@ fn read_named_opening(
 }
 
 /// Reads a tag and a label.
+#[inline(always)]
 fn read_field(side: Side, store: &mut Store, fields: &mut Fields) -> Result<Line, LineError>
     ensures made { IfOk result (λ line.
         MakesLine (form_of_word (word.Field side)) fields.old fields.new
@@ -185,6 +194,7 @@ fn read_field(side: Side, store: &mut Store, fields: &mut Fields) -> Result<Line
 }
 
 /// Reads a tag and an index.
+#[inline(always)]
 fn read_place(side: Side, store: &mut Store, fields: &mut Fields) -> Result<Line, LineError>
     ensures made { IfOk result (λ line.
         MakesLine (form_of_word (word.Place side)) fields.old fields.new
@@ -199,6 +209,7 @@ fn read_place(side: Side, store: &mut Store, fields: &mut Fields) -> Result<Line
 }
 
 /// Reads a tag, a label and an index.
+#[inline(always)]
 fn read_field_place(side: Side, store: &mut Store, fields: &mut Fields) -> Result<Line, LineError>
     ensures made { IfOk result (λ line.
         MakesLine (form_of_word (word.FieldPlace side)) fields.old fields.new
@@ -215,6 +226,7 @@ fn read_field_place(side: Side, store: &mut Store, fields: &mut Fields) -> Resul
 
 impl Word {
     /// Reads the fields behind the word.
+    #[inline(always)]
     fn read_fields(self, store: &mut Store, fields: &mut Fields) -> Result<Line, LineError>
         ensures made { IfOk result (λ line.
             MakesLine (form_of_word self) fields.old fields.new (stored store.old) (stored store.new) line) }
@@ -239,6 +251,7 @@ impl Word {
 
 /// Reads the line that a script begins with, and answers also what stands behind it. What finds no place in the line
 /// goes behind what the store has.
+#[inline(always)]
 pub(crate) fn read_line<'a>(
     store: &mut Store,
     script: &'a [u8],

@@ -8,21 +8,34 @@ ghost use Rattle.sval_script.specs.Runs.{MarksFirst, SameFrom};
 use memchr::{memchr, memchr2};
 use std::simd::prelude::*;
 
-/// The first space or line feed, which is mostly near, and often behind a lone `-`.
+/// The first space or line feed, which is mostly near.
+#[inline(always)]
 pub(crate) fn field_end(bytes: &[u8]) -> Option<usize>
     ensures { IsFirstByte (is_byte2 32 10) bytes.now result }
 {
-    if let [b'-', b' ' | b'\n', ..] = bytes {
-        return Some(1);
-    }
-    if bytes.len() < 32 {
+    if bytes.len() < 16 {
         return memchr2(b' ', b'\n', bytes);
     }
     if let Some(end) = lowest(near_ends(bytes)) {
         return Some(end);
     }
-    let end = memchr2(b' ', b'\n', &bytes[32..])?;
-    Some(32 + end)
+    let end = far_end(&bytes[16..])?;
+    Some(16 + end)
+}
+
+/// The first space or line feed, in what stands behind the first bytes of a field.
+#[inline(always)]
+fn far_end(bytes: &[u8]) -> Option<usize>
+    ensures { IsFirstByte (is_byte2 32 10) bytes.now result }
+{
+    if bytes.len() < 16 {
+        return memchr2(b' ', b'\n', bytes);
+    }
+    if let Some(end) = lowest(near_ends(bytes)) {
+        return Some(end);
+    }
+    let end = memchr2(b' ', b'\n', &bytes[16..])?;
+    Some(16 + end)
 }
 
 /// The first `:`.
@@ -39,14 +52,14 @@ pub(crate) fn colon(bytes: &[u8]) -> Option<usize>
     Some(16 + place)
 }
 
-/// Which of the first 32 bytes are spaces or line feeds.
+/// Which of the first 16 bytes are spaces or line feeds.
 #[inline(always)]
 fn near_ends(bytes: &[u8]) -> u64
-    requires { 32 ≤ length bytes.now }
-    ensures { MarksFirst (is_byte2 32 10) bytes.now 32 result }
+    requires { 16 ≤ length bytes.now }
+    ensures { MarksFirst (is_byte2 32 10) bytes.now 16 result }
 {
-    let near = u8x32::from_slice(bytes);
-    (near.simd_eq(u8x32::splat(b' ')) | near.simd_eq(u8x32::splat(b'\n'))).to_bitmask()
+    let near = u8x16::from_slice(bytes);
+    (near.simd_eq(u8x16::splat(b' ')) | near.simd_eq(u8x16::splat(b'\n'))).to_bitmask()
 }
 
 /// Which of the first 16 bytes are colons.
@@ -73,6 +86,7 @@ fn lowest(mask: u64) -> Option<usize>
 }
 
 /// Whether two runs are the same.
+#[inline(always)]
 pub(crate) fn same(a: &[u8], b: &[u8]) -> bool
     ensures { result ≡ bytes_eq a.now b.now }
 {
@@ -80,7 +94,8 @@ pub(crate) fn same(a: &[u8], b: &[u8]) -> bool
         return false;
     }
     match a.len() {
-        0..=7 => same_by_one(a, b),
+        0..=3 => same_by_one(a, b),
+        4..=7 => same_four(a, b, 0) && same_four(a, b, a.len() - 4),
         8..=15 => same_eight(a, b, 0) && same_eight(a, b, a.len() - 8),
         16..=32 => same_sixteen(a, b, 0) && same_sixteen(a, b, a.len() - 16),
         _ => a == b,
@@ -99,6 +114,17 @@ fn same_by_one(a: &[u8], b: &[u8]) -> bool
         }
     }
     true
+}
+
+/// Whether two runs have the same four bytes from a place on.
+#[inline(always)]
+fn same_four(a: &[u8], b: &[u8], from: usize) -> bool
+    requires in_a { from + 4 ≤ length a.now }
+    requires in_b { from + 4 ≤ length b.now }
+    ensures { IsTrue result ↔ SameFrom from 4 a.now b.now }
+{
+    let four = u8x4::from_slice(&a[from..]);
+    four.simd_ne(u8x4::from_slice(&b[from..])).to_bitmask() == 0
 }
 
 /// Whether two runs have the same eight bytes from a place on.

@@ -8,6 +8,7 @@ ghost use Rattle.sval_script.specs.NameNumbers.{label_numbers, index_numbers, na
 ghost use Rattle.sval_script.specs.NameNumbers.{label_count, name_count, next_label_len};
 ghost use Rattle.sval_script.specs.MadeLines.{StoresCall, PutsWide};
 
+use crate::bytes::Bytes;
 use crate::field::{IndexField, LabelField, LineError};
 use crate::fields::{NameFields, NameRead};
 use crate::line::Line;
@@ -18,7 +19,7 @@ use sval_label::Int;
 #[derive(Drop)]
 pub(crate) struct Store {
     /// Texts and binaries, decoded.
-    pub(crate) bytes: Vec<u8>,
+    pub(crate) bytes: Bytes,
     /// Numbers that find no place in their lines.
     pub(crate) numbers: Vec<u64>,
 }
@@ -30,7 +31,7 @@ impl Store {
         ensures numbers { result.numbers.items ≡ [] }
     {
         Store {
-            bytes: Vec::new(alloc),
+            bytes: Bytes::new(alloc),
             numbers: Vec::new(alloc),
         }
     }

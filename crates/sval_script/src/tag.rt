@@ -73,6 +73,7 @@ fn row(place: usize) -> (&'static [u8], TagField)
 
 impl TagField {
     /// The tag with this text.
+    #[inline(never)]
     pub(crate) fn read(field: &[u8]) -> Option<TagField>
         ensures named { option_map tag_text result ≡ script.tag field.now }
         ensures tag { option_map tag_of result ≡ option_map Some (script.tag field.now) }
@@ -85,6 +86,7 @@ impl TagField {
     }
 
     /// The tag with this text, or none for `-`.
+    #[inline(always)]
     pub(crate) fn read_or_dash(field: &[u8]) -> Option<TagField>
         ensures { option_map tag_of result ≡ script.or_dash script.tag field.now }
     {

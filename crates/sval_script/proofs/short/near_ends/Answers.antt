@@ -7,4 +7,4 @@ use Rattle.sval_script.proofs.short.near_ends.Goals as goal
 pub returns : goal.returns
 returns c =
     let bytes = c.args.bytes.now in
-    marks_first (is_byte2 32 10) bytes _ 32 c.requires (omega arith) (either_tops 32 10 (take 32 bytes) 32 (length-take-le 32 bytes c.requires))
+    marks_first (is_byte2 32 10) bytes _ 16 c.requires (omega arith) (either_tops 32 10 (take 16 bytes) 16 (length-take-le 16 bytes c.requires))

@@ -1,0 +1,87 @@
+//! Bytes with room behind them.
+
+ghost use Rattle.std.specs.Prelude.{◌≡◌, ◌≤◌, None, OnOk, [], length};
+ghost use Rattle.std.specs.Result.{result_ok};
+ghost use Rattle.hex.specs.Hex.{decode_of};
+ghost use Rattle.sval_script.specs.FieldValues.{Decodes};
+ghost use Rattle.sval_script.specs.SeenBytes.{Keeps};
+
+use crate::field::LineError;
+use std::alloc::Global;
+use std::marker::Model;
+
+/// How many bytes of room are made at once, behind those that are needed.
+const ROOM: usize = 512;
+
+/// Bytes one after another, with room behind them: bytes of no meaning, so that what is decoded there needs no clearing
+/// of its own.
+#[derive(Drop)]
+pub(crate) struct Bytes {
+    /// The bytes, and the room behind them.
+    room: Vec<u8>,
+    /// How many bytes there are.
+    len: usize,
+}
+
+impl Model for Bytes {
+    ghost use Rattle.std.specs.Prelude.{◌≤◌, length, take};
+    ghost use Rattle.sval_script.specs.SeenBytes.{SeenBytes};
+
+    ghost Value = { SeenBytes };
+
+    ghost view = { λ bytes. record { items = take bytes.len bytes.room.items } };
+
+    ghost invariant = { λ bytes. bytes.len ≤ length bytes.room.items };
+}
+
+/// Makes a vector at least as long as that, with room for more where it was shorter.
+#[inline(always)]
+fn lengthen(room: &mut Vec<u8>, len: usize) -> Result<(), LineError>
+    ensures same { Keeps room.old.items room.new.items }
+    ensures long { OnOk result (len ≤ length room.new.items) }
+    ensures no_memory { ¬ (result ≡ Err LineError.Bad) }
+{
+    if room.len() < len {
+        room.resize(len.saturating_add(ROOM), 0)?;
+    }
+    Ok(())
+}
+
+impl Bytes {
+    /// No bytes, which take no memory yet.
+    pub(crate) fn new(alloc: Global) -> Bytes
+        ensures { result.items ≡ [] }
+    {
+        Bytes {
+            room: Vec::new(alloc),
+            len: 0,
+        }
+    }
+
+    /// How many they are.
+    pub(crate) fn len(&self) -> usize
+        ensures { result ≡ length self.now.items }
+    {
+        self.len
+    }
+
+    /// All of them.
+    pub(crate) fn as_slice(&self) -> &[u8]
+        ensures { result.now ≡ self.now.items }
+    {
+        &self.room[..self.len]
+    }
+
+    /// Puts the bytes that hex digits spell behind the others.
+    #[inline(always)]
+    pub(crate) fn decode(&mut self, digits: &[u8]) -> Result<(), LineError>
+        ensures decoded { OnOk result (Decodes digits.now self.old.items self.new.items) }
+        ensures bad { result ≡ Err LineError.Bad → result_ok (decode_of digits.now) ≡ None }
+    {
+        let end = self.len + digits.len() / 2;
+        lengthen(&mut self.room, end)?;
+        hex::decode_to_slice(digits, &mut self.room[self.len..end]).map_err(|_| LineError::Bad)?;
+        self.len = end;
+        Ok(())
+    }
+}
