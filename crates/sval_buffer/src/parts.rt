@@ -347,6 +347,7 @@ impl<'sval, N: CallStore> Parts<'sval, N> {
 
     /// Takes a call.
     #[tactic(auto, unfolding(crate::specs::Forest::take, crate::specs::Forest::may_grow))]
+    #[inline(always)]
     pub(crate) fn capture(&mut self, alloc: Global, call: Call<'sval, '_>) -> Result<(), ErrorKind>
         ensures { let taken = lent_call call.entry in
             CapturesBy (λ f. may_grow f taken) (λ f. forest.take f taken) self.old result self.new }

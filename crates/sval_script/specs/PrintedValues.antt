@@ -47,12 +47,12 @@ pub record EndsUnknown (calls : List Call) (old new : Told) : Type 0 where
   pub printed_before : ArePrinted front old new
 
 -- the value refuses, and all tags of its calls are known
-pub record RefusesItself (emission : Emission) : Type 0 where
+pub record RefusesPrintable (emission : Emission) : Type 0 where
   pub refuses : emission.refuses ≡ true
   pub known : HaveKnownTags emission.calls
 
 -- the value refused after all of its calls were printed
-pub record EndsRefused (emission : Emission) (old new : Told) : Type 0 where
+pub record EndsPrinted (emission : Emission) (old new : Told) : Type 0 where
   pub refuses : emission.refuses ≡ true
   pub all_printed : ArePrinted emission.calls old new
 
@@ -63,8 +63,8 @@ pub record EndsRefused (emission : Emission) (old new : Told) : Type 0 where
 pub record PrintsValue (emission : Emission) (result : Result (Unit {0}) PrintError) (old new : Told) : Type 0 where
   pub all_printed : OnOk result (ArePrinted emission.calls old new)
   pub willing : OnOk result (emission.refuses ≡ false)
-  pub refused_comes : RefusesItself emission → IsQuiet old new → result ≡ Err error.Refused
-  pub refused : result ≡ Err error.Refused → EndsRefused emission old new
+  pub refused_comes : RefusesPrintable emission → IsQuiet old new → result ≡ Err error.Refused
+  pub refused : result ≡ Err error.Refused → EndsPrinted emission old new
   pub unknown_comes : (HaveKnownTags emission.calls → ⊥) → IsQuiet old new → result ≡ Err error.UnknownTag
   pub unknown : result ≡ Err error.UnknownTag → EndsUnknown emission.calls old new
   pub write : result ≡ Err error.Write → Rose old.faults new.faults

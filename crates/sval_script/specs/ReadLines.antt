@@ -50,6 +50,6 @@ pub record EndsIn (old : ReadLines) (whole behind : List ℕ) (new : ReadLines) 
   pub goes_on : (more : List ℕ) → lines_after (calls_of new.lines.items (stored new.store)) (behind ++ more) ≡ lines_with old (whole ++ more)
 
 -- a piece was read behind what was read before it
-pub record Takes (old : ReadLines) (piece : List ℕ) (new : ReadLines) : Type 0 where
+pub record ReadsPiece (old : ReadLines) (piece : List ℕ) (new : ReadLines) : Type 0 where
   pub is_read : IsRead new
   pub goes_on : (more : List ℕ) → lines_with new more ≡ lines_with old (piece ++ more)

@@ -4,7 +4,7 @@ ghost use Rattle.std.specs.Prelude.{◌≡◌, [], ℕ, List, ◌++◌, ◌<◌,
 ghost use Rattle.sval_script.specs.Lines.{lines};
 ghost use Rattle.sval_script.specs.LineCalls.{stored};
 ghost use Rattle.sval_script.specs.Readings.{answer_to, answer_with, TakesPiece};
-ghost use Rattle.sval_script.specs.ReadLines.{calls_of, lines_with, Holds, EndsLine, ReadsOn, IsFirstBad, IsRead, EndsIn, Takes};
+ghost use Rattle.sval_script.specs.ReadLines.{calls_of, lines_with, Holds, EndsLine, ReadsOn, IsFirstBad, IsRead, EndsIn, ReadsPiece};
 
 use crate::field::LineError;
 use crate::line::{Line, read_line};
@@ -85,7 +85,7 @@ impl ReadLines {
     /// Reads the next piece.
     fn take(&mut self, piece: &[u8]) -> Result<(), ScriptError>
         requires { IsRead self.old }
-        ensures taken { OnOk result (Takes self.old piece.now self.new) }
+        ensures taken { OnOk result (ReadsPiece self.old piece.now self.new) }
         ensures bad { IfErr result (IsFirstBad (calls_of self.old.lines.items (stored self.old.store))
             (self.old.begun.items ++ piece.now)) }
     {
