@@ -1,5 +1,7 @@
 //! A device that fails at one call, each in turn, over each script in each form.
 
+ghost use Rattle.std.specs.Prelude.{◌≤◌};
+
 use crate::cases::{Case, compare, each_case};
 use crate::forms::run_over;
 use std::alloc::Global;
@@ -19,7 +21,9 @@ const CALLS: usize = 10_000;
 
 /// Runs a form over an output that takes so many bytes a call at most, and fails at each in turn until it meets no
 /// failure: it has a first part of what is due, and of bytes one by one those before the failure.
-fn try_writes(rt: &impl Abort, alloc: Global, case: &Case, chunk: usize) -> Result<(), Fail> {
+fn try_writes(rt: &impl Abort, alloc: Global, case: &Case, chunk: usize) -> Result<(), Fail>
+    requires { 1 ≤ chunk }
+{
     for made in 0..CALLS {
         let failing = [made as u64 + 1];
         let mut input = MemSource::new(case.script.as_bytes());
