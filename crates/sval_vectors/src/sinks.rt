@@ -5,7 +5,7 @@ ghost use Rattle.std.specs.Prelude.{◌+◌, Some, None};
 use crate::said::{PlainCall as Call, Said};
 use std::alloc::Global;
 use std::test::Fail;
-use sval_json::{ErrorKind, Sink, SinkError, VecSink, stream_to_io_write, write_all};
+use sval_json::{ErrorKind, FixedSink, Sink, SinkError, VecSink, stream_to_io_write, write_all};
 
 /// A sink in memory that counts its calls, and may take one byte a call, or stop at a call.
 #[derive(Drop)]
@@ -76,43 +76,6 @@ impl Sink for Balky {
     }
 }
 
-/// A sink in memory that tells its room.
-#[derive(Drop)]
-struct Narrow {
-    taken: VecSink,
-    room: usize,
-    faults: u64,
-}
-
-impl Sink for Narrow {
-    ghost told = { λ sink. record {
-      text = Some sink.taken.bytes;
-      room = Some sink.room;
-      held = Some 0;
-      faults = sink.faults;
-      wants = sink.taken.wants;
-    } };
-
-    fn write(&mut self, piece: &[u8]) -> Result<usize, SinkError> {
-        if self.room == 0 && !piece.is_empty() {
-            self.faults = self.faults.saturating_add(1);
-            return Err(SinkError::Failed);
-        }
-        let count = piece.len().min(self.room);
-        match self.taken.write(&piece[..count]) {
-            Ok(count) => {
-                self.room -= count;
-                Ok(count)
-            }
-            Err(why) => Err(why),
-        }
-    }
-
-    fn flush(&mut self) -> Result<(), SinkError> {
-        Ok(())
-    }
-}
-
 /// A text with escapes, a number and a truth value in a sequence.
 fn calls<'a>() -> [Call<'a>; 13] {
     [
@@ -172,27 +135,21 @@ fn stops_where_a_sink_stops(rt: HostRuntime) {
 fn fails_where_room_is_lacking(rt: HostRuntime) -> Result<(), Fail> {
     let calls = calls();
     for room in 0..JSON.len() {
-        let mut sink = Narrow {
-            taken: VecSink::new(rt.alloc()),
-            room,
-            faults: 0,
-        };
+        let mut buffer = vec![in rt.alloc(); 0; room]?;
+        let mut sink = FixedSink::new(&mut buffer);
         let answer = stream_to_io_write(&mut sink, &Said::willing(&calls));
         assert_eq!(rt;
             answer.map_err(|error| error.kind()),
             Err(ErrorKind::IO),
             "room {room}"
         );
-        assert_eq!(rt; sink.taken.as_slice(), &JSON[..room], "room {room}");
+        assert_eq!(rt; sink.as_slice(), &JSON[..room], "room {room}");
     }
-    let mut enough = Narrow {
-        taken: VecSink::new(rt.alloc()),
-        room: JSON.len(),
-        faults: 0,
-    };
+    let mut buffer = vec![in rt.alloc(); 0; JSON.len()]?;
+    let mut enough = FixedSink::new(&mut buffer);
     stream_to_io_write(&mut enough, &Said::willing(&calls))?;
-    assert_eq!(rt; enough.taken.as_slice(), JSON);
-    assert_eq!(rt; enough.room, 0);
+    assert_eq!(rt; enough.as_slice(), JSON);
+    assert_eq!(rt; enough.room(), 0);
     Ok(())
 }
 

@@ -1,70 +1,10 @@
-//! Devices for tests, which give and take little at a time, and fail where they are told to.
+//! Sinks for tests, which fail at a flush, or hold back what they take.
 
 ghost use Rattle.std.specs.Prelude.{◌≡◌, ◌≤◌, ◌++◌, None, Some, length};
 ghost use Rattle.sval_core.specs.Law.{one_more};
 
 use std::alloc::Global;
 use sval_json::{Sink, SinkError};
-use sval_relay::{Source, SourceError};
-
-/// Gives these bytes, at most `chunk` a call, and fails at one call, counted from 1.
-#[derive(Drop)]
-pub(crate) struct FaultySource<'a> {
-    bytes: &'a [u8],
-    chunk: usize,
-    failing: u64,
-    /// How many calls there were.
-    pub(crate) calls: u64,
-    faults: u64,
-}
-
-impl<'a> FaultySource<'a> {
-    /// A source that never fails where `failing` is 0.
-    pub(crate) fn new(bytes: &'a [u8], chunk: usize, failing: u64) -> Self {
-        FaultySource {
-            bytes,
-            chunk,
-            failing,
-            calls: 0,
-            faults: 0,
-        }
-    }
-}
-
-impl<'a> Source for FaultySource<'a> {
-    ghost told = { λ source. record { left = None; faults = source.faults } };
-
-    fn read(&mut self, buffer: &mut [u8]) -> Result<usize, SourceError> {
-        self.calls = self.calls.saturating_add(1);
-        if self.calls == self.failing {
-            self.faults = self.faults.saturating_add(1);
-            return Err(SourceError::Failed);
-        }
-        let count = buffer.len().min(self.bytes.len()).min(self.chunk);
-        let (given, left) = self.bytes.split_at(count);
-        buffer[..count].copy_from_slice(given);
-        self.bytes = left;
-        Ok(count)
-    }
-}
-
-/// Gives line feeds.
-#[derive(Drop)]
-pub(crate) struct LineFeeds {
-    /// How many it has left.
-    pub(crate) left: usize,
-}
-
-impl Source for LineFeeds {
-    ghost told = { λ _. record { left = None; faults = 0 } };
-
-    fn read(&mut self, buffer: &mut [u8]) -> Result<usize, SourceError> {
-        let count = buffer.len().min(self.left);
-        buffer[..count].fill(b'\n');
-        self.left -= count;
-        Ok(count)
-    }
-}
 
 /// Takes one byte a call, and fails at one call, counted from 1, or at each flush.
 #[derive(Drop)]

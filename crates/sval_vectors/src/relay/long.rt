@@ -1,10 +1,10 @@
 //! Long and deep scripts.
 
-use super::fakes::LineFeeds;
 use super::{Ran, WAYS, run_on, run_script};
 use std::alloc::{AllocError, Global};
 use std::test::Fail;
 use sval_json::VecSink;
+use sval_relay::{MemSource, Source};
 
 /// The script of a text of these many fragments, each of these many letters.
 fn text_script(alloc: Global, fragments: usize, letters: usize) -> Result<Vec<u8>, AllocError> {
@@ -56,11 +56,16 @@ fn limit(rt: HostRuntime) -> Result<(), Fail> {
         (3 * limit, 2 * limit - 1, 11, long),
     ];
     for (count, left, wanted, text) in table {
-        let mut input = LineFeeds { left: count };
+        let feeds = vec![in alloc; b'\n'; count]?;
+        let mut input = MemSource::new(&feeds);
         let mut out = VecSink::new(alloc);
         let (status, diag) = run_on(alloc, "direct", &mut input, &mut out)?;
         assert_eq!(rt; status, wanted, "at {count}");
-        assert_eq!(rt; input.left, left, "at {count}");
+        assert_eq!(rt;
+            input.read(&mut vec![in alloc; 0; count]?),
+            Ok(left),
+            "at {count}"
+        );
         assert!(rt; out.as_slice().is_empty(), "at {count}");
         assert_eq!(rt; diag.as_slice(), text.as_bytes(), "at {count}");
     }

@@ -1,8 +1,7 @@
 //! What is told of scripts that are made.
 
-use super::fakes::FaultySink;
 use std::test::Fail;
-use sval_json::VecSink;
+use sval_json::{FaultySink, VecSink};
 use sval_relay::{MadeError, Way, relay, relay_made};
 
 /// The script of one record.
@@ -51,8 +50,8 @@ fn tells_of_scripts(rt: HostRuntime) -> Result<(), Fail> {
 #[test]
 fn a_write_that_fails(rt: HostRuntime) -> Result<(), Fail> {
     let alloc = rt.alloc();
-    let mut out = FaultySink::new(alloc, 10, true);
+    let mut out = FaultySink::new(alloc, 1, &[10]);
     assert_eq!(rt; relay_made(alloc, 2, &mut out), Err(MadeError::Write));
-    assert_eq!(rt; out.taken.as_slice(), b"calls 28 ".as_slice());
+    assert_eq!(rt; out.as_slice(), b"calls 28 ".as_slice());
     Ok(())
 }

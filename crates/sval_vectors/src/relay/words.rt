@@ -1,10 +1,10 @@
 //! Words that are no form.
 
-use super::fakes::{FaultySink, FaultySource};
+use super::fakes::FaultySink;
 use std::alloc::{AllocError, Global};
 use std::test::Fail;
 use sval_json::VecSink;
-use sval_relay::run;
+use sval_relay::{MemSource, Source, run};
 
 /// These words, each as a `String`.
 fn owned(alloc: Global, texts: &[&str]) -> Result<Vec<String>, AllocError> {
@@ -57,12 +57,12 @@ fn no_form(rt: HostRuntime) -> Result<(), Fail> {
     ];
     for texts in table {
         let words = owned(alloc, texts)?;
-        let mut input = FaultySource::new(b"null\n", 7, 0);
+        let mut input = MemSource::new(b"null\n");
         let mut out = VecSink::new(alloc);
         let mut diag = VecSink::new(alloc);
         let status = run(alloc, &words, &mut input, &mut out, &mut diag);
         assert_eq!(rt; status, 2, "at {texts:?}");
-        assert_eq!(rt; input.calls, 0, "at {texts:?}");
+        assert_eq!(rt; input.read(&mut [0; 8]), Ok(5), "at {texts:?}");
         assert!(rt; out.as_slice().is_empty(), "at {texts:?}");
         assert_eq!(rt;
             diag.as_slice(),
@@ -91,7 +91,7 @@ fn diag_fails(rt: HostRuntime) -> Result<(), Fail> {
     for (texts, script, wanted) in table {
         let words = owned(alloc, texts)?;
         for failing in 0..4 {
-            let mut input = FaultySource::new(script.as_bytes(), 1, 0);
+            let mut input = MemSource::new(script.as_bytes());
             let mut out = VecSink::new(alloc);
             let mut diag = FaultySink::new(alloc, failing, false);
             let status = run(alloc, &words, &mut input, &mut out, &mut diag);
