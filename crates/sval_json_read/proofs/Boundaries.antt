@@ -39,7 +39,7 @@ module _ (byte : ℕ) (h : 128 ≤ byte) where
   no_digit : is_ascii_digit byte ≡ false
   no_digit = grind (arith, nat_tests)
 
-  no_number_byte : is_number_byte byte ≡ false
+  pub no_number_byte : is_number_byte byte ≡ false
   no_number_byte = rw (no_digit, not_byte 43 (omega arith), not_byte 45 (omega arith), not_byte 46 (omega arith), not_byte 101 (omega arith), not_byte 69 (omega arith)) refl
 
   pub no_value : digit_value byte ≡ 36

@@ -11,7 +11,7 @@ use Rattle.sval_json_read.specs.Tokens.{Placed, Alone, tokens_of}
 use Rattle.sval_json_read.specs.Reader.{AValue, State, start, step, after, at_end, read, taken_from, taken}
 use Rattle.sval_json_read.proofs.Fits.{whole, value_then, Fits, value}
 use Rattle.sval_json_read.proofs.Sound.{byte-fits, IsSomeTokens, taken-fits}
-use Rattle.sval_json_read.proofs.Completed.{all_ascii, has_ascii, completion, StaysAscii, stays, step-ascii}
+use Rattle.sval_json_read.proofs.Completed.{all_ascii, has_ascii, completion, StaysAscii, step-ascii}
 use Rattle.sval_json_read.proofs.ReadTexts.{denoted-read}
 use Rattle.sval_json_read.proofs.Boundaries.{stops-boundary, stays_some}
 

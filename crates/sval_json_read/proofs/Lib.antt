@@ -21,4 +21,10 @@ pub mod RawStrings
 pub mod KeptNodes
 pub mod EscapePlaces
 pub mod WritableTrees
+pub mod ReaderPlaces
+pub mod StringCuts
+pub mod PieceStreams
+pub mod NodeStreams
+pub mod KeptDocuments
+pub mod NumberStreams
 mod examples

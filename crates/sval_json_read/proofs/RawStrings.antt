@@ -1,5 +1,5 @@
 -- What stands between the quotes of a string: for a loop that makes its calls piece by piece.
-use Rattle.std.specs.Prelude.{◌≡◌, ℕ, zero, suc, ◌<◌, ◌≤◌, Bool, true, false, not, ◌==◌, List, [], ◌∷◌, ◌++◌, length, drop, Some, refl, IsUtf8}
+use Rattle.std.specs.Prelude.{◌≡◌, ℕ, zero, suc, ◌<◌, ◌≤◌, Bool, true, false, ◌==◌, List, [], ◌∷◌, ◌++◌, length, drop, Some, refl, IsUtf8}
 use Rattle.std.specs.List.{list_all}
 use Rattle.std.proofs.Common.{sym, ap, subst, ◌∙◌, arith}
 use Rattle.std.proofs.lemmas.Bool.{and_parts}
@@ -11,7 +11,7 @@ use Rattle.sval_json.proofs.NumberGrammar.{number_tested}
 use Rattle.sval_json_read.specs.Tokens as token
 use Rattle.sval_json_read.specs.Tokens.{Place, Alone, Item, Value, Token, Placed, at, between_quotes, tokens_of, item_tokens, pair_tokens}
 use Rattle.sval_json_read.specs.Documents.{IsDocument}
-use Rattle.sval_json_read.specs.RawStrings.{IsRaw, done, plain, short, unit, pair, AreProperTokens}
+use Rattle.sval_json_read.specs.RawStrings.{IsRaw, done, plain, short, unit, pair, AreProperTokens, is_no_backslash}
 use Rattle.sval_json_read.specs.Calls.{run, escape, byte_before, escape_after, pieces_after, pieces}
 use Rattle.sval_json_read.proofs.PieceTexts.{unit_after_is, pair_after_is}
 use Rattle.sval_json_read.proofs.Utf8Texts.{are_hex, unit_scalar, pair_scalar, low_byte, escaped_low}
@@ -66,9 +66,6 @@ pieces-escape bytes = ap (λ x. escape (escape_after bytes).stands_for ∷ x) (p
 abbrev pub ends_run : List ℕ → Bool
 ends_run [] = true
 ends_run (byte ∷ _) = byte == 92
-
-abbrev pub is_no_backslash : ℕ → Bool
-is_no_backslash byte = not (byte == 92)
 
 no_backslash : (byte : ℕ) (bytes : List ℕ) → is_no_backslash byte ≡ true → pieces (byte ∷ bytes) ≡ byte_before byte (pieces bytes)
 no_backslash byte bytes h = let e : (byte == 92) ≡ false = grind (arith, nat_tests) in rw e refl

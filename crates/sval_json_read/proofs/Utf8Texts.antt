@@ -32,7 +32,7 @@ low_byte byte h = let e : nat_lt byte 128 ≡ true = grind (arith, nat_tests) in
 
 -- ---- escapes
 
-letter_low : (letter byte : ℕ) → escaped_byte letter ≡ Some byte → letter < 128
+pub letter_low : (letter byte : ℕ) → escaped_byte letter ≡ Some byte → letter < 128
 letter_low letter byte e = elim (cases_lt letter 128) [ inl low ↦ low | inr high ↦ let n = no_escape letter high in absurd (cc) ]
 
 hex_low : (byte : ℕ) → is_hex byte ≡ true → byte < 128

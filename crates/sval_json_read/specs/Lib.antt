@@ -8,3 +8,10 @@ pub mod Numbers
 pub mod Strings
 pub mod Reader
 pub mod Laws
+pub mod SeenOpened
+pub mod Words
+pub mod SeenNodes
+pub mod SeenReader
+pub mod ReadErrors
+pub mod SeenPieces
+pub mod NodeCalls

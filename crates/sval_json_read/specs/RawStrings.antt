@@ -1,5 +1,5 @@
 -- What a document's tokens are: for the code that makes their calls.
-use Rattle.std.specs.Prelude.{◌≡◌, ℕ, ◌+◌, ◌*◌, true, false, List, [], ◌∷◌, get_or, Some, ⊤}
+use Rattle.std.specs.Prelude.{◌≡◌, ℕ, ◌+◌, ◌*◌, Bool, true, false, not, ◌==◌, List, [], ◌∷◌, get_or, Some, ⊤}
 use Rattle.std.specs.Char.{digit_value}
 use Rattle.std.specs.List.{AllByRecursion}
 use Rattle.sval_json.specs.Digits.{is_json_number}
@@ -29,3 +29,7 @@ AreProperTokens tokens = AllByRecursion (λ (placed : Placed). IsProperToken pla
 -- the number that the digits from a place on write, where four hex digits stand there
 abbrev pub unit_from : List ℕ → ℕ → ℕ
 unit_from bytes from = digit_value (get_or bytes from 0) * 4096 + digit_value (get_or bytes (from + 1) 0) * 256 + digit_value (get_or bytes (from + 2) 0) * 16 + digit_value (get_or bytes (from + 3) 0)
+
+-- a byte that begins no escape
+abbrev pub is_no_backslash : ℕ → Bool
+is_no_backslash byte = not (byte == 92)

@@ -1,4 +1,27 @@
 //! The reader of JSON (RFC 8259).
+//!
+//! [`JsonDoc::read`] reads a text whole: it tells the place at which bytes that denote no value fail, and gives a value
+//! that makes the calls of what they denote.
+//!
+//! The text is read by a machine, byte by byte, in one loop and with a stack of its own (`specs/Reader.antt`). What is
+//! kept of it is one flat list of nodes, each of 16 bytes; numbers and strings are places in the text. Streaming goes
+//! over that list, takes no memory and doesn't recurse.
 #![tactic(auto)]
 
+mod document;
+mod escape;
 pub mod laws;
+mod node;
+mod node_calls;
+mod number;
+mod number_calls;
+mod piece;
+mod reader;
+mod stack;
+mod string;
+mod string_calls;
+#[cfg(test)]
+mod tests;
+mod word;
+
+pub use document::{JsonDoc, ReadError};

@@ -1,0 +1,50 @@
+use Rattle.std.proofs.Common.{◌≡◌, ℕ, ◌≤◌, length, take, Some, List, sym, ap, subst, ◌∙◌, arith, take_all}
+use Rattle.sval_json_read.specs.Documents.{IsBadJson}
+use Rattle.sval_json_read.specs.SeenReader.{state_of}
+use Rattle.sval_json_read.specs.Reader.{start, after}
+use Rattle.sval_json_read.specs.declared.reader.Reader.{Reader}
+use Rattle.sval_json_read.proofs.Loop.{after-byte, refused-at, ended-bad, ended-document}
+use Rattle.sval_json_read.proofs.ReaderPlaces.{reads_start}
+use Rattle.sval_json_read.proofs.document.read_nodes.Goals as goal
+
+-- at the end all bytes were taken
+all_taken : (bytes : List ℕ) (at : ℕ) (reader : Reader) → length bytes ≤ at → at ≤ length bytes → after start (take at bytes) ≡ Some (state_of bytes at reader)
+    → after start bytes ≡ Some (state_of bytes (length bytes) reader)
+all_taken bytes at reader l w e =
+    let s : at ≡ length bytes = omega arith in
+    ap (after start) (sym (take_all at bytes l)) ∙ subst (λ n. after start (take at bytes) ≡ Some (state_of bytes n reader)) s e
+
+pub loop-at-init : goal.loop-at-init
+loop-at-init c = record {
+  within = omega arith;
+  reached = ap Some (sym (c.new-reader.ensures.starts c.args.bytes.now));
+  reads = reads_start c.args.bytes.now _ _ c.requires c.new-reader.ensures.from c.new-reader.ensures.nodes;
+}
+
+pub returns-in-Ok-false-clause-err : goal.returns-in-Ok-false-clause-err
+returns-in-Ok-false-clause-err c =
+    refused-at c.args.bytes.now c.loop-at.at (state_of c.args.bytes.now c.loop-at.at c.loop-at.reader) c.loop-at-test.true c.loop-at.invariant.reached
+    (rw c.in-Ok-false.field-0-test at c.in-Ok-false.ensures.gives) c.requires
+
+pub loop-at-preserved : goal.loop-at-preserved
+loop-at-preserved c = record {
+  within = omega (arith, c.loop-at-test.true);
+  reached =
+      after-byte c.args.bytes.now c.loop-at.at (state_of c.args.bytes.now c.loop-at.at c.loop-at.reader) c.loop-at-test.true c.loop-at.invariant.reached
+      ∙ (rw c.in-Ok-true.field-0-test at c.in-Ok-true.ensures.gives);
+  reads = c.in-Ok-true.ensures.reads;
+}
+
+pub returns-in-Ok-true-finish-clause-ok : goal.returns-in-Ok-true-finish-clause-ok
+returns-in-Ok-true-finish-clause-ok c =
+    ended-document c.args.bytes.now (state_of c.args.bytes.now (length c.args.bytes.now) c.loop-at.reader) c.requires
+    (all_taken c.args.bytes.now c.loop-at.at c.loop-at.reader c.loop-at-test.false c.loop-at.invariant.within c.loop-at.invariant.reached)
+    _ (rw c.in-Ok-true-finish.field-0-test at c.in-Ok-true-finish.ensures.ends)
+
+pub returns-in-Ok-false-finish-clause-err : goal.returns-in-Ok-false-finish-clause-err
+returns-in-Ok-false-finish-clause-err c =
+    let s : length c.args.bytes.now ≡ c.loop-at.at = omega (arith, c.loop-at-test.false, c.loop-at.invariant.within) in
+    subst (IsBadJson c.args.bytes.now) s
+    (ended-bad c.args.bytes.now (state_of c.args.bytes.now (length c.args.bytes.now) c.loop-at.reader) c.requires
+    (all_taken c.args.bytes.now c.loop-at.at c.loop-at.reader c.loop-at-test.false c.loop-at.invariant.within c.loop-at.invariant.reached)
+    (rw c.in-Ok-false-finish.field-0-test at c.in-Ok-false-finish.ensures.ends))

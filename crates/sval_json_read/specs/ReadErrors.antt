@@ -1,0 +1,23 @@
+-- What reading bytes answers.
+use Rattle.std.specs.Prelude.{◌≡◌, ℕ, ◌<◌, List, length, IsUtf8}
+use Rattle.sval_label.specs.Calls.{Call}
+use Rattle.sval_core.specs.Spells.{Spells}
+use Rattle.sval_json_read.specs.declared.document.ReadError.{ReadError}
+use Rattle.sval_json_read.specs.declared.document.ReadError.TheVariants.{NotUtf8, BadJson, NoMemory}
+use Rattle.sval_json_read.specs.Trees.{tree_of}
+use Rattle.sval_json_read.specs.Tokens.{Placed}
+use Rattle.sval_json_read.specs.Calls.{document_calls}
+use Rattle.sval_json_read.specs.Documents.{IsDocument, IsBadJson}
+
+-- the bytes denote a value, these are the calls of its tokens, and they spell its tree
+pub record IsRead (bytes : List ℕ) (calls : List Call) : Type 0 where
+  pub tokens : List Placed
+  pub document : IsDocument bytes tokens
+  pub same : calls ≡ document_calls tokens
+  pub spells : Spells calls (tree_of document.value)
+
+-- the cause of each error: the bytes are no UTF-8, they denote no value and fail there, or there are some and they are UTF-8
+abbrev pub IsReadError : List ℕ → ReadError → Type 0
+IsReadError bytes NotUtf8 = IsUtf8 bytes → ⊥
+IsReadError bytes (BadJson at) = IsBadJson bytes at
+IsReadError bytes NoMemory = IsUtf8 bytes × (0 < length bytes)

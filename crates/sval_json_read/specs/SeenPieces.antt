@@ -1,0 +1,10 @@
+-- What the pieces of a string stand for that the code cuts.
+use Rattle.std.specs.Char.{encode_utf8}
+use Rattle.sval_json_read.specs.declared.piece.Piece as made_piece
+use Rattle.sval_json_read.specs.declared.piece.Piece.TheVariants as piece
+use Rattle.sval_json_read.specs.Calls.{Piece, run, escape}
+
+-- a piece of the code
+abbrev pub piece_of : made_piece.Piece → Piece
+piece_of (piece.Run text) = run text.now
+piece_of (piece.Escape character) = escape (encode_utf8 character)

@@ -1,0 +1,103 @@
+-- What the reader of the code stands for: a state of the machine after some first bytes.
+use Rattle.std.specs.Prelude.{◌≡◌, ℕ, ◌≤◌, Bool, true, false, List, [], ◌∷◌, ◌++◌, map, Option, Some, None, IsUtf8, IsCharBoundary}
+use Rattle.std.specs.List.{between, AllByRecursion}
+use Rattle.sval_json_read.specs.declared.node.Place.{Place}
+use Rattle.sval_json_read.specs.declared.node.Node.{Node}
+use Rattle.sval_json_read.specs.declared.number.Phase as made_phase
+use Rattle.sval_json_read.specs.declared.number.Phase.TheVariants as phase
+use Rattle.sval_json_read.specs.declared.string.Within as made_within
+use Rattle.sval_json_read.specs.declared.string.Within.TheVariants as within
+use Rattle.sval_json_read.specs.declared.reader.Expected as made_expected
+use Rattle.sval_json_read.specs.declared.reader.Expected.TheVariants as expected
+use Rattle.sval_json_read.specs.declared.reader.Reader.{Reader}
+use Rattle.sval_json_read.specs.declared.stack.Opened.{Opened}
+use Rattle.sval_json_read.specs.Tokens.{Placed}
+use Rattle.sval_json_read.specs.Nodes.{tokens_in}
+use Rattle.sval_json_read.specs.Numbers as numbers
+use Rattle.sval_json_read.specs.Strings as strings
+use Rattle.sval_json_read.specs.Reader as machine
+use Rattle.sval_json_read.specs.SeenOpened.{opened_of}
+use Rattle.sval_json_read.specs.SeenNodes.{place_of, node_of, StandsIn}
+use Rattle.sval_json_read.specs.Words.{word_of}
+
+-- a phase of the code
+abbrev pub phase_of : made_phase.Phase → numbers.Phase
+phase_of phase.Minus = numbers.Minus
+phase_of phase.Zero = numbers.Zero
+phase_of phase.Whole = numbers.Whole
+phase_of phase.Point = numbers.Point
+phase_of phase.Fraction = numbers.Fraction
+phase_of phase.Mark = numbers.Mark
+phase_of phase.Sign = numbers.Sign
+phase_of phase.Power = numbers.Power
+
+-- where in a string the code is
+abbrev pub within_of : made_within.Within → strings.Within
+within_of within.Plain = strings.Plain
+within_of within.Backslash = strings.Backslash
+within_of within.Unit = strings.Unit
+within_of within.UnitD = strings.UnitD
+within_of within.ThreeLeft = strings.ThreeLeft
+within_of within.TwoLeft = strings.TwoLeft
+within_of within.OneLeft = strings.OneLeft
+within_of within.HighTwoLeft = strings.HighTwoLeft
+within_of within.HighOneLeft = strings.HighOneLeft
+within_of within.High = strings.High
+within_of within.LowBackslash = strings.LowBackslash
+within_of within.LowUnit = strings.LowUnit
+within_of within.LowD = strings.LowD
+within_of within.LowTwoLeft = strings.LowTwoLeft
+within_of within.LowOneLeft = strings.LowOneLeft
+
+-- what comes next, where a number or string that is being read has the bytes between these places
+abbrev pub expected_of : List ℕ → ℕ → ℕ → made_expected.Expected → machine.Expected
+expected_of bytes from upto expected.AValue = machine.AValue
+expected_of bytes from upto expected.FirstItem = machine.FirstItem
+expected_of bytes from upto expected.FirstKey = machine.FirstKey
+expected_of bytes from upto expected.NextKey = machine.NextKey
+expected_of bytes from upto expected.Colon = machine.Colon
+expected_of bytes from upto expected.Next = machine.Next
+expected_of bytes from upto (expected.Letter word) = word_of word
+expected_of bytes from upto (expected.InNumber phase) = machine.InNumber (phase_of phase) (between from upto bytes)
+expected_of bytes from upto (expected.InString is_key within) = machine.InString is_key (within_of within) (between from upto bytes)
+
+-- the machine's state, where the reader has read the bytes up to this place
+abbrev pub state_of : List ℕ → ℕ → Reader → machine.State
+state_of bytes upto reader = record {
+  expected = expected_of bytes reader.from upto reader.expected;
+  opened = reader.opened;
+  tokens = tokens_in bytes (map node_of reader.nodes.items);
+}
+
+-- what the machine gives for a byte is what the answer says: the byte was taken and the state is this, or it wasn't
+abbrev pub Gives : Option machine.State → machine.State → Bool → Type 0
+Gives given new true = given ≡ Some new
+Gives given new false = given ≡ None
+
+-- what the machine gives at the end is what the answer says: a text was whole and has these tokens, or it wasn't
+abbrev pub Ends : Option (List Placed) → List Placed → Bool → Type 0
+Ends given tokens true = given ≡ Some tokens
+Ends given tokens false = given ≡ None
+
+-- bytes that are UTF-8 were read up to this place, and a number or string that is being read begins there; the nodes stand in them
+pub record ReadsIn (bytes : List ℕ) (upto from : ℕ) (nodes : List Node) : Type 0 where
+  pub utf8 : IsUtf8 bytes
+  pub before : from ≤ upto
+  pub whole : IsCharBoundary bytes from
+  pub stand : AllByRecursion (StandsIn bytes) nodes
+
+-- one node more
+pub record Adds (old : Reader) (node : Node) (expected : made_expected.Expected) (new : Reader) : Type 0 where
+  pub expected_is : new.expected ≡ expected
+  pub from_is : new.from ≡ old.from
+  pub opened_is : new.opened ≡ old.opened
+  pub nodes_are : new.nodes.items ≡ old.nodes.items ++ (node ∷ [])
+
+-- a container begins, with this node in its place
+pub record Opens (old : Reader) (container : Opened) (node : Place → Node) (expected : made_expected.Expected) (new : Reader) : Type 0 where
+  pub place : Place
+  pub place_is : place_of place ≡ machine.place_in old.opened
+  pub expected_is : new.expected ≡ expected
+  pub from_is : new.from ≡ old.from
+  pub opened_is : new.opened ≡ opened_of container ∷ old.opened
+  pub nodes_are : new.nodes.items ≡ old.nodes.items ++ (node place ∷ [])

@@ -1,0 +1,128 @@
+//! Documents: texts that were read.
+
+ghost use Rattle.std.specs.Prelude.{IfOk, IfErr, IsUtf8, map};
+ghost use Rattle.std.specs.List.{AllByRecursion};
+ghost use Rattle.sval_core.specs.Values.{makes};
+ghost use Rattle.sval_json_read.specs.Documents.{IsDocument};
+ghost use Rattle.sval_json_read.specs.Nodes.{tokens_in};
+ghost use Rattle.sval_json_read.specs.SeenNodes.{node_of, StandsIn};
+ghost use Rattle.sval_json_read.specs.ReadErrors.{IsReadError, IsRead};
+
+use crate::node::Node;
+use crate::node_calls::stream_nodes;
+use crate::reader::Reader;
+use simdutf8::compat::from_utf8;
+use std::alloc::Global;
+use std::marker::Model;
+use sval_core::{Lent, Result as StreamResult, Stream, Value};
+use sval_ref::ValueRef;
+
+/// Why bytes can't be read.
+#[derive(Clone, Copy, Debug, PartialEq, Eq)]
+pub enum ReadError {
+    /// They are not UTF-8.
+    NotUtf8,
+    /// They denote no value: no text that denotes one begins with more of them than the first `at`.
+    BadJson { at: u64 },
+    /// There was no memory for what is kept of them, or a number or string in them has 4 GiB or more.
+    NoMemory,
+}
+
+/// A text that was read, seen as its calls.
+///
+/// It is a value, which makes these calls, lends its texts from the bytes and never refuses. It takes no memory for
+/// that.
+#[derive(Drop)]
+pub struct JsonDoc<'a> {
+    text: &'a str,
+    nodes: Vec<Node>,
+}
+
+impl<'a> Model for JsonDoc<'a> {
+    ghost use Rattle.std.specs.Prelude.{List, map};
+    ghost use Rattle.sval_label.specs.Calls.{Call};
+    ghost use Rattle.sval_json_read.specs.Nodes.{streamed};
+    ghost use Rattle.sval_json_read.specs.SeenNodes.{node_of, AreKeptOf};
+
+    ghost Value = { List Call };
+
+    ghost view = { λ doc. streamed doc.text.now (map node_of doc.nodes.items) };
+
+    ghost invariant = { λ doc. AreKeptOf doc.text.now doc.nodes.items };
+}
+
+impl<'a> JsonDoc<'a> {
+    /// Reads a text whole. The document makes the calls of what it denotes.
+    ///
+    /// ```
+    /// let doc = JsonDoc::read(alloc, b"{\"a\" : [1, 1.50e+3]}")?;
+    /// assert_eq!(rt; stream_to_vec(alloc, &doc)?.as_slice(), b"{\"a\":[1,1.50e+3]}");
+    /// assert_eq!(rt; JsonDoc::read(alloc, b"[1,]").err(), Some(ReadError::BadJson { at: 3 }));
+    /// ```
+    ///
+    /// # Errors
+    ///
+    /// [`ReadError::NotUtf8`] exactly where the bytes are no UTF-8. [`ReadError::BadJson`] exactly where they are and
+    /// denote no value. [`ReadError::NoMemory`] may come in place of `BadJson` and of a document, and never for the
+    /// empty input.
+    pub fn read(alloc: Global, bytes: &'a [u8]) -> Result<Self, ReadError>
+        ensures ok { IfOk result (λ doc. IsRead bytes.now doc) }
+        ensures err { IfErr result (IsReadError bytes.now) }
+    {
+        match from_utf8(bytes) {
+            Ok(text) => read_text(alloc, text),
+            Err(_) => Err(ReadError::NotUtf8),
+        }
+    }
+}
+
+/// Reads a text whole, where nothing but its UTF-8 is known.
+fn read_text(alloc: Global, text: &str) -> Result<JsonDoc<'_>, ReadError>
+    ensures ok { IfOk result (λ doc. IsRead text.now doc) }
+    ensures err { IfErr result (IsReadError text.now) }
+{
+    match read_nodes(alloc, text.as_bytes()) {
+        Ok(nodes) => Ok(JsonDoc { text, nodes }),
+        Err(error) => Err(error),
+    }
+}
+
+/// Reads the nodes of a text, byte by byte.
+fn read_nodes(alloc: Global, bytes: &[u8]) -> Result<Vec<Node>, ReadError>
+    requires { IsUtf8 bytes.now }
+    ensures ok { IfOk result (λ nodes. IsDocument bytes.now (tokens_in bytes.now (map node_of nodes.items))) }
+    ensures stand { IfOk result (λ nodes. AllByRecursion (StandsIn bytes.now) nodes.items) }
+    ensures err { IfErr result (IsReadError bytes.now) }
+{
+    let mut reader = Reader::new(alloc);
+    let mut at: usize = 0;
+    while at < bytes.len() {
+        match reader.step(bytes, at) {
+            Ok(true) => {},
+            Ok(false) => return Err(ReadError::BadJson { at: at as u64 }),
+            Err(_) => return Err(ReadError::NoMemory),
+        }
+        at += 1;
+    }
+    match reader.finish(bytes) {
+        Ok(true) => Ok(reader.nodes),
+        Ok(false) => Err(ReadError::BadJson { at: at as u64 }),
+        Err(_) => Err(ReadError::NoMemory),
+    }
+}
+
+impl<'v, 'a> Value<'v, Lent<'v>> for JsonDoc<'a> {
+    ghost emission = { makes };
+
+    fn stream<S: Stream<Lent<'v>>>(&'v self, stream: &mut S) -> StreamResult {
+        stream_nodes(self.text, self.nodes.as_slice(), stream)
+    }
+}
+
+impl<'a> ValueRef<Lent<'a>> for JsonDoc<'a> {
+    ghost ref_emission = { makes };
+
+    fn stream_ref<S: Stream<Lent<'a>>>(&self, stream: &mut S) -> StreamResult {
+        stream_nodes(self.text, self.nodes.as_slice(), stream)
+    }
+}

@@ -1,0 +1,30 @@
+//! What is kept of a text.
+
+/// Where a value stands.
+#[derive(Clone, Copy)]
+pub(crate) enum Place {
+    /// By itself.
+    Alone,
+    /// In an array.
+    Item,
+    /// Before the colon of an object's pair.
+    Key,
+    /// Behind it.
+    Value,
+}
+
+/// A token of a text, in its place. A begin and an end have the place of their array or object.
+///
+/// A number or a string, without its quotes, has a length and a place in the text where it begins. So a node takes 16
+/// bytes.
+#[derive(Clone, Copy)]
+pub(crate) enum Node {
+    Null(Place),
+    Bool(Place, bool),
+    Number(Place, u32, usize),
+    Text(Place, u32, usize),
+    BeginArray(Place),
+    EndArray(Place),
+    BeginObject(Place),
+    EndObject(Place),
+}

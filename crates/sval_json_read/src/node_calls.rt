@@ -1,0 +1,127 @@
+//! The calls of nodes.
+
+ghost use Rattle.std.specs.Prelude.{map};
+ghost use Rattle.sval_core.specs.Law.{Emits};
+ghost use Rattle.sval_core.specs.Values.{makes};
+ghost use Rattle.sval_json_read.specs.Calls.{place_begins, place_ends, token_calls};
+ghost use Rattle.sval_json_read.specs.Nodes.{token_in, placed_in, streamed};
+ghost use Rattle.sval_json_read.specs.NodeCalls.{begins_before, own_calls, ends_behind};
+ghost use Rattle.sval_json_read.specs.SeenNodes.{place_of, node_of, IsKeptOf, AreKeptOf};
+
+use crate::node::{Node, Place};
+use crate::number_calls::stream_number;
+use crate::string_calls::stream_string;
+use sval_core::{Lending, Lent, Result, Stream};
+
+impl Place {
+    /// Begins the part that a value in this place stands in.
+    fn begin<L: Lending, S: Stream<L>>(self, stream: &mut S) -> Result
+        ensures { Emits S.law result
+            (S.standing stream.old) (makes (place_begins (place_of self))) (S.standing stream.new) }
+    {
+        match self {
+            Place::Alone => Ok(()),
+            Place::Item => stream.seq_value_begin(),
+            Place::Key => stream.map_key_begin(),
+            Place::Value => stream.map_value_begin(),
+        }
+    }
+
+    /// Ends the part that a value in this place stands in.
+    fn end<L: Lending, S: Stream<L>>(self, stream: &mut S) -> Result
+        ensures { Emits S.law result
+            (S.standing stream.old) (makes (place_ends (place_of self))) (S.standing stream.new) }
+    {
+        match self {
+            Place::Alone => Ok(()),
+            Place::Item => stream.seq_value_end(),
+            Place::Key => stream.map_key_end(),
+            Place::Value => stream.map_value_end(),
+        }
+    }
+}
+
+impl Node {
+    /// Begins the part that it stands in, if it is no end.
+    fn begin<L: Lending, S: Stream<L>>(self, stream: &mut S) -> Result
+        ensures { Emits S.law result (S.standing stream.old)
+            (makes (begins_before (node_of self).kept (node_of self).place))
+            (S.standing stream.new) }
+    {
+        match self {
+            Node::EndArray(_) | Node::EndObject(_) => Ok(()),
+            Node::Null(place)
+            | Node::Bool(place, _)
+            | Node::Number(place, _, _)
+            | Node::Text(place, _, _)
+            | Node::BeginArray(place)
+            | Node::BeginObject(place) => place.begin(stream),
+        }
+    }
+
+    /// Makes its own calls, in a text that it stands in.
+    fn make<'v, S: Stream<Lent<'v>>>(self, text: &'v str, stream: &mut S) -> Result
+        requires { IsKeptOf text.now self }
+        ensures { Emits S.law result (S.standing stream.old)
+            (makes (own_calls (token_in text.now (node_of self).kept))) (S.standing stream.new) }
+    {
+        match self {
+            Node::Null(_) => stream.null(),
+            Node::Bool(_, value) => stream.bool(value),
+            Node::Number(_, length, from) => {
+                stream_number(&text[from..from + length as usize], stream)
+            },
+            Node::Text(_, length, from) => {
+                stream_string(&text[from..from + length as usize], stream)
+            },
+            Node::BeginArray(_) => stream.seq_begin(None),
+            Node::EndArray(_) => stream.seq_end(),
+            Node::BeginObject(_) => stream.map_begin(None),
+            Node::EndObject(_) => stream.map_end(),
+        }
+    }
+
+    /// Ends the part that it stands in, if it is no begin.
+    fn end<L: Lending, S: Stream<L>>(self, stream: &mut S) -> Result
+        ensures { Emits S.law result (S.standing stream.old)
+            (makes (ends_behind (node_of self).kept (node_of self).place))
+            (S.standing stream.new) }
+    {
+        match self {
+            Node::BeginArray(_) | Node::BeginObject(_) => Ok(()),
+            Node::Null(place)
+            | Node::Bool(place, _)
+            | Node::Number(place, _, _)
+            | Node::Text(place, _, _)
+            | Node::EndArray(place)
+            | Node::EndObject(place) => place.end(stream),
+        }
+    }
+
+    /// Makes its calls, in a text that it stands in.
+    fn stream<'v, S: Stream<Lent<'v>>>(self, text: &'v str, stream: &mut S) -> Result
+        requires { IsKeptOf text.now self }
+        ensures { Emits S.law result (S.standing stream.old)
+            (makes (token_calls (placed_in text.now (node_of self)))) (S.standing stream.new) }
+    {
+        self.begin(stream)?;
+        self.make(text, stream)?;
+        self.end(stream)
+    }
+}
+
+/// Makes the calls of nodes, in a text that they stand in.
+pub(crate) fn stream_nodes<'v, S: Stream<Lent<'v>>>(
+    text: &'v str,
+    nodes: &[Node],
+    stream: &mut S,
+) -> Result
+    requires { AreKeptOf text.now nodes.now }
+    ensures { Emits S.law result (S.standing stream.old)
+        (makes (streamed text.now (map node_of nodes.now))) (S.standing stream.new) }
+{
+    for node in nodes {
+        node.stream(text, stream)?;
+    }
+    Ok(())
+}

@@ -1,0 +1,127 @@
+//! The machine that reads JSON byte by byte.
+
+ghost use Rattle.std.specs.Prelude.{◌≡◌, ◌+◌, ◌<◌, ℕ, List, [], true, IfOk, IfErr, is_some, length, get_or, map};
+ghost use Rattle.sval_json_read.specs.Reader as machine;
+ghost use Rattle.sval_json_read.specs.Nodes.{tokens_in};
+ghost use Rattle.sval_json_read.specs.SeenNodes.{place_of, node_of, StandsIn};
+ghost use Rattle.sval_json_read.specs.SeenReader.{state_of, Gives, Ends, Adds, ReadsIn};
+
+mod container;
+mod scalar;
+
+use crate::node::{Node, Place};
+use crate::number::Phase;
+use crate::stack::{Opened, Stack};
+use crate::string::Within;
+use crate::word::Word;
+use std::alloc::Global;
+use sval_core::NoMemory;
+
+/// What comes next.
+#[derive(Clone, Copy)]
+pub(crate) enum Expected {
+    AValue,
+    /// A value or the end of an array.
+    FirstItem,
+    /// A key or the end of an object.
+    FirstKey,
+    NextKey,
+    Colon,
+    /// A comma or the end of what is open, or of the text.
+    Next,
+    Letter(Word),
+    InNumber(Phase),
+    /// In a key or in another string.
+    InString(bool, Within),
+}
+
+/// What was read so far.
+#[derive(Drop)]
+pub(crate) struct Reader {
+    pub(crate) expected: Expected,
+    /// Where the number or string begins that is being read.
+    pub(crate) from: usize,
+    pub(crate) opened: Stack,
+    pub(crate) nodes: Vec<Node>,
+}
+
+impl Reader {
+    /// A reader that has read nothing.
+    pub(crate) fn new(alloc: Global) -> Self
+        ensures starts { (bytes : List ℕ) → state_of bytes 0 result ≡ machine.start }
+        ensures from { result.from ≡ 0 }
+        ensures nodes { result.nodes.items ≡ [] }
+    {
+        Reader {
+            expected: Expected::AValue,
+            from: 0,
+            opened: Stack::new(alloc),
+            nodes: Vec::new(alloc),
+        }
+    }
+
+    /// Keeps a node.
+    fn add(&mut self, node: Node, expected: Expected) -> Result<(), NoMemory>
+        ensures { IfOk result (λ done. Adds self.old node expected self.new) }
+    {
+        match self.nodes.push(node) {
+            Ok(()) => {
+                self.expected = expected;
+                Ok(())
+            },
+            Err(_) => Err(NoMemory),
+        }
+    }
+
+    /// The place of a value directly in what is open.
+    fn place(&self) -> Place
+        ensures { place_of result ≡ machine.place_in self.now.opened }
+    {
+        match self.opened.top() {
+            None => Place::Alone,
+            Some(Opened::Array) => Place::Item,
+            Some(Opened::Object) => Place::Value,
+        }
+    }
+
+    /// Reads one byte. Whether it was taken: if it wasn't, no text that denotes a value goes on with it.
+    pub(crate) fn step(&mut self, bytes: &[u8], at: usize) -> Result<bool, NoMemory>
+        requires at_in { at < length bytes.now }
+        requires reads { ReadsIn bytes.now at self.old.from self.old.nodes.items }
+        ensures gives { IfOk result (Gives (machine.step (state_of bytes.now at self.old) (get_or bytes.now at 0))
+            (state_of bytes.now (at + 1) self.new)) }
+        ensures reads { IfOk result (λ taken. ReadsIn bytes.now (at + 1) self.new.from self.new.nodes.items) }
+    {
+        match self.expected {
+            Expected::AValue => self.value(bytes, at),
+            Expected::FirstItem => self.first_item(bytes, at),
+            Expected::FirstKey => self.first_key(bytes, at),
+            Expected::NextKey => Ok(self.next_key(bytes, at)),
+            Expected::Colon => Ok(self.colon(bytes, at)),
+            Expected::Next => self.follows(bytes, at),
+            Expected::Letter(word) => Ok(self.letter(word, bytes, at)),
+            Expected::InNumber(phase) => self.number(phase, bytes, at),
+            Expected::InString(is_key, within) => self.string(is_key, within, bytes, at),
+        }
+    }
+
+    /// Whether all bytes were a text that denotes a value.
+    pub(crate) fn finish(&mut self, bytes: &[u8]) -> Result<bool, NoMemory>
+        requires { ReadsIn bytes.now (length bytes.now) self.old.from self.old.nodes.items }
+        ensures ends { IfOk result (Ends (machine.at_end (state_of bytes.now (length bytes.now) self.old))
+            (tokens_in bytes.now (map node_of self.new.nodes.items))) }
+        ensures reads { IfOk result (λ whole.
+            ReadsIn bytes.now (length bytes.now) self.new.from self.new.nodes.items) }
+        ensures no_memory { IfErr result (λ error.
+            is_some (machine.at_end (state_of bytes.now (length bytes.now) self.old)) ≡ true) }
+    {
+        if self.opened.top().is_some() {
+            return Ok(false);
+        }
+        match self.expected {
+            Expected::Next => Ok(true),
+            Expected::InNumber(phase) => self.last_number(phase, bytes),
+            _ => Ok(false),
+        }
+    }
+}

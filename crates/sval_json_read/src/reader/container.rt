@@ -1,0 +1,246 @@
+//! Where values begin and what follows them.
+
+ghost use Rattle.std.specs.Prelude.{◌≡◌, ◌+◌, ◌<◌, [], IfOk, length, get_or};
+ghost use Rattle.sval_json.specs.Grammar.{is_space};
+ghost use Rattle.sval_json_read.specs.Strings.{Plain};
+ghost use Rattle.sval_json_read.specs.Reader as machine;
+ghost use Rattle.sval_json_read.specs.SeenReader.{state_of, Gives, Opens, ReadsIn};
+ghost use Rattle.sval_json_read.specs.declared.node.Node.TheVariants as node;
+ghost use Rattle.sval_json_read.specs.declared.stack.Opened.TheVariants as opened;
+ghost use Rattle.sval_json_read.specs.declared.reader.Expected.TheVariants as expected;
+
+use super::{Expected, Reader};
+use crate::node::Node;
+use crate::number::first_phase;
+use crate::stack::Opened;
+use crate::string::Within;
+use crate::word::Word;
+use sval_core::NoMemory;
+
+impl Reader {
+    /// Reads a comma or the end of what is open.
+    #[tactic(auto, using(crate::proofs::ReaderPlaces::of_places))]
+    fn goes_on(&mut self, bytes: &[u8], at: usize) -> Result<bool, NoMemory>
+        requires at_in { at < length bytes.now }
+        requires reads { ReadsIn bytes.now at self.old.from self.old.nodes.items }
+        ensures gives { IfOk result (Gives
+            (machine.goes_on (state_of bytes.now at self.old) self.old.opened (get_or bytes.now at 0))
+            (state_of bytes.now (at + 1) self.new)) }
+        ensures reads { IfOk result (λ taken. ReadsIn bytes.now (at + 1) self.new.from self.new.nodes.items) }
+    {
+        match (self.opened.top(), bytes[at]) {
+            (Some(Opened::Array), b',') => self.expected = Expected::AValue,
+            (Some(Opened::Object), b',') => self.expected = Expected::NextKey,
+            (Some(Opened::Array), b']') => {
+                self.opened.pop();
+                let place = self.place();
+                self.add(Node::EndArray(place), Expected::Next)?;
+            },
+            (Some(Opened::Object), b'}') => {
+                self.opened.pop();
+                let place = self.place();
+                self.add(Node::EndObject(place), Expected::Next)?;
+            },
+            _ => return Ok(false),
+        }
+        Ok(true)
+    }
+
+    /// Reads one byte after a value.
+    #[tactic(auto, using(crate::proofs::ReaderPlaces::of_places))]
+    pub(crate) fn follows(&mut self, bytes: &[u8], at: usize) -> Result<bool, NoMemory>
+        requires at_in { at < length bytes.now }
+        requires reads { ReadsIn bytes.now at self.old.from self.old.nodes.items }
+        ensures gives { IfOk result (Gives (machine.follows (state_of bytes.now at self.old) (get_or bytes.now at 0))
+            (state_of bytes.now (at + 1) self.new)) }
+        ensures reads { IfOk result (λ taken. ReadsIn bytes.now (at + 1) self.new.from self.new.nodes.items) }
+    {
+        if is_white(bytes[at]) {
+            self.expected = Expected::Next;
+            return Ok(true);
+        }
+        self.goes_on(bytes, at)
+    }
+
+    /// Begins an array.
+    fn begin_array(&mut self) -> Result<(), NoMemory>
+        ensures { IfOk result (λ done. Opens self.old opened.Array node.BeginArray expected.FirstItem self.new) }
+    {
+        let place = self.place();
+        self.add(Node::BeginArray(place), Expected::FirstItem)?;
+        self.opened.push(Opened::Array)
+    }
+
+    /// Begins an object.
+    fn begin_object(&mut self) -> Result<(), NoMemory>
+        ensures { IfOk result (λ done. Opens self.old opened.Object node.BeginObject expected.FirstKey self.new) }
+    {
+        let place = self.place();
+        self.add(Node::BeginObject(place), Expected::FirstKey)?;
+        self.opened.push(Opened::Object)
+    }
+
+    /// Begins a string behind its quote.
+    #[tactic(auto, using(crate::proofs::KeptNodes::between_nothing))]
+    fn begin_string(&mut self, is_key: bool, bytes: &[u8], at: usize)
+        requires at_in { at < length bytes.now }
+        requires reads { ReadsIn bytes.now at self.old.from self.old.nodes.items }
+        requires quote { get_or bytes.now at 0 ≡ 34 }
+        ensures begins { state_of bytes.now (at + 1) self.new
+            ≡ machine.expects (state_of bytes.now at self.old) (machine.InString is_key Plain []) }
+        ensures reads { ReadsIn bytes.now (at + 1) self.new.from self.new.nodes.items }
+    {
+        self.from = at + 1;
+        self.expected = Expected::InString(is_key, Within::Plain);
+    }
+
+    /// Reads the first byte of a value.
+    #[tactic(auto, using(crate::proofs::ReaderPlaces::of_places))]
+    fn begins(&mut self, bytes: &[u8], at: usize) -> Result<bool, NoMemory>
+        requires at_in { at < length bytes.now }
+        requires reads { ReadsIn bytes.now at self.old.from self.old.nodes.items }
+        ensures gives { IfOk result (Gives (machine.begins (state_of bytes.now at self.old) (get_or bytes.now at 0))
+            (state_of bytes.now (at + 1) self.new)) }
+        ensures reads { IfOk result (λ taken. ReadsIn bytes.now (at + 1) self.new.from self.new.nodes.items) }
+    {
+        let byte = bytes[at];
+        match byte {
+            b'"' => self.begin_string(false, bytes, at),
+            b'[' => self.begin_array()?,
+            b'{' => self.begin_object()?,
+            b'n' => {
+                let place = self.place();
+                self.add(Node::Null(place), Expected::Letter(Word::Ull))?;
+            },
+            b't' => {
+                let place = self.place();
+                self.add(Node::Bool(place, true), Expected::Letter(Word::Rue))?;
+            },
+            b'f' => {
+                let place = self.place();
+                self.add(Node::Bool(place, false), Expected::Letter(Word::Alse))?;
+            },
+            _ => match first_phase(byte) {
+                None => return Ok(false),
+                Some(phase) => {
+                    self.from = at;
+                    self.expected = Expected::InNumber(phase);
+                },
+            },
+        }
+        Ok(true)
+    }
+
+    /// Reads the first byte of a key.
+    #[tactic(auto, using(crate::proofs::ReaderPlaces::of_places))]
+    fn begins_key(&mut self, bytes: &[u8], at: usize) -> bool
+        requires at_in { at < length bytes.now }
+        requires reads { ReadsIn bytes.now at self.old.from self.old.nodes.items }
+        ensures gives { Gives (machine.begins_key (state_of bytes.now at self.old) (get_or bytes.now at 0))
+            (state_of bytes.now (at + 1) self.new) result }
+        ensures reads { ReadsIn bytes.now (at + 1) self.new.from self.new.nodes.items }
+    {
+        if bytes[at] != b'"' {
+            return false;
+        }
+        self.begin_string(true, bytes, at);
+        true
+    }
+
+    /// Reads a byte where the next value is expected.
+    #[tactic(auto, using(crate::proofs::ReaderPlaces::of_places))]
+    pub(crate) fn value(&mut self, bytes: &[u8], at: usize) -> Result<bool, NoMemory>
+        requires at_in { at < length bytes.now }
+        requires reads { ReadsIn bytes.now at self.old.from self.old.nodes.items }
+        requires is { self.old.expected ≡ expected.AValue }
+        ensures gives { IfOk result (Gives (machine.step (state_of bytes.now at self.old) (get_or bytes.now at 0))
+            (state_of bytes.now (at + 1) self.new)) }
+        ensures reads { IfOk result (λ taken. ReadsIn bytes.now (at + 1) self.new.from self.new.nodes.items) }
+    {
+        if is_white(bytes[at]) {
+            return Ok(true);
+        }
+        self.begins(bytes, at)
+    }
+
+    /// Reads a byte where the first item of an array or its end is expected.
+    #[tactic(auto, using(crate::proofs::ReaderPlaces::of_places))]
+    pub(crate) fn first_item(&mut self, bytes: &[u8], at: usize) -> Result<bool, NoMemory>
+        requires at_in { at < length bytes.now }
+        requires reads { ReadsIn bytes.now at self.old.from self.old.nodes.items }
+        requires is { self.old.expected ≡ expected.FirstItem }
+        ensures gives { IfOk result (Gives (machine.step (state_of bytes.now at self.old) (get_or bytes.now at 0))
+            (state_of bytes.now (at + 1) self.new)) }
+        ensures reads { IfOk result (λ taken. ReadsIn bytes.now (at + 1) self.new.from self.new.nodes.items) }
+    {
+        if is_white(bytes[at]) {
+            return Ok(true);
+        }
+        if bytes[at] == b']' {
+            return self.follows(bytes, at);
+        }
+        self.begins(bytes, at)
+    }
+
+    /// Reads a byte where the first key of an object or its end is expected.
+    #[tactic(auto, using(crate::proofs::ReaderPlaces::of_places))]
+    pub(crate) fn first_key(&mut self, bytes: &[u8], at: usize) -> Result<bool, NoMemory>
+        requires at_in { at < length bytes.now }
+        requires reads { ReadsIn bytes.now at self.old.from self.old.nodes.items }
+        requires is { self.old.expected ≡ expected.FirstKey }
+        ensures gives { IfOk result (Gives (machine.step (state_of bytes.now at self.old) (get_or bytes.now at 0))
+            (state_of bytes.now (at + 1) self.new)) }
+        ensures reads { IfOk result (λ taken. ReadsIn bytes.now (at + 1) self.new.from self.new.nodes.items) }
+    {
+        if is_white(bytes[at]) {
+            return Ok(true);
+        }
+        if bytes[at] == b'}' {
+            return self.follows(bytes, at);
+        }
+        Ok(self.begins_key(bytes, at))
+    }
+
+    /// Reads a byte where the next key of an object is expected.
+    #[tactic(auto, using(crate::proofs::ReaderPlaces::of_places))]
+    pub(crate) fn next_key(&mut self, bytes: &[u8], at: usize) -> bool
+        requires at_in { at < length bytes.now }
+        requires reads { ReadsIn bytes.now at self.old.from self.old.nodes.items }
+        requires is { self.old.expected ≡ expected.NextKey }
+        ensures gives { Gives (machine.step (state_of bytes.now at self.old) (get_or bytes.now at 0))
+            (state_of bytes.now (at + 1) self.new) result }
+        ensures reads { ReadsIn bytes.now (at + 1) self.new.from self.new.nodes.items }
+    {
+        is_white(bytes[at]) || self.begins_key(bytes, at)
+    }
+
+    /// Reads a byte where a colon is expected.
+    #[tactic(auto, using(crate::proofs::ReaderPlaces::of_places))]
+    pub(crate) fn colon(&mut self, bytes: &[u8], at: usize) -> bool
+        requires at_in { at < length bytes.now }
+        requires reads { ReadsIn bytes.now at self.old.from self.old.nodes.items }
+        requires is { self.old.expected ≡ expected.Colon }
+        ensures gives { Gives (machine.step (state_of bytes.now at self.old) (get_or bytes.now at 0))
+            (state_of bytes.now (at + 1) self.new) result }
+        ensures reads { ReadsIn bytes.now (at + 1) self.new.from self.new.nodes.items }
+    {
+        if is_white(bytes[at]) {
+            return true;
+        }
+        if bytes[at] != b':' {
+            return false;
+        }
+        self.expected = Expected::AValue;
+        true
+    }
+}
+
+/// Whether a byte is white space.
+fn is_white(byte: u8) -> bool
+    ensures { result ≡ is_space byte }
+{
+    match byte {
+        b' ' | b'\t' | b'\n' | b'\r' => true,
+        _ => false,
+    }
+}

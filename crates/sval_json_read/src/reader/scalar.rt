@@ -1,0 +1,185 @@
+//! Words, numbers and strings.
+
+ghost use Rattle.std.specs.Prelude.{◌≡◌, ◌+◌, ◌<◌, ◌≤◌, [], IfOk, IfErr, is_some, length, get_or, map, true, false};
+ghost use Rattle.std.specs.List.{between};
+ghost use Rattle.sval_json.specs.Digits.{is_number_byte};
+ghost use Rattle.sval_json_read.specs.Reader as machine;
+ghost use Rattle.sval_json_read.specs.Nodes.{tokens_in};
+ghost use Rattle.sval_json_read.specs.SeenNodes.{node_of};
+ghost use Rattle.sval_json_read.specs.SeenReader.{state_of, expected_of, Gives, Ends, ReadsIn};
+ghost use Rattle.sval_json_read.specs.declared.reader.Expected.TheVariants.{Letter, InNumber, InString};
+
+use super::{Expected, Reader};
+use crate::node::{Node, Place};
+use crate::number::{Phase, is_of_numbers, may_end, next_phase};
+use crate::string::{Within, next_within};
+use crate::word::Word;
+use sval_core::NoMemory;
+
+impl Reader {
+    /// Reads a letter of a word.
+    #[tactic(auto, using(crate::proofs::ReaderPlaces::of_places))]
+    pub(crate) fn letter(&mut self, word: Word, bytes: &[u8], at: usize) -> bool
+        requires at_in { at < length bytes.now }
+        requires reads { ReadsIn bytes.now at self.old.from self.old.nodes.items }
+        ensures gives { Gives (machine.step_in (expected_of bytes.now self.old.from at (Letter word))
+            (state_of bytes.now at self.old) (get_or bytes.now at 0)) (state_of bytes.now (at + 1) self.new) result }
+        ensures reads { ReadsIn bytes.now (at + 1) self.new.from self.new.nodes.items }
+    {
+        match word.after(bytes[at]) {
+            None => false,
+            Some(None) => {
+                self.expected = Expected::Next;
+                true
+            },
+            Some(Some(left)) => {
+                self.expected = Expected::Letter(left);
+                true
+            },
+        }
+    }
+
+    /// How many bytes were read of a number or string.
+    fn length(&self, at: usize) -> Result<u32, NoMemory>
+        requires { self.now.from ≤ at }
+        ensures { IfOk result (λ length. self.now.from + length ≡ at) }
+    {
+        match u32::try_from(at - self.from) {
+            Ok(length) => Ok(length),
+            Err(_) => Err(NoMemory),
+        }
+    }
+
+    /// Reads one more byte of a number.
+    #[tactic(auto, using(crate::proofs::KeptNodes::between_more, crate::proofs::ReaderPlaces::of_places))]
+    fn digit(&mut self, phase: Phase, bytes: &[u8], at: usize) -> bool
+        requires at_in { at < length bytes.now }
+        requires reads { ReadsIn bytes.now at self.old.from self.old.nodes.items }
+        requires before { self.old.from ≤ at }
+        requires is_of_numbers { is_number_byte (get_or bytes.now at 0) ≡ true }
+        ensures gives { Gives (machine.step_in (expected_of bytes.now self.old.from at (InNumber phase))
+            (state_of bytes.now at self.old) (get_or bytes.now at 0)) (state_of bytes.now (at + 1) self.new) result }
+        ensures reads { ReadsIn bytes.now (at + 1) self.new.from self.new.nodes.items }
+    {
+        match next_phase(phase, bytes[at]) {
+            None => false,
+            Some(next) => {
+                self.expected = Expected::InNumber(next);
+                true
+            },
+        }
+    }
+
+    /// Ends a number with the byte before.
+    #[tactic(auto, using(crate::proofs::ReaderPlaces::of_places))]
+    fn end_number(&mut self, bytes: &[u8], at: usize) -> Result<(), NoMemory>
+        requires at_in { at ≤ length bytes.now }
+        requires reads { ReadsIn bytes.now at self.old.from self.old.nodes.items }
+        ensures ends { IfOk result (λ done. state_of bytes.now at self.new
+            ≡ machine.number_ends (state_of bytes.now at self.old) (between self.old.from at bytes.now)) }
+        ensures reads { IfOk result (λ done. ReadsIn bytes.now at self.new.from self.new.nodes.items) }
+    {
+        let length = self.length(at)?;
+        let place = self.place();
+        self.add(Node::Number(place, length, self.from), Expected::Next)
+    }
+
+    /// Ends a number, and reads the byte behind it.
+    fn after_number(&mut self, phase: Phase, bytes: &[u8], at: usize) -> Result<bool, NoMemory>
+        requires at_in { at < length bytes.now }
+        requires reads { ReadsIn bytes.now at self.old.from self.old.nodes.items }
+        requires is_of_no_number { is_number_byte (get_or bytes.now at 0) ≡ false }
+        ensures gives { IfOk result (Gives (machine.step_in (expected_of bytes.now self.old.from at (InNumber phase))
+            (state_of bytes.now at self.old) (get_or bytes.now at 0)) (state_of bytes.now (at + 1) self.new)) }
+        ensures reads { IfOk result (λ taken. ReadsIn bytes.now (at + 1) self.new.from self.new.nodes.items) }
+    {
+        if !may_end(phase) {
+            return Ok(false);
+        }
+        self.end_number(bytes, at)?;
+        self.follows(bytes, at)
+    }
+
+    /// Reads more of a number, or what follows it.
+    pub(crate) fn number(&mut self, phase: Phase, bytes: &[u8], at: usize) -> Result<bool, NoMemory>
+        requires at_in { at < length bytes.now }
+        requires reads { ReadsIn bytes.now at self.old.from self.old.nodes.items }
+        ensures gives { IfOk result (Gives (machine.step_in (expected_of bytes.now self.old.from at (InNumber phase))
+            (state_of bytes.now at self.old) (get_or bytes.now at 0)) (state_of bytes.now (at + 1) self.new)) }
+        ensures reads { IfOk result (λ taken. ReadsIn bytes.now (at + 1) self.new.from self.new.nodes.items) }
+    {
+        if is_of_numbers(bytes[at]) {
+            Ok(self.digit(phase, bytes, at))
+        } else {
+            self.after_number(phase, bytes, at)
+        }
+    }
+
+    /// Ends a number with the last byte, where nothing is open. Whether it may end there.
+    pub(crate) fn last_number(&mut self, phase: Phase, bytes: &[u8]) -> Result<bool, NoMemory>
+        requires reads { ReadsIn bytes.now (length bytes.now) self.old.from self.old.nodes.items }
+        requires alone { self.old.opened ≡ [] }
+        requires is { self.old.expected ≡ InNumber phase }
+        ensures ends { IfOk result (Ends (machine.at_end (state_of bytes.now (length bytes.now) self.old))
+            (tokens_in bytes.now (map node_of self.new.nodes.items))) }
+        ensures reads { IfOk result (λ whole.
+            ReadsIn bytes.now (length bytes.now) self.new.from self.new.nodes.items) }
+        ensures no_memory { IfErr result (λ error.
+            is_some (machine.at_end (state_of bytes.now (length bytes.now) self.old)) ≡ true) }
+    {
+        if !may_end(phase) {
+            return Ok(false);
+        }
+        self.end_number(bytes, bytes.len())?;
+        Ok(true)
+    }
+
+    /// Ends a string at its closing quote.
+    #[tactic(auto, using(crate::proofs::ReaderPlaces::of_places))]
+    fn end_string(&mut self, is_key: bool, bytes: &[u8], at: usize) -> Result<(), NoMemory>
+        requires at_in { at < length bytes.now }
+        requires reads { ReadsIn bytes.now at self.old.from self.old.nodes.items }
+        requires quote { get_or bytes.now at 0 ≡ 34 }
+        ensures ends { IfOk result (λ done. state_of bytes.now (at + 1) self.new
+            ≡ machine.string_ends (state_of bytes.now at self.old) is_key (between self.old.from at bytes.now)) }
+        ensures reads { IfOk result (λ done. ReadsIn bytes.now (at + 1) self.new.from self.new.nodes.items) }
+    {
+        let length = self.length(at)?;
+        if is_key {
+            return self.add(Node::Text(Place::Key, length, self.from), Expected::Colon);
+        }
+        let place = self.place();
+        self.add(Node::Text(place, length, self.from), Expected::Next)
+    }
+
+    /// Reads more of a string, or its end.
+    #[tactic(auto, using(crate::proofs::KeptNodes::between_more, crate::proofs::ReaderPlaces::of_places))]
+    pub(crate) fn string(
+        &mut self,
+        is_key: bool,
+        within: Within,
+        bytes: &[u8],
+        at: usize,
+    ) -> Result<bool, NoMemory>
+        requires at_in { at < length bytes.now }
+        requires reads { ReadsIn bytes.now at self.old.from self.old.nodes.items }
+        requires before { self.old.from ≤ at }
+        ensures gives { IfOk result (Gives (machine.step_in
+            (expected_of bytes.now self.old.from at (InString is_key within))
+            (state_of bytes.now at self.old) (get_or bytes.now at 0)) (state_of bytes.now (at + 1) self.new)) }
+        ensures reads { IfOk result (λ taken. ReadsIn bytes.now (at + 1) self.new.from self.new.nodes.items) }
+    {
+        let byte = bytes[at];
+        if within == Within::Plain && byte == b'"' {
+            self.end_string(is_key, bytes, at)?;
+            return Ok(true);
+        }
+        match next_within(within, byte) {
+            None => Ok(false),
+            Some(next) => {
+                self.expected = Expected::InString(is_key, next);
+                Ok(true)
+            },
+        }
+    }
+}

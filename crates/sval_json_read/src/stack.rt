@@ -1,0 +1,66 @@
+//! What is open.
+
+ghost use Rattle.std.specs.Prelude.{◌≡◌, [], ◌∷◌, if◌then◌else◌, is_ok};
+ghost use Rattle.sval_json_read.specs.SeenOpened.{opened_of, TopIs, around};
+
+use std::alloc::Global;
+use std::marker::Model;
+use sval_core::NoMemory;
+
+/// What has begun and not ended.
+#[derive(Clone, Copy)]
+pub(crate) enum Opened {
+    Array,
+    Object,
+}
+
+/// What is open, seen as a list with the innermost first.
+#[derive(Drop)]
+pub(crate) struct Stack {
+    opened: Vec<Opened>,
+}
+
+impl Model for Stack {
+    ghost use Rattle.std.specs.Prelude.{List, reverse, map};
+    ghost use Rattle.sval_json_read.specs.Reader.{Opened};
+    ghost use Rattle.sval_json_read.specs.SeenOpened.{opened_of};
+
+    ghost Value = { List Opened };
+
+    ghost view = { λ stack. reverse (map opened_of stack.opened.items) };
+}
+
+impl Stack {
+    /// A stack on which nothing is open; it takes no memory yet.
+    pub(crate) fn new(alloc: Global) -> Self
+        ensures { result ≡ [] }
+    {
+        Stack {
+            opened: Vec::new(alloc),
+        }
+    }
+
+    /// The innermost container.
+    pub(crate) fn top(&self) -> Option<Opened>
+        ensures { TopIs result self.now }
+    {
+        self.opened.last().copied()
+    }
+
+    /// Opens a container in the innermost one.
+    pub(crate) fn push(&mut self, container: Opened) -> Result<(), NoMemory>
+        ensures { self.new ≡ (if is_ok result then opened_of container ∷ self.old else self.old) }
+    {
+        match self.opened.push(container) {
+            Ok(()) => Ok(()),
+            Err(_) => Err(NoMemory),
+        }
+    }
+
+    /// Closes the innermost container, if there is one.
+    pub(crate) fn pop(&mut self)
+        ensures { self.new ≡ around self.old }
+    {
+        self.opened.pop();
+    }
+}

@@ -1,0 +1,51 @@
+//! The calls of a string.
+
+ghost use Rattle.std.specs.Prelude.{map};
+ghost use Rattle.sval_core.specs.Law.{Answers, Emits};
+ghost use Rattle.sval_core.specs.Values.{makes};
+ghost use Rattle.sval_json_read.specs.Calls.{text_calls, piece_call, pieces};
+ghost use Rattle.sval_json_read.specs.RawStrings.{IsRaw};
+ghost use Rattle.sval_json_read.specs.SeenPieces.{piece_of};
+
+use crate::piece::{Piece, first_piece};
+use sval_core::{Lent, Result, Stream};
+
+/// Makes the call of a piece.
+fn stream_piece<'v, S: Stream<Lent<'v>>>(piece: Piece<'v>, stream: &mut S) -> Result
+    ensures { Answers S.law result (S.standing stream.old) (piece_call (piece_of piece.entry)) (S.standing stream.new) }
+{
+    match piece {
+        Piece::Run(run) => stream.text_fragment(run),
+        Piece::Escape(character) => {
+            let mut buffer = [0; 4];
+            stream.text_fragment_computed(character.encode_utf8(&mut buffer))
+        },
+    }
+}
+
+/// Makes the calls of what stands between a string's quotes.
+#[tactic(auto, using(crate::proofs::PieceStreams::of_pieces))]
+fn stream_pieces<'v, S: Stream<Lent<'v>>>(raw: &'v str, stream: &mut S) -> Result
+    requires { IsRaw raw.now }
+    ensures { Emits S.law result
+        (S.standing stream.old) (makes (map piece_call (pieces raw.now))) (S.standing stream.new) }
+{
+    let mut rest = raw;
+    while !rest.is_empty() {
+        let (piece, behind) = first_piece(rest);
+        stream_piece(piece, stream)?;
+        rest = behind;
+    }
+    Ok(())
+}
+
+/// Makes the calls of a string, of which this stands between the quotes.
+pub(crate) fn stream_string<'v, S: Stream<Lent<'v>>>(raw: &'v str, stream: &mut S) -> Result
+    requires { IsRaw raw.now }
+    ensures { Emits S.law result
+        (S.standing stream.old) (makes (text_calls raw.now)) (S.standing stream.new) }
+{
+    stream.text_begin(None)?;
+    stream_pieces(raw, stream)?;
+    stream.text_end()
+}
