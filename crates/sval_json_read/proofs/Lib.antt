@@ -27,4 +27,5 @@ pub mod PieceStreams
 pub mod NodeStreams
 pub mod KeptDocuments
 pub mod NumberStreams
+pub mod KeptTokens
 mod examples

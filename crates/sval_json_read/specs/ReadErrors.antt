@@ -1,5 +1,5 @@
 -- What reading bytes answers.
-use Rattle.std.specs.Prelude.{◌≡◌, ℕ, ◌<◌, List, length, IsUtf8}
+use Rattle.std.specs.Prelude.{◌≡◌, ℕ, ◌≤◌, List, length, take, Some, IsUtf8}
 use Rattle.sval_label.specs.Calls.{Call}
 use Rattle.sval_core.specs.Spells.{Spells}
 use Rattle.sval_json_read.specs.declared.document.ReadError.{ReadError}
@@ -8,6 +8,8 @@ use Rattle.sval_json_read.specs.Trees.{tree_of}
 use Rattle.sval_json_read.specs.Tokens.{Placed}
 use Rattle.sval_json_read.specs.Calls.{document_calls}
 use Rattle.sval_json_read.specs.Documents.{IsDocument, IsBadJson}
+use Rattle.sval_json_read.specs.Reader.{State, start, after}
+use Rattle.sval_json_read.specs.SeenReader.{HasToken}
 
 -- the bytes denote a value, these are the calls of its tokens, and they spell its tree
 pub record IsRead (bytes : List ℕ) (calls : List Call) : Type 0 where
@@ -16,8 +18,16 @@ pub record IsRead (bytes : List ℕ) (calls : List Call) : Type 0 where
   pub same : calls ≡ document_calls tokens
   pub spells : Spells calls (tree_of document.value)
 
--- the cause of each error: the bytes are no UTF-8, they denote no value and fail there, or there are some and they are UTF-8
+-- after some first bytes the machine has kept a token, or it reads a number that may end there
+pub record KeepsSome (bytes : List ℕ) : Type 0 where
+  pub count : ℕ
+  pub within : count ≤ length bytes
+  pub state : State
+  pub reached : after start (take count bytes) ≡ Some state
+  pub keeps : HasToken state
+
+-- the cause of each error: the bytes are no UTF-8, they denote no value and fail there, or they are UTF-8 and some node is kept of them
 abbrev pub IsReadError : List ℕ → ReadError → Type 0
 IsReadError bytes NotUtf8 = IsUtf8 bytes → ⊥
 IsReadError bytes (BadJson at) = IsBadJson bytes at
-IsReadError bytes NoMemory = IsUtf8 bytes × (0 < length bytes)
+IsReadError bytes NoMemory = IsUtf8 bytes × KeepsSome bytes

@@ -1,5 +1,5 @@
 -- What the reader of the code stands for: a state of the machine after some first bytes.
-use Rattle.std.specs.Prelude.{◌≡◌, ℕ, ◌≤◌, Bool, true, false, List, [], ◌∷◌, ◌++◌, map, Option, Some, None, IsUtf8, IsCharBoundary}
+use Rattle.std.specs.Prelude.{◌≡◌, ℕ, ◌<◌, ◌≤◌, ◌⊎◌, length, Bool, true, false, List, [], ◌∷◌, ◌++◌, map, Option, Some, None, IsUtf8, IsCharBoundary}
 use Rattle.std.specs.List.{between, AllByRecursion}
 use Rattle.sval_json_read.specs.declared.node.Place.{Place}
 use Rattle.sval_json_read.specs.declared.node.Node.{Node}
@@ -86,6 +86,11 @@ pub record ReadsIn (bytes : List ℕ) (upto from : ℕ) (nodes : List Node) : Ty
   pub whole : IsCharBoundary bytes from
   pub stand : AllByRecursion (StandsIn bytes) nodes
 
+-- a number that may end with the last byte
+abbrev pub ends_number : machine.Expected → Bool
+ends_number (machine.InNumber phase _) = numbers.may_end phase
+ends_number _ = false
+
 -- one node more
 pub record Adds (old : Reader) (node : Node) (expected : made_expected.Expected) (new : Reader) : Type 0 where
   pub expected_is : new.expected ≡ expected
@@ -101,3 +106,16 @@ pub record Opens (old : Reader) (container : Opened) (node : Place → Node) (ex
   pub from_is : new.from ≡ old.from
   pub opened_is : new.opened ≡ opened_of container ∷ old.opened
   pub nodes_are : new.nodes.items ≡ old.nodes.items ++ (node place ∷ [])
+
+-- a token was kept, or a number is being read that may end
+abbrev pub HasToken : machine.State → Type 0
+HasToken state = (0 < length state.tokens) ⊎ (ends_number state.expected ≡ true)
+
+-- the machine goes on, and a token was kept by then
+abbrev pub KeepsToken : Option machine.State → Type 0
+KeepsToken None = ⊥
+KeepsToken (Some state) = 0 < length state.tokens
+
+-- a token is kept before a byte or behind it
+abbrev pub KeepsAt : machine.State → Option machine.State → Type 0
+KeepsAt state next = HasToken state ⊎ KeepsToken next

@@ -1,10 +1,10 @@
 //! The machine that reads JSON byte by byte.
 
-ghost use Rattle.std.specs.Prelude.{◌≡◌, ◌+◌, ◌<◌, ℕ, List, [], true, IfOk, IfErr, is_some, length, get_or, map};
+ghost use Rattle.std.specs.Prelude.{◌≡◌, ◌+◌, ◌<◌, ℕ, List, [], IfOk, IfErr, length, get_or, map};
 ghost use Rattle.sval_json_read.specs.Reader as machine;
 ghost use Rattle.sval_json_read.specs.Nodes.{tokens_in};
 ghost use Rattle.sval_json_read.specs.SeenNodes.{place_of, node_of, StandsIn};
-ghost use Rattle.sval_json_read.specs.SeenReader.{state_of, Gives, Ends, Adds, ReadsIn};
+ghost use Rattle.sval_json_read.specs.SeenReader.{state_of, Gives, HasToken, KeepsAt, Ends, Adds, ReadsIn};
 
 mod container;
 mod scalar;
@@ -91,6 +91,8 @@ impl Reader {
         ensures gives { IfOk result (Gives (machine.step (state_of bytes.now at self.old) (get_or bytes.now at 0))
             (state_of bytes.now (at + 1) self.new)) }
         ensures reads { IfOk result (λ taken. ReadsIn bytes.now (at + 1) self.new.from self.new.nodes.items) }
+        ensures no_memory { IfErr result (λ error. KeepsAt (state_of bytes.now at self.old)
+            (machine.step (state_of bytes.now at self.old) (get_or bytes.now at 0))) }
     {
         match self.expected {
             Expected::AValue => self.value(bytes, at),
@@ -112,8 +114,7 @@ impl Reader {
             (tokens_in bytes.now (map node_of self.new.nodes.items))) }
         ensures reads { IfOk result (λ whole.
             ReadsIn bytes.now (length bytes.now) self.new.from self.new.nodes.items) }
-        ensures no_memory { IfErr result (λ error.
-            is_some (machine.at_end (state_of bytes.now (length bytes.now) self.old)) ≡ true) }
+        ensures no_memory { IfErr result (λ error. HasToken (state_of bytes.now (length bytes.now) self.old)) }
     {
         if self.opened.top().is_some() {
             return Ok(false);

@@ -1,10 +1,10 @@
 //! Where values begin and what follows them.
 
-ghost use Rattle.std.specs.Prelude.{◌≡◌, ◌+◌, ◌<◌, [], IfOk, length, get_or};
+ghost use Rattle.std.specs.Prelude.{◌≡◌, ◌+◌, ◌<◌, [], IfOk, IfErr, length, get_or};
 ghost use Rattle.sval_json.specs.Grammar.{is_space};
 ghost use Rattle.sval_json_read.specs.Strings.{Plain};
 ghost use Rattle.sval_json_read.specs.Reader as machine;
-ghost use Rattle.sval_json_read.specs.SeenReader.{state_of, Gives, Opens, ReadsIn};
+ghost use Rattle.sval_json_read.specs.SeenReader.{state_of, Gives, KeepsAt, Opens, ReadsIn};
 ghost use Rattle.sval_json_read.specs.declared.node.Node.TheVariants as node;
 ghost use Rattle.sval_json_read.specs.declared.stack.Opened.TheVariants as opened;
 ghost use Rattle.sval_json_read.specs.declared.reader.Expected.TheVariants as expected;
@@ -19,7 +19,7 @@ use sval_core::NoMemory;
 
 impl Reader {
     /// Reads a comma or the end of what is open.
-    #[tactic(auto, using(crate::proofs::ReaderPlaces::of_places))]
+    #[tactic(auto, using(crate::proofs::ReaderPlaces::of_places, crate::proofs::KeptTokens::of_tokens))]
     fn goes_on(&mut self, bytes: &[u8], at: usize) -> Result<bool, NoMemory>
         requires at_in { at < length bytes.now }
         requires reads { ReadsIn bytes.now at self.old.from self.old.nodes.items }
@@ -27,6 +27,8 @@ impl Reader {
             (machine.goes_on (state_of bytes.now at self.old) self.old.opened (get_or bytes.now at 0))
             (state_of bytes.now (at + 1) self.new)) }
         ensures reads { IfOk result (λ taken. ReadsIn bytes.now (at + 1) self.new.from self.new.nodes.items) }
+        ensures no_memory { IfErr result (λ error. KeepsAt (state_of bytes.now at self.old)
+            (machine.goes_on (state_of bytes.now at self.old) self.old.opened (get_or bytes.now at 0))) }
     {
         match (self.opened.top(), bytes[at]) {
             (Some(Opened::Array), b',') => self.expected = Expected::AValue,
@@ -47,13 +49,15 @@ impl Reader {
     }
 
     /// Reads one byte after a value.
-    #[tactic(auto, using(crate::proofs::ReaderPlaces::of_places))]
+    #[tactic(auto, using(crate::proofs::ReaderPlaces::of_places, crate::proofs::KeptTokens::of_tokens))]
     pub(crate) fn follows(&mut self, bytes: &[u8], at: usize) -> Result<bool, NoMemory>
         requires at_in { at < length bytes.now }
         requires reads { ReadsIn bytes.now at self.old.from self.old.nodes.items }
         ensures gives { IfOk result (Gives (machine.follows (state_of bytes.now at self.old) (get_or bytes.now at 0))
             (state_of bytes.now (at + 1) self.new)) }
         ensures reads { IfOk result (λ taken. ReadsIn bytes.now (at + 1) self.new.from self.new.nodes.items) }
+        ensures no_memory { IfErr result (λ error. KeepsAt (state_of bytes.now at self.old)
+            (machine.follows (state_of bytes.now at self.old) (get_or bytes.now at 0))) }
     {
         if is_white(bytes[at]) {
             self.expected = Expected::Next;
@@ -95,13 +99,15 @@ impl Reader {
     }
 
     /// Reads the first byte of a value.
-    #[tactic(auto, using(crate::proofs::ReaderPlaces::of_places))]
+    #[tactic(auto, using(crate::proofs::ReaderPlaces::of_places, crate::proofs::KeptTokens::of_tokens))]
     fn begins(&mut self, bytes: &[u8], at: usize) -> Result<bool, NoMemory>
         requires at_in { at < length bytes.now }
         requires reads { ReadsIn bytes.now at self.old.from self.old.nodes.items }
         ensures gives { IfOk result (Gives (machine.begins (state_of bytes.now at self.old) (get_or bytes.now at 0))
             (state_of bytes.now (at + 1) self.new)) }
         ensures reads { IfOk result (λ taken. ReadsIn bytes.now (at + 1) self.new.from self.new.nodes.items) }
+        ensures no_memory { IfErr result (λ error. KeepsAt (state_of bytes.now at self.old)
+            (machine.begins (state_of bytes.now at self.old) (get_or bytes.now at 0))) }
     {
         let byte = bytes[at];
         match byte {
@@ -132,7 +138,7 @@ impl Reader {
     }
 
     /// Reads the first byte of a key.
-    #[tactic(auto, using(crate::proofs::ReaderPlaces::of_places))]
+    #[tactic(auto, using(crate::proofs::ReaderPlaces::of_places, crate::proofs::KeptTokens::of_tokens))]
     fn begins_key(&mut self, bytes: &[u8], at: usize) -> bool
         requires at_in { at < length bytes.now }
         requires reads { ReadsIn bytes.now at self.old.from self.old.nodes.items }
@@ -148,7 +154,7 @@ impl Reader {
     }
 
     /// Reads a byte where the next value is expected.
-    #[tactic(auto, using(crate::proofs::ReaderPlaces::of_places))]
+    #[tactic(auto, using(crate::proofs::ReaderPlaces::of_places, crate::proofs::KeptTokens::of_tokens))]
     pub(crate) fn value(&mut self, bytes: &[u8], at: usize) -> Result<bool, NoMemory>
         requires at_in { at < length bytes.now }
         requires reads { ReadsIn bytes.now at self.old.from self.old.nodes.items }
@@ -156,6 +162,8 @@ impl Reader {
         ensures gives { IfOk result (Gives (machine.step (state_of bytes.now at self.old) (get_or bytes.now at 0))
             (state_of bytes.now (at + 1) self.new)) }
         ensures reads { IfOk result (λ taken. ReadsIn bytes.now (at + 1) self.new.from self.new.nodes.items) }
+        ensures no_memory { IfErr result (λ error. KeepsAt (state_of bytes.now at self.old)
+            (machine.step (state_of bytes.now at self.old) (get_or bytes.now at 0))) }
     {
         if is_white(bytes[at]) {
             return Ok(true);
@@ -164,7 +172,7 @@ impl Reader {
     }
 
     /// Reads a byte where the first item of an array or its end is expected.
-    #[tactic(auto, using(crate::proofs::ReaderPlaces::of_places))]
+    #[tactic(auto, using(crate::proofs::ReaderPlaces::of_places, crate::proofs::KeptTokens::of_tokens))]
     pub(crate) fn first_item(&mut self, bytes: &[u8], at: usize) -> Result<bool, NoMemory>
         requires at_in { at < length bytes.now }
         requires reads { ReadsIn bytes.now at self.old.from self.old.nodes.items }
@@ -172,6 +180,8 @@ impl Reader {
         ensures gives { IfOk result (Gives (machine.step (state_of bytes.now at self.old) (get_or bytes.now at 0))
             (state_of bytes.now (at + 1) self.new)) }
         ensures reads { IfOk result (λ taken. ReadsIn bytes.now (at + 1) self.new.from self.new.nodes.items) }
+        ensures no_memory { IfErr result (λ error. KeepsAt (state_of bytes.now at self.old)
+            (machine.step (state_of bytes.now at self.old) (get_or bytes.now at 0))) }
     {
         if is_white(bytes[at]) {
             return Ok(true);
@@ -183,7 +193,7 @@ impl Reader {
     }
 
     /// Reads a byte where the first key of an object or its end is expected.
-    #[tactic(auto, using(crate::proofs::ReaderPlaces::of_places))]
+    #[tactic(auto, using(crate::proofs::ReaderPlaces::of_places, crate::proofs::KeptTokens::of_tokens))]
     pub(crate) fn first_key(&mut self, bytes: &[u8], at: usize) -> Result<bool, NoMemory>
         requires at_in { at < length bytes.now }
         requires reads { ReadsIn bytes.now at self.old.from self.old.nodes.items }
@@ -191,6 +201,8 @@ impl Reader {
         ensures gives { IfOk result (Gives (machine.step (state_of bytes.now at self.old) (get_or bytes.now at 0))
             (state_of bytes.now (at + 1) self.new)) }
         ensures reads { IfOk result (λ taken. ReadsIn bytes.now (at + 1) self.new.from self.new.nodes.items) }
+        ensures no_memory { IfErr result (λ error. KeepsAt (state_of bytes.now at self.old)
+            (machine.step (state_of bytes.now at self.old) (get_or bytes.now at 0))) }
     {
         if is_white(bytes[at]) {
             return Ok(true);
@@ -202,7 +214,7 @@ impl Reader {
     }
 
     /// Reads a byte where the next key of an object is expected.
-    #[tactic(auto, using(crate::proofs::ReaderPlaces::of_places))]
+    #[tactic(auto, using(crate::proofs::ReaderPlaces::of_places, crate::proofs::KeptTokens::of_tokens))]
     pub(crate) fn next_key(&mut self, bytes: &[u8], at: usize) -> bool
         requires at_in { at < length bytes.now }
         requires reads { ReadsIn bytes.now at self.old.from self.old.nodes.items }
@@ -215,7 +227,7 @@ impl Reader {
     }
 
     /// Reads a byte where a colon is expected.
-    #[tactic(auto, using(crate::proofs::ReaderPlaces::of_places))]
+    #[tactic(auto, using(crate::proofs::ReaderPlaces::of_places, crate::proofs::KeptTokens::of_tokens))]
     pub(crate) fn colon(&mut self, bytes: &[u8], at: usize) -> bool
         requires at_in { at < length bytes.now }
         requires reads { ReadsIn bytes.now at self.old.from self.old.nodes.items }

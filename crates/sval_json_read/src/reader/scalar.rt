@@ -1,12 +1,12 @@
 //! Words, numbers and strings.
 
-ghost use Rattle.std.specs.Prelude.{◌≡◌, ◌+◌, ◌<◌, ◌≤◌, [], IfOk, IfErr, is_some, length, get_or, map, true, false};
+ghost use Rattle.std.specs.Prelude.{◌≡◌, ◌+◌, ◌<◌, ◌≤◌, [], IfOk, IfErr, length, get_or, map, true, false};
 ghost use Rattle.std.specs.List.{between};
 ghost use Rattle.sval_json.specs.Digits.{is_number_byte};
 ghost use Rattle.sval_json_read.specs.Reader as machine;
 ghost use Rattle.sval_json_read.specs.Nodes.{tokens_in};
 ghost use Rattle.sval_json_read.specs.SeenNodes.{node_of};
-ghost use Rattle.sval_json_read.specs.SeenReader.{state_of, expected_of, Gives, Ends, ReadsIn};
+ghost use Rattle.sval_json_read.specs.SeenReader.{state_of, expected_of, Gives, HasToken, KeepsAt, Ends, ReadsIn};
 ghost use Rattle.sval_json_read.specs.declared.reader.Expected.TheVariants.{Letter, InNumber, InString};
 
 use super::{Expected, Reader};
@@ -85,13 +85,18 @@ impl Reader {
     }
 
     /// Ends a number, and reads the byte behind it.
+    #[tactic(auto, using(crate::proofs::KeptTokens::of_tokens))]
     fn after_number(&mut self, phase: Phase, bytes: &[u8], at: usize) -> Result<bool, NoMemory>
         requires at_in { at < length bytes.now }
         requires reads { ReadsIn bytes.now at self.old.from self.old.nodes.items }
+        requires is { self.old.expected ≡ InNumber phase }
         requires is_of_no_number { is_number_byte (get_or bytes.now at 0) ≡ false }
         ensures gives { IfOk result (Gives (machine.step_in (expected_of bytes.now self.old.from at (InNumber phase))
             (state_of bytes.now at self.old) (get_or bytes.now at 0)) (state_of bytes.now (at + 1) self.new)) }
         ensures reads { IfOk result (λ taken. ReadsIn bytes.now (at + 1) self.new.from self.new.nodes.items) }
+        ensures no_memory { IfErr result (λ error. KeepsAt (state_of bytes.now at self.old)
+            (machine.step_in (expected_of bytes.now self.old.from at (InNumber phase))
+            (state_of bytes.now at self.old) (get_or bytes.now at 0))) }
     {
         if !may_end(phase) {
             return Ok(false);
@@ -104,9 +109,13 @@ impl Reader {
     pub(crate) fn number(&mut self, phase: Phase, bytes: &[u8], at: usize) -> Result<bool, NoMemory>
         requires at_in { at < length bytes.now }
         requires reads { ReadsIn bytes.now at self.old.from self.old.nodes.items }
+        requires is { self.old.expected ≡ InNumber phase }
         ensures gives { IfOk result (Gives (machine.step_in (expected_of bytes.now self.old.from at (InNumber phase))
             (state_of bytes.now at self.old) (get_or bytes.now at 0)) (state_of bytes.now (at + 1) self.new)) }
         ensures reads { IfOk result (λ taken. ReadsIn bytes.now (at + 1) self.new.from self.new.nodes.items) }
+        ensures no_memory { IfErr result (λ error. KeepsAt (state_of bytes.now at self.old)
+            (machine.step_in (expected_of bytes.now self.old.from at (InNumber phase))
+            (state_of bytes.now at self.old) (get_or bytes.now at 0))) }
     {
         if is_of_numbers(bytes[at]) {
             Ok(self.digit(phase, bytes, at))
@@ -124,8 +133,7 @@ impl Reader {
             (tokens_in bytes.now (map node_of self.new.nodes.items))) }
         ensures reads { IfOk result (λ whole.
             ReadsIn bytes.now (length bytes.now) self.new.from self.new.nodes.items) }
-        ensures no_memory { IfErr result (λ error.
-            is_some (machine.at_end (state_of bytes.now (length bytes.now) self.old)) ≡ true) }
+        ensures no_memory { IfErr result (λ error. HasToken (state_of bytes.now (length bytes.now) self.old)) }
     {
         if !may_end(phase) {
             return Ok(false);
@@ -153,7 +161,7 @@ impl Reader {
     }
 
     /// Reads more of a string, or its end.
-    #[tactic(auto, using(crate::proofs::KeptNodes::between_more, crate::proofs::ReaderPlaces::of_places))]
+    #[tactic(auto, using(crate::proofs::KeptNodes::between_more, crate::proofs::ReaderPlaces::of_places, crate::proofs::KeptTokens::of_tokens))]
     pub(crate) fn string(
         &mut self,
         is_key: bool,
@@ -168,6 +176,9 @@ impl Reader {
             (expected_of bytes.now self.old.from at (InString is_key within))
             (state_of bytes.now at self.old) (get_or bytes.now at 0)) (state_of bytes.now (at + 1) self.new)) }
         ensures reads { IfOk result (λ taken. ReadsIn bytes.now (at + 1) self.new.from self.new.nodes.items) }
+        ensures no_memory { IfErr result (λ error. KeepsAt (state_of bytes.now at self.old)
+            (machine.step_in (expected_of bytes.now self.old.from at (InString is_key within))
+            (state_of bytes.now at self.old) (get_or bytes.now at 0))) }
     {
         let byte = bytes[at];
         if within == Within::Plain && byte == b'"' {

@@ -5,6 +5,7 @@ use Rattle.sval_json_read.specs.Reader.{start, after}
 use Rattle.sval_json_read.specs.declared.reader.Reader.{Reader}
 use Rattle.sval_json_read.proofs.Loop.{after-byte, refused-at, ended-bad, ended-document}
 use Rattle.sval_json_read.proofs.ReaderPlaces.{reads_start}
+use Rattle.sval_json_read.proofs.KeptTokens.{kept_at, kept_end}
 use Rattle.sval_json_read.proofs.document.read_nodes.Goals as goal
 
 -- at the end all bytes were taken
@@ -48,3 +49,16 @@ returns-in-Ok-false-finish-clause-err c =
     (ended-bad c.args.bytes.now (state_of c.args.bytes.now (length c.args.bytes.now) c.loop-at.reader) c.requires
     (all_taken c.args.bytes.now c.loop-at.at c.loop-at.reader c.loop-at-test.false c.loop-at.invariant.within c.loop-at.invariant.reached)
     (rw c.in-Ok-false-finish.field-0-test at c.in-Ok-false-finish.ensures.ends))
+
+pub returns-in-Err-clause-err : goal.returns-in-Err-clause-err
+returns-in-Err-clause-err c = (
+  c.requires,
+  kept_at c.args.bytes.now c.loop-at.at (state_of c.args.bytes.now c.loop-at.at c.loop-at.reader) c.loop-at-test.true c.loop-at.invariant.reached c.in-Err.ensures.no_memory,
+)
+
+pub returns-in-Err-finish-clause-err : goal.returns-in-Err-finish-clause-err
+returns-in-Err-finish-clause-err c = (
+  c.requires,
+  kept_end c.args.bytes.now (state_of c.args.bytes.now (length c.args.bytes.now) c.loop-at.reader)
+      (all_taken c.args.bytes.now c.loop-at.at c.loop-at.reader c.loop-at-test.false c.loop-at.invariant.within c.loop-at.invariant.reached) c.in-Err-finish.ensures.no_memory,
+)
