@@ -6,7 +6,8 @@ use sval_core::{Lent, Result, Stream, Tag, Value, tags};
 
 /// Bytes of a number that their type fixes, as a binary that is tagged so.
 ///
-/// An array of bytes by itself is a sequence of numbers that is tagged so.
+/// An array of bytes by itself is a sequence of numbers that is tagged so. One that is made within a value's `stream`
+/// lives no longer than that call, so it goes to the stream by `value_computed`.
 ///
 /// ```
 /// assert_eq!(rt; BinaryArray::new(&[0, 255]).as_slice().len(), 2);

@@ -8,7 +8,8 @@ use sval_core::{Lent, Result, Stream, Value};
 
 /// Bytes as a binary: its size, one fragment and its end.
 ///
-/// A slice of bytes by itself is a sequence of numbers.
+/// A slice of bytes by itself is a sequence of numbers. One that is made within a value's `stream` lives no longer than
+/// that call, so it goes to the stream by `value_computed`.
 ///
 /// ```
 /// assert_eq!(rt; BinarySlice::new(b"\x00\xff").as_slice(), [0u8, 255].as_slice());

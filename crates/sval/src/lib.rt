@@ -23,7 +23,7 @@ pub use shown::{Display, DisplayError, stream_display, stream_display_fragments,
 pub use std_display::StdDisplay;
 pub use streaming::{stream, stream_computed};
 pub use sval_core::{
-    AnyCall, Call, Computed, Error, Index, Label, Lending, Lent, Name, NoMemory, Null, Result,
-    Stream, Tag, Value, refusal, stream_seq, stream_str, tags,
+    AnyCall, Call, Computed, Error, Fragment, GroupedCall, Head, Index, Int, Label, Lending, Lent,
+    Name, NoMemory, Null, Result, Slot, Stream, Tag, Value, refusal, stream_seq, stream_str, tags,
 };
-pub use sval_lower::{Readers, default_stream, default_value};
+pub use sval_lower::{GivenTag, Readers, default_stream, default_value};

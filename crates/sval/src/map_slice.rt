@@ -10,7 +10,8 @@ use sval_core::{Lent, Result, Stream, Value};
 
 /// Pairs as a map, in their order. Nothing looks whether keys stand twice.
 ///
-/// A slice of pairs by itself is a sequence of tuples.
+/// A slice of pairs by itself is a sequence of tuples. One that is made within a value's `stream` lives no longer than
+/// that call, so it goes to the stream by `value_computed`.
 ///
 /// ```
 /// let map = MapSlice::new(&[("a", 1u8), ("b", 2)]);

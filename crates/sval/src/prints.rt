@@ -9,7 +9,7 @@ use crate::render::{Render, RenderError};
 use itoa::{Buffer, Integer};
 
 /// Appends a text.
-fn append(out: &mut String, text: &str) -> Result<(), RenderError>
+pub(crate) fn append(out: &mut String, text: &str) -> Result<(), RenderError>
     ensures { Renders (Some text.now) false result (string_bytes out.old) (string_bytes out.new) }
 {
     match out.push_str(text) {

@@ -1,12 +1,19 @@
 //! What prints itself by std's formatting.
 
+ghost use Rattle.std.specs.Prelude.{IfOk};
+ghost use Rattle.std.specs.String.{string_bytes};
+ghost use Rattle.sval.specs.Shown.{IsPrinted};
+
+use crate::prints::append;
 use crate::render::{Render, RenderError};
+use std::alloc::Global;
 use std::fmt;
+use std::fmt::Write;
 
 /// Any value that has std's `Display`, as one that prints itself.
 ///
-/// It tells nothing of the text, and may be one that can't be printed, since std's formatting may fail for reasons of
-/// the value's own.
+/// It prints what std's `Display` prints, where that is told, and may be one that can't be printed, since std's
+/// formatting may fail for reasons of the value's own.
 #[derive(Debug, Drop)]
 pub struct StdDisplay<V> {
     /// The value.
@@ -21,6 +28,11 @@ struct Written {
 }
 
 impl fmt::Write for Written {
+    ghost use Rattle.std.specs.Prelude.{◌≡◌, ◌++◌};
+    ghost use Rattle.std.specs.String.{string_bytes};
+
+    ghost write_str_gives = { λ old text new. string_bytes new.text ≡ string_bytes old.text ++ text };
+
     fn write_str(&mut self, text: &str) -> fmt::Result {
         match self.text.push_str(text) {
             Ok(()) => Ok(()),
@@ -32,27 +44,33 @@ impl fmt::Write for Written {
     }
 }
 
-impl<V: fmt::Display> Render for StdDisplay<V> {
-    ghost use Rattle.std.specs.Prelude.{None, true};
+/// The text that a value prints.
+fn printed<V: fmt::Display>(alloc: Global, value: &V) -> Result<String, RenderError>
+    ensures { IfOk result (λ text. IsPrinted (V.output value.now) (string_bytes text)) }
+{
+    let mut written = Written {
+        text: String::new(alloc),
+        wants_memory: false,
+    };
+    match written.write(value) {
+        Ok(()) if !written.wants_memory => Ok(written.text),
+        Err(_) if !written.wants_memory => Err(RenderError::Format),
+        _ => Err(RenderError::NoMemory),
+    }
+}
 
-    ghost printed = { λ _. None };
+impl<V: fmt::Display> Render for StdDisplay<V> {
+    ghost use Rattle.std.specs.Prelude.{true};
+
+    ghost printed = { λ shown. V.output shown.value };
 
     ghost unprintable = { λ _. true };
 
+    #[tactic(auto, using(crate::proofs::Rendered::appended, crate::proofs::Rendered::appended_part, crate::proofs::Rendered::nothing_appended))]
     fn render(&self, out: &mut String) -> Result<(), RenderError> {
-        let mut formatter = fmt::Formatter::new(Written {
-            text: String::new(*out.allocator()),
-            wants_memory: false,
-        });
-        let printed = formatter.write(&self.value);
-        let written = formatter.into_inner();
-        match printed {
-            Ok(()) if !written.wants_memory => match out.push_str(written.text.as_str()) {
-                Ok(()) => Ok(()),
-                Err(_) => Err(RenderError::NoMemory),
-            },
-            Err(_) if !written.wants_memory => Err(RenderError::Format),
-            _ => Err(RenderError::NoMemory),
+        match printed(*out.allocator(), &self.value) {
+            Ok(text) => append(out, text.as_str()),
+            Err(error) => Err(error),
         }
     }
 }
