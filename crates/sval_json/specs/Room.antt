@@ -5,7 +5,7 @@ use Rattle.sval_core.specs.Spells.{Spells}
 use Rattle.sval_core.specs.Trees.{Tree}
 use Rattle.sval_json.specs.declared.style.Variants.{Variants}
 use Rattle.sval_json.specs.declared.error.ErrorKind.{ErrorKind}
-use Rattle.sval_json.specs.Filled.{Filled, filled_told}
+use Rattle.sval_json.specs.Filled.{Filled, room_of, filled_told}
 use Rattle.sval_json.specs.Json.{Json, compact}
 use Rattle.sval_json.specs.Shape.{json_in}
 use Rattle.sval_json.specs.Written.{StreamsJson}
@@ -21,4 +21,4 @@ pub record EmitsJson (style : Variants) (emission : Emission) (json : Json) : Ty
 -- whatever memory there is
 abbrev pub RoomIsEnough : Type 0
 RoomIsEnough = (style : Variants) (emission : Emission) (result : Result (Unit {0}) ErrorKind) (old new : Filled) → StreamsJson style emission result (filled_told old) (filled_told new)
-    → (json : Json) → EmitsJson style emission json → length (compact json) ≤ old.room → result ≡ Ok tt
+    → (json : Json) → EmitsJson style emission json → length (compact json) ≤ room_of old → result ≡ Ok tt

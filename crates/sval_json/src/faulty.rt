@@ -55,6 +55,7 @@ impl<'a> Sink for FaultySink<'a> {
         ensures fails { (result ≡ Err SinkError.Failed) ↔ FailsNext self.old piece.now }
         ensures writes { Writes result (faulty_told self.old) piece.now (faulty_told self.new) }
         ensures once { IfErr result (λ why. IsCountedOnce why (faulty_told self.old) (faulty_told self.new)) }
+        ensures empty { piece.now ≡ [] → (result ≡ Ok 0) × (self.new ≡ self.old) }
         ensures plan { self.new.plan ≡ after_write result piece.now self.old.plan }
     {
         if piece.is_empty() {

@@ -1,8 +1,8 @@
 //! A sink over a buffer of the caller's.
 
-ghost use Rattle.std.specs.Prelude.{◌≡◌, ◌↔◌, [], IfOk, IsErr, OnErr, length, min};
+ghost use Rattle.std.specs.Prelude.{◌≡◌, ◌↔◌, [], IfOk, IsErr, OnErr, drop, length, min};
 ghost use Rattle.sval_core.specs.Law.{one_more};
-ghost use Rattle.sval_json.specs.Filled.{filled_told, IsFullFor};
+ghost use Rattle.sval_json.specs.Filled.{filled_told, room_of, IsFullFor};
 ghost use Rattle.sval_json.specs.Sinks.{Writes, Flushes};
 
 use crate::sink::{Sink, SinkError};
@@ -27,14 +27,14 @@ pub struct FixedSink<'a> {
 }
 
 impl<'a> Model for FixedSink<'a> {
-    ghost use Rattle.std.specs.Prelude.{◌-◌, ◌≤◌, length, take};
+    ghost use Rattle.std.specs.Prelude.{◌≤◌, drop, length, take};
     ghost use Rattle.sval_json.specs.Filled.{Filled};
 
     ghost Value = { Filled };
 
     ghost view = { λ sink. record {
       bytes = take sink.taken sink.buffer.now;
-      room = length sink.buffer.now - sink.taken;
+      behind = drop sink.taken sink.buffer.now;
       faults = sink.faults;
     } };
 
@@ -44,7 +44,7 @@ impl<'a> Model for FixedSink<'a> {
 impl<'a> FixedSink<'a> {
     /// A sink over this buffer, of which all is free.
     pub fn new(buffer: &'a mut [u8]) -> Self
-        ensures { result ≡ record { bytes = []; room = length buffer.old; faults = 0 } }
+        ensures { result ≡ record { bytes = []; behind = buffer.old; faults = 0 } }
     {
         FixedSink {
             buffer,
@@ -78,7 +78,7 @@ impl<'a> FixedSink<'a> {
 
     /// How many bytes are free.
     pub fn room(&self) -> usize
-        ensures { result ≡ self.now.room }
+        ensures { result ≡ room_of self.now }
     {
         self.buffer.len() - self.taken
     }
@@ -88,7 +88,8 @@ impl<'a> Sink for FixedSink<'a> {
     ghost told = { filled_told };
 
     fn write(&mut self, piece: &[u8]) -> Result<usize, SinkError>
-        ensures fits { IfOk result (λ count. count ≡ min (length piece.now) self.old.room) }
+        ensures fits { IfOk result (λ count. count ≡ min (length piece.now) (room_of self.old)) }
+        ensures rest { IfOk result (λ count. self.new.behind ≡ drop count self.old.behind) }
         ensures full { IsErr result ↔ IsFullFor self.old piece.now }
         ensures writes { Writes result (filled_told self.old) piece.now (filled_told self.new) }
         ensures once { OnErr result (self.new.faults ≡ one_more self.old.faults) }

@@ -46,10 +46,14 @@ impl Sink for TrickleSink {
 
     fn write(&mut self, piece: &[u8]) -> Result<usize, SinkError>
         ensures one { IfOk result (λ count. count ≡ min 1 (length piece.now)) }
+        ensures empty { piece.now ≡ [] → (result ≡ Ok 0) × (self.new ≡ self.old) }
         ensures writes { Writes result (taken_told self.old) piece.now (taken_told self.new) }
         ensures once { OnErr result (self.new.wants ≡ one_more self.old.wants) }
     {
-        self.taken.write(&piece[..piece.len().min(1)])
+        match piece {
+            [] => Ok(0),
+            [first, ..] => self.taken.write(&[*first]),
+        }
     }
 
     fn flush(&mut self) -> Result<(), SinkError>
