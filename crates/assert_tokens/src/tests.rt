@@ -5,27 +5,18 @@ use std::test::Fail;
 use sval_check::{Token, TokenName};
 use sval_core::Label;
 
-/// What the record of a point is called: nothing.
-fn no_name() -> TokenName {
-    TokenName {
-        tag: None,
-        label: None,
-        index: None,
-    }
-}
-
 #[test]
 fn a_point_is_a_record(rt: HostRuntime) -> Result<(), Fail> {
     let point = Point { x: 3, y: -4 };
     let tokens = [
-        Token::RecordBegin(no_name(), Some(2)),
+        Token::RecordBegin(TokenName::none(), Some(2)),
         Token::RecordValueBegin(None, Label::new("x")),
         Token::I64(3),
         Token::RecordValueEnd(None, Label::new("x")),
         Token::RecordValueBegin(None, Label::new("y")),
         Token::I64(-4),
         Token::RecordValueEnd(None, Label::new("y")),
-        Token::RecordEnd(no_name()),
+        Token::RecordEnd(TokenName::none()),
     ];
     let same = tokens_match(rt.alloc(), &point, &tokens);
     assert_eq!(rt; same, Ok(true));
@@ -38,7 +29,7 @@ fn other_tokens_are_told(rt: HostRuntime) -> Result<(), Fail> {
     let too_few = tokens_match(
         rt.alloc(),
         &point,
-        &[Token::RecordBegin(no_name(), Some(2))],
+        &[Token::RecordBegin(TokenName::none(), Some(2))],
     );
     assert_eq!(rt; too_few, Ok(false));
     Ok(())

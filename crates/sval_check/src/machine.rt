@@ -15,6 +15,7 @@ ghost use Rattle.sval_check.specs.Frames.{begun_frame, begun_form, seen_form};
 ghost use Rattle.sval_check.specs.Tops.{content_fragment, content_end};
 ghost use Rattle.sval_check.specs.Dues.{Readies, finished, undone};
 
+mod apart;
 mod step;
 
 use crate::frame::{Begin, Content, Form};

@@ -1,5 +1,7 @@
 //! Calls that are kept.
 
+ghost use Rattle.std.specs.Prelude.{◌≡◌, None};
+
 use crate::fragments::{TokenBytes, TokenText};
 use sval_core::{Index, Label, Tag};
 
@@ -12,6 +14,21 @@ pub struct TokenName {
     pub label: Option<Label<'static>>,
     /// The number.
     pub index: Option<Index>,
+}
+
+impl TokenName {
+    /// No name.
+    pub fn none() -> Self
+        ensures tag { result.tag ≡ None }
+        ensures label { result.label ≡ None }
+        ensures index { result.index ≡ None }
+    {
+        TokenName {
+            tag: None,
+            label: None,
+            index: None,
+        }
+    }
 }
 
 /// A call that is kept, with one variant for each call.

@@ -69,7 +69,8 @@ impl<'sval> TokenBuf<'sval> {
         }
     }
 
-    /// The calls that were taken since the buffer was new or cleared, in order.
+    /// The calls that were taken since the buffer was new or cleared, in order. Printed by `{:?}` they show where two
+    /// lists differ.
     pub fn as_tokens(&self) -> &[Token<'sval>]
         ensures { token_calls result.now ≡ self.now.calls }
     {

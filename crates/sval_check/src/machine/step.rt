@@ -1,12 +1,11 @@
 //! The machine's step as a whole, for streams where nothing else may refuse a call.
 //!
-//! It is compiled into the loop that makes the calls, so that each kind of call comes to what it needs alone. Only what
-//! calls with names do stands in functions of its own, and a name goes there by its parts, since those are passed in
-//! registers.
+//! It is compiled into the loop that makes the calls, so that each kind of call comes to what it needs alone. For that it
+//! has to stay small: what calls with names do, and what rarer calls do, stands in functions of its own (`apart.rt`).
 
 ghost use Rattle.std.specs.Prelude.{true, false};
 ghost use Rattle.sval_label.specs.Made.{call_of};
-ghost use Rattle.sval_label.specs.SeenName.{name_of, seen_name};
+ghost use Rattle.sval_label.specs.SeenName.{seen_name};
 ghost use Rattle.sval_label.specs.Grouped.{seen_head, seen_slot};
 ghost use Rattle.sval_core.specs.Trees.{first_kind, plain_head, plain_name};
 ghost use Rattle.sval_core.specs.Checker.{InContainer};
@@ -21,7 +20,7 @@ use crate::frame::{Begin, Content, Form};
 use crate::kept::NamedValue;
 use crate::machine::{Machine, Refusal};
 use crate::measured::Measured;
-use sval_core::{AnyCall, Fragment, GroupedCall, Head, Index, Label, Name, Slot, Tag};
+use sval_core::{AnyCall, Fragment, GroupedCall, Head, Name, Slot, Tag};
 
 impl Machine {
     /// Goes on with a call, or says why it doesn't: [`Machine::ready`] and [`Machine::finish`] at once.
@@ -39,24 +38,22 @@ impl Machine {
             GroupedCall::Null | GroupedCall::Bool(_) | GroupedCall::Int(_) => {
                 self.fill(Form::Other)
             }
-            GroupedCall::Tag(_) => self.fill(Form::Variant),
+            GroupedCall::Tag(_) => self.fill_variant(),
             GroupedCall::TagHint(_) => Ok(()),
             GroupedCall::TextBegin(size) => self.open(Begin::Text(size)),
             GroupedCall::TextFragment(Fragment::Borrowed(text)) => {
-                self.add(Content::Text, L::text_len(text))
+                self.add_text(L::text_len(text))
             }
-            GroupedCall::TextFragment(Fragment::Computed(text)) => {
-                self.add(Content::Text, text.len())
-            }
+            GroupedCall::TextFragment(Fragment::Computed(text)) => { self.add_text(text.len()) }
             GroupedCall::TextEnd => self.close_content(Content::Text),
-            GroupedCall::BinaryBegin(size) => self.open(Begin::Binary(size)),
+            GroupedCall::BinaryBegin(size) => self.open_binary(size),
             GroupedCall::BinaryFragment(Fragment::Borrowed(bytes)) => {
-                self.add(Content::Binary, L::bytes_len(bytes))
+                self.add_binary(L::bytes_len(bytes))
             }
             GroupedCall::BinaryFragment(Fragment::Computed(bytes)) => {
-                self.add(Content::Binary, bytes.len())
+                self.add_binary(bytes.len())
             }
-            GroupedCall::BinaryEnd => self.close_content(Content::Binary),
+            GroupedCall::BinaryEnd => self.close_binary(),
             GroupedCall::EnumBegin(name) => self.open_name(NamedValue::Enum, name, None),
             GroupedCall::EnumEnd(name) => self.close_name(NamedValue::Enum, name),
             GroupedCall::TaggedBegin(name) => self.open_name(NamedValue::Tagged, name, None),
@@ -70,7 +67,7 @@ impl Machine {
 
     /// Takes a value that is one call.
     #[inline(always)]
-    fn fill(&mut self, form: Form) -> Result<(), Refusal>
+    pub(super) fn fill(&mut self, form: Form) -> Result<(), Refusal>
         ensures { StepsTo false (value (seen_form form) self.old) self.new result }
     {
         let due = self.value(form)?;
@@ -80,7 +77,7 @@ impl Machine {
 
     /// Takes the begin of a value that says no name.
     #[inline(always)]
-    fn open(&mut self, call: Begin) -> Result<(), Refusal>
+    pub(super) fn open(&mut self, call: Begin) -> Result<(), Refusal>
         ensures { StepsTo true (begin (begun_form call) (begun_frame call) self.old) self.new result }
     {
         let due = self.begin(call)?;
@@ -90,7 +87,7 @@ impl Machine {
 
     /// Takes so many bytes of a text or binary.
     #[inline(always)]
-    fn add(&mut self, content: Content, size: usize) -> Result<(), Refusal>
+    pub(super) fn add(&mut self, content: Content, size: usize) -> Result<(), Refusal>
         ensures { StepsTo false (at_top (content_fragment content size) self.old) self.new result }
     {
         let due = self.fragment(content, size)?;
@@ -100,7 +97,7 @@ impl Machine {
 
     /// Takes the end of a text or binary.
     #[inline(always)]
-    fn close_content(&mut self, content: Content) -> Result<(), Refusal>
+    pub(super) fn close_content(&mut self, content: Content) -> Result<(), Refusal>
         ensures { StepsTo false (at_top (content_end content) self.old) self.new result }
     {
         let due = self.content_end(content)?;
@@ -117,7 +114,7 @@ impl Machine {
     {
         match head {
             Head::Seq => self.open(Begin::Seq(size)),
-            Head::Map => self.open(Begin::Map(size)),
+            Head::Map => self.open_map(size),
             Head::Record(name) => self.open_name(NamedValue::Record, name, size),
             Head::Tuple(name) => self.open_name(NamedValue::Tuple, name, size),
             Head::RecordTuple(name) => self.open_name(NamedValue::RecordTuple, name, size),
@@ -131,7 +128,7 @@ impl Machine {
     {
         match head {
             Head::Seq => self.close_plain(Head::Seq),
-            Head::Map => self.close_plain(Head::Map),
+            Head::Map => self.close_map(),
             Head::Record(name) => self.close_name(NamedValue::Record, name),
             Head::Tuple(name) => self.close_name(NamedValue::Tuple, name),
             Head::RecordTuple(name) => self.close_name(NamedValue::RecordTuple, name),
@@ -140,7 +137,7 @@ impl Machine {
 
     /// Takes the end of a container that says no name.
     #[inline(always)]
-    fn close_plain(&mut self, head: Head<'_>) -> Result<(), Refusal>
+    pub(super) fn close_plain(&mut self, head: Head<'_>) -> Result<(), Refusal>
         ensures { StepsTo false (at_top (end (seen_head head.entry)) self.old) self.new result }
     {
         let due = self.end(head)?;
@@ -162,54 +159,12 @@ impl Machine {
         self.open_named(value, name.tag, name.label, name.index, size)
     }
 
-    /// The same of a name by its parts.
-    #[inline(never)]
-    fn open_named(
-        &mut self,
-        value: NamedValue,
-        tag: Option<&Tag>,
-        label: Option<&Label<'_>>,
-        index: Option<&Index>,
-        size: Option<usize>,
-    ) -> Result<(), Refusal>
-        ensures { let opened = value_frame value (plain_name (name_of tag.entry label.entry index.entry)) size in
-            StepsTo true (begin Variant opened self.old) self.new result }
-    {
-        let due = self.begin_named(value, Name { tag, label, index }, size)?;
-        self.finish(due);
-        Ok(())
-    }
-
     /// Takes the end of a value that says a name.
     #[inline(always)]
     fn close_name(&mut self, value: NamedValue, name: Name<'_>) -> Result<(), Refusal>
         ensures { StepsTo false (at_top (named_end value (seen_name name.entry)) self.old) self.new result }
     {
         self.close_named(value, name.tag, name.label, name.index)
-    }
-
-    /// The same of a name by its parts.
-    #[inline(never)]
-    fn close_named(
-        &mut self,
-        value: NamedValue,
-        tag: Option<&Tag>,
-        label: Option<&Label<'_>>,
-        index: Option<&Index>,
-    ) -> Result<(), Refusal>
-        ensures { StepsTo false (at_top (named_end value (name_of tag.entry label.entry index.entry)) self.old)
-            self.new result }
-    {
-        let name = Name { tag, label, index };
-        let due = match value {
-            NamedValue::Tagged => self.tagged_end(name)?,
-            NamedValue::Enum => self.enum_end(name)?,
-            NamedValue::Record => self.end(Head::Record(name))?,
-            NamedValue::Tuple => self.end(Head::Tuple(name))?,
-            NamedValue::RecordTuple => self.end(Head::RecordTuple(name))?,
-        };
-        self.finish(due);
-        Ok(())
     }
 
     /// Takes the begin of a container's part.
@@ -219,8 +174,8 @@ impl Machine {
     {
         match slot {
             Slot::Item => self.open_part(Slot::Item),
-            Slot::Key => self.open_part(Slot::Key),
-            Slot::Value => self.open_part(Slot::Value),
+            Slot::Key => self.open_key(),
+            Slot::Value => self.open_value(),
             Slot::Field(tag, label) => self.open_field(tag, label),
             Slot::Place(tag, index) => self.open_place(tag, index),
             Slot::FieldPlace(tag, label, index) => self.open_field_place(tag, label, index),
@@ -229,7 +184,7 @@ impl Machine {
 
     /// Takes the begin of a part, and counts it in its container first, where that is known.
     #[inline(always)]
-    fn open_part(&mut self, slot: Slot<'_>) -> Result<(), Refusal>
+    pub(super) fn open_part(&mut self, slot: Slot<'_>) -> Result<(), Refusal>
         ensures { StepsTo true (at_top (part_begin (seen_slot slot.entry)) self.old) self.new result }
     {
         if self.filled {
@@ -240,39 +195,6 @@ impl Machine {
         self.frames.push_part(slot).map_err(|_| Refusal::NoMemory)
     }
 
-    /// Takes the begin of a field of a record.
-    #[inline(never)]
-    fn open_field(&mut self, tag: Option<&Tag>, label: &Label<'_>) -> Result<(), Refusal>
-        ensures { StepsTo true (at_top (part_begin (seen_slot (Slot.Field tag.entry label.entry))) self.old)
-            self.new result }
-    {
-        self.open_part(Slot::Field(tag, label))
-    }
-
-    /// Takes the begin of a field of a tuple.
-    #[inline(never)]
-    fn open_place(&mut self, tag: Option<&Tag>, index: &Index) -> Result<(), Refusal>
-        ensures { StepsTo true (at_top (part_begin (seen_slot (Slot.Place tag.entry index.entry))) self.old)
-            self.new result }
-    {
-        self.open_part(Slot::Place(tag, index))
-    }
-
-    /// Takes the begin of a field of a record that is a tuple too.
-    #[inline(never)]
-    fn open_field_place(
-        &mut self,
-        tag: Option<&Tag>,
-        label: &Label<'_>,
-        index: &Index,
-    ) -> Result<(), Refusal>
-        ensures { StepsTo true
-            (at_top (part_begin (seen_slot (Slot.FieldPlace tag.entry label.entry index.entry))) self.old)
-            self.new result }
-    {
-        self.open_part(Slot::FieldPlace(tag, label, index))
-    }
-
     /// Takes the end of a container's part.
     #[inline(always)]
     fn close_slot(&mut self, slot: Slot<'_>) -> Result<(), Refusal>
@@ -280,8 +202,8 @@ impl Machine {
     {
         match slot {
             Slot::Item => self.close_part(Slot::Item),
-            Slot::Key => self.close_part(Slot::Key),
-            Slot::Value => self.close_part(Slot::Value),
+            Slot::Key => self.close_key(),
+            Slot::Value => self.close_value(),
             Slot::Field(tag, label) => self.close_field(tag, label),
             Slot::Place(tag, index) => self.close_place(tag, index),
             Slot::FieldPlace(tag, label, index) => self.close_field_place(tag, label, index),
@@ -290,44 +212,11 @@ impl Machine {
 
     /// Takes the end of a part.
     #[inline(always)]
-    fn close_part(&mut self, slot: Slot<'_>) -> Result<(), Refusal>
+    pub(super) fn close_part(&mut self, slot: Slot<'_>) -> Result<(), Refusal>
         ensures { StepsTo false (at_top (part_end (seen_slot slot.entry)) self.old) self.new result }
     {
         let due = self.part_end(slot)?;
         self.finish(due);
         Ok(())
-    }
-
-    /// Takes the end of a field of a record.
-    #[inline(never)]
-    fn close_field(&mut self, tag: Option<&Tag>, label: &Label<'_>) -> Result<(), Refusal>
-        ensures { StepsTo false (at_top (part_end (seen_slot (Slot.Field tag.entry label.entry))) self.old)
-            self.new result }
-    {
-        self.close_part(Slot::Field(tag, label))
-    }
-
-    /// Takes the end of a field of a tuple.
-    #[inline(never)]
-    fn close_place(&mut self, tag: Option<&Tag>, index: &Index) -> Result<(), Refusal>
-        ensures { StepsTo false (at_top (part_end (seen_slot (Slot.Place tag.entry index.entry))) self.old)
-            self.new result }
-    {
-        self.close_part(Slot::Place(tag, index))
-    }
-
-    /// Takes the end of a field of a record that is a tuple too.
-    #[inline(never)]
-    fn close_field_place(
-        &mut self,
-        tag: Option<&Tag>,
-        label: &Label<'_>,
-        index: &Index,
-    ) -> Result<(), Refusal>
-        ensures { StepsTo false
-            (at_top (part_end (seen_slot (Slot.FieldPlace tag.entry label.entry index.entry))) self.old)
-            self.new result }
-    {
-        self.close_part(Slot::FieldPlace(tag, label, index))
     }
 }
