@@ -1,10 +1,11 @@
 //! Events that are recorded and written.
 
-use crate::EventLog;
+use crate::{EventLog, RecordError};
 use std::alloc::{AllocError, Global};
 use std::collections::BTreeMap;
+use std::io::Write;
 use std::test::Fail;
-use sval_json::VecSink;
+use sval_json::{RealSink, Sink, SinkError, VecSink};
 
 /// An event: a level and a message.
 fn event<'a>(
@@ -35,5 +36,56 @@ fn keeps_the_two_newest(rt: HostRuntime) -> Result<(), Fail> {
 
     log.clear();
     assert!(rt; log.is_empty());
+    Ok(())
+}
+
+/// Why a program's log wasn't written out.
+#[derive(Clone, Copy, Debug, PartialEq, Eq)]
+enum LogError {
+    /// Memory was wanting for the log or an event.
+    NoMemory,
+    /// An event wasn't recorded.
+    Record(RecordError),
+    /// A line wasn't written.
+    Write(SinkError),
+}
+
+impl From<AllocError> for LogError {
+    fn from(_error: AllocError) -> LogError {
+        LogError::NoMemory
+    }
+}
+
+impl From<RecordError> for LogError {
+    fn from(error: RecordError) -> LogError {
+        LogError::Record(error)
+    }
+}
+
+impl From<SinkError> for LogError {
+    fn from(error: SinkError) -> LogError {
+        LogError::Write(error)
+    }
+}
+
+/// Records an event and writes it out, as a program does that passes `rt.stdout()`.
+fn log_to<W: Write + Drop>(alloc: Global, message: &str, writer: W) -> Result<(), LogError> {
+    let mut log = EventLog::new(alloc, 8)?;
+    log.record(&event(alloc, "info", message)?)?;
+    let mut sink = RealSink::new(writer);
+    log.write_lines(&mut sink)?;
+    sink.flush()?;
+    Ok(())
+}
+
+#[test]
+fn writes_to_a_writer(rt: HostRuntime) -> Result<(), Fail> {
+    let alloc = rt.alloc();
+    let mut written = Vec::new(alloc);
+    assert_eq!(rt; log_to(alloc, "started", &mut written), Ok(()));
+    assert_eq!(rt;
+        written.as_slice(),
+        b"{\"level\":\"info\",\"message\":\"started\"}\n".as_slice()
+    );
     Ok(())
 }

@@ -44,10 +44,9 @@ pub(crate) struct Parts<'sval, N: CallStore> {
 impl<'sval, N: CallStore> Model for Parts<'sval, N> {
     ghost use Rattle.std.specs.Prelude.{map};
     ghost use Rattle.sval_buffer.specs.FlatForest.{FlatForest};
+    ghost use Rattle.sval_buffer.specs.SeenParts.{stored, seen_parts, PartsTell};
 
     ghost Value = { FlatForest };
-
-    ghost use Rattle.sval_buffer.specs.SeenParts.{stored, seen_parts, PartsTell};
 
     ghost view = { λ p.
         let seen = seen_parts (N.calls p.named) p.parts.items in
@@ -69,11 +68,10 @@ impl<'sval, N: CallStore> Parts<'sval, N> {
         }
     }
 
-    /// Makes room for this many parts, where there is memory for them.
+    /// Makes room for this many parts, where there is memory for them; else they make room as they come.
     pub(crate) fn reserve(&mut self, parts: usize)
         ensures { self.new ≡ self.old }
     {
-        // Without it the parts make room as they come.
         let _ = self.parts.reserve(parts);
     }
 

@@ -272,7 +272,6 @@ impl<'sval, N: CallStore> Stream<Lent<'sval>> for AnyValueBuf<'sval, N> {
     ghost standing = { buffer_standing };
 
     #[inline(always)]
-    #[inline(always)]
     fn take(&mut self, call: Call<'sval, '_>) -> sval_core::Result
         ensures { let taken = lent_call call.entry in
             Answers capture_law result (buffer_standing self.old) taken (buffer_standing self.new) }

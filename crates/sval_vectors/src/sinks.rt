@@ -12,6 +12,7 @@ use sval_json::{ErrorKind, FixedSink, Sink, SinkError, VecSink, stream_to_io_wri
 struct Balky {
     taken: VecSink,
     calls: usize,
+    flushes: usize,
     /// Takes one byte a call.
     trickles: bool,
     /// Answers an error at the call of this number.
@@ -26,6 +27,7 @@ impl Balky {
         Balky {
             taken: VecSink::new(alloc),
             calls: 0,
+            flushes: 0,
             trickles: false,
             stops: None,
             faults: 0,
@@ -72,6 +74,7 @@ impl Sink for Balky {
     }
 
     fn flush(&mut self) -> Result<(), SinkError> {
+        self.flushes = self.flushes.saturating_add(1);
         Ok(())
     }
 }
@@ -127,6 +130,7 @@ fn stops_where_a_sink_stops(rt: HostRuntime) {
             );
             assert_eq!(rt; sink.taken.as_slice(), &JSON[..taken], "call {at}");
             assert_eq!(rt; sink.calls, at, "call {at}");
+            assert_eq!(rt; sink.flushes, 0, "call {at}");
         }
     }
 }
