@@ -1,7 +1,6 @@
 pub mod Verdicts
 pub mod LeftTexts
 pub mod TreeVerdicts
-pub mod ReadParts
 pub mod Writing
 pub mod ListTexts
 pub mod PrintedTrees
@@ -11,7 +10,6 @@ pub mod RelayAnswers
 pub mod RecordCounts
 pub mod ServeAnswers
 pub mod RunAnswers
-pub mod Telling
 pub mod MadeScripts
 pub mod MadeAnswers
 pub mod MadeStreams

@@ -14,7 +14,7 @@ use Rattle.sval_relay.specs.declared.relaying.RelayError.TheVariants as answer
 use Rattle.sval_relay.specs.Verdict.{Asked, tree_text, tree_written, tree_due, due_of, with_text, texts, left}
 use Rattle.sval_relay.specs.Relays.{of_sink, IsMeant, AreMeant}
 use Rattle.sval_relay.specs.WrittenTrees.{IsWantOfTree, IsWantAmong, FailsFull, WritesTextOf, RefusesTree, IsCauseOf, StopsTree, WritesTree, WritesTexts, RefusesSome, IsCauseAmong, StopsAmong, WritesTrees}
-use Rattle.sval_relay.proofs.Writing.{lacks_more}
+use Rattle.sval_program.proofs.Growing.{lacks_more}
 
 -- ---- a tree in front of others
 

@@ -25,7 +25,7 @@ use Rattle.sval_relay.specs.Made.{made_script, made_calls, made_error, sizes_lin
 use Rattle.sval_relay.specs.MadeLaws.{made_json, OneMadeLine}
 use Rattle.sval_relay.proofs.MadeScripts.{made_is_text}
 use Rattle.sval_relay.proofs.Verdicts.{one_of_lines}
-use Rattle.sval_relay.proofs.Writing.{counts_stay, front_of_nothing}
+use Rattle.sval_program.proofs.Growing.{counts_stay, front_of_nothing}
 
 -- a script has one text
 one_text : (script : List ℕ) (task : Task) {text other : List ℕ} → IsVerdict (Text text) script task → IsVerdict (Text other) script task → text ≡ other

@@ -22,7 +22,7 @@ use Rattle.sval_script.proofs.ExactCalls.{exact_print_canon}
 use Rattle.sval_script.proofs.KnownTags.{exact_known}
 use Rattle.sval_relay.specs.Verdict.{Script, tree_due}
 use Rattle.sval_relay.specs.WrittenTrees.{WritesTextOf}
-use Rattle.sval_relay.proofs.Writing.{lacks_more}
+use Rattle.sval_program.proofs.Growing.{lacks_more}
 
 -- the canonical calls of a captured tree's replay
 abbrev pub shown : Capture → List Call

@@ -22,14 +22,16 @@ use Rattle.sval_relay.specs.declared.way.Way.{Way}
 use Rattle.sval_relay.specs.declared.way.Task.{Task}
 use Rattle.sval_relay.specs.declared.relaying.RelayError.{RelayError}
 use Rattle.sval_relay.specs.declared.relaying.RelayError.TheVariants as answer
-use Rattle.sval_relay.specs.Sources.{Supply}
-use Rattle.sval_relay.specs.Inputs.{HasRead}
+use Rattle.sval_program.specs.Sources.{Supply}
+use Rattle.sval_program.specs.Inputs.{HasRead}
+use Rattle.sval_program.specs.Outputs.{Grows}
 use Rattle.sval_relay.specs.Verdict.{Verdict, BadLine, BadCall, Unfinished, Key, Number, Text, asked_in, ending, texts, left, text_verdict, one_in, all_in, SpellTrees, IsVerdict, OnVerdict}
-use Rattle.sval_relay.specs.Relays.{of_script, of_check, of_sink, is_of_script, WritesText, WritesMeant, Grows, MayLeave, LacksRoomFor, WritesValue, WritesUpTo, IsWantIn, IsAnswerTo, Relays}
+use Rattle.sval_relay.specs.Relays.{of_script, of_check, of_sink, is_of_script, WritesText, WritesMeant, MayLeave, LacksRoomFor, WritesValue, WritesUpTo, IsWantIn, IsAnswerTo, Relays}
 use Rattle.sval_relay.specs.WrittenTrees.{FailsFull, WritesTexts, RefusesSome, IsCauseAmong, WritesTrees}
 use Rattle.sval_relay.proofs.Verdicts.{of_each, one_spelled, verdict_bad_line, verdict_bad_call, verdict_unfinished, verdict_trees}
 use Rattle.sval_relay.proofs.LeftTexts.{texts_left}
-use Rattle.sval_relay.proofs.Writing.{counts_stay, grows_by_nothing, grows_by_front, may_stay, appends_kept, value_kept, want_before, want_of_sink}
+use Rattle.sval_program.proofs.Growing.{counts_stay, grows_by_nothing, grows_by_front, appends_kept}
+use Rattle.sval_relay.proofs.Writing.{may_stay, value_kept, want_before, want_of_sink}
 
 -- ---- what each answer of the parts says of the script
 

@@ -3,28 +3,30 @@ use Rattle.std.specs.Prelude.{◌≡◌, ℕ, ◌≤◌, ◌⊎◌, List, Option
 use Rattle.std.proofs.Common.{sym, ap, subst, arith, inl, inr}
 use Rattle.sval_core.specs.Law.{Rose}
 use Rattle.sval_json.specs.Sinks.{Told, HoldsNothing}
-use Rattle.sval_relay.specs.declared.status.TheConstants.{BAD_LINE, BAD_CALL, READ, NO_MEMORY, TOO_LONG}
+use Rattle.sval_program.specs.declared.status.TheConstants.{BAD_LINE, BAD_CALL, READ, NO_MEMORY, TOO_LONG}
 use Rattle.sval_relay.specs.declared.way.Task.{Task}
 use Rattle.sval_relay.specs.declared.way.Form.{Form}
 use Rattle.sval_relay.specs.declared.way.Form.TheVariants.{Serve, Made}
-use Rattle.sval_relay.specs.declared.reading.ReadError.{ReadError}
-use Rattle.sval_relay.specs.declared.reading.ReadError.TheVariants.{Fault, TooLong}
-use Rattle.sval_relay.specs.declared.reading.ReadError.TheVariants as reading
+use Rattle.sval_program.specs.declared.input_error.InputError.{InputError}
+use Rattle.sval_program.specs.declared.input_error.InputError.TheVariants.{ReadFault, TooLong}
+use Rattle.sval_program.specs.declared.input_error.InputError.TheVariants as reading
 use Rattle.sval_relay.specs.declared.relaying.RelayError.{RelayError}
 use Rattle.sval_relay.specs.declared.relaying.RelayError.TheVariants as answer
 use Rattle.sval_relay.specs.declared.made.MadeError.{MadeError}
 use Rattle.sval_relay.specs.declared.made.MadeError.TheVariants as made
 use Rattle.sval_relay.specs.declared.failure.Failure.{Failure}
 use Rattle.sval_relay.specs.declared.failure.Failure.TheVariants.{Usage, Input, Relay}
-use Rattle.sval_relay.specs.Sources.{Supply}
-use Rattle.sval_relay.specs.Inputs.{OnShort, TakesAll, TakesOneMore}
+use Rattle.sval_program.specs.Sources.{Supply}
+use Rattle.sval_program.specs.Inputs.{OnShort, TakesAll, TakesOneMore, IsUnread}
 use Rattle.sval_relay.specs.Ways.{OnBoth}
 use Rattle.sval_relay.specs.Verdict.{Verdict, BadLine, BadCall, Unfinished, Key, Number, Text, HasBadLine, HasBadCall, OnVerdict}
-use Rattle.sval_relay.specs.Relays.{Grows, MayLeave, IsAnswerTo}
+use Rattle.sval_program.specs.Outputs.{Grows}
+use Rattle.sval_relay.specs.Relays.{MayLeave, IsAnswerTo}
 use Rattle.sval_relay.specs.Statuses.{IsStatusOf, IsStatusDue, status_of_relayed, status_of}
 use Rattle.sval_relay.specs.Made.{TellsMade}
-use Rattle.sval_relay.specs.Serves.{IsUnread, IsServed, Serves}
-use Rattle.sval_relay.proofs.Writing.{grows_by_nothing, grows_by_front, may_stay}
+use Rattle.sval_relay.specs.Serves.{IsServed, Serves}
+use Rattle.sval_program.proofs.Growing.{grows_by_nothing, grows_by_front}
+use Rattle.sval_relay.proofs.Writing.{may_stay}
 
 -- the devices of a run
 pub record Case (I K : Type 0) : Type 0 where
@@ -41,7 +43,7 @@ Ran k form result = Serves k.source k.sink form result k.before k.after k.old k.
 abbrev Served : {I K : Type 0} → Case I K → Task → Result (Unit {0}) RelayError → Type 0
 Served k task result = IsServed k.source k.sink task result k.before k.after k.old k.new
 
-abbrev Unread : {I K : Type 0} → Case I K → ReadError → Type 0
+abbrev Unread : {I K : Type 0} → Case I K → InputError → Type 0
 Unread k why = IsUnread k.source why k.before k.after k.old k.new
 
 abbrev ToldMade : {I K : Type 0} → Case I K → ℕ → Result (Unit {0}) MadeError → Type 0
@@ -70,7 +72,7 @@ on_served k task P s p = on_script task (k.source k.before).left P (λ script to
 by_end : {I K : Type 0} (k : Case I K) (P : Option Form → Result (Unit {0}) Failure → Type 0)
     → (k.after ≡ k.before → k.new ≡ k.old → P None (Err Usage))
     → ((task : Task) → Served k task (Ok tt) → HoldsNothing (k.sink k.new) → P (Some (Serve task)) (Ok tt))
-    → ((task : Task) (why : ReadError) → Unread k why → P (Some (Serve task)) (Err (Input why)))
+    → ((task : Task) (why : InputError) → Unread k why → P (Some (Serve task)) (Err (Input why)))
     → ((task : Task) (why : RelayError) → Served k task (Err why) → P (Some (Serve task)) (Err (Relay why)))
     → ((count : ℕ) → k.after ≡ k.before → ToldMade k count (Ok tt) → HoldsNothing (k.sink k.new) → P (Some (Made count)) (Ok tt))
     → ((count : ℕ) → k.after ≡ k.before → ToldMade k count (Err made.Write) → P (Some (Made count)) (Err (Relay answer.Write)))
@@ -95,8 +97,8 @@ by_end k P none done unread stopped told write want (Some (Made count)) (Err (Re
 -- ---- what a bad line and a bad call say of the script
 
 -- reading answers no status of a script
-from_read : (why : ReadError) → READ ≤ status_of (Err (Input why))
-from_read Fault = omega arith
+from_read : (why : InputError) → READ ≤ status_of (Err (Input why))
+from_read ReadFault = omega arith
 from_read TooLong = omega arith
 from_read reading.NoMemory = omega arith
 
@@ -152,9 +154,9 @@ due_of_served : {I K : Type 0} (k : Case I K) (task : Task) {r : Result (Unit {0
     → OnInput k (Some (Serve task)) (OnShort (OnVerdict (IsStatusDue (status_of_relayed r))))
 due_of_served k task {r} s quiet = on_served k task (OnShort (OnVerdict (IsStatusDue (status_of_relayed r)))) s (λ short found is. answered_or found r (s.relays.comes quiet found is))
 
-due_unread : {I K : Type 0} (k : Case I K) (task : Task) (why : ReadError) → Unread k why → (Rose (k.source k.before).faults (k.source k.after).faults → ⊥)
+due_unread : {I K : Type 0} (k : Case I K) (task : Task) (why : InputError) → Unread k why → (Rose (k.source k.before).faults (k.source k.after).faults → ⊥)
     → OnInput k (Some (Serve task)) (OnShort (OnVerdict (IsStatusDue (status_of (Err (Input why))))))
-due_unread k task Fault u quiet = absurd (quiet (u.stops.fault refl))
+due_unread k task ReadFault u quiet = absurd (quiet (u.stops.fault refl))
 due_unread k task TooLong u quiet = on_script task (k.source k.before).left (OnShort (OnVerdict (IsStatusDue TOO_LONG))) (λ script told short.
     let long : TakesOneMore script (k.source k.after).left = subst (λ left. IfSome left (λ all. TakesOneMore all (k.source k.after).left)) told (u.stops.long refl) in absurd (omega (arith, short, long.long)))
 due_unread k task reading.NoMemory u quiet = on_script task (k.source k.before).left (OnShort (OnVerdict (IsStatusDue NO_MEMORY))) (λ script told short found is. inr refl)

@@ -10,12 +10,12 @@ use Rattle.sval_relay.specs.declared.relaying.RelayError.{RelayError}
 use Rattle.sval_relay.specs.declared.made.MadeError.{MadeError}
 use Rattle.sval_relay.specs.declared.made.MadeError.TheVariants as made
 use Rattle.sval_relay.specs.declared.failure.Failure.TheVariants.{Relay}
-use Rattle.sval_relay.specs.Sources.{Supply}
-use Rattle.sval_relay.specs.Inputs.{ReadsWhole}
+use Rattle.sval_program.specs.Sources.{Supply}
+use Rattle.sval_program.specs.Inputs.{ReadsWhole}
 use Rattle.sval_relay.specs.Relays.{of_sink, Relays}
 use Rattle.sval_relay.specs.Made.{TellsMade}
 use Rattle.sval_relay.specs.Serves.{failure_of_made, IsServed, ServesMade}
-use Rattle.sval_relay.proofs.Writing.{appends_kept}
+use Rattle.sval_program.proofs.Growing.{appends_kept}
 
 -- ---- a script that is served
 

@@ -14,27 +14,19 @@ use Rattle.sval_json.specs.Shape.{json_in, map_ok}
 use Rattle.sval_json.specs.Actions.{Outcome}
 use Rattle.sval_json.specs.Steps.{written_in}
 use Rattle.sval_json.specs.Laws.{IsWrittenAs}
-use Rattle.sval_json.specs.Sinks.{Told, IsSteady, NoCountFell, LacksRoom, Appends, AppendsFront}
+use Rattle.sval_json.specs.Sinks.{Told, IsSteady, LacksRoom, Appends, AppendsFront}
 use Rattle.sval_json.specs.Written.{IsBegunIn, IsRefusedIn, IsTooLongFor, RefusesSpelledTree, WritesSpelledTree, WritesSpelledValue}
-use Rattle.sval_json.proofs.Appending.{lacks_both, appends_nothing, steady_alone, steady_counts}
+use Rattle.sval_json.proofs.Appending.{steady_alone}
 use Rattle.sval_json.proofs.WrittenOnce.{written_once}
 use Rattle.sval_json.proofs.WritingPlain.{spelling_written}
 use Rattle.sval_relay.specs.declared.way.Task.{Task}
 use Rattle.sval_relay.specs.Ways.{is_captured}
 use Rattle.sval_relay.specs.Verdict.{Verdict, BadLine, BadCall, Unfinished, Key, Number, Text, JsonIn, tree_written, due_of, tree_due}
-use Rattle.sval_relay.specs.Relays.{WritesValue, Grows, MayLeave, IsWantFor, IsWantIn}
+use Rattle.sval_program.proofs.Growing.{front_of_nothing, appends_kept}
+use Rattle.sval_relay.specs.Relays.{WritesValue, MayLeave, IsWantFor, IsWantIn}
 use Rattle.sval_relay.specs.WrittenTrees.{WritesTextOf, RefusesTree}
 
--- ---- a sink that is as it was
-
-pub counts_stay : (told : Told) → NoCountFell told told
-counts_stay told = steady_counts (steady_alone told)
-
-pub front_of_nothing : (told : Told) (bytes : List ℕ) → AppendsFront told bytes told
-front_of_nothing told bytes = record { count = 0; within = omega arith; appends = appends_nothing told }
-
-pub grows_by_nothing : (told : Told) → Grows told told
-grows_by_nothing told = ([], appends_nothing told)
+-- ---- what may be left
 
 pub may_stay : (told : Told) (answer : Verdict) → MayLeave told told answer
 may_stay told (BadLine n) = refl
@@ -44,25 +36,10 @@ may_stay told (Key written) = front_of_nothing told written
 may_stay told (Number written) = front_of_nothing told written
 may_stay told (Text text) = front_of_nothing told text
 
--- ---- one that grew
-
-pub grows_by_front : {old new : Told} {bytes : List ℕ} → AppendsFront old bytes new → Grows old new
-grows_by_front f = (_, f.appends)
-
--- what was taken stays, where the text and the room do
-pub appends_kept : {old mid new : Told} {bytes : List ℕ} → Appends old bytes mid → new.text ≡ mid.text → new.room ≡ mid.room → Appends old bytes new
-appends_kept a text room = record { fits = a.fits; text = text ∙ a.text; room = room ∙ a.room }
-
 pub value_kept : {old mid new : Told} (script : List ℕ) (task : Task) → WritesValue old mid script task → new.text ≡ mid.text → new.room ≡ mid.room → WritesValue old new script task
 value_kept script task v text room calls trees is spell =
     let w = v calls trees is spell in
     record { bytes = w.bytes; are = w.are; appends = appends_kept w.appends text room }
-
--- ---- one without room
-
--- what has no place has none with more behind it
-pub lacks_more : (told : Told) (bytes more : List ℕ) → LacksRoom told bytes → LacksRoom told (bytes ++ more)
-lacks_more told bytes more lacks = lacks_both told told [] bytes more (appends_nothing told) lacks
 
 -- ---- want of memory
 

@@ -1,7 +1,3 @@
-pub mod Sources
-pub mod FaultySources
-pub mod OverReader
-pub mod Inputs
 pub mod Ways
 pub mod Verdict
 pub mod Leavings

@@ -12,7 +12,7 @@ use Rattle.sval_script.specs.Printed.{printed}
 use Rattle.sval_relay.specs.declared.way.Way.TheVariants.{Buffered}
 use Rattle.sval_relay.specs.declared.made.MadeError.{MadeError}
 use Rattle.sval_relay.specs.declared.made.MadeError.TheVariants as answer
-use Rattle.sval_relay.specs.Relays.{IsOwnWant}
+use Rattle.sval_program.specs.Outputs.{IsOwnWant}
 use Rattle.sval_relay.specs.Verdict.{Text, one_in, IsVerdict}
 
 -- ---- the script

@@ -14,6 +14,7 @@ use Rattle.sval_json.specs.Shape.{json_in}
 use Rattle.sval_json.specs.Grammar.{JsonValue}
 use Rattle.sval_json.specs.Promises.{KeepsPromises}
 use Rattle.sval_json.specs.Laws.{IsTheValueOf}
+use Rattle.sval_program.specs.Outputs.{Grows, IsOwnWant}
 use Rattle.sval_script.specs.Lines.{Good, lines}
 use Rattle.sval_script.specs.declared.script.ScriptError.{ScriptError}
 use Rattle.sval_script.specs.declared.script.ScriptError.TheVariants as reading
@@ -96,10 +97,6 @@ pub record WritesUpTo (refusal : List ℕ → Verdict) (old new : Told) (script 
   pub appends : Appends old written new
   pub steady : IsSteady old new
 
--- what was taken before stays, and something may follow it
-abbrev pub Grows : Told → Told → Type 0
-Grows old new = (more : List ℕ) × Appends old more new
-
 -- what may be left: a first part of the verdict's text was taken, or of what is written up to its refusal; and nothing where there
 -- is neither
 abbrev pub MayLeave : Told → Told → Verdict → Type 0
@@ -114,10 +111,6 @@ LacksRoomFor old (Text text) = LacksRoom old text
 LacksRoomFor old (Key written) = LacksRoom old written
 LacksRoomFor old (Number written) = LacksRoom old written
 LacksRoomFor old _ = ⊥
-
--- memory was wanting for the sink itself, or the sink is as it was
-abbrev pub IsOwnWant : {K : Type 0} → (K → Told) → K → K → Type 0
-IsOwnWant told old new = (new ≡ old) ⊎ Rose (told old).wants (told new).wants
 
 -- memory was wanting for the sink itself, or for a value among many that are captured one by one: then no count of the sink moved
 abbrev pub IsWantBetween : {K : Type 0} → (K → Told) → K → K → Type 0

@@ -4,7 +4,8 @@ use Rattle.sval_json.specs.Sinks.{Told, Appends, AppendsFront}
 use Rattle.sval_relay.specs.declared.way.Form.{Form}
 use Rattle.sval_relay.specs.declared.way.Form.TheVariants.{Serve}
 use Rattle.sval_relay.specs.Ways.{form_of}
-use Rattle.sval_relay.specs.Relays.{IsOwnWant, IsWantIn}
+use Rattle.sval_program.specs.Outputs.{IsOwnWant}
+use Rattle.sval_relay.specs.Relays.{IsWantIn}
 use Rattle.sval_relay.specs.Made.{IsMadeLine}
 
 -- what a want of memory says: the sink is as it was or the want is its own, unless many values are captured one by one

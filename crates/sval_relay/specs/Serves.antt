@@ -4,15 +4,14 @@ use Rattle.sval_json.specs.Sinks.{Told, HoldsNothing}
 use Rattle.sval_relay.specs.declared.way.Task.{Task}
 use Rattle.sval_relay.specs.declared.way.Form.{Form}
 use Rattle.sval_relay.specs.declared.way.Form.TheVariants.{Serve, Made}
-use Rattle.sval_relay.specs.declared.reading.ReadError.{ReadError}
 use Rattle.sval_relay.specs.declared.relaying.RelayError.{RelayError}
 use Rattle.sval_relay.specs.declared.relaying.RelayError.TheVariants as answer
 use Rattle.sval_relay.specs.declared.made.MadeError.{MadeError}
 use Rattle.sval_relay.specs.declared.made.MadeError.TheVariants as made
 use Rattle.sval_relay.specs.declared.failure.Failure.{Failure}
 use Rattle.sval_relay.specs.declared.failure.Failure.TheVariants.{Usage, Input, Relay}
-use Rattle.sval_relay.specs.Sources.{Supply}
-use Rattle.sval_relay.specs.Inputs.{ReadsWhole, StopsReading}
+use Rattle.sval_program.specs.Sources.{Supply}
+use Rattle.sval_program.specs.Inputs.{ReadsWhole, IsUnread}
 use Rattle.sval_relay.specs.Relays.{Relays}
 use Rattle.sval_relay.specs.Made.{TellsMade}
 
@@ -32,11 +31,6 @@ pub record IsNoForm {I K : Type 0} (result : Result (Unit {0}) Failure) (before 
   pub out : new ≡ old
 
 -- ---- a script that is served
-
--- the input wasn't read, and the sink is as it was
-pub record IsUnread {I K : Type 0} (source : I → Supply) (why : ReadError) (before after : I) (old new : K) : Type 0 where
-  pub stops : StopsReading why (source before) (source after)
-  pub out : new ≡ old
 
 -- the input was read whole, and the script that it is was served
 pub record IsServed {I K : Type 0} (source : I → Supply) (sink : K → Told) (task : Task) (result : Result (Unit {0}) RelayError) (before after : I) (old new : K) : Type 0 where

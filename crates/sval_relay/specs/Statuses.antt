@@ -1,17 +1,12 @@
 -- The program's statuses: which there are, and which failure has which.
-use Rattle.std.specs.Prelude.{◌≡◌, ℕ, ◌==◌, ◌⊎◌, Bool, List, [], ◌∷◌, Result, Ok, Err}
-use Rattle.std.specs.List.{list_any}
-use Rattle.sval_relay.specs.declared.status.TheConstants.{DONE, USAGE, BAD_LINE, BAD_CALL, UNFINISHED, INVALID_KEY, INVALID_NUMBER, WRITE, READ, NO_MEMORY, TOO_LONG}
-use Rattle.sval_relay.specs.declared.reading.ReadError.TheVariants as reading
+use Rattle.std.specs.Prelude.{◌≡◌, ℕ, ◌⊎◌, Bool, [], ◌∷◌, Result, Ok, Err}
+use Rattle.sval_program.specs.declared.status.TheConstants.{DONE, USAGE, BAD_LINE, BAD_CALL, UNFINISHED, INVALID_KEY, INVALID_NUMBER, WRITE, READ, NO_MEMORY, TOO_LONG}
+use Rattle.sval_program.specs.Statuses.{is_among, status_of_input}
 use Rattle.sval_relay.specs.declared.relaying.RelayError.{RelayError}
 use Rattle.sval_relay.specs.declared.relaying.RelayError.TheVariants as answer
 use Rattle.sval_relay.specs.declared.failure.Failure.{Failure}
 use Rattle.sval_relay.specs.declared.failure.Failure.TheVariants as failure
 use Rattle.sval_relay.specs.Verdict.{Verdict, BadLine, BadCall, Unfinished, Key, Number, Text}
-
--- the status is one of these
-abbrev pub is_among : ℕ → List ℕ → Bool
-is_among status statuses = list_any (λ s. s == status) statuses
 
 -- the statuses there are
 abbrev pub is_status : ℕ → Bool
@@ -60,9 +55,7 @@ status_of_relayed (Err why) = status_of_answer why
 -- the status for a failure
 abbrev pub status_of_failure : Failure → ℕ
 status_of_failure failure.Usage = USAGE
-status_of_failure (failure.Input reading.Fault) = READ
-status_of_failure (failure.Input reading.TooLong) = TOO_LONG
-status_of_failure (failure.Input reading.NoMemory) = NO_MEMORY
+status_of_failure (failure.Input why) = status_of_input why
 status_of_failure (failure.Relay why) = status_of_answer why
 
 -- the status for how the program ended

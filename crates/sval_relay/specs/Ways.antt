@@ -6,7 +6,7 @@ use Rattle.sval_relay.specs.declared.way.Way.TheVariants.{Direct, Buffered, Call
 use Rattle.sval_relay.specs.declared.way.Task.{Task}
 use Rattle.sval_relay.specs.declared.way.Form.{Form}
 use Rattle.sval_relay.specs.declared.way.Form.TheVariants.{Serve, Made}
-use Rattle.sval_relay.specs.Sources.{Supply}
+use Rattle.sval_program.specs.Sources.{Supply}
 
 -- whether it captures the value before it writes
 abbrev pub is_captured : Way → Bool

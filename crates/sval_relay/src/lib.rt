@@ -8,25 +8,18 @@
 #![tactic(auto)]
 
 mod failure;
-mod faulty_source;
 pub mod laws;
 mod lists;
 mod made;
-mod reading;
-mod real_source;
 mod relaying;
 mod running;
-mod source;
-pub mod status;
 mod streams;
 mod trees;
 mod way;
 
-pub use faulty_source::FaultySource;
 pub use made::{MadeError, relay_made};
-pub use real_source::RealSource;
 pub use relaying::{RelayError, relay, relay_lines};
 pub use running::run;
-pub use source::{MemSource, Source, SourceError};
-pub use streams::relay_streams;
+pub use streams::{Relay, relay_streams};
+pub use sval_program::{FaultySource, MemSource, RealSource, Source, SourceError, status};
 pub use way::Way;

@@ -3,10 +3,11 @@
 ghost use Rattle.std.specs.Prelude.{◌≡◌, ◌⊎◌, ◌<◌, ◌≤◌, ◌↔◌, true, None};
 ghost use Rattle.sval_core.specs.Law.{Rose};
 ghost use Rattle.sval_json.specs.Sinks.{HoldsNothing, IsSteady, NoCountFell};
-ghost use Rattle.sval_relay.specs.Inputs.{OnShort, OnLong, IsSpent, IsTooLong};
+ghost use Rattle.sval_program.specs.Inputs.{OnShort, OnLong, IsSpent, IsTooLong};
 ghost use Rattle.sval_relay.specs.Ways.{form_of, takes_many, OnAsked, OnMade};
 ghost use Rattle.sval_relay.specs.Verdict.{Unfinished, Key, Number, IsVerdict, HasBadLine, HasBadCall, OnVerdict};
-ghost use Rattle.sval_relay.specs.Relays.{WritesText, WritesValue, WritesUpTo, Grows, MayLeave};
+ghost use Rattle.sval_program.specs.Outputs.{Grows};
+ghost use Rattle.sval_relay.specs.Relays.{WritesText, WritesValue, WritesUpTo, MayLeave};
 ghost use Rattle.sval_relay.specs.Statuses.{is_status, is_of_made, is_unwritten, is_read, IsStatusDue};
 ghost use Rattle.sval_relay.specs.Serves.{ServesScript, ServesMade, Serves};
 ghost use Rattle.sval_relay.specs.Runs.{IsWantAsked, WritesMadeLine, BeginsMadeLine};
@@ -14,16 +15,15 @@ ghost use Rattle.sval_relay.specs.Reports.{Reports};
 
 use crate::failure::{Failure, conclude};
 use crate::made::relay_made;
-use crate::reading::read_script;
 use crate::relaying::serve_script;
-use crate::source::Source;
-use crate::status::{
-    BAD_CALL, BAD_LINE, DONE, INVALID_KEY, INVALID_NUMBER, NO_MEMORY, READ, TOO_LONG, UNFINISHED,
-    USAGE, WRITE,
-};
 use crate::way::{Form, Task, named_form};
 use std::alloc::Global;
 use sval_json::Sink;
+use sval_program::status::{
+    BAD_CALL, BAD_LINE, DONE, INVALID_KEY, INVALID_NUMBER, NO_MEMORY, READ, TOO_LONG, UNFINISHED,
+    USAGE, WRITE,
+};
+use sval_program::{Source, read_script};
 
 /// Reads the input whole, and serves the script that it is.
 fn serve_input<I: Source, K: Sink>(

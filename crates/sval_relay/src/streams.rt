@@ -1,23 +1,47 @@
 //! The whole program, over std's readers and writers.
 
-ghost use Rattle.std.specs.Prelude.{◌≡◌, ◌↔◌, true, false, None, OnOk, OnErr};
-ghost use Rattle.sval_relay.specs.Reports.{TellsLine, report};
+ghost use Rattle.std.specs.Prelude.{◌≡◌, ◌↔◌, true, None, refl};
 ghost use Rattle.sval_relay.specs.Statuses.{is_status};
-ghost use Rattle.sval_relay.specs.Ways.{form_of};
+ghost use Rattle.sval_relay.specs.Ways.{form_of, form_named};
 
-use crate::failure::{Failure, conclude};
-use crate::real_source::RealSource;
-use crate::relaying::RelayError;
 use crate::running::run;
-use crate::status::{NO_MEMORY, USAGE};
 use crate::way::named_form;
 use std::alloc::Global;
-use std::io;
-use std::io::{BufWriter, Read, Write};
-use sval_json::{RealSink, Sink};
+use std::io::{Read, Write};
+use sval_json::Sink;
+use sval_program::status::USAGE;
+use sval_program::{Program, Source, run_streams};
 
-/// How many bytes of output are held back at most.
-const BUFFER: usize = 1 << 16;
+/// The program, as [`run_process`](sval_program::run_process) runs it: what it does is [`run`].
+pub struct Relay;
+
+impl Program for Relay {
+    ghost use Rattle.sval_relay.specs.declared.way.Form.{Form};
+
+    ghost Form = { Form };
+
+    ghost form_named = { form_named };
+
+    ghost is_status = { is_status };
+
+    ghost has_usage = { refl };
+
+    ghost has_no_memory = { refl };
+
+    fn takes(words: &[String]) -> bool {
+        named_form(words).is_some()
+    }
+
+    fn run<I: Source, K: Sink, D: Sink>(
+        alloc: Global,
+        words: &[String],
+        input: &mut I,
+        out: &mut K,
+        diag: &mut D,
+    ) -> u8 {
+        run(alloc, words, input, out, diag)
+    }
+}
 
 /// Runs the program on its words over a reader and two writers, and answers its status, as [`run`] does over any
 /// devices: the forms of the words are those of `run`, and so are the statuses and what each leaves. With `lines` after
@@ -44,41 +68,5 @@ pub fn relay_streams<R: Read + Drop, W: Write + Drop, D: Write + Drop>(
     ensures known { is_status result ≡ true }
     ensures usage { (result ≡ USAGE) ↔ (form_of words.now ≡ None) }
 {
-    let mut diag = RealSink::new(stderr);
-    if named_form(words).is_none() {
-        return conclude(Err(Failure::Usage), false, &mut diag);
-    }
-    run_buffered(
-        alloc,
-        words,
-        stdin,
-        BufWriter::with_capacity(alloc, BUFFER, stdout),
-        &mut diag,
-    )
-}
-
-/// Runs the program over a reader and the output's buffer. Where there is none memory was wanting, and only that is
-/// said.
-fn run_buffered<R: Read + Drop, W: Write + Drop, D: Sink>(
-    alloc: Global,
-    words: &[String],
-    stdin: R,
-    stdout: io::Result<BufWriter<W>>,
-    diag: &mut D,
-) -> u8
-    ensures known { is_status result ≡ true }
-    ensures usage { OnOk stdout ((result ≡ USAGE) ↔ (form_of words.now ≡ None)) }
-    ensures no_buffer { OnErr stdout (result ≡ NO_MEMORY) }
-    ensures no_buffer_told { OnErr stdout (TellsLine (D.told diag.old) (report false NO_MEMORY 0) (D.told diag.new)) }
-{
-    match stdout {
-        Ok(writer) => run(
-            alloc,
-            words,
-            &mut RealSource::new(stdin),
-            &mut RealSink::new(writer),
-            diag,
-        ),
-        Err(_) => conclude(Err(Failure::Relay(RelayError::NoMemory)), false, diag),
-    }
+    run_streams::<Relay, R, W, D>(alloc, words, stdin, stdout, stderr)
 }

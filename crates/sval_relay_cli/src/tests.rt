@@ -1,11 +1,11 @@
 //! What the program takes from its process, and what it answers.
 
-use super::{serve, status_of};
 use std::env::FillError;
-use std::io;
 use std::process::ExitCode;
 use std::rt::Env;
 use std::test::Fail;
+use sval_program::run_process;
+use sval_relay::Relay;
 
 /// A process with these words, the program's name first.
 #[derive(Drop)]
@@ -58,7 +58,12 @@ fn words_of_a_process(rt: HostRuntime) -> Result<(), Fail> {
         let mut stdout = Vec::new(alloc);
         let mut stderr = Vec::new(alloc);
         let env = (Process { words }, alloc);
-        let status = serve(&env, b"null\n".as_slice(), &mut stdout, &mut stderr);
+        let status = run_process::<Relay, _, _, _, _>(
+            &env,
+            b"null\n".as_slice(),
+            &mut stdout,
+            &mut stderr,
+        );
         assert_eq!(rt; status, ExitCode::from(wanted), "at {words:?}");
         assert_eq!(rt; stdout.as_slice(), json.as_bytes(), "at {words:?}");
         assert_eq!(rt; stderr.as_slice(), line.as_bytes(), "at {words:?}");
@@ -80,22 +85,15 @@ fn refused_scripts(rt: HostRuntime) -> Result<(), Fail> {
         let mut stderr = Vec::new(alloc);
         let words: &'static [&'static [u8]] = &[b"sval_relay", b"direct"];
         let env = (Process { words }, alloc);
-        let status = serve(&env, script.as_bytes(), &mut stdout, &mut stderr);
+        let status = run_process::<Relay, _, _, _, _>(
+            &env,
+            script.as_bytes(),
+            &mut stdout,
+            &mut stderr,
+        );
         assert_eq!(rt; status, ExitCode::from(wanted), "at {script:?}");
         assert!(rt; stdout.is_empty(), "at {script:?}");
         assert_eq!(rt; stderr.as_slice(), line.as_bytes(), "at {script:?}");
     }
     Ok(())
-}
-
-#[test]
-fn errors_of_the_system(rt: HostRuntime) {
-    let table = [
-        (io::ErrorKind::OutOfMemory, 10),
-        (io::ErrorKind::InvalidData, 17),
-        (io::ErrorKind::Other, 17),
-    ];
-    for (error, wanted) in table {
-        assert_eq!(rt; status_of(&io::Error::from(error)), wanted, "at {error:?}");
-    }
 }

@@ -1,7 +1,7 @@
 use Rattle.std.proofs.Common.{◌∙◌, sym, subst}
 use Rattle.sval_relay.specs.Verdict.{OnVerdict}
 use Rattle.sval_relay.specs.Statuses.{IsStatusDue}
-use Rattle.sval_relay.specs.Inputs.{OnShort}
+use Rattle.sval_program.specs.Inputs.{OnShort}
 use Rattle.sval_relay.specs.Ways.{form_of, OnAsked}
 use Rattle.sval_relay.proofs.RunAnswers.{Case, Ran}
 use Rattle.sval_relay.proofs.RunAnswers as answers

@@ -1,0 +1,3 @@
+pub mod ReadParts
+pub mod Growing
+pub mod Telling

@@ -1,0 +1,139 @@
+-- An input that is read part by part.
+use Rattle.std.specs.Prelude.{◌≡◌, ◌≢◌, ◌⊎◌, ℕ, zero, suc, ◌∷◌, ◌+◌, ◌^◌, ◌<◌, ◌≤◌, List, [], ◌++◌, take, drop, length, Option, Some, None, IfSome, Err, refl}
+use Rattle.std.proofs.Common.{sym, ap, inl, inr, ◌∙◌, subst, arith, append_assoc}
+use Rattle.std.proofs.lemmas.List.{length-drop, length-take-le, length-append, drop-drop, take-append-le, take_all, append-nil}
+use Rattle.std.proofs.Math.Seq.{drop-nil, take-add, take-append-add}
+use Rattle.sval_program.specs.Sources.{Supply, TakesFirst, Gives}
+use Rattle.sval_program.specs.Inputs.{TakesAll, TakesOneMore, GivesPart, HasRead}
+use Rattle.sval_script.specs.Lines.{lines}
+use Rattle.sval_script.specs.Readings.{Reading, answer_to, answer_with, TakesPiece}
+use Rattle.sval_script.specs.declared.script.ScriptError.TheVariants.{NoMemory}
+
+-- some first bytes were read, and the others are left
+pub record IsRead (all : List ℕ) (new : Option (List ℕ)) (bytes : List ℕ) : Type 0 where
+  pub there : length bytes ≤ length all
+  pub taken : bytes ≡ take (length bytes) all
+  pub left : new ≡ Some (drop (length bytes) all)
+
+abbrev pub IsPartlyRead : Option (List ℕ) → Option (List ℕ) → List ℕ → Type 0
+IsPartlyRead old new bytes = IfSome old (λ all. IsRead all new bytes)
+
+-- what one part more leaves
+pub read_on : (old : Option (List ℕ)) (mid new : Supply) (xs b : List ℕ) (n : ℕ) → IsPartlyRead old mid.left xs → Gives n mid b new → IsPartlyRead old new.left (xs ++ take n b)
+read_on None mid new xs b n p g = tt
+read_on (Some all) mid new xs b n p g =
+    let k = length xs in
+    let t : TakesFirst (drop (length xs) all) n b new.left = subst (λ m. IfSome m (λ rest. TakesFirst rest n b new.left)) p.left g.taken in
+    let room : k + n ≤ length all = omega (arith, t.there, length-drop k all, p.there) in
+    let part : take n b ≡ take n (drop k all) = t.taken in
+    let size : length (take n b) ≡ n = ap length part ∙ length-take-le n (drop k all) t.there in
+    let total : length (xs ++ take n b) ≡ k + n = length-append xs (take n b) ∙ ap (λ m. k + m) size in
+    record {
+      there = rw total room;
+      taken = ap (λ x. x ++ take n b) p.taken ∙ ap (λ y. take k all ++ y) part ∙ sym (take-add k n all) ∙ ap (λ m. take m all) (sym total);
+      left = t.left ∙ ap (λ x. Some x) (drop-drop n k all ∙ ap (λ m. drop m all) (sym total));
+    }
+
+-- where nothing more came, all was read
+pub read_whole : (old : Option (List ℕ)) (mid new : Supply) (xs b : List ℕ) (n : ℕ) → IsPartlyRead old mid.left xs → Gives n mid b new → n ≡ 0 → 0 < length b → IfSome old (λ all. TakesAll all xs new.left)
+read_whole None mid new xs b n p g none some = tt
+read_whole (Some all) mid new xs b n p g none some =
+    let k = length xs in
+    let t : TakesFirst (drop (length xs) all) n b new.left = subst (λ m. IfSome m (λ rest. TakesFirst rest n b new.left)) p.left g.taken in
+    let over : drop (length xs) all ≡ [] = subst (λ m. IfSome m (λ rest. rest ≡ [])) p.left (g.end none some) in
+    let size : length (drop k all) ≡ 0 = ap length over in
+    let reached : length all ≤ k = omega (arith, length-drop k all, size) in
+    record {
+      all = p.taken ∙ take_all k all reached;
+      left = t.left ∙ ap Some (ap (drop n) over ∙ drop-nil n);
+    }
+
+-- a byte more than the limit was taken
+pub read_long : (old : Option (List ℕ)) (mid new : Supply) (xs b : List ℕ) (n : ℕ) → IsPartlyRead old mid.left xs → length xs ≡ 2 ^ 24 → Gives n mid b new → n ≡ 1 → IfSome old (λ all. TakesOneMore all new.left)
+read_long None mid new xs b n p e g one = tt
+read_long (Some all) mid new xs b n p e g one =
+    let t : TakesFirst (drop (length xs) all) n b new.left = subst (λ m. IfSome m (λ rest. TakesFirst rest n b new.left)) p.left g.taken in
+    let room : length xs + n ≤ length all = omega (arith, t.there, length-drop (length xs) all, p.there) in
+    let place : length xs + n ≡ 2 ^ 24 + 1 = omega arith in
+    record {
+      long = omega (arith, room, place);
+      left = t.left ∙ ap (λ x. Some x) (drop-drop n (length xs) all ∙ ap (λ m. drop m all) place);
+    }
+
+-- what a reader answers that was given these bytes
+abbrev pub KnowsInput : Reading → List ℕ → Type 0
+KnowsInput reader bytes =
+    ((more : List ℕ) → answer_with reader more ≡ answer_to (lines (bytes ++ more))) ⊎ (((more : List ℕ) → answer_with reader more ≡ Err NoMemory) × (0 < length bytes))
+
+-- some first bytes were given to the reader, and the others are left
+pub record IsReading (old mid : Supply) (reader : Reading) (count : ℕ) : Type 0 where
+  pub bytes : List ℕ
+  pub read : IsPartlyRead old.left mid.left bytes
+  pub size : length bytes ≡ count
+  pub faults : mid.faults ≡ old.faults
+  pub knows : KnowsInput reader bytes
+
+knows-more : (old new : Reading) (bytes piece : List ℕ) → 0 < length piece → KnowsInput old bytes → TakesPiece old piece new → KnowsInput new (bytes ++ piece)
+knows-more old new bytes piece some (inl knows) (inl takes) =
+    inl (λ more. takes more ∙ knows (piece ++ more) ∙ ap (λ b. answer_to (lines b)) (sym (append_assoc bytes piece more)))
+knows-more old new bytes piece some (inr wants) (inl takes) = inr (λ more. takes more ∙ wants.0 (piece ++ more), omega (arith, length-append bytes piece, some))
+knows-more old new bytes piece some knows (inr wants) = inr (wants, omega (arith, length-append bytes piece, some))
+
+-- one part more
+pub reads-more : {old mid : Supply} {reader : Reading} {count : ℕ} (new : Supply) (after : Reading) (b : List ℕ) (n : ℕ) → IsReading old mid reader count → GivesPart n mid b new reader after → n ≢ 0
+    → IsReading old new after (count + n)
+reads-more {old = old} {mid = mid} {reader = reader} {count = count} new after b n r part more =
+    let g : Gives n mid b new = part.gives in
+    let size : length (take n b) ≡ n = length-take-le n b g.within in
+    let some : 0 < length (take n b) = omega (arith, size, more) in
+    record {
+      bytes = r.bytes ++ take n b;
+      read = read_on old.left mid new r.bytes b n r.read g;
+      size = omega (arith, length-append r.bytes (take n b), size, r.size);
+      faults = g.faults ∙ r.faults;
+      knows = knows-more reader after r.bytes (take n b) some r.knows part.takes;
+    }
+
+-- where nothing more came, all was given to the reader
+pub reads-all : {old mid : Supply} {reader : Reading} {count : ℕ} (new : Supply) (b : List ℕ) (n : ℕ) → IsReading old mid reader count → Gives n mid b new → n ≡ 0 → 0 < length b → count ≤ 2 ^ 24
+    → HasRead old reader new
+reads-all {old = old} {mid = mid} {reader = reader} {count = count} new b n r g none some short = record {
+  script = r.bytes;
+  reads = record {
+    taken = read_whole old.left mid new r.bytes b n r.read g none some;
+    short = omega (arith, r.size, short);
+    faults = g.faults ∙ r.faults;
+  };
+  answer = answers r.knows;
+}
+  where
+    answers : KnowsInput reader r.bytes → (answer_with reader [] ≡ answer_to (lines r.bytes)) ⊎ ((answer_with reader [] ≡ Err NoMemory) × (0 < length r.bytes))
+    answers (inl knows) = inl (knows [] ∙ ap (λ b. answer_to (lines b)) (append-nil r.bytes))
+    answers (inr wants) = inr (wants.0 [], wants.1)
+
+-- before the first part
+pub reads-none : (old : Supply) (reader : Reading) → ((more : List ℕ) → answer_with reader more ≡ answer_to (lines more)) → IsReading old old reader 0
+reads-none old reader knows = record { bytes = []; read = from old.left; size = refl; faults = refl; knows = inl knows }
+  where
+    from : (left : Option (List ℕ)) → IsPartlyRead left left []
+    from None = tt
+    from (Some all) = record { there = omega arith; taken = refl; left = refl }
+
+-- ---- bytes that are read behind others of a vector
+
+take_take : (i j : ℕ) (xs : List ℕ) → i ≤ j → take i (take j xs) ≡ take i xs
+take_take zero j xs h = refl
+take_take (suc i) zero xs h = absurd (omega arith)
+take_take (suc i) (suc j) [] h = refl
+take_take (suc i) (suc j) (x ∷ xs) h = ap (λ r. x ∷ r) (take_take i j xs (omega arith))
+
+-- of a vector whose last bytes were lent to be filled, the first ones
+pub filled_on : (xs d b post rest : List ℕ) (s n len : ℕ) → take s d ≡ xs → length xs ≡ s → n ≤ length b → s + n ≤ len
+    → take (s + n) (take len ((take s d ++ (b ++ post)) ++ rest)) ≡ xs ++ take n b
+filled_on xs d b post rest s n len e size h room =
+    take_take (s + n) len _ room
+    ∙ ap (λ x. take (s + n) ((x ++ (b ++ post)) ++ rest)) e
+    ∙ ap (λ x. take (s + n) x) (append_assoc xs (b ++ post) rest)
+    ∙ ap (λ m. take (m + n) (xs ++ ((b ++ post) ++ rest))) (sym size)
+    ∙ take-append-add xs ((b ++ post) ++ rest) n
+    ∙ ap (λ x. xs ++ x) (ap (take n) (append_assoc b post rest) ∙ take-append-le n b (post ++ rest) h)

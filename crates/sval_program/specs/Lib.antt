@@ -1,0 +1,7 @@
+pub mod Sources
+pub mod FaultySources
+pub mod OverReader
+pub mod Inputs
+pub mod Outputs
+pub mod Statuses
+pub mod Reports

@@ -1,0 +1,37 @@
+-- What a program leaves of its sink, whatever it writes.
+use Rattle.std.specs.Prelude.{◌≡◌, ◌⊎◌, ℕ, List, Result, Ok, Err}
+use Rattle.sval_core.specs.Law.{Rose}
+use Rattle.sval_json.specs.Sinks.{Told, NoCountFell, LacksRoom, Appends, AppendsFront, WritesWhole}
+use Rattle.sval_json.specs.declared.sink.SinkError.{SinkError}
+use Rattle.sval_json.specs.declared.sink.SinkError.TheVariants as sink
+
+-- what was taken before stays, and something may follow it
+abbrev pub Grows : Told → Told → Type 0
+Grows old new = (more : List ℕ) × Appends old more new
+
+-- memory was wanting for the sink itself, or the sink is as it was
+abbrev pub IsOwnWant : {K : Type 0} → (K → Told) → K → K → Type 0
+IsOwnWant told old new = (new ≡ old) ⊎ Rose (told old).wants (told new).wants
+
+-- ---- one text
+
+-- why writing a text stopped: a fault, or a want of memory
+abbrev pub IsStopCause : {K : Type 0} → SinkError → (K → Told) → K → K → Type 0
+IsStopCause sink.Failed told old new = Rose (told old).faults (told new).faults
+IsStopCause sink.NoMemory told old new = IsOwnWant told old new
+
+-- a first part of the text was taken
+pub record StopsWithin {K : Type 0} (why : SinkError) (told : K → Told) (text : List ℕ) (old new : K) : Type 0 where
+  pub cause : IsStopCause why told old new
+  pub begins : AppendsFront (told old) text (told new)
+  pub counts : NoCountFell (told old) (told new)
+
+-- the same of a sink that wasn't flushed: where it failed, the text had no place in the room that it told
+pub record StopsWriting {K : Type 0} (why : SinkError) (told : K → Told) (text : List ℕ) (old new : K) : Type 0 where
+  pub stops : StopsWithin why told text old new
+  pub full : why ≡ sink.Failed → LacksRoom (told old) text
+
+-- the text was taken whole, or a first part of it
+abbrev pub WritesText : {K : Type 0} → Result (Unit {0}) SinkError → (K → Told) → List ℕ → K → K → Type 0
+WritesText (Ok done) told text old new = WritesWhole (told old) text (told new)
+WritesText (Err why) told text old new = StopsWriting why told text old new

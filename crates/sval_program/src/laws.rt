@@ -1,0 +1,24 @@
+//! The numbers of the statuses, each as a clause that is proved.
+
+ghost use Rattle.std.specs.Prelude.{◌≡◌};
+
+use crate::status::{
+    BAD_CALL, BAD_LINE, DONE, INVALID_KEY, INVALID_NUMBER, NO_MEMORY, NO_WORDS, READ, TOO_LONG,
+    UNFINISHED, USAGE, WRITE,
+};
+
+/// The number of each status.
+pub fn status_laws()
+    ensures done { DONE ≡ 0 }
+    ensures usage { USAGE ≡ 2 }
+    ensures bad_line { BAD_LINE ≡ 3 }
+    ensures bad_call { BAD_CALL ≡ 4 }
+    ensures unfinished { UNFINISHED ≡ 5 }
+    ensures invalid_key { INVALID_KEY ≡ 6 }
+    ensures invalid_number { INVALID_NUMBER ≡ 7 }
+    ensures write { WRITE ≡ 8 }
+    ensures read { READ ≡ 9 }
+    ensures no_memory { NO_MEMORY ≡ 10 }
+    ensures too_long { TOO_LONG ≡ 11 }
+    ensures no_words { NO_WORDS ≡ 17 }
+{}

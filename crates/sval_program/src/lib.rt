@@ -1,0 +1,29 @@
+//! What the programs of this repository have in common.
+//!
+//! A [`Program`] reads an input from a [`Source`], as [`read_script`] or [`read_input`] does, writes to one sink, and tells
+//! another one by a [`Line`] why it failed. It ends with one of the numbers of [`status`]. [`run_streams`] runs it over
+//! std's readers and writers, and [`run_process`] in a process.
+#![tactic(auto)]
+
+mod faulty_source;
+mod input_error;
+pub mod laws;
+mod line;
+pub mod lines;
+mod process;
+mod program;
+mod reading;
+mod real_source;
+mod source;
+pub mod status;
+#[cfg(test)]
+mod tests;
+
+pub use faulty_source::FaultySource;
+pub use input_error::InputError;
+pub use line::{Line, tell};
+pub use process::run_process;
+pub use program::{Program, run_streams};
+pub use reading::{read_input, read_script};
+pub use real_source::RealSource;
+pub use source::{MemSource, Source, SourceError};

@@ -1,0 +1,73 @@
+//! The lines that several programs tell.
+
+ghost use Rattle.std.specs.Prelude.{◌≡◌};
+ghost use Rattle.sval_program.specs.Reports as reports;
+
+use crate::line::Line;
+
+/// A line of the script, counted from 1, is no call.
+pub fn bad_line(line: u64) -> Line
+    ensures { result ≡ reports.bad_line line }
+{
+    Line::numbered("line ", line, ": not a call\n")
+}
+
+/// No value, or no list of values, goes on with the call of a line of the script, counted from 1.
+pub fn bad_call(line: u64) -> Line
+    ensures { result ≡ reports.bad_call line }
+{
+    Line::numbered("line ", line, ": no value goes on with this call\n")
+}
+
+/// The calls aren't whole: one value, or values where many may come.
+pub fn unfinished(many: bool) -> Line
+    ensures { result ≡ reports.unfinished many }
+{
+    if many {
+        Line::text("the calls are not whole values\n")
+    } else {
+        Line::text("the calls are not one whole value\n")
+    }
+}
+
+/// What stands in the place of a map's key can't be one.
+pub fn invalid_key() -> Line
+    ensures { result ≡ reports.invalid_key }
+{
+    Line::text("attempt to serialize a non-string key\n")
+}
+
+/// Text that stands for a number is none.
+pub fn invalid_number() -> Line
+    ensures { result ≡ reports.invalid_number }
+{
+    Line::text("attempt to serialize an invalid number\n")
+}
+
+/// The output failed.
+pub fn write_fault() -> Line
+    ensures { result ≡ reports.write_fault }
+{
+    Line::text("write fault\n")
+}
+
+/// The input failed.
+pub fn read_fault() -> Line
+    ensures { result ≡ reports.read_fault }
+{
+    Line::text("read fault\n")
+}
+
+/// Memory was wanting.
+pub fn out_of_memory() -> Line
+    ensures { result ≡ reports.out_of_memory }
+{
+    Line::text("out of memory\n")
+}
+
+/// The input is longer than is kept.
+pub fn too_long() -> Line
+    ensures { result ≡ reports.too_long }
+{
+    Line::text("the input is longer than 16777216 bytes\n")
+}

@@ -1,0 +1,62 @@
+//! Programs, in a process.
+
+ghost use Rattle.std.specs.Prelude.{◌≡◌, ◌≢◌, ◌⊎◌, true, drop, IfOk};
+ghost use Rattle.std.specs.IoError.{error_kind};
+ghost use Rattle.std.specs.Process.{exit_status};
+ghost use Rattle.std.specs.Vec.Iter.{into_iter_items};
+
+use crate::program::{Program, run_streams};
+use crate::status::{NO_MEMORY, NO_WORDS};
+use std::alloc::{AllocError, Global};
+use std::env::Args;
+use std::io::{ErrorKind, Read, Write};
+use std::process::ExitCode;
+use std::rt::Env;
+use std::{env, io};
+
+/// The status where the system gave an error in place of the words.
+pub(crate) fn status_of(error: &io::Error) -> u8
+    ensures no_memory { error_kind error.now ≡ ErrorKind.OutOfMemory → result ≡ NO_MEMORY }
+    ensures no_words { error_kind error.now ≢ ErrorKind.OutOfMemory → result ≡ NO_WORDS }
+{
+    match error.kind() {
+        ErrorKind::OutOfMemory => NO_MEMORY,
+        _ => NO_WORDS,
+    }
+}
+
+/// The words after the first, which is the program's name.
+fn after_name(alloc: Global, mut all: Args) -> Result<Vec<String>, AllocError>
+    ensures { IfOk result (λ words. words.items ≡ drop 1 (into_iter_items all)) }
+{
+    let _name = all.next();
+    all.collect(alloc)
+}
+
+/// The words after the program's name.
+fn words<E: Env + AllocGlobal>(env: &E) -> io::Result<Vec<String>> {
+    Ok(after_name(env.alloc(), env::args(env)?)?)
+}
+
+/// Runs a program on the words of a process over three streams, as [`run_streams`](crate::run_streams) does, and answers
+/// its status. Where the words can't be had, as where one isn't UTF-8, nothing is said and the status is 17.
+///
+/// ```
+/// fn main(rt: HostRuntime) -> ExitCode {
+///     run_process::<Relay, _, Stdin, Stdout, Stderr>(&rt, rt.stdin(), rt.stdout(), rt.stderr())
+/// }
+/// ```
+pub fn run_process<
+    P: Program,
+    E: Env + AllocGlobal,
+    R: Read + Drop,
+    W: Write + Drop,
+    D: Write + Drop,
+>(env: &E, stdin: R, stdout: W, stderr: D) -> ExitCode
+    ensures { (P.is_status (exit_status result) ≡ true) ⊎ (exit_status result ≡ NO_WORDS) }
+{
+    ExitCode::from(match words(env) {
+        Ok(words) => run_streams::<P, R, W, D>(env.alloc(), &words, stdin, stdout, stderr),
+        Err(error) => status_of(&error),
+    })
+}

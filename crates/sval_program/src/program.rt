@@ -1,0 +1,111 @@
+//! Programs, over std's readers and writers.
+
+ghost use Rattle.std.specs.Prelude.{◌≡◌, ◌↔◌, true, None, map, string_bytes, OnOk, OnErr};
+ghost use Rattle.std.specs.Option.{is_some};
+ghost use Rattle.sval_program.specs.Reports.{TellsLine, out_of_memory};
+
+use crate::line::tell;
+use crate::lines;
+use crate::real_source::RealSource;
+use crate::source::Source;
+use crate::status::{NO_MEMORY, USAGE};
+use std::alloc::Global;
+use std::io;
+use std::io::{BufWriter, Read, Write};
+use sval_json::{RealSink, Sink};
+
+/// How many bytes of output are held back at most.
+const BUFFER: usize = 1 << 16;
+
+/// A program: its words, and what it does over any devices.
+pub trait Program {
+    ghost use Rattle.std.specs.Prelude.{ℕ, Bool, List, Option};
+    ghost use Rattle.sval_program.specs.declared.status.TheConstants.{USAGE, NO_MEMORY};
+
+    /// What its words may ask for.
+    ghost Form: { Type 0 };
+
+    /// What words ask for, which are those after the program's name, if they are one of its forms.
+    ghost form_named: { List (List ℕ) → Option Form };
+
+    /// Whether it ends with this status.
+    ghost is_status: { ℕ → Bool };
+
+    /// Whether words are one of its forms.
+    fn takes(words: &[String]) -> bool
+        ensures { result ≡ is_some (form_named (map string_bytes words.now)) };
+
+    /// Runs it on its words, its devices and an allocator, and answers its status.
+    fn run<I: Source, K: Sink, D: Sink>(
+        alloc: Global,
+        words: &[String],
+        input: &mut I,
+        out: &mut K,
+        diag: &mut D,
+    ) -> u8
+        ensures known { is_status result ≡ true }
+        ensures usage { (result ≡ USAGE) ↔ (form_named (map string_bytes words.now) ≡ None) };
+
+    /// It may say that the words are no form, and that memory was wanting.
+    ghost has_usage: { is_status USAGE ≡ true };
+
+    ghost has_no_memory: { is_status NO_MEMORY ≡ true };
+}
+
+/// Runs a program on its words over a reader and two writers, and answers its status.
+///
+/// The output is held back in a buffer of 65,536 bytes until it is full. What is left of it at the end is passed on
+/// there, where a failure isn't told. Memory for that buffer is asked for only where the words are a form; where it is
+/// wanting the status is 10, and nothing is read.
+pub fn run_streams<P: Program, R: Read + Drop, W: Write + Drop, D: Write + Drop>(
+    alloc: Global,
+    words: &[String],
+    stdin: R,
+    stdout: W,
+    stderr: D,
+) -> u8
+    ensures known { P.is_status result ≡ true }
+    ensures usage { (result ≡ USAGE) ↔ (P.form_named (map string_bytes words.now) ≡ None) }
+{
+    let mut input = RealSource::new(stdin);
+    let mut diag = RealSink::new(stderr);
+    if !P::takes(words) {
+        // The program says so, and neither reads nor writes.
+        return P::run(
+            alloc,
+            words,
+            &mut input,
+            &mut RealSink::new(stdout),
+            &mut diag,
+        );
+    }
+    run_buffered::<P, RealSource<R>, W, RealSink<D>>(
+        alloc,
+        words,
+        &mut input,
+        BufWriter::with_capacity(alloc, BUFFER, stdout),
+        &mut diag,
+    )
+}
+
+/// Runs a program over the output's buffer. Where there is none memory was wanting, and only that is said.
+fn run_buffered<P: Program, I: Source, W: Write + Drop, D: Sink>(
+    alloc: Global,
+    words: &[String],
+    input: &mut I,
+    stdout: io::Result<BufWriter<W>>,
+    diag: &mut D,
+) -> u8
+    ensures known { P.is_status result ≡ true }
+    ensures usage { OnOk stdout ((result ≡ USAGE) ↔ (P.form_named (map string_bytes words.now) ≡ None)) }
+    ensures no_buffer { OnErr stdout (result ≡ NO_MEMORY) }
+    ensures no_buffer_told { OnErr stdout (TellsLine (D.told diag.old) out_of_memory (D.told diag.new)) }
+{
+    match stdout {
+        Ok(writer) => P::run(alloc, words, input, &mut RealSink::new(writer), diag),
+        Err(_) => {
+            tell(&lines::out_of_memory(), diag);
+            NO_MEMORY
+        }
+    }
+}

@@ -1,0 +1,37 @@
+//! The statuses that programs end with. A program that has further ones gives them other numbers.
+
+/// What is due was written.
+pub const DONE: u8 = 0;
+
+/// The words are no form. Nothing was read.
+pub const USAGE: u8 = 2;
+
+/// A line of the script is no call.
+pub const BAD_LINE: u8 = 3;
+
+/// No value, or no list of values, goes on with the call of a line.
+pub const BAD_CALL: u8 = 4;
+
+/// The calls are not one whole value, or not whole values where many may come.
+pub const UNFINISHED: u8 = 5;
+
+/// What stands in the place of a map's key can't be one.
+pub const INVALID_KEY: u8 = 6;
+
+/// Text that stands for a number is none.
+pub const INVALID_NUMBER: u8 = 7;
+
+/// The output failed.
+pub const WRITE: u8 = 8;
+
+/// The input failed.
+pub const READ: u8 = 9;
+
+/// Memory was wanting.
+pub const NO_MEMORY: u8 = 10;
+
+/// The input is longer than is kept.
+pub const TOO_LONG: u8 = 11;
+
+/// The words can't be had. Nothing is said.
+pub const NO_WORDS: u8 = 17;
