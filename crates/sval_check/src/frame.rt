@@ -93,8 +93,8 @@ impl Begin {
 }
 
 /// What comes in fragments.
-#[derive(Clone, Copy)]
-pub(crate) enum Content {
+#[derive(Clone, Copy, Debug)]
+pub enum Content {
     /// A text.
     Text,
     /// A binary.

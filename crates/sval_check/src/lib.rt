@@ -3,7 +3,8 @@
 //! [`check`] streams a value into a machine with a stack, which takes the calls that can still be completed and no
 //! others. Its words stand in `specs/Checks.antt`. [`check_all`] does the same for values one after another, and gives
 //! where each of them ends. Its words stand in `specs/ManyChecks.antt`. [`Checked`] puts the same machine before a
-//! stream of one's own. Its law stands in `specs/Checked.antt`. [`TokenBuf`] keeps calls as [`Token`]s, so that a test can
+//! stream of one's own. Its law stands in `specs/Checked.antt`. [`Machine`] is what all three are made of, in two parts of a
+//! step. Its words stand in `specs/Dues.antt`. [`TokenBuf`] keeps calls as [`Token`]s, so that a test can
 //! compare them. Its law stands in `specs/TokenBufs.antt`.
 #![tactic(auto)]
 
@@ -37,6 +38,8 @@ pub use checked::{Checked, Why};
 pub use ends::Ends;
 pub use error::CheckError;
 pub use fragments::{TokenBytes, TokenText};
+pub use frame::Content;
+pub use machine::{Due, Machine, Refusal};
 pub use measured::Measured;
 use std::alloc::Global;
 use sval_core::{Lent, Value};

@@ -8,7 +8,7 @@ ghost use Rattle.sval_core.specs.Trees.{plain_name, plain_head, first_kind};
 ghost use Rattle.sval_core.specs.Checker.{InContainer, State};
 ghost use Rattle.sval_core.specs.CheckerSteps.{unfilled, has_room, Variant, form_of_head, value, begin, at_top, next};
 ghost use Rattle.sval_core.specs.CheckerSteps.{tagged_end, enum_end, end, part_begin, part_end, is_whole_tree};
-ghost use Rattle.sval_core.specs.Stacks.{top_of};
+ghost use Rattle.sval_core.specs.Stacks.{below, top_of};
 ghost use Rattle.sval_check.specs.Checks.{opens};
 ghost use Rattle.sval_check.specs.Kept.{value_frame};
 ghost use Rattle.sval_check.specs.Frames.{begun_frame, begun_form, seen_form};
@@ -26,18 +26,19 @@ use std::alloc::Global;
 use std::marker::Model;
 use sval_core::{AnyCall, Fragment, GroupedCall, Head, Name, Slot};
 
-/// Why the machine doesn't go on with a call.
-#[derive(Clone, Copy, PartialEq, Eq)]
-pub(crate) enum Refusal {
-    /// No value goes on with it.
+/// Why a [`Machine`] doesn't go on with a call.
+#[derive(Clone, Copy, Debug, PartialEq, Eq)]
+pub enum Refusal {
+    /// No value goes on with the call after those so far.
     NotViable,
-    /// Memory was wanting.
+    /// One does, the call begins something, and memory was wanting to keep that.
     NoMemory,
 }
 
-/// What is still to be done for a call that was made ready, where it is taken.
-#[derive(Clone, Copy)]
-pub(crate) enum Due {
+/// What is still to be done for a call that [`Machine::ready`] made ready: by [`Machine::finish`] where the call is taken,
+/// by [`Machine::undo`] where it isn't.
+#[derive(Clone, Copy, Debug)]
+pub enum Due {
     /// Nothing.
     Nothing,
     /// A whole value comes to stand in the innermost frame.
@@ -52,11 +53,23 @@ pub(crate) enum Due {
     Closed(bool),
 }
 
-/// Whether a whole value stands in the innermost frame, and all that is open.
+/// The checker by itself, which is told call by call, for a stream that passes on other calls than those that it takes.
+/// Where it passes on just these, [`Checked`](crate::Checked) is the shorter way.
 ///
-/// A size counts down to what is still to come, so that none is too great to be kept.
+/// It knows whether a whole value stands in what is open, and all that is open. A size counts down to what is still to
+/// come, so that none is too great to be kept. What calls begin is kept in memory, with the names that their ends have to
+/// say, and let go where they end.
+///
+/// ```
+/// let mut machine = Machine::new(alloc);
+/// let due = machine.ready::<Lent>(call)?;
+/// match stream.take(call) {
+///     Ok(()) => machine.finish(due),
+///     Err(_) => machine.undo(due),
+/// }
+/// ```
 #[derive(Drop)]
-pub(crate) struct Machine {
+pub struct Machine {
     /// A whole value stands directly in the innermost frame.
     filled: bool,
     frames: Stack,
@@ -69,8 +82,8 @@ impl Model for Machine {
 }
 
 impl Machine {
-    /// The machine before any call, which takes no memory yet.
-    pub(crate) fn new(alloc: Global) -> Self
+    /// The machine before any call, which takes no memory yet. What calls begin is kept in memory of `alloc`.
+    pub fn new(alloc: Global) -> Self
         ensures { result ≡ unfilled [] }
     {
         Machine {
@@ -79,8 +92,8 @@ impl Machine {
         }
     }
 
-    /// One whole value stands outside all that is open.
-    pub(crate) fn is_whole(&self) -> bool
+    /// Whether the calls so far are one whole value.
+    pub fn is_whole(&self) -> bool
         ensures { result ≡ is_whole_tree self.now }
     {
         self.filled && self.frames.is_empty()
@@ -100,9 +113,13 @@ impl Machine {
         self.filled = false;
     }
 
-    /// Makes ready for a call, or says why it doesn't go on: opens what the call opens, and leaves the rest.
+    /// Makes ready for a call, or says why the calls so far don't go on with it: opens what the call opens, and leaves the
+    /// rest to [`finish`](Machine::finish). After a refusal the calls so far are as before.
+    ///
+    /// - [`Refusal::NotViable`] comes exactly where no value goes on with the call.
+    /// - [`Refusal::NoMemory`] comes only where one does, and memory was wanting for what the call begins.
     #[inline(always)]
-    pub(crate) fn ready<L: Measured>(
+    pub fn ready<L: Measured>(
         &mut self,
         call: AnyCall<'_, L::Text, L::Bytes>,
     ) -> Result<Due, Refusal>
@@ -143,9 +160,9 @@ impl Machine {
         }
     }
 
-    /// Does what is still due for a call that is taken.
+    /// Does what is still due for the call that was made ready last, which is taken: the calls so far go on with it.
     #[inline(always)]
-    pub(crate) fn finish(&mut self, due: Due)
+    pub fn finish(&mut self, due: Due)
         ensures { self.new ≡ finished due self.old }
     {
         match due {
@@ -153,15 +170,21 @@ impl Machine {
             Due::Filled => self.filled = true,
             Due::Advanced(left) => self.frames.advance_around(left),
             Due::Left(content, left) => self.frames.set_left(content, left),
-            Due::Closed(filled) => {
-                self.frames.pop();
-                self.filled = filled;
-            }
+            Due::Closed(filled) => self.close(filled),
         }
     }
 
-    /// Closes what was opened for a call that isn't taken.
-    pub(crate) fn undo(&mut self, due: Due)
+    /// Closes the innermost frame, after which a whole value stands in the one around it, or none.
+    #[inline(always)]
+    fn close(&mut self, filled: bool)
+        ensures { self.new ≡ record { filled = filled; frames = below self.old.frames } }
+    {
+        self.frames.pop();
+        self.filled = filled;
+    }
+
+    /// Closes what was opened for the call that was made ready last, which isn't taken: the calls so far are as before.
+    pub fn undo(&mut self, due: Due)
         ensures { self.new ≡ undone due self.old }
     {
         if let Due::Opened | Due::Advanced(_) = due {

@@ -171,6 +171,27 @@ impl Machine {
         self.close_content(Content::Binary)
     }
 
+    /// Takes a sequence's end.
+    pub(super) fn close_seq(&mut self) -> Result<(), Refusal>
+        ensures { StepsTo false (at_top (end call.Seq) self.old) self.new result }
+    {
+        self.close_plain(Head::Seq)
+    }
+
+    /// Takes the begin of a sequence's item.
+    pub(super) fn open_item(&mut self) -> Result<(), Refusal>
+        ensures { StepsTo true (at_top (part_begin call.Item) self.old) self.new result }
+    {
+        self.open_part(Slot::Item)
+    }
+
+    /// Takes the end of a sequence's item.
+    pub(super) fn close_item(&mut self) -> Result<(), Refusal>
+        ensures { StepsTo false (at_top (part_end call.Item) self.old) self.new result }
+    {
+        self.close_part(Slot::Item)
+    }
+
     /// Takes a map's begin.
     #[inline(never)]
     pub(super) fn open_map(&mut self, size: Option<usize>) -> Result<(), Refusal>

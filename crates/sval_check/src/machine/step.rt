@@ -70,8 +70,10 @@ impl Machine {
     pub(super) fn fill(&mut self, form: Form) -> Result<(), Refusal>
         ensures { StepsTo false (value (seen_form form) self.old) self.new result }
     {
-        let due = self.value(form)?;
-        self.finish(due);
+        if !self.has_room(form) {
+            return Err(Refusal::NotViable);
+        }
+        self.filled = true;
         Ok(())
     }
 
@@ -80,9 +82,10 @@ impl Machine {
     pub(super) fn open(&mut self, call: Begin) -> Result<(), Refusal>
         ensures { StepsTo true (begin (begun_form call) (begun_frame call) self.old) self.new result }
     {
-        let due = self.begin(call)?;
-        self.finish(due);
-        Ok(())
+        if !self.has_room(call.form()) {
+            return Err(Refusal::NotViable);
+        }
+        self.frames.push(call).map_err(|_| Refusal::NoMemory)
     }
 
     /// Takes so many bytes of a text or binary.
@@ -90,8 +93,14 @@ impl Machine {
     pub(super) fn add(&mut self, content: Content, size: usize) -> Result<(), Refusal>
         ensures { StepsTo false (at_top (content_fragment content size) self.old) self.new result }
     {
-        let due = self.fragment(content, size)?;
-        self.finish(due);
+        if self.filled {
+            return Err(Refusal::NotViable);
+        }
+        let left = self
+            .frames
+            .content_rest(content, size)
+            .ok_or(Refusal::NotViable)?;
+        self.frames.set_left(content, left);
         Ok(())
     }
 
@@ -100,8 +109,10 @@ impl Machine {
     pub(super) fn close_content(&mut self, content: Content) -> Result<(), Refusal>
         ensures { StepsTo false (at_top (content_end content) self.old) self.new result }
     {
-        let due = self.content_end(content)?;
-        self.finish(due);
+        if self.filled || !self.frames.content_ends(content) {
+            return Err(Refusal::NotViable);
+        }
+        self.close(true);
         Ok(())
     }
 
@@ -127,7 +138,7 @@ impl Machine {
         ensures { StepsTo false (at_top (end (seen_head head.entry)) self.old) self.new result }
     {
         match head {
-            Head::Seq => self.close_plain(Head::Seq),
+            Head::Seq => self.close_seq(),
             Head::Map => self.close_map(),
             Head::Record(name) => self.close_name(NamedValue::Record, name),
             Head::Tuple(name) => self.close_name(NamedValue::Tuple, name),
@@ -140,8 +151,10 @@ impl Machine {
     pub(super) fn close_plain(&mut self, head: Head<'_>) -> Result<(), Refusal>
         ensures { StepsTo false (at_top (end (seen_head head.entry)) self.old) self.new result }
     {
-        let due = self.end(head)?;
-        self.finish(due);
+        if self.filled || !self.frames.ends(head) {
+            return Err(Refusal::NotViable);
+        }
+        self.close(true);
         Ok(())
     }
 
@@ -173,7 +186,7 @@ impl Machine {
         ensures { StepsTo true (at_top (part_begin (seen_slot slot.entry)) self.old) self.new result }
     {
         match slot {
-            Slot::Item => self.open_part(Slot::Item),
+            Slot::Item => self.open_item(),
             Slot::Key => self.open_key(),
             Slot::Value => self.open_value(),
             Slot::Field(tag, label) => self.open_field(tag, label),
@@ -201,7 +214,7 @@ impl Machine {
         ensures { StepsTo false (at_top (part_end (seen_slot slot.entry)) self.old) self.new result }
     {
         match slot {
-            Slot::Item => self.close_part(Slot::Item),
+            Slot::Item => self.close_item(),
             Slot::Key => self.close_key(),
             Slot::Value => self.close_value(),
             Slot::Field(tag, label) => self.close_field(tag, label),
@@ -215,8 +228,10 @@ impl Machine {
     pub(super) fn close_part(&mut self, slot: Slot<'_>) -> Result<(), Refusal>
         ensures { StepsTo false (at_top (part_end (seen_slot slot.entry)) self.old) self.new result }
     {
-        let due = self.part_end(slot)?;
-        self.finish(due);
+        if !self.filled || !self.frames.is_slot(slot) {
+            return Err(Refusal::NotViable);
+        }
+        self.close(false);
         Ok(())
     }
 }
