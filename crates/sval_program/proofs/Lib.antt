@@ -1,3 +1,4 @@
 pub mod ReadParts
 pub mod Growing
 pub mod Telling
+pub mod PrintedTrees

@@ -5,6 +5,7 @@
 //! std's readers and writers, and [`run_process`] in a process.
 #![tactic(auto)]
 
+mod captured;
 mod faulty_source;
 mod input_error;
 pub mod laws;
@@ -19,6 +20,7 @@ pub mod status;
 #[cfg(test)]
 mod tests;
 
+pub use captured::print_captured;
 pub use faulty_source::FaultySource;
 pub use input_error::InputError;
 pub use line::{Line, tell};

@@ -3,7 +3,7 @@ pub mod LeftTexts
 pub mod TreeVerdicts
 pub mod Writing
 pub mod ListTexts
-pub mod PrintedTrees
+pub mod CanonTexts
 pub mod ListSteps
 pub mod Served
 pub mod RelayAnswers

@@ -16,7 +16,8 @@ use std::alloc::Global;
 use sval_buffer::ValueBuf;
 use sval_core::{Lent, Value};
 use sval_json::{ErrorKind, Sink, Variants, stream_to_io_write_with};
-use sval_script::{PrintError, ScriptSlice, print_canon};
+use sval_program::print_captured;
+use sval_script::ScriptSlice;
 
 /// Writes what the way makes of lines whose calls spell a tree.
 pub(crate) fn write_tree<K: Sink>(
@@ -34,7 +35,7 @@ pub(crate) fn write_tree<K: Sink>(
         Way::DirectBeside => write_json(out, lines, Variants::Beside),
         Way::Buffered => write_captured(alloc, lines, Variants::Inside, out),
         Way::BufferedBeside => write_captured(alloc, lines, Variants::Beside, out),
-        Way::Calls => print_captured(alloc, lines, out),
+        Way::Calls => print_lines(alloc, lines, out),
     }
 }
 
@@ -54,7 +55,7 @@ fn write_captured<K: Sink>(
 }
 
 /// Captures lines whose calls spell a tree, and prints the canonical script of what it captured.
-fn print_captured<K: Sink>(
+fn print_lines<K: Sink>(
     alloc: Global,
     lines: &ScriptSlice<'_>,
     out: &mut K,
@@ -63,14 +64,16 @@ fn print_captured<K: Sink>(
     ensures { (tree : Tree) → Spells lines.now tree → IsPrintable tree
         → WritesTree result true K.told Script tree out.old out.new }
 {
-    let captured = capture(alloc, lines)?;
-    match print_canon(&captured, out) {
+    match print_captured(alloc, most_parts(lines), lines, out) {
         Ok(()) => Ok(()),
-        Err(PrintError::Write) => Err(RelayError::Write),
-        Err(PrintError::NoMemory) => Err(RelayError::NoMemory),
-        Err(PrintError::UnknownTag) => unreachable!("a script names its tags"),
-        Err(PrintError::Refused) => unreachable!("a captured value doesn't refuse"),
+        Err(error) => Err(error.into()),
     }
+}
+
+/// How many parts a captured value has at most: each takes a line or more. Room that isn't filled takes no memory of the
+/// system.
+fn most_parts(lines: &ScriptSlice<'_>) -> usize {
+    lines.line_count() as usize
 }
 
 /// Captures lines whose calls spell a tree.
@@ -80,9 +83,7 @@ fn capture<'v>(alloc: Global, lines: &'v ScriptSlice<'v>) -> Result<ValueBuf<'v>
     ensures keeps { IfOk result (λ captured. KeepsTree (makes lines.now) (capture_of captured).forest) }
     ensures err { IfErr result (λ why. why ≡ RelayError.NoMemory) }
 {
-    // A part takes a line or more; room that isn't filled takes no memory of the system.
-    let parts = lines.line_count() as usize;
-    match ValueBuf::collect_with_capacity(alloc, parts, lines) {
+    match ValueBuf::collect_with_capacity(alloc, most_parts(lines), lines) {
         Ok(captured) => Ok(captured),
         Err(error) => match error.kind() {
             sval_buffer::ErrorKind::NoAlloc { .. } => Err(RelayError::NoMemory),
