@@ -29,3 +29,5 @@ pub mod KeptDocuments
 pub mod NumberStreams
 pub mod KeptTokens
 mod examples
+pub mod DueTexts
+pub mod RunAnswers

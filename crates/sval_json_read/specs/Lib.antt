@@ -15,3 +15,7 @@ pub mod SeenReader
 pub mod ReadErrors
 pub mod SeenPieces
 pub mod NodeCalls
+pub mod Forms
+pub mod Statuses
+pub mod Serves
+pub mod Reports

@@ -74,6 +74,11 @@ impl<'a> JsonDoc<'a> {
             Err(_) => Err(ReadError::NotUtf8),
         }
     }
+
+    /// How many nodes are kept of the text.
+    pub(crate) fn node_count(&self) -> usize {
+        self.nodes.len()
+    }
 }
 
 /// Reads a text whole, where nothing but its UTF-8 is known.

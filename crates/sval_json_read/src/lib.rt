@@ -6,18 +6,27 @@
 //! The text is read by a machine, byte by byte, in one loop and with a stack of its own (`specs/Reader.antt`). What is
 //! kept of it is one flat list of nodes, each of 16 bytes; numbers and strings are places in the text. Streaming goes
 //! over that list, takes no memory and doesn't recurse.
+//!
+//! [`run_read`] is a whole program over any words and devices: it writes a text again as JSON, or as a script of calls.
 #![tactic(auto)]
 
 mod document;
 mod escape;
+mod failure;
+mod form;
 pub mod laws;
 mod node;
 mod node_calls;
 mod number;
 mod number_calls;
 mod piece;
+mod program;
 mod reader;
+#[cfg(test)]
+mod run_tests;
+mod running;
 mod stack;
+pub mod status;
 mod string;
 mod string_calls;
 #[cfg(test)]
@@ -25,3 +34,5 @@ mod tests;
 mod word;
 
 pub use document::{JsonDoc, ReadError};
+pub use program::ReadJson;
+pub use running::run_read;
