@@ -17,8 +17,8 @@ use Rattle.sval_relay.specs.declared.made.MadeError.TheVariants as made
 use Rattle.sval_relay.specs.declared.failure.Failure.{Failure}
 use Rattle.sval_relay.specs.declared.failure.Failure.TheVariants.{Usage, Input, Relay}
 use Rattle.sval_program.specs.Sources.{Supply}
-use Rattle.sval_program.specs.Inputs.{OnShort, TakesAll, TakesOneMore, IsUnread}
-use Rattle.sval_relay.specs.Ways.{OnBoth}
+use Rattle.sval_program.specs.Inputs.{OnShort, OnBoth, TakesAll, TakesOneMore, IsUnread}
+use Rattle.sval_relay.specs.Ways.{task_in}
 use Rattle.sval_relay.specs.Verdict.{Verdict, BadLine, BadCall, Unfinished, Key, Number, Text, HasBadLine, HasBadCall, OnVerdict}
 use Rattle.sval_program.specs.Outputs.{Grows}
 use Rattle.sval_relay.specs.Relays.{MayLeave, IsAnswerTo}
@@ -51,12 +51,12 @@ ToldMade k count result = TellsMade k.sink count result k.old k.new
 
 -- a fact where the form is one of a script, and the source told what it had
 abbrev OnInput : {I K : Type 0} → Case I K → Option Form → (List ℕ → Task → Type 0) → Type 0
-OnInput k form P = OnBoth form (k.source k.before).left P
+OnInput k form P = OnBoth (task_in form) (k.source k.before).left P
 
 -- ---- a fact on what was asked for
 
 -- one that holds of each script that the source may have told
-on_script : (task : Task) (left : Option (List ℕ)) (P : List ℕ → Task → Type 0) → ((script : List ℕ) → left ≡ Some script → P script task) → OnBoth (Some (Serve task)) left P
+on_script : (task : Task) (left : Option (List ℕ)) (P : List ℕ → Task → Type 0) → ((script : List ℕ) → left ≡ Some script → P script task) → OnBoth (Some task) left P
 on_script task None P f = tt
 on_script task (Some script) P f = f script refl
 

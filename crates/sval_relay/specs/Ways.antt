@@ -6,6 +6,7 @@ use Rattle.sval_relay.specs.declared.way.Way.TheVariants.{Direct, Buffered, Call
 use Rattle.sval_relay.specs.declared.way.Task.{Task}
 use Rattle.sval_relay.specs.declared.way.Form.{Form}
 use Rattle.sval_relay.specs.declared.way.Form.TheVariants.{Serve, Made}
+use Rattle.sval_program.specs.Inputs.{OnBoth}
 use Rattle.sval_program.specs.Sources.{Supply}
 
 -- whether it captures the value before it writes
@@ -54,14 +55,14 @@ form_named words = None
 abbrev pub form_of : {A : Type 0} → List (String A) → Option Form
 form_of words = form_named (map string_bytes words)
 
--- a fact on the script and what is asked for of it, where there are both
-abbrev pub OnBoth : Option Form → Option (List ℕ) → (List ℕ → Task → Type 0) → Type 0
-OnBoth (Some (Serve task)) (Some script) P = P script task
-OnBoth _ _ P = ⊤
+-- what a form asks for of a script, if it does
+abbrev pub task_in : Option Form → Option Task
+task_in (Some (Serve task)) = Some task
+task_in _ = None
 
--- the same of the program: where the words ask for something of a script, and the source tells its bytes
+-- a fact on the script and what is asked for of it: where the words ask for something of a script, and the source tells its bytes
 abbrev pub OnAsked : {A : Type 0} → List (String A) → Supply → (List ℕ → Task → Type 0) → Type 0
-OnAsked words input P = OnBoth (form_of words) input.left P
+OnAsked words input P = OnBoth (task_in (form_of words)) input.left P
 
 -- whether many values may come
 abbrev pub takes_many : Option Form → Bool
