@@ -1,11 +1,11 @@
 //! Texts, what they are written as again, and where they fail.
 
-use crate::{JsonDoc, ReadError};
 use std::alloc::Global;
 use std::test::Fail;
 use sval_check::{Token, TokenBuf, TokenName};
 use sval_core::{Stream, tags};
 use sval_json::stream_to_vec;
+use sval_json_read::{JsonDoc, ReadError};
 use sval_ref::stream_ref;
 
 /// Texts, and what is written of them again.

@@ -1,9 +1,22 @@
 //! The whole program: inputs, and what it answers, writes and tells.
 
-use crate::run_read;
+use std::alloc::{AllocError, Global};
 use std::test::Fail;
-use sval_json::VecSink;
-use sval_program::{FaultySource, MemSource};
+use sval_json::{Sink, VecSink};
+use sval_json_read::run_read;
+use sval_program::{MemSource, Source};
+
+/// Runs the program over these devices, on one word.
+pub(crate) fn run<I: Source, K: Sink, D: Sink>(
+    alloc: Global,
+    word: &str,
+    input: &mut I,
+    out: &mut K,
+    diag: &mut D,
+) -> Result<u8, AllocError> {
+    let words = [String::from_str(alloc, word)?];
+    Ok(run_read(alloc, &words, input, out, diag))
+}
 
 /// A word, an input, and the status, the output and the line that it gives.
 const ROWS: [(&str, &[u8], u8, &[u8], &str); 11] = [
@@ -45,14 +58,7 @@ fn rows(rt: HostRuntime) -> Result<(), Fail> {
     for (word, input, status, written, line) in ROWS {
         let mut out = VecSink::new(alloc);
         let mut diag = VecSink::new(alloc);
-        let words = [String::from_str(alloc, word)?];
-        let answer = run_read(
-            alloc,
-            &words,
-            &mut MemSource::new(input),
-            &mut out,
-            &mut diag,
-        );
+        let answer = run(alloc, word, &mut MemSource::new(input), &mut out, &mut diag)?;
         assert_eq!(rt; answer, status, "at {word:?} {input:?}");
         assert_eq!(rt; out.as_slice(), written, "at {word:?} {input:?}");
         assert_eq!(rt; diag.as_slice(), line.as_bytes(), "at {word:?} {input:?}");
@@ -60,23 +66,26 @@ fn rows(rt: HostRuntime) -> Result<(), Fail> {
     Ok(())
 }
 
-/// A source that gives a byte at a time, and one that fails at its second call.
+/// No word, or more than one, is no form.
 #[test]
-fn parts_and_faults(rt: HostRuntime) -> Result<(), Fail> {
+fn words_that_are_no_form(rt: HostRuntime) -> Result<(), Fail> {
     let alloc = rt.alloc();
-    let words = [String::from_str(alloc, "json")?];
-    let table: [(&'static [u64], u8, &'static [u8], &'static [u8]); 2] = [
-        (&[], 0, b"[1,2]", b""),
-        (&[2], 9, b"", b"read fault\n"),
+    let words = [
+        String::from_str(alloc, "json")?,
+        String::from_str(alloc, "json")?,
     ];
-    for (failing, status, written, line) in table {
+    for count in [0, 2] {
         let mut out = VecSink::new(alloc);
         let mut diag = VecSink::new(alloc);
-        let mut input = FaultySource::new(b"[1, 2]", 1, failing);
-        let answer = run_read(alloc, &words, &mut input, &mut out, &mut diag);
-        assert_eq!(rt; answer, status, "at {failing:?}");
-        assert_eq!(rt; out.as_slice(), written, "at {failing:?}");
-        assert_eq!(rt; diag.as_slice(), line, "at {failing:?}");
+        let mut input = MemSource::new(b"1");
+        let answer = run_read(alloc, &words[..count], &mut input, &mut out, &mut diag);
+        assert_eq!(rt; answer, 2, "at {count}");
+        assert_eq!(rt; out.as_slice(), b"".as_slice(), "at {count}");
+        assert_eq!(rt;
+            diag.as_slice(),
+            b"usage: sval_json_read json|calls\n".as_slice(),
+            "at {count}"
+        );
     }
     Ok(())
 }

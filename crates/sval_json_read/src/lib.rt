@@ -22,15 +22,11 @@ mod number_calls;
 mod piece;
 mod program;
 mod reader;
-#[cfg(test)]
-mod run_tests;
 mod running;
 mod stack;
 pub mod status;
 mod string;
 mod string_calls;
-#[cfg(test)]
-mod tests;
 mod word;
 
 pub use document::{JsonDoc, ReadError};
