@@ -13,6 +13,3 @@ use sval_program::run_process;
 fn main(rt: HostRuntime) -> ExitCode {
     run_process::<ReadJson, _, Stdin, Stdout, Stderr>(&rt, rt.stdin(), rt.stdout(), rt.stderr())
 }
-
-#[cfg(test)]
-mod tests;

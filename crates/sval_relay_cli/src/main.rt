@@ -14,6 +14,3 @@ use sval_relay::Relay;
 fn main(rt: HostRuntime) -> ExitCode {
     run_process::<Relay, _, Stdin, Stdout, Stderr>(&rt, rt.stdin(), rt.stdout(), rt.stderr())
 }
-
-#[cfg(test)]
-mod tests;

@@ -1,0 +1,9 @@
+//! Tests of the programs in a process: what they take from it, and what they answer.
+#![tactic(auto)]
+
+#[cfg(test)]
+mod json_read;
+#[cfg(test)]
+mod process;
+#[cfg(test)]
+mod relay;
