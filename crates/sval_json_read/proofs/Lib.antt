@@ -28,6 +28,7 @@ pub mod NodeStreams
 pub mod KeptDocuments
 pub mod NumberStreams
 pub mod KeptTokens
+pub mod PlainRuns
 mod examples
 pub mod DueTexts
 pub mod RunAnswers

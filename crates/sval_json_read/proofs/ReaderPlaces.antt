@@ -11,6 +11,10 @@ use Rattle.sval_json_read.specs.SeenReader.{ReadsIn}
 pub reads_on : (bytes : List ℕ) (at from : ℕ) (nodes : List Node) → ReadsIn bytes at from nodes → ReadsIn bytes (at + 1) from nodes
 reads_on bytes at from nodes r = let b = r.before in record { utf8 = r.utf8; before = omega arith; whole = r.whole; stand = r.stand }
 
+-- so it does after more bytes
+pub reads_far : (bytes : List ℕ) (at n from : ℕ) (nodes : List Node) → ReadsIn bytes at from nodes → ReadsIn bytes (at + n) from nodes
+reads_far bytes at n from nodes r = let b = r.before in record { utf8 = r.utf8; before = omega arith; whole = r.whole; stand = r.stand }
+
 -- a string begins behind its quote
 pub reads_string : (bytes : List ℕ) (at from : ℕ) (nodes : List Node) → ReadsIn bytes at from nodes → at < length bytes → get_or bytes at 0 ≡ 34 → ReadsIn bytes (at + 1) (at + 1) nodes
 reads_string bytes at from nodes r l q =

@@ -92,7 +92,7 @@ fn read_text(alloc: Global, text: &str) -> Result<JsonDoc<'_>, ReadError>
     }
 }
 
-/// Reads the nodes of a text, byte by byte.
+/// Reads the nodes of a text, byte by byte, but that what no escape cuts of a string is passed over at once.
 fn read_nodes(alloc: Global, bytes: &[u8]) -> Result<Vec<Node>, ReadError>
     requires { IsUtf8 bytes.now }
     ensures ok { IfOk result (λ nodes. IsDocument bytes.now (tokens_in bytes.now (map node_of nodes.items))) }
@@ -103,11 +103,10 @@ fn read_nodes(alloc: Global, bytes: &[u8]) -> Result<Vec<Node>, ReadError>
     let mut at: usize = 0;
     while at < bytes.len() {
         match reader.step(bytes, at) {
-            Ok(true) => {},
+            Ok(true) => at += 1 + reader.plain_run(bytes, at + 1),
             Ok(false) => return Err(ReadError::BadJson { at: at as u64 }),
             Err(_) => return Err(ReadError::NoMemory),
         }
-        at += 1;
     }
     match reader.finish(bytes) {
         Ok(true) => Ok(reader.nodes),

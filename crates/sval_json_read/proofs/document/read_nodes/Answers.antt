@@ -3,7 +3,8 @@ use Rattle.sval_json_read.specs.Documents.{IsBadJson}
 use Rattle.sval_json_read.specs.SeenReader.{state_of}
 use Rattle.sval_json_read.specs.Reader.{start, after}
 use Rattle.sval_json_read.specs.declared.reader.Reader.{Reader}
-use Rattle.sval_json_read.proofs.Loop.{after-byte, refused-at, ended-bad, ended-document}
+use Rattle.sval_json_read.proofs.Loop.{refused-at, ended-bad, ended-document}
+use Rattle.sval_json_read.proofs.PlainRuns.{byte_and_run, reads_behind}
 use Rattle.sval_json_read.proofs.ReaderPlaces.{reads_start}
 use Rattle.sval_json_read.proofs.KeptTokens.{kept_at, kept_end}
 use Rattle.sval_json_read.proofs.document.read_nodes.Goals as goal
@@ -28,13 +29,15 @@ returns-in-Ok-false-clause-err c =
     (rw c.in-Ok-false.field-0-test at c.in-Ok-false.ensures.gives) c.requires
 
 pub loop-at-preserved : goal.loop-at-preserved
-loop-at-preserved c = record {
-  within = omega (arith, c.loop-at-test.true);
-  reached =
-      after-byte c.args.bytes.now c.loop-at.at (state_of c.args.bytes.now c.loop-at.at c.loop-at.reader) c.loop-at-test.true c.loop-at.invariant.reached
-      ∙ (rw c.in-Ok-true.field-0-test at c.in-Ok-true.ensures.gives);
-  reads = c.in-Ok-true.ensures.reads;
-}
+loop-at-preserved c =
+    let bytes = c.args.bytes.now in
+    record {
+      within = omega (arith, c.plain_run.ensures.within);
+      reached =
+          byte_and_run bytes c.loop-at.at c.plain_run.result (state_of bytes c.loop-at.at c.loop-at.reader) c.step.new.self c.loop-at-test.true c.loop-at.invariant.reached
+          (rw c.in-Ok-true.field-0-test at c.in-Ok-true.ensures.gives) c.plain_run.ensures.passes;
+      reads = reads_behind bytes c.loop-at.at c.plain_run.result c.in-Ok-true.ensures.reads;
+    }
 
 pub returns-in-Ok-true-finish-clause-ok : goal.returns-in-Ok-true-finish-clause-ok
 returns-in-Ok-true-finish-clause-ok c =
