@@ -75,7 +75,7 @@ first_goes : (first : ℕ) (bytes : List ℕ) (major n : ℕ) (after : List ℕ)
 first_goes first bytes major n after frames (Some mark) f e h = absurd (no_marked mark bytes major n after (subst (λ x. head_of (x ∷ bytes) ≡ Some (head major n after)) (mark_is first mark f) e) h)
 first_goes first bytes major n after frames None f e h = ap (λ x. head_step x frames) e
 
-item_goes : (bytes : List ℕ) (major n : ℕ) (after : List ℕ) (frames : List Frame) → head_of bytes ≡ Some (head major n after) → (major == 7) ≡ false → item_step bytes frames ≡ body_step major n after frames
+pub item_goes : (bytes : List ℕ) (major n : ℕ) (after : List ℕ) (frames : List Frame) → head_of bytes ≡ Some (head major n after) → (major == 7) ≡ false → item_step bytes frames ≡ body_step major n after frames
 item_goes [] major n after frames e h = absurd (no_head e)
 item_goes (first ∷ bytes) major n after frames e h = first_goes first bytes major n after frames (mark_of first) refl e h
 
@@ -107,10 +107,10 @@ text_read bytes n after e l u = record {
   good = tt;
 }
 
-fits_2 : (content : List ℕ) → big_endian content < 2 ^ 128 → fits 2 content ≡ true
+pub fits_2 : (content : List ℕ) → big_endian content < 2 ^ 128 → fits 2 content ≡ true
 fits_2 content h = let e : nat_lt (big_endian content) (2 ^ 128) ≡ true = grind (arith, nat_tests) in e
 
-fits_3 : (content : List ℕ) → big_endian content < 2 ^ 127 → fits 3 content ≡ true
+pub fits_3 : (content : List ℕ) → big_endian content < 2 ^ 127 → fits 3 content ≡ true
 fits_3 content h = let e : nat_lt (big_endian content) (2 ^ 127) ≡ true = grind (arith, nat_tests) in e
 
 big_read : (bytes after content rest : List ℕ) → head_of bytes ≡ Some (head 6 2 after) → IsByteString after content rest → big_endian content < 2 ^ 128 → IsRead (λ more. Call.Int U128 (pos (big_endian content)) ∷ more) bytes (Int U128 (pos (big_endian content))) rest
@@ -127,7 +127,7 @@ negative_big_read bytes after content rest e s h = record {
   good = tt;
 }
 
-other_tag : (n : ℕ) (after : List ℕ) (frames : List Frame) → n ≢ 2 → n ≢ 3 → tag_step n after frames ≡ moves [] after (Item frames)
+pub other_tag : (n : ℕ) (after : List ℕ) (frames : List Frame) → n ≢ 2 → n ≢ 3 → tag_step n after frames ≡ moves [] after (Item frames)
 other_tag n after frames h k =
     let e : (n == 2) ≡ false = grind (arith, nat_tests) in
     let f : (n == 3) ≡ false = grind (arith, nat_tests) in

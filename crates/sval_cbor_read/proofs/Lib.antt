@@ -8,4 +8,12 @@ pub mod Complete
 pub mod OneReading
 pub mod Nearer
 pub mod RealItems
+pub mod Bignums
+pub mod Stacks
+pub mod ReadStrings
+pub mod BegunItems
+pub mod KeptNodes
+pub mod ReadsOn
+pub mod NodeStreams
+pub mod Loop
 mod examples

@@ -45,7 +45,7 @@ reads_on at_start r = r
 reads_on {bytes = bytes} {more = more} (onward {made = made} {move = m} reached e) r = subst (IsReadAs bytes) (sym (joined made m.calls more)) (reads_on reached (goes_on e r))
 
 -- what is read from the first step on goes through each state that is reached
-reads_after : {bytes left : List ℕ} {state : State} {made calls : List Call} → Reached bytes state left made → IsReadAs bytes calls → (more : List Call) × Reads state left more
+pub reads_after : {bytes left : List ℕ} {state : State} {made calls : List Call} → Reached bytes state left made → IsReadAs bytes calls → (more : List Call) × Reads state left more
 reads_after at_start r = (_, r)
 reads_after (onward {move = m} reached e) r = next_reads (reads_after reached r).1 e
   where

@@ -42,13 +42,13 @@ pub same_heads : {major number m n : ℕ} {after other : List ℕ} {o : Option H
     → (m ≡ major) × (n ≡ number) × (other ≡ after)
 same_heads e f = (cc, cc, cc)
 
-no_string_95 : {major : ℕ} {bytes content rest : List ℕ} → IsString major (95 ∷ bytes) content rest → ⊥
+pub no_string_95 : {major : ℕ} {bytes content rest : List ℕ} → IsString major (95 ∷ bytes) content rest → ⊥
 no_string_95 (string e h k) = no_head_95 _ e
 
-no_string_255 : {major : ℕ} {bytes content rest : List ℕ} → IsString major (255 ∷ bytes) content rest → ⊥
+pub no_string_255 : {major : ℕ} {bytes content rest : List ℕ} → IsString major (255 ∷ bytes) content rest → ⊥
 no_string_255 (string e h k) = no_head_255 _ e
 
-one_string : {major : ℕ} {bytes content rest other last : List ℕ} → IsString major bytes content rest → IsString major bytes other last → (content ≡ other) × (rest ≡ last)
+pub one_string : {major : ℕ} {bytes content rest other last : List ℕ} → IsString major bytes content rest → IsString major bytes other last → (content ≡ other) × (rest ≡ last)
 one_string (string e h k) (string f i l) = (cc, cc)
 
 moved_pieces : {major : ℕ} {bytes next content rest : List ℕ} → next ≡ bytes → ArePieces major bytes content rest → ArePieces major next content rest
@@ -63,7 +63,7 @@ some_pieces (piece s p) (piece t q) =
     let f = some_pieces p (moved_pieces e.1 q) in
     (cc, f.1)
 
-one_byte_string : {bytes content rest other last : List ℕ} → IsByteString bytes content rest → IsByteString bytes other last → (content ≡ other) × (rest ≡ last)
+pub one_byte_string : {bytes content rest other last : List ℕ} → IsByteString bytes content rest → IsByteString bytes other last → (content ≡ other) × (rest ≡ last)
 one_byte_string (definite s) (definite t) = one_string s t
 one_byte_string (definite s) (in_pieces p) = absurd (no_string_95 s)
 one_byte_string (in_pieces p) (definite s) = absurd (no_string_95 s)

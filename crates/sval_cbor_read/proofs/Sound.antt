@@ -181,10 +181,10 @@ bignum_piece_back tag front (first ∷ bytes) frames m e r = go (first == 0xff) 
 
 -- ---- heads
 
-fits_2 : (content : List ℕ) → fits 2 content ≡ true → big_endian content < 2 ^ 128
+pub fits_2 : (content : List ℕ) → fits 2 content ≡ true → big_endian content < 2 ^ 128
 fits_2 content h = let e : nat_lt (big_endian content) (2 ^ 128) ≡ true = h in grind (arith, nat_tests)
 
-fits_3 : (content : List ℕ) → fits 3 content ≡ true → big_endian content < 2 ^ 127
+pub fits_3 : (content : List ℕ) → fits 3 content ≡ true → big_endian content < 2 ^ 127
 fits_3 content h = let e : nat_lt (big_endian content) (2 ^ 127) ≡ true = h in grind (arith, nat_tests)
 
 tag_back : (tag : ℕ) (after : List ℕ) (frames : List Frame) (m : Move) → tag_step tag after frames ≡ Some m → Rest m.next m.left
@@ -322,3 +322,14 @@ fits_before false front content h = let g = grows front content in let l : big_e
 -- further pieces make no number fit
 pub too_large : {tag : ℕ} {front bytes : List ℕ} {frames : List Frame} {made : List Call} → Reads (BignumPieces tag front frames) bytes made → fits tag front ≡ true
 too_large {tag = tag} {front = front} r = let (content, rest, p, h, a) = reads_back r in fits_before (tag == 2) front content h
+
+-- ---- what is read in the middle of an item
+
+-- where the pieces of a string are read, they stand
+pub pieces_need : {major : ℕ} {bytes : List ℕ} {frames : List Frame} {made : List Call} → Reads (Pieces major frames) bytes made → (content : List ℕ) × (rest : List ℕ) × ArePieces major bytes content rest
+pieces_need r = let (content, rest, p, a) = reads_back r in (content, rest, p)
+
+-- where a number as a byte string is read, it stands
+pub number_needs : {tag : ℕ} {bytes : List ℕ} {frames : List Frame} {made : List Call} → Reads (Bignum tag frames) bytes made
+    → (content : List ℕ) × (rest : List ℕ) × IsByteString bytes content rest × (fits tag content ≡ true)
+number_needs r = let (content, rest, s, h, a) = reads_back r in (content, rest, s, h)

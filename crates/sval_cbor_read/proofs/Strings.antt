@@ -46,17 +46,17 @@ pub no_head : {h : Head} → head_of [] ≡ Some h → ⊥
 unfolding head_of
 no_head e = cc e
 
-piece_read : (major : ℕ) (bytes content rest : List ℕ) (frames : List Frame) → IsString major bytes content rest → piece_step major bytes frames ≡ moves (fragment major content ∷ []) rest (Pieces major frames)
+pub piece_read : (major : ℕ) (bytes content rest : List ℕ) (frames : List Frame) → IsString major bytes content rest → piece_step major bytes frames ≡ moves (fragment major content ∷ []) rest (Pieces major frames)
 piece_read major [] content rest frames (string e l k) = absurd (no_head e)
 piece_read major (first ∷ bytes) content rest frames (string {number = n} {after = after} e l k) =
     rw (no_break first bytes (head major n after) e) (piece_goes major (first ∷ bytes) (take n after) (drop n after) (λ piece left. moves (fragment major piece ∷ []) left (Pieces major frames)) (string e l k))
 
-bignum_read : (tag : ℕ) (bytes content rest : List ℕ) (frames : List Frame) → IsString 2 bytes content rest → bignum_begins tag bytes frames ≡ bignum_step tag content rest frames
+pub bignum_read : (tag : ℕ) (bytes content rest : List ℕ) (frames : List Frame) → IsString 2 bytes content rest → bignum_begins tag bytes frames ≡ bignum_step tag content rest frames
 bignum_read tag [] content rest frames (string e l k) = absurd (no_head e)
 bignum_read tag (first ∷ bytes) content rest frames (string {number = n} {after = after} e l k) =
     rw (no_pieces first bytes (head 2 n after) e) (piece_goes 2 (first ∷ bytes) (take n after) (drop n after) (λ piece left. bignum_step tag piece left frames) (string e l k))
 
-bignum_piece_read : (tag : ℕ) (front bytes content rest : List ℕ) (frames : List Frame) → IsString 2 bytes content rest
+pub bignum_piece_read : (tag : ℕ) (front bytes content rest : List ℕ) (frames : List Frame) → IsString 2 bytes content rest
     → bignum_piece tag front bytes frames ≡ moves [] rest (BignumPieces tag (front ++ content) frames)
 bignum_piece_read tag front [] content rest frames (string e l k) = absurd (no_head e)
 bignum_piece_read tag front (first ∷ bytes) content rest frames (string {number = n} {after = after} e l k) =
@@ -64,7 +64,7 @@ bignum_piece_read tag front (first ∷ bytes) content rest frames (string {numbe
 
 -- ---- numbers as byte strings
 
-bignum_goes : (tag : ℕ) (content left : List ℕ) (frames : List Frame) → fits tag content ≡ true → bignum_step tag content left frames ≡ moves (number_call tag content ∷ []) left (Ended frames)
+pub bignum_goes : (tag : ℕ) (content left : List ℕ) (frames : List Frame) → fits tag content ≡ true → bignum_step tag content left frames ≡ moves (number_call tag content ∷ []) left (Ended frames)
 bignum_goes tag content left frames h = ap (λ b. if b then moves (number_call tag content ∷ []) left (Ended frames) else None) h
 
 bignum_pieces : (tag : ℕ) (front : List ℕ) {bytes content rest : List ℕ} → ArePieces 2 bytes content rest → fits tag (front ++ content) ≡ true → (frames : List Frame) (more : List Call)

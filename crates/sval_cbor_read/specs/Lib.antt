@@ -2,3 +2,13 @@ pub mod Items
 pub mod Document
 pub mod Reading
 pub mod Laws
+pub mod Steps
+pub mod SeenHeads
+pub mod SeenStrings
+pub mod SeenBignums
+pub mod SeenNodes
+pub mod SeenFrames
+pub mod SeenItems
+pub mod SeenParts
+pub mod SeenReader
+pub mod ReadErrors

@@ -1,0 +1,233 @@
+-- The begin of an item as steps of the reader.
+use Rattle.std.specs.Prelude.{◌≡◌, ◌≢◌, ℕ, ◌+◌, ◌<◌, ◌≤◌, Bool, true, false, ◌&&◌, ◌==◌, nat_le, if◌then◌else◌, List, [], ◌∷◌, ◌++◌, length, take, drop, get_or, Option, None, IsTrue, refl}
+use Rattle.std.proofs.Common.{sym, ap, ◌∙◌, subst, arith, append_assoc, append-nil}
+use Rattle.std.proofs.lemmas.Bool.Decides.{nat_tests}
+use Rattle.std.proofs.lemmas.List.{length-drop, length-take-le, drop-drop}
+use Rattle.sval_label.specs.Calls.{Call}
+use Rattle.std.specs.Prelude.{IsUtf8}
+use Rattle.std.proofs.lemmas.Str.{IsUtf8-from_is_utf8, is_utf8-from_IsUtf8}
+use Rattle.sval_cbor_read.specs.declared.head.Head as made_head
+use Rattle.sval_cbor_read.specs.declared.node.Node as made_node
+use Rattle.sval_cbor_read.specs.declared.bignum.Bignum.{Bignum as MadeBignum}
+use Rattle.sval_cbor_read.specs.declared.node.Place.{Place}
+use Rattle.sval_cbor_read.specs.declared.item.Item as made_item
+use Rattle.sval_cbor_read.specs.declared.item.Item.TheVariants as item
+use Rattle.sval_cbor_read.specs.declared.item.Begun.{Begun}
+use Rattle.sval_cbor_read.specs.Items.{head_of, is_piece, big_endian, ArePieces, break, piece, IsByteString, definite, in_pieces}
+use Rattle.sval_cbor_read.specs.Reading.{Frame, State, Item, Ended, Bignum, BignumPieces, Move, moves, mark_of, first_step, item_step, head_step, body_step, string_step, string_calls, tag_step, fits, number_call, step, Reached, onward}
+use Rattle.sval_cbor_read.specs.Steps.{Spot, spot, Steps, one_step, more_steps, IsStuck}
+use Rattle.sval_cbor_read.specs.SeenHeads.{IsHead}
+use Rattle.sval_cbor_read.specs.SeenStrings.{IsBehind}
+use Rattle.sval_cbor_read.specs.SeenBignums.{IsNumberAt}
+use Rattle.sval_cbor_read.specs.SeenNodes.{IsWhole}
+use Rattle.sval_cbor_read.specs.SeenItems.{state_behind, begin_calls, StandsIn, IsMarked, BeginsBehind, BeginsNothingBehind, Begins, BeginsNothing}
+use Rattle.sval_cbor_read.proofs.Bignums.{bytes_at, nothing_at}
+use Rattle.sval_cbor_read.proofs.OneTree.{one_byte_string}
+use Rattle.sval_cbor_read.proofs.Strings.{string_goes, bignum_read, bignum_piece_read, bignum_goes}
+use Rattle.sval_cbor_read.proofs.Sound.{number_needs}
+use Rattle.sval_cbor_read.proofs.Complete.{item_is_read, other_tag}
+use Rattle.sval_cbor_read.proofs.OneReading.{reads_after, stops_badly}
+
+-- ---- steps
+
+-- a step that makes no call, and then others
+pub after_nothing : {state next : State} {left behind : List ℕ} {calls : List Call} {last : Spot} → Steps (spot state left calls) (spot next behind (calls ++ [])) → Steps (spot next behind calls) last
+    → Steps (spot state left calls) last
+after_nothing {next = next} {behind = behind} {calls = calls} {last = last} first more = more_steps first (subst (λ x. Steps (spot next behind x) last) (sym (append-nil calls)) more)
+
+-- where there is no step, the reader is stuck
+pub no_item_step : {frames : List Frame} {left : List ℕ} {made : List Call} → step (Item frames) left ≡ None → IsStuck (spot (Item frames) left made)
+no_item_step {frames = frames} {left = left} {made = made} e bytes reached tree is_item = stops_badly bytes left (Item frames) made reached e (λ end. let f = end.0 in cc f) tree is_item
+
+-- ---- heads
+
+pub begins_behind : (bytes : List ℕ) (h : made_head.Head) (place : Place) (found : made_item.Item) (next : ℕ)
+    → ((frames : List Frame) → body_step h.major h.number (drop h.next bytes) frames ≡ moves (begin_calls found) (drop next bytes) (state_behind found frames)) → StandsIn place found → h.next ≤ next → next ≤ length bytes
+    → BeginsBehind bytes h place (record { item = found; next = next })
+begins_behind bytes h place found next e s l k = record { leads = λ frames left made f. one_step (f ∙ e frames); stands = s; later = l; within = k }
+
+pub begins_nothing_behind : (bytes : List ℕ) (h : made_head.Head) → ((frames : List Frame) → body_step h.major h.number (drop h.next bytes) frames ≡ None) → BeginsNothingBehind bytes h
+begins_nothing_behind bytes h e frames left made f = no_item_step (f ∙ e frames)
+
+-- a head with this major type
+pub major_is : (h : made_head.Head) (major : ℕ) (after : List ℕ) (frames : List Frame) → h.major ≡ major → body_step h.major h.number after frames ≡ body_step major h.number after frames
+major_is h major after frames e = ap (λ m. body_step m h.number after frames) e
+
+-- ---- strings
+
+-- a string behind its head, with its calls
+pub string_goes_behind : (major : ℕ) (n : ℕ) (after content rest : List ℕ) (frames : List Frame) → n ≤ length after → IsTrue (is_piece major (take n after)) → content ≡ take n after → rest ≡ drop n after
+    → string_step major n after frames ≡ moves (string_calls major (length content) content) rest (Ended frames)
+string_goes_behind major n after content rest frames l k c r =
+    let size : length content ≡ n = ap length c ∙ length-take-le n after l in
+    string_goes major n after frames l k ∙ ap (λ x. moves (string_calls major n x) (drop n after) (Ended frames)) (sym c) ∙ ap (λ x. moves (string_calls major n content) x (Ended frames)) (sym r)
+    ∙ ap (λ m. moves (string_calls major m content) rest (Ended frames)) (sym size)
+
+no_string_by : (a b : Bool) (o : Option Move) → (a ≡ true → b ≡ true → ⊥) → (if a && b then o else None) ≡ None
+no_string_by true true o h = absurd (h refl refl)
+no_string_by true false o h = refl
+no_string_by false b o h = refl
+
+pub no_string_step : (major n : ℕ) (after : List ℕ) (frames : List Frame) → (n ≤ length after → IsTrue (is_piece major (take n after)) → ⊥) → string_step major n after frames ≡ None
+no_string_step major n after frames h =
+    no_string_by (nat_le n (length after)) (is_piece major (take n after)) (moves (string_calls major n (take n after)) (drop n after) (Ended frames))
+    (λ a b. let l : n ≤ length after = grind (arith, nat_tests) in h l b)
+
+-- ---- numbers as byte strings
+
+pieces_steps : (tag : ℕ) (front : List ℕ) {bytes content rest : List ℕ} → ArePieces 2 bytes content rest → fits tag (front ++ content) ≡ true → (frames : List Frame) (made : List Call)
+    → Steps (spot (BignumPieces tag front frames) bytes made) (spot (Ended frames) rest (made ++ (number_call tag (front ++ content) ∷ [])))
+pieces_steps tag front (break {rest = rest}) h frames made =
+    let e = append-nil front in
+    subst (λ x. Steps (spot (BignumPieces tag front frames) (255 ∷ rest) made) (spot (Ended frames) rest (made ++ (number_call tag x ∷ [])))) (sym e) (one_step (bignum_goes tag front rest frames (rw e at h)))
+pieces_steps tag front (piece {bytes = bytes} {after = after} {content = content} {more = last} {rest = rest} s p) h frames made =
+    let e = append_assoc front content last in
+    subst (λ x. Steps (spot (BignumPieces tag front frames) bytes made) (spot (Ended frames) rest (made ++ (number_call tag x ∷ [])))) e
+    (after_nothing (one_step (bignum_piece_read tag front bytes content after frames s)) (pieces_steps tag (front ++ content) p (rw e h) frames made))
+
+byte_string_steps : (tag : ℕ) {bytes content rest : List ℕ} → IsByteString bytes content rest → fits tag content ≡ true → (frames : List Frame) (made : List Call)
+    → Steps (spot (Bignum tag frames) bytes made) (spot (Ended frames) rest (made ++ (number_call tag content ∷ [])))
+byte_string_steps tag (definite {bytes = bytes} {content = content} {rest = rest} s) h frames made = one_step (bignum_read tag bytes content rest frames s ∙ bignum_goes tag content rest frames h)
+byte_string_steps tag (in_pieces p) h frames made = after_nothing (one_step refl) (pieces_steps tag [] p h frames made)
+
+-- a number under its tag leads on
+pub number_leads : (tag : ℕ) {bytes content rest : List ℕ} (frames : List Frame) (move : Option Move) → IsByteString bytes content rest → fits tag content ≡ true → move ≡ moves [] bytes (Bignum tag frames)
+    → (left : List ℕ) (made : List Call) → step (Item frames) left ≡ move → Steps (spot (Item frames) left made) (spot (Ended frames) rest (made ++ (number_call tag content ∷ [])))
+number_leads tag frames move s h m left made e = after_nothing (one_step (e ∙ m)) (byte_string_steps tag s h frames made)
+
+-- without one the reader is stuck
+pub number_lacks : (tag : ℕ) (bytes : List ℕ) (frames : List Frame) (move : Option Move) → ((content rest : List ℕ) → IsByteString bytes content rest → fits tag content ≡ true → ⊥) → move ≡ moves [] bytes (Bignum tag frames)
+    → (left : List ℕ) (made : List Call) → step (Item frames) left ≡ move → IsStuck (spot (Item frames) left made)
+number_lacks tag bytes frames move h m left made e start reached tree is_item =
+    let behind : Reached start (Bignum tag frames) bytes (made ++ []) = onward reached (e ∙ m) in
+    let (content, rest, s, f) = number_needs (reads_after behind (item_is_read start tree is_item).0).1 in
+    h content rest s f
+
+-- ---- marks
+
+pub marked_begins : (bytes : List ℕ) (at : ℕ) (place : Place) (found : made_item.Item) → at < length bytes → IsMarked (get_or bytes at 0) place found → Begins bytes at place (record { item = found; next = at + 1 })
+marked_begins bytes at place found l m = record {
+  leads = λ frames made.
+      let e : step (Item frames) (drop at bytes) ≡ moves (begin_calls found) (drop (at + 1) bytes) (state_behind found frames) =
+      ap (λ x. item_step x frames) (bytes_at bytes at l) ∙ m.moves (drop (at + 1) bytes) (head_of (get_or bytes at 0 ∷ drop (at + 1) bytes)) frames in
+      one_step e;
+  stands = m.stands;
+  later = omega arith;
+  within = omega arith;
+}
+
+-- a first byte that is no mark begins a head
+unmarked_step : (bytes : List ℕ) (at : ℕ) (frames : List Frame) → at < length bytes → mark_of (get_or bytes at 0) ≡ None → step (Item frames) (drop at bytes) ≡ head_step (head_of (drop at bytes)) frames
+unmarked_step bytes at frames l e =
+    let here = bytes_at bytes at l in
+    ap (λ x. item_step x frames) here ∙ ap (λ o. first_step o (drop (at + 1) bytes) (head_of (get_or bytes at 0 ∷ drop (at + 1) bytes)) frames) e ∙ ap (λ x. head_step (head_of x) frames) (sym here)
+
+pub headed_begins : (bytes : List ℕ) (at : ℕ) (place : Place) (h : made_head.Head) (begun : Begun) → at < length bytes → mark_of (get_or bytes at 0) ≡ None → (at < h.next) × IsHead bytes at h (head_of (drop at bytes))
+    → BeginsBehind bytes h place begun → Begins bytes at place begun
+headed_begins bytes at place h begun l e (later, (is, before, within)) b = record {
+  leads = λ frames made. b.leads frames (drop at bytes) made (unmarked_step bytes at frames l e ∙ ap (λ x. head_step x frames) is);
+  stands = b.stands;
+  later = let k = b.later in omega arith;
+  within = b.within;
+}
+
+pub headed_begins_nothing : (bytes : List ℕ) (at : ℕ) (h : made_head.Head) → at < length bytes → mark_of (get_or bytes at 0) ≡ None → (at < h.next) × IsHead bytes at h (head_of (drop at bytes))
+    → BeginsNothingBehind bytes h → BeginsNothing bytes at
+headed_begins_nothing bytes at h l e (later, (is, before, within)) b frames made = b frames (drop at bytes) made (unmarked_step bytes at frames l e ∙ ap (λ x. head_step x frames) is)
+
+pub no_head_begins_nothing : (bytes : List ℕ) (at : ℕ) → at < length bytes → mark_of (get_or bytes at 0) ≡ None → head_of (drop at bytes) ≡ None → BeginsNothing bytes at
+no_head_begins_nothing bytes at l e h frames made = no_item_step (unmarked_step bytes at frames l e ∙ ap (λ x. head_step x frames) h)
+
+pub end_begins_nothing : (bytes : List ℕ) (at : ℕ) → length bytes ≤ at → BeginsNothing bytes at
+end_begins_nothing bytes at l frames made = no_item_step (ap (λ x. item_step x frames) (nothing_at bytes at l))
+
+-- no other byte is a mark
+pub no_mark : (first : ℕ) → first ≢ 0x5f → first ≢ 0x7f → first ≢ 0x9f → first ≢ 0xbf → first ≢ 0xf4 → first ≢ 0xf5 → first ≢ 0xf6 → mark_of first ≡ None
+no_mark first a b c d e f g =
+    let is_a : (first == 0x5f) ≡ false = grind (arith, nat_tests) in
+    let is_b : (first == 0x7f) ≡ false = grind (arith, nat_tests) in
+    let is_c : (first == 0x9f) ≡ false = grind (arith, nat_tests) in
+    let is_d : (first == 0xbf) ≡ false = grind (arith, nat_tests) in
+    let is_e : (first == 0xf4) ≡ false = grind (arith, nat_tests) in
+    let is_f : (first == 0xf5) ≡ false = grind (arith, nat_tests) in
+    let is_g : (first == 0xf6) ≡ false = grind (arith, nat_tests) in
+    rw (is_a, is_b, is_c, is_d, is_e, is_f, is_g) refl
+
+-- ---- by the major type
+
+-- a byte string behind its head
+pub binary_begins : (bytes : List ℕ) (h : made_head.Head) (place : Place) (found : made_item.Item) (content : List ℕ) (next : ℕ) → h.major ≡ 2 → IsBehind bytes h content next
+    → begin_calls found ≡ string_calls 2 (length content) content → ((frames : List Frame) → state_behind found frames ≡ Ended frames) → StandsIn place found → BeginsBehind bytes h place (record { item = found; next = next })
+binary_begins bytes h place found content next m b calls ends s =
+    let after = drop h.next bytes in
+    let fits : h.number ≤ length after = let n = b.next_is in let w = b.within in omega (arith, length-drop h.next bytes) in
+    let rest : drop next bytes ≡ drop h.number after = ap (λ n. drop n bytes) b.next_is ∙ sym (drop-drop h.number h.next bytes) in
+    begins_behind bytes h place found next
+    (λ frames. major_is h 2 after frames m ∙ string_goes_behind 2 h.number after content (drop next bytes) frames fits refl b.content_is rest
+    ∙ ap (λ x. moves x (drop next bytes) (Ended frames)) (sym calls) ∙ ap (λ x. moves (begin_calls found) (drop next bytes) x) (sym (ends frames)))
+    s (let n = b.next_is in omega arith) b.within
+
+-- a text behind its head
+pub text_begins : (bytes : List ℕ) (h : made_head.Head) (place : Place) (found : made_item.Item) (content : List ℕ) (next : ℕ) → h.major ≡ 3 → IsBehind bytes h content next → IsUtf8 content
+    → begin_calls found ≡ string_calls 3 (length content) content → ((frames : List Frame) → state_behind found frames ≡ Ended frames) → StandsIn place found → BeginsBehind bytes h place (record { item = found; next = next })
+text_begins bytes h place found content next m b u calls ends s =
+    let after = drop h.next bytes in
+    let fits : h.number ≤ length after = let n = b.next_is in let w = b.within in omega (arith, length-drop h.next bytes) in
+    let rest : drop next bytes ≡ drop h.number after = ap (λ n. drop n bytes) b.next_is ∙ sym (drop-drop h.number h.next bytes) in
+    let utf8 : IsTrue (is_piece 3 (take h.number after)) = subst (λ x. IsTrue (is_piece 3 x)) b.content_is (is_utf8-from_IsUtf8 content u) in
+    begins_behind bytes h place found next
+    (λ frames. major_is h 3 after frames m ∙ string_goes_behind 3 h.number after content (drop next bytes) frames fits utf8 b.content_is rest
+    ∙ ap (λ x. moves x (drop next bytes) (Ended frames)) (sym calls) ∙ ap (λ x. moves (begin_calls found) (drop next bytes) x) (sym (ends frames)))
+    s (let n = b.next_is in omega arith) b.within
+
+pub no_binary : (bytes : List ℕ) (h : made_head.Head) → h.major ≡ 2 → h.next ≤ length bytes → length bytes < h.next + h.number → BeginsNothingBehind bytes h
+no_binary bytes h m w l = begins_nothing_behind bytes h (λ frames. major_is h 2 (drop h.next bytes) frames m ∙ no_string_step 2 h.number (drop h.next bytes) frames (λ k u. omega (arith, length-drop h.next bytes)))
+
+pub no_text : (bytes : List ℕ) (h : made_head.Head) → h.major ≡ 3 → h.next ≤ length bytes → (h.next + h.number ≤ length bytes → IsUtf8 (take h.number (drop h.next bytes)) → ⊥) → BeginsNothingBehind bytes h
+no_text bytes h m w n =
+    begins_nothing_behind bytes h
+    (λ frames. major_is h 3 (drop h.next bytes) frames m
+    ∙ no_string_step 3 h.number (drop h.next bytes) frames (λ k u. n (omega (arith, length-drop h.next bytes)) (IsUtf8-from_is_utf8 (take h.number (drop h.next bytes)) u)))
+
+-- a tag that is passed over
+pub tag_begins : (bytes : List ℕ) (h : made_head.Head) (place : Place) → h.major ≡ 6 → h.number ≢ 2 → h.number ≢ 3 → h.next ≤ length bytes → BeginsBehind bytes h place (record { item = item.Tag; next = h.next })
+tag_begins bytes h place m a b w =
+    begins_behind bytes h place item.Tag h.next (λ frames. major_is h 6 (drop h.next bytes) frames m ∙ other_tag h.number (drop h.next bytes) frames a b) tt (omega arith) w
+
+-- the move of a tag for numbers
+number_move : (tag : ℕ) (h : made_head.Head) (after : List ℕ) (frames : List Frame) → h.major ≡ 6 → h.number ≡ tag → (tag_step tag after frames ≡ moves [] after (Bignum tag frames))
+    → body_step h.major h.number after frames ≡ moves [] after (Bignum tag frames)
+number_move tag h after frames m n e = major_is h 6 after frames m ∙ ap (λ k. body_step 6 k after frames) n ∙ e
+
+pub number_begins : (tag : ℕ) (bytes : List ℕ) (h : made_head.Head) (place : Place) (n : made_node.Node) (bignum : MadeBignum) → h.major ≡ 6 → h.number ≡ tag
+    → ((after : List ℕ) (frames : List Frame) → tag_step tag after frames ≡ moves [] after (Bignum tag frames)) → (number : IsNumberAt bytes h.next bignum) → fits tag number.content ≡ true
+    → IsWhole place (number_call tag number.content ∷ []) n → BeginsBehind bytes h place (record { item = item.Whole n; next = bignum.next })
+number_begins tag bytes h place n bignum m k e number f w = record {
+  leads = λ frames left made step_is.
+      subst (λ x. Steps (spot (Item frames) left made) (spot (Ended frames) (drop bignum.next bytes) (made ++ x))) (sym w.own)
+      (number_leads tag frames (body_step h.major h.number (drop h.next bytes) frames) number.stands f (number_move tag h (drop h.next bytes) frames m k (e (drop h.next bytes) frames)) left made step_is);
+  stands = record { begins = w.begins; own = refl; ends = w.ends };
+  later = let l = number.later in omega arith;
+  within = number.within;
+}
+
+pub no_number : (tag : ℕ) (bytes : List ℕ) (h : made_head.Head) → h.major ≡ 6 → h.number ≡ tag → ((after : List ℕ) (frames : List Frame) → tag_step tag after frames ≡ moves [] after (Bignum tag frames))
+    → ((content rest : List ℕ) → IsByteString (drop h.next bytes) content rest → fits tag content ≡ true → ⊥) → BeginsNothingBehind bytes h
+no_number tag bytes h m k e n frames left made step_is =
+    number_lacks tag (drop h.next bytes) frames (body_step h.major h.number (drop h.next bytes) frames) n (number_move tag h (drop h.next bytes) frames m k (e (drop h.next bytes) frames)) left made step_is
+
+-- there are no items with other major types
+pub no_major : (h : made_head.Head) (after : List ℕ) (frames : List Frame) → h.major ≢ 0 → h.major ≢ 1 → h.major ≢ 2 → h.major ≢ 3 → h.major ≢ 4 → h.major ≢ 5 → h.major ≢ 6 → body_step h.major h.number after frames ≡ None
+no_major h after frames a b c d e f g =
+    let is_a : (h.major == 0) ≡ false = grind (arith, nat_tests) in
+    let is_b : (h.major == 1) ≡ false = grind (arith, nat_tests) in
+    let is_c : (h.major == 2) ≡ false = grind (arith, nat_tests) in
+    let is_d : (h.major == 3) ≡ false = grind (arith, nat_tests) in
+    let is_e : (h.major == 4) ≡ false = grind (arith, nat_tests) in
+    let is_f : (h.major == 5) ≡ false = grind (arith, nat_tests) in
+    let is_g : (h.major == 6) ≡ false = grind (arith, nat_tests) in
+    rw (is_a, is_b, is_c, is_d, is_e, is_f, is_g) refl
+
+-- a byte string is one number
+pub same_number : {bytes content rest other last : List ℕ} → IsByteString bytes content rest → IsByteString bytes other last → big_endian content ≡ big_endian other
+same_number s t = ap big_endian (one_byte_string s t).0

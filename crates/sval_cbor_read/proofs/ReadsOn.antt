@@ -1,0 +1,241 @@
+-- The reader of the code goes on as the steps do.
+use Rattle.std.specs.Prelude.{◌≡◌, ◌≢◌, ℕ, ◌+◌, ◌<◌, ◌≤◌, true, false, List, [], ◌∷◌, ◌++◌, length, drop, get_or, Option, None, refl}
+use Rattle.std.proofs.Common.{sym, ap, ◌∙◌, subst, arith, append-nil, length-append}
+use Rattle.sval_label.specs.Calls.{Call}
+use Rattle.sval_label.specs.Calls as calls
+use Rattle.sval_cbor_read.specs.declared.node.Node as made_node
+use Rattle.sval_cbor_read.specs.declared.item.Item as made_item
+use Rattle.sval_cbor_read.specs.declared.item.Item.TheVariants as item
+use Rattle.sval_cbor_read.specs.declared.item.Medium as made_medium
+use Rattle.sval_cbor_read.specs.declared.item.Medium.TheVariants as media
+use Rattle.sval_cbor_read.specs.declared.item.Begun.{Begun}
+use Rattle.sval_cbor_read.specs.declared.part.NextPart.TheVariants.{Another, End, Nothing}
+use Rattle.sval_cbor_read.specs.declared.reader.Expected as made_expected
+use Rattle.sval_cbor_read.specs.declared.reader.Expected.TheVariants as expected
+use Rattle.sval_cbor_read.specs.declared.reader.Reader.{Reader}
+use Rattle.sval_cbor_read.specs.declared.node.Place.{Place}
+use Rattle.sval_cbor_read.specs.Items.{ArePieces}
+use Rattle.sval_cbor_read.specs.Reading.{Frame, Items, Keys, State, Item, Part, Ended, Pieces, moves, part_step, fragment, string_end, piece_step, step}
+use Rattle.sval_cbor_read.specs.Steps.{Spot, spot, Steps, one_step, IsStuck, Makes}
+use Rattle.sval_cbor_read.specs.SeenNodes.{begins_before, own_calls, ends_behind, place_begins, place_ends, streamed}
+use Rattle.sval_cbor_read.specs.SeenFrames.{frame_of, around, changed, place_in}
+use Rattle.sval_cbor_read.specs.SeenItems.{state_behind, begin_calls, StandsIn, Begins, BeginsNothing, major_of}
+use Rattle.sval_cbor_read.specs.SeenParts.{Follows}
+use Rattle.sval_cbor_read.specs.SeenReader.{state_of, calls_before, spot_of, Adds, expected_after, opened_after, EndsItem, BeginsPart, KeepsItem, Keeps, end_of, ReadsOn}
+use Rattle.sval_cbor_read.proofs.KeptNodes.{own_some, with_made, begins_with, ends_with}
+use Rattle.sval_cbor_read.specs.SeenStrings.{IsStringAt, HasNoString}
+use Rattle.sval_cbor_read.proofs.Bignums.{bytes_at, nothing_at, no_pieces_left, no_first_piece}
+use Rattle.sval_cbor_read.proofs.Strings.{piece_read}
+use Rattle.sval_cbor_read.proofs.Sound.{pieces_need}
+use Rattle.sval_cbor_read.proofs.Complete.{item_is_read}
+use Rattle.sval_cbor_read.proofs.OneReading.{reads_after, stops_badly}
+
+-- ---- spots
+
+-- the spot of a reader by its fields
+pub spot_is : (bytes : List ℕ) (reader : Reader) (expects : made_expected.Expected) (frames : List Frame) (at : ℕ) (nodes : List made_node.Node) → reader.expected ≡ expects → reader.opened ≡ frames → reader.at ≡ at
+    → reader.nodes.items ≡ nodes → spot_of bytes reader ≡ spot (state_of expects frames) (drop at bytes) (streamed nodes ++ calls_before expects frames)
+spot_is bytes reader expects frames at nodes e o a n = rw (e, o, a, n) refl
+
+-- steps up to a reader, by its fields
+pub to_spot : {first : Spot} (bytes : List ℕ) (reader : Reader) (expects : made_expected.Expected) (frames : List Frame) (at : ℕ) (nodes : List made_node.Node) → reader.expected ≡ expects → reader.opened ≡ frames → reader.at ≡ at
+    → reader.nodes.items ≡ nodes → Steps first (spot (state_of expects frames) (drop at bytes) (streamed nodes ++ calls_before expects frames)) → Steps first (spot_of bytes reader)
+to_spot {first = first} bytes reader expects frames at nodes e o a n s = subst (Steps first) (sym (spot_is bytes reader expects frames at nodes e o a n)) s
+
+-- steps from a reader on, by its fields
+pub from_spot : {last : Spot} (bytes : List ℕ) (reader : Reader) (expects : made_expected.Expected) → reader.expected ≡ expects
+    → Steps (spot (state_of expects reader.opened) (drop reader.at bytes) (streamed reader.nodes.items ++ calls_before expects reader.opened)) last → Steps (spot_of bytes reader) last
+from_spot {last = last} bytes reader expects e s = subst (λ x. Steps x last) (sym (spot_is bytes reader expects reader.opened reader.at reader.nodes.items e refl refl refl)) s
+
+pub stuck_at : (bytes : List ℕ) (reader : Reader) (expects : made_expected.Expected) → reader.expected ≡ expects
+    → IsStuck (spot (state_of expects reader.opened) (drop reader.at bytes) (streamed reader.nodes.items ++ calls_before expects reader.opened)) → IsStuck (spot_of bytes reader)
+stuck_at bytes reader expects e s = subst IsStuck (sym (spot_is bytes reader expects reader.opened reader.at reader.nodes.items e refl refl refl)) s
+
+pub makes_at : (bytes : List ℕ) (reader : Reader) (expects : made_expected.Expected) → reader.expected ≡ expects
+    → Makes (spot (state_of expects reader.opened) (drop reader.at bytes) (streamed reader.nodes.items ++ calls_before expects reader.opened)) → Makes (spot_of bytes reader)
+makes_at bytes reader expects e s = subst Makes (sym (spot_is bytes reader expects reader.opened reader.at reader.nodes.items e refl refl refl)) s
+
+-- where calls were made
+pub makes_calls : {first : Spot} (state : State) (left : List ℕ) (made calls : List Call) → Steps first (spot state left (made ++ calls)) → 0 < length calls → Makes first
+makes_calls state left made calls s l = record { second = spot state left (made ++ calls); steps = s; some = omega (arith, length-append made calls) }
+
+-- ---- items
+
+module _ (bytes : List ℕ) (old new : Reader) (at : ℕ) {first : Spot} where
+  kept : (begun : made_item.Item) → StandsIn (place_in old.opened) begun → old.expected ≡ expected.AnItem
+      → Steps first (spot (state_behind begun old.opened) (drop at bytes) (streamed old.nodes.items ++ place_begins (place_in old.opened) ++ begin_calls begun)) → KeepsItem old begun at new
+      → Steps first (spot_of bytes new)
+  kept (item.Whole n) w e s k =
+      to_spot bytes new (expected_after old.opened) (opened_after old.opened) at (old.nodes.items ++ (n ∷ [])) k.expected_is k.opened_is k.at_is k.nodes_are
+      (ends_with old.opened old.nodes.items n (place_begins (place_in old.opened)) w.begins w.ends s)
+  kept (item.Container n frame) b e s k =
+      to_spot bytes new expected.APart (frame_of frame ∷ old.opened) at (old.nodes.items ++ (n ∷ [])) k.expected_is k.opened_is k.at_is k.nodes_are
+      (begins_with old.nodes.items n (place_begins (place_in old.opened)) b.begins b.ends s)
+  kept (item.Pieces n medium) b e s k =
+      to_spot bytes new (expected.APiece medium) old.opened at (old.nodes.items ++ (n ∷ [])) k.expected_is k.opened_is k.at_is k.nodes_are
+      (begins_with old.nodes.items n (place_begins (place_in old.opened)) b.begins b.ends s)
+  kept item.Tag b e s k =
+      to_spot bytes new expected.AnItem old.opened at old.nodes.items (k.expected_is ∙ e) k.opened_is k.at_is k.nodes_are
+      (with_made (append-nil (streamed old.nodes.items ++ place_begins (place_in old.opened))) s)
+
+-- the begin of an item
+pub item_goes_on : (bytes : List ℕ) (old new : Reader) (begun : Begun) → old.expected ≡ expected.AnItem → Begins bytes old.at (place_in old.opened) begun → Keeps old begun new → ReadsOn bytes old new true
+item_goes_on bytes old new begun e b k = record {
+  goes =
+      from_spot bytes old expected.AnItem e
+      (kept bytes old new begun.next begun.item b.stands e (b.leads old.opened (streamed old.nodes.items ++ place_begins (place_in old.opened))) k);
+  within = let w = b.within in at_kept begun.item k w;
+}
+  where
+    at_kept : (begun_item : made_item.Item) → KeepsItem old begun_item begun.next new → begun.next ≤ length bytes → new.at ≤ length bytes
+    at_kept (item.Whole n) k w = let a = k.at_is in omega arith
+    at_kept (item.Container n frame) k w = let a = k.at_is in omega arith
+    at_kept (item.Pieces n medium) k w = let a = k.at_is in omega arith
+    at_kept item.Tag k w = let a = k.at_is in omega arith
+
+pub item_stuck : (bytes : List ℕ) (old new : Reader) → old.expected ≡ expected.AnItem → old.at ≤ length bytes → new ≡ old → BeginsNothing bytes old.at → ReadsOn bytes old new false
+item_stuck bytes old new e w same b = record {
+  goes = stuck_at bytes old expected.AnItem e (b old.opened (streamed old.nodes.items ++ place_begins (place_in old.opened)));
+  within = subst (λ r. r.at ≤ length bytes) (sym same) w;
+}
+
+pub item_makes : (bytes : List ℕ) (old : Reader) (begun : Begun) → old.expected ≡ expected.AnItem → Begins bytes old.at (place_in old.opened) begun → 0 < length (begin_calls begun.item) → Makes (spot_of bytes old)
+item_makes bytes old begun e b l =
+    makes_at bytes old expected.AnItem e (makes_calls (state_behind begun.item old.opened) (drop begun.next bytes) (streamed old.nodes.items ++ place_begins (place_in old.opened)) (begin_calls begun.item)
+    (b.leads old.opened (streamed old.nodes.items ++ place_begins (place_in old.opened))) l)
+
+-- ---- parts of arrays and maps
+
+module _ (bytes : List ℕ) (old : Reader) (is : old.expected ≡ expected.APart) where
+  -- the next part begins
+  pub part_begins : (new : Reader) (frame next : Frame) (rest : List Frame) → old.opened ≡ frame ∷ rest
+      → part_step (drop old.at bytes) (frame ∷ rest) ≡ moves (place_begins (place_in (next ∷ rest))) (drop old.at bytes) (Item (next ∷ rest)) → old.at ≤ length bytes → BeginsPart old next new → ReadsOn bytes old new true
+  part_begins new frame next rest o e w k = record {
+    goes =
+        from_spot bytes old expected.APart is
+        (to_spot bytes new expected.AnItem (next ∷ rest) old.at old.nodes.items k.expected_is (k.opened_is ∙ ap (changed next) o) k.at_is k.nodes_are
+        (with_made (ap (λ x. x ++ place_begins (place_in (next ∷ rest))) (append-nil (streamed old.nodes.items))) (one_step (ap (part_step (drop old.at bytes)) o ∙ e))));
+    within = let a = k.at_is in omega arith;
+  }
+
+  -- the array or map ends with this node
+  pub part_ends : (new : Reader) (n : made_node.Node) (next : ℕ) → part_step (drop old.at bytes) old.opened ≡ moves (own_calls n) (drop next bytes) (Ended (around old.opened)) → begins_before n ≡ []
+      → ends_behind n ≡ place_ends (place_in (around old.opened)) → next ≤ length bytes → EndsItem (around old.opened) old n next new → ReadsOn bytes old new true
+  part_ends new n next e b f w k = record {
+    goes =
+        from_spot bytes old expected.APart is
+        (to_spot bytes new (expected_after (around old.opened)) (opened_after (around old.opened)) next (old.nodes.items ++ (n ∷ [])) k.expected_is k.opened_is k.at_is k.nodes_are
+        (ends_with (around old.opened) old.nodes.items n [] b f (one_step e)));
+    within = let a = k.at_is in omega arith;
+  }
+
+  pub part_makes : (n : made_node.Node) (next : ℕ) → part_step (drop old.at bytes) old.opened ≡ moves (own_calls n) (drop next bytes) (Ended (around old.opened)) → Makes (spot_of bytes old)
+  part_makes n next e = makes_at bytes old expected.APart is (makes_calls (Ended (around old.opened)) (drop next bytes) (streamed old.nodes.items ++ []) (own_calls n) (one_step e) (own_some n))
+
+  pub part_stuck : part_step (drop old.at bytes) old.opened ≡ None → old.at ≤ length bytes → ReadsOn bytes old old false
+  part_stuck e w = record {
+    goes = stuck_at bytes old expected.APart is (λ start reached tree is_item. stops_badly start (drop old.at bytes) (Part old.opened) (streamed old.nodes.items ++ []) reached e (λ end. let f = end.0 in cc f) tree is_item);
+    within = w;
+  }
+
+-- what follows in an array
+pub seq_ends : (left : Option ℕ) (bytes : List ℕ) (at next : ℕ) (frames rest : List Frame) → frames ≡ Items left ∷ rest → Follows left bytes at (End next)
+    → part_step (drop at bytes) frames ≡ moves (Call.End calls.Seq ∷ []) (drop next bytes) (Ended (around frames))
+seq_ends left bytes at next frames rest o (f, l, k) =
+    ap (part_step (drop at bytes)) o ∙ f (λ more. moves (Call.PartBegin calls.Item ∷ []) (drop at bytes) (Item (Items more ∷ rest))) (λ after. moves (Call.End calls.Seq ∷ []) after (Ended rest))
+    ∙ ap (λ x. moves (Call.End calls.Seq ∷ []) (drop next bytes) (Ended (around x))) (sym o)
+
+pub seq_stuck : (left : Option ℕ) (bytes : List ℕ) (at : ℕ) (frames rest : List Frame) → frames ≡ Items left ∷ rest → Follows left bytes at Nothing → part_step (drop at bytes) frames ≡ None
+seq_stuck left bytes at frames rest o f =
+    ap (part_step (drop at bytes)) o ∙ f (moves (Call.End calls.Seq ∷ []) (drop at bytes) (Ended rest)) (λ more. moves (Call.PartBegin calls.Item ∷ []) (drop at bytes) (Item (Items more ∷ rest))) (λ after. moves (Call.End calls.Seq ∷ []) after (Ended rest))
+
+pub seq_begins : (left more : Option ℕ) (bytes : List ℕ) (at : ℕ) (rest : List Frame) → Follows left bytes at (Another more)
+    → part_step (drop at bytes) (Items left ∷ rest) ≡ moves (place_begins (place_in (Items more ∷ rest))) (drop at bytes) (Item (Items more ∷ rest))
+seq_begins left more bytes at rest f =
+    f (moves (Call.End calls.Seq ∷ []) (drop at bytes) (Ended rest)) (λ more. moves (Call.PartBegin calls.Item ∷ []) (drop at bytes) (Item (Items more ∷ rest))) (λ after. moves (Call.End calls.Seq ∷ []) after (Ended rest))
+
+-- what follows in a map
+pub map_ends : (left : Option ℕ) (bytes : List ℕ) (at next : ℕ) (frames rest : List Frame) → frames ≡ Keys left ∷ rest → Follows left bytes at (End next)
+    → part_step (drop at bytes) frames ≡ moves (Call.End calls.Map ∷ []) (drop next bytes) (Ended (around frames))
+map_ends left bytes at next frames rest o (f, l, k) =
+    ap (part_step (drop at bytes)) o ∙ f (λ more. moves (Call.PartBegin calls.Key ∷ []) (drop at bytes) (Item (Keys more ∷ rest))) (λ after. moves (Call.End calls.Map ∷ []) after (Ended rest))
+    ∙ ap (λ x. moves (Call.End calls.Map ∷ []) (drop next bytes) (Ended (around x))) (sym o)
+
+pub map_stuck : (left : Option ℕ) (bytes : List ℕ) (at : ℕ) (frames rest : List Frame) → frames ≡ Keys left ∷ rest → Follows left bytes at Nothing → part_step (drop at bytes) frames ≡ None
+map_stuck left bytes at frames rest o f =
+    ap (part_step (drop at bytes)) o ∙ f (moves (Call.End calls.Map ∷ []) (drop at bytes) (Ended rest)) (λ more. moves (Call.PartBegin calls.Key ∷ []) (drop at bytes) (Item (Keys more ∷ rest))) (λ after. moves (Call.End calls.Map ∷ []) after (Ended rest))
+
+pub map_begins : (left more : Option ℕ) (bytes : List ℕ) (at : ℕ) (rest : List Frame) → Follows left bytes at (Another more)
+    → part_step (drop at bytes) (Keys left ∷ rest) ≡ moves (place_begins (place_in (Keys more ∷ rest))) (drop at bytes) (Item (Keys more ∷ rest))
+map_begins left more bytes at rest f =
+    f (moves (Call.End calls.Map ∷ []) (drop at bytes) (Ended rest)) (λ more. moves (Call.PartBegin calls.Key ∷ []) (drop at bytes) (Item (Keys more ∷ rest))) (λ after. moves (Call.End calls.Map ∷ []) after (Ended rest))
+
+-- ---- strings in pieces
+
+module _ (bytes : List ℕ) (old : Reader) (medium : made_medium.Medium) (is : old.expected ≡ expected.APiece medium) where
+  -- a piece
+  pub piece_goes_on : (new : Reader) (n : made_node.Node) (content : List ℕ) (next : ℕ) → IsStringAt (major_of medium) bytes old.at content next → own_calls n ≡ fragment (major_of medium) content ∷ [] → begins_before n ≡ []
+      → ends_behind n ≡ [] → Adds old n next (expected.APiece medium) new → ReadsOn bytes old new true
+  piece_goes_on new n content next s own b f k =
+      let e : step (Pieces (major_of medium) old.opened) (drop old.at bytes) ≡ moves (own_calls n) (drop next bytes) (Pieces (major_of medium) old.opened) =
+      piece_read (major_of medium) (drop old.at bytes) content (drop next bytes) old.opened s.stands ∙ ap (λ x. moves x (drop next bytes) (Pieces (major_of medium) old.opened)) (sym own) in
+      record {
+        goes =
+            from_spot bytes old (expected.APiece medium) is
+            (to_spot bytes new (expected.APiece medium) old.opened next (old.nodes.items ++ (n ∷ [])) k.expected_is k.opened_is k.at_is k.nodes_are (begins_with old.nodes.items n [] b f (one_step e)));
+        within = let a = k.at_is in let w = s.within in omega arith;
+      }
+
+  pub piece_makes : (n : made_node.Node) (content : List ℕ) (next : ℕ) → IsStringAt (major_of medium) bytes old.at content next → own_calls n ≡ fragment (major_of medium) content ∷ [] → Makes (spot_of bytes old)
+  piece_makes n content next s own =
+      let e : step (Pieces (major_of medium) old.opened) (drop old.at bytes) ≡ moves (own_calls n) (drop next bytes) (Pieces (major_of medium) old.opened) =
+      piece_read (major_of medium) (drop old.at bytes) content (drop next bytes) old.opened s.stands ∙ ap (λ x. moves x (drop next bytes) (Pieces (major_of medium) old.opened)) (sym own) in
+      makes_at bytes old (expected.APiece medium) is (makes_calls (Pieces (major_of medium) old.opened) (drop next bytes) (streamed old.nodes.items ++ []) (own_calls n) (one_step e) (own_some n))
+
+  -- the break
+  break_is : (place : Place) → old.at < length bytes → get_or bytes old.at 0 ≡ 255
+      → step (Pieces (major_of medium) old.opened) (drop old.at bytes) ≡ moves (own_calls (end_of medium place)) (drop (old.at + 1) bytes) (Ended old.opened)
+  break_is place l e =
+      ap (λ x. piece_step (major_of medium) x old.opened) (bytes_at bytes old.at l ∙ ap (λ x. x ∷ drop (old.at + 1) bytes) e)
+      ∙ ap (λ x. moves x (drop (old.at + 1) bytes) (Ended old.opened)) (end_calls medium place)
+    where
+      end_calls : (m : made_medium.Medium) (place : Place) → string_end (major_of m) ∷ [] ≡ own_calls (end_of m place)
+      end_calls media.Text place = refl
+      end_calls media.Binary place = refl
+
+  pub pieces_end_with : (new : Reader) → old.at < length bytes → get_or bytes old.at 0 ≡ 255 → EndsItem old.opened old (end_of medium (place_in old.opened)) (old.at + 1) new → ReadsOn bytes old new true
+  pieces_end_with new l e k = record {
+    goes =
+        from_spot bytes old (expected.APiece medium) is
+        (to_spot bytes new (expected_after old.opened) (opened_after old.opened) (old.at + 1) (old.nodes.items ++ (end_of medium (place_in old.opened) ∷ [])) k.expected_is k.opened_is k.at_is k.nodes_are
+        (ends_with old.opened old.nodes.items (end_of medium (place_in old.opened)) [] (no_begin medium (place_in old.opened)) (an_end medium (place_in old.opened)) (one_step (break_is (place_in old.opened) l e))));
+    within = let a = k.at_is in omega arith;
+  }
+    where
+      no_begin : (m : made_medium.Medium) (place : Place) → begins_before (end_of m place) ≡ []
+      no_begin media.Text place = refl
+      no_begin media.Binary place = refl
+
+      an_end : (m : made_medium.Medium) (place : Place) → ends_behind (end_of m place) ≡ place_ends place
+      an_end media.Text place = refl
+      an_end media.Binary place = refl
+
+  pub pieces_end_makes : old.at < length bytes → get_or bytes old.at 0 ≡ 255 → Makes (spot_of bytes old)
+  pieces_end_makes l e =
+      makes_at bytes old (expected.APiece medium) is
+      (makes_calls (Ended old.opened) (drop (old.at + 1) bytes) (streamed old.nodes.items ++ []) (own_calls (end_of medium (place_in old.opened))) (one_step (break_is (place_in old.opened) l e)) (own_some (end_of medium (place_in old.opened))))
+
+  -- neither
+  pieces_stuck : ((content rest : List ℕ) → ArePieces (major_of medium) (drop old.at bytes) content rest → ⊥) → old.at ≤ length bytes → ReadsOn bytes old old false
+  pieces_stuck h w = record {
+    goes =
+        stuck_at bytes old (expected.APiece medium) is
+        (λ start reached tree is_item. let (content, rest, p) = pieces_need (reads_after reached (item_is_read start tree is_item).0).1 in h content rest p);
+    within = w;
+  }
+
+  pub no_piece : old.at < length bytes → get_or bytes old.at 0 ≢ 255 → HasNoString (major_of medium) (drop old.at bytes) → ReadsOn bytes old old false
+  no_piece l n h = pieces_stuck (λ content rest p. no_first_piece (bytes_at bytes old.at l) n h p) (omega arith)
+
+  pub no_piece_left : length bytes ≤ old.at → old.at ≤ length bytes → ReadsOn bytes old old false
+  no_piece_left l w = pieces_stuck (λ content rest p. no_pieces_left (subst (λ x. ArePieces (major_of medium) x content rest) (nothing_at bytes old.at l) p)) w

@@ -1,0 +1,11 @@
+use Rattle.std.proofs.Common.{refl}
+use Rattle.sval_cbor_read.proofs.BegunItems.{text_begins, no_text}
+use Rattle.sval_cbor_read.proofs.item.text_item.Goals as goal
+
+pub returns-in-None-clause-nothing : goal.returns-in-None-clause-nothing
+returns-in-None-clause-nothing c = λ none. no_text c.args.bytes.now c.args.head c.requires.is c.requires.within (c.in-None.ensures.nothing refl)
+
+pub returns-in-Some-clause-found : goal.returns-in-Some-clause-found
+returns-in-Some-clause-found c =
+    text_begins c.args.bytes.now c.args.head c.args.place _ c.in-Some.piece.content.now c.in-Some.piece.next c.requires.is c.in-Some.ensures.found.0 c.in-Some.ensures.found.1 refl (λ frames. refl)
+    (record { begins = refl; own = refl; ends = refl })

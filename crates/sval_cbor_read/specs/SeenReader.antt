@@ -1,0 +1,110 @@
+-- What the reader of the code stands for: a spot of the bytes.
+use Rattle.std.specs.Prelude.{◌≡◌, ◌≢◌, ℕ, ◌≤◌, Bool, true, false, List, [], ◌∷◌, ◌++◌, length, drop}
+use Rattle.sval_label.specs.Calls.{Call}
+use Rattle.sval_cbor_read.specs.declared.node.Place.{Place}
+use Rattle.sval_cbor_read.specs.declared.node.Node.{Node}
+use Rattle.sval_cbor_read.specs.declared.node.Node.TheVariants as node
+use Rattle.sval_cbor_read.specs.declared.item.Medium as made_medium
+use Rattle.sval_cbor_read.specs.declared.item.Medium.TheVariants as medium
+use Rattle.sval_cbor_read.specs.declared.item.Item as made_item
+use Rattle.sval_cbor_read.specs.declared.item.Item.TheVariants as item
+use Rattle.sval_cbor_read.specs.declared.item.Begun.{Begun}
+use Rattle.sval_cbor_read.specs.declared.reader.Expected as made_expected
+use Rattle.sval_cbor_read.specs.declared.reader.Expected.TheVariants as expected
+use Rattle.sval_cbor_read.specs.declared.reader.Reader.{Reader}
+use Rattle.sval_cbor_read.specs.Reading.{Frame, Items, Keys, Values, State, Item, Part, Ended, Pieces}
+use Rattle.sval_cbor_read.specs.Steps.{Spot, spot, Goes}
+use Rattle.sval_cbor_read.specs.SeenNodes.{place_begins, streamed}
+use Rattle.sval_cbor_read.specs.SeenFrames.{frame_of, place_in, changed}
+use Rattle.sval_cbor_read.specs.SeenItems.{major_of}
+
+-- what comes next, over what is open
+abbrev pub state_of : made_expected.Expected → List Frame → State
+state_of expected.AnItem frames = Item frames
+state_of expected.APart frames = Part frames
+state_of (expected.APiece medium) frames = Pieces (major_of medium) frames
+state_of expected.Nothing frames = Ended []
+
+-- the calls that were made before an item, of which no node is kept yet
+abbrev pub calls_before : made_expected.Expected → List Frame → List Call
+calls_before expected.AnItem frames = place_begins (place_in frames)
+calls_before _ frames = []
+
+-- the spot of a reader
+abbrev pub spot_of : List ℕ → Reader → Spot
+spot_of bytes reader =
+    spot (state_of reader.expected reader.opened) (drop reader.at bytes) (streamed reader.nodes.items ++ calls_before reader.expected reader.opened)
+
+-- one node more
+pub record Adds (old : Reader) (node : Node) (next : ℕ) (expects : made_expected.Expected) (new : Reader) : Type 0 where
+  pub at_is : new.at ≡ next
+  pub expected_is : new.expected ≡ expects
+  pub opened_is : new.opened ≡ old.opened
+  pub nodes_are : new.nodes.items ≡ old.nodes.items ++ (node ∷ [])
+
+-- what comes next where an item has ended in these
+abbrev pub expected_after : List Frame → made_expected.Expected
+expected_after [] = expected.Nothing
+expected_after (Items left ∷ frames) = expected.APart
+expected_after (Keys left ∷ frames) = expected.AnItem
+expected_after (Values left ∷ frames) = expected.APart
+
+-- what is open then: behind a key its value is to come
+abbrev pub opened_after : List Frame → List Frame
+opened_after (Keys left ∷ frames) = Values left ∷ frames
+opened_after (Values left ∷ frames) = Keys left ∷ frames
+opened_after frames = frames
+
+-- the last node of an item, which has ended in these
+pub record EndsItem (frames : List Frame) (old : Reader) (node : Node) (next : ℕ) (new : Reader) : Type 0 where
+  pub at_is : new.at ≡ next
+  pub expected_is : new.expected ≡ expected_after frames
+  pub opened_is : new.opened ≡ opened_after frames
+  pub nodes_are : new.nodes.items ≡ old.nodes.items ++ (node ∷ [])
+
+-- a tag is passed over
+pub record Passes (old : Reader) (next : ℕ) (new : Reader) : Type 0 where
+  pub at_is : new.at ≡ next
+  pub expected_is : new.expected ≡ old.expected
+  pub opened_is : new.opened ≡ old.opened
+  pub nodes_are : new.nodes.items ≡ old.nodes.items
+
+-- the next part begins
+pub record BeginsPart (old : Reader) (frame : Frame) (new : Reader) : Type 0 where
+  pub at_is : new.at ≡ old.at
+  pub expected_is : new.expected ≡ expected.AnItem
+  pub opened_is : new.opened ≡ changed frame old.opened
+  pub nodes_are : new.nodes.items ≡ old.nodes.items
+
+-- an array or a map is opened
+pub record Opens (old : Reader) (node : Node) (frame : Frame) (next : ℕ) (new : Reader) : Type 0 where
+  pub at_is : new.at ≡ next
+  pub expected_is : new.expected ≡ expected.APart
+  pub opened_is : new.opened ≡ frame ∷ old.opened
+  pub nodes_are : new.nodes.items ≡ old.nodes.items ++ (node ∷ [])
+
+-- what an item begins with is kept
+abbrev pub KeepsItem : Reader → made_item.Item → ℕ → Reader → Type 0
+KeepsItem old (item.Whole node) next new = EndsItem old.opened old node next new
+KeepsItem old (item.Container node frame) next new = Opens old node (frame_of frame) next new
+KeepsItem old (item.Pieces node medium) next new = Adds old node next (expected.APiece medium) new
+KeepsItem old item.Tag next new = Passes old next new
+
+-- the same, up to the place behind it
+abbrev pub Keeps : Reader → Begun → Reader → Type 0
+Keeps old begun new = KeepsItem old begun.item begun.next new
+
+-- the end of what is in pieces, in this place
+abbrev pub end_of : made_medium.Medium → Place → Node
+end_of medium.Text place = node.EndText place
+end_of medium.Binary place = node.EndBinary place
+
+-- the reader has gone on within the bytes, or it is stuck
+pub record ReadsOn (bytes : List ℕ) (old new : Reader) (taken : Bool) : Type 0 where
+  pub goes : Goes (spot_of bytes old) (spot_of bytes new) taken
+  pub within : new.at ≤ length bytes
+
+-- nothing more is to be read, or something is
+abbrev pub HasEnded : made_expected.Expected → Bool → Type 0
+HasEnded expects true = expects ≡ expected.Nothing
+HasEnded expects false = expects ≢ expected.Nothing

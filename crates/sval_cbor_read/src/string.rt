@@ -1,0 +1,80 @@
+//! Definite strings.
+
+ghost use Rattle.std.specs.Prelude.{◌≡◌, ◌<◌, ◌≤◌, ◌+◌, List, ℕ, length, take, drop, IfSome, IsUtf8};
+ghost use Rattle.sval_cbor_read.specs.SeenStrings.{IsBehind, IsStringAt, HasNoString};
+
+use crate::head::{Head, read_head};
+use simdutf8::compat::from_utf8;
+
+/// A string, and the place behind it.
+#[derive(Clone, Copy)]
+pub(crate) struct Piece<T> {
+    pub(crate) content: T,
+    pub(crate) next: usize,
+}
+
+/// The bytes behind a head, as many as its number says.
+pub(crate) fn binary_behind(bytes: &[u8], head: Head) -> Option<Piece<&[u8]>>
+    requires { head.next ≤ length bytes.now }
+    ensures found { IfSome result (λ piece. IsBehind bytes.now head piece.content.now piece.next) }
+    ensures nothing { result ≡ None → length bytes.now < head.next + head.number }
+{
+    if head.number > (bytes.len() - head.next) as u64 {
+        return None;
+    }
+    let next = head.next + head.number as usize;
+    Some(Piece {
+        content: &bytes[head.next..next],
+        next,
+    })
+}
+
+/// The text behind a head, of as many bytes as its number says.
+pub(crate) fn text_behind(bytes: &[u8], head: Head) -> Option<Piece<&str>>
+    requires { head.next ≤ length bytes.now }
+    ensures found { IfSome result (λ piece. IsBehind bytes.now head piece.content.now piece.next × IsUtf8 piece.content.now) }
+    ensures nothing { result ≡ None → head.next + head.number ≤ length bytes.now → IsUtf8 (take head.number (drop head.next bytes.now)) → ⊥ }
+{
+    match binary_behind(bytes, head) {
+        None => None,
+        Some(piece) => match from_utf8(piece.content) {
+            Ok(content) => Some(Piece {
+                content,
+                next: piece.next,
+            }),
+            Err(_) => None,
+        },
+    }
+}
+
+/// The byte string at a place.
+pub(crate) fn binary_at(bytes: &[u8], at: usize) -> Option<Piece<&[u8]>>
+    requires { at ≤ length bytes.now }
+    ensures found { IfSome result (λ piece. IsStringAt 2 bytes.now at piece.content.now piece.next) }
+    ensures nothing { result ≡ None → HasNoString 2 (drop at bytes.now) }
+{
+    match read_head(bytes, at) {
+        None => None,
+        Some(head) => if head.major == 2 {
+            binary_behind(bytes, head)
+        } else {
+            None
+        },
+    }
+}
+
+/// The text at a place.
+pub(crate) fn text_at(bytes: &[u8], at: usize) -> Option<Piece<&str>>
+    requires { at ≤ length bytes.now }
+    ensures found { IfSome result (λ piece. IsStringAt 3 bytes.now at piece.content.now piece.next) }
+    ensures nothing { result ≡ None → HasNoString 3 (drop at bytes.now) }
+{
+    match read_head(bytes, at) {
+        None => None,
+        Some(head) => if head.major == 3 {
+            text_behind(bytes, head)
+        } else {
+            None
+        },
+    }
+}
