@@ -1,7 +1,7 @@
 //! The bytes that RFC 8949 has as malformed in its appendix F, by what is wrong with them.
 
-use crate::{CborDoc, CborReadError};
 use std::alloc::Global;
+use sval_cbor_read::{CborDoc, CborReadError};
 
 /// The input ends within a head.
 const HEADS_CUT: [&[u8]; 18] = [

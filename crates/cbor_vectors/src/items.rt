@@ -1,8 +1,8 @@
 //! Bytes, what is written of them as JSON, and which are bad.
 
-use crate::{CborDoc, CborReadError};
 use std::alloc::Global;
 use std::test::Fail;
+use sval_cbor_read::{CborDoc, CborReadError};
 use sval_check::{Token, TokenBuf};
 use sval_core::Stream;
 use sval_json::stream_to_vec;

@@ -1,8 +1,8 @@
 //! Items of many levels, for which the machine's stack has no room.
 
-use crate::CborDoc;
 use std::alloc::{AllocError, Global};
 use std::test::Fail;
+use sval_cbor_read::CborDoc;
 use sval_json::stream_to_vec;
 
 /// What a level begins with and ends with, around what is inside the innermost.
