@@ -35,6 +35,7 @@ impl Env for Process {
 }
 
 /// A process's words, its input, and the status and what is written that come of them.
+#[derive(Drop)]
 pub(crate) struct Case {
     pub(crate) words: &'static [&'static [u8]],
     pub(crate) input: &'static [u8],
