@@ -1,5 +1,5 @@
 -- The replay of captured calls has whole texts, so what is captured of a spelling is written as what its tree packs to.
-use Rattle.std.specs.Prelude.{◌≡◌, ◌+◌, List, [], ◌∷◌, ◌++◌, Some, IsTrue, refl}
+use Rattle.std.specs.Prelude.{◌≡◌, List, [], ◌∷◌, ◌++◌, Some, IsTrue, refl}
 use Rattle.std.proofs.Common.{sym, ap, ◌∙◌, subst, append_assoc}
 use Rattle.sval_label.specs.Calls.{Call}
 use Rattle.sval_label.specs.Calls as calls

@@ -10,4 +10,10 @@ pub mod WritingValues
 pub mod WritingTrees
 pub mod Captured
 pub mod OneByOne
+pub mod Bignums
+pub mod NormalForms
+pub mod Doing
+pub mod Combined
+pub mod Streaming
+pub mod Answered
 mod examples

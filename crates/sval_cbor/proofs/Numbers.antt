@@ -42,7 +42,8 @@ value_of_decimal (negsuc n) h = let e = decimal_is_IsNumeral_wide (suc n) h in a
 
 -- ---- digits without a zero in front are the decimal of their number
 
-le_value_after : (n : ℕ) (ds : List ℕ) → n ≤ digits_value_after 10 n ds
+-- what digits follow is no more than the number that all make
+pub le_value_after : (n : ℕ) (ds : List ℕ) → n ≤ digits_value_after 10 n ds
 le_value_after n [] = omega arith
 le_value_after n (c ∷ cs) = omega (arith, le_value_after (n * 10 + digit_value c) cs)
 
@@ -144,3 +145,10 @@ whole_back (c ∷ cs) n j w =
 -- what the writer's step writes for a whole number is that number's bytes
 pub integer_of_decimal : (z : ℤ) → has_128_bits z ≡ true → cbor (number (signed_decimal z)) ≡ integer z
 integer_of_decimal z h = ap integer (value_of_decimal z (short_of_128 z h))
+
+-- where the number so far and one more digit need more than 128 bits, the whole does
+pub too_large : (so_far digit : ℕ) (after rest text : List ℕ) → digits_value_after 10 so_far rest ≡ digits_value 10 text → rest ≡ digit ∷ after → 2 ^ 128 ≤ so_far * 10 + digit_value digit
+    → 2 ^ 128 ≤ digits_value 10 text
+too_large so_far digit after rest text value split large =
+    let whole : digits_value 10 text ≡ digits_value_after 10 (so_far * 10 + digit_value digit) after = sym value ∙ ap (digits_value_after 10 so_far) split in
+    omega (arith, whole, large, le_value_after (so_far * 10 + digit_value digit) after)

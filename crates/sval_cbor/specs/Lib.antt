@@ -3,3 +3,8 @@ pub mod Cbor
 pub mod Premises
 pub mod Writing
 pub mod Laws
+pub mod SeenWriter
+pub mod SeenNumber
+pub mod WriterLaw
+pub mod ErrorTexts
+pub mod Streamed

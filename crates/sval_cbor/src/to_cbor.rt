@@ -1,0 +1,156 @@
+//! Values written to a sink.
+
+ghost use Rattle.std.specs.Prelude.{◌≡◌, false, IsOk, Err};
+ghost use Rattle.sval_cbor.specs.Writing.{written};
+ghost use Rattle.sval_cbor.specs.Streamed.{StreamsCbor, IsChecked, WritesCalls, AnswersDue, IsOfValue, IsWant};
+ghost use Rattle.sval_cbor.specs.Streamed.{check_error, stop_error};
+
+use crate::error::{CborError, Refusal, Stop};
+use crate::writer::{Place, Writer};
+use std::alloc::Global;
+use sval_buffer::ValueBuf;
+use sval_check::{CheckError, check};
+use sval_core::{Lent, Value};
+use sval_json::{CountSink, Sink, SinkError};
+
+/// Streams a value to a sink as CBOR (RFC 8949).
+///
+/// On `Ok` it appended the bytes of what the tree that the value's calls spell packs to, however they cut its texts,
+/// binaries and numbers. `specs/Packs.antt` says what a tree packs to, and `specs/Cbor.antt` its bytes: texts are
+/// definite, arrays and maps end by a break, each head is as short as can be, and keys are texts. A variant of an enum
+/// with a name is a map of that name to its value. A binary is an array of its bytes as numbers.
+///
+/// The value is checked and captured in memory of `alloc`. What was captured is written twice: the first time to see that
+/// all of it can be.
+///
+/// ```
+/// let mut sink = VecSink::new(alloc);
+/// stream_to_cbor(alloc, &mut sink, &value)?;
+/// assert_eq!(rt; sink.as_slice(), b"\x9f\x01\x61a\xff".as_slice());
+/// ```
+///
+/// # Errors
+///
+/// - [`CborError::NotATree`] comes where the calls are not one whole value, as `check` of `sval_check` tells by
+///   `BadCall` and `Unfinished`.
+/// - [`CborError::Refused`] comes where all calls can be completed, and the value refuses after them.
+/// - [`CborError::Key`] comes where a key of a map is a container, a binary, a text under `JSON_VALUE` or a variant with
+///   its name.
+/// - [`CborError::Number`] comes where a text under `NUMBER` is no number.
+/// - [`CborError::Raw`] comes where a text stands under a tag that says it is JSON.
+/// - [`CborError::NotInteger`] comes where a text under `NUMBER` that is no key has a fraction or an exponent, or is not
+///   from -2^127 to 2^128-1.
+///
+/// Of the last four the first from left to right comes. These six exclude each other, leave the sink as it was, and come
+/// wherever they stand, unless memory was wanting.
+///
+/// - [`CborError::Write`] comes only where the sink's count of faults rose, and never where the sink tells room for all
+///   bytes.
+/// - [`CborError::NoMemory`] comes only where memory was wanting for the check or the capture, which leaves the sink as it
+///   was, or where the sink's count of wants rose.
+///
+/// After either the sink took a first part of the bytes. No count ever falls, and the sink isn't flushed.
+pub fn stream_to_cbor<'v, K: Sink, V: Value<'v, Lent<'v>>>(
+    alloc: Global,
+    out: &mut K,
+    v: &'v V,
+) -> Result<(), CborError>
+    ensures streams { StreamsCbor (V.emission v.now) result (K.told out.old) (K.told out.new) }
+    ensures left { IsOfValue result → out.new ≡ out.old }
+    ensures want { result ≡ Err CborError.NoMemory → IsWant K.told (V.emission v.now) out.old out.new }
+{
+    match check(alloc, v) {
+        Ok(()) => write_checked(alloc, out, v),
+        Err(why) => Err(check_error(why)),
+    }
+}
+
+/// The error that says why a value's calls were not accepted.
+fn check_error(why: CheckError) -> CborError
+    ensures { result ≡ check_error why }
+{
+    match why {
+        CheckError::BadCall { .. } | CheckError::Unfinished => CborError::NotATree,
+        CheckError::Refused => CborError::Refused,
+        CheckError::NoMemory => CborError::NoMemory,
+    }
+}
+
+/// The error that says what stopped the writer.
+fn stop_error(why: Stop) -> CborError
+    ensures { result ≡ stop_error why }
+{
+    match why {
+        Stop::Step(Refusal::Key) => CborError::Key,
+        Stop::Step(Refusal::Number) => CborError::Number,
+        Stop::Step(Refusal::Raw) => CborError::Raw,
+        Stop::Step(Refusal::NotInteger) => CborError::NotInteger,
+        Stop::Sink(SinkError::Failed) => CborError::Write,
+        Stop::Sink(SinkError::NoMemory) => CborError::NoMemory,
+    }
+}
+
+/// Streams a value whose calls are one whole value.
+fn write_checked<'v, K: Sink, V: Value<'v, Lent<'v>>>(
+    alloc: Global,
+    out: &mut K,
+    v: &'v V,
+) -> Result<(), CborError>
+    requires { IsChecked (V.emission v.now) }
+    ensures streams { StreamsCbor (V.emission v.now) result (K.told out.old) (K.told out.new) }
+    ensures left { IsOfValue result → out.new ≡ out.old }
+    ensures want { result ≡ Err CborError.NoMemory → IsWant K.told (V.emission v.now) out.old out.new }
+{
+    match ValueBuf::collect(alloc, v) {
+        Ok(buffer) => write_value(out, &buffer),
+        Err(_) => Err(CborError::NoMemory),
+    }
+}
+
+/// Writes a value whose texts and binaries come whole, unless a step of the writer refuses one of its calls.
+fn write_value<'v, K: Sink, V: Value<'v, Lent<'v>>>(out: &mut K, v: &'v V) -> Result<(), CborError>
+    requires { (V.emission v.now).refuses ≡ false }
+    ensures due { AnswersDue result (K.told out.old) (written (V.emission v.now).calls) (K.told out.new) }
+    ensures left { IsOfValue result → out.new ≡ out.old }
+{
+    match write_calls(&mut CountSink::new(), v) {
+        Ok(()) => write_whole(out, v),
+        Err(why) => Err(stop_error(why)),
+    }
+}
+
+/// Writes the same of a value of which no step refuses a call.
+fn write_whole<'v, K: Sink, V: Value<'v, Lent<'v>>>(out: &mut K, v: &'v V) -> Result<(), CborError>
+    requires willing { (V.emission v.now).refuses ≡ false }
+    requires whole { IsOk (written (V.emission v.now).calls) }
+    ensures due { AnswersDue result (K.told out.old) (written (V.emission v.now).calls) (K.told out.new) }
+    ensures left { IsOfValue result → out.new ≡ out.old }
+{
+    match write_calls(out, v) {
+        Ok(()) => Ok(()),
+        Err(why) => Err(stop_error(why)),
+    }
+}
+
+/// Writes the calls of a value that doesn't refuse, up to what stops the writer.
+fn write_calls<'v, K: Sink, V: Value<'v, Lent<'v>>>(out: &mut K, v: &'v V) -> Result<(), Stop>
+    requires { (V.emission v.now).refuses ≡ false }
+    ensures { WritesCalls result (written (V.emission v.now).calls) (K.told out.old) (K.told out.new) }
+{
+    let mut writer = Writer {
+        sink: out,
+        place: Place::Elsewhere,
+        in_key: false,
+        in_number: false,
+        why: None,
+    };
+    let streamed = v.stream(&mut writer);
+    let why = writer.why;
+    match streamed {
+        Ok(()) => Ok(()),
+        Err(_) => match why {
+            Some(why) => Err(why),
+            None => unreachable!("the writer stops a value that doesn't refuse"),
+        },
+    }
+}
