@@ -2,8 +2,9 @@
 
 use std::alloc::{AllocError, Global};
 use std::test::Fail;
+use sval_cbor::stream_to_cbor;
 use sval_cbor_read::CborDoc;
-use sval_json::stream_to_vec;
+use sval_json::{VecSink, stream_to_vec};
 
 /// What a level begins with and ends with, around what is inside the innermost.
 type Level<'a> = (&'a [u8], &'a [u8], &'a [u8]);
@@ -64,5 +65,24 @@ fn maps_that_a_break_ends(rt: HostRuntime) -> Result<(), Fail> {
 #[test]
 fn tags(rt: HostRuntime) -> Result<(), Fail> {
     assert!(rt; are_written_as(rt.alloc(), (b"\xc6", b"\xf6", b""), (b"", b"null", b""))?);
+    Ok(())
+}
+
+/// Levels that a break ends, which are written as they are read.
+const WRITTEN: [Level<'static>; 2] = [
+    (b"\x9f", b"\xf6", b"\xff"),
+    (b"\xbf\x61a", b"\x9f\xff", b"\xff"),
+];
+
+#[test]
+fn written_again(rt: HostRuntime) -> Result<(), Fail> {
+    let alloc = rt.alloc();
+    for level in WRITTEN {
+        let bytes = nested(alloc, level)?;
+        let doc = CborDoc::read(alloc, bytes.as_slice())?;
+        let mut sink = VecSink::new(alloc);
+        stream_to_cbor(alloc, &mut sink, &doc)?;
+        assert!(rt; sink.as_slice() == bytes.as_slice());
+    }
     Ok(())
 }

@@ -1,4 +1,5 @@
-//! Tests of the reader of CBOR by its public calls: what is read, what is malformed, and many levels.
+//! Tests of the reader and the writer of CBOR by their public calls: what is read and written, what is malformed, and
+//! many levels.
 #![tactic(auto)]
 
 #[cfg(test)]
@@ -7,3 +8,5 @@ mod depth;
 mod items;
 #[cfg(test)]
 mod malformed;
+#[cfg(test)]
+mod written;

@@ -6,8 +6,6 @@ mod head;
 mod integer;
 pub mod laws;
 mod number;
-#[cfg(test)]
-mod tests;
 mod to_cbor;
 mod writer;
 

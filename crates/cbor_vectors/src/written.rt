@@ -1,9 +1,9 @@
 //! Scripts, and the CBOR that is written of them.
 
-use crate::{CborError, stream_to_cbor};
 use std::alloc::Global;
 use std::process::Abort;
 use std::test::Fail;
+use sval_cbor::{CborError, stream_to_cbor};
 use sval_json::{FaultySink, FixedSink, VecSink};
 use sval_script::Script;
 
