@@ -9,4 +9,6 @@ mod items;
 #[cfg(test)]
 mod malformed;
 #[cfg(test)]
+mod program;
+#[cfg(test)]
 mod written;

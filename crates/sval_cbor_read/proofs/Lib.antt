@@ -16,4 +16,7 @@ pub mod KeptNodes
 pub mod ReadsOn
 pub mod NodeStreams
 pub mod Loop
+pub mod ItemTrees
+pub mod DueTexts
+pub mod RunAnswers
 mod examples

@@ -18,7 +18,7 @@ pub no_move : {m : Move} → (let o : Option Move = None in o) ≡ Some m → �
 no_move e = cc e
 
 -- what follows a head is shorter
-abbrev IsShorter : List ℕ → Option Head → Type 0
+abbrev pub IsShorter : List ℕ → Option Head → Type 0
 IsShorter bytes None = ⊤
 IsShorter bytes (Some (head major n after)) = length after < length bytes
 
@@ -29,7 +29,7 @@ wide_by false first major n width bytes = tt
 wide_shorter : (first major width : ℕ) (bytes : List ℕ) → IsShorter (first ∷ bytes) (wide_head major width bytes)
 wide_shorter first major width bytes = wide_by (nat_le width (length bytes)) first major (number_from_digits 256 (take width bytes)) width bytes
 
-head_shorter : (bytes : List ℕ) → IsShorter bytes (head_of bytes)
+pub head_shorter : (bytes : List ℕ) → IsShorter bytes (head_of bytes)
 unfolding head_of
 head_shorter [] = tt
 head_shorter (first ∷ bytes) = go (nat_lt (first % 32) 24) (first % 32 == 24) (first % 32 == 25) (first % 32 == 26) (first % 32 == 27)

@@ -12,3 +12,7 @@ pub mod SeenItems
 pub mod SeenParts
 pub mod SeenReader
 pub mod ReadErrors
+pub mod Forms
+pub mod Statuses
+pub mod Reports
+pub mod Serves

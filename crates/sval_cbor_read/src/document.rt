@@ -66,6 +66,11 @@ impl<'a> CborDoc<'a> {
             Err(error) => Err(error),
         }
     }
+
+    /// How many nodes are kept of the bytes.
+    pub(crate) fn node_count(&self) -> usize {
+        self.nodes.len()
+    }
 }
 
 /// Reads the nodes of an item, step by step.

@@ -1,0 +1,209 @@
+//! The whole program, over any words and devices.
+
+ghost use Rattle.std.specs.Prelude.{◌≡◌, ◌⊎◌, ◌<◌, ◌≤◌, ◌^◌, ◌↔◌, ℕ, List, true, None, length};
+ghost use Rattle.sval_core.specs.Law.{Rose};
+ghost use Rattle.sval_json.specs.Sinks.{HoldsNothing, IsSteady, NoCountFell};
+ghost use Rattle.sval_program.specs.Inputs.{OnShort, OnLong, IsSpent, IsTooLong};
+ghost use Rattle.sval_program.specs.Outputs.{Grows, IsOwnWant};
+ghost use Rattle.sval_cbor_read.specs.Forms.{form_of, OnAsked};
+ghost use Rattle.sval_cbor_read.specs.ReadErrors.{IsRead};
+ghost use Rattle.sval_cbor_read.specs.Reports.{Reports};
+ghost use Rattle.sval_cbor_read.specs.Serves.{IsInMemory, IsNoItem, WritesDue, WritesUpToKey, MayLeave, WritesDocument, ServesBytes, ServesInput, Serves};
+ghost use Rattle.sval_cbor_read.specs.Statuses.{is_status, is_unwritten, is_read, IsStatusDue};
+
+use crate::document::CborDoc;
+use crate::failure::{Failure, WriteError, conclude};
+use crate::form::{Form, named_form};
+use crate::status::BAD_CBOR;
+use std::alloc::Global;
+use sval_json::{ErrorKind, Sink, SinkError, stream_to_io_write};
+use sval_program::status::{DONE, INVALID_KEY, NO_MEMORY, READ, TOO_LONG, USAGE, WRITE};
+use sval_program::{Source, print_captured, read_input};
+
+/// Writes the JSON of a document.
+fn write_json<K: Sink>(doc: &CborDoc<'_>, out: &mut K) -> Result<(), WriteError>
+    requires { (input : List ℕ) × IsRead input doc.now × IsInMemory input }
+    ensures { (input : List ℕ) → IsRead input doc.now → IsInMemory input
+        → WritesDocument K.told input Form.Json result out.old out.new }
+{
+    match stream_to_io_write(out, doc) {
+        Ok(()) => Ok(()),
+        Err(error) => match error.kind() {
+            ErrorKind::IO => Err(WriteError::Sink(SinkError::Failed)),
+            ErrorKind::NoMemory => Err(WriteError::Sink(SinkError::NoMemory)),
+            ErrorKind::InvalidKey => Err(WriteError::InvalidKey),
+            ErrorKind::InvalidNumber => unreachable!("numbers of items are numbers"),
+            ErrorKind::Generic => unreachable!("a document doesn't refuse"),
+        },
+    }
+}
+
+/// Captures a document, and prints the canonical script of what it captured.
+fn print_script<K: Sink>(alloc: Global, doc: &CborDoc<'_>, out: &mut K) -> Result<(), WriteError>
+    requires { (input : List ℕ) × IsRead input doc.now × IsInMemory input }
+    ensures { (input : List ℕ) → IsRead input doc.now → IsInMemory input
+        → WritesDocument K.told input Form.Calls result out.old out.new }
+{
+    Ok(print_captured(alloc, doc.node_count(), doc, out)?)
+}
+
+/// Writes what is asked for of a document.
+fn write_document<K: Sink>(
+    alloc: Global,
+    form: Form,
+    doc: &CborDoc<'_>,
+    out: &mut K,
+) -> Result<(), WriteError>
+    requires { (input : List ℕ) × IsRead input doc.now × IsInMemory input }
+    ensures { (input : List ℕ) → IsRead input doc.now → IsInMemory input
+        → WritesDocument K.told input form result out.old out.new }
+{
+    match form {
+        Form::Json => write_json(doc, out),
+        Form::Calls => print_script(alloc, doc, out),
+    }
+}
+
+/// Writes what is asked for of a document, and passes it on.
+fn pass_on<K: Sink>(
+    alloc: Global,
+    form: Form,
+    doc: &CborDoc<'_>,
+    out: &mut K,
+) -> Result<(), Failure>
+    requires { (input : List ℕ) × IsRead input doc.now × IsInMemory input }
+    ensures { (input : List ℕ) → IsRead input doc.now → IsInMemory input
+        → ServesBytes K.told input form result out.old out.new }
+{
+    write_document(alloc, form, doc, out)?;
+    Ok(out.flush()?)
+}
+
+/// Reads bytes, and writes what is asked for of the item that they are.
+fn serve_bytes<K: Sink>(alloc: Global, form: Form, bytes: &[u8], out: &mut K) -> Result<(), Failure>
+    requires { length bytes.now < 2 ^ 64 }
+    ensures { ServesBytes K.told bytes.now form result out.old out.new }
+{
+    match CborDoc::read(alloc, bytes) {
+        Ok(doc) => pass_on(alloc, form, &doc, out),
+        Err(error) => Err(Failure::Read(error)),
+    }
+}
+
+/// Reads the input whole, and serves its bytes.
+fn serve_input<I: Source, K: Sink>(
+    alloc: Global,
+    form: Form,
+    input: &mut I,
+    out: &mut K,
+) -> Result<(), Failure>
+    ensures { ServesInput I.told K.told form result input.old input.new out.old out.new }
+{
+    let bytes = read_input(alloc, input)?;
+    serve_bytes(alloc, form, bytes.as_slice(), out)
+}
+
+/// Serves a form.
+fn serve<I: Source, K: Sink>(
+    alloc: Global,
+    form: Option<Form>,
+    input: &mut I,
+    out: &mut K,
+) -> Result<(), Failure>
+    ensures { Serves I.told K.told form result input.old input.new out.old out.new }
+{
+    match form {
+        None => Err(Failure::Usage),
+        Some(form) => serve_input(alloc, form, input, out),
+    }
+}
+
+/// Runs the program on its words, its devices and an allocator, and answers its status, one of those of
+/// [`status`](crate::status) and of [`sval_program::status`].
+///
+/// The words are those after the program's name: one word, `json` or `calls`. The input is read to its end, at most
+/// 16,777,216 bytes and one more to see that there are too many, and as one item of CBOR (RFC 8949) in the profile of
+/// [`CborDoc::read`]. With `json` the JSON of the value that the item is is written, without white space: byte strings
+/// as arrays of numbers, keys that are numbers or truth values as texts. With `calls` the canonical script of the
+/// document's calls is written, after it was captured. Where the status isn't 0, one line is written to `diag` that says
+/// why; what `diag` answers changes nothing.
+///
+/// | status | comes |
+/// |---|---|
+/// | 0 | the input is an item, and the sink took exactly what is due of it, and holds back nothing |
+/// | 2 | the words are no form; nothing is read |
+/// | 6 | the input is an item that has no JSON, since what stands in the place of a key can't be one; the sink took exactly what is written before that; never with `calls` |
+/// | 8 | only where the output failed |
+/// | 9 | only where the input failed, and wherever its count of faults moved |
+/// | 10 | memory was wanting |
+/// | 11 | the input is longer than is kept |
+/// | 16 | the input is not one item of this profile, whole and with nothing behind it |
+///
+/// Where the words are a form and neither device fails, the status is the one that the input asks for, or 10. After 10
+/// the sink is as it was, unless its own count of wants rose. After 8, and after 10 where that count rose, a first part
+/// of what is due, or of what is written before a refused key, may have been taken.
+///
+/// ```
+/// let mut out = VecSink::new(alloc);
+/// let mut diag = VecSink::new(alloc);
+/// let words = [String::from_str(alloc, "json")?];
+/// let mut input = MemSource::new(b"\x7f\x61\x61\x61\x62\xff");
+/// let status = run_cbor_read(alloc, &words, &mut input, &mut out, &mut diag);
+/// assert_eq!(rt; status, sval_program::status::DONE);
+/// assert_eq!(rt; out.as_slice(), b"\"ab\"".as_slice());
+/// ```
+pub fn run_cbor_read<I: Source, K: Sink, D: Sink>(
+    alloc: Global,
+    words: &[String],
+    input: &mut I,
+    out: &mut K,
+    diag: &mut D,
+) -> u8
+    ensures known { is_status result ≡ true }
+
+    // Each status comes only where it is so.
+    ensures usage { (result ≡ USAGE) ↔ (form_of words.now ≡ None) }
+    ensures done { result ≡ DONE
+        → OnAsked words.now (I.told input.old) (WritesDue (K.told out.old) (K.told out.new)) }
+    ensures flushed { result ≡ DONE → HoldsNothing (K.told out.new) }
+    ensures invalid_key { result ≡ INVALID_KEY
+        → OnAsked words.now (I.told input.old) (WritesUpToKey (K.told out.old) (K.told out.new)) }
+    ensures bad_cbor { result ≡ BAD_CBOR → OnAsked words.now (I.told input.old) IsNoItem }
+    ensures write { result ≡ WRITE → Rose (K.told out.old).faults (K.told out.new).faults }
+    ensures read { result ≡ READ → Rose (I.told input.old).faults (I.told input.new).faults }
+    ensures own_want { result ≡ NO_MEMORY → IsOwnWant K.told out.old out.new }
+    ensures long { result ≡ TOO_LONG → IsTooLong (I.told input.old) (I.told input.new) }
+
+    // A fault of the source that was counted means READ.
+    ensures read_comes { (I.told input.old).faults < (I.told input.new).faults → result ≡ READ }
+
+    // Where the devices don't fail, the status is the one that is due, or memory was wanting.
+    ensures comes { ¬ Rose (I.told input.old).faults (I.told input.new).faults
+        → ¬ Rose (K.told out.old).faults (K.told out.new).faults
+        → OnAsked words.now (I.told input.old) (OnShort (IsStatusDue result)) }
+    ensures long_comes { ¬ Rose (I.told input.old).faults (I.told input.new).faults
+        → OnAsked words.now (I.told input.old) (OnLong ((result ≡ TOO_LONG) ⊎ (result ≡ NO_MEMORY))) }
+
+    // What is left of the sink.
+    ensures untouched { is_unwritten result ≡ true → out.new ≡ out.old }
+    ensures leaves { OnAsked words.now (I.told input.old)
+        (OnShort (MayLeave (K.told out.old) (K.told out.new))) }
+    ensures leaves_long { OnAsked words.now (I.told input.old) (OnLong (out.new ≡ out.old)) }
+    ensures grows { Grows (K.told out.old) (K.told out.new) }
+
+    // What is left of the source.
+    ensures nothing_read { result ≡ USAGE → input.new ≡ input.old }
+    ensures spent { is_read result ≡ true → OnAsked words.now (I.told input.old) (IsSpent (I.told input.new)) }
+
+    // The counts.
+    ensures steady { is_read result ≡ true → ((I.told input.new).faults ≡ (I.told input.old).faults)
+        × IsSteady (K.told out.old) (K.told out.new) }
+    ensures counts { ((I.told input.old).faults ≤ (I.told input.new).faults)
+        × NoCountFell (K.told out.old) (K.told out.new) }
+
+    // What the third device is told.
+    ensures reports { Reports result (D.told diag.old) (D.told diag.new) }
+{
+    let served = serve(alloc, named_form(words), input, out);
+    conclude(served, diag)
+}
