@@ -9,6 +9,8 @@ mod items;
 #[cfg(test)]
 mod malformed;
 #[cfg(test)]
-mod program;
+mod read_program;
+#[cfg(test)]
+mod write_program;
 #[cfg(test)]
 mod written;

@@ -2,6 +2,8 @@
 #![tactic(auto)]
 
 #[cfg(test)]
+mod cbor;
+#[cfg(test)]
 mod cbor_read;
 #[cfg(test)]
 mod json_read;

@@ -59,7 +59,7 @@ stop_leaves (stop.Sink sink.NoMemory) due old new ok halted own = own
 
 -- ---- trees and their bytes
 
-packed_by : (found : Result Json PackRefusal) (bytes : List ℕ) → Ok bytes ≡ map_ok cbor found → (json : Json) × (found ≡ Ok json) × (bytes ≡ cbor json)
+pub packed_by : (found : Result Json PackRefusal) (bytes : List ℕ) → Ok bytes ≡ map_ok cbor found → (json : Json) × (found ≡ Ok json) × (bytes ≡ cbor json)
 packed_by (Ok json) bytes e = (json, refl, cc e)
 packed_by (Err why) bytes e = cc e
 

@@ -16,4 +16,7 @@ pub mod Doing
 pub mod Combined
 pub mod Streaming
 pub mod Answered
+pub mod Verdicts
+pub mod ScriptAnswers
+pub mod RunAnswers
 mod examples

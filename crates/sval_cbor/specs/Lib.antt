@@ -8,3 +8,8 @@ pub mod SeenNumber
 pub mod WriterLaw
 pub mod ErrorTexts
 pub mod Streamed
+pub mod Forms
+pub mod Verdict
+pub mod Statuses
+pub mod Reports
+pub mod Serves

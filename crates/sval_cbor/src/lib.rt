@@ -1,13 +1,22 @@
 //! CBOR (RFC 8949) of values.
+//!
+//! [`stream_to_cbor`] writes a value to a sink. [`run_cbor`] is a whole program over any words and devices: it writes the
+//! value that a script of calls spells.
 #![tactic(auto)]
 
 mod error;
+mod failure;
 mod head;
 mod integer;
 pub mod laws;
 mod number;
+mod program;
+mod running;
+pub mod status;
 mod to_cbor;
 mod writer;
 
 pub use error::CborError;
+pub use program::WriteCbor;
+pub use running::run_cbor;
 pub use to_cbor::stream_to_cbor;

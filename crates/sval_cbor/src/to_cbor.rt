@@ -91,7 +91,7 @@ fn stop_error(why: Stop) -> CborError
 }
 
 /// Streams a value whose calls are one whole value.
-fn write_checked<'v, K: Sink, V: Value<'v, Lent<'v>>>(
+pub(crate) fn write_checked<'v, K: Sink, V: Value<'v, Lent<'v>>>(
     alloc: Global,
     out: &mut K,
     v: &'v V,

@@ -1,0 +1,78 @@
+-- Each script has one verdict at most.
+use Rattle.std.specs.Prelude.{◌≡◌, ℕ, ◌+◌, List, ◌∷◌, length, Result, Ok, Err, refl}
+use Rattle.std.proofs.Common.{sym, ap, ◌∙◌, subst, arith}
+use Rattle.sval_label.specs.Calls.{Call}
+use Rattle.sval_core.specs.Spells.{Spells}
+use Rattle.sval_core.specs.Trees.{Tree}
+use Rattle.sval_core.proofs.FirstBad.{one_first_bad, none_bad}
+use Rattle.sval_core.proofs.Spellings.{spells_one, spelling_is_viable}
+use Rattle.sval_check.specs.Checks.{IsFirstBad}
+use Rattle.sval_script.specs.Lines.{Lines, Good, Bad, lines}
+use Rattle.sval_cbor.specs.Cbor.{cbor}
+use Rattle.sval_cbor.specs.Packs.{PackRefusal, map_ok, pack_of}
+use Rattle.sval_cbor.specs.Verdict.{Verdict, BadLine, BadCall, Unfinished, Whole, AreUnfinished, SpellWhole, IsOfCalls, OfCalls, IsVerdict, OnVerdict}
+
+-- ---- of calls
+
+one_number : (calls : List Call) (n m : ℕ) → IsFirstBad calls n → IsFirstBad calls m → n ≡ m
+one_number calls n m a b =
+    let same : length a.front ≡ length b.front = ap length (one_first_bad a.front b.front a.call b.call a.rest b.rest a.whole b.whole a.before a.bad b.before b.bad) in
+    omega (arith, same, a.number, b.number)
+
+not_viable : (calls : List Call) (n : ℕ) → IsFirstBad calls n → AreUnfinished calls → ⊥
+not_viable calls n a u = none_bad calls a.front a.rest a.call a.whole u.viable a.bad
+
+not_whole : (calls : List Call) (n : ℕ) (tree : Tree) → IsFirstBad calls n → Spells calls tree → ⊥
+not_whole calls n tree a s = none_bad calls a.front a.rest a.call a.whole (spelling_is_viable calls tree s) a.bad
+
+one_due : (calls : List Call) (due other : Result (List ℕ) PackRefusal) → SpellWhole due calls → SpellWhole other calls → due ≡ other
+one_due calls due other a b = a.is ∙ ap (λ tree. map_ok cbor (pack_of tree)) (spells_one calls a.tree b.tree a.spells b.spells) ∙ sym b.is
+
+one_of_calls : (v w : Verdict) (calls : List Call) → IsOfCalls v calls → IsOfCalls w calls → v ≡ w
+one_of_calls (BadLine n) w calls a b = absurd a
+one_of_calls v (BadLine n) calls a b = absurd b
+one_of_calls (BadCall n) (BadCall m) calls a b = ap BadCall (one_number calls n m a b)
+one_of_calls (BadCall n) Unfinished calls a b = absurd (not_viable calls n a b)
+one_of_calls (BadCall n) (Whole due) calls a b = absurd (not_whole calls n b.tree a b.spells)
+one_of_calls Unfinished (BadCall n) calls a b = absurd (not_viable calls n b a)
+one_of_calls Unfinished Unfinished calls a b = refl
+one_of_calls Unfinished (Whole due) calls a b = absurd (a.no_tree b.tree b.spells)
+one_of_calls (Whole due) (BadCall n) calls a b = absurd (not_whole calls n a.tree b a.spells)
+one_of_calls (Whole due) Unfinished calls a b = absurd (b.no_tree a.tree a.spells)
+one_of_calls (Whole due) (Whole other) calls a b = ap Whole (one_due calls due other a b)
+
+-- ---- of scripts
+
+same_calls : {found : Lines} {calls others : List Call} → found ≡ Good calls → found ≡ Good others → others ≡ calls
+same_calls e f = let both = sym f ∙ e in cc both
+
+bad_or_good : {found : Lines} {n : ℕ} {calls : List Call} → found ≡ Bad n → found ≡ Good calls → ⊥
+bad_or_good e f = let both = sym e ∙ f in cc both
+
+one_bad : {found : Lines} {n m : ℕ} → found ≡ Bad n → found ≡ Bad m → n ≡ m
+one_bad e f = let both = sym e ∙ f in cc both
+
+one_of_lines : (v w : Verdict) (script : List ℕ) → OfCalls v script → OfCalls w script → v ≡ w
+one_of_lines v w script a b = one_of_calls v w a.calls a.is (subst (IsOfCalls w) (same_calls a.good b.good) b.is)
+
+pub one_verdict : (v w : Verdict) (script : List ℕ) → IsVerdict v script → IsVerdict w script → v ≡ w
+one_verdict (BadLine n) (BadLine m) script a b = ap BadLine (one_bad a b)
+one_verdict (BadLine n) (BadCall m) script a b = absurd (bad_or_good a b.good)
+one_verdict (BadLine n) Unfinished script a b = absurd (bad_or_good a b.good)
+one_verdict (BadLine n) (Whole due) script a b = absurd (bad_or_good a b.good)
+one_verdict (BadCall n) (BadLine m) script a b = absurd (bad_or_good b a.good)
+one_verdict (BadCall n) (BadCall m) script a b = one_of_lines (BadCall n) (BadCall m) script a b
+one_verdict (BadCall n) Unfinished script a b = one_of_lines (BadCall n) Unfinished script a b
+one_verdict (BadCall n) (Whole due) script a b = one_of_lines (BadCall n) (Whole due) script a b
+one_verdict Unfinished (BadLine m) script a b = absurd (bad_or_good b a.good)
+one_verdict Unfinished (BadCall m) script a b = one_of_lines Unfinished (BadCall m) script a b
+one_verdict Unfinished Unfinished script a b = refl
+one_verdict Unfinished (Whole due) script a b = one_of_lines Unfinished (Whole due) script a b
+one_verdict (Whole due) (BadLine m) script a b = absurd (bad_or_good b a.good)
+one_verdict (Whole due) (BadCall m) script a b = one_of_lines (Whole due) (BadCall m) script a b
+one_verdict (Whole due) Unfinished script a b = one_of_lines (Whole due) Unfinished script a b
+one_verdict (Whole due) (Whole other) script a b = one_of_lines (Whole due) (Whole other) script a b
+
+-- what holds of the verdict found holds of each
+pub of_each : (script : List ℕ) (found : Verdict) (P : Verdict → Type 0) → IsVerdict found script → P found → OnVerdict P script tt
+of_each script found P v p answer w = subst P (one_verdict found answer script v w) p

@@ -1,0 +1,62 @@
+-- What a script has to give.
+use Rattle.std.specs.Prelude.{◌≡◌, ℕ, List, Result, Ok, Err}
+use Rattle.sval_label.specs.Calls.{Call}
+use Rattle.sval_core.specs.Spells.{Spells, IsViable}
+use Rattle.sval_core.specs.Trees.{Tree}
+use Rattle.sval_check.specs.Checks.{IsFirstBad}
+use Rattle.sval_script.specs.Lines.{Good, Bad, lines}
+use Rattle.sval_cbor.specs.Cbor.{cbor}
+use Rattle.sval_cbor.specs.Packs.{PackRefusal, map_ok, pack_of}
+
+-- the first bad line, or the first call that no value goes on with, each counted from 1; calls that are no whole value; or what the value
+-- packs to, as bytes, or why it doesn't
+pub data Verdict : Type 0 where
+  BadLine : ℕ → Verdict
+  BadCall : ℕ → Verdict
+  Unfinished : Verdict
+  Whole : Result (List ℕ) PackRefusal → Verdict
+
+-- the calls can be completed to a value, and are none
+pub record AreUnfinished (calls : List Call) : Type 0 where
+  pub viable : IsViable calls
+  pub no_tree : (tree : Tree) → Spells calls tree → ⊥
+
+-- the calls spell a tree, of which these are the bytes, or which doesn't pack for this cause
+pub record SpellWhole (due : Result (List ℕ) PackRefusal) (calls : List Call) : Type 0 where
+  pub tree : Tree
+  pub spells : Spells calls tree
+  pub is : due ≡ map_ok cbor (pack_of tree)
+
+-- what calls give
+abbrev pub IsOfCalls : Verdict → List Call → Type 0
+IsOfCalls (BadLine n) calls = ⊥
+IsOfCalls (BadCall n) calls = IsFirstBad calls n
+IsOfCalls Unfinished calls = AreUnfinished calls
+IsOfCalls (Whole due) calls = SpellWhole due calls
+
+-- the script's lines are calls, which give this
+pub record OfCalls (answer : Verdict) (script : List ℕ) : Type 0 where
+  pub calls : List Call
+  pub good : lines script ≡ Good calls
+  pub is : IsOfCalls answer calls
+
+-- this is the script's verdict
+abbrev pub IsVerdict : Verdict → List ℕ → Type 0
+IsVerdict (BadLine n) script = lines script ≡ Bad n
+IsVerdict answer script = OfCalls answer script
+
+-- the verdict is so
+abbrev pub HasVerdict : Verdict → List ℕ → Unit {0} → Type 0
+HasVerdict answer script asked = IsVerdict answer script
+
+-- the verdict is that a line is bad, the first one of the script
+abbrev pub HasBadLine : List ℕ → Unit {0} → Type 0
+HasBadLine script asked = (line : ℕ) × IsVerdict (BadLine line) script
+
+-- the verdict is that no value goes on with a call, the first such one of the script
+abbrev pub HasBadCall : List ℕ → Unit {0} → Type 0
+HasBadCall script asked = (line : ℕ) × IsVerdict (BadCall line) script
+
+-- a fact on the script's verdict
+abbrev pub OnVerdict : (Verdict → Type 0) → List ℕ → Unit {0} → Type 0
+OnVerdict P script asked = (answer : Verdict) → IsVerdict answer script → P answer

@@ -1,0 +1,40 @@
+//! The whole program, for a process.
+
+ghost use Rattle.std.specs.Prelude.{refl};
+ghost use Rattle.sval_cbor.specs.Forms.{form_named};
+ghost use Rattle.sval_cbor.specs.Statuses.{is_status};
+
+use crate::running::{named_form, run_cbor};
+use std::alloc::Global;
+use sval_json::Sink;
+use sval_program::{Program, Source};
+
+/// The program, as [`run_process`](sval_program::run_process) and [`run_streams`](sval_program::run_streams) run it: what
+/// it does is [`run_cbor`].
+pub struct WriteCbor;
+
+impl Program for WriteCbor {
+    ghost Form = { Unit {0} };
+
+    ghost form_named = { form_named };
+
+    ghost is_status = { is_status };
+
+    ghost has_usage = { refl };
+
+    ghost has_no_memory = { refl };
+
+    fn takes(words: &[String]) -> bool {
+        named_form(words).is_some()
+    }
+
+    fn run<I: Source, K: Sink, D: Sink>(
+        alloc: Global,
+        words: &[String],
+        input: &mut I,
+        out: &mut K,
+        diag: &mut D,
+    ) -> u8 {
+        run_cbor(alloc, words, input, out, diag)
+    }
+}
