@@ -16,8 +16,18 @@ const ROWS: [(&str, u8, &[u8], &str); 11] = [
     ),
     ("u16 256\n", 0, b"\x19\x01\x00", ""),
     ("null\nnul\n", 3, b"", "line 2: not a call\n"),
-    ("null\nnull\n", 4, b"", "line 2: no value goes on with this call\n"),
-    ("seq_begin 1\n", 5, b"", "the calls are not one whole value\n"),
+    (
+        "null\nnull\n",
+        4,
+        b"",
+        "line 2: no value goes on with this call\n",
+    ),
+    (
+        "seq_begin 1\n",
+        5,
+        b"",
+        "the calls are not one whole value\n",
+    ),
     ("", 5, b"", "the calls are not one whole value\n"),
     (
         "map_begin 1\nmap_key_begin\ntagged_begin JSON_VALUE - -\ntext_begin -\ntext_end\n\
