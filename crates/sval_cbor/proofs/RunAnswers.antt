@@ -1,16 +1,11 @@
 -- From what serving the input says to what each status says.
 use Rattle.std.specs.Prelude.{◌≡◌, ℕ, ◌≤◌, ◌⊎◌, true, List, Option, Some, None, Result, Ok, Err, IfSome, refl}
-use Rattle.std.proofs.Common.{sym, ap, ◌∙◌, subst, arith, inl, inr}
-use Rattle.sval_label.specs.Calls.{Call}
+use Rattle.std.proofs.Common.{sym, subst, arith, inl, inr}
 use Rattle.sval_core.specs.Law.{Rose}
-use Rattle.sval_core.specs.Spells.{Spells}
-use Rattle.sval_core.specs.Trees.{Tree}
-use Rattle.sval_json.specs.Json.{Json}
 use Rattle.sval_json.specs.Sinks.{Told, IsSteady, NoCountFell, Appends}
 use Rattle.sval_json.specs.declared.sink.SinkError.{SinkError}
 use Rattle.sval_json.specs.declared.sink.SinkError.TheVariants as sink
 use Rattle.sval_json.proofs.Appending.{appends_nothing, all_is_front, steady_alone, steady_counts}
-use Rattle.sval_script.specs.Lines.{Good, lines}
 use Rattle.sval_program.specs.declared.status.TheConstants.{DONE, BAD_LINE, BAD_CALL, UNFINISHED, INVALID_KEY, INVALID_NUMBER, WRITE, READ, NO_MEMORY, TOO_LONG}
 use Rattle.sval_program.specs.declared.input_error.InputError.{InputError}
 use Rattle.sval_program.specs.declared.input_error.InputError.TheVariants as input
@@ -28,8 +23,7 @@ use Rattle.sval_cbor.specs.Cbor.{cbor}
 use Rattle.sval_cbor.specs.Packs.{PackRefusal, BadKey, BadNumber, RawJson, NotInteger, map_ok, pack_of}
 use Rattle.sval_cbor.specs.Reports.{line_named, line_of, line_of_result, report}
 use Rattle.sval_cbor.specs.SeenWriter.{seen_refusal}
-use Rattle.sval_cbor.specs.Statuses.{is_read, status_of, status_of_fault, status_of_failure, status_of_refusal, status_of_verdict, IsStatusDue}
-use Rattle.sval_cbor.specs.Streamed.{WritesTree}
+use Rattle.sval_cbor.specs.Statuses.{is_read, status_of, status_of_fault, status_of_refusal, status_of_verdict, IsStatusDue}
 use Rattle.sval_cbor.specs.Verdict.{Verdict, BadLine, BadCall, Unfinished, Whole, IsVerdict, HasVerdict, HasBadLine, HasBadCall, OnVerdict}
 use Rattle.sval_cbor.specs.Serves.{WritesBytes, WritesValue, MayLeave, verdict_of, StopsWithinBytes, IsServed, Serves}
 use Rattle.sval_cbor.proofs.Answered.{packed_by}

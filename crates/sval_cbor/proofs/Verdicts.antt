@@ -1,5 +1,5 @@
 -- Each script has one verdict at most.
-use Rattle.std.specs.Prelude.{◌≡◌, ℕ, ◌+◌, List, ◌∷◌, length, Result, Ok, Err, refl}
+use Rattle.std.specs.Prelude.{◌≡◌, ℕ, List, length, Result, refl}
 use Rattle.std.proofs.Common.{sym, ap, ◌∙◌, subst, arith}
 use Rattle.sval_label.specs.Calls.{Call}
 use Rattle.sval_core.specs.Spells.{Spells}
@@ -7,7 +7,7 @@ use Rattle.sval_core.specs.Trees.{Tree}
 use Rattle.sval_core.proofs.FirstBad.{one_first_bad, none_bad}
 use Rattle.sval_core.proofs.Spellings.{spells_one, spelling_is_viable}
 use Rattle.sval_check.specs.Checks.{IsFirstBad}
-use Rattle.sval_script.specs.Lines.{Lines, Good, Bad, lines}
+use Rattle.sval_script.specs.Lines.{Lines, Good, Bad}
 use Rattle.sval_cbor.specs.Cbor.{cbor}
 use Rattle.sval_cbor.specs.Packs.{PackRefusal, map_ok, pack_of}
 use Rattle.sval_cbor.specs.Verdict.{Verdict, BadLine, BadCall, Unfinished, Whole, AreUnfinished, SpellWhole, IsOfCalls, OfCalls, IsVerdict, OnVerdict}

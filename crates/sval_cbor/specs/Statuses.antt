@@ -1,5 +1,5 @@
 -- The program's statuses: which there are, and which failure has which.
-use Rattle.std.specs.Prelude.{◌≡◌, ◌⊎◌, ℕ, Bool, List, [], ◌∷◌, Result, Ok, Err}
+use Rattle.std.specs.Prelude.{◌≡◌, ◌⊎◌, ℕ, Bool, [], ◌∷◌, Result, Ok, Err}
 use Rattle.sval_json.specs.declared.sink.SinkError.TheVariants as sink
 use Rattle.sval_program.specs.declared.status.TheConstants.{DONE, USAGE, BAD_LINE, BAD_CALL, UNFINISHED, INVALID_KEY, INVALID_NUMBER, WRITE, READ, NO_MEMORY, TOO_LONG}
 use Rattle.sval_program.specs.Statuses.{is_among, status_of_input}

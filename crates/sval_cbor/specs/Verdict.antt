@@ -1,5 +1,5 @@
 -- What a script has to give.
-use Rattle.std.specs.Prelude.{◌≡◌, ℕ, List, Result, Ok, Err}
+use Rattle.std.specs.Prelude.{◌≡◌, ℕ, List, Result}
 use Rattle.sval_label.specs.Calls.{Call}
 use Rattle.sval_core.specs.Spells.{Spells, IsViable}
 use Rattle.sval_core.specs.Trees.{Tree}
