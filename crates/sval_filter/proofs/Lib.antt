@@ -8,4 +8,6 @@ pub mod PrunedParts
 pub mod DueCalls
 pub mod Filtered
 pub mod Refusals
+mod PathTexts
+mod TailSteps
 mod examples

@@ -6,18 +6,8 @@ use Rattle.sval_core.specs.Spells.{plain}
 use Rattle.sval_core.specs.Stacks.{below}
 use Rattle.sval_buffer.specs.Forest.{Forest, empty_forest, take, may_grow, replayed}
 use Rattle.sval_buffer.specs.Capture.{forest_by}
-use Rattle.sval_filter.specs.Paths.{Path, Rule, Fate, LeftOut, Stays, Within, fate_of}
-use Rattle.sval_filter.specs.Pruned.{part_fate}
-
--- how calls are treated: held inside a key, and elsewhere by what becomes of what they are in
-pub data Mode : Type 0 where
-  Holding : Mode
-  By : Fate → Mode
-
--- what has begun and has no end yet: how calls in it are treated, and what becomes of the entry whose key was the last part in it
-pub record Layer : Type 0 where
-  pub mode : Mode
-  pub entry : Fate
+use Rattle.sval_filter.specs.Paths.{Path, Rule, Fate, LeftOut, Stays}
+pub use Rattle.sval_filter.specs.Layers.{Mode, Holding, By, Layer, layer, mode_in, entry_in, with_entry, fate_in, slot_fate, mode_of_part}
 
 -- what a filter keeps beside the state of the machine that takes viable calls: a layer for each of its frames, and the held key
 pub record Filtering : Type 0 where
@@ -29,25 +19,6 @@ abbrev pub fresh : Filtering
 fresh = record { layers = []; held = empty_forest }
 
 -- ---- parts of a step
-
--- how calls are treated here: outside all, they are pruned with the filter's paths
-abbrev pub mode_in : List Path → List Layer → Mode
-mode_in paths [] = By (Within paths)
-mode_in paths (layer ∷ layers) = layer.mode
-
--- what becomes of the entry whose value comes next
-abbrev pub entry_in : List Layer → Fate
-entry_in [] = Stays
-entry_in (layer ∷ layers) = layer.entry
-
--- a layer in which no key has ended
-abbrev pub layer : Mode → Layer
-layer mode = record { mode = mode; entry = Stays }
-
--- the innermost layer with this fate of its entry
-abbrev pub with_entry : Fate → List Layer → List Layer
-with_entry entry [] = []
-with_entry entry (innermost ∷ layers) = record { mode = innermost.mode; entry = entry } ∷ layers
 
 -- the fragments that these calls begin with, joined
 abbrev pub fragments : List Call → List ℕ
@@ -62,24 +33,6 @@ text_of calls = None
 -- the label of the entry whose key is held
 abbrev pub held_label : Forest → Option (List ℕ)
 held_label held = text_of (plain (replayed held))
-
--- what becomes of the entry of a key with this label, in a map that is treated so
-abbrev pub fate_in : Rule → Fate → Option (List ℕ) → Fate
-fate_in rule (Within paths) label = fate_of rule paths label
-fate_in rule fate label = fate
-
--- what becomes of a part that is no key
-abbrev pub slot_fate : Rule → List Path → Fate → Slot → Fate
-slot_fate rule paths entry Slot.Value = entry
-slot_fate rule paths entry slot = part_fate rule paths slot
-
--- how a part is treated that begins in a layer
-abbrev pub mode_of_part : Rule → Mode → Fate → Slot → Mode
-mode_of_part rule Holding entry slot = Holding
-mode_of_part rule (By LeftOut) entry slot = By LeftOut
-mode_of_part rule (By fate) entry Slot.Key = Holding
-mode_of_part rule (By Stays) entry slot = By Stays
-mode_of_part rule (By (Within paths)) entry slot = By (slot_fate rule paths entry slot)
 
 -- the calls, where they are passed on
 abbrev pub passed : Mode → List Call → List Call
@@ -104,10 +57,12 @@ abbrev pub held_after : Mode → Forest → Call → Forest
 held_after Holding held call = forest_by (take held (computed call)) held
 held_after (By fate) held call = held
 
--- the held key may take memory for the call: where it may grow, and at a key's end, which keeps what its label says of paths
+-- the held key may take memory for the call: for a fragment, where it may grow, and at a key's end, which keeps what its label says of paths
 abbrev pub key_may_grow : Mode → Forest → Call → Bool
 key_may_grow (By fate) held call = false
 key_may_grow Holding held (Call.PartEnd slot) = true
+key_may_grow Holding held (Call.TextFragment borrowed bytes) = true
+key_may_grow Holding held (Call.BinaryFragment borrowed bytes) = true
 key_may_grow Holding held call = may_grow held (computed call)
 
 -- the layers after a call that is neither a part's begin nor its end

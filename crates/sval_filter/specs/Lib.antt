@@ -1,5 +1,10 @@
 pub mod Paths
+pub mod SeenPaths
+pub mod PathErrors
+pub mod Parts
 pub mod Pruned
+pub mod Layers
+pub mod SeenLayers
 pub mod Filtering
 pub mod Laws
 pub mod FilterLaw

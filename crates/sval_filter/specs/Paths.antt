@@ -2,15 +2,12 @@
 use Rattle.std.specs.Prelude.{ℕ, ◌==◌, Bool, if◌then◌else◌, List, [], ◌∷◌, ◌++◌, Option, Some, None, length, option_map, bytes_eq}
 use Rattle.std.specs.List.{filter_map, list_any, slice_split}
 use Rattle.sval_label.specs.Texts.{is_empty}
+pub use Rattle.sval_filter.specs.declared.paths.Rule.{Rule}
+pub use Rattle.sval_filter.specs.declared.paths.Rule.TheVariants.{Drop, Keep}
 
 -- the labels from the outermost one on, each as its text
 abbrev pub Path : Type 0
 Path = List (List ℕ)
-
--- the named fields and entries are left out, or they alone are kept
-pub data Rule : Type 0 where
-  Drop : Rule
-  Keep : Rule
 
 -- ---- how paths are made
 

@@ -3,17 +3,12 @@ use Rattle.std.specs.Prelude.{ℕ, List, Option, Some, None}
 use Rattle.sval_label.specs.Calls.{Slot}
 use Rattle.sval_core.specs.Trees.{Tree, Text, Tagged, Enum, Container, Parts, none, part}
 use Rattle.sval_filter.specs.Paths.{Path, Rule, Fate, LeftOut, Stays, Within, fate_of}
+pub use Rattle.sval_filter.specs.Parts.{part_fate}
 
 -- the label of an entry whose key this is
 abbrev pub key_label : Tree → Option (List ℕ)
 key_label (Text bytes) = Some bytes
 key_label _ = None
-
--- what becomes of a part that belongs to no entry: a field has a label, and other parts are pruned with the same paths
-abbrev pub part_fate : Rule → List Path → Slot → Fate
-part_fate rule paths (Slot.Field tag label) = fate_of rule paths (Some label.text)
-part_fate rule paths (Slot.FieldPlace tag label index) = fate_of rule paths (Some label.text)
-part_fate rule paths _ = Within paths
 
 -- a part in front of others, by what becomes of it
 abbrev pub placed : Fate → Slot → Tree → (List Path → Tree) → Parts → Parts
