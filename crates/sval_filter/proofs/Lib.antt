@@ -10,4 +10,5 @@ pub mod Filtered
 pub mod Refusals
 mod PathTexts
 mod TailSteps
+mod LayerSteps
 mod examples

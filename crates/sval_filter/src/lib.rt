@@ -8,6 +8,7 @@
 
 pub mod laws;
 mod layer;
+mod layers;
 mod paths;
 mod tails;
 #[cfg(test)]
