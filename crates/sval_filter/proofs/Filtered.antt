@@ -14,7 +14,7 @@ use Rattle.sval_core.specs.StepLaws.{Goes}
 use Rattle.sval_core.proofs.CheckerSteps.{goes_to, goes_taken}
 use Rattle.sval_filter.specs.Paths.{Path, Rule}
 use Rattle.sval_filter.specs.Filtering.{fresh, due, kept_after, all_due}
-use Rattle.sval_filter.specs.FilterLaw.{FilterWhy, NotViable, NoMemory, Inner, FilterView, new_filter, is_stopped, all_taken, AcceptsAll, Accepts, inner_after, filter_after, IsFilterCause, IsFilterLeft, filter_law, Took, none, takes, refuses}
+use Rattle.sval_filter.specs.FilterLaw.{Why, NotViable, NoMemory, Inner, FilterView, new_filter, is_stopped, all_taken, AcceptsAll, Accepts, inner_after, filter_after, IsFilterCause, IsFilterLeft, filter_law, Took, none, takes, refuses}
 use Rattle.sval_filter.specs.Laws.{InnerTakesPruned, TakesTrees}
 use Rattle.sval_filter.proofs.DueCalls.{due_spells_pruned}
 
@@ -40,7 +40,7 @@ module _ {V : Type 0} (law : Law V) (rule : Rule) (paths : List Path) where
   inner_left : (view left : FilterView V) (call : Call) → IsFilterLeft law rule paths view call left → is_stopped left.why ≡ false → left.inner ≡ view.inner
   inner_left view left call is going = by_cause is.last (subst (λ why. is_stopped why ≡ false) is.why going) is.cause
     where
-      by_cause : (last : FilterWhy) → is_stopped (Some last) ≡ false → IsFilterCause law rule paths view call left.inner last → left.inner ≡ view.inner
+      by_cause : (last : Why) → is_stopped (Some last) ≡ false → IsFilterCause law rule paths view call left.inner last → left.inner ≡ view.inner
       by_cause NotViable e c = c.1
       by_cause NoMemory e c = c.1
       by_cause Inner e c = cc e

@@ -11,4 +11,8 @@ pub mod Refusals
 mod PathTexts
 mod TailSteps
 mod LayerSteps
+mod Holding
+mod Sieving
+mod SieveSteps
+mod FilterSteps
 mod examples

@@ -1,26 +1,22 @@
 -- The law of a filter as a stream over another one: which calls it takes, what it passes on, and what a refusal leaves.
-use Rattle.std.specs.Prelude.{◌≡◌, ℕ, ◌⊎◌, ◌||◌, Bool, true, false, List, [], ◌∷◌, Option, Some, None}
+use Rattle.std.specs.Prelude.{◌≡◌, ℕ, ◌⊎◌, Bool, true, false, List, [], ◌∷◌, Option, Some, None}
 use Rattle.sval_label.specs.Calls.{Call}
-use Rattle.sval_core.specs.Law.{Law, Standing, Ran, Stops, one_more}
+use Rattle.sval_core.specs.Law.{Law, Standing, Ran, Stops}
 use Rattle.sval_core.specs.Values.{makes}
 use Rattle.sval_core.specs.Checker.{State}
 use Rattle.sval_core.specs.CheckerSteps.{goes_on, state_after}
-use Rattle.sval_check.specs.Checks.{opens}
+pub use Rattle.sval_check.specs.Checked.{wants_after}
+pub use Rattle.sval_check.specs.declared.checked.Why.{Why}
+pub use Rattle.sval_check.specs.declared.checked.Why.TheVariants.{NotViable, NoMemory, Inner}
 use Rattle.sval_filter.specs.Paths.{Path, Rule}
-use Rattle.sval_filter.specs.Filtering.{Filtering, fresh, mode_in, key_may_grow, due, kept_after}
-
--- why a call was refused: no value goes on with it, memory was wanting, or the inner stream refused a call that was due
-pub data FilterWhy : Type 0 where
-  NotViable : FilterWhy
-  NoMemory : FilterWhy
-  Inner : FilterWhy
+use Rattle.sval_filter.specs.Filtering.{Filtering, fresh, may_take_memory, due, kept_after}
 
 -- what a filter is: the machine's state, what is kept to filter calls, where the inner stream stands, its last refusal and its wants
 pub record FilterView (V : Type 0) : Type 0 where
   pub state : State
   pub kept : Filtering
   pub inner : Standing V
-  pub why : Option FilterWhy
+  pub why : Option Why
   pub wants : ℕ
 
 -- a new filter over a stream
@@ -31,15 +27,10 @@ new_filter inner = record { state = record { filled = false; frames = [] }; kept
 abbrev pub filter_standing : {V : Type 0} → FilterView V → Standing (FilterView V)
 filter_standing view = record { view = view; faults = view.inner.faults; wants = view.wants }
 
--- the count of wants after a refusal for this
-abbrev pub wants_after : FilterWhy → ℕ → ℕ
-wants_after NotViable wants = wants
-wants_after _ wants = one_more wants
-
 -- ---- calls that are taken
 
 -- the inner stream has refused a call that was due: no later call is taken
-abbrev pub is_stopped : Option FilterWhy → Bool
+abbrev pub is_stopped : Option Why → Bool
 is_stopped (Some Inner) = true
 is_stopped _ = false
 
@@ -81,10 +72,10 @@ pub record IsNotViable {V : Type 0} (view : FilterView V) (call : Call) : Type 0
   pub going : is_stopped view.why ≡ false
   pub not_viable : goes_on view.state call ≡ false
 
--- the call goes on, and may take memory: it begins what has an end of its own, or the held key takes some
+-- the call goes on, and may take memory
 pub record LacksMemory {V : Type 0} (paths : List Path) (view : FilterView V) (call : Call) : Type 0 where
   pub goes : GoesOn view call
-  pub grows : (opens call || key_may_grow (mode_in paths view.kept.layers) view.kept.held call) ≡ true
+  pub grows : may_take_memory paths view.kept call ≡ true
 
 -- the call goes on, and the inner stream refused one of the calls that are due
 pub record IsRefusedInside {V : Type 0} (law : Law V) (rule : Rule) (paths : List Path) (view : FilterView V) (call : Call)
@@ -93,7 +84,7 @@ pub record IsRefusedInside {V : Type 0} (law : Law V) (rule : Rule) (paths : Lis
   pub stops : Stops law view.inner (makes (due rule paths view.kept call)) inner
 
 -- the cause of a refusal for this, and what it leaves of the inner stream
-abbrev pub IsFilterCause : {V : Type 0} → Law V → Rule → List Path → FilterView V → Call → Standing V → FilterWhy → Type 0
+abbrev pub IsFilterCause : {V : Type 0} → Law V → Rule → List Path → FilterView V → Call → Standing V → Why → Type 0
 IsFilterCause law rule paths view call inner NotViable = IsNotViable view call × (inner ≡ view.inner)
 IsFilterCause law rule paths view call inner NoMemory = LacksMemory paths view call × (inner ≡ view.inner)
 IsFilterCause law rule paths view call inner Inner =
@@ -104,7 +95,7 @@ pub record IsFilterLeft {V : Type 0} (law : Law V) (rule : Rule) (paths : List P
     (left : FilterView V) : Type 0 where
   pub state : left.state ≡ view.state
   pub kept : left.kept ≡ view.kept
-  pub last : FilterWhy
+  pub last : Why
   pub why : left.why ≡ Some last
   pub cause : IsFilterCause law rule paths view call left.inner last
   pub wants : left.wants ≡ wants_after last view.wants
@@ -115,6 +106,36 @@ filter_law law rule paths = record {
   accepts = λ view call. Accepts law rule paths view call;
   after = λ view call. filter_after law rule paths view call;
   stopped = λ view call left. IsFilterLeft law rule paths view call left;
+}
+
+-- ---- a filter with what it filters by
+
+-- its rule, its paths, and what else it is
+pub record Ruled (V : Type 0) : Type 0 where
+  pub rule : Rule
+  pub paths : List Path
+  pub view : FilterView V
+
+-- the calls that are due at a call
+abbrev pub due_of : {V : Type 0} → Ruled V → Call → List Call
+due_of ruled call = due ruled.rule ruled.paths ruled.view.kept call
+
+-- the faults are the inner stream's, and the wants its own
+abbrev pub ruled_standing : {V : Type 0} → Ruled V → Standing (Ruled V)
+ruled_standing ruled = record { view = ruled; faults = ruled.view.inner.faults; wants = ruled.view.wants }
+
+-- a refused call leaves the rule and the paths, and what the law of a filter with them says
+pub record IsRuledLeft {V : Type 0} (law : Law V) (ruled : Ruled V) (call : Call) (left : Ruled V) : Type 0 where
+  pub rule : left.rule ≡ ruled.rule
+  pub paths : left.paths ≡ ruled.paths
+  pub filter : IsFilterLeft law ruled.rule ruled.paths ruled.view call left.view
+
+-- the law of filters over streams of this law: that of a filter with the rule and the paths
+abbrev pub ruled_law : {V : Type 0} → Law V → Law (Ruled V)
+ruled_law law = record {
+  accepts = λ ruled call. Accepts law ruled.rule ruled.paths ruled.view call;
+  after = λ ruled call. record ruled { view = filter_after law ruled.rule ruled.paths ruled.view call };
+  stopped = λ ruled call left. IsRuledLeft law ruled call left;
 }
 
 -- ---- calls of which some are refused

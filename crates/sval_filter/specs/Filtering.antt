@@ -1,9 +1,10 @@
 -- The filter as a machine: what it keeps, which calls are due at a call, and what it keeps after it.
-use Rattle.std.specs.Prelude.{ℕ, Bool, true, false, List, [], ◌∷◌, ◌++◌, map, Option, Some, None}
+use Rattle.std.specs.Prelude.{ℕ, Bool, true, false, ◌||◌, List, [], ◌∷◌, ◌++◌, map, Option, Some, None}
 use Rattle.sval_label.specs.Calls.{Call, Head, Slot}
 use Rattle.sval_core.specs.Law.{computed}
 use Rattle.sval_core.specs.Spells.{plain}
 use Rattle.sval_core.specs.Stacks.{below}
+use Rattle.sval_check.specs.Checks.{opens}
 use Rattle.sval_buffer.specs.Forest.{Forest, empty_forest, take, may_grow, replayed}
 use Rattle.sval_buffer.specs.Capture.{forest_by}
 use Rattle.sval_filter.specs.Paths.{Path, Rule, Fate, LeftOut, Stays}
@@ -64,6 +65,10 @@ key_may_grow Holding held (Call.PartEnd slot) = true
 key_may_grow Holding held (Call.TextFragment borrowed bytes) = true
 key_may_grow Holding held (Call.BinaryFragment borrowed bytes) = true
 key_may_grow Holding held call = may_grow held (computed call)
+
+-- a call may take memory: it begins what has an end of its own, or the held key takes some
+abbrev pub may_take_memory : List Path → Filtering → Call → Bool
+may_take_memory paths kept call = opens call || key_may_grow (mode_in paths kept.layers) kept.held call
 
 -- the layers after a call that is neither a part's begin nor its end
 abbrev pub layers_after : Mode → List Layer → Call → List Layer

@@ -6,6 +6,10 @@ pub mod Pruned
 pub mod Layers
 pub mod SeenLayers
 pub mod Filtering
+pub mod Held
+pub mod SeenKeys
 pub mod Laws
 pub mod FilterLaw
+pub mod Sieves
+pub mod SeenFilters
 pub mod Words

@@ -1,6 +1,6 @@
 //! How calls are treated by what they are in.
 
-ghost use Rattle.std.specs.Prelude.{◌≡◌, IfOk, option_map};
+ghost use Rattle.std.specs.Prelude.{◌≡◌, ◌&&◌, not, IfOk, option_map};
 ghost use Rattle.sval_label.specs.Grouped.{seen_slot};
 ghost use Rattle.sval_filter.specs.Layers.{fate_in, mode_of_part};
 ghost use Rattle.sval_filter.specs.SeenLayers.{seen_fate, seen_mode, is_left_out, is_holding, passes, entry_by};
@@ -129,6 +129,13 @@ impl<'p> Mode<'p> {
 }
 
 impl<'p> Layer<'p> {
+    /// Hints are passed on here. They aren't between the key and the value of an entry that is left out.
+    pub(crate) fn passes_hint(&self) -> bool
+        ensures { result ≡ (passes (seen_mode self.now.mode) && not (is_left_out (seen_fate self.now.entry))) }
+    {
+        self.mode.passes() && !self.entry.is_left_out()
+    }
+
     /// How calls are treated in a part that begins in this layer.
     pub(crate) fn mode_of_part(
         &self,

@@ -1,11 +1,11 @@
 //! All that has begun and has no end yet.
 
-ghost use Rattle.std.specs.Prelude.{◌≡◌, [], ◌∷◌, is_ok, if◌then◌else◌, reverse, map};
+ghost use Rattle.std.specs.Prelude.{◌≡◌, ◌&&◌, not, [], ◌∷◌, is_ok, if◌then◌else◌, reverse, map};
 ghost use Rattle.std.specs.Option.{unwrap_or};
 ghost use Rattle.sval_core.specs.Stacks.{top_of, below};
 ghost use Rattle.sval_filter.specs.Layers.{layer, mode_in, entry_in, with_entry};
 ghost use Rattle.sval_filter.specs.SeenPaths.{paths_in};
-ghost use Rattle.sval_filter.specs.SeenLayers.{seen_fate, seen_mode, seen_layer};
+ghost use Rattle.sval_filter.specs.SeenLayers.{seen_fate, seen_mode, seen_layer, is_holding};
 
 use crate::layer::{Fate, Layer, Mode};
 use crate::tails::Tails;
@@ -80,6 +80,14 @@ impl<'p> Layers<'p> {
         ensures { seen_mode result.now ≡ mode_in self.now.paths (below self.now.layers) }
     {
         &innermost(around(&self.layers), &self.outside).mode
+    }
+
+    /// The innermost layer is that of a key that is in no other key.
+    pub(crate) fn is_key(&self) -> bool
+        ensures { let inside = is_holding (mode_in self.now.paths self.now.layers) in
+            result ≡ (inside && not (is_holding (mode_in self.now.paths (below self.now.layers)))) }
+    {
+        self.innermost().mode.is_holding() && !self.around().is_holding()
     }
 
     /// Opens a layer in which calls are treated so.

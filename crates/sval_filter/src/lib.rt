@@ -1,17 +1,24 @@
 //! A filter of fields: values without the fields and entries that paths of labels name, or with those alone.
 //!
-//! [`Paths`] name fields and entries, and a [`Rule`] says whether they are left out or they alone stay. So far this crate
-//! holds paths, what is left of a value by them (`specs/Pruned.antt`), which calls a filter passes on
-//! (`specs/Filtering.antt`), what it is as a stream (`specs/FilterLaw.antt`), and what holds of these ([`laws`]). Of the
-//! filter's code it has how calls are treated in what is open.
+//! [`Paths`] name fields and entries, and a [`Rule`] says whether they are left out or they alone stay
+//! (`specs/Pruned.antt`). A [`Filter`] is a stream before another one, which passes on the calls of what is left
+//! (`specs/Filtering.antt`); its law stands in `specs/FilterLaw.antt`. [`laws`] has what holds of them.
 #![tactic(auto)]
 
+mod filter;
+mod held;
+mod key_text;
 pub mod laws;
 mod layer;
 mod layers;
 mod paths;
+mod readable;
+mod sieve;
 mod tails;
 #[cfg(test)]
 mod tests;
 
+pub use filter::Filter;
 pub use paths::{PathError, Paths, Rule};
+pub use readable::Readable;
+pub use sval_check::Why;

@@ -7,7 +7,7 @@ use Rattle.sval_core.specs.CheckerSteps.{goes_on}
 use Rattle.sval_filter.specs.Paths.{Path, Rule}
 use Rattle.sval_filter.specs.Filtering.{due}
 use Rattle.sval_filter.proofs.Refusals.{not_both}
-use Rattle.sval_filter.specs.FilterLaw.{FilterWhy, NotViable, NoMemory, Inner, FilterView, is_stopped, AcceptsAll, IsFilterCause, IsFilterLeft, wants_after}
+use Rattle.sval_filter.specs.FilterLaw.{Why, NotViable, NoMemory, Inner, FilterView, is_stopped, AcceptsAll, IsFilterCause, IsFilterLeft, wants_after}
 
 -- a count that can rise, and stood still, didn't rise
 still : (count : ℕ) → count < 2 ^ 64 - 1 → Rose count count → ⊥
@@ -28,7 +28,7 @@ module _ {V : Type 0} (law : Law V) where
     not_viable_first : goes_on view.state call ≡ false → (left.why ≡ Some NotViable) × (left.inner ≡ view.inner) × (left.wants ≡ view.wants)
     not_viable_first never = by_last is.last is.why is.cause is.wants
       where
-        by_last : (last : FilterWhy) → left.why ≡ Some last → IsFilterCause law rule paths view call left.inner last → left.wants ≡ wants_after last view.wants
+        by_last : (last : Why) → left.why ≡ Some last → IsFilterCause law rule paths view call left.inner last → left.wants ≡ wants_after last view.wants
             → (left.why ≡ Some NotViable) × (left.inner ≡ view.inner) × (left.wants ≡ view.wants)
         by_last NotViable e c w = (e, c.1, w)
         by_last NoMemory e c w = absurd (not_both (sym never ∙ c.0.goes.viable))
@@ -40,7 +40,7 @@ module _ {V : Type 0} (law : Law V) where
         → left.inner ≡ view.inner → left.why ≡ Some Inner → ⊥
     inner_has_cause f w accepts same answer = by_cause (subst (λ last. IsFilterCause law rule paths view call left.inner last) (last_is (sym is.why ∙ answer)) is.cause)
       where
-        last_is : {a b : FilterWhy} → Some a ≡ Some b → a ≡ b
+        last_is : {a b : Why} → Some a ≡ Some b → a ≡ b
         last_is e = cc e
 
         by_cause : IsFilterCause law rule paths view call left.inner Inner → ⊥

@@ -1,0 +1,58 @@
+-- The text that a key's calls begin with, read call by call.
+use Rattle.std.specs.Prelude.{◌≡◌, ℕ, ⊤, List, [], ◌++◌, Option, Some, None, Result, Ok, Err}
+use Rattle.sval_label.specs.Calls.{Call}
+use Rattle.sval_label.specs.declared.error.Error.{Error}
+use Rattle.sval_core.specs.Law.{Law, Standing, one_more}
+use Rattle.sval_filter.specs.declared.key_text.Place.{Place}
+use Rattle.sval_filter.specs.declared.key_text.Place.TheVariants.{Before, Inside, After, NoText}
+
+-- where the calls so far have led, and the bytes of the text's fragments
+pub record KeyRead : Type 0 where
+  pub place : Place
+  pub text : List ℕ
+
+-- no call was read
+abbrev pub nothing_read : KeyRead
+nothing_read = record { place = Before; text = [] }
+
+-- where a call leads that is no part of the text
+abbrev pub passed_by : Place → Place
+passed_by Before = NoText
+passed_by Inside = After
+passed_by place = place
+
+-- a fragment counts inside the text
+abbrev pub with_fragment : Place → List ℕ → List ℕ → KeyRead
+with_fragment Inside text bytes = record { place = Inside; text = text ++ bytes }
+with_fragment place text bytes = record { place = passed_by place; text = text }
+
+-- the begin of a text counts before all else
+abbrev pub with_begin : Place → List ℕ → KeyRead
+with_begin Before text = record { place = Inside; text = text }
+with_begin place text = record { place = passed_by place; text = text }
+
+-- a call more; a hint leaves all
+abbrev pub read : KeyRead → Call → KeyRead
+read key (Call.TagHint tag) = key
+read key (Call.TextBegin size) = with_begin key.place key.text
+read key (Call.TextFragment borrowed bytes) = with_fragment key.place key.text bytes
+read key call = record { place = passed_by key.place; text = key.text }
+
+-- the text, if there is one
+abbrev pub text_by : Place → List ℕ → Option (List ℕ)
+text_by Inside text = Some text
+text_by After text = Some text
+text_by place text = None
+
+-- it takes all calls
+abbrev pub read_law : Law KeyRead
+read_law = record { accepts = λ key call. ⊤; after = read; stopped = λ key call left. ⊤ }
+
+-- where it stands that has read this, and wanted memory so often
+abbrev pub read_standing : KeyRead → ℕ → Standing KeyRead
+read_standing key wants = record { view = key; faults = 0; wants = wants }
+
+-- what copying a fragment says, which is to lead here: it did, or memory was wanting
+abbrev pub Copies : KeyRead → ℕ → Result (Unit {0}) Error → KeyRead → ℕ → Type 0
+Copies due wants (Ok done) new now = (new ≡ due) × (now ≡ wants)
+Copies due wants (Err refusal) new now = now ≡ one_more wants
