@@ -15,4 +15,5 @@ mod Holding
 mod Sieving
 mod SieveSteps
 mod FilterSteps
+mod PruneSteps
 mod examples

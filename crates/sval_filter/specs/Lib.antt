@@ -12,4 +12,5 @@ pub mod Laws
 pub mod FilterLaw
 pub mod Sieves
 pub mod SeenFilters
+pub mod Pruning
 pub mod Words

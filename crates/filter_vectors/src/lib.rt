@@ -1,0 +1,5 @@
+//! Tests of the filter of fields by its public calls.
+#![tactic(auto)]
+
+#[cfg(test)]
+mod values;

@@ -1,0 +1,44 @@
+-- What pruning a value answers.
+use Rattle.std.specs.Prelude.{◌≡◌, ◌⊎◌, ℕ, false, List, Result, Ok, Err, IfErr, ⊤}
+use Rattle.sval_core.specs.Trees.{Tree}
+use Rattle.sval_core.specs.Spells.{Spells}
+use Rattle.sval_core.specs.Law.{Emission, Law, Standing, Streams}
+use Rattle.sval_core.specs.Values.{makes}
+use Rattle.sval_label.specs.Calls.{Call}
+use Rattle.sval_check.specs.Checks.{CheckAnswer, IsFirstBad, OnlyRefuses, IsUnfinished}
+use Rattle.sval_check.specs.declared.error.CheckError.TheVariants as checked
+use Rattle.sval_buffer.specs.Forest.{Forest, replayed}
+use Rattle.sval_filter.specs.Paths.{Path, Rule}
+use Rattle.sval_filter.specs.Pruned.{pruned}
+use Rattle.sval_filter.specs.declared.pruning.PruneError.{PruneError}
+use Rattle.sval_filter.specs.declared.pruning.PruneError.TheVariants.{NotATree, Refused, NoMemory}
+
+-- the value doesn't refuse, its calls spell a tree, and the replay of this forest spells what is left of that
+pub record IsPruned (e : Emission) (rule : Rule) (paths : List Path) (f : Forest) : Type 0 where
+  pub willing : e.refuses ≡ false
+  pub tree : Tree
+  pub spells : Spells e.calls tree
+  pub left : Spells (replayed f) (pruned rule paths tree)
+
+-- memory was wanting
+abbrev pub IsWant : PruneError → Type 0
+IsWant why = why ≡ NoMemory
+
+-- the cause of an error
+abbrev pub IsPruneCause : Emission → PruneError → Type 0
+IsPruneCause e NotATree = ((at : ℕ) × IsFirstBad e.calls at) ⊎ IsUnfinished e
+IsPruneCause e Refused = OnlyRefuses e
+IsPruneCause e NoMemory = ⊤
+
+-- the answer where checking answers so, or memory was wanting
+abbrev pub IsDueToPrune : {T : Type 0} → CheckAnswer → Result T PruneError → Type 0
+IsDueToPrune (Ok done) result = IfErr result IsWant
+IsDueToPrune (Err (checked.BadCall at)) result = (result ≡ Err NotATree) ⊎ (result ≡ Err NoMemory)
+IsDueToPrune (Err checked.Unfinished) result = (result ≡ Err NotATree) ⊎ (result ≡ Err NoMemory)
+IsDueToPrune (Err checked.Refused) result = (result ≡ Err Refused) ⊎ (result ≡ Err NoMemory)
+IsDueToPrune (Err checked.NoMemory) result = result ≡ Err NoMemory
+
+-- the value doesn't refuse, and where its calls spell a tree, the stream took calls that spell what is left of it
+abbrev pub PassesPruned : {V : Type 0} → Law V → Standing V → Emission → Rule → List Path → Standing V → Type 0
+PassesPruned law old e rule paths new =
+    (tree : Tree) → Spells e.calls tree → (e.refuses ≡ false) × ((taken : List Call) × Streams law old (makes taken) new × Spells taken (pruned rule paths tree))

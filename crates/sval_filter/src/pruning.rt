@@ -1,0 +1,96 @@
+//! Values with what a rule and paths leave of them.
+
+ghost use Rattle.std.specs.Prelude.{IfOk, IfErr};
+ghost use Rattle.sval_check.specs.Checks.{CheckAnswer, IsDue, IsOneValue};
+ghost use Rattle.sval_buffer.specs.FlatForest.{forest_in};
+ghost use Rattle.sval_filter.specs.Pruning.{IsPruned, PassesPruned, IsPruneCause, IsDueToPrune, IsWant};
+
+use crate::filter::Filter;
+use crate::paths::{Paths, Rule};
+use crate::readable::Readable;
+use std::alloc::Global;
+use sval_buffer::{AnyValue, AnyValueBuf, CallStore};
+use sval_check::{CheckError, check};
+use sval_core::{Lent, NoMemory, Stream, Value};
+
+/// Why a value wasn't pruned.
+#[derive(Clone, Copy, Debug, PartialEq, Eq)]
+pub enum PruneError {
+    /// Its calls are not one whole value.
+    NotATree,
+    /// It refused by itself, after calls that can be completed.
+    Refused,
+    /// Memory was wanting.
+    NoMemory,
+}
+
+/// A copy of a value with what a rule and paths leave of it.
+///
+/// Its replay spells what is left of the value that the calls of `v` spell. A text or a binary of one fragment that `v`
+/// lends is kept by reference, but those of a map's keys are copied.
+///
+/// ```
+/// let mut paths = Paths::new(alloc);
+/// paths.push_word("user.password")?;
+/// let value: Value<'_> = prune(alloc, &event, Rule::Drop, &paths)?;
+/// stream.value(&value)?;
+/// ```
+///
+/// # Errors
+///
+/// [`PruneError::NotATree`] exactly where [`check`] answers that a call goes on with no value, or that the value is
+/// unfinished. [`PruneError::Refused`] exactly where it answers that the value itself refuses. [`PruneError::NoMemory`]
+/// where memory was wanting.
+pub fn prune<'sval, N: CallStore + 'sval, V: Value<'sval, Lent<'sval>>>(
+    alloc: Global,
+    v: &'sval V,
+    rule: Rule,
+    paths: &Paths,
+) -> Result<AnyValue<'sval, N>, PruneError>
+    ensures ok { IfOk result (λ value. IsPruned (V.emission v.now) rule paths.now (forest_in value)) }
+    ensures err { IfErr result (λ why. IsPruneCause (V.emission v.now) why) }
+    ensures comes { (due : CheckAnswer) → IsDue (V.emission v.now) due → IsDueToPrune due result }
+{
+    match check(alloc, v) {
+        Ok(()) => prune_tree(alloc, v, rule, paths),
+        Err(CheckError::BadCall { at: _ }) => Err(PruneError::NotATree),
+        Err(CheckError::Unfinished) => Err(PruneError::NotATree),
+        Err(CheckError::Refused) => Err(PruneError::Refused),
+        Err(CheckError::NoMemory) => Err(PruneError::NoMemory),
+    }
+}
+
+/// Prunes a value that is a whole one.
+fn prune_tree<'sval, N: CallStore + 'sval, V: Value<'sval, Lent<'sval>>>(
+    alloc: Global,
+    v: &'sval V,
+    rule: Rule,
+    paths: &Paths,
+) -> Result<AnyValue<'sval, N>, PruneError>
+    requires { IsOneValue (V.emission v.now) }
+    ensures ok { IfOk result (λ value. IsPruned (V.emission v.now) rule paths.now (forest_in value)) }
+    ensures err { IfErr result IsWant }
+{
+    let buffer: AnyValueBuf<'sval, N> = AnyValueBuf::new(alloc);
+    match pass_value(alloc, v, rule, paths, buffer) {
+        Ok(buffer) => Ok(buffer.into_value()),
+        Err(_) => Err(PruneError::NoMemory),
+    }
+}
+
+/// Passes a value on to a stream through a filter, and gives the stream back.
+fn pass_value<'v, L: Readable, S: Stream<L> + Drop, V: Value<'v, L>>(
+    alloc: Global,
+    v: &'v V,
+    rule: Rule,
+    paths: &Paths,
+    stream: S,
+) -> Result<S, NoMemory>
+    ensures { IfOk result (λ after. PassesPruned S.law (S.standing stream) (V.emission v.now) rule paths.now (S.standing after)) }
+{
+    let mut filter = Filter::new(alloc, rule, paths, stream);
+    match v.stream(&mut filter) {
+        Ok(()) => Ok(filter.into_inner()),
+        Err(_) => Err(NoMemory),
+    }
+}
