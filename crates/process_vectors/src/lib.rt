@@ -6,6 +6,8 @@ mod cbor;
 #[cfg(test)]
 mod cbor_read;
 #[cfg(test)]
+mod filter;
+#[cfg(test)]
 mod json_read;
 #[cfg(test)]
 mod process;

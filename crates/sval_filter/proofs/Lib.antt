@@ -16,4 +16,10 @@ mod Sieving
 mod SieveSteps
 mod FilterSteps
 mod PruneSteps
+mod Verdicts
+mod LeftTexts
+mod ScriptAnswers
+mod RunAnswers
+mod RunCounts
+mod WordSteps
 mod examples

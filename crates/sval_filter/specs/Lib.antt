@@ -14,3 +14,9 @@ pub mod Sieves
 pub mod SeenFilters
 pub mod Pruning
 pub mod Words
+pub mod Forms
+pub mod Verdict
+pub mod Refused
+pub mod Statuses
+pub mod Reports
+pub mod Serves

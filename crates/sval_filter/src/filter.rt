@@ -22,7 +22,8 @@ use sval_core::{AnyCall, Error, Stream};
 /// The key of an entry is held until its end, since its text says whether the entry is left out; then it goes on with
 /// computed fragments.
 ///
-/// A call is refused for the first of these causes, which [`why`](Filter::why) then tells:
+/// Until the inner stream has refused a call that was due, a call is refused for the first of these causes, which
+/// [`why`](Filter::why) then tells:
 ///
 /// - [`Why::NotViable`] comes exactly where no value goes on with the call after those so far. It leaves all as before.
 /// - [`Why::NoMemory`] comes only where one does, and memory was wanting for what the call begins, or for the key that

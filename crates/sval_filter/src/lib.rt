@@ -3,18 +3,23 @@
 //! [`Paths`] name fields and entries, and a [`Rule`] says whether they are left out or they alone stay
 //! (`specs/Pruned.antt`). A [`Filter`] is a stream before another one, which passes on the calls of what is left
 //! (`specs/Filtering.antt`); its law stands in `specs/FilterLaw.antt`. [`prune`] gives a value with what is left
-//! (`specs/Pruning.antt`). [`laws`] has what holds of them.
+//! (`specs/Pruning.antt`), and [`run_filter`] is a whole program over any words and devices. [`laws`] has what holds of
+//! them.
 #![tactic(auto)]
 
+mod failure;
 mod filter;
+mod form;
 mod held;
 mod key_text;
 pub mod laws;
 mod layer;
 mod layers;
 mod paths;
+mod program;
 mod pruning;
 mod readable;
+mod running;
 mod sieve;
 mod tails;
 #[cfg(test)]
@@ -22,6 +27,8 @@ mod tests;
 
 pub use filter::Filter;
 pub use paths::{PathError, Paths, Rule};
+pub use program::FilterFields;
 pub use pruning::{PruneError, prune};
 pub use readable::Readable;
+pub use running::run_filter;
 pub use sval_check::Why;

@@ -141,7 +141,7 @@ impl Paths {
 }
 
 /// Some piece of the word between dots is empty.
-fn is_bad_word(word: &str) -> bool
+pub(crate) fn is_bad_word(word: &str) -> bool
     ensures { result ≡ is_bad_word word.now }
 {
     word.split('.').any(|piece| piece.is_empty())

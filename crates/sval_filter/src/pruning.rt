@@ -32,15 +32,17 @@ pub enum PruneError {
 /// ```
 /// let mut paths = Paths::new(alloc);
 /// paths.push_word("user.password")?;
-/// let value: Value<'_> = prune(alloc, &event, Rule::Drop, &paths)?;
-/// stream.value(&value)?;
+/// let left: sval_buffer::Value<'_> = prune(alloc, &event, Rule::Drop, &paths)?;
+/// stream_to_io_write(&mut sink, &left)?;
 /// ```
+///
+/// The store `N` is found from the type that is named for the result, which is `sval_buffer::Value` in general.
 ///
 /// # Errors
 ///
 /// [`PruneError::NotATree`] exactly where [`check`] answers that a call goes on with no value, or that the value is
 /// unfinished. [`PruneError::Refused`] exactly where it answers that the value itself refuses. [`PruneError::NoMemory`]
-/// where memory was wanting.
+/// where memory was wanting. The first two come wherever they stand, unless memory was wanting.
 pub fn prune<'sval, N: CallStore + 'sval, V: Value<'sval, Lent<'sval>>>(
     alloc: Global,
     v: &'sval V,
@@ -61,7 +63,7 @@ pub fn prune<'sval, N: CallStore + 'sval, V: Value<'sval, Lent<'sval>>>(
 }
 
 /// Prunes a value that is a whole one.
-fn prune_tree<'sval, N: CallStore + 'sval, V: Value<'sval, Lent<'sval>>>(
+pub(crate) fn prune_tree<'sval, N: CallStore + 'sval, V: Value<'sval, Lent<'sval>>>(
     alloc: Global,
     v: &'sval V,
     rule: Rule,

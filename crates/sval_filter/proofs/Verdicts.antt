@@ -1,0 +1,101 @@
+-- Each script has one verdict at most.
+use Rattle.std.specs.Prelude.{◌≡◌, ℕ, List, length, Option, Some, None, Result, Ok, Err, refl}
+use Rattle.std.proofs.Common.{sym, ap, ◌∙◌, subst, arith}
+use Rattle.sval_label.specs.Calls.{Call}
+use Rattle.sval_core.specs.Spells.{Spells}
+use Rattle.sval_core.specs.Trees.{Tree}
+use Rattle.sval_core.proofs.FirstBad.{one_first_bad, none_bad}
+use Rattle.sval_core.proofs.Spellings.{spells_one, spelling_is_viable}
+use Rattle.sval_check.specs.Checks.{IsFirstBad}
+use Rattle.sval_json.specs.Json.{Json, compact}
+use Rattle.sval_json.specs.Number.{Refusal}
+use Rattle.sval_json.specs.Shape.{json_of}
+use Rattle.sval_script.specs.Lines.{Lines, Good, Bad}
+use Rattle.sval_filter.specs.Forms.{Asked}
+use Rattle.sval_filter.specs.Pruned.{pruned}
+use Rattle.sval_filter.specs.Verdict.{Verdict, BadLine, BadCall, Unfinished, Whole, IsJson, IsCutAt, IsWritten, AreUnfinished, SpellWhole, IsOfCalls, OfCalls, IsVerdict, OnVerdict}
+
+-- ---- of a tree
+
+json_or_none : {found : Result Json Refusal} {json : Json} {why : Refusal} → found ≡ Ok json → found ≡ Err why → ⊥
+json_or_none e f = let both = sym e ∙ f in cc both
+
+same_json : {found : Result Json Refusal} {json other : Json} → found ≡ Ok json → found ≡ Ok other → json ≡ other
+same_json e f = let both = sym e ∙ f in cc both
+
+same_refusal : {found : Result Json Refusal} {why other : Refusal} → found ≡ Err why → found ≡ Err other → why ≡ other
+same_refusal e f = let both = sym e ∙ f in cc both
+
+one_written : (refused other : Option Refusal) (bytes more : List ℕ) (tree : Tree) → IsWritten refused bytes tree → IsWritten other more tree → Whole refused bytes ≡ Whole other more
+one_written None None bytes more tree a b = ap (Whole None) (a.is_text ∙ ap compact (same_json a.shape b.shape) ∙ sym b.is_text)
+one_written None (Some why) bytes more tree a b = absurd (json_or_none a.shape b.shape)
+one_written (Some why) None bytes more tree a b = absurd (json_or_none b.shape a.shape)
+one_written (Some why) (Some other) bytes more tree a b =
+    ap (λ w. Whole (Some w) bytes) (same_refusal a.shape b.shape) ∙ ap (Whole (Some other)) (a.is_written ∙ sym b.is_written)
+
+-- ---- of calls
+
+one_number : (calls : List Call) (n m : ℕ) → IsFirstBad calls n → IsFirstBad calls m → n ≡ m
+one_number calls n m a b =
+    let same : length a.front ≡ length b.front = ap length (one_first_bad a.front b.front a.call b.call a.rest b.rest a.whole b.whole a.before a.bad b.before b.bad) in
+    omega (arith, same, a.number, b.number)
+
+not_viable : (calls : List Call) (n : ℕ) → IsFirstBad calls n → AreUnfinished calls → ⊥
+not_viable calls n a u = none_bad calls a.front a.rest a.call a.whole u.viable a.bad
+
+not_whole : (calls : List Call) (n : ℕ) (tree : Tree) → IsFirstBad calls n → Spells calls tree → ⊥
+not_whole calls n tree a s = none_bad calls a.front a.rest a.call a.whole (spelling_is_viable calls tree s) a.bad
+
+one_whole : (calls : List Call) (asked : Asked) (refused other : Option Refusal) (bytes more : List ℕ) → SpellWhole refused bytes asked calls → SpellWhole other more asked calls → Whole refused bytes ≡ Whole other more
+one_whole calls asked refused other bytes more a b =
+    one_written refused other bytes more (pruned asked.0 asked.1 b.tree)
+    (subst (λ (tree : Tree). IsWritten refused bytes (pruned asked.0 asked.1 tree)) (spells_one calls a.tree b.tree a.spells b.spells) a.is) b.is
+
+one_of_calls : (v w : Verdict) (asked : Asked) (calls : List Call) → IsOfCalls v asked calls → IsOfCalls w asked calls → v ≡ w
+one_of_calls (BadLine n) w asked calls a b = absurd a
+one_of_calls v (BadLine n) asked calls a b = absurd b
+one_of_calls (BadCall n) (BadCall m) asked calls a b = ap BadCall (one_number calls n m a b)
+one_of_calls (BadCall n) Unfinished asked calls a b = absurd (not_viable calls n a b)
+one_of_calls (BadCall n) (Whole refused bytes) asked calls a b = absurd (not_whole calls n b.tree a b.spells)
+one_of_calls Unfinished (BadCall n) asked calls a b = absurd (not_viable calls n b a)
+one_of_calls Unfinished Unfinished asked calls a b = refl
+one_of_calls Unfinished (Whole refused bytes) asked calls a b = absurd (a.no_tree b.tree b.spells)
+one_of_calls (Whole refused bytes) (BadCall n) asked calls a b = absurd (not_whole calls n a.tree b a.spells)
+one_of_calls (Whole refused bytes) Unfinished asked calls a b = absurd (b.no_tree a.tree a.spells)
+one_of_calls (Whole refused bytes) (Whole other more) asked calls a b = one_whole calls asked refused other bytes more a b
+
+-- ---- of scripts
+
+same_calls : {found : Lines} {calls others : List Call} → found ≡ Good calls → found ≡ Good others → others ≡ calls
+same_calls e f = let both = sym f ∙ e in cc both
+
+bad_or_good : {found : Lines} {n : ℕ} {calls : List Call} → found ≡ Bad n → found ≡ Good calls → ⊥
+bad_or_good e f = let both = sym e ∙ f in cc both
+
+one_bad : {found : Lines} {n m : ℕ} → found ≡ Bad n → found ≡ Bad m → n ≡ m
+one_bad e f = let both = sym e ∙ f in cc both
+
+one_of_lines : (v w : Verdict) (script : List ℕ) (asked : Asked) → OfCalls v script asked → OfCalls w script asked → v ≡ w
+one_of_lines v w script asked a b = one_of_calls v w asked a.calls a.is (subst (IsOfCalls w asked) (same_calls a.good b.good) b.is)
+
+pub one_verdict : (v w : Verdict) (script : List ℕ) (asked : Asked) → IsVerdict v script asked → IsVerdict w script asked → v ≡ w
+one_verdict (BadLine n) (BadLine m) script asked a b = ap BadLine (one_bad a b)
+one_verdict (BadLine n) (BadCall m) script asked a b = absurd (bad_or_good a b.good)
+one_verdict (BadLine n) Unfinished script asked a b = absurd (bad_or_good a b.good)
+one_verdict (BadLine n) (Whole refused bytes) script asked a b = absurd (bad_or_good a b.good)
+one_verdict (BadCall n) (BadLine m) script asked a b = absurd (bad_or_good b a.good)
+one_verdict (BadCall n) (BadCall m) script asked a b = one_of_lines (BadCall n) (BadCall m) script asked a b
+one_verdict (BadCall n) Unfinished script asked a b = one_of_lines (BadCall n) Unfinished script asked a b
+one_verdict (BadCall n) (Whole refused bytes) script asked a b = one_of_lines (BadCall n) (Whole refused bytes) script asked a b
+one_verdict Unfinished (BadLine m) script asked a b = absurd (bad_or_good b a.good)
+one_verdict Unfinished (BadCall m) script asked a b = one_of_lines Unfinished (BadCall m) script asked a b
+one_verdict Unfinished Unfinished script asked a b = refl
+one_verdict Unfinished (Whole refused bytes) script asked a b = one_of_lines Unfinished (Whole refused bytes) script asked a b
+one_verdict (Whole refused bytes) (BadLine m) script asked a b = absurd (bad_or_good b a.good)
+one_verdict (Whole refused bytes) (BadCall m) script asked a b = one_of_lines (Whole refused bytes) (BadCall m) script asked a b
+one_verdict (Whole refused bytes) Unfinished script asked a b = one_of_lines (Whole refused bytes) Unfinished script asked a b
+one_verdict (Whole refused bytes) (Whole other more) script asked a b = one_of_lines (Whole refused bytes) (Whole other more) script asked a b
+
+-- what holds of the verdict found holds of each
+pub of_each : (script : List ℕ) (asked : Asked) (found : Verdict) (P : Verdict → Type 0) → IsVerdict found script asked → P found → OnVerdict P script asked
+of_each script asked found P v p answer w = subst P (one_verdict found answer script asked v w) p
