@@ -2,148 +2,78 @@
 
 use std::alloc::Global;
 use std::test::Fail;
-use sval_buffer::ValueBuf;
-use sval_core::{Label, Stream};
+use sval_core::Stream;
 use sval_filter::{Filter, PathError, Paths, PruneError, Rule, Why, prune};
-use sval_json::stream_to_vec;
+use sval_json::{VecSink, stream_to_vec};
+use sval_script::{Printer, Script};
 
-/// A record of three fields: `{"field_0":1,"field_1":true,"field_2":"some text"}`.
-fn three_fields<'a>(alloc: Global) -> Result<ValueBuf<'a>, sval_core::Error> {
-    let (first, second, third) = (
-        Label::new("field_0"),
-        Label::new("field_1"),
-        Label::new("field_2"),
-    );
-    let mut value = ValueBuf::new(alloc);
-    value.record_begin(None, None, None, Some(3))?;
-    value.record_value_begin(None, &first)?;
-    value.i64(1)?;
-    value.record_value_end(None, &first)?;
-    value.record_value_begin(None, &second)?;
-    value.bool(true)?;
-    value.record_value_end(None, &second)?;
-    value.record_value_begin(None, &third)?;
-    value.text_begin(None)?;
-    value.text_fragment("some text")?;
-    value.text_end()?;
-    value.record_value_end(None, &third)?;
-    value.record_end(None, None, None)?;
-    Ok(value)
-}
-
-/// The field of a record, `{"a":1}`, with the record's begin and end, which say this name.
-fn one_field(value: &mut ValueBuf<'_>, name: Option<&Label<'_>>) -> sval_core::Result {
-    let label = Label::new("a");
-    value.record_begin(None, name, None, Some(1))?;
-    value.record_value_begin(None, &label)?;
-    value.i64(1)?;
-    value.record_value_end(None, &label)?;
-    value.record_end(None, name, None)
-}
-
-/// A record as the variant of an enum: `{"V":{"a":1}}`.
-fn variant<'a>(alloc: Global) -> Result<ValueBuf<'a>, sval_core::Error> {
-    let name = Label::new("V");
-    let mut value = ValueBuf::new(alloc);
-    value.enum_begin(None, None, None)?;
-    one_field(&mut value, Some(&name))?;
-    value.enum_end(None, None, None)?;
-    Ok(value)
-}
-
-/// A map of one entry, whose key is a name or a text: `{"k":{"a":1}}`.
-fn entry<'a>(alloc: Global, is_text: bool) -> Result<ValueBuf<'a>, sval_core::Error> {
-    let name = Label::new("k");
-    let mut value = ValueBuf::new(alloc);
-    value.map_begin(Some(1))?;
-    value.map_key_begin()?;
-    if is_text {
-        value.text_begin(None)?;
-        value.text_fragment("k")?;
-        value.text_end()?;
-    } else {
-        value.tag(None, Some(&name), None)?;
-    }
-    value.map_key_end()?;
-    value.map_value_begin()?;
-    one_field(&mut value, None)?;
-    value.map_value_end()?;
-    value.map_end()?;
-    Ok(value)
-}
-
-/// What is left of a value by a rule and a word, as JSON.
-fn left(alloc: Global, value: &ValueBuf<'_>, rule: Rule, word: &str) -> Result<Vec<u8>, Fail> {
+/// What a rule and a path leave of the value of a script, as JSON.
+fn left(alloc: Global, lines: &str, rule: Rule, word: &str) -> Result<Vec<u8>, Fail> {
+    let script = Script::read(alloc, lines.as_bytes())?;
     let mut paths = Paths::new(alloc);
     paths.push_word(word)?;
-    let pruned: sval_buffer::Value<'_> = prune(alloc, value, rule, &paths)?;
+    let pruned: sval_buffer::Value<'_> = prune(alloc, &script, rule, &paths)?;
     Ok(stream_to_vec(alloc, &pruned)?)
 }
 
-/// Rules and words, and what they leave of a record of three fields.
-const FIELDS: [(Rule, &str, &str); 5] = [
+/// A record of three fields: `{"field_0":1,"field_1":true,"field_2":"some text"}`.
+const RECORD: &'static str = "record_begin - - - 3\n\
+    record_value_begin - =6669656c645f30\ni64 1\nrecord_value_end - =6669656c645f30\n\
+    record_value_begin - =6669656c645f31\nbool true\nrecord_value_end - =6669656c645f31\n\
+    record_value_begin - =6669656c645f32\ntext_begin -\ntext_fragment =736f6d652074657874\ntext_end\n\
+    record_value_end - =6669656c645f32\nrecord_end - - -\n";
+
+/// A record as the variant of an enum: `{"V":{"a":1}}`.
+const VARIANT: &'static str = "enum_begin - - -\nrecord_begin - =56 - 1\nrecord_value_begin - =61\n\
+    i64 1\nrecord_value_end - =61\nrecord_end - =56 -\nenum_end - - -\n";
+
+/// A map of one entry, whose key is a text: `{"k":{"a":1}}`.
+const ENTRY: &'static str =
+    "map_begin 1\nmap_key_begin\ntext_begin -\ntext_fragment =6b\ntext_end\n\
+    map_key_end\nmap_value_begin\nrecord_begin - - - 1\nrecord_value_begin - =61\ni64 1\n\
+    record_value_end - =61\nrecord_end - - -\nmap_value_end\nmap_end\n";
+
+/// The same with a tag as the key, which is no text.
+const TAG_ENTRY: &'static str = "map_begin 1\nmap_key_begin\ntag - =6b -\nmap_key_end\n\
+    map_value_begin\nrecord_begin - - - 1\nrecord_value_begin - =61\ni64 1\n\
+    record_value_end - =61\nrecord_end - - -\nmap_value_end\nmap_end\n";
+
+/// A value, a rule and a word, and what is left.
+const LEFT: [(&str, Rule, &str, &str); 10] = [
     (
+        RECORD,
         Rule::Drop,
         "field_1",
         "{\"field_0\":1,\"field_2\":\"some text\"}",
     ),
-    (Rule::Keep, "field_2", "{\"field_2\":\"some text\"}"),
-    (Rule::Keep, "none", "{}"),
+    (RECORD, Rule::Keep, "field_2", "{\"field_2\":\"some text\"}"),
+    (RECORD, Rule::Keep, "none", "{}"),
     // Neither a front of a label nor a path beyond a field names the field.
     (
+        RECORD,
         Rule::Drop,
         "field",
         "{\"field_0\":1,\"field_1\":true,\"field_2\":\"some text\"}",
     ),
     (
+        RECORD,
         Rule::Drop,
         "field_0.a",
         "{\"field_0\":1,\"field_1\":true,\"field_2\":\"some text\"}",
     ),
+    (VARIANT, Rule::Drop, "a", "{\"V\":{}}"),
+    (ENTRY, Rule::Drop, "k", "{}"),
+    (ENTRY, Rule::Drop, "k.a", "{\"k\":{}}"),
+    (TAG_ENTRY, Rule::Drop, "k", "{\"k\":{\"a\":1}}"),
+    (TAG_ENTRY, Rule::Keep, "k", "{}"),
 ];
 
 #[test]
-fn leaves_out_fields_of_a_record(rt: HostRuntime) -> Result<(), Fail> {
-    let value = three_fields(rt.alloc())?;
-    for (rule, word, json) in &FIELDS {
-        assert_eq!(rt;
-            left(rt.alloc(), &value, *rule, word)?.as_slice(),
-            json.as_bytes()
-        );
+fn leaves_what_rules_and_paths_say(rt: HostRuntime) -> Result<(), Fail> {
+    for (lines, rule, word, json) in LEFT {
+        let left = left(rt.alloc(), lines, rule, word)?;
+        assert_eq!(rt; left.as_slice(), json.as_bytes(), "{rule:?} {word}");
     }
-    Ok(())
-}
-
-#[test]
-fn prunes_what_an_enum_holds(rt: HostRuntime) -> Result<(), Fail> {
-    let value = variant(rt.alloc())?;
-    assert_eq!(rt;
-        left(rt.alloc(), &value, Rule::Drop, "a")?.as_slice(),
-        b"{\"V\":{}}".as_slice()
-    );
-    Ok(())
-}
-
-#[test]
-fn takes_texts_alone_as_labels_of_entries(rt: HostRuntime) -> Result<(), Fail> {
-    let named = entry(rt.alloc(), false)?;
-    assert_eq!(rt;
-        left(rt.alloc(), &named, Rule::Drop, "k")?.as_slice(),
-        b"{\"k\":{\"a\":1}}".as_slice()
-    );
-    assert_eq!(rt;
-        left(rt.alloc(), &named, Rule::Keep, "k")?.as_slice(),
-        b"{}".as_slice()
-    );
-    let text = entry(rt.alloc(), true)?;
-    assert_eq!(rt;
-        left(rt.alloc(), &text, Rule::Drop, "k")?.as_slice(),
-        b"{}".as_slice()
-    );
-    assert_eq!(rt;
-        left(rt.alloc(), &text, Rule::Drop, "k.a")?.as_slice(),
-        b"{\"k\":{}}".as_slice()
-    );
     Ok(())
 }
 
@@ -153,26 +83,55 @@ fn leaves_a_field_that_no_path_names(rt: HostRuntime) -> Result<(), Fail> {
     assert_eq!(rt; paths.extend_path("b"), Err(PathError::NoPath));
     paths.new_path("a")?;
     paths.extend_path("b")?;
-    let mut value = ValueBuf::new(rt.alloc());
-    one_field(&mut value, None)?;
-    let pruned: sval_buffer::Value<'_> = prune(rt.alloc(), &value, Rule::Drop, &paths)?;
+    assert_eq!(rt; paths.push_word("a..b"), Err(PathError::BadWord));
+    let script = Script::read(rt.alloc(), VARIANT.as_bytes())?;
+    let pruned: sval_buffer::Value<'_> = prune(rt.alloc(), &script, Rule::Drop, &paths)?;
     assert_eq!(rt;
         stream_to_vec(rt.alloc(), &pruned)?.as_slice(),
-        b"{\"a\":1}".as_slice()
+        b"{\"V\":{\"a\":1}}".as_slice()
     );
+    Ok(())
+}
+
+/// Why this script's value can't be pruned, if it can't.
+fn refused(alloc: Global, lines: &str) -> Result<Option<PruneError>, Fail> {
+    let script = Script::read(alloc, lines.as_bytes())?;
+    let paths = Paths::new(alloc);
+    let pruned: Result<sval_buffer::Value<'_>, PruneError> = prune(
+        alloc,
+        &script,
+        Rule::Drop,
+        &paths,
+    );
+    Ok(pruned.err())
+}
+
+#[test]
+fn prunes_whole_values_alone(rt: HostRuntime) -> Result<(), Fail> {
+    for lines in ["", "seq_begin -\n", "null\nnull\n", "seq_end\n"] {
+        assert_eq!(rt;
+            refused(rt.alloc(), lines)?,
+            Some(PruneError::NotATree),
+            "{lines:?}"
+        );
+    }
+    assert_eq!(rt; refused(rt.alloc(), RECORD)?, None);
     Ok(())
 }
 
 #[test]
 fn tells_why_it_refuses(rt: HostRuntime) -> Result<(), Fail> {
-    let paths = Paths::new(rt.alloc());
-    let unfinished = ValueBuf::new(rt.alloc());
-    let mut filter = Filter::new(rt.alloc(), Rule::Drop, &paths, unfinished);
-    filter.seq_begin(None)?;
+    let alloc = rt.alloc();
+    let paths = Paths::new(alloc);
+    let printer = Printer::new(VecSink::new(alloc));
+    let mut filter = Filter::new(alloc, Rule::Drop, &paths, printer);
+    filter.seq_begin(Some(0))?;
     assert!(rt; filter.map_end().is_err());
     assert_eq!(rt; filter.why(), Some(Why::NotViable));
     assert!(rt; !filter.is_whole());
-    let unfinished = filter.into_inner();
-    assert!(rt; unfinished.is_complete() == false);
+    filter.seq_end()?;
+    assert!(rt; filter.is_whole());
+    let printed = filter.into_inner().into_inner();
+    assert_eq!(rt; printed.as_slice(), b"seq_begin 0\nseq_end\n".as_slice());
     Ok(())
 }
