@@ -1,9 +1,12 @@
 //! The calls.
 
+ghost use Rattle.std.specs.Prelude.{◌≡◌, ⊤};
+
 use crate::index::Index;
 use crate::label::Label;
 use crate::name::Name;
 use crate::tag::Tag;
+use std::alloc::AllocError;
 use std::marker::PhantomData;
 
 /// What a stream may keep of the calls that it takes: texts and bytes that outlive the call.
@@ -47,7 +50,7 @@ impl<'sval> Lending for Lent<'sval> {
 /// bytes, or of a container's entries.
 ///
 /// [`AnyCall::grouped`] has the calls that differ in little more than their words as one.
-#[derive(Clone, Copy, Debug)]
+#[derive(Copy, Debug)]
 pub enum AnyCall<'c, T, B> {
     /// No value.
     Null,
@@ -145,6 +148,72 @@ pub enum AnyCall<'c, T, B> {
     RecordTupleValueEnd(Option<&'c Tag>, &'c Label<'c>, &'c Index),
     /// A record that is a tuple too ends.
     RecordTupleEnd(Name<'c>),
+}
+
+// Field by field, since the checker covers no `*self` of a type parameter, and what is derived takes it minutes.
+impl<'c, T: Copy, B: Copy> Clone for AnyCall<'c, T, B> {
+    ghost is_clone = { λ call copy. copy ≡ call };
+
+    ghost is_infallible = { λ _. ⊤ };
+
+    fn clone(&self) -> Result<Self, AllocError> {
+        match self {
+            AnyCall::Null => Ok(AnyCall::Null),
+            AnyCall::Bool(value) => Ok(AnyCall::Bool(*value)),
+            AnyCall::U8(number) => Ok(AnyCall::U8(*number)),
+            AnyCall::U16(number) => Ok(AnyCall::U16(*number)),
+            AnyCall::U32(number) => Ok(AnyCall::U32(*number)),
+            AnyCall::U64(number) => Ok(AnyCall::U64(*number)),
+            AnyCall::U128(number) => Ok(AnyCall::U128(*number)),
+            AnyCall::I8(number) => Ok(AnyCall::I8(*number)),
+            AnyCall::I16(number) => Ok(AnyCall::I16(*number)),
+            AnyCall::I32(number) => Ok(AnyCall::I32(*number)),
+            AnyCall::I64(number) => Ok(AnyCall::I64(*number)),
+            AnyCall::I128(number) => Ok(AnyCall::I128(*number)),
+            AnyCall::TextBegin(size) => Ok(AnyCall::TextBegin(*size)),
+            AnyCall::TextFragment(fragment) => Ok(AnyCall::TextFragment(*fragment)),
+            AnyCall::TextFragmentComputed(fragment) => Ok(AnyCall::TextFragmentComputed(*fragment)),
+            AnyCall::TextEnd => Ok(AnyCall::TextEnd),
+            AnyCall::BinaryBegin(size) => Ok(AnyCall::BinaryBegin(*size)),
+            AnyCall::BinaryFragment(fragment) => Ok(AnyCall::BinaryFragment(*fragment)),
+            AnyCall::BinaryFragmentComputed(fragment) => Ok(AnyCall::BinaryFragmentComputed(
+                *fragment,
+            )),
+            AnyCall::BinaryEnd => Ok(AnyCall::BinaryEnd),
+            AnyCall::MapBegin(size) => Ok(AnyCall::MapBegin(*size)),
+            AnyCall::MapKeyBegin => Ok(AnyCall::MapKeyBegin),
+            AnyCall::MapKeyEnd => Ok(AnyCall::MapKeyEnd),
+            AnyCall::MapValueBegin => Ok(AnyCall::MapValueBegin),
+            AnyCall::MapValueEnd => Ok(AnyCall::MapValueEnd),
+            AnyCall::MapEnd => Ok(AnyCall::MapEnd),
+            AnyCall::SeqBegin(size) => Ok(AnyCall::SeqBegin(*size)),
+            AnyCall::SeqValueBegin => Ok(AnyCall::SeqValueBegin),
+            AnyCall::SeqValueEnd => Ok(AnyCall::SeqValueEnd),
+            AnyCall::SeqEnd => Ok(AnyCall::SeqEnd),
+            AnyCall::EnumBegin(name) => Ok(AnyCall::EnumBegin(*name)),
+            AnyCall::EnumEnd(name) => Ok(AnyCall::EnumEnd(*name)),
+            AnyCall::TaggedBegin(name) => Ok(AnyCall::TaggedBegin(*name)),
+            AnyCall::TaggedEnd(name) => Ok(AnyCall::TaggedEnd(*name)),
+            AnyCall::Tag(name) => Ok(AnyCall::Tag(*name)),
+            AnyCall::TagHint(tag) => Ok(AnyCall::TagHint(*tag)),
+            AnyCall::RecordBegin(name, size) => Ok(AnyCall::RecordBegin(*name, *size)),
+            AnyCall::RecordValueBegin(tag, label) => Ok(AnyCall::RecordValueBegin(*tag, *label)),
+            AnyCall::RecordValueEnd(tag, label) => Ok(AnyCall::RecordValueEnd(*tag, *label)),
+            AnyCall::RecordEnd(name) => Ok(AnyCall::RecordEnd(*name)),
+            AnyCall::TupleBegin(name, size) => Ok(AnyCall::TupleBegin(*name, *size)),
+            AnyCall::TupleValueBegin(tag, index) => Ok(AnyCall::TupleValueBegin(*tag, *index)),
+            AnyCall::TupleValueEnd(tag, index) => Ok(AnyCall::TupleValueEnd(*tag, *index)),
+            AnyCall::TupleEnd(name) => Ok(AnyCall::TupleEnd(*name)),
+            AnyCall::RecordTupleBegin(name, size) => Ok(AnyCall::RecordTupleBegin(*name, *size)),
+            AnyCall::RecordTupleValueBegin(tag, label, index) => Ok(AnyCall::RecordTupleValueBegin(
+                *tag, *label, *index,
+            )),
+            AnyCall::RecordTupleValueEnd(tag, label, index) => Ok(AnyCall::RecordTupleValueEnd(
+                *tag, *label, *index,
+            )),
+            AnyCall::RecordTupleEnd(name) => Ok(AnyCall::RecordTupleEnd(*name)),
+        }
+    }
 }
 
 /// A call whose borrowed fragments live for `'sval`, and all else for `'c`.

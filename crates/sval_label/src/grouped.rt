@@ -1,6 +1,6 @@
 //! The calls in groups.
 
-ghost use Rattle.std.specs.Prelude.{◌≡◌, ℕ, List};
+ghost use Rattle.std.specs.Prelude.{◌≡◌, ⊤, ℕ, List};
 ghost use Rattle.sval_label.specs.Made.{call_of};
 ghost use Rattle.sval_label.specs.Grouped.{grouped_call};
 
@@ -9,6 +9,7 @@ use crate::index::Index;
 use crate::label::Label;
 use crate::name::Name;
 use crate::tag::Tag;
+use std::alloc::AllocError;
 
 /// A whole number of any type.
 #[derive(Clone, Copy, Debug, PartialEq, Eq)]
@@ -79,7 +80,7 @@ pub enum Slot<'c> {
 /// A call by what it does: the calls that differ in a number's type, in the container or in the part are one.
 ///
 /// A stream matches this, so that it does the same for all calls that do the same. [`AnyCall::grouped`] makes it.
-#[derive(Clone, Copy, Debug)]
+#[derive(Copy, Debug)]
 pub enum GroupedCall<'c, T, B> {
     /// No value.
     Null,
@@ -119,6 +120,47 @@ pub enum GroupedCall<'c, T, B> {
     PartBegin(Slot<'c>),
     /// A part of a container ends.
     PartEnd(Slot<'c>),
+}
+
+// Field by field, for the same reason as that of `AnyCall`.
+impl<'c, T: Copy, B: Copy> Clone for GroupedCall<'c, T, B> {
+    ghost is_clone = { λ call copy. copy ≡ call };
+
+    ghost is_infallible = { λ _. ⊤ };
+
+    fn clone(&self) -> Result<Self, AllocError> {
+        match self {
+            GroupedCall::Null => Ok(GroupedCall::Null),
+            GroupedCall::Bool(value) => Ok(GroupedCall::Bool(*value)),
+            GroupedCall::Int(number) => Ok(GroupedCall::Int(*number)),
+            GroupedCall::TextBegin(size) => Ok(GroupedCall::TextBegin(*size)),
+            GroupedCall::TextFragment(Fragment::Borrowed(text)) => {
+                Ok(GroupedCall::TextFragment(Fragment::Borrowed(*text)))
+            }
+            GroupedCall::TextFragment(Fragment::Computed(text)) => {
+                Ok(GroupedCall::TextFragment(Fragment::Computed(*text)))
+            }
+            GroupedCall::TextEnd => Ok(GroupedCall::TextEnd),
+            GroupedCall::BinaryBegin(size) => Ok(GroupedCall::BinaryBegin(*size)),
+            GroupedCall::BinaryFragment(Fragment::Borrowed(bytes)) => {
+                Ok(GroupedCall::BinaryFragment(Fragment::Borrowed(*bytes)))
+            }
+            GroupedCall::BinaryFragment(Fragment::Computed(bytes)) => {
+                Ok(GroupedCall::BinaryFragment(Fragment::Computed(*bytes)))
+            }
+            GroupedCall::BinaryEnd => Ok(GroupedCall::BinaryEnd),
+            GroupedCall::EnumBegin(name) => Ok(GroupedCall::EnumBegin(*name)),
+            GroupedCall::EnumEnd(name) => Ok(GroupedCall::EnumEnd(*name)),
+            GroupedCall::TaggedBegin(name) => Ok(GroupedCall::TaggedBegin(*name)),
+            GroupedCall::TaggedEnd(name) => Ok(GroupedCall::TaggedEnd(*name)),
+            GroupedCall::Tag(name) => Ok(GroupedCall::Tag(*name)),
+            GroupedCall::TagHint(tag) => Ok(GroupedCall::TagHint(*tag)),
+            GroupedCall::Begin(head, size) => Ok(GroupedCall::Begin(*head, *size)),
+            GroupedCall::End(head) => Ok(GroupedCall::End(*head)),
+            GroupedCall::PartBegin(slot) => Ok(GroupedCall::PartBegin(*slot)),
+            GroupedCall::PartEnd(slot) => Ok(GroupedCall::PartEnd(*slot)),
+        }
+    }
 }
 
 impl<'c, T, B> AnyCall<'c, T, B> {
