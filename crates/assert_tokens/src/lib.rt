@@ -13,8 +13,6 @@ ghost use Rattle.assert_tokens.specs.Points.{point_emission};
 ghost use Rattle.assert_tokens.specs.Matches.{Makes};
 
 mod point;
-#[cfg(test)]
-mod tests;
 
 pub use point::Point;
 use std::alloc::Global;

@@ -21,8 +21,6 @@
 mod checking;
 mod lines;
 mod log;
-#[cfg(test)]
-mod tests;
 
 pub use checking::RecordError;
 pub use log::{AnyEventLog, EventLog};

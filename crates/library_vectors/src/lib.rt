@@ -7,6 +7,8 @@ mod adapters;
 #[cfg(test)]
 mod captured;
 #[cfg(test)]
+mod examples;
+#[cfg(test)]
 mod labels;
 #[cfg(test)]
 mod lists;

@@ -19,8 +19,6 @@ ghost use Rattle.logfmt.specs.declared.LogfmtError.TheVariants as error;
 ghost use Rattle.logfmt.specs.Pairs.{line_of};
 ghost use Rattle.logfmt.specs.Writing.{Gives, WritesText, nothing_written, written};
 
-#[cfg(test)]
-mod tests;
 mod writer;
 
 use std::alloc::Global;

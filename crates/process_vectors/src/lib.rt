@@ -13,3 +13,5 @@ mod json_read;
 mod process;
 #[cfg(test)]
 mod relay;
+#[cfg(test)]
+mod words;

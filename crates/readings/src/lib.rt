@@ -31,8 +31,6 @@ ghost use Rattle.readings.specs.Readings.{reading_calls, readings_calls};
 
 mod json;
 mod report;
-#[cfg(test)]
-mod tests;
 mod total;
 mod unit;
 

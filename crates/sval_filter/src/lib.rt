@@ -22,8 +22,6 @@ mod readable;
 mod running;
 mod sieve;
 mod tails;
-#[cfg(test)]
-mod tests;
 
 pub use filter::Filter;
 pub use paths::{PathError, Paths, Rule};

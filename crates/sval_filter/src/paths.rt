@@ -122,8 +122,8 @@ impl Paths {
         }
     }
 
-    /// The paths.
-    pub(crate) fn as_slice(&self) -> &[Vec<String>]
+    /// The paths in the order in which they were begun, each as its labels.
+    pub fn as_slice(&self) -> &[Vec<String>]
         ensures { paths_in result.now ≡ self.now }
     {
         self.paths.as_slice()

@@ -17,14 +17,12 @@ mod reading;
 mod real_source;
 mod source;
 pub mod status;
-#[cfg(test)]
-mod tests;
 
 pub use captured::print_captured;
 pub use faulty_source::FaultySource;
 pub use input_error::InputError;
 pub use line::{Line, tell};
-pub use process::run_process;
+pub use process::{run_process, status_without_words};
 pub use program::{Program, run_streams};
 pub use reading::{read_input, read_script};
 pub use real_source::RealSource;

@@ -14,8 +14,9 @@ use std::process::ExitCode;
 use std::rt::Env;
 use std::{env, io};
 
-/// The status where the system gave an error in place of the words.
-pub(crate) fn status_of(error: &io::Error) -> u8
+/// The status where the system gave an error in place of the words: [`NO_MEMORY`] where memory was wanting for them, and
+/// else [`NO_WORDS`].
+pub fn status_without_words(error: &io::Error) -> u8
     ensures no_memory { error_kind error.now ≡ ErrorKind.OutOfMemory → result ≡ NO_MEMORY }
     ensures no_words { error_kind error.now ≢ ErrorKind.OutOfMemory → result ≡ NO_WORDS }
 {
@@ -57,6 +58,6 @@ pub fn run_process<
 {
     ExitCode::from(match words(env) {
         Ok(words) => run_streams::<P, R, W, D>(env.alloc(), &words, stdin, stdout, stderr),
-        Err(error) => status_of(&error),
+        Err(error) => status_without_words(&error),
     })
 }

@@ -1,6 +1,6 @@
 //! Events that are recorded and written.
 
-use crate::{EventLog, RecordError};
+use event_log::{EventLog, RecordError};
 use std::alloc::{AllocError, Global};
 use std::collections::BTreeMap;
 use std::io::Write;

@@ -1,7 +1,7 @@
 //! Paths that are made.
 
-use crate::{PathError, Paths};
 use std::test::Fail;
+use sval_filter::{PathError, Paths};
 
 /// The labels of each path are these.
 fn are(paths: &Paths, labels: &[&[&str]]) -> bool {

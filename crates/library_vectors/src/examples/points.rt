@@ -1,6 +1,6 @@
 //! The tokens of a point.
 
-use crate::{Point, tokens_match};
+use assert_tokens::{Point, tokens_match};
 use std::test::Fail;
 use sval_check::{Token, TokenName};
 use sval_core::Label;

@@ -1,6 +1,6 @@
 //! Readings that are checked, added up, written and captured.
 
-use crate::{Reading, Readings, Report, check_readings, to_json, total_of};
+use readings::{Reading, Readings, Report, check_readings, to_json, total_of};
 use std::alloc::{AllocError, Global};
 use std::test::Fail;
 use sval_buffer::ValueBuf;

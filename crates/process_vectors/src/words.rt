@@ -1,7 +1,7 @@
 //! The status where a process has no words.
 
-use crate::process::status_of;
 use std::io;
+use sval_program::status_without_words;
 
 #[test]
 fn errors_of_the_system(rt: HostRuntime) {
@@ -11,6 +11,7 @@ fn errors_of_the_system(rt: HostRuntime) {
         (io::ErrorKind::Other, 17),
     ];
     for (error, wanted) in table {
-        assert_eq!(rt; status_of(&io::Error::from(error)), wanted, "at {error:?}");
+        let status = status_without_words(&io::Error::from(error));
+        assert_eq!(rt; status, wanted, "at {error:?}");
     }
 }

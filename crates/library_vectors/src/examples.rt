@@ -1,0 +1,6 @@
+//! Tests of the examples: a small library, a logger, token assertions, and a writer of another format.
+
+mod events;
+mod lines;
+mod measures;
+mod points;
