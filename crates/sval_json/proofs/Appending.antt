@@ -6,7 +6,7 @@ use Rattle.std.proofs.Math.Seq.{take-append-add}
 use Rattle.sval_core.specs.Law.{Rose}
 use Rattle.sval_json.specs.declared.sink.SinkError.{SinkError}
 use Rattle.sval_json.specs.declared.sink.SinkError.TheVariants.{Failed, NoMemory}
-use Rattle.sval_json.specs.Sinks.{Told, IsSteady, NoCountFell, IsCounted, appended, less_room, LacksRoom, Appends, AppendsFront, WritesWhole, WritesFront}
+use Rattle.sval_json.specs.Sinks.{Told, IsSteady, NoCountFell, IsCounted, appended, less_room, LacksRoom, Appends, AppendsFront, AppendsPart, WritesWhole, WritesFront}
 
 pub appended-appended : (told : Option (List ℕ)) (xs ys : List ℕ) → appended (appended told xs) ys ≡ appended told (xs ++ ys)
 appended-appended None xs ys = refl
@@ -78,6 +78,17 @@ front_after {old} {mid} {new} {whole} xs ys zs a w f = record {
       subst (λ bytes. Appends old bytes new) taken (appends_both xs (take f.count ys) a f.appends);
 }
 
+-- the same of a first part that isn't all
+pub part_after : {old mid new : Told} {whole : List ℕ} (xs ys zs : List ℕ) → Appends old xs mid → whole ≡ xs ++ (ys ++ zs) → AppendsPart mid ys new → AppendsPart old whole new
+part_after {old} {mid} {new} {whole} xs ys zs a w p = record {
+  count = length xs + p.count;
+  within = let size : length whole ≡ length xs + (length ys + length zs) = ap length w ∙ length-append xs (ys ++ zs) ∙ ap (λ n. length xs + n) (length-append ys zs) in omega (arith, p.within);
+  appends =
+      let taken : xs ++ take p.count ys ≡ take (length xs + p.count) whole =
+      ap (λ r. xs ++ r) (sym (take-append-le p.count ys zs (omega (arith, p.within)))) ∙ sym (take-append-add xs (ys ++ zs) p.count) ∙ ap (take (length xs + p.count)) (sym w) in
+      subst (λ bytes. Appends old bytes new) taken (appends_both xs (take p.count ys) a p.appends);
+}
+
 -- ---- the counts
 
 pub steady_alone : (told : Told) → IsSteady told told
@@ -108,7 +119,7 @@ writes_both xs ys w v = record { appends = appends_both xs ys w.appends v.append
 pub stops_after : {old mid new : Told} {why : SinkError} {whole : List ℕ} (xs ys zs : List ℕ) → WritesWhole old xs mid → whole ≡ xs ++ (ys ++ zs) → WritesFront why mid ys new → WritesFront why old whole new
 stops_after {old} {mid} {new} {why} {whole} xs ys zs w e f = record {
   front = front_after xs ys zs w.appends e f.front;
-  some = let size : length whole ≡ length xs + (length ys + length zs) = ap length e ∙ length-append xs (ys ++ zs) ∙ ap (λ n. length xs + n) (length-append ys zs) in omega (arith, size, f.some);
+  part = part_after xs ys zs w.appends e f.part;
   cause = counted_since new why w.steady f.cause;
   full = λ failed. subst (LacksRoom old) (sym e) (lacks_both old mid xs ys zs w.appends (f.full failed));
   counts = counts_since w.steady f.counts;

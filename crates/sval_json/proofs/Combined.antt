@@ -9,7 +9,7 @@ use Rattle.sval_json.specs.Json.{comma}
 use Rattle.sval_json.specs.Actions.{escapes, State, set_named, Outcome, Action, write, ◌then◌, ◌sets◌, from}
 use Rattle.sval_json.specs.Steps.{item_begins, value_written, text_begins, fragment, quote_if_quoted, bytes_step, label_text, field_begins}
 use Rattle.sval_json.specs.WriterLaw.{WriterView, HasDone, IsStopped, IsOnlySet, Does, after_action}
-use Rattle.sval_json.proofs.Doing.{nothing_done, done_then, stopped_later}
+use Rattle.sval_json.proofs.Doing.{nothing_done, done_then, stopped_first, stopped_later}
 
 -- where a `?` passes on an error
 pub stops_as : {action : Action} {old new : WriterView} (r : Result (Unit {0}) Error) → IsErr r → IsStopped action old new → Does action r old new
@@ -66,6 +66,10 @@ all_due all begun = record { rest_of = λ r new d. d }
 
 pub next_done : {all rest : List ℕ} {byte : ℕ} {begun mid now : WriterView} → IsDue all begun (byte ∷ rest) mid → HasDone (item_begins then value_written (decimal byte)) mid now → IsDue all begun rest now
 next_done {rest = rest} {byte = byte} {mid = mid} due d = record { rest_of = λ r new more. due.rest_of r new (does_then (item_begins then value_written (decimal byte)) (bytes_step rest) r mid new d more) }
+
+pub next_stopped : {all rest : List ℕ} {byte : ℕ} {begun mid new : WriterView} (r : Result (Unit {0}) Error) → IsErr r → IsDue all begun (byte ∷ rest) mid
+    → IsStopped (item_begins then value_written (decimal byte)) mid new → Does (bytes_step all) r begun new
+next_stopped {rest = rest} {new = new} r is due stop = due.rest_of r new (stops_as r is (stopped_first (bytes_step rest) stop))
 
 pub none_due : {all : List ℕ} {begun now : WriterView} (rest : List ℕ) → IsDue all begun rest now → length rest ≡ 0 → HasDone (bytes_step all) begun now
 none_due {now = now} [] due none = due.rest_of (Ok tt) now (nothing_done now)

@@ -58,7 +58,7 @@ module _ {style : Variants} {e : Emission} {old new : Taken} (found : ErrorKind)
     refused = λ why f. refused why (cc f);
     tree_refused = λ why f. streams.tree_refused why (let same : found ≡ refusal_kind why = cc f in ap Err same);
     io = λ f. no_fault (streams.io (let same : found ≡ IO = cc f in ap Err same));
-    no_memory = λ f. let same : found ≡ kind.NoMemory = cc f in streams.no_memory_some (ap Err same);
+    no_memory = λ f. let same : found ≡ kind.NoMemory = cc f in let cut = streams.no_memory_short (ap Err same) in omega (arith, cut.within);
   }
 
 -- bytes that aren't UTF-8 are some

@@ -44,7 +44,15 @@ stopped_in_rest {old} {mid} {new} {piece} {rest} {why} w some t =
           room = t.declines.room ∙ w.writes.appends.room;
         };
       };
-      some = let due : 0 < length piece = omega (arith, size, some) in due;
+      part = record {
+        count = w.count;
+        within = let due : w.count < length piece = omega (arith, size, some) in due;
+        appends = record {
+          fits = w.writes.appends.fits;
+          text = t.declines.text ∙ w.writes.appends.text;
+          room = t.declines.room ∙ w.writes.appends.room;
+        };
+      };
       cause = counted_since new why w.writes.steady t.declines.cause;
       full = λ failed. subst (LacksRoom old) (sym whole) (lacks_both old mid (take w.count piece) rest [] w.writes.appends (none_left mid.room (t.full failed)));
       counts = counts_since w.writes.steady t.declines.counts;

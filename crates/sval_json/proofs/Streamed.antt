@@ -15,7 +15,7 @@ use Rattle.sval_json.specs.declared.error.Stop.TheVariants.{Step, Sink}
 use Rattle.sval_json.specs.ErrorKinds.{seen_refusal, refusal_kind, error_kind}
 use Rattle.sval_json.specs.Json.{Json}
 use Rattle.sval_json.specs.Shape.{json_in}
-use Rattle.sval_json.specs.Sinks.{Told, IsSteady, NoCountFell, IsQuiet, Appends, AppendsFront}
+use Rattle.sval_json.specs.Sinks.{Told, IsSteady, NoCountFell, IsQuiet, Appends, AppendsFront, AppendsPart}
 use Rattle.sval_json.specs.Actions.{start, nothing}
 use Rattle.sval_json.specs.Number.{Refusal, InvalidKey, InvalidNumber}
 use Rattle.sval_json.specs.Steps.{step, steps, written_in}
@@ -23,7 +23,7 @@ use Rattle.sval_json.specs.declared.writer.Writer.{Writer}
 use Rattle.sval_json.specs.WriterLaw.{WriterView, after_action, HasDone, IsLeftBy, IsStopped, writer_law, writer_state, writer_view, writer_standing}
 use Rattle.sval_json.specs.Laws.{IsWrittenAs}
 use Rattle.sval_json.specs.Promises.{KeepsPromises}
-use Rattle.sval_json.specs.Written.{IsWrittenIn, IsBegunIn, WritesSome, IsRefusedIn, IsTooLongFor, WritesTreeIn, WritesSpelledTree, WritesValueIn, WritesSpelledValue, RefusesSpelledTree, BeginsSpelledTree, EndsRefused}
+use Rattle.sval_json.specs.Written.{IsWrittenIn, IsBegunIn, IsCutIn, IsRefusedIn, IsTooLongFor, WritesTreeIn, WritesSpelledTree, WritesValueIn, WritesSpelledValue, RefusesSpelledTree, BeginsSpelledTree, EndsRefused}
 use Rattle.sval_json.proofs.WritingPlain.{spelling_written}
 use Rattle.sval_json.proofs.Meaning.{text_means}
 use Rattle.sval_json.proofs.Appending.{all_is_front, steady_counts}
@@ -68,9 +68,9 @@ pub record IsAfterStop (style : Variants) (e : Emission) (found : ErrorKind) (he
   pub refused : (why : Refusal) → found ≡ refusal_kind why → IsRefusedIn style why e.calls old new
   pub io : found ≡ IO → Rose old.faults new.faults
   pub io_room : found ≡ IO → IsTooLongFor style e.calls old
-  pub io_some : found ≡ IO → WritesSome style e.calls
+  pub io_short : found ≡ IO → IsCutIn style e.calls old new
   pub no_memory : found ≡ kind.NoMemory → Rose old.wants new.wants
-  pub no_memory_some : found ≡ kind.NoMemory → WritesSome style e.calls
+  pub no_memory_short : found ≡ kind.NoMemory → IsCutIn style e.calls old new
   pub counts : NoCountFell old new
   pub prefix : IsBegunIn style e.calls old new
 
@@ -89,6 +89,9 @@ one_refusal InvalidNumber InvalidNumber e = refl
 abbrev front_held : {old new : Told} {bytes : List ℕ} → AppendsFront (record old { held = None }) bytes (record new { held = None }) → AppendsFront old bytes new
 front_held f = record { count = f.count; within = f.within; appends = record { fits = f.appends.fits; text = f.appends.text; room = f.appends.room } }
 
+abbrev part_held : {old new : Told} {bytes : List ℕ} → AppendsPart (record old { held = None }) bytes (record new { held = None }) → AppendsPart old bytes new
+part_held p = record { count = p.count; within = p.within; appends = record { fits = p.appends.fits; text = p.appends.text; room = p.appends.room } }
+
 module _ (style : Variants) (e : Emission) (held holds : ℕ) (old new : Told) (name : holds ≡ held) where
   -- a step refused
   after_own : (why : Refusal) → IsRefusedIn style why e.calls old new → IsAfterStop style e (refusal_kind why) held holds old new
@@ -100,9 +103,9 @@ module _ (style : Variants) (e : Emission) (held holds : ℕ) (old new : Told) (
         refused = λ other f. subst (λ w. IsRefusedIn style w e.calls old new) (one_refusal why other f) r;
         io = λ f. absurd (apart.1 f);
         io_room = λ f. absurd (apart.1 f);
-        io_some = λ f. absurd (apart.1 f);
+        io_short = λ f. absurd (apart.1 f);
         no_memory = λ f. absurd (apart.2 f);
-        no_memory_some = λ f. absurd (apart.2 f);
+        no_memory_short = λ f. absurd (apart.2 f);
         counts = steady_counts r.steady;
         prefix = all_is_front (written_in style e.calls).written r.appends;
       }
@@ -115,9 +118,9 @@ module _ (style : Variants) (e : Emission) (held holds : ℕ) (old new : Told) (
     refused = λ other f. absurd ((refusal_apart other).0 (sym f));
     io = λ f. cc f;
     io_room = λ f. cc f;
-    io_some = λ f. cc f;
+    io_short = λ f. cc f;
     no_memory = λ f. cc f;
-    no_memory_some = λ f. cc f;
+    no_memory_short = λ f. cc f;
     counts = steady_counts r.steady;
     prefix = all_is_front (written_in style e.calls).written r.written.appends;
   }
@@ -137,9 +140,9 @@ module _ (style : Variants) (e : Emission) (held holds : ℕ) (old new : Told) (
     refused = λ other f. absurd ((refusal_apart other).1 (sym f));
     io = λ f. left.cause;
     io_room = λ f. left.full refl;
-    io_some = λ f. left.some;
+    io_short = λ f. part_held left.part;
     no_memory = λ f. cc f;
-    no_memory_some = λ f. cc f;
+    no_memory_short = λ f. cc f;
     counts = record { faults = left.counts.faults; wants = left.counts.wants };
     prefix = front_held left.front;
   }
@@ -149,9 +152,9 @@ module _ (style : Variants) (e : Emission) (held holds : ℕ) (old new : Told) (
     refused = λ other f. absurd ((refusal_apart other).2 (sym f));
     io = λ f. cc f;
     io_room = λ f. cc f;
-    io_some = λ f. cc f;
+    io_short = λ f. cc f;
     no_memory = λ f. left.cause;
-    no_memory_some = λ f. left.some;
+    no_memory_short = λ f. part_held left.part;
     counts = record { faults = left.counts.faults; wants = left.counts.wants };
     prefix = front_held left.front;
   }

@@ -117,11 +117,17 @@ pub record WritesWhole (old : Told) (piece : List ℕ) (new : Told) : Type 0 whe
   pub appends : Appends old piece new
   pub steady : IsSteady old new
 
--- a first part of the piece, which isn't empty, was taken, and a count says why it stopped there: a sink that tells its room failed
+-- some first bytes of these were taken, but not all of them, and nothing else
+pub record AppendsPart (old : Told) (bytes : List ℕ) (new : Told) : Type 0 where
+  pub count : ℕ
+  pub within : count < length bytes
+  pub appends : Appends old (take count bytes) new
+
+-- a first part of the piece, but not all of it, was taken, and a count says why it stopped there: a sink that tells its room failed
 -- only where the piece had no place in it
 pub record WritesFront (why : SinkError) (old : Told) (piece : List ℕ) (new : Told) : Type 0 where
   pub front : AppendsFront old piece new
-  pub some : 0 < length piece
+  pub part : AppendsPart old piece new
   pub cause : IsCounted why old new
   pub full : why ≡ Failed → LacksRoom old piece
   pub counts : NoCountFell old new

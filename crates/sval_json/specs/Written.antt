@@ -12,7 +12,7 @@ use Rattle.sval_json.specs.Number.{Refusal, InvalidKey, InvalidNumber}
 use Rattle.sval_json.specs.declared.error.ErrorKind.{ErrorKind}
 use Rattle.sval_json.specs.declared.error.ErrorKind.TheVariants as kind
 use Rattle.sval_json.specs.ErrorKinds.{refusal_kind}
-use Rattle.sval_json.specs.Sinks.{Told, IsSteady, IsQuiet, NoCountFell, Appends, AppendsFront, LacksRoom}
+use Rattle.sval_json.specs.Sinks.{Told, IsSteady, IsQuiet, NoCountFell, Appends, AppendsFront, AppendsPart, LacksRoom}
 use Rattle.sval_json.specs.Steps.{written_in}
 use Rattle.sval_json.specs.Grammar.{JsonValue}
 use Rattle.sval_json.specs.Promises.{KeepsPromises}
@@ -26,6 +26,10 @@ pub record IsWrittenIn (style : Variants) (calls : List Call) (old new : Told) :
 -- a first part of what the steps write was taken
 abbrev pub IsBegunIn : Variants → List Call → Told → Told → Type 0
 IsBegunIn style calls old new = AppendsFront old (written_in style calls).written new
+
+-- a first part of what the steps write, but not all of it, was taken
+abbrev pub IsCutIn : Variants → List Call → Told → Told → Type 0
+IsCutIn style calls old new = AppendsPart old (written_in style calls).written new
 
 -- the steps write something
 abbrev pub WritesSome : Variants → List Call → Type 0
@@ -88,7 +92,7 @@ pub record EndsRefused (style : Variants) (emission : Emission) (old new : Told)
 
 -- On Ok the sink took what the steps write, which is the text of the tree that the calls spell, and denotes what is meant. Each error
 -- comes only where it is so, and where no count of the sink moved, the answer that is due comes. Whatever comes, a first part of what
--- the steps write was taken, which is something where the sink declined, and no count falls.
+-- the steps write was taken, and not all of it where the sink declined, and no count falls.
 pub record StreamsJson (style : Variants) (emission : Emission) (result : Result (Unit {0}) ErrorKind) (old new : Told) : Type 0 where
   pub written : OnOk result (IsWrittenIn style emission.calls old new)
   pub tree : OnOk result (WritesSpelledTree style emission.calls old new)
@@ -103,9 +107,9 @@ pub record StreamsJson (style : Variants) (emission : Emission) (result : Result
   pub tree_refused : (why : Refusal) → result ≡ Err (refusal_kind why) → RefusesSpelledTree style why emission.calls
   pub io : result ≡ Err kind.IO → Rose old.faults new.faults
   pub io_room : result ≡ Err kind.IO → IsTooLongFor style emission.calls old
-  pub io_some : result ≡ Err kind.IO → WritesSome style emission.calls
+  pub io_short : result ≡ Err kind.IO → IsCutIn style emission.calls old new
   pub no_memory : result ≡ Err kind.NoMemory → Rose old.wants new.wants
-  pub no_memory_some : result ≡ Err kind.NoMemory → WritesSome style emission.calls
+  pub no_memory_short : result ≡ Err kind.NoMemory → IsCutIn style emission.calls old new
   pub counts : NoCountFell old new
   pub prefix : OnErr result (IsBegunIn style emission.calls old new)
   pub tree_prefix : OnErr result (BeginsSpelledTree style emission.calls old new)

@@ -129,7 +129,9 @@ module _ (e : Emission) (old new : Told) where
     unknown = λ is. cc is;
     write = λ is. cc is;
     write_room = λ is. cc is;
+    write_short = λ is. cc is;
     no_memory = λ is. cc is;
+    no_memory_short = λ is. cc is;
     counts = steady_counts p.steady;
     prefix = tt;
   }
@@ -144,7 +146,9 @@ module _ (e : Emission) (old new : Told) where
     unknown = λ is. cc is;
     write = λ is. cc is;
     write_room = λ is. cc is;
+    write_short = λ is. cc is;
     no_memory = λ is. cc is;
+    no_memory_short = λ is. cc is;
     counts = steady_counts p.steady;
     prefix = record { front = e.calls; begins = all_known e.calls p.known; appends = all_is_front (printed e.calls) p.appends };
   }
@@ -159,7 +163,9 @@ module _ (e : Emission) (old new : Told) where
     unknown = λ is. u;
     write = λ is. cc is;
     write_room = λ is. cc is;
+    write_short = λ is. cc is;
     no_memory = λ is. cc is;
+    no_memory_short = λ is. cc is;
     counts = steady_counts u.printed_before.steady;
     prefix = record {
       front = u.front;
@@ -178,7 +184,9 @@ module _ (e : Emission) (old new : Told) where
     unknown = λ is. cc is;
     write = λ is. w.cause;
     write_room = λ is. record { front = front; begins = begins; lacks = w.full refl };
+    write_short = λ is. record { front = front; begins = begins; appends = w.part };
     no_memory = λ is. cc is;
+    no_memory_short = λ is. cc is;
     counts = w.counts;
     prefix = record { front = front; begins = begins; appends = w.front };
   }
@@ -193,7 +201,9 @@ module _ (e : Emission) (old new : Told) where
     unknown = λ is. cc is;
     write = λ is. cc is;
     write_room = λ is. cc is;
+    write_short = λ is. cc is;
     no_memory = λ is. w.cause;
+    no_memory_short = λ is. record { front = front; begins = begins; appends = w.part };
     counts = w.counts;
     prefix = record { front = front; begins = begins; appends = w.front };
   }
@@ -223,7 +233,7 @@ module _ (e : Emission) (old new : Told) where
       let w = cut_front s.front s.call s.has_printed.whole s.cut.1 in
       ends_failed (s.front ++ (s.call ∷ [])) (begins_with s.front s.call s.later s.are s.has_printed.known s.cut.0) (record {
         front = record { count = w.front.count; within = w.front.within; appends = record { fits = w.front.appends.fits; text = w.front.appends.text; room = w.front.appends.room } };
-        some = w.some;
+        part = record { count = w.part.count; within = w.part.within; appends = record { fits = w.part.appends.fits; text = w.part.appends.text; room = w.part.appends.room } };
         cause = w.cause;
         full = w.full;
         counts = record { faults = w.counts.faults; wants = w.counts.wants };
@@ -232,7 +242,7 @@ module _ (e : Emission) (old new : Told) where
       let w = cut_front s.front s.call s.has_printed.whole s.cut.1 in
       ends_without_memory (s.front ++ (s.call ∷ [])) (begins_with s.front s.call s.later s.are s.has_printed.known s.cut.0) (record {
         front = record { count = w.front.count; within = w.front.within; appends = record { fits = w.front.appends.fits; text = w.front.appends.text; room = w.front.appends.room } };
-        some = w.some;
+        part = record { count = w.part.count; within = w.part.within; appends = record { fits = w.part.appends.fits; text = w.part.appends.text; room = w.part.appends.room } };
         cause = w.cause;
         full = w.full;
         counts = record { faults = w.counts.faults; wants = w.counts.wants };

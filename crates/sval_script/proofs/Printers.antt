@@ -43,7 +43,7 @@ counted_unheld old new NoMemory cause = cause
 front_unheld : {old new : Told} {error : SinkError} (bytes : List ℕ) → WritesFront error old bytes new → WritesFront error (unheld old) bytes (unheld new)
 front_unheld {old} {new} {error = error} bytes f = record {
   front = record { count = f.front.count; within = f.front.within; appends = record { fits = f.front.appends.fits; text = f.front.appends.text; room = f.front.appends.room } };
-  some = f.some;
+  part = record { count = f.part.count; within = f.part.within; appends = record { fits = f.part.appends.fits; text = f.part.appends.text; room = f.part.appends.room } };
   cause = counted_unheld old new error f.cause;
   full = f.full;
   counts = record { faults = f.counts.faults; wants = f.counts.wants };

@@ -3,7 +3,7 @@ use Rattle.std.specs.Prelude.{◌≡◌, true, false, List, ◌∷◌, ◌++◌,
 use Rattle.std.specs.List.{AllByRecursion}
 use Rattle.sval_label.specs.Calls.{Call}
 use Rattle.sval_core.specs.Law.{Emission, Rose}
-use Rattle.sval_json.specs.Sinks.{Told, IsSteady, IsQuiet, NoCountFell, Appends, AppendsFront, LacksRoom}
+use Rattle.sval_json.specs.Sinks.{Told, IsSteady, IsQuiet, NoCountFell, Appends, AppendsFront, AppendsPart, LacksRoom}
 use Rattle.sval_script.specs.declared.print_error.PrintError.{PrintError}
 use Rattle.sval_script.specs.declared.print_error.PrintError.TheVariants as error
 use Rattle.sval_script.specs.Printed.{printed}
@@ -30,6 +30,12 @@ pub record AreBegun (calls : List Call) (old new : Told) : Type 0 where
   pub front : List Call
   pub begins : BeginsKnown calls front
   pub appends : AppendsFront old (printed front) new
+
+-- the same, and not all of the lines were taken
+pub record AreCut (calls : List Call) (old new : Told) : Type 0 where
+  pub front : List Call
+  pub begins : BeginsKnown calls front
+  pub appends : AppendsPart old (printed front) new
 
 -- the lines have no place in the room that is told, also without those from a call with an unknown tag on
 pub record AreTooLongFor (calls : List Call) (old : Told) : Type 0 where
@@ -59,7 +65,8 @@ pub record EndsPrinted (emission : Emission) (old new : Told) : Type 0 where
 -- ---- what printing answers
 
 -- On Ok the sink took the lines of all calls. Each error comes only where it is so, and where no count of the sink rose, the answer
--- that is due comes. Whatever comes, a first part of the lines that are due was taken, and no count falls.
+-- that is due comes. Whatever comes, a first part of the lines that are due was taken, not all of them where the sink declined, and no
+-- count falls.
 pub record PrintsValue (emission : Emission) (result : Result (Unit {0}) PrintError) (old new : Told) : Type 0 where
   pub all_printed : OnOk result (ArePrinted emission.calls old new)
   pub willing : OnOk result (emission.refuses ≡ false)
@@ -69,6 +76,8 @@ pub record PrintsValue (emission : Emission) (result : Result (Unit {0}) PrintEr
   pub unknown : result ≡ Err error.UnknownTag → EndsUnknown emission.calls old new
   pub write : result ≡ Err error.Write → Rose old.faults new.faults
   pub write_room : result ≡ Err error.Write → AreTooLongFor emission.calls old
+  pub write_short : result ≡ Err error.Write → AreCut emission.calls old new
   pub no_memory : result ≡ Err error.NoMemory → Rose old.wants new.wants
+  pub no_memory_short : result ≡ Err error.NoMemory → AreCut emission.calls old new
   pub counts : NoCountFell old new
   pub prefix : OnErr result (AreBegun emission.calls old new)

@@ -22,9 +22,9 @@ returns-in-Ok g c =
       tree_refused = λ why is. cc;
       io = search rules;
       io_room = search rules;
-      io_some = search rules;
+      io_short = search rules;
       no_memory = search rules;
-      no_memory_some = search rules;
+      no_memory_short = search rules;
       counts = search rules;
       prefix = search rules;
       tree_prefix = search rules;
@@ -47,9 +47,9 @@ returns-in-Err g c =
       tree_refused = λ why is tree spells. refuses_spelled (after.refused why cc) tree spells;
       io = λ is. let rose = after.io cc in search rules;
       io_room = λ is. let room = after.io_room cc in search rules;
-      io_some = λ is. after.io_some cc;
+      io_short = λ is. let cut = after.io_short cc in search rules;
       no_memory = λ is. let rose = after.no_memory cc in search rules;
-      no_memory_some = λ is. after.no_memory_some cc;
+      no_memory_short = λ is. let cut = after.no_memory_short cc in search rules;
       counts = search rules;
       prefix = search rules;
       tree_prefix = λ tree json spells is. let begun = begins_spelled c.args.variants (g.V.Value.emission c.args.v.now).calls after.prefix tree json spells is in search rules;

@@ -4,9 +4,17 @@ use Rattle.sval_core.specs.Trees.{TextKind}
 use Rattle.sval_json.specs.Actions.{set_named, when, ◌then◌, ◌sets◌}
 use Rattle.sval_json.specs.Steps.{ends_tagged, standalone_step, after_name}
 use Rattle.sval_json.specs.WriterLaw.{WriterView, Does, HasDone, writer_view}
-use Rattle.sval_json.proofs.Doing.{done_then, stopped_later}
+use Rattle.sval_json.proofs.Doing.{done_then, stopped_first, stopped_later}
 use Rattle.sval_json.proofs.Combined.{stops_as, stops_sets, done_sets}
 use Rattle.sval_json.proofs.writer.Writer.end_tagged.Goals as goal
+
+pub returns-in_err-end_kind : goal.returns-in_err-end_kind
+returns-in_err-end_kind g c =
+    let r = c.from_residual.result in
+    let name = name_of c.args.tag c.args.label c.args.index in
+    subst (λ (k : TextKind). Does (ends_tagged k then when (λ state. state.empty) (standalone_step name) sets after_name name) r
+    (writer_view g.K.Sink.told c.args.self.now) (writer_view g.K.Sink.told c.end_kind.new.self)) c.text_kind.ensures
+    (stops_as r c.from_residual.ensures.0 (stops_sets (after_name name) (stopped_first (when (λ state. state.empty) (standalone_step name)) c.in_err-end_kind.ensures)))
 
 pub returns-in_err-write_name_if_empty : goal.returns-in_err-write_name_if_empty
 returns-in_err-write_name_if_empty g c =
