@@ -17,7 +17,7 @@ use crate::tag::TagField;
 use std::alloc::AllocError;
 
 /// Why a line wasn't read.
-#[derive(Clone, Copy, Debug, PartialEq, Eq)]
+#[derive(Clone, Copy)]
 pub(crate) enum LineError {
     /// It spells no call.
     Bad,
@@ -34,7 +34,7 @@ impl From<AllocError> for LineError {
 }
 
 /// A label that was read, whose text stands in a store.
-#[derive(Clone, Copy, Debug)]
+#[derive(Clone, Copy)]
 pub(crate) struct LabelRead {
     /// Its tag.
     pub(crate) tag: TagField,
@@ -43,7 +43,7 @@ pub(crate) struct LabelRead {
 }
 
 /// What a field says of a label, but for its text.
-#[derive(Clone, Copy, Debug)]
+#[derive(Clone, Copy)]
 pub(crate) enum LabelField {
     /// No label.
     Absent,
@@ -75,7 +75,7 @@ impl LabelField {
 }
 
 /// How the number of an index is kept in 64 bits.
-#[derive(Clone, Copy, Debug)]
+#[derive(Clone, Copy)]
 pub(crate) enum Sign {
     /// As it is.
     Natural,
@@ -84,7 +84,7 @@ pub(crate) enum Sign {
 }
 
 /// An index that was read.
-#[derive(Clone, Copy, Debug)]
+#[derive(Clone, Copy)]
 pub(crate) struct IndexRead {
     pub(crate) sign: Sign,
     pub(crate) tag: TagField,
@@ -92,7 +92,7 @@ pub(crate) struct IndexRead {
 }
 
 /// What a field says of an index, but for its number.
-#[derive(Clone, Copy, Debug)]
+#[derive(Clone, Copy)]
 pub(crate) enum IndexField {
     /// No index.
     Absent,

@@ -35,7 +35,7 @@ pub(crate) struct Fields<'a> {
 }
 
 /// A name that was read, whose label's text stands in a store.
-#[derive(Clone, Copy, Debug)]
+#[derive(Clone, Copy)]
 pub(crate) struct NameRead {
     pub(crate) parts: NameFields,
     /// How many bytes the label's text has.
@@ -45,7 +45,7 @@ pub(crate) struct NameRead {
 }
 
 /// What the fields of a name say, but for the label's text and the index's number.
-#[derive(Clone, Copy, Debug)]
+#[derive(Clone, Copy)]
 pub(crate) struct NameFields {
     pub(crate) tag: TagField,
     pub(crate) label: LabelField,

@@ -14,7 +14,7 @@ use crate::tag::TagField;
 use crate::word::{Alone, Lifetime, Named, NamedOpening, NumberType, Opening, Side, Word};
 
 /// A call, whose texts and wider numbers stand in a store beside it: 8 bytes.
-#[derive(Clone, Copy, Debug)]
+#[derive(Clone, Copy)]
 pub(crate) enum Line {
     /// A word alone.
     Alone(Alone),

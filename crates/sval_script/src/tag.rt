@@ -9,7 +9,7 @@ use crate::short::same;
 use sval_label::Tag;
 
 /// What a field says of a tag: none, or one of the ten names.
-#[derive(Clone, Copy, Debug)]
+#[derive(Clone, Copy)]
 pub(crate) enum TagField {
     /// No tag.
     Absent,

@@ -7,7 +7,7 @@ ghost use Rattle.sval_script.specs.Words.{form_of_word, word_table, texts_and_wo
 use crate::short::same;
 
 /// What a line begins with. The variants are the forms of lines: the fields that follow.
-#[derive(Clone, Copy, Debug)]
+#[derive(Clone, Copy)]
 pub(crate) enum Word {
     /// No field.
     Alone(Alone),
@@ -36,7 +36,7 @@ pub(crate) enum Word {
 }
 
 /// The words that stand alone.
-#[derive(Clone, Copy, Debug)]
+#[derive(Clone, Copy)]
 pub(crate) enum Alone {
     Null,
     TextEnd,
@@ -52,7 +52,7 @@ pub(crate) enum Alone {
 }
 
 /// The types of whole numbers.
-#[derive(Clone, Copy, Debug)]
+#[derive(Clone, Copy)]
 pub(crate) enum NumberType {
     U8,
     U16,
@@ -67,7 +67,7 @@ pub(crate) enum NumberType {
 }
 
 /// The words of what begins with a size.
-#[derive(Clone, Copy, Debug)]
+#[derive(Clone, Copy)]
 pub(crate) enum Opening {
     TextBegin,
     BinaryBegin,
@@ -76,7 +76,7 @@ pub(crate) enum Opening {
 }
 
 /// How long a fragment lives.
-#[derive(Clone, Copy, Debug)]
+#[derive(Clone, Copy)]
 pub(crate) enum Lifetime {
     /// A stream may keep it.
     Borrowed,
@@ -85,7 +85,7 @@ pub(crate) enum Lifetime {
 }
 
 /// The words with a name.
-#[derive(Clone, Copy, Debug)]
+#[derive(Clone, Copy)]
 pub(crate) enum Named {
     EnumBegin,
     EnumEnd,
@@ -98,7 +98,7 @@ pub(crate) enum Named {
 }
 
 /// The words of what begins with a name and a size.
-#[derive(Clone, Copy, Debug)]
+#[derive(Clone, Copy)]
 pub(crate) enum NamedOpening {
     RecordBegin,
     TupleBegin,
@@ -106,7 +106,7 @@ pub(crate) enum NamedOpening {
 }
 
 /// Whether a part begins or ends.
-#[derive(Clone, Copy, Debug)]
+#[derive(Clone, Copy)]
 pub(crate) enum Side {
     Begin,
     End,
