@@ -2,3 +2,5 @@ pub mod ReadParts
 pub mod Growing
 pub mod Telling
 pub mod PrintedTrees
+pub mod FoundCalls
+mod CapturedMemory

@@ -11,12 +11,12 @@ use Rattle.sval_buffer.specs.Capture.{Capture}
 use Rattle.sval_buffer.specs.CapturedValues.{IsCaptured, KeepsTree}
 use Rattle.sval_buffer.specs.Forest.{replayed}
 use Rattle.sval_buffer.proofs.ExactReplay.{replay_exact}
-use Rattle.sval_json.specs.Sinks.{Told, LacksRoom, Appends, AppendsFront, WritesWhole}
-use Rattle.sval_json.proofs.Appending.{front_after, appends_nothing}
+use Rattle.sval_json.specs.Sinks.{Told, LacksRoom, Appends, AppendsFront, AppendsPart, WritesWhole}
+use Rattle.sval_json.proofs.Appending.{front_after, part_after, appends_nothing}
 use Rattle.sval_script.specs.Canon.{canon}
 use Rattle.sval_script.specs.Printed.{canonical_calls, printed}
 use Rattle.sval_script.specs.Printing.{HasKnownTags}
-use Rattle.sval_script.specs.PrintedValues.{HaveKnownTags, ArePrinted, AreBegun, AreTooLongFor, EndsUnknown}
+use Rattle.sval_script.specs.PrintedValues.{HaveKnownTags, ArePrinted, AreBegun, AreCut, AreTooLongFor, EndsUnknown}
 use Rattle.sval_script.proofs.CanonicalScripts.{printed-append}
 use Rattle.sval_script.proofs.ExactCalls.{exact_print_canon}
 use Rattle.sval_script.proofs.KnownTags.{exact_known}
@@ -52,6 +52,10 @@ module _ (e : Emission) (tree : Tree) (capture : Capture) (s : Spells e.calls tr
   pub begins_script : {old new : Told} → AreBegun (shown capture) old new → AppendsFront old (canon tree) new
   begins_script {old} {new} begun =
       front_after [] (printed begun.front) (printed begun.begins.later) (appends_nothing old) (begins_canon begun.front begun.begins.later begun.begins.are) begun.appends
+
+  pub cuts_script : {old new : Told} → AreCut (shown capture) old new → AppendsPart old (canon tree) new
+  cuts_script {old} {new} cut =
+      part_after [] (printed cut.front) (printed cut.begins.later) (appends_nothing old) (begins_canon cut.front cut.begins.later cut.begins.are) cut.appends
 
   pub lacks_script : {old : Told} → AreTooLongFor (shown capture) old → LacksRoom old (canon tree)
   lacks_script {old} long =

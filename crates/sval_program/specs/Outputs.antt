@@ -1,7 +1,7 @@
 -- What a program leaves of its sink, whatever it writes.
 use Rattle.std.specs.Prelude.{◌≡◌, ◌⊎◌, ℕ, List, Result, Ok, Err}
 use Rattle.sval_core.specs.Law.{Rose}
-use Rattle.sval_json.specs.Sinks.{Told, NoCountFell, LacksRoom, Appends, AppendsFront, WritesWhole}
+use Rattle.sval_json.specs.Sinks.{Told, NoCountFell, LacksRoom, Appends, AppendsFront, AppendsPart, WritesWhole}
 use Rattle.sval_json.specs.declared.sink.SinkError.{SinkError}
 use Rattle.sval_json.specs.declared.sink.SinkError.TheVariants as sink
 
@@ -26,10 +26,11 @@ pub record StopsWithin {K : Type 0} (why : SinkError) (told : K → Told) (text 
   pub begins : AppendsFront (told old) text (told new)
   pub counts : NoCountFell (told old) (told new)
 
--- the same of a sink that wasn't flushed: where it failed, the text had no place in the room that it told
+-- the same of a sink that wasn't flushed: where it failed, the text had no place in the room that it told, and not all of it was taken
 pub record StopsWriting {K : Type 0} (why : SinkError) (told : K → Told) (text : List ℕ) (old new : K) : Type 0 where
   pub stops : StopsWithin why told text old new
   pub full : why ≡ sink.Failed → LacksRoom (told old) text
+  pub short : why ≡ sink.Failed → AppendsPart (told old) text (told new)
 
 -- the text was taken whole, or a first part of it
 abbrev pub WritesText : {K : Type 0} → Result (Unit {0}) SinkError → (K → Told) → List ℕ → K → K → Type 0

@@ -1,6 +1,7 @@
-//! The numbers of the statuses, each as a clause that is proved.
+//! The numbers of the statuses, and a law of captured values, each as a clause that is proved.
 
 ghost use Rattle.std.specs.Prelude.{◌≡◌};
+ghost use Rattle.sval_program.specs.Laws.{CapturingTakesMemory};
 
 use crate::status::{
     BAD_CALL, BAD_LINE, DONE, INVALID_KEY, INVALID_NUMBER, NO_MEMORY, NO_WORDS, READ, TOO_LONG,
@@ -21,4 +22,9 @@ pub fn status_laws()
     ensures no_memory { NO_MEMORY ≡ 10 }
     ensures too_long { TOO_LONG ≡ 11 }
     ensures no_words { NO_WORDS ≡ 17 }
+{}
+
+/// What holds of capturing all calls that spell a tree.
+pub fn capture_laws()
+    ensures { CapturingTakesMemory }
 {}

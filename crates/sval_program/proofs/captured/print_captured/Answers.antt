@@ -1,6 +1,6 @@
 use Rattle.std.proofs.Common.{rules, inr}
 use Rattle.sval_buffer.specs.SeenBuffers.{capture_of}
-use Rattle.sval_program.proofs.PrintedTrees.{prints_tree, begins_script, lacks_script, all_are_known}
+use Rattle.sval_program.proofs.PrintedTrees.{prints_tree, begins_script, cuts_script, lacks_script, all_are_known}
 use Rattle.sval_program.proofs.captured.print_captured.Goals as goal
 
 pub returns-in-Ok-print_canon : goal.returns-in-Ok-print_canon
@@ -12,7 +12,12 @@ returns-in-Err-Write g c = λ tree s p.
     let e = g.V.Value.emission c.args.value.now in
     let begins = begins_script e tree (capture_of c.in-Ok.captured) s p c.in-Ok.ensures.ok c.in-Ok.ensures.keeps_the_tree c.in-Err-Write.ensures.prefix in
     let full = lacks_script e tree (capture_of c.in-Ok.captured) s p c.in-Ok.ensures.ok c.in-Ok.ensures.keeps_the_tree (c.in-Err-Write.ensures.write_room (search rules)) in
-    record { stops = record { cause = c.in-Err-Write.ensures.write (search rules); begins = begins; counts = c.in-Err-Write.ensures.counts }; full = λ failed. full }
+    let short = cuts_script e tree (capture_of c.in-Ok.captured) s p c.in-Ok.ensures.ok c.in-Ok.ensures.keeps_the_tree (c.in-Err-Write.ensures.write_short (search rules)) in
+    record {
+      stops = record { cause = c.in-Err-Write.ensures.write (search rules); begins = begins; counts = c.in-Err-Write.ensures.counts };
+      full = λ failed. full;
+      short = λ failed. short;
+    }
 
 pub returns-in-Err-NoMemory : goal.returns-in-Err-NoMemory
 returns-in-Err-NoMemory g c = λ tree s p.
@@ -21,6 +26,7 @@ returns-in-Err-NoMemory g c = λ tree s p.
     record {
       stops = record { cause = inr (c.in-Err-NoMemory.ensures.no_memory (search rules)); begins = begins; counts = c.in-Err-NoMemory.ensures.counts };
       full = λ never. cc never;
+      short = λ never. cc never;
     }
 
 -- each tag that the lines show is one of scripts
