@@ -59,7 +59,7 @@ module _ {V : Type 0} (law : Law V) (rule : Rule) (paths : List Path) where
   -- ---- and the filter takes them, where the inner stream takes what is due
 
   -- what one call of a run comes to
-  one_goes : (state : State) (c : Call) (calls : List Call) {b' : Bool} {fs' : List Frame} → Runs state.filled state.frames (plain (c ∷ calls)) b' fs'
+  pub one_goes : (state : State) (c : Call) (calls : List Call) {b' : Bool} {fs' : List Frame} → Runs state.filled state.frames (plain (c ∷ calls)) b' fs'
       → (next : State) × Goes state c next × Runs next.filled next.frames (plain calls) b' fs'
   one_goes state c calls {b'} {fs'} r = by_call (plain_call c) refl
     where

@@ -8,6 +8,7 @@ pub mod PrunedParts
 pub mod DueCalls
 pub mod Filtered
 pub mod Refusals
+mod Stopped
 mod PathTexts
 mod TailSteps
 mod LayerSteps

@@ -3,7 +3,8 @@
 ghost use Rattle.std.specs.Prelude.{IfOk, IfErr};
 ghost use Rattle.sval_check.specs.Checks.{CheckAnswer, IsDue, IsOneValue};
 ghost use Rattle.sval_buffer.specs.FlatForest.{forest_in};
-ghost use Rattle.sval_filter.specs.Pruning.{IsPruned, PassesPruned, IsPruneCause, IsDueToPrune, IsWant};
+ghost use Rattle.sval_filter.specs.Pruning.{IsPruned, PassesPruned, PassStops, IsPruneCause, IsDueToPrune, IsWant};
+ghost use Rattle.sval_filter.specs.Pruning.{TakesPassMemory};
 
 use crate::filter::Filter;
 use crate::paths::{Paths, Rule};
@@ -41,8 +42,11 @@ pub enum PruneError {
 /// # Errors
 ///
 /// [`PruneError::NotATree`] exactly where [`check`] answers that a call goes on with no value, or that the value is
-/// unfinished. [`PruneError::Refused`] exactly where it answers that the value itself refuses. [`PruneError::NoMemory`]
-/// where memory was wanting. The first two come wherever they stand, unless memory was wanting.
+/// unfinished. [`PruneError::Refused`] exactly where it answers that the value itself refuses. The first two come
+/// wherever they stand, unless memory was wanting.
+///
+/// [`PruneError::NoMemory`] comes only where memory was wanting for a call that can be completed and begins something;
+/// or, of a whole value, for a call that begins something or is held for a key, or to capture a call of what is left.
 pub fn prune<'sval, N: CallStore + 'sval, V: Value<'sval, Lent<'sval>>>(
     alloc: Global,
     v: &'sval V,
@@ -50,7 +54,7 @@ pub fn prune<'sval, N: CallStore + 'sval, V: Value<'sval, Lent<'sval>>>(
     paths: &Paths,
 ) -> Result<AnyValue<'sval, N>, PruneError>
     ensures ok { IfOk result (λ value. IsPruned (V.emission v.now) rule paths.now (forest_in value)) }
-    ensures err { IfErr result (λ why. IsPruneCause (V.emission v.now) why) }
+    ensures err { IfErr result (λ why. IsPruneCause (V.emission v.now) rule paths.now why) }
     ensures comes { (due : CheckAnswer) → IsDue (V.emission v.now) due → IsDueToPrune due result }
 {
     match check(alloc, v) {
@@ -72,6 +76,7 @@ pub(crate) fn prune_tree<'sval, N: CallStore + 'sval, V: Value<'sval, Lent<'sval
     requires { IsOneValue (V.emission v.now) }
     ensures ok { IfOk result (λ value. IsPruned (V.emission v.now) rule paths.now (forest_in value)) }
     ensures err { IfErr result IsWant }
+    ensures want { IfErr result (λ why. TakesPassMemory rule paths.now (V.emission v.now).calls) }
 {
     let buffer: AnyValueBuf<'sval, N> = AnyValueBuf::new(alloc);
     match pass_value(alloc, v, rule, paths, buffer) {
@@ -88,7 +93,9 @@ fn pass_value<'v, L: Readable, S: Stream<L> + Drop, V: Value<'v, L>>(
     paths: &Paths,
     stream: S,
 ) -> Result<S, NoMemory>
-    ensures { IfOk result (λ after. PassesPruned S.law (S.standing stream) (V.emission v.now) rule paths.now (S.standing after)) }
+    ensures ok { let e = V.emission v.now in
+        IfOk result (λ after. PassesPruned S.law (S.standing stream) e rule paths.now (S.standing after)) }
+    ensures err { IfErr result (λ why. PassStops S.law S.standing stream (V.emission v.now) rule paths.now) }
 {
     let mut filter = Filter::new(alloc, rule, paths, stream);
     match v.stream(&mut filter) {
