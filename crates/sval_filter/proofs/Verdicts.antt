@@ -1,17 +1,21 @@
--- Each script has one verdict at most.
+-- Each script has one verdict.
 use Rattle.std.specs.Prelude.{◌≡◌, ℕ, List, length, Option, Some, None, Result, Ok, Err, refl}
 use Rattle.std.proofs.Common.{sym, ap, ◌∙◌, subst, arith}
 use Rattle.sval_label.specs.Calls.{Call}
 use Rattle.sval_core.specs.Spells.{Spells}
-use Rattle.sval_core.specs.Trees.{Tree}
+use Rattle.sval_core.specs.Trees.{Tree, calls_of}
 use Rattle.sval_core.proofs.FirstBad.{one_first_bad, none_bad}
 use Rattle.sval_core.proofs.Spellings.{spells_one, spelling_is_viable}
 use Rattle.sval_check.specs.Checks.{IsFirstBad}
 use Rattle.sval_json.specs.Json.{Json, compact}
 use Rattle.sval_json.specs.Number.{Refusal}
 use Rattle.sval_json.specs.Shape.{json_of}
-use Rattle.sval_script.specs.Lines.{Lines, Good, Bad}
+use Rattle.sval_json.specs.Steps.{written_in}
+use Rattle.sval_json.specs.declared.style.Variants.TheVariants.{Inside}
+use Rattle.sval_program.proofs.FoundCalls.{Found, found_bad, found_open, found_whole, found}
+use Rattle.sval_script.specs.Lines.{Lines, Good, Bad, lines}
 use Rattle.sval_filter.specs.Forms.{Asked}
+use Rattle.sval_filter.specs.Laws.{OneVerdict}
 use Rattle.sval_filter.specs.Pruned.{pruned}
 use Rattle.sval_filter.specs.Verdict.{Verdict, BadLine, BadCall, Unfinished, Whole, IsJson, IsCutAt, IsWritten, AreUnfinished, SpellWhole, IsOfCalls, OfCalls, IsVerdict, OnVerdict}
 
@@ -95,6 +99,30 @@ one_verdict (Whole refused bytes) (BadLine m) script asked a b = absurd (bad_or_
 one_verdict (Whole refused bytes) (BadCall m) script asked a b = one_of_lines (Whole refused bytes) (BadCall m) script asked a b
 one_verdict (Whole refused bytes) Unfinished script asked a b = one_of_lines (Whole refused bytes) Unfinished script asked a b
 one_verdict (Whole refused bytes) (Whole other more) script asked a b = one_of_lines (Whole refused bytes) (Whole other more) script asked a b
+
+-- ---- there is one
+
+some_written : (tree : Tree) (found : Result Json Refusal) → json_of tree ≡ found → (refused : Option Refusal) × (bytes : List ℕ) × IsWritten refused bytes tree
+some_written tree (Ok json) shape = (None, compact json, record { json = json; shape = shape; is_text = refl })
+some_written tree (Err why) shape = (Some why, (written_in Inside (calls_of tree)).written, record { shape = shape; is_written = refl })
+
+some_of_calls : (script : List ℕ) (asked : Asked) (calls : List Call) → lines script ≡ Good calls → Found calls → (answer : Verdict) × IsVerdict answer script asked
+some_of_calls script asked calls good (found_bad front call rest whole before bad) = (
+  BadCall _,
+  record { calls = calls; good = good; is = record { front = front; call = call; rest = rest; whole = whole; before = before; bad = bad; number = refl } },
+)
+some_of_calls script asked calls good (found_open viable no_tree) = (Unfinished, record { calls = calls; good = good; is = record { viable = viable; no_tree = no_tree } })
+some_of_calls script asked calls good (found_whole tree spells) =
+    let left = pruned asked.0 asked.1 tree in
+    let (refused, bytes, is) = some_written left (json_of left) refl in
+    (Whole refused bytes, record { calls = calls; good = good; is = record { tree = tree; spells = spells; is = is } })
+
+some_of_lines : (script : List ℕ) (asked : Asked) (read : Lines) → lines script ≡ read → (answer : Verdict) × IsVerdict answer script asked
+some_of_lines script asked (Bad n) bad = (BadLine n, bad)
+some_of_lines script asked (Good calls) good = some_of_calls script asked calls good (found calls)
+
+pub each_one : OneVerdict
+each_one script asked = let some = some_of_lines script asked (lines script) refl in (some.0, some.1, λ other is. one_verdict some.0 other script asked some.1 is)
 
 -- what holds of the verdict found holds of each
 pub of_each : (script : List ℕ) (asked : Asked) (found : Verdict) (P : Verdict → Type 0) → IsVerdict found script asked → P found → OnVerdict P script asked
