@@ -13,6 +13,7 @@ pub mod FilterLaw
 pub mod Sieves
 pub mod SeenFilters
 pub mod Pruning
+pub mod ErrorTexts
 pub mod Words
 pub mod Forms
 pub mod Verdict

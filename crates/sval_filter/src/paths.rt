@@ -6,6 +6,7 @@ ghost use Rattle.sval_filter.specs.SeenPaths.{labels_in, paths_in};
 ghost use Rattle.sval_filter.specs.PathErrors.{Adds, AddsLabel, AddsWord};
 
 use std::alloc::{AllocError, Global};
+use std::fmt;
 use std::marker::Model;
 
 /// What becomes of the fields and entries that paths name.
@@ -26,6 +27,21 @@ pub enum PathError {
     BadWord,
     /// Memory was wanting.
     NoMemory,
+}
+
+impl fmt::Display for PathError {
+    ghost use Rattle.std.specs.Prelude.{Some};
+    ghost use Rattle.sval_filter.specs.ErrorTexts.{path_error_text};
+
+    ghost output = { λ error. Some (path_error_text error) };
+
+    fn fmt<W: fmt::Write>(&self, f: &mut fmt::Formatter<W>) -> fmt::Result {
+        f.write_str(match self {
+            PathError::NoPath => "there is no path for a label",
+            PathError::BadWord => "a label between dots is empty",
+            PathError::NoMemory => "cannot allocate for a path",
+        })
+    }
 }
 
 /// Paths of labels, each of at least one, seen as a list of paths. A label is its text.

@@ -10,6 +10,7 @@ use crate::filter::Filter;
 use crate::paths::{Paths, Rule};
 use crate::readable::Readable;
 use std::alloc::Global;
+use std::fmt;
 use sval_buffer::{AnyValue, AnyValueBuf, CallStore};
 use sval_check::{CheckError, check};
 use sval_core::{Lent, NoMemory, Stream, Value};
@@ -23,6 +24,21 @@ pub enum PruneError {
     Refused,
     /// Memory was wanting.
     NoMemory,
+}
+
+impl fmt::Display for PruneError {
+    ghost use Rattle.std.specs.Prelude.{Some};
+    ghost use Rattle.sval_filter.specs.ErrorTexts.{prune_error_text};
+
+    ghost output = { λ error. Some (prune_error_text error) };
+
+    fn fmt<W: fmt::Write>(&self, f: &mut fmt::Formatter<W>) -> fmt::Result {
+        f.write_str(match self {
+            PruneError::NotATree => "the calls are not one whole value",
+            PruneError::Refused => "the value refused",
+            PruneError::NoMemory => "cannot allocate for a pruned value",
+        })
+    }
 }
 
 /// A copy of a value with what a rule and paths leave of it.
