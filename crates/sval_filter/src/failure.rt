@@ -11,7 +11,7 @@ use sval_program::{InputError, Line, lines, status, tell};
 use sval_script::ScriptError;
 
 /// Why a script is none of one whole value.
-#[derive(Clone, Copy, Debug, PartialEq, Eq)]
+#[derive(Clone, Copy)]
 pub(crate) enum Fault {
     /// This line, counted from 1, is the first that is no call.
     BadLine {
@@ -28,7 +28,7 @@ pub(crate) enum Fault {
 }
 
 /// Why what is left of a value has no JSON.
-#[derive(Clone, Copy, Debug, PartialEq, Eq)]
+#[derive(Clone, Copy)]
 pub(crate) enum Refusal {
     /// What stands in the place of a map's key can't be one.
     Key,
@@ -37,7 +37,7 @@ pub(crate) enum Refusal {
 }
 
 /// Why the program failed: each failure has a status and a line.
-#[derive(Clone, Copy, Debug, PartialEq, Eq)]
+#[derive(Clone, Copy)]
 pub(crate) enum Failure {
     /// The words are no form.
     Usage,
