@@ -1,5 +1,5 @@
 -- The begin of an item as steps of the reader.
-use Rattle.std.specs.Prelude.{◌≡◌, ◌≢◌, ℕ, ◌+◌, ◌<◌, ◌≤◌, Bool, true, false, ◌&&◌, ◌==◌, nat_le, if◌then◌else◌, List, [], ◌∷◌, ◌++◌, length, take, drop, get_or, Option, None, IsTrue, refl}
+use Rattle.std.specs.Prelude.{◌≡◌, ◌≢◌, ℕ, ◌+◌, ◌<◌, ◌≤◌, Bool, true, false, ◌&&◌, ◌==◌, nat_le, if◌then◌else◌, List, [], ◌∷◌, ◌++◌, length, take, drop, get_or, Option, None, IsTrue, ⊤, refl}
 use Rattle.std.proofs.Common.{sym, ap, ◌∙◌, subst, arith, append_assoc, append-nil}
 use Rattle.std.proofs.lemmas.Bool.Decides.{nat_tests}
 use Rattle.std.proofs.lemmas.List.{length-drop, length-take-le, drop-drop}
@@ -7,9 +7,7 @@ use Rattle.sval_label.specs.Calls.{Call}
 use Rattle.std.specs.Prelude.{IsUtf8}
 use Rattle.std.proofs.lemmas.Str.{IsUtf8-from_is_utf8, is_utf8-from_IsUtf8}
 use Rattle.sval_cbor_read.specs.declared.head.Head as made_head
-use Rattle.sval_cbor_read.specs.declared.node.Node as made_node
 use Rattle.sval_cbor_read.specs.declared.bignum.Bignum.{Bignum as MadeBignum}
-use Rattle.sval_cbor_read.specs.declared.node.Place.{Place}
 use Rattle.sval_cbor_read.specs.declared.item.Item as made_item
 use Rattle.sval_cbor_read.specs.declared.item.Item.TheVariants as item
 use Rattle.sval_cbor_read.specs.declared.item.Begun.{Begun}
@@ -19,8 +17,9 @@ use Rattle.sval_cbor_read.specs.Steps.{Spot, spot, Steps, one_step, more_steps, 
 use Rattle.sval_cbor_read.specs.SeenHeads.{IsHead}
 use Rattle.sval_cbor_read.specs.SeenStrings.{IsBehind}
 use Rattle.sval_cbor_read.specs.SeenBignums.{IsNumberAt}
-use Rattle.sval_cbor_read.specs.SeenNodes.{IsWhole}
-use Rattle.sval_cbor_read.specs.SeenItems.{state_behind, begin_calls, StandsIn, IsMarked, BeginsBehind, BeginsNothingBehind, Begins, BeginsNothing}
+use Rattle.sval_cbor_read.specs.SeenNodes.{byte_string, step_calls, IsBignum}
+use Rattle.sval_cbor_read.proofs.ByteStrings.{byte_string_is}
+use Rattle.sval_cbor_read.specs.SeenItems.{state_behind, begin_calls, IsBegun, IsMarked, BeginsBehind, BeginsNothingBehind, Begins, BeginsNothing}
 use Rattle.sval_cbor_read.proofs.Bignums.{bytes_at, nothing_at}
 use Rattle.sval_cbor_read.proofs.OneTree.{one_byte_string}
 use Rattle.sval_cbor_read.proofs.Strings.{string_goes, bignum_read, bignum_piece_read, bignum_goes}
@@ -41,10 +40,41 @@ no_item_step {frames = frames} {left = left} {made = made} e bytes reached tree 
 
 -- ---- heads
 
-pub begins_behind : (bytes : List ℕ) (h : made_head.Head) (place : Place) (found : made_item.Item) (next : ℕ)
-    → ((frames : List Frame) → body_step h.major h.number (drop h.next bytes) frames ≡ moves (begin_calls found) (drop next bytes) (state_behind found frames)) → StandsIn place found → h.next ≤ next → next ≤ length bytes
-    → BeginsBehind bytes h place (record { item = found; next = next })
-begins_behind bytes h place found next e s l k = record { leads = λ frames left made f. one_step (f ∙ e frames); stands = s; later = l; within = k }
+-- an item that is begun by its first step
+abbrev pub IsOfStep : made_item.Item → Type 0
+IsOfStep item.Whole = ⊤
+IsOfStep (item.Container frame) = ⊤
+IsOfStep (item.Pieces medium) = ⊤
+IsOfStep _ = ⊥
+
+pub of_step_calls : (found : made_item.Item) (bytes : List ℕ) (move : Option Move) → IsOfStep found → begin_calls found bytes move ≡ step_calls move
+of_step_calls item.Whole bytes move o = refl
+of_step_calls (item.Big from) bytes move o = absurd o
+of_step_calls (item.NegativeBig from) bytes move o = absurd o
+of_step_calls (item.Container frame) bytes move o = refl
+of_step_calls (item.Pieces medium) bytes move o = refl
+of_step_calls item.Tag bytes move o = absurd o
+
+pub of_step_begun : (found : made_item.Item) (bytes : List ℕ) (move : Option Move) → IsOfStep found → 0 < length (step_calls move) → IsBegun found bytes move
+of_step_begun item.Whole bytes move o s = s
+of_step_begun (item.Big from) bytes move o s = absurd o
+of_step_begun (item.NegativeBig from) bytes move o s = absurd o
+of_step_begun (item.Container frame) bytes move o s = s
+of_step_begun (item.Pieces medium) bytes move o s = s
+of_step_begun item.Tag bytes move o s = absurd o
+
+pub begins_behind : (bytes : List ℕ) (h : made_head.Head) (found : made_item.Item) (calls : List Call) (next : ℕ)
+    → ((frames : List Frame) → body_step h.major h.number (drop h.next bytes) frames ≡ moves calls (drop next bytes) (state_behind found frames)) → IsOfStep found → 0 < length calls → h.next ≤ next → next ≤ length bytes
+    → BeginsBehind bytes h (record { item = found; next = next })
+begins_behind bytes h found calls next e o s l k =
+    let same : step_calls (body_step h.major h.number (drop h.next bytes) []) ≡ calls = ap step_calls (e []) in
+    let begun : begin_calls found bytes (body_step h.major h.number (drop h.next bytes) []) ≡ calls = of_step_calls found bytes (body_step h.major h.number (drop h.next bytes) []) o ∙ same in
+    record {
+      leads = λ frames left made f. subst (λ x. Steps (spot (Item frames) left made) (spot (state_behind found frames) (drop next bytes) (made ++ x))) (sym begun) (one_step (f ∙ e frames));
+      is = of_step_begun found bytes (body_step h.major h.number (drop h.next bytes) []) o (subst (λ x. 0 < length x) (sym same) s);
+      later = l;
+      within = k;
+    }
 
 pub begins_nothing_behind : (bytes : List ℕ) (h : made_head.Head) → ((frames : List Frame) → body_step h.major h.number (drop h.next bytes) frames ≡ None) → BeginsNothingBehind bytes h
 begins_nothing_behind bytes h e frames left made f = no_item_step (f ∙ e frames)
@@ -105,16 +135,20 @@ number_lacks tag bytes frames move h m left made e start reached tree is_item =
 
 -- ---- marks
 
-pub marked_begins : (bytes : List ℕ) (at : ℕ) (place : Place) (found : made_item.Item) → at < length bytes → IsMarked (get_or bytes at 0) place found → Begins bytes at place (record { item = found; next = at + 1 })
-marked_begins bytes at place found l m = record {
-  leads = λ frames made.
-      let e : step (Item frames) (drop at bytes) ≡ moves (begin_calls found) (drop (at + 1) bytes) (state_behind found frames) =
-      ap (λ x. item_step x frames) (bytes_at bytes at l) ∙ m.moves (drop (at + 1) bytes) (head_of (get_or bytes at 0 ∷ drop (at + 1) bytes)) frames in
-      one_step e;
-  stands = m.stands;
-  later = omega arith;
-  within = omega arith;
-}
+pub marked_begins : (bytes : List ℕ) (at : ℕ) (found : made_item.Item) → at < length bytes → IsMarked (get_or bytes at 0) found → Begins bytes at (record { item = found; next = at + 1 })
+marked_begins bytes at found l m =
+    let first = get_or bytes at 0 in
+    let behind = drop (at + 1) bytes in
+    let here : item_step (drop at bytes) [] ≡ first_step (mark_of first) behind (head_of (first ∷ behind)) [] = ap (λ x. item_step x []) (bytes_at bytes at l) in
+    record {
+      leads = λ frames made.
+          let e : step (Item frames) (drop at bytes) ≡ moves (begin_calls found bytes (item_step (drop at bytes) [])) behind (state_behind found frames) =
+          ap (λ x. item_step x frames) (bytes_at bytes at l) ∙ m.moves bytes behind (head_of (first ∷ behind)) frames ∙ ap (λ x. moves (begin_calls found bytes x) behind (state_behind found frames)) (sym here) in
+          one_step e;
+      is = subst (IsBegun found bytes) (sym here) (m.is bytes behind (head_of (first ∷ behind)));
+      later = omega arith;
+      within = omega arith;
+    }
 
 -- a first byte that is no mark begins a head
 unmarked_step : (bytes : List ℕ) (at : ℕ) (frames : List Frame) → at < length bytes → mark_of (get_or bytes at 0) ≡ None → step (Item frames) (drop at bytes) ≡ head_step (head_of (drop at bytes)) frames
@@ -122,14 +156,18 @@ unmarked_step bytes at frames l e =
     let here = bytes_at bytes at l in
     ap (λ x. item_step x frames) here ∙ ap (λ o. first_step o (drop (at + 1) bytes) (head_of (get_or bytes at 0 ∷ drop (at + 1) bytes)) frames) e ∙ ap (λ x. head_step (head_of x) frames) (sym here)
 
-pub headed_begins : (bytes : List ℕ) (at : ℕ) (place : Place) (h : made_head.Head) (begun : Begun) → at < length bytes → mark_of (get_or bytes at 0) ≡ None → (at < h.next) × IsHead bytes at h (head_of (drop at bytes))
-    → BeginsBehind bytes h place begun → Begins bytes at place begun
-headed_begins bytes at place h begun l e (later, (is, before, within)) b = record {
-  leads = λ frames made. b.leads frames (drop at bytes) made (unmarked_step bytes at frames l e ∙ ap (λ x. head_step x frames) is);
-  stands = b.stands;
-  later = let k = b.later in omega arith;
-  within = b.within;
-}
+pub headed_begins : (bytes : List ℕ) (at : ℕ) (h : made_head.Head) (begun : Begun) → at < length bytes → mark_of (get_or bytes at 0) ≡ None → (at < h.next) × IsHead bytes at h (head_of (drop at bytes))
+    → BeginsBehind bytes h begun → Begins bytes at begun
+headed_begins bytes at h begun l e (later, (is, before, within)) b =
+    let here : item_step (drop at bytes) [] ≡ body_step h.major h.number (drop h.next bytes) [] = unmarked_step bytes at [] l e ∙ ap (λ x. head_step x []) is in
+    record {
+      leads = λ frames made.
+          subst (λ x. Steps (spot (Item frames) (drop at bytes) made) (spot (state_behind begun.item frames) (drop begun.next bytes) (made ++ begin_calls begun.item bytes x))) (sym here)
+          (b.leads frames (drop at bytes) made (unmarked_step bytes at frames l e ∙ ap (λ x. head_step x frames) is));
+      is = subst (IsBegun begun.item bytes) (sym here) b.is;
+      later = let k = b.later in omega arith;
+      within = b.within;
+    }
 
 pub headed_begins_nothing : (bytes : List ℕ) (at : ℕ) (h : made_head.Head) → at < length bytes → mark_of (get_or bytes at 0) ≡ None → (at < h.next) × IsHead bytes at h (head_of (drop at bytes))
     → BeginsNothingBehind bytes h → BeginsNothing bytes at
@@ -156,29 +194,25 @@ no_mark first a b c d e f g =
 -- ---- by the major type
 
 -- a byte string behind its head
-pub binary_begins : (bytes : List ℕ) (h : made_head.Head) (place : Place) (found : made_item.Item) (content : List ℕ) (next : ℕ) → h.major ≡ 2 → IsBehind bytes h content next
-    → begin_calls found ≡ string_calls 2 (length content) content → ((frames : List Frame) → state_behind found frames ≡ Ended frames) → StandsIn place found → BeginsBehind bytes h place (record { item = found; next = next })
-binary_begins bytes h place found content next m b calls ends s =
+pub binary_begins : (bytes : List ℕ) (h : made_head.Head) (content : List ℕ) (next : ℕ) → h.major ≡ 2 → IsBehind bytes h content next → BeginsBehind bytes h (record { item = item.Whole; next = next })
+binary_begins bytes h content next m b =
     let after = drop h.next bytes in
     let fits : h.number ≤ length after = let n = b.next_is in let w = b.within in omega (arith, length-drop h.next bytes) in
     let rest : drop next bytes ≡ drop h.number after = ap (λ n. drop n bytes) b.next_is ∙ sym (drop-drop h.number h.next bytes) in
-    begins_behind bytes h place found next
-    (λ frames. major_is h 2 after frames m ∙ string_goes_behind 2 h.number after content (drop next bytes) frames fits refl b.content_is rest
-    ∙ ap (λ x. moves x (drop next bytes) (Ended frames)) (sym calls) ∙ ap (λ x. moves (begin_calls found) (drop next bytes) x) (sym (ends frames)))
-    s (let n = b.next_is in omega arith) b.within
+    begins_behind bytes h item.Whole (string_calls 2 (length content) content) next
+    (λ frames. major_is h 2 after frames m ∙ string_goes_behind 2 h.number after content (drop next bytes) frames fits refl b.content_is rest)
+    tt (omega arith) (let n = b.next_is in omega arith) b.within
 
 -- a text behind its head
-pub text_begins : (bytes : List ℕ) (h : made_head.Head) (place : Place) (found : made_item.Item) (content : List ℕ) (next : ℕ) → h.major ≡ 3 → IsBehind bytes h content next → IsUtf8 content
-    → begin_calls found ≡ string_calls 3 (length content) content → ((frames : List Frame) → state_behind found frames ≡ Ended frames) → StandsIn place found → BeginsBehind bytes h place (record { item = found; next = next })
-text_begins bytes h place found content next m b u calls ends s =
+pub text_begins : (bytes : List ℕ) (h : made_head.Head) (content : List ℕ) (next : ℕ) → h.major ≡ 3 → IsBehind bytes h content next → IsUtf8 content → BeginsBehind bytes h (record { item = item.Whole; next = next })
+text_begins bytes h content next m b u =
     let after = drop h.next bytes in
     let fits : h.number ≤ length after = let n = b.next_is in let w = b.within in omega (arith, length-drop h.next bytes) in
     let rest : drop next bytes ≡ drop h.number after = ap (λ n. drop n bytes) b.next_is ∙ sym (drop-drop h.number h.next bytes) in
     let utf8 : IsTrue (is_piece 3 (take h.number after)) = subst (λ x. IsTrue (is_piece 3 x)) b.content_is (is_utf8-from_IsUtf8 content u) in
-    begins_behind bytes h place found next
-    (λ frames. major_is h 3 after frames m ∙ string_goes_behind 3 h.number after content (drop next bytes) frames fits utf8 b.content_is rest
-    ∙ ap (λ x. moves x (drop next bytes) (Ended frames)) (sym calls) ∙ ap (λ x. moves (begin_calls found) (drop next bytes) x) (sym (ends frames)))
-    s (let n = b.next_is in omega arith) b.within
+    begins_behind bytes h item.Whole (string_calls 3 (length content) content) next
+    (λ frames. major_is h 3 after frames m ∙ string_goes_behind 3 h.number after content (drop next bytes) frames fits utf8 b.content_is rest)
+    tt (omega arith) (let n = b.next_is in omega arith) b.within
 
 pub no_binary : (bytes : List ℕ) (h : made_head.Head) → h.major ≡ 2 → h.next ≤ length bytes → length bytes < h.next + h.number → BeginsNothingBehind bytes h
 no_binary bytes h m w l = begins_nothing_behind bytes h (λ frames. major_is h 2 (drop h.next bytes) frames m ∙ no_string_step 2 h.number (drop h.next bytes) frames (λ k u. omega (arith, length-drop h.next bytes)))
@@ -190,23 +224,42 @@ no_text bytes h m w n =
     ∙ no_string_step 3 h.number (drop h.next bytes) frames (λ k u. n (omega (arith, length-drop h.next bytes)) (IsUtf8-from_is_utf8 (take h.number (drop h.next bytes)) u)))
 
 -- a tag that is passed over
-pub tag_begins : (bytes : List ℕ) (h : made_head.Head) (place : Place) → h.major ≡ 6 → h.number ≢ 2 → h.number ≢ 3 → h.next ≤ length bytes → BeginsBehind bytes h place (record { item = item.Tag; next = h.next })
-tag_begins bytes h place m a b w =
-    begins_behind bytes h place item.Tag h.next (λ frames. major_is h 6 (drop h.next bytes) frames m ∙ other_tag h.number (drop h.next bytes) frames a b) tt (omega arith) w
+pub tag_begins : (bytes : List ℕ) (h : made_head.Head) → h.major ≡ 6 → h.number ≢ 2 → h.number ≢ 3 → h.next ≤ length bytes → BeginsBehind bytes h (record { item = item.Tag; next = h.next })
+tag_begins bytes h m a b w = record {
+  leads = λ frames left made f. one_step (f ∙ major_is h 6 (drop h.next bytes) frames m ∙ other_tag h.number (drop h.next bytes) frames a b);
+  is = tt;
+  later = omega arith;
+  within = w;
+}
 
 -- the move of a tag for numbers
 number_move : (tag : ℕ) (h : made_head.Head) (after : List ℕ) (frames : List Frame) → h.major ≡ 6 → h.number ≡ tag → (tag_step tag after frames ≡ moves [] after (Bignum tag frames))
     → body_step h.major h.number after frames ≡ moves [] after (Bignum tag frames)
 number_move tag h after frames m n e = major_is h 6 after frames m ∙ ap (λ k. body_step 6 k after frames) n ∙ e
 
-pub number_begins : (tag : ℕ) (bytes : List ℕ) (h : made_head.Head) (place : Place) (n : made_node.Node) (bignum : MadeBignum) → h.major ≡ 6 → h.number ≡ tag
+-- a number under its tag, by what its byte string is
+number_behind : (tag : ℕ) (bytes : List ℕ) (h : made_head.Head) (bignum : MadeBignum) → h.major ≡ 6 → h.number ≡ tag
     → ((after : List ℕ) (frames : List Frame) → tag_step tag after frames ≡ moves [] after (Bignum tag frames)) → (number : IsNumberAt bytes h.next bignum) → fits tag number.content ≡ true
-    → IsWhole place (number_call tag number.content ∷ []) n → BeginsBehind bytes h place (record { item = item.Whole n; next = bignum.next })
-number_begins tag bytes h place n bignum m k e number f w = record {
-  leads = λ frames left made step_is.
-      subst (λ x. Steps (spot (Item frames) left made) (spot (Ended frames) (drop bignum.next bytes) (made ++ x))) (sym w.own)
-      (number_leads tag frames (body_step h.major h.number (drop h.next bytes) frames) number.stands f (number_move tag h (drop h.next bytes) frames m k (e (drop h.next bytes) frames)) left made step_is);
-  stands = record { begins = w.begins; own = refl; ends = w.ends };
+    → (frames : List Frame) (left : List ℕ) (made : List Call) → step (Item frames) left ≡ body_step h.major h.number (drop h.next bytes) frames
+    → Steps (spot (Item frames) left made) (spot (Ended frames) (drop bignum.next bytes) (made ++ (number_call tag (byte_string (drop h.next bytes)) ∷ [])))
+number_behind tag bytes h bignum m k e number f frames left made step_is =
+    subst (λ x. Steps (spot (Item frames) left made) (spot (Ended frames) (drop bignum.next bytes) (made ++ (number_call tag x ∷ [])))) (sym (byte_string_is number.stands))
+    (number_leads tag frames (body_step h.major h.number (drop h.next bytes) frames) number.stands f (number_move tag h (drop h.next bytes) frames m k (e (drop h.next bytes) frames)) left made step_is)
+
+pub big_begins : (bytes : List ℕ) (h : made_head.Head) (bignum : MadeBignum) → h.major ≡ 6 → h.number ≡ 2 → (number : IsNumberAt bytes h.next bignum) → fits 2 number.content ≡ true
+    → BeginsBehind bytes h (record { item = item.Big h.next; next = bignum.next })
+big_begins bytes h bignum m k number f = record {
+  leads = number_behind 2 bytes h bignum m k (λ after frames. refl) number f;
+  is = record { content = number.content; rest = _; stands = number.stands; small = f };
+  later = let l = number.later in omega arith;
+  within = number.within;
+}
+
+pub negative_big_begins : (bytes : List ℕ) (h : made_head.Head) (bignum : MadeBignum) → h.major ≡ 6 → h.number ≡ 3 → (number : IsNumberAt bytes h.next bignum) → fits 3 number.content ≡ true
+    → BeginsBehind bytes h (record { item = item.NegativeBig h.next; next = bignum.next })
+negative_big_begins bytes h bignum m k number f = record {
+  leads = number_behind 3 bytes h bignum m k (λ after frames. refl) number f;
+  is = record { content = number.content; rest = _; stands = number.stands; small = f };
   later = let l = number.later in omega arith;
   within = number.within;
 }

@@ -9,10 +9,11 @@ pub mod OneReading
 pub mod Nearer
 pub mod RealItems
 pub mod Bignums
-pub mod Stacks
 pub mod ReadStrings
 pub mod BegunItems
 pub mod KeptNodes
+pub mod ByteStrings
+pub mod ItemCalls
 pub mod ReadsOn
 pub mod NodeStreams
 pub mod Loop

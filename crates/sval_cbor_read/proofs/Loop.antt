@@ -35,19 +35,19 @@ makes_some bytes at r m = record { spot = m.second; reached = reached_by m.steps
 
 -- where an item has ended, all bytes were read
 module _ (bytes : List ℕ) (reader : Reader) (ended : reader.expected ≡ expected.Nothing) (r : IsReached bytes (spot_of bytes reader)) where
-  at_end : IsReached bytes (spot (Ended []) (drop reader.at bytes) (streamed reader.nodes.items ++ []))
+  at_end : IsReached bytes (spot (Ended []) (drop reader.at bytes) (streamed bytes reader.nodes.items ++ []))
   at_end = subst (IsReached bytes) (spot_is bytes reader expected.Nothing reader.opened reader.at reader.nodes.items ended refl refl refl) r
 
   pub more_is_bad : reader.at < length bytes → (tree : Tree) → IsItemOf bytes tree → ⊥
   more_is_bad l tree is_item =
-      stops_badly bytes (drop reader.at bytes) (Ended []) (streamed reader.nodes.items ++ []) at_end refl
+      stops_badly bytes (drop reader.at bytes) (Ended []) (streamed bytes reader.nodes.items ++ []) at_end refl
       (λ end. let e = ap length end.1 in omega (arith, e, length-drop reader.at bytes)) tree is_item
 
-  pub all_is_read : length bytes ≤ reader.at → IsRead bytes (streamed reader.nodes.items)
+  pub all_is_read : length bytes ≤ reader.at → IsRead bytes (streamed bytes reader.nodes.items)
   all_is_read l =
       let none : drop reader.at bytes ≡ [] = nothing (drop reader.at bytes) (omega (arith, length-drop reader.at bytes)) in
-      let reads = ends_well bytes (streamed reader.nodes.items) (subst (λ x. Reached bytes (Ended []) [] x) (append-nil (streamed reader.nodes.items)) (subst (λ x. Reached bytes (Ended []) x (streamed reader.nodes.items ++ [])) none at_end)) in
-      let (tree, item, same) = read_spells bytes (streamed reader.nodes.items) reads in
+      let reads = ends_well bytes (streamed bytes reader.nodes.items) (subst (λ x. Reached bytes (Ended []) [] x) (append-nil (streamed bytes reader.nodes.items)) (subst (λ x. Reached bytes (Ended []) x (streamed bytes reader.nodes.items ++ [])) none at_end)) in
+      let (tree, item, same) = read_spells bytes (streamed bytes reader.nodes.items) reads in
       record { tree = tree; item = item; same = same; spells = subst (λ x. Spells x tree) (sym same) (item_is_read bytes tree item).1 }
     where
       nothing : (left : List ℕ) → length left ≤ 0 → left ≡ []

@@ -3,7 +3,9 @@ use Rattle.std.specs.Prelude.{◌≡◌, ◌≢◌, ℕ, ◌+◌, ◌<◌, ◌�
 use Rattle.std.proofs.Common.{sym, ap, ◌∙◌, subst, arith, append-nil, length-append}
 use Rattle.sval_label.specs.Calls.{Call}
 use Rattle.sval_label.specs.Calls as calls
-use Rattle.sval_cbor_read.specs.declared.node.Node as made_node
+use Rattle.sval_cbor_read.specs.declared.node.Kind as made_kind
+use Rattle.sval_cbor_read.specs.declared.node.Kind.TheVariants as kind
+use Rattle.sval_cbor_read.specs.declared.node.Node.{Node}
 use Rattle.sval_cbor_read.specs.declared.item.Item as made_item
 use Rattle.sval_cbor_read.specs.declared.item.Item.TheVariants as item
 use Rattle.sval_cbor_read.specs.declared.item.Medium as made_medium
@@ -14,18 +16,18 @@ use Rattle.sval_cbor_read.specs.declared.reader.Expected as made_expected
 use Rattle.sval_cbor_read.specs.declared.reader.Expected.TheVariants as expected
 use Rattle.sval_cbor_read.specs.declared.reader.Reader.{Reader}
 use Rattle.sval_cbor_read.specs.declared.node.Place.{Place}
-use Rattle.sval_cbor_read.specs.Items.{ArePieces}
-use Rattle.sval_cbor_read.specs.Reading.{Frame, Items, Keys, State, Item, Part, Ended, Pieces, moves, part_step, fragment, string_end, piece_step, step}
+use Rattle.sval_cbor_read.specs.Items.{IsString, ArePieces}
+use Rattle.sval_cbor_read.specs.Reading.{Frame, Items, Keys, State, Item, Part, Ended, Pieces, moves, item_step, part_step, fragment, string_end, piece_step, step}
 use Rattle.sval_cbor_read.specs.Steps.{Spot, spot, Steps, one_step, IsStuck, Makes}
-use Rattle.sval_cbor_read.specs.SeenNodes.{begins_before, own_calls, ends_behind, place_begins, place_ends, streamed}
+use Rattle.sval_cbor_read.specs.SeenNodes.{node_of, begins_before, own_calls, piece_calls, ends_behind, place_begins, place_ends, step_calls, streamed, Stands, AreKept}
 use Rattle.sval_cbor_read.specs.SeenFrames.{frame_of, around, changed, place_in}
-use Rattle.sval_cbor_read.specs.SeenItems.{state_behind, begin_calls, StandsIn, Begins, BeginsNothing, major_of}
+use Rattle.sval_cbor_read.specs.SeenItems.{state_behind, begin_calls, IsBegun, IsNoTag, Begins, BeginsNothing, major_of}
 use Rattle.sval_cbor_read.specs.SeenParts.{Follows}
-use Rattle.sval_cbor_read.specs.SeenReader.{state_of, calls_before, spot_of, Adds, expected_after, opened_after, EndsItem, BeginsPart, KeepsItem, Keeps, end_of, ReadsOn}
-use Rattle.sval_cbor_read.proofs.KeptNodes.{own_some, with_made, begins_with, ends_with}
+use Rattle.sval_cbor_read.specs.SeenReader.{state_of, calls_before, spot_of, Adds, expected_after, opened_after, EndsItem, BeginsPart, KeepsItem, Keeps, piece_of, end_of, ReadsOn}
+use Rattle.sval_cbor_read.proofs.KeptNodes.{own_some, begin_some, kept-add, with_made, begins_with, ends_with}
 use Rattle.sval_cbor_read.specs.SeenStrings.{IsStringAt, HasNoString}
 use Rattle.sval_cbor_read.proofs.Bignums.{bytes_at, nothing_at, no_pieces_left, no_first_piece}
-use Rattle.sval_cbor_read.proofs.Strings.{piece_read}
+use Rattle.sval_cbor_read.proofs.Strings.{piece_goes, piece_read}
 use Rattle.sval_cbor_read.proofs.Sound.{pieces_need}
 use Rattle.sval_cbor_read.proofs.Complete.{item_is_read}
 use Rattle.sval_cbor_read.proofs.OneReading.{reads_after, stops_badly}
@@ -33,26 +35,26 @@ use Rattle.sval_cbor_read.proofs.OneReading.{reads_after, stops_badly}
 -- ---- spots
 
 -- the spot of a reader by its fields
-pub spot_is : (bytes : List ℕ) (reader : Reader) (expects : made_expected.Expected) (frames : List Frame) (at : ℕ) (nodes : List made_node.Node) → reader.expected ≡ expects → reader.opened ≡ frames → reader.at ≡ at
-    → reader.nodes.items ≡ nodes → spot_of bytes reader ≡ spot (state_of expects frames) (drop at bytes) (streamed nodes ++ calls_before expects frames)
+pub spot_is : (bytes : List ℕ) (reader : Reader) (expects : made_expected.Expected) (frames : List Frame) (at : ℕ) (nodes : List Node) → reader.expected ≡ expects → reader.opened ≡ frames → reader.at ≡ at
+    → reader.nodes.items ≡ nodes → spot_of bytes reader ≡ spot (state_of expects frames) (drop at bytes) (streamed bytes nodes ++ calls_before expects frames)
 spot_is bytes reader expects frames at nodes e o a n = rw (e, o, a, n) refl
 
 -- steps up to a reader, by its fields
-pub to_spot : {first : Spot} (bytes : List ℕ) (reader : Reader) (expects : made_expected.Expected) (frames : List Frame) (at : ℕ) (nodes : List made_node.Node) → reader.expected ≡ expects → reader.opened ≡ frames → reader.at ≡ at
-    → reader.nodes.items ≡ nodes → Steps first (spot (state_of expects frames) (drop at bytes) (streamed nodes ++ calls_before expects frames)) → Steps first (spot_of bytes reader)
+pub to_spot : {first : Spot} (bytes : List ℕ) (reader : Reader) (expects : made_expected.Expected) (frames : List Frame) (at : ℕ) (nodes : List Node) → reader.expected ≡ expects → reader.opened ≡ frames → reader.at ≡ at
+    → reader.nodes.items ≡ nodes → Steps first (spot (state_of expects frames) (drop at bytes) (streamed bytes nodes ++ calls_before expects frames)) → Steps first (spot_of bytes reader)
 to_spot {first = first} bytes reader expects frames at nodes e o a n s = subst (Steps first) (sym (spot_is bytes reader expects frames at nodes e o a n)) s
 
 -- steps from a reader on, by its fields
 pub from_spot : {last : Spot} (bytes : List ℕ) (reader : Reader) (expects : made_expected.Expected) → reader.expected ≡ expects
-    → Steps (spot (state_of expects reader.opened) (drop reader.at bytes) (streamed reader.nodes.items ++ calls_before expects reader.opened)) last → Steps (spot_of bytes reader) last
+    → Steps (spot (state_of expects reader.opened) (drop reader.at bytes) (streamed bytes reader.nodes.items ++ calls_before expects reader.opened)) last → Steps (spot_of bytes reader) last
 from_spot {last = last} bytes reader expects e s = subst (λ x. Steps x last) (sym (spot_is bytes reader expects reader.opened reader.at reader.nodes.items e refl refl refl)) s
 
 pub stuck_at : (bytes : List ℕ) (reader : Reader) (expects : made_expected.Expected) → reader.expected ≡ expects
-    → IsStuck (spot (state_of expects reader.opened) (drop reader.at bytes) (streamed reader.nodes.items ++ calls_before expects reader.opened)) → IsStuck (spot_of bytes reader)
+    → IsStuck (spot (state_of expects reader.opened) (drop reader.at bytes) (streamed bytes reader.nodes.items ++ calls_before expects reader.opened)) → IsStuck (spot_of bytes reader)
 stuck_at bytes reader expects e s = subst IsStuck (sym (spot_is bytes reader expects reader.opened reader.at reader.nodes.items e refl refl refl)) s
 
 pub makes_at : (bytes : List ℕ) (reader : Reader) (expects : made_expected.Expected) → reader.expected ≡ expects
-    → Makes (spot (state_of expects reader.opened) (drop reader.at bytes) (streamed reader.nodes.items ++ calls_before expects reader.opened)) → Makes (spot_of bytes reader)
+    → Makes (spot (state_of expects reader.opened) (drop reader.at bytes) (streamed bytes reader.nodes.items ++ calls_before expects reader.opened)) → Makes (spot_of bytes reader)
 makes_at bytes reader expects e s = subst Makes (sym (spot_is bytes reader expects reader.opened reader.at reader.nodes.items e refl refl refl)) s
 
 -- where calls were made
@@ -61,48 +63,73 @@ makes_calls state left made calls s l = record { second = spot state left (made 
 
 -- ---- items
 
-module _ (bytes : List ℕ) (old new : Reader) (at : ℕ) {first : Spot} where
-  kept : (begun : made_item.Item) → StandsIn (place_in old.opened) begun → old.expected ≡ expected.AnItem
-      → Steps first (spot (state_behind begun old.opened) (drop at bytes) (streamed old.nodes.items ++ place_begins (place_in old.opened) ++ begin_calls begun)) → KeepsItem old begun at new
+-- what is kept, where a node was added that stands in the bytes
+kept_by : (bytes : List ℕ) (old new : Reader) (k : made_kind.Kind) (place : Place) (at : ℕ) → new.nodes.items ≡ old.nodes.items ++ (node_of k place at ∷ []) → Stands k (drop at bytes)
+    → AreKept bytes old.nodes.items → AreKept bytes new.nodes.items
+kept_by bytes old new k place at e s all = subst (AreKept bytes) (sym e) (kept-add bytes old.nodes.items k place at all s)
+
+module _ (bytes : List ℕ) (old new : Reader) (at : ℕ) where
+  -- the calls before an item, and those that it begins with
+  abbrev made_with : made_item.Item → List Call
+  made_with begun = streamed bytes old.nodes.items ++ place_begins (place_in old.opened) ++ begin_calls begun bytes (item_step (drop old.at bytes) [])
+
+  steps_on : {first : Spot} (begun : made_item.Item) → old.expected ≡ expected.AnItem → Steps first (spot (state_behind begun old.opened) (drop at bytes) (made_with begun)) → KeepsItem old begun at new
       → Steps first (spot_of bytes new)
-  kept (item.Whole n) w e s k =
-      to_spot bytes new (expected_after old.opened) (opened_after old.opened) at (old.nodes.items ++ (n ∷ [])) k.expected_is k.opened_is k.at_is k.nodes_are
-      (ends_with old.opened old.nodes.items n (place_begins (place_in old.opened)) w.begins w.ends s)
-  kept (item.Container n frame) b e s k =
-      to_spot bytes new expected.APart (frame_of frame ∷ old.opened) at (old.nodes.items ++ (n ∷ [])) k.expected_is k.opened_is k.at_is k.nodes_are
-      (begins_with old.nodes.items n (place_begins (place_in old.opened)) b.begins b.ends s)
-  kept (item.Pieces n medium) b e s k =
-      to_spot bytes new (expected.APiece medium) old.opened at (old.nodes.items ++ (n ∷ [])) k.expected_is k.opened_is k.at_is k.nodes_are
-      (begins_with old.nodes.items n (place_begins (place_in old.opened)) b.begins b.ends s)
-  kept item.Tag b e s k =
+  steps_on item.Whole e s k =
+      to_spot bytes new (expected_after old.opened) (opened_after old.opened) at (old.nodes.items ++ (node_of kind.Item (place_in old.opened) old.at ∷ [])) k.expected_is k.opened_is k.at_is k.nodes_are
+      (ends_with bytes old.opened old.nodes.items kind.Item old.at (place_begins (place_in old.opened)) refl refl s)
+  steps_on (item.Big from) e s k =
+      to_spot bytes new (expected_after old.opened) (opened_after old.opened) at (old.nodes.items ++ (node_of kind.Big (place_in old.opened) from ∷ [])) k.expected_is k.opened_is k.at_is k.nodes_are
+      (ends_with bytes old.opened old.nodes.items kind.Big from (place_begins (place_in old.opened)) refl refl s)
+  steps_on (item.NegativeBig from) e s k =
+      to_spot bytes new (expected_after old.opened) (opened_after old.opened) at (old.nodes.items ++ (node_of kind.NegativeBig (place_in old.opened) from ∷ [])) k.expected_is k.opened_is k.at_is k.nodes_are
+      (ends_with bytes old.opened old.nodes.items kind.NegativeBig from (place_begins (place_in old.opened)) refl refl s)
+  steps_on (item.Container frame) e s k =
+      to_spot bytes new expected.APart (frame_of frame ∷ old.opened) at (old.nodes.items ++ (node_of kind.Begin (place_in old.opened) old.at ∷ [])) k.expected_is k.opened_is k.at_is k.nodes_are
+      (begins_with bytes old.nodes.items kind.Begin (place_in old.opened) old.at (place_begins (place_in old.opened)) refl refl s)
+  steps_on (item.Pieces medium) e s k =
+      to_spot bytes new (expected.APiece medium) old.opened at (old.nodes.items ++ (node_of kind.Begin (place_in old.opened) old.at ∷ [])) k.expected_is k.opened_is k.at_is k.nodes_are
+      (begins_with bytes old.nodes.items kind.Begin (place_in old.opened) old.at (place_begins (place_in old.opened)) refl refl s)
+  steps_on item.Tag e s k =
       to_spot bytes new expected.AnItem old.opened at old.nodes.items (k.expected_is ∙ e) k.opened_is k.at_is k.nodes_are
-      (with_made (append-nil (streamed old.nodes.items ++ place_begins (place_in old.opened))) s)
+      (with_made (append-nil (streamed bytes old.nodes.items ++ place_begins (place_in old.opened))) s)
+
+  all_kept : (begun : made_item.Item) → IsBegun begun bytes (item_step (drop old.at bytes) []) → KeepsItem old begun at new → AreKept bytes old.nodes.items → AreKept bytes new.nodes.items
+  all_kept item.Whole s k all = kept_by bytes old new kind.Item (place_in old.opened) old.at k.nodes_are s all
+  all_kept (item.Big from) s k all = kept_by bytes old new kind.Big (place_in old.opened) from k.nodes_are s all
+  all_kept (item.NegativeBig from) s k all = kept_by bytes old new kind.NegativeBig (place_in old.opened) from k.nodes_are s all
+  all_kept (item.Container frame) s k all = kept_by bytes old new kind.Begin (place_in old.opened) old.at k.nodes_are s all
+  all_kept (item.Pieces medium) s k all = kept_by bytes old new kind.Begin (place_in old.opened) old.at k.nodes_are s all
+  all_kept item.Tag s k all = subst (AreKept bytes) (sym k.nodes_are) all
+
+  at_kept : (begun : made_item.Item) → KeepsItem old begun at new → at ≤ length bytes → new.at ≤ length bytes
+  at_kept item.Whole k w = let a = k.at_is in omega arith
+  at_kept (item.Big from) k w = let a = k.at_is in omega arith
+  at_kept (item.NegativeBig from) k w = let a = k.at_is in omega arith
+  at_kept (item.Container frame) k w = let a = k.at_is in omega arith
+  at_kept (item.Pieces medium) k w = let a = k.at_is in omega arith
+  at_kept item.Tag k w = let a = k.at_is in omega arith
 
 -- the begin of an item
-pub item_goes_on : (bytes : List ℕ) (old new : Reader) (begun : Begun) → old.expected ≡ expected.AnItem → Begins bytes old.at (place_in old.opened) begun → Keeps old begun new → ReadsOn bytes old new true
+pub item_goes_on : (bytes : List ℕ) (old new : Reader) (begun : Begun) → old.expected ≡ expected.AnItem → Begins bytes old.at begun → Keeps old begun new → ReadsOn bytes old new true
 item_goes_on bytes old new begun e b k = record {
-  goes =
-      from_spot bytes old expected.AnItem e
-      (kept bytes old new begun.next begun.item b.stands e (b.leads old.opened (streamed old.nodes.items ++ place_begins (place_in old.opened))) k);
-  within = let w = b.within in at_kept begun.item k w;
+  goes = from_spot bytes old expected.AnItem e (steps_on bytes old new begun.next begun.item e (b.leads old.opened (streamed bytes old.nodes.items ++ place_begins (place_in old.opened))) k);
+  within = at_kept bytes old new begun.next begun.item k b.within;
+  kept = all_kept bytes old new begun.next begun.item b.is k;
 }
-  where
-    at_kept : (begun_item : made_item.Item) → KeepsItem old begun_item begun.next new → begun.next ≤ length bytes → new.at ≤ length bytes
-    at_kept (item.Whole n) k w = let a = k.at_is in omega arith
-    at_kept (item.Container n frame) k w = let a = k.at_is in omega arith
-    at_kept (item.Pieces n medium) k w = let a = k.at_is in omega arith
-    at_kept item.Tag k w = let a = k.at_is in omega arith
 
 pub item_stuck : (bytes : List ℕ) (old new : Reader) → old.expected ≡ expected.AnItem → old.at ≤ length bytes → new ≡ old → BeginsNothing bytes old.at → ReadsOn bytes old new false
 item_stuck bytes old new e w same b = record {
-  goes = stuck_at bytes old expected.AnItem e (b old.opened (streamed old.nodes.items ++ place_begins (place_in old.opened)));
+  goes = stuck_at bytes old expected.AnItem e (b old.opened (streamed bytes old.nodes.items ++ place_begins (place_in old.opened)));
   within = subst (λ r. r.at ≤ length bytes) (sym same) w;
+  kept = λ all. subst (λ r. AreKept bytes r.nodes.items) (sym same) all;
 }
 
-pub item_makes : (bytes : List ℕ) (old : Reader) (begun : Begun) → old.expected ≡ expected.AnItem → Begins bytes old.at (place_in old.opened) begun → 0 < length (begin_calls begun.item) → Makes (spot_of bytes old)
-item_makes bytes old begun e b l =
-    makes_at bytes old expected.AnItem e (makes_calls (state_behind begun.item old.opened) (drop begun.next bytes) (streamed old.nodes.items ++ place_begins (place_in old.opened)) (begin_calls begun.item)
-    (b.leads old.opened (streamed old.nodes.items ++ place_begins (place_in old.opened))) l)
+pub item_makes : (bytes : List ℕ) (old : Reader) (begun : Begun) → old.expected ≡ expected.AnItem → Begins bytes old.at begun → IsNoTag begun.item → Makes (spot_of bytes old)
+item_makes bytes old begun e b n =
+    let calls = begin_calls begun.item bytes (item_step (drop old.at bytes) []) in
+    makes_at bytes old expected.AnItem e (makes_calls (state_behind begun.item old.opened) (drop begun.next bytes) (streamed bytes old.nodes.items ++ place_begins (place_in old.opened)) calls
+    (b.leads old.opened (streamed bytes old.nodes.items ++ place_begins (place_in old.opened))) (begin_some begun.item bytes (item_step (drop old.at bytes) []) b.is n))
 
 -- ---- parts of arrays and maps
 
@@ -114,28 +141,35 @@ module _ (bytes : List ℕ) (old : Reader) (is : old.expected ≡ expected.APart
     goes =
         from_spot bytes old expected.APart is
         (to_spot bytes new expected.AnItem (next ∷ rest) old.at old.nodes.items k.expected_is (k.opened_is ∙ ap (changed next) o) k.at_is k.nodes_are
-        (with_made (ap (λ x. x ++ place_begins (place_in (next ∷ rest))) (append-nil (streamed old.nodes.items))) (one_step (ap (part_step (drop old.at bytes)) o ∙ e))));
+        (with_made (ap (λ x. x ++ place_begins (place_in (next ∷ rest))) (append-nil (streamed bytes old.nodes.items))) (one_step (ap (part_step (drop old.at bytes)) o ∙ e))));
     within = let a = k.at_is in omega arith;
+    kept = λ all. subst (AreKept bytes) (sym k.nodes_are) all;
   }
 
   -- the array or map ends with this node
-  pub part_ends : (new : Reader) (n : made_node.Node) (next : ℕ) → part_step (drop old.at bytes) old.opened ≡ moves (own_calls n) (drop next bytes) (Ended (around old.opened)) → begins_before n ≡ []
-      → ends_behind n ≡ place_ends (place_in (around old.opened)) → next ≤ length bytes → EndsItem (around old.opened) old n next new → ReadsOn bytes old new true
-  part_ends new n next e b f w k = record {
+  pub part_ends : (new : Reader) (k : made_kind.Kind) (next : ℕ) → part_step (drop old.at bytes) old.opened ≡ moves (own_calls k (drop old.at bytes)) (drop next bytes) (Ended (around old.opened))
+      → begins_before k (place_in (around old.opened)) ≡ [] → ends_behind k (place_in (around old.opened)) ≡ place_ends (place_in (around old.opened)) → Stands k (drop old.at bytes) → next ≤ length bytes
+      → EndsItem (around old.opened) old (node_of k (place_in (around old.opened)) old.at) next new → ReadsOn bytes old new true
+  part_ends new k next e b f s w ends = record {
     goes =
         from_spot bytes old expected.APart is
-        (to_spot bytes new (expected_after (around old.opened)) (opened_after (around old.opened)) next (old.nodes.items ++ (n ∷ [])) k.expected_is k.opened_is k.at_is k.nodes_are
-        (ends_with (around old.opened) old.nodes.items n [] b f (one_step e)));
-    within = let a = k.at_is in omega arith;
+        (to_spot bytes new (expected_after (around old.opened)) (opened_after (around old.opened)) next (old.nodes.items ++ (node_of k (place_in (around old.opened)) old.at ∷ [])) ends.expected_is ends.opened_is ends.at_is
+        ends.nodes_are (ends_with bytes (around old.opened) old.nodes.items k old.at [] b f (one_step e)));
+    within = let a = ends.at_is in omega arith;
+    kept = kept_by bytes old new k (place_in (around old.opened)) old.at ends.nodes_are s;
   }
 
-  pub part_makes : (n : made_node.Node) (next : ℕ) → part_step (drop old.at bytes) old.opened ≡ moves (own_calls n) (drop next bytes) (Ended (around old.opened)) → Makes (spot_of bytes old)
-  part_makes n next e = makes_at bytes old expected.APart is (makes_calls (Ended (around old.opened)) (drop next bytes) (streamed old.nodes.items ++ []) (own_calls n) (one_step e) (own_some n))
+  pub part_makes : (k : made_kind.Kind) (next : ℕ) → part_step (drop old.at bytes) old.opened ≡ moves (own_calls k (drop old.at bytes)) (drop next bytes) (Ended (around old.opened)) → Stands k (drop old.at bytes)
+      → Makes (spot_of bytes old)
+  part_makes k next e s =
+      makes_at bytes old expected.APart is
+      (makes_calls (Ended (around old.opened)) (drop next bytes) (streamed bytes old.nodes.items ++ []) (own_calls k (drop old.at bytes)) (one_step e) (own_some k (drop old.at bytes) s))
 
   pub part_stuck : part_step (drop old.at bytes) old.opened ≡ None → old.at ≤ length bytes → ReadsOn bytes old old false
   part_stuck e w = record {
-    goes = stuck_at bytes old expected.APart is (λ start reached tree is_item. stops_badly start (drop old.at bytes) (Part old.opened) (streamed old.nodes.items ++ []) reached e (λ end. let f = end.0 in cc f) tree is_item);
+    goes = stuck_at bytes old expected.APart is (λ start reached tree is_item. stops_badly start (drop old.at bytes) (Part old.opened) (streamed bytes old.nodes.items ++ []) reached e (λ end. let f = end.0 in cc f) tree is_item);
     within = w;
+    kept = λ all. all;
   }
 
 -- what follows in an array
@@ -173,57 +207,93 @@ map_begins left more bytes at rest f =
 -- ---- strings in pieces
 
 module _ (bytes : List ℕ) (old : Reader) (medium : made_medium.Medium) (is : old.expected ≡ expected.APiece medium) where
-  -- a piece
-  pub piece_goes_on : (new : Reader) (n : made_node.Node) (content : List ℕ) (next : ℕ) → IsStringAt (major_of medium) bytes old.at content next → own_calls n ≡ fragment (major_of medium) content ∷ [] → begins_before n ≡ []
-      → ends_behind n ≡ [] → Adds old n next (expected.APiece medium) new → ReadsOn bytes old new true
-  piece_goes_on new n content next s own b f k =
-      let e : step (Pieces (major_of medium) old.opened) (drop old.at bytes) ≡ moves (own_calls n) (drop next bytes) (Pieces (major_of medium) old.opened) =
-      piece_read (major_of medium) (drop old.at bytes) content (drop next bytes) old.opened s.stands ∙ ap (λ x. moves x (drop next bytes) (Pieces (major_of medium) old.opened)) (sym own) in
-      record {
-        goes =
-            from_spot bytes old (expected.APiece medium) is
-            (to_spot bytes new (expected.APiece medium) old.opened next (old.nodes.items ++ (n ∷ [])) k.expected_is k.opened_is k.at_is k.nodes_are (begins_with old.nodes.items n [] b f (one_step e)));
-        within = let a = k.at_is in let w = s.within in omega arith;
-      }
+  -- the step of a piece
+  piece_is : (content : List ℕ) (next : ℕ) → IsStringAt (major_of medium) bytes old.at content next
+      → (own_calls (piece_of medium) (drop old.at bytes) ≡ fragment (major_of medium) content ∷ []) × Stands (piece_of medium) (drop old.at bytes)
+  piece_is content next s = by_medium medium s.stands
+    where
+      goes_by : (major : ℕ) → IsString major (drop old.at bytes) content (drop next bytes) → piece_calls major (drop old.at bytes) ≡ fragment major content ∷ []
+      goes_by major t = ap step_calls (piece_goes major (drop old.at bytes) content (drop next bytes) (λ piece left. moves (fragment major piece ∷ []) left (Ended [])) t)
 
-  pub piece_makes : (n : made_node.Node) (content : List ℕ) (next : ℕ) → IsStringAt (major_of medium) bytes old.at content next → own_calls n ≡ fragment (major_of medium) content ∷ [] → Makes (spot_of bytes old)
-  piece_makes n content next s own =
-      let e : step (Pieces (major_of medium) old.opened) (drop old.at bytes) ≡ moves (own_calls n) (drop next bytes) (Pieces (major_of medium) old.opened) =
-      piece_read (major_of medium) (drop old.at bytes) content (drop next bytes) old.opened s.stands ∙ ap (λ x. moves x (drop next bytes) (Pieces (major_of medium) old.opened)) (sym own) in
-      makes_at bytes old (expected.APiece medium) is (makes_calls (Pieces (major_of medium) old.opened) (drop next bytes) (streamed old.nodes.items ++ []) (own_calls n) (one_step e) (own_some n))
+      some_by : (major : ℕ) → IsString major (drop old.at bytes) content (drop next bytes) → 0 < length (piece_calls major (drop old.at bytes))
+      some_by major t = subst (λ x. 0 < length x) (sym (goes_by major t)) (let l : 0 < length (fragment major content ∷ []) = omega arith in l)
+
+      by_medium : (m : made_medium.Medium) → IsString (major_of m) (drop old.at bytes) content (drop next bytes)
+          → (own_calls (piece_of m) (drop old.at bytes) ≡ fragment (major_of m) content ∷ []) × Stands (piece_of m) (drop old.at bytes)
+      by_medium media.Text t = (goes_by 3 t, some_by 3 t)
+      by_medium media.Binary t = (goes_by 2 t, some_by 2 t)
+
+  piece_step_is : (content : List ℕ) (next : ℕ) → IsStringAt (major_of medium) bytes old.at content next
+      → step (Pieces (major_of medium) old.opened) (drop old.at bytes) ≡ moves (own_calls (piece_of medium) (drop old.at bytes)) (drop next bytes) (Pieces (major_of medium) old.opened)
+  piece_step_is content next s =
+      piece_read (major_of medium) (drop old.at bytes) content (drop next bytes) old.opened s.stands
+      ∙ ap (λ x. moves x (drop next bytes) (Pieces (major_of medium) old.opened)) (sym (piece_is content next s).0)
+
+  -- a piece stands in no part
+  no_begin : (m : made_medium.Medium) (place : Place) → begins_before (piece_of m) place ≡ []
+  no_begin media.Text place = refl
+  no_begin media.Binary place = refl
+
+  no_end : (m : made_medium.Medium) (place : Place) → ends_behind (piece_of m) place ≡ []
+  no_end media.Text place = refl
+  no_end media.Binary place = refl
+
+  -- a piece
+  pub piece_goes_on : (new : Reader) (content : List ℕ) (next : ℕ) → IsStringAt (major_of medium) bytes old.at content next
+      → Adds old (node_of (piece_of medium) (place_in old.opened) old.at) next (expected.APiece medium) new → ReadsOn bytes old new true
+  piece_goes_on new content next s k = record {
+    goes =
+        from_spot bytes old (expected.APiece medium) is
+        (to_spot bytes new (expected.APiece medium) old.opened next (old.nodes.items ++ (node_of (piece_of medium) (place_in old.opened) old.at ∷ [])) k.expected_is k.opened_is k.at_is k.nodes_are
+        (begins_with bytes old.nodes.items (piece_of medium) (place_in old.opened) old.at [] (no_begin medium (place_in old.opened)) (no_end medium (place_in old.opened)) (one_step (piece_step_is content next s))));
+    within = let a = k.at_is in let w = s.within in omega arith;
+    kept = kept_by bytes old new (piece_of medium) (place_in old.opened) old.at k.nodes_are (piece_is content next s).1;
+  }
+
+  pub piece_makes : (content : List ℕ) (next : ℕ) → IsStringAt (major_of medium) bytes old.at content next → Makes (spot_of bytes old)
+  piece_makes content next s =
+      makes_at bytes old (expected.APiece medium) is
+      (makes_calls (Pieces (major_of medium) old.opened) (drop next bytes) (streamed bytes old.nodes.items ++ []) (own_calls (piece_of medium) (drop old.at bytes)) (one_step (piece_step_is content next s))
+      (own_some (piece_of medium) (drop old.at bytes) (piece_is content next s).1))
 
   -- the break
-  break_is : (place : Place) → old.at < length bytes → get_or bytes old.at 0 ≡ 255
-      → step (Pieces (major_of medium) old.opened) (drop old.at bytes) ≡ moves (own_calls (end_of medium place)) (drop (old.at + 1) bytes) (Ended old.opened)
-  break_is place l e =
+  break_is : old.at < length bytes → get_or bytes old.at 0 ≡ 255
+      → step (Pieces (major_of medium) old.opened) (drop old.at bytes) ≡ moves (own_calls (end_of medium) (drop old.at bytes)) (drop (old.at + 1) bytes) (Ended old.opened)
+  break_is l e =
       ap (λ x. piece_step (major_of medium) x old.opened) (bytes_at bytes old.at l ∙ ap (λ x. x ∷ drop (old.at + 1) bytes) e)
-      ∙ ap (λ x. moves x (drop (old.at + 1) bytes) (Ended old.opened)) (end_calls medium place)
+      ∙ ap (λ x. moves x (drop (old.at + 1) bytes) (Ended old.opened)) (end_calls medium)
     where
-      end_calls : (m : made_medium.Medium) (place : Place) → string_end (major_of m) ∷ [] ≡ own_calls (end_of m place)
-      end_calls media.Text place = refl
-      end_calls media.Binary place = refl
+      end_calls : (m : made_medium.Medium) → string_end (major_of m) ∷ [] ≡ own_calls (end_of m) (drop old.at bytes)
+      end_calls media.Text = refl
+      end_calls media.Binary = refl
 
-  pub pieces_end_with : (new : Reader) → old.at < length bytes → get_or bytes old.at 0 ≡ 255 → EndsItem old.opened old (end_of medium (place_in old.opened)) (old.at + 1) new → ReadsOn bytes old new true
+  an_end_stands : (m : made_medium.Medium) → Stands (end_of m) (drop old.at bytes)
+  an_end_stands media.Text = tt
+  an_end_stands media.Binary = tt
+
+  pub pieces_end_with : (new : Reader) → old.at < length bytes → get_or bytes old.at 0 ≡ 255 → EndsItem old.opened old (node_of (end_of medium) (place_in old.opened) old.at) (old.at + 1) new → ReadsOn bytes old new true
   pieces_end_with new l e k = record {
     goes =
         from_spot bytes old (expected.APiece medium) is
-        (to_spot bytes new (expected_after old.opened) (opened_after old.opened) (old.at + 1) (old.nodes.items ++ (end_of medium (place_in old.opened) ∷ [])) k.expected_is k.opened_is k.at_is k.nodes_are
-        (ends_with old.opened old.nodes.items (end_of medium (place_in old.opened)) [] (no_begin medium (place_in old.opened)) (an_end medium (place_in old.opened)) (one_step (break_is (place_in old.opened) l e))));
+        (to_spot bytes new (expected_after old.opened) (opened_after old.opened) (old.at + 1) (old.nodes.items ++ (node_of (end_of medium) (place_in old.opened) old.at ∷ [])) k.expected_is k.opened_is k.at_is k.nodes_are
+        (ends_with bytes old.opened old.nodes.items (end_of medium) old.at [] (starts_none medium (place_in old.opened)) (an_end medium (place_in old.opened)) (one_step (break_is l e))));
     within = let a = k.at_is in omega arith;
+    kept = kept_by bytes old new (end_of medium) (place_in old.opened) old.at k.nodes_are (an_end_stands medium);
   }
     where
-      no_begin : (m : made_medium.Medium) (place : Place) → begins_before (end_of m place) ≡ []
-      no_begin media.Text place = refl
-      no_begin media.Binary place = refl
+      starts_none : (m : made_medium.Medium) (place : Place) → begins_before (end_of m) place ≡ []
+      starts_none media.Text place = refl
+      starts_none media.Binary place = refl
 
-      an_end : (m : made_medium.Medium) (place : Place) → ends_behind (end_of m place) ≡ place_ends place
+      an_end : (m : made_medium.Medium) (place : Place) → ends_behind (end_of m) place ≡ place_ends place
       an_end media.Text place = refl
       an_end media.Binary place = refl
 
   pub pieces_end_makes : old.at < length bytes → get_or bytes old.at 0 ≡ 255 → Makes (spot_of bytes old)
   pieces_end_makes l e =
       makes_at bytes old (expected.APiece medium) is
-      (makes_calls (Ended old.opened) (drop (old.at + 1) bytes) (streamed old.nodes.items ++ []) (own_calls (end_of medium (place_in old.opened))) (one_step (break_is (place_in old.opened) l e)) (own_some (end_of medium (place_in old.opened))))
+      (makes_calls (Ended old.opened) (drop (old.at + 1) bytes) (streamed bytes old.nodes.items ++ []) (own_calls (end_of medium) (drop old.at bytes)) (one_step (break_is l e))
+      (own_some (end_of medium) (drop old.at bytes) (an_end_stands medium)))
 
   -- neither
   pieces_stuck : ((content rest : List ℕ) → ArePieces (major_of medium) (drop old.at bytes) content rest → ⊥) → old.at ≤ length bytes → ReadsOn bytes old old false
@@ -232,6 +302,7 @@ module _ (bytes : List ℕ) (old : Reader) (medium : made_medium.Medium) (is : o
         stuck_at bytes old (expected.APiece medium) is
         (λ start reached tree is_item. let (content, rest, p) = pieces_need (reads_after reached (item_is_read start tree is_item).0).1 in h content rest p);
     within = w;
+    kept = λ all. all;
   }
 
   pub no_piece : old.at < length bytes → get_or bytes old.at 0 ≢ 255 → HasNoString (major_of medium) (drop old.at bytes) → ReadsOn bytes old old false

@@ -24,18 +24,18 @@ piece_fits major n after l k =
     let f : (major == major) ≡ true = grind (arith, nat_tests) in
     rw (f, e, k) refl
 
-piece_goes : (major : ℕ) (bytes content rest : List ℕ) (next : List ℕ → List ℕ → Option Move) → IsString major bytes content rest → with_piece major (head_of bytes) next ≡ next content rest
+pub piece_goes : (major : ℕ) (bytes content rest : List ℕ) (next : List ℕ → List ℕ → Option Move) → IsString major bytes content rest → with_piece major (head_of bytes) next ≡ next content rest
 piece_goes major bytes content rest next (string {number = n} {after = after} e l k) = rw (e, piece_fits major n after l k) refl
 
 -- a head begins with neither the break nor the byte of pieces
-no_break : (first : ℕ) (bytes : List ℕ) (h : Head) → head_of (first ∷ bytes) ≡ Some h → (first == 0xff) ≡ false
+pub no_break : (first : ℕ) (bytes : List ℕ) (h : Head) → head_of (first ∷ bytes) ≡ Some h → (first == 0xff) ≡ false
 no_break first bytes h e = go (first == 0xff) refl
   where
     go : (b : Bool) → (first == 0xff) ≡ b → b ≡ false
     go true g = let is : first ≡ 0xff = grind (arith, nat_tests) in absurd (no_head_255 bytes (subst (λ x. head_of (x ∷ bytes) ≡ Some h) is e))
     go false g = refl
 
-no_pieces : (first : ℕ) (bytes : List ℕ) (h : Head) → head_of (first ∷ bytes) ≡ Some h → (first == 0x5f) ≡ false
+pub no_pieces : (first : ℕ) (bytes : List ℕ) (h : Head) → head_of (first ∷ bytes) ≡ Some h → (first == 0x5f) ≡ false
 no_pieces first bytes h e = go (first == 0x5f) refl
   where
     go : (b : Bool) → (first == 0x5f) ≡ b → b ≡ false

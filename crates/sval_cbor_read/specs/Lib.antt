@@ -12,6 +12,7 @@ pub mod SeenItems
 pub mod SeenParts
 pub mod SeenReader
 pub mod ReadErrors
+pub mod ErrorTexts
 pub mod Forms
 pub mod Statuses
 pub mod Reports

@@ -1,5 +1,5 @@
 -- What the stack of the code stands for.
-use Rattle.std.specs.Prelude.{◌≡◌, List, [], ◌∷◌, Option, Some, None}
+use Rattle.std.specs.Prelude.{◌≡◌, List, [], ◌∷◌, Option, Some, None, map, reverse}
 use Rattle.sval_cbor_read.specs.declared.stack.Frame as made_frame
 use Rattle.sval_cbor_read.specs.declared.stack.Frame.TheVariants as made
 use Rattle.sval_cbor_read.specs.declared.node.Place.{Place}
@@ -11,6 +11,11 @@ abbrev pub frame_of : made_frame.Frame → Frame
 frame_of (made.Items left) = Items left
 frame_of (made.Keys left) = Keys left
 frame_of (made.Values left) = Values left
+
+-- what is open, by the innermost frame and those around it, which come with the outermost first
+abbrev pub frames_of : Option made_frame.Frame → List made_frame.Frame → List Frame
+frames_of None outer = []
+frames_of (Some top) outer = frame_of top ∷ reverse (map frame_of outer)
 
 -- the innermost frame, if something is open
 abbrev pub TopIs : Option made_frame.Frame → List Frame → Type 0

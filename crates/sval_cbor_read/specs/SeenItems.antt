@@ -1,17 +1,16 @@
 -- What the code finds where an item begins, as steps of the reader.
-use Rattle.std.specs.Prelude.{◌≡◌, ℕ, ◌<◌, ◌≤◌, List, [], ◌∷◌, ◌++◌, length, drop, Option}
+use Rattle.std.specs.Prelude.{◌≡◌, ℕ, ◌<◌, ◌≤◌, List, [], ◌∷◌, ◌++◌, length, drop, Option, ⊤}
 use Rattle.sval_label.specs.Calls.{Call}
 use Rattle.sval_cbor_read.specs.declared.head.Head as made_head
 use Rattle.sval_cbor_read.specs.Items.{Head}
-use Rattle.sval_cbor_read.specs.declared.node.Place.{Place}
 use Rattle.sval_cbor_read.specs.declared.item.Medium as made_medium
 use Rattle.sval_cbor_read.specs.declared.item.Medium.TheVariants as medium
 use Rattle.sval_cbor_read.specs.declared.item.Item as made_item
 use Rattle.sval_cbor_read.specs.declared.item.Item.TheVariants as item
 use Rattle.sval_cbor_read.specs.declared.item.Begun.{Begun}
 use Rattle.sval_cbor_read.specs.Reading as reading
-use Rattle.sval_cbor_read.specs.Reading.{Frame, State, Move, mark_of, first_step, body_step, step}
-use Rattle.sval_cbor_read.specs.SeenNodes.{own_calls, IsWhole, IsBegin}
+use Rattle.sval_cbor_read.specs.Reading.{Frame, State, Move, mark_of, first_step, item_step, body_step, number_call, step}
+use Rattle.sval_cbor_read.specs.SeenNodes.{byte_string, step_calls, IsBignum}
 use Rattle.sval_cbor_read.specs.SeenFrames.{frame_of}
 use Rattle.sval_cbor_read.specs.Steps.{Steps, spot, IsStuck}
 
@@ -22,43 +21,56 @@ major_of medium.Binary = 2
 
 -- what comes behind the begin of an item
 abbrev pub state_behind : made_item.Item → List Frame → State
-state_behind (item.Whole node) frames = reading.Ended frames
-state_behind (item.Container node frame) frames = reading.Part (frame_of frame ∷ frames)
-state_behind (item.Pieces node medium) frames = reading.Pieces (major_of medium) frames
+state_behind item.Whole frames = reading.Ended frames
+state_behind (item.Big from) frames = reading.Ended frames
+state_behind (item.NegativeBig from) frames = reading.Ended frames
+state_behind (item.Container frame) frames = reading.Part (frame_of frame ∷ frames)
+state_behind (item.Pieces medium) frames = reading.Pieces (major_of medium) frames
 state_behind item.Tag frames = reading.Item frames
 
--- the calls that an item begins with
-abbrev pub begin_calls : made_item.Item → List Call
-begin_calls (item.Whole node) = own_calls node
-begin_calls (item.Container node frame) = own_calls node
-begin_calls (item.Pieces node medium) = own_calls node
-begin_calls item.Tag = []
+-- the calls that an item begins with, by the step there, or by the byte string of a number
+abbrev pub begin_calls : made_item.Item → List ℕ → Option Move → List Call
+begin_calls item.Whole bytes move = step_calls move
+begin_calls (item.Big from) bytes move = number_call 2 (byte_string (drop from bytes)) ∷ []
+begin_calls (item.NegativeBig from) bytes move = number_call 3 (byte_string (drop from bytes)) ∷ []
+begin_calls (item.Container frame) bytes move = step_calls move
+begin_calls (item.Pieces medium) bytes move = step_calls move
+begin_calls item.Tag bytes move = []
 
--- its node stands in this place
-abbrev pub StandsIn : Place → made_item.Item → Type 0
-StandsIn place (item.Whole node) = IsWhole place (own_calls node) node
-StandsIn place (item.Container node frame) = IsBegin place (own_calls node) node
-StandsIn place (item.Pieces node medium) = IsBegin place (own_calls node) node
-StandsIn place item.Tag = Unit {0}
+-- a call is made by the step there, or by the byte string of a number
+abbrev pub IsBegun : made_item.Item → List ℕ → Option Move → Type 0
+IsBegun item.Whole bytes move = 0 < length (step_calls move)
+IsBegun (item.Big from) bytes move = IsBignum 2 (drop from bytes)
+IsBegun (item.NegativeBig from) bytes move = IsBignum 3 (drop from bytes)
+IsBegun (item.Container frame) bytes move = 0 < length (step_calls move)
+IsBegun (item.Pieces medium) bytes move = 0 < length (step_calls move)
+IsBegun item.Tag bytes move = ⊤
+
+-- something is kept of it
+abbrev pub IsNoTag : made_item.Item → Type 0
+IsNoTag item.Tag = ⊥
+IsNoTag _ = ⊤
 
 -- where an item is expected, this move and some further steps lead to what is behind its begin
-abbrev pub LeadsBehind : Option Move → List Frame → made_item.Item → List ℕ → Type 0
-LeadsBehind move frames item behind =
-    (left : List ℕ) (made : List Call) → step (reading.Item frames) left ≡ move → Steps (spot (reading.Item frames) left made) (spot (state_behind item frames) behind (made ++ begin_calls item))
+abbrev pub LeadsBehind : Option Move → List Frame → made_item.Item → List Call → List ℕ → Type 0
+LeadsBehind move frames item calls behind =
+    (left : List ℕ) (made : List Call) → step (reading.Item frames) left ≡ move → Steps (spot (reading.Item frames) left made) (spot (state_behind item frames) behind (made ++ calls))
 
 -- where an item is expected, this move leads to no item
 abbrev pub LeadsNowhere : Option Move → List Frame → Type 0
 LeadsNowhere move frames = (left : List ℕ) (made : List Call) → step (reading.Item frames) left ≡ move → IsStuck (spot (reading.Item frames) left made)
 
 -- the item that a first byte begins by itself
-pub record IsMarked (first : ℕ) (place : Place) (item : made_item.Item) : Type 0 where
-  pub moves : (bytes : List ℕ) (begun : Option Head) (frames : List Frame) → first_step (mark_of first) bytes begun frames ≡ reading.moves (begin_calls item) bytes (state_behind item frames)
-  pub stands : StandsIn place item
+pub record IsMarked (first : ℕ) (item : made_item.Item) : Type 0 where
+  pub moves : (all bytes : List ℕ) (begun : Option Head) (frames : List Frame)
+      → first_step (mark_of first) bytes begun frames ≡ reading.moves (begin_calls item all (first_step (mark_of first) bytes begun [])) bytes (state_behind item frames)
+  pub is : (all bytes : List ℕ) (begun : Option Head) → IsBegun item all (first_step (mark_of first) bytes begun [])
 
 -- what is found behind a head leads on
-pub record BeginsBehind (bytes : List ℕ) (h : made_head.Head) (place : Place) (begun : Begun) : Type 0 where
-  pub leads : (frames : List Frame) → LeadsBehind (body_step h.major h.number (drop h.next bytes) frames) frames begun.item (drop begun.next bytes)
-  pub stands : StandsIn place begun.item
+pub record BeginsBehind (bytes : List ℕ) (h : made_head.Head) (begun : Begun) : Type 0 where
+  pub leads : (frames : List Frame)
+      → LeadsBehind (body_step h.major h.number (drop h.next bytes) frames) frames begun.item (begin_calls begun.item bytes (body_step h.major h.number (drop h.next bytes) [])) (drop begun.next bytes)
+  pub is : IsBegun begun.item bytes (body_step h.major h.number (drop h.next bytes) [])
   pub later : h.next ≤ begun.next
   pub within : begun.next ≤ length bytes
 
@@ -67,10 +79,11 @@ abbrev pub BeginsNothingBehind : List ℕ → made_head.Head → Type 0
 BeginsNothingBehind bytes h = (frames : List Frame) → LeadsNowhere (body_step h.major h.number (drop h.next bytes) frames) frames
 
 -- what is found at a place leads on
-pub record Begins (bytes : List ℕ) (at : ℕ) (place : Place) (begun : Begun) : Type 0 where
+pub record Begins (bytes : List ℕ) (at : ℕ) (begun : Begun) : Type 0 where
   pub leads : (frames : List Frame) (made : List Call)
-      → Steps (spot (reading.Item frames) (drop at bytes) made) (spot (state_behind begun.item frames) (drop begun.next bytes) (made ++ begin_calls begun.item))
-  pub stands : StandsIn place begun.item
+      → Steps (spot (reading.Item frames) (drop at bytes) made)
+      (spot (state_behind begun.item frames) (drop begun.next bytes) (made ++ begin_calls begun.item bytes (item_step (drop at bytes) [])))
+  pub is : IsBegun begun.item bytes (item_step (drop at bytes) [])
   pub later : at < begun.next
   pub within : begun.next ≤ length bytes
 

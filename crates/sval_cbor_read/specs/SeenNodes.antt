@@ -1,17 +1,52 @@
--- What the nodes of the code stand for: the calls that each makes.
-use Rattle.std.specs.Prelude.{◌≡◌, ℕ, ◌+◌, ◌*◌, ◌^◌, pos, true, List, [], ◌∷◌, ◌++◌, length, flat_map, Some, None}
-use Rattle.std.specs.Int.{cast_signed, w128}
-use Rattle.sval_label.specs.Calls.{Call, U64, U128, I64, I128}
+-- What the nodes of the code stand for: the calls that each makes, by the reader's step at its place in the bytes.
+use Rattle.std.specs.Prelude.{◌≡◌, ℕ, zero, suc, ◌+◌, ◌*◌, ◌/◌, ◌%◌, ◌^◌, ◌<◌, true, ◌==◌, if◌then◌else◌, List, [], ◌∷◌, ◌++◌, length, take, drop, flat_map, Option, Some, None, ⊤}
+use Rattle.std.specs.List.{AllByRecursion}
+use Rattle.sval_label.specs.Calls.{Call}
 use Rattle.sval_label.specs.Calls as calls
 use Rattle.sval_cbor_read.specs.declared.node.Place as made_place
 use Rattle.sval_cbor_read.specs.declared.node.Place.TheVariants as place
-use Rattle.sval_cbor_read.specs.declared.node.Wide.{Wide}
-use Rattle.sval_cbor_read.specs.declared.node.Node as made_node
-use Rattle.sval_cbor_read.specs.declared.node.Node.TheVariants as node
+use Rattle.sval_cbor_read.specs.declared.node.Kind as made_kind
+use Rattle.sval_cbor_read.specs.declared.node.Kind.TheVariants as kind
+use Rattle.sval_cbor_read.specs.declared.node.Node.{Node}
+use Rattle.sval_cbor_read.specs.Items.{Head, head, head_of, IsByteString}
+use Rattle.sval_cbor_read.specs.Reading.{Move, moves, Ended, item_step, fragment, with_piece, fits, number_call}
 
--- the number of two halves
-abbrev pub wide_number : Wide → ℕ
-wide_number wide = wide.upper * 2 ^ 64 + wide.lower
+-- ---- places in the bytes
+
+-- the place in the bytes of a node
+abbrev pub node_at : Node → ℕ
+node_at node = node.low + node.high * 2 ^ 32
+
+-- the node of this kind, in this place of its container and at this one of the bytes
+abbrev pub node_of : made_kind.Kind → made_place.Place → ℕ → Node
+node_of kind place at = record { low = at % 2 ^ 32; high = at / 2 ^ 32; kind = kind; place = place }
+
+-- ---- numbers as byte strings
+
+-- what is made of a definite string and of the bytes behind it
+abbrev pub with_string : Option Head → (List ℕ → List ℕ → List ℕ) → List ℕ
+with_string None go = []
+with_string (Some (head major n after)) go = go (take n after) (drop n after)
+
+-- the contents of definite strings up to a break, joined, of so many strings at most
+abbrev pub joined : ℕ → List ℕ → List ℕ
+joined zero bytes = []
+joined (suc most) [] = []
+joined (suc most) (first ∷ bytes) = if first == 0xff then [] else with_string (head_of (first ∷ bytes)) (λ content left. content ++ joined most left)
+
+-- the content of the byte string with which the bytes begin, definite or in pieces
+abbrev pub byte_string : List ℕ → List ℕ
+byte_string [] = []
+byte_string (first ∷ bytes) = if first == 0x5f then joined (length bytes) bytes else with_string (head_of (first ∷ bytes)) (λ content left. content)
+
+-- the bytes begin with a byte string that is a number under this tag
+pub record IsBignum (tag : ℕ) (bytes : List ℕ) : Type 0 where
+  pub content : List ℕ
+  pub rest : List ℕ
+  pub stands : IsByteString bytes content rest
+  pub small : fits tag content ≡ true
+
+-- ---- calls
 
 -- the begin of the part that an item in this place stands in, if it stands in one
 abbrev pub place_begins : made_place.Place → List Call
@@ -27,85 +62,78 @@ place_ends place.Item = Call.PartEnd calls.Item ∷ []
 place_ends place.Key = Call.PartEnd calls.Key ∷ []
 place_ends place.Value = Call.PartEnd calls.Value ∷ []
 
--- the begin of the part that a node stands in, where it is the first of an item
-abbrev pub begins_before : made_node.Node → List Call
-begins_before (node.Null place) = place_begins place
-begins_before (node.Bool place _) = place_begins place
-begins_before (node.U64 place _) = place_begins place
-begins_before (node.I64 place _) = place_begins place
-begins_before (node.U128 place _) = place_begins place
-begins_before (node.I128 place _) = place_begins place
-begins_before (node.Text place _) = place_begins place
-begins_before (node.BeginText place) = place_begins place
-begins_before (node.TextPiece _) = []
-begins_before (node.EndText place) = []
-begins_before (node.Binary place _) = place_begins place
-begins_before (node.BeginBinary place) = place_begins place
-begins_before (node.BinaryPiece _) = []
-begins_before (node.EndBinary place) = []
-begins_before (node.BeginSeq place _) = place_begins place
-begins_before (node.EndSeq place) = []
-begins_before (node.BeginMap place _) = place_begins place
-begins_before (node.EndMap place) = []
+-- the calls of a step, where there is one
+abbrev pub step_calls : Option Move → List Call
+step_calls None = []
+step_calls (Some move) = move.calls
 
--- a node's own calls, wherever it stands
-abbrev pub own_calls : made_node.Node → List Call
-own_calls (node.Null _) = Call.Null ∷ []
-own_calls (node.Bool _ b) = Call.Truth b ∷ []
-own_calls (node.U64 _ n) = Call.Int U64 (pos n) ∷ []
-own_calls (node.I64 _ n) = Call.Int I64 n ∷ []
-own_calls (node.U128 _ wide) = Call.Int U128 (pos (wide_number wide)) ∷ []
-own_calls (node.I128 _ wide) = Call.Int I128 (cast_signed w128 (wide_number wide)) ∷ []
-own_calls (node.Text _ text) = Call.TextBegin (Some (length text.now)) ∷ Call.TextFragment true text.now ∷ Call.TextEnd ∷ []
-own_calls (node.BeginText _) = Call.TextBegin None ∷ []
-own_calls (node.TextPiece text) = Call.TextFragment true text.now ∷ []
-own_calls (node.EndText _) = Call.TextEnd ∷ []
-own_calls (node.Binary _ bytes) = Call.BinaryBegin (Some (length bytes.now)) ∷ Call.BinaryFragment true bytes.now ∷ Call.BinaryEnd ∷ []
-own_calls (node.BeginBinary _) = Call.BinaryBegin None ∷ []
-own_calls (node.BinaryPiece bytes) = Call.BinaryFragment true bytes.now ∷ []
-own_calls (node.EndBinary _) = Call.BinaryEnd ∷ []
-own_calls (node.BeginSeq _ size) = Call.Begin calls.Seq size ∷ []
-own_calls (node.EndSeq _) = Call.End calls.Seq ∷ []
-own_calls (node.BeginMap _ size) = Call.Begin calls.Map size ∷ []
-own_calls (node.EndMap _) = Call.End calls.Map ∷ []
+-- the fragment that a definite string of this major type is, with which the bytes begin
+abbrev pub piece_calls : ℕ → List ℕ → List Call
+piece_calls major bytes = step_calls (with_piece major (head_of bytes) (λ piece left. moves (fragment major piece ∷ []) left (Ended [])))
+
+-- the begin of the part that a node stands in, where it is the first of an item
+abbrev pub begins_before : made_kind.Kind → made_place.Place → List Call
+begins_before kind.Item place = place_begins place
+begins_before kind.Big place = place_begins place
+begins_before kind.NegativeBig place = place_begins place
+begins_before kind.Begin place = place_begins place
+begins_before kind.TextPiece place = []
+begins_before kind.BinaryPiece place = []
+begins_before kind.EndText place = []
+begins_before kind.EndBinary place = []
+begins_before kind.EndSeq place = []
+begins_before kind.EndMap place = []
+
+-- a node's own calls, by the bytes from its place on
+abbrev pub own_calls : made_kind.Kind → List ℕ → List Call
+own_calls kind.Item bytes = step_calls (item_step bytes [])
+own_calls kind.Big bytes = number_call 2 (byte_string bytes) ∷ []
+own_calls kind.NegativeBig bytes = number_call 3 (byte_string bytes) ∷ []
+own_calls kind.Begin bytes = step_calls (item_step bytes [])
+own_calls kind.TextPiece bytes = piece_calls 3 bytes
+own_calls kind.BinaryPiece bytes = piece_calls 2 bytes
+own_calls kind.EndText bytes = Call.TextEnd ∷ []
+own_calls kind.EndBinary bytes = Call.BinaryEnd ∷ []
+own_calls kind.EndSeq bytes = Call.End calls.Seq ∷ []
+own_calls kind.EndMap bytes = Call.End calls.Map ∷ []
 
 -- the end of the part that a node stands in, where it is the last of an item
-abbrev pub ends_behind : made_node.Node → List Call
-ends_behind (node.Null place) = place_ends place
-ends_behind (node.Bool place _) = place_ends place
-ends_behind (node.U64 place _) = place_ends place
-ends_behind (node.I64 place _) = place_ends place
-ends_behind (node.U128 place _) = place_ends place
-ends_behind (node.I128 place _) = place_ends place
-ends_behind (node.Text place _) = place_ends place
-ends_behind (node.BeginText place) = []
-ends_behind (node.TextPiece _) = []
-ends_behind (node.EndText place) = place_ends place
-ends_behind (node.Binary place _) = place_ends place
-ends_behind (node.BeginBinary place) = []
-ends_behind (node.BinaryPiece _) = []
-ends_behind (node.EndBinary place) = place_ends place
-ends_behind (node.BeginSeq place _) = []
-ends_behind (node.EndSeq place) = place_ends place
-ends_behind (node.BeginMap place _) = []
-ends_behind (node.EndMap place) = place_ends place
+abbrev pub ends_behind : made_kind.Kind → made_place.Place → List Call
+ends_behind kind.Item place = place_ends place
+ends_behind kind.Big place = place_ends place
+ends_behind kind.NegativeBig place = place_ends place
+ends_behind kind.Begin place = []
+ends_behind kind.TextPiece place = []
+ends_behind kind.BinaryPiece place = []
+ends_behind kind.EndText place = place_ends place
+ends_behind kind.EndBinary place = place_ends place
+ends_behind kind.EndSeq place = place_ends place
+ends_behind kind.EndMap place = place_ends place
 
--- the calls of a node
-abbrev pub node_calls : made_node.Node → List Call
-node_calls node = begins_before node ++ (own_calls node ++ ends_behind node)
+-- the calls of a node in these bytes
+abbrev pub node_calls : List ℕ → Node → List Call
+node_calls bytes node = begins_before node.kind node.place ++ (own_calls node.kind (drop (node_at node) bytes) ++ ends_behind node.kind node.place)
 
 -- the calls of the nodes, one node after the other
-abbrev pub streamed : List made_node.Node → List Call
-streamed nodes = flat_map node_calls nodes
+abbrev pub streamed : List ℕ → List Node → List Call
+streamed bytes nodes = flat_map (node_calls bytes) nodes
 
--- the node of a whole item in this place, which makes these calls
-pub record IsWhole (place : made_place.Place) (calls : List Call) (node : made_node.Node) : Type 0 where
-  pub begins : begins_before node ≡ place_begins place
-  pub own : own_calls node ≡ calls
-  pub ends : ends_behind node ≡ place_ends place
+-- ---- what stands at the places
 
--- the node with which an item in this place begins, which makes these calls
-pub record IsBegin (place : made_place.Place) (calls : List Call) (node : made_node.Node) : Type 0 where
-  pub begins : begins_before node ≡ place_begins place
-  pub own : own_calls node ≡ calls
-  pub ends : ends_behind node ≡ []
+-- bytes with which such a node begins: it makes a call, and a number under a tag is one
+abbrev pub Stands : made_kind.Kind → List ℕ → Type 0
+Stands kind.Item bytes = 0 < length (step_calls (item_step bytes []))
+Stands kind.Big bytes = IsBignum 2 bytes
+Stands kind.NegativeBig bytes = IsBignum 3 bytes
+Stands kind.Begin bytes = 0 < length (step_calls (item_step bytes []))
+Stands kind.TextPiece bytes = 0 < length (piece_calls 3 bytes)
+Stands kind.BinaryPiece bytes = 0 < length (piece_calls 2 bytes)
+Stands _ bytes = ⊤
+
+-- a node stands at its place in the bytes
+abbrev pub IsKept : List ℕ → Node → Type 0
+IsKept bytes node = Stands node.kind (drop (node_at node) bytes)
+
+-- all nodes do
+abbrev pub AreKept : List ℕ → List Node → Type 0
+AreKept bytes nodes = AllByRecursion (IsKept bytes) nodes

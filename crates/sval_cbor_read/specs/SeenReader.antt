@@ -3,7 +3,8 @@ use Rattle.std.specs.Prelude.{◌≡◌, ◌≢◌, ℕ, ◌≤◌, Bool, true, 
 use Rattle.sval_label.specs.Calls.{Call}
 use Rattle.sval_cbor_read.specs.declared.node.Place.{Place}
 use Rattle.sval_cbor_read.specs.declared.node.Node.{Node}
-use Rattle.sval_cbor_read.specs.declared.node.Node.TheVariants as node
+use Rattle.sval_cbor_read.specs.declared.node.Kind.{Kind}
+use Rattle.sval_cbor_read.specs.declared.node.Kind.TheVariants as kind
 use Rattle.sval_cbor_read.specs.declared.item.Medium as made_medium
 use Rattle.sval_cbor_read.specs.declared.item.Medium.TheVariants as medium
 use Rattle.sval_cbor_read.specs.declared.item.Item as made_item
@@ -14,7 +15,7 @@ use Rattle.sval_cbor_read.specs.declared.reader.Expected.TheVariants as expected
 use Rattle.sval_cbor_read.specs.declared.reader.Reader.{Reader}
 use Rattle.sval_cbor_read.specs.Reading.{Frame, Items, Keys, Values, State, Item, Part, Ended, Pieces}
 use Rattle.sval_cbor_read.specs.Steps.{Spot, spot, Goes}
-use Rattle.sval_cbor_read.specs.SeenNodes.{place_begins, streamed}
+use Rattle.sval_cbor_read.specs.SeenNodes.{node_of, place_begins, streamed, AreKept}
 use Rattle.sval_cbor_read.specs.SeenFrames.{frame_of, place_in, changed}
 use Rattle.sval_cbor_read.specs.SeenItems.{major_of}
 
@@ -33,7 +34,7 @@ calls_before _ frames = []
 -- the spot of a reader
 abbrev pub spot_of : List ℕ → Reader → Spot
 spot_of bytes reader =
-    spot (state_of reader.expected reader.opened) (drop reader.at bytes) (streamed reader.nodes.items ++ calls_before reader.expected reader.opened)
+    spot (state_of reader.expected reader.opened) (drop reader.at bytes) (streamed bytes reader.nodes.items ++ calls_before reader.expected reader.opened)
 
 -- one node more
 pub record Adds (old : Reader) (node : Node) (next : ℕ) (expects : made_expected.Expected) (new : Reader) : Type 0 where
@@ -85,24 +86,31 @@ pub record Opens (old : Reader) (node : Node) (frame : Frame) (next : ℕ) (new 
 
 -- what an item begins with is kept
 abbrev pub KeepsItem : Reader → made_item.Item → ℕ → Reader → Type 0
-KeepsItem old (item.Whole node) next new = EndsItem old.opened old node next new
-KeepsItem old (item.Container node frame) next new = Opens old node (frame_of frame) next new
-KeepsItem old (item.Pieces node medium) next new = Adds old node next (expected.APiece medium) new
+KeepsItem old item.Whole next new = EndsItem old.opened old (node_of kind.Item (place_in old.opened) old.at) next new
+KeepsItem old (item.Big from) next new = EndsItem old.opened old (node_of kind.Big (place_in old.opened) from) next new
+KeepsItem old (item.NegativeBig from) next new = EndsItem old.opened old (node_of kind.NegativeBig (place_in old.opened) from) next new
+KeepsItem old (item.Container frame) next new = Opens old (node_of kind.Begin (place_in old.opened) old.at) (frame_of frame) next new
+KeepsItem old (item.Pieces medium) next new = Adds old (node_of kind.Begin (place_in old.opened) old.at) next (expected.APiece medium) new
 KeepsItem old item.Tag next new = Passes old next new
 
 -- the same, up to the place behind it
 abbrev pub Keeps : Reader → Begun → Reader → Type 0
 Keeps old begun new = KeepsItem old begun.item begun.next new
 
--- the end of what is in pieces, in this place
-abbrev pub end_of : made_medium.Medium → Place → Node
-end_of medium.Text place = node.EndText place
-end_of medium.Binary place = node.EndBinary place
+-- a piece, and the end, of what is in pieces
+abbrev pub piece_of : made_medium.Medium → Kind
+piece_of medium.Text = kind.TextPiece
+piece_of medium.Binary = kind.BinaryPiece
+
+abbrev pub end_of : made_medium.Medium → Kind
+end_of medium.Text = kind.EndText
+end_of medium.Binary = kind.EndBinary
 
 -- the reader has gone on within the bytes, or it is stuck
 pub record ReadsOn (bytes : List ℕ) (old new : Reader) (taken : Bool) : Type 0 where
   pub goes : Goes (spot_of bytes old) (spot_of bytes new) taken
   pub within : new.at ≤ length bytes
+  pub kept : AreKept bytes old.nodes.items → AreKept bytes new.nodes.items
 
 -- nothing more is to be read, or something is
 abbrev pub HasEnded : made_expected.Expected → Bool → Type 0

@@ -2,13 +2,14 @@
 
 ghost use Rattle.std.specs.Prelude.{IfOk, IfErr};
 ghost use Rattle.sval_core.specs.Values.{makes};
-ghost use Rattle.sval_cbor_read.specs.SeenNodes.{streamed};
+ghost use Rattle.sval_cbor_read.specs.SeenNodes.{streamed, AreKept};
 ghost use Rattle.sval_cbor_read.specs.ReadErrors.{IsRead, IsReadError};
 
 use crate::node::Node;
 use crate::node_calls::stream_nodes;
 use crate::reader::Reader;
 use std::alloc::Global;
+use std::fmt;
 use std::marker::Model;
 use sval_core::{Lent, Result as StreamResult, Stream, Value};
 use sval_ref::ValueRef;
@@ -18,8 +19,22 @@ use sval_ref::ValueRef;
 pub enum CborReadError {
     /// They are not one item of this profile, whole and with nothing behind it.
     Bad,
-    /// There was no memory for what is kept of them.
+    /// There was no memory for what is kept of them, or something begins 2^48 bytes behind the first one.
     NoMemory,
+}
+
+impl fmt::Display for CborReadError {
+    ghost use Rattle.std.specs.Prelude.{Some};
+    ghost use Rattle.sval_cbor_read.specs.ErrorTexts.{error_text};
+
+    ghost output = { λ error. Some (error_text error) };
+
+    fn fmt<W: fmt::Write>(&self, f: &mut fmt::Formatter<W>) -> fmt::Result {
+        f.write_str(match self {
+            CborReadError::Bad => "the bytes are not one CBOR item of this profile",
+            CborReadError::NoMemory => "cannot allocate for an item of CBOR",
+        })
+    }
 }
 
 /// An item that was read, seen as its calls.
@@ -28,17 +43,20 @@ pub enum CborReadError {
 /// no memory for that.
 #[derive(Drop)]
 pub struct CborDoc<'a> {
-    nodes: Vec<Node<'a>>,
+    bytes: &'a [u8],
+    nodes: Vec<Node>,
 }
 
 impl<'a> Model for CborDoc<'a> {
     ghost use Rattle.std.specs.Prelude.{List};
     ghost use Rattle.sval_label.specs.Calls.{Call};
-    ghost use Rattle.sval_cbor_read.specs.SeenNodes.{streamed};
+    ghost use Rattle.sval_cbor_read.specs.SeenNodes.{streamed, AreKept};
 
     ghost Value = { List Call };
 
-    ghost view = { λ doc. streamed doc.nodes.items };
+    ghost view = { λ doc. streamed doc.bytes.now doc.nodes.items };
+
+    ghost invariant = { λ doc. AreKept doc.bytes.now doc.nodes.items };
 }
 
 impl<'a> CborDoc<'a> {
@@ -48,9 +66,9 @@ impl<'a> CborDoc<'a> {
     /// one fragment, which is lent. Tags are passed over, but 2 and 3, whose byte strings are whole numbers of 128 bits.
     ///
     /// ```
-    /// let doc = CborDoc::read(alloc, b"\xbf\x61\x30\xf4\x61\x31\xf5\xff")?;
-    /// assert_eq!(rt; stream_to_vec(alloc, &doc)?.as_slice(), b"{\"0\":false,\"1\":true}");
-    /// assert_eq!(rt; CborDoc::read(alloc, b"\x62\xc3").err(), Some(CborReadError::Bad));
+    /// let doc = CborDoc::read(alloc, b"\xbf\x61\x30\xf4\x61\x31\xf5\xff".as_slice())?;
+    /// assert_eq!(rt; stream_to_vec(alloc, &doc)?.as_slice(), b"{\"0\":false,\"1\":true}".as_slice());
+    /// assert_eq!(rt; CborDoc::read(alloc, b"\x62\xc3".as_slice()).err(), Some(CborReadError::Bad));
     /// ```
     ///
     /// # Errors
@@ -62,7 +80,7 @@ impl<'a> CborDoc<'a> {
         ensures err { IfErr result (IsReadError bytes.now) }
     {
         match read_nodes(alloc, bytes) {
-            Ok(nodes) => Ok(CborDoc { nodes }),
+            Ok(nodes) => Ok(CborDoc { bytes, nodes }),
             Err(error) => Err(error),
         }
     }
@@ -74,8 +92,9 @@ impl<'a> CborDoc<'a> {
 }
 
 /// Reads the nodes of an item, step by step.
-fn read_nodes(alloc: Global, bytes: &[u8]) -> Result<Vec<Node<'_>>, CborReadError>
-    ensures ok { IfOk result (λ nodes. IsRead bytes.now (streamed nodes.items)) }
+fn read_nodes(alloc: Global, bytes: &[u8]) -> Result<Vec<Node>, CborReadError>
+    ensures ok { IfOk result (λ nodes. IsRead bytes.now (streamed bytes.now nodes.items)) }
+    ensures kept { IfOk result (λ nodes. AreKept bytes.now nodes.items) }
     ensures err { IfErr result (IsReadError bytes.now) }
 {
     let mut reader = Reader::new(alloc);
@@ -96,8 +115,7 @@ impl<'v, 'a> Value<'v, Lent<'v>> for CborDoc<'a> {
     ghost emission = { makes };
 
     fn stream<S: Stream<Lent<'v>>>(&'v self, stream: &mut S) -> StreamResult {
-        let shorter: &'v CborDoc<'v> = self;
-        stream_nodes(shorter.nodes.as_slice(), stream)
+        stream_nodes(self.bytes, self.nodes.as_slice(), stream)
     }
 }
 
@@ -105,6 +123,6 @@ impl<'a> ValueRef<Lent<'a>> for CborDoc<'a> {
     ghost ref_emission = { makes };
 
     fn stream_ref<S: Stream<Lent<'a>>>(&self, stream: &mut S) -> StreamResult {
-        stream_nodes(self.nodes.as_slice(), stream)
+        stream_nodes(self.bytes, self.nodes.as_slice(), stream)
     }
 }

@@ -46,6 +46,7 @@ fn read_wide(bytes: &[u8], at: usize, width: usize, major: u8) -> Option<Head>
 
 /// The head at a place.
 #[tactic(auto, unfolding(crate::specs::Items::head_of))]
+#[inline(always)]
 pub(crate) fn read_head(bytes: &[u8], at: usize) -> Option<Head>
     requires { at ≤ length bytes.now }
     ensures found { IfSome result (λ h. (at < h.next) × IsHead bytes.now at h (head_of (drop at bytes.now))) }

@@ -1,8 +1,7 @@
 //! What is kept of the bytes.
 
-ghost use Rattle.std.specs.Prelude.{◌≡◌};
-ghost use Rattle.std.specs.Int.{cast_signed, w128};
-ghost use Rattle.sval_cbor_read.specs.SeenNodes.{wide_number};
+ghost use Rattle.std.specs.Prelude.{◌≡◌, IfSome};
+ghost use Rattle.sval_cbor_read.specs.SeenNodes.{node_at, node_of};
 
 use std::mem::size_of;
 
@@ -19,69 +18,61 @@ pub(crate) enum Place {
     Value,
 }
 
-/// A number of 128 bits in two halves, so that it is aligned as one of 64 bits is.
+/// What begins at the place of a node.
 #[derive(Clone, Copy)]
-pub(crate) struct Wide {
-    upper: u64,
-    lower: u64,
-}
-
-impl Wide {
-    /// The halves of a number.
-    pub(crate) fn new(number: u128) -> Wide
-        ensures { wide_number result ≡ number }
-    {
-        Wide {
-            upper: (number / (1 << 64)) as u64,
-            lower: (number % (1 << 64)) as u64,
-        }
-    }
-
-    /// The number.
-    pub(crate) fn get(self) -> u128
-        ensures { result ≡ wide_number self }
-    {
-        u128::from(self.upper) * (1 << 64) + u128::from(self.lower)
-    }
-
-    /// The halves of a number with a sign.
-    pub(crate) fn from_signed(number: i128) -> Wide
-        ensures { cast_signed w128 (wide_number result) ≡ number }
-    {
-        Wide::new(number.cast_unsigned())
-    }
-
-    /// The number with a sign.
-    pub(crate) fn signed(self) -> i128
-        ensures { result ≡ cast_signed w128 (wide_number self) }
-    {
-        self.get().cast_signed()
-    }
+pub(crate) enum Kind {
+    /// A whole item, but for a number under a tag.
+    Item,
+    /// The byte string of a number under the tag 2.
+    Big,
+    /// That of a number under the tag 3.
+    NegativeBig,
+    /// An array, a map or a string in pieces, of which this is the begin.
+    Begin,
+    TextPiece,
+    BinaryPiece,
+    EndText,
+    EndBinary,
+    EndSeq,
+    EndMap,
 }
 
 /// An item in its place, or the begin, a piece or the end of one. A begin and an end have the place of their item.
+///
+/// The bytes are not kept: a node has its place in them, in 48 bits, and what stands there is read again.
 #[derive(Clone, Copy)]
-pub(crate) enum Node<'a> {
-    Null(Place),
-    Bool(Place, bool),
-    U64(Place, u64),
-    I64(Place, i64),
-    U128(Place, Wide),
-    /// By the number without a sign that has the same bits.
-    I128(Place, Wide),
-    Text(Place, &'a str),
-    BeginText(Place),
-    TextPiece(&'a str),
-    EndText(Place),
-    Binary(Place, &'a [u8]),
-    BeginBinary(Place),
-    BinaryPiece(&'a [u8]),
-    EndBinary(Place),
-    BeginSeq(Place, Option<usize>),
-    EndSeq(Place),
-    BeginMap(Place, Option<usize>),
-    EndMap(Place),
+pub(crate) struct Node {
+    low: u32,
+    high: u16,
+    pub(crate) kind: Kind,
+    pub(crate) place: Place,
 }
 
 /// In small numbers each byte is an item, and each item is kept as a node.
-const _: () = prove!(size_of::<Node<'static>>() == 24);
+const _: () = prove!(size_of::<Node>() == 8);
+
+impl Node {
+    /// A node at a place of the bytes, or none where that has more than 48 bits.
+    #[inline(always)]
+    pub(crate) fn new(kind: Kind, place: Place, at: usize) -> Option<Node>
+        ensures { IfSome result (λ node. node ≡ node_of kind place at) }
+    {
+        if at >= 1 << 48 {
+            return None;
+        }
+        Some(Node {
+            low: (at % (1 << 32)) as u32,
+            high: (at / (1 << 32)) as u16,
+            kind,
+            place,
+        })
+    }
+
+    /// Its place in the bytes.
+    #[inline(always)]
+    pub(crate) fn at(self) -> usize
+        ensures { result ≡ node_at self }
+    {
+        self.low as usize + self.high as usize * (1 << 32)
+    }
+}

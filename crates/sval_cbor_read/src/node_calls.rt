@@ -1,16 +1,22 @@
 //! The calls of nodes.
 
-ghost use Rattle.std.specs.Prelude.{◌∷◌, [], true, length, Some};
+ghost use Rattle.std.specs.Prelude.{◌≡◌, ◌≢◌, ◌∷◌, [], true, false, ◌+◌, ◌^◌, ◌<◌, ◌≤◌, length, take, drop, pos, negsuc, Some, None};
 ghost use Rattle.sval_label.specs.Calls as call;
 ghost use Rattle.sval_core.specs.Law.{Emits};
 ghost use Rattle.sval_core.specs.Values.{makes};
-ghost use Rattle.sval_cbor_read.specs.SeenNodes.{place_begins, place_ends, begins_before, own_calls, ends_behind, node_calls, streamed};
+ghost use Rattle.sval_cbor_read.specs.Items.{negative_type, big_endian};
+ghost use Rattle.sval_cbor_read.specs.Reading.{mark_of, first_step, item_step, body_step, string_step, number_call};
+ghost use Rattle.sval_cbor_read.specs.SeenNodes.{place_begins, place_ends, byte_string, step_calls, piece_calls, IsBignum, begins_before, own_calls, ends_behind, node_at, node_calls, IsKept, AreKept, streamed};
 
-use crate::node::{Node, Place};
+use crate::bignum::read_bignum;
+use crate::head::{Head, read_head};
+use crate::node::{Kind, Node, Place};
+use std::str::from_utf8_unchecked;
 use sval_core::{Lending, Lent, Result, Stream};
 
 impl Place {
     /// Begins the part that an item in this place stands in.
+    #[inline(always)]
     fn begin<L: Lending, S: Stream<L>>(self, stream: &mut S) -> Result
         ensures { Emits S.law result
             (S.standing stream.old) (makes (place_begins self)) (S.standing stream.new) }
@@ -24,6 +30,7 @@ impl Place {
     }
 
     /// Ends the part that an item in this place stands in.
+    #[inline(always)]
     fn end<L: Lending, S: Stream<L>>(self, stream: &mut S) -> Result
         ensures { Emits S.law result
             (S.standing stream.old) (makes (place_ends self)) (S.standing stream.new) }
@@ -38,6 +45,7 @@ impl Place {
 }
 
 /// Makes the calls of a text in one fragment.
+#[inline(always)]
 fn stream_text<L: Lending, S: Stream<L>>(text: L::Text, len: usize, stream: &mut S) -> Result
     ensures { Emits S.law result (S.standing stream.old)
         (makes (call.TextBegin (Some len) ∷ call.TextFragment true (L.text text) ∷ call.TextEnd ∷ []))
@@ -49,6 +57,7 @@ fn stream_text<L: Lending, S: Stream<L>>(text: L::Text, len: usize, stream: &mut
 }
 
 /// Makes the calls of a byte string in one fragment.
+#[inline(always)]
 fn stream_binary<L: Lending, S: Stream<L>>(bytes: L::Bytes, len: usize, stream: &mut S) -> Result
     ensures { Emits S.law result (S.standing stream.old)
         (makes (call.BinaryBegin (Some len) ∷ call.BinaryFragment true (L.bytes bytes) ∷ call.BinaryEnd ∷ []))
@@ -59,106 +68,265 @@ fn stream_binary<L: Lending, S: Stream<L>>(bytes: L::Bytes, len: usize, stream: 
     stream.binary_end()
 }
 
-impl<'a> Node<'a> {
+/// Makes the call of the number -1 - `n`, in 64 bits where it has no more.
+#[inline(always)]
+fn stream_negative<L: Lending, S: Stream<L>>(n: u64, stream: &mut S) -> Result
+    ensures { Emits S.law result (S.standing stream.old)
+        (makes (call.Int (negative_type n) (negsuc n) ∷ [])) (S.standing stream.new) }
+{
+    if n < 1 << 63 {
+        stream.i64(-1 - n as i64)
+    } else {
+        stream.i128(-1 - n as i128)
+    }
+}
+
+/// Whether a byte stands by itself.
+#[inline(always)]
+fn is_mark(first: u8) -> bool
+    ensures mark { result ≡ true → mark_of first ≢ None }
+    ensures none { result ≡ false → mark_of first ≡ None }
+{
+    matches!(first, 0x5f | 0x7f | 0x9f | 0xbf | 0xf4 | 0xf5 | 0xf6)
+}
+
+/// Makes the call of a byte that stands by itself, and none where it doesn't.
+#[inline(always)]
+fn stream_mark<L: Lending, S: Stream<L>>(first: u8, stream: &mut S) -> Result
+    ensures { Emits S.law result (S.standing stream.old)
+        (makes (step_calls (first_step (mark_of first) [] None []))) (S.standing stream.new) }
+{
+    match first {
+        0x5f => stream.binary_begin(None),
+        0x7f => stream.text_begin(None),
+        0x9f => stream.seq_begin(None),
+        0xbf => stream.map_begin(None),
+        0xf4 => stream.bool(false),
+        0xf5 => stream.bool(true),
+        0xf6 => stream.null(),
+        _ => Ok(()),
+    }
+}
+
+/// The bytes behind a head, as many as its number says.
+#[inline(always)]
+fn content_behind(bytes: &[u8], head: Head) -> &[u8]
+    requires { head.next + head.number ≤ length bytes.now }
+    ensures { result.now ≡ take head.number (drop head.next bytes.now) }
+{
+    &bytes[head.next..head.next + head.number as usize]
+}
+
+/// Makes the calls of the byte string behind a head.
+#[inline(always)]
+fn stream_binary_behind<'v, S: Stream<Lent<'v>>>(
+    bytes: &'v [u8],
+    head: Head,
+    stream: &mut S,
+) -> Result
+    requires within { head.next ≤ length bytes.now }
+    requires some { 0 < length (step_calls (string_step 2 head.number (drop head.next bytes.now) [])) }
+    ensures { Emits S.law result (S.standing stream.old)
+        (makes (step_calls (string_step 2 head.number (drop head.next bytes.now) []))) (S.standing stream.new) }
+{
+    let content = content_behind(bytes, head);
+    stream_binary::<Lent<'v>, S>(content, head.number as usize, stream)
+}
+
+/// Makes the calls of the text behind a head.
+#[inline(always)]
+fn stream_text_behind<'v, S: Stream<Lent<'v>>>(
+    bytes: &'v [u8],
+    head: Head,
+    stream: &mut S,
+) -> Result
+    requires within { head.next ≤ length bytes.now }
+    requires some { 0 < length (step_calls (string_step 3 head.number (drop head.next bytes.now) [])) }
+    ensures { Emits S.law result (S.standing stream.old)
+        (makes (step_calls (string_step 3 head.number (drop head.next bytes.now) []))) (S.standing stream.new) }
+{
+    let content = unsafe { from_utf8_unchecked(content_behind(bytes, head)) };
+    stream_text::<Lent<'v>, S>(content, head.number as usize, stream)
+}
+
+/// Makes the calls with which the item of a head begins.
+#[inline(always)]
+fn stream_headed<'v, S: Stream<Lent<'v>>>(bytes: &'v [u8], head: Head, stream: &mut S) -> Result
+    requires within { head.next ≤ length bytes.now }
+    requires some { 0 < length (step_calls (body_step head.major head.number (drop head.next bytes.now) [])) }
+    ensures { Emits S.law result (S.standing stream.old)
+        (makes (step_calls (body_step head.major head.number (drop head.next bytes.now) []))) (S.standing stream.new) }
+{
+    match head.major {
+        0 => stream.u64(head.number),
+        1 => stream_negative(head.number, stream),
+        2 => stream_binary_behind(bytes, head, stream),
+        3 => stream_text_behind(bytes, head, stream),
+        4 => stream.seq_begin(Some(head.number as usize)),
+        5 => stream.map_begin(Some(head.number as usize)),
+        _ => Ok(()),
+    }
+}
+
+/// Makes the calls with which the item at a place begins.
+#[inline(always)]
+fn stream_item<'v, S: Stream<Lent<'v>>>(bytes: &'v [u8], at: usize, stream: &mut S) -> Result
+    requires within { at < length bytes.now }
+    requires some { 0 < length (step_calls (item_step (drop at bytes.now) [])) }
+    ensures { Emits S.law result (S.standing stream.old)
+        (makes (step_calls (item_step (drop at bytes.now) []))) (S.standing stream.new) }
+{
+    if is_mark(bytes[at]) {
+        return stream_mark(bytes[at], stream);
+    }
+    match read_head(bytes, at) {
+        None => Ok(()),
+        Some(head) => stream_headed(bytes, head, stream),
+    }
+}
+
+/// The number under the tag 2 whose byte string stands at a place.
+fn big_at(bytes: &[u8], at: usize) -> u128
+    requires { IsBignum 2 (drop at bytes.now) }
+    ensures { call.Int call.U128 (pos result) ≡ number_call 2 (byte_string (drop at bytes.now)) }
+{
+    match read_bignum(bytes, at) {
+        None => 0,
+        Some(bignum) => bignum.number,
+    }
+}
+
+/// The number -1 - `n`.
+fn negative_of(n: u128) -> i128
+    requires { n < 2 ^ 127 }
+    ensures { result ≡ negsuc n }
+{
+    -1 - n as i128
+}
+
+/// The number n at a place whose byte string stands under the tag 3, which is for -1 - n.
+fn negative_big_at(bytes: &[u8], at: usize) -> u128
+    requires { IsBignum 3 (drop at bytes.now) }
+    ensures value { result ≡ big_endian (byte_string (drop at bytes.now)) }
+    ensures small { result < 2 ^ 127 }
+{
+    match read_bignum(bytes, at) {
+        None => 0,
+        Some(bignum) => bignum.number,
+    }
+}
+
+/// Makes the call of the piece of a text at a place.
+fn stream_text_piece<'v, S: Stream<Lent<'v>>>(bytes: &'v [u8], at: usize, stream: &mut S) -> Result
+    requires { 0 < length (piece_calls 3 (drop at bytes.now)) }
+    ensures { Emits S.law result (S.standing stream.old)
+        (makes (piece_calls 3 (drop at bytes.now))) (S.standing stream.new) }
+{
+    match read_head(bytes, at) {
+        None => Ok(()),
+        Some(head) => {
+            stream.text_fragment(unsafe { from_utf8_unchecked(content_behind(bytes, head)) })
+        },
+    }
+}
+
+/// Makes the call of the piece of a byte string at a place.
+fn stream_binary_piece<'v, S: Stream<Lent<'v>>>(
+    bytes: &'v [u8],
+    at: usize,
+    stream: &mut S,
+) -> Result
+    requires { 0 < length (piece_calls 2 (drop at bytes.now)) }
+    ensures { Emits S.law result (S.standing stream.old)
+        (makes (piece_calls 2 (drop at bytes.now))) (S.standing stream.new) }
+{
+    match read_head(bytes, at) {
+        None => Ok(()),
+        Some(head) => stream.binary_fragment(content_behind(bytes, head)),
+    }
+}
+
+impl Node {
     /// Begins the part that it stands in, if it is the first node of an item.
+    #[inline(always)]
     fn begin<L: Lending, S: Stream<L>>(self, stream: &mut S) -> Result
         ensures { Emits S.law result (S.standing stream.old)
-            (makes (begins_before self.entry)) (S.standing stream.new) }
+            (makes (begins_before self.kind self.place)) (S.standing stream.new) }
     {
-        match self {
-            Node::TextPiece(_)
-            | Node::EndText(_)
-            | Node::BinaryPiece(_)
-            | Node::EndBinary(_)
-            | Node::EndSeq(_)
-            | Node::EndMap(_) => Ok(()),
-            Node::Null(place)
-            | Node::Bool(place, _)
-            | Node::U64(place, _)
-            | Node::I64(place, _)
-            | Node::U128(place, _)
-            | Node::I128(place, _)
-            | Node::Text(place, _)
-            | Node::BeginText(place)
-            | Node::Binary(place, _)
-            | Node::BeginBinary(place)
-            | Node::BeginSeq(place, _)
-            | Node::BeginMap(place, _) => place.begin(stream),
+        match self.kind {
+            Kind::Item | Kind::Big | Kind::NegativeBig | Kind::Begin => self.place.begin(stream),
+            Kind::TextPiece
+            | Kind::BinaryPiece
+            | Kind::EndText
+            | Kind::EndBinary
+            | Kind::EndSeq
+            | Kind::EndMap => Ok(()),
         }
     }
 
-    /// Makes its own calls.
-    fn make<S: Stream<Lent<'a>>>(self, stream: &mut S) -> Result
+    /// Makes its own calls, in bytes that it stands in.
+    #[inline(always)]
+    fn make<'v, S: Stream<Lent<'v>>>(self, bytes: &'v [u8], stream: &mut S) -> Result
+        requires { IsKept bytes.now self }
         ensures { Emits S.law result (S.standing stream.old)
-            (makes (own_calls self.entry)) (S.standing stream.new) }
+            (makes (own_calls self.kind (drop (node_at self) bytes.now))) (S.standing stream.new) }
     {
-        match self {
-            Node::Null(_) => stream.null(),
-            Node::Bool(_, value) => stream.bool(value),
-            Node::U64(_, number) => stream.u64(number),
-            Node::I64(_, number) => stream.i64(number),
-            Node::U128(_, number) => stream.u128(number.get()),
-            Node::I128(_, number) => stream.i128(number.signed()),
-            Node::Text(_, text) => stream_text::<Lent<'a>, S>(text, text.len(), stream),
-            Node::BeginText(_) => stream.text_begin(None),
-            Node::TextPiece(text) => stream.text_fragment(text),
-            Node::EndText(_) => stream.text_end(),
-            Node::Binary(_, bytes) => stream_binary::<Lent<'a>, S>(bytes, bytes.len(), stream),
-            Node::BeginBinary(_) => stream.binary_begin(None),
-            Node::BinaryPiece(bytes) => stream.binary_fragment(bytes),
-            Node::EndBinary(_) => stream.binary_end(),
-            Node::BeginSeq(_, size) => stream.seq_begin(size),
-            Node::EndSeq(_) => stream.seq_end(),
-            Node::BeginMap(_, size) => stream.map_begin(size),
-            Node::EndMap(_) => stream.map_end(),
+        match self.kind {
+            Kind::Item | Kind::Begin => stream_item(bytes, self.at(), stream),
+            Kind::Big => stream.u128(big_at(bytes, self.at())),
+            Kind::NegativeBig => stream.i128(negative_of(negative_big_at(bytes, self.at()))),
+            Kind::TextPiece => stream_text_piece(bytes, self.at(), stream),
+            Kind::BinaryPiece => stream_binary_piece(bytes, self.at(), stream),
+            Kind::EndText => stream.text_end(),
+            Kind::EndBinary => stream.binary_end(),
+            Kind::EndSeq => stream.seq_end(),
+            Kind::EndMap => stream.map_end(),
         }
     }
 
     /// Ends the part that it stands in, if it is the last node of an item.
+    #[inline(always)]
     fn end<L: Lending, S: Stream<L>>(self, stream: &mut S) -> Result
         ensures { Emits S.law result (S.standing stream.old)
-            (makes (ends_behind self.entry)) (S.standing stream.new) }
+            (makes (ends_behind self.kind self.place)) (S.standing stream.new) }
     {
-        match self {
-            Node::BeginText(_)
-            | Node::TextPiece(_)
-            | Node::BeginBinary(_)
-            | Node::BinaryPiece(_)
-            | Node::BeginSeq(_, _)
-            | Node::BeginMap(_, _) => Ok(()),
-            Node::Null(place)
-            | Node::Bool(place, _)
-            | Node::U64(place, _)
-            | Node::I64(place, _)
-            | Node::U128(place, _)
-            | Node::I128(place, _)
-            | Node::Text(place, _)
-            | Node::EndText(place)
-            | Node::Binary(place, _)
-            | Node::EndBinary(place)
-            | Node::EndSeq(place)
-            | Node::EndMap(place) => place.end(stream),
+        match self.kind {
+            Kind::Begin | Kind::TextPiece | Kind::BinaryPiece => Ok(()),
+            Kind::Item
+            | Kind::Big
+            | Kind::NegativeBig
+            | Kind::EndText
+            | Kind::EndBinary
+            | Kind::EndSeq
+            | Kind::EndMap => self.place.end(stream),
         }
     }
 
-    /// Makes its calls.
-    fn stream<S: Stream<Lent<'a>>>(self, stream: &mut S) -> Result
+    /// Makes its calls, in bytes that it stands in.
+    #[inline(always)]
+    fn stream<'v, S: Stream<Lent<'v>>>(self, bytes: &'v [u8], stream: &mut S) -> Result
+        requires { IsKept bytes.now self }
         ensures { Emits S.law result (S.standing stream.old)
-            (makes (node_calls self.entry)) (S.standing stream.new) }
+            (makes (node_calls bytes.now self)) (S.standing stream.new) }
     {
         self.begin(stream)?;
-        self.make(stream)?;
+        self.make(bytes, stream)?;
         self.end(stream)
     }
 }
 
-/// Makes the calls of nodes.
-pub(crate) fn stream_nodes<'v, S: Stream<Lent<'v>>>(nodes: &[Node<'v>], stream: &mut S) -> Result
+/// Makes the calls of nodes, in bytes that they stand in.
+pub(crate) fn stream_nodes<'v, S: Stream<Lent<'v>>>(
+    bytes: &'v [u8],
+    nodes: &[Node],
+    stream: &mut S,
+) -> Result
+    requires { AreKept bytes.now nodes.now }
     ensures { Emits S.law result (S.standing stream.old)
-        (makes (streamed nodes.now)) (S.standing stream.new) }
+        (makes (streamed bytes.now nodes.now)) (S.standing stream.new) }
 {
     for node in nodes {
-        node.stream(stream)?;
+        node.stream(bytes, stream)?;
     }
     Ok(())
 }

@@ -16,6 +16,7 @@ pub(crate) enum NextPart {
 
 /// What follows at a place in an array or a map, of which so many items or pairs are still to come, or all up to a
 /// break.
+#[inline(always)]
 pub(crate) fn next_part(left: Option<usize>, bytes: &[u8], at: usize) -> NextPart
     requires { at ≤ length bytes.now }
     ensures { Follows left bytes.now at result }

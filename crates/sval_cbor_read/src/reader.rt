@@ -1,21 +1,23 @@
 //! The machine that reads items one by one.
 
-ghost use Rattle.std.specs.Prelude.{◌≡◌, ◌≢◌, ◌<◌, ◌≤◌, ℕ, List, Some, IfOk, IfErr, length, get_or};
+ghost use Rattle.std.specs.Prelude.{◌≡◌, ◌≢◌, ◌≤◌, ℕ, List, [], ◌∷◌, ◌++◌, Some, IfOk, IfErr, length};
 ghost use Rattle.sval_cbor_read.specs.Steps.{Goes, Makes, start};
-ghost use Rattle.sval_cbor_read.specs.SeenItems.{begin_calls};
+ghost use Rattle.sval_cbor_read.specs.SeenNodes.{node_of};
+ghost use Rattle.sval_cbor_read.specs.SeenItems.{IsNoTag};
 ghost use Rattle.sval_cbor_read.specs.SeenFrames.{frame_of, TopIs, around, place_in};
-ghost use Rattle.sval_cbor_read.specs.SeenReader.{spot_of, expected_after, opened_after, Adds, Opens, EndsItem, Keeps, BeginsPart, end_of, ReadsOn, HasEnded};
-ghost use Rattle.sval_cbor_read.specs.declared.node.Node.TheVariants as node;
+ghost use Rattle.sval_cbor_read.specs.SeenReader.{spot_of, expected_after, opened_after, Adds, Opens, EndsItem, Keeps, BeginsPart, ReadsOn, HasEnded};
+ghost use Rattle.sval_cbor_read.specs.declared.node.Kind.TheVariants as kind;
 ghost use Rattle.sval_cbor_read.specs.declared.stack.Frame.TheVariants as frame;
-ghost use Rattle.sval_cbor_read.specs.declared.item.Medium.TheVariants as medium;
 ghost use Rattle.sval_cbor_read.specs.declared.reader.Expected.TheVariants as expected;
 
+mod pieces;
+
 use crate::item::{Begun, Item, Medium, item_at};
-use crate::node::{Node, Place};
+use crate::node::{Kind, Node, Place};
 use crate::part::{NextPart, next_part};
 use crate::stack::{Frame, Stack};
-use crate::string::{binary_at, text_at};
 use std::alloc::Global;
+use std::mem::replace;
 use sval_core::NoMemory;
 
 /// What comes next.
@@ -31,29 +33,46 @@ pub(crate) enum Expected {
 
 /// What was read so far.
 #[derive(Drop)]
-pub(crate) struct Reader<'a> {
+pub(crate) struct Reader {
     /// How many bytes were read.
     pub(crate) at: usize,
     pub(crate) expected: Expected,
     pub(crate) opened: Stack,
-    pub(crate) nodes: Vec<Node<'a>>,
+    pub(crate) nodes: Vec<Node>,
+    alloc: Global,
 }
 
-impl<'a> Reader<'a> {
+/// These nodes and one more, where the vector is full. It is taken by value, so that the reader stays in registers.
+#[cold]
+#[inline(never)]
+fn grown(mut nodes: Vec<Node>, node: Node) -> Result<Vec<Node>, NoMemory>
+    ensures { IfOk result (λ all. all.items ≡ nodes.items ++ (node ∷ [])) }
+{
+    match nodes.push(node) {
+        Ok(()) => Ok(nodes),
+        Err(_) => Err(NoMemory),
+    }
+}
+
+impl Reader {
     /// A reader that has read nothing.
+    #[inline(always)]
     pub(crate) fn new(alloc: Global) -> Self
         ensures starts { (bytes : List ℕ) → spot_of bytes result ≡ start bytes }
         ensures at { result.at ≡ 0 }
+        ensures nodes { result.nodes.items ≡ [] }
     {
         Reader {
             at: 0,
             expected: Expected::AnItem,
             opened: Stack::new(alloc),
             nodes: Vec::new(alloc),
+            alloc,
         }
     }
 
     /// The place of an item directly in what is open.
+    #[inline(always)]
     fn place(&self) -> Place
         ensures { result ≡ place_in self.now.opened }
     {
@@ -65,21 +84,46 @@ impl<'a> Reader<'a> {
         }
     }
 
-    /// Keeps a node.
-    fn add(&mut self, node: Node<'a>, next: usize, expected: Expected) -> Result<(), NoMemory>
-        ensures { IfOk result (λ done. Adds self.old node.entry next expected self.new) }
+    /// Puts a node behind the others.
+    #[inline(always)]
+    fn push(&mut self, node: Node) -> Result<(), NoMemory>
+        ensures nodes { IfOk result (λ done. self.new.nodes.items ≡ self.old.nodes.items ++ (node ∷ [])) }
+        ensures opened { self.new.opened ≡ self.old.opened }
     {
+        if self.nodes.len() == self.nodes.capacity() {
+            let full = replace(&mut self.nodes, Vec::new(self.alloc));
+            let _none = replace(&mut self.nodes, grown(full, node)?);
+            return Ok(());
+        }
         match self.nodes.push(node) {
-            Ok(()) => {
-                self.at = next;
-                self.expected = expected;
-                Ok(())
-            },
+            Ok(()) => Ok(()),
             Err(_) => Err(NoMemory),
         }
     }
 
+    /// Keeps a node.
+    #[inline(always)]
+    fn add(
+        &mut self,
+        kind: Kind,
+        place: Place,
+        from: usize,
+        next: usize,
+        expected: Expected,
+    ) -> Result<(), NoMemory>
+        ensures { IfOk result (λ done. Adds self.old (node_of kind place from) next expected self.new) }
+    {
+        let Some(node) = Node::new(kind, place, from) else {
+            return Err(NoMemory);
+        };
+        self.push(node)?;
+        self.at = next;
+        self.expected = expected;
+        Ok(())
+    }
+
     /// Expects what comes after an item.
+    #[inline(always)]
     fn expect_next(&mut self)
         ensures expected { self.new.expected ≡ expected_after self.old.opened }
         ensures opened { self.new.opened ≡ opened_after self.old.opened }
@@ -101,10 +145,17 @@ impl<'a> Reader<'a> {
     }
 
     /// Keeps the last node of an item.
-    fn end_item(&mut self, node: Node<'a>, next: usize) -> Result<(), NoMemory>
-        ensures { IfOk result (λ done. EndsItem self.old.opened self.old node.entry next self.new) }
+    #[inline(always)]
+    fn end_item(
+        &mut self,
+        kind: Kind,
+        place: Place,
+        from: usize,
+        next: usize,
+    ) -> Result<(), NoMemory>
+        ensures { IfOk result (λ done. EndsItem self.old.opened self.old (node_of kind place from) next self.new) }
     {
-        match self.add(node, next, Expected::Nothing) {
+        match self.add(kind, place, from, next, Expected::Nothing) {
             Ok(()) => {
                 self.expect_next();
                 Ok(())
@@ -113,40 +164,50 @@ impl<'a> Reader<'a> {
         }
     }
 
-    /// Opens an array or a map, which begins with this node.
-    fn open(&mut self, node: Node<'a>, next: usize, frame: Frame) -> Result<(), NoMemory>
-        ensures { IfOk result (λ done. Opens self.old node.entry (frame_of frame) next self.new) }
+    /// Opens an array or a map, which begins here.
+    #[inline(always)]
+    fn open(&mut self, place: Place, next: usize, frame: Frame) -> Result<(), NoMemory>
+        ensures { IfOk result (λ done. Opens self.old
+            (node_of kind.Begin place self.old.at) (frame_of frame) next self.new) }
     {
-        match self.add(node, next, Expected::APart) {
+        match self.add(Kind::Begin, place, self.at, next, Expected::APart) {
             Ok(()) => self.opened.push(frame),
             Err(error) => Err(error),
         }
     }
 
     /// Keeps what an item begins with.
-    fn begin_item(&mut self, begun: Begun<'a>) -> Result<(), NoMemory>
-        ensures keeps { IfOk result (λ done. Keeps self.old begun.entry self.new) }
-        ensures no_memory { IfErr result (λ error. 0 < length (begin_calls begun.entry.item)) }
+    #[inline(always)]
+    fn begin_item(&mut self, begun: Begun) -> Result<(), NoMemory>
+        ensures keeps { IfOk result (λ done. Keeps self.old begun self.new) }
+        ensures no_memory { IfErr result (λ error. IsNoTag begun.item) }
     {
+        let place = self.place();
+        let next = begun.next;
         match begun.item {
-            Item::Whole(node) => self.end_item(node, begun.next),
-            Item::Container(node, frame) => self.open(node, begun.next, frame),
-            Item::Pieces(node, medium) => self.add(node, begun.next, Expected::APiece(medium)),
+            Item::Whole => self.end_item(Kind::Item, place, self.at, next),
+            Item::Big(from) => self.end_item(Kind::Big, place, from, next),
+            Item::NegativeBig(from) => self.end_item(Kind::NegativeBig, place, from, next),
+            Item::Container(frame) => self.open(place, next, frame),
+            Item::Pieces(medium) => {
+                self.add(Kind::Begin, place, self.at, next, Expected::APiece(medium))
+            },
             Item::Tag => {
-                self.at = begun.next;
+                self.at = next;
                 Ok(())
             },
         }
     }
 
     /// Reads the begin of an item.
-    fn item(&mut self, bytes: &'a [u8]) -> Result<bool, NoMemory>
+    #[inline(always)]
+    fn item(&mut self, bytes: &[u8]) -> Result<bool, NoMemory>
         requires within { self.old.at ≤ length bytes.now }
         requires is { self.old.expected ≡ expected.AnItem }
         ensures goes { IfOk result (ReadsOn bytes.now self.old self.new) }
         ensures no_memory { IfErr result (λ error. Makes (spot_of bytes.now self.old)) }
     {
-        match item_at(bytes, self.at, self.place()) {
+        match item_at(bytes, self.at) {
             None => Ok(false),
             Some(begun) => match self.begin_item(begun) {
                 Ok(()) => Ok(true),
@@ -156,6 +217,7 @@ impl<'a> Reader<'a> {
     }
 
     /// Begins the next part of the innermost array or map, of which this is left behind it.
+    #[inline(always)]
     fn begin_part(&mut self, frame: Frame)
         ensures { BeginsPart self.old (frame_of frame) self.new }
     {
@@ -164,27 +226,30 @@ impl<'a> Reader<'a> {
     }
 
     /// Ends the innermost array.
+    #[inline(always)]
     fn end_seq(&mut self, next: usize) -> Result<(), NoMemory>
         ensures { IfOk result (λ done. EndsItem (around self.old.opened) self.old
-            (node.EndSeq (place_in (around self.old.opened))) next self.new) }
+            (node_of kind.EndSeq (place_in (around self.old.opened)) self.old.at) next self.new) }
     {
         self.opened.pop();
         let place = self.place();
-        self.end_item(Node::EndSeq(place), next)
+        self.end_item(Kind::EndSeq, place, self.at, next)
     }
 
     /// Ends the innermost map.
+    #[inline(always)]
     fn end_map(&mut self, next: usize) -> Result<(), NoMemory>
         ensures { IfOk result (λ done. EndsItem (around self.old.opened) self.old
-            (node.EndMap (place_in (around self.old.opened))) next self.new) }
+            (node_of kind.EndMap (place_in (around self.old.opened)) self.old.at) next self.new) }
     {
         self.opened.pop();
         let place = self.place();
-        self.end_item(Node::EndMap(place), next)
+        self.end_item(Kind::EndMap, place, self.at, next)
     }
 
     /// Begins the next item of an array, or ends the array.
-    fn next_item(&mut self, left: Option<usize>, bytes: &'a [u8]) -> Result<bool, NoMemory>
+    #[inline(always)]
+    fn next_item(&mut self, left: Option<usize>, bytes: &[u8]) -> Result<bool, NoMemory>
         requires within { self.old.at ≤ length bytes.now }
         requires is { self.old.expected ≡ expected.APart }
         requires top { TopIs (Some (frame.Items left)) self.old.opened }
@@ -205,7 +270,8 @@ impl<'a> Reader<'a> {
     }
 
     /// Begins the next pair of a map, or ends the map.
-    fn next_pair(&mut self, left: Option<usize>, bytes: &'a [u8]) -> Result<bool, NoMemory>
+    #[inline(always)]
+    fn next_pair(&mut self, left: Option<usize>, bytes: &[u8]) -> Result<bool, NoMemory>
         requires within { self.old.at ≤ length bytes.now }
         requires is { self.old.expected ≡ expected.APart }
         requires top { TopIs (Some (frame.Keys left)) self.old.opened }
@@ -226,7 +292,8 @@ impl<'a> Reader<'a> {
     }
 
     /// Begins the next part of what is open, or ends it.
-    fn part(&mut self, bytes: &'a [u8]) -> Result<bool, NoMemory>
+    #[inline(always)]
+    fn part(&mut self, bytes: &[u8]) -> Result<bool, NoMemory>
         requires within { self.old.at ≤ length bytes.now }
         requires is { self.old.expected ≡ expected.APart }
         ensures goes { IfOk result (ReadsOn bytes.now self.old self.new) }
@@ -239,83 +306,8 @@ impl<'a> Reader<'a> {
         }
     }
 
-    /// Reads a piece of a text.
-    fn text_piece(&mut self, bytes: &'a [u8]) -> Result<bool, NoMemory>
-        requires at_in { self.old.at < length bytes.now }
-        requires no_break { get_or bytes.now self.old.at 0 ≢ 255 }
-        requires is { self.old.expected ≡ expected.APiece medium.Text }
-        ensures goes { IfOk result (ReadsOn bytes.now self.old self.new) }
-        ensures no_memory { IfErr result (λ error. Makes (spot_of bytes.now self.old)) }
-    {
-        match text_at(bytes, self.at) {
-            None => Ok(false),
-            Some(piece) => match self.add(
-                Node::TextPiece(piece.content),
-                piece.next,
-                Expected::APiece(Medium::Text),
-            ) {
-                Ok(()) => Ok(true),
-                Err(error) => Err(error),
-            },
-        }
-    }
-
-    /// Reads a piece of a byte string.
-    fn binary_piece(&mut self, bytes: &'a [u8]) -> Result<bool, NoMemory>
-        requires at_in { self.old.at < length bytes.now }
-        requires no_break { get_or bytes.now self.old.at 0 ≢ 255 }
-        requires is { self.old.expected ≡ expected.APiece medium.Binary }
-        ensures goes { IfOk result (ReadsOn bytes.now self.old self.new) }
-        ensures no_memory { IfErr result (λ error. Makes (spot_of bytes.now self.old)) }
-    {
-        match binary_at(bytes, self.at) {
-            None => Ok(false),
-            Some(piece) => match self.add(
-                Node::BinaryPiece(piece.content),
-                piece.next,
-                Expected::APiece(Medium::Binary),
-            ) {
-                Ok(()) => Ok(true),
-                Err(error) => Err(error),
-            },
-        }
-    }
-
-    /// Ends a string in pieces, up to this place.
-    fn end_pieces(&mut self, medium: Medium, next: usize) -> Result<(), NoMemory>
-        ensures { IfOk result (λ done. EndsItem self.old.opened self.old
-            (end_of medium (place_in self.old.opened)) next self.new) }
-    {
-        let place = self.place();
-        match medium {
-            Medium::Text => self.end_item(Node::EndText(place), next),
-            Medium::Binary => self.end_item(Node::EndBinary(place), next),
-        }
-    }
-
-    /// Reads a piece of a string, or its end.
-    fn piece(&mut self, medium: Medium, bytes: &'a [u8]) -> Result<bool, NoMemory>
-        requires within { self.old.at ≤ length bytes.now }
-        requires is { self.old.expected ≡ expected.APiece medium }
-        ensures goes { IfOk result (ReadsOn bytes.now self.old self.new) }
-        ensures no_memory { IfErr result (λ error. Makes (spot_of bytes.now self.old)) }
-    {
-        if self.at >= bytes.len() {
-            return Ok(false);
-        }
-        if bytes[self.at] != 0xff {
-            return match medium {
-                Medium::Text => self.text_piece(bytes),
-                Medium::Binary => self.binary_piece(bytes),
-            };
-        }
-        match self.end_pieces(medium, self.at + 1) {
-            Ok(()) => Ok(true),
-            Err(error) => Err(error),
-        }
-    }
-
     /// Whether an item was read whole.
+    #[inline(always)]
     pub(crate) fn has_ended(&self) -> bool
         ensures { HasEnded self.now.expected result }
     {
@@ -326,7 +318,8 @@ impl<'a> Reader<'a> {
     }
 
     /// Reads on. Whether it could: if it couldn't, the bytes are no item.
-    pub(crate) fn step(&mut self, bytes: &'a [u8]) -> Result<bool, NoMemory>
+    #[inline(always)]
+    pub(crate) fn step(&mut self, bytes: &[u8]) -> Result<bool, NoMemory>
         requires within { self.old.at ≤ length bytes.now }
         requires more { self.old.expected ≢ expected.Nothing }
         ensures goes { IfOk result (ReadsOn bytes.now self.old self.new) }

@@ -1,10 +1,11 @@
 //! What is open.
 
-ghost use Rattle.std.specs.Prelude.{◌≡◌, [], ◌∷◌, if◌then◌else◌, is_ok};
-ghost use Rattle.sval_cbor_read.specs.SeenFrames.{frame_of, TopIs, around, changed};
+ghost use Rattle.std.specs.Prelude.{◌≡◌, [], ◌∷◌, map, reverse, IfOk};
+ghost use Rattle.sval_cbor_read.specs.SeenFrames.{frame_of, frames_of, TopIs, around, changed};
 
 use std::alloc::Global;
 use std::marker::Model;
+use std::mem::replace;
 use sval_core::NoMemory;
 
 /// An array or a map that has begun and not ended: what comes in it next, and how many items or pairs are still to come
@@ -20,61 +21,89 @@ pub(crate) enum Frame {
 }
 
 /// What is open, seen as a list with the innermost first.
+///
+/// The innermost frame is kept apart, since each item changes it.
 #[derive(Drop)]
 pub(crate) struct Stack {
-    frames: Vec<Frame>,
+    top: Option<Frame>,
+    /// What is around the innermost frame, with the outermost first.
+    outer: Vec<Frame>,
+    alloc: Global,
+}
+
+/// These frames with another one behind them, or none where there is no other one.
+#[inline(never)]
+fn with_inner(mut outer: Vec<Frame>, inner: Option<Frame>) -> Result<Vec<Frame>, NoMemory>
+    ensures { IfOk result (λ all. reverse (map frame_of all.items) ≡ frames_of inner outer.items) }
+{
+    match inner {
+        None => outer.clear(),
+        Some(frame) => if outer.push(frame).is_err() {
+            return Err(NoMemory);
+        },
+    }
+    Ok(outer)
 }
 
 impl Model for Stack {
-    ghost use Rattle.std.specs.Prelude.{List, reverse, map};
+    ghost use Rattle.std.specs.Prelude.{List};
     ghost use Rattle.sval_cbor_read.specs.Reading.{Frame};
-    ghost use Rattle.sval_cbor_read.specs.SeenFrames.{frame_of};
+    ghost use Rattle.sval_cbor_read.specs.SeenFrames.{frames_of};
 
     ghost Value = { List Frame };
 
-    ghost view = { λ stack. reverse (map frame_of stack.frames.items) };
+    ghost view = { λ stack. frames_of stack.top stack.outer.items };
 }
 
 impl Stack {
     /// A stack on which nothing is open; it takes no memory yet.
+    #[inline(always)]
     pub(crate) fn new(alloc: Global) -> Self
         ensures { result ≡ [] }
     {
         Stack {
-            frames: Vec::new(alloc),
+            top: None,
+            outer: Vec::new(alloc),
+            alloc,
         }
     }
 
     /// The innermost frame.
+    #[inline(always)]
     pub(crate) fn top(&self) -> Option<Frame>
         ensures { TopIs result self.now }
     {
-        self.frames.last().copied()
+        self.top
     }
 
     /// Opens an array or a map in the innermost one.
+    #[inline(always)]
     pub(crate) fn push(&mut self, frame: Frame) -> Result<(), NoMemory>
-        ensures { self.new ≡ (if is_ok result then frame_of frame ∷ self.old else self.old) }
+        ensures { IfOk result (λ done. self.new ≡ frame_of frame ∷ self.old) }
     {
-        match self.frames.push(frame) {
-            Ok(()) => Ok(()),
-            Err(_) => Err(NoMemory),
-        }
+        let outer = replace(&mut self.outer, Vec::new(self.alloc));
+        let _none = replace(&mut self.outer, with_inner(outer, self.top)?);
+        self.top = Some(frame);
+        Ok(())
     }
 
     /// Puts another frame in the place of the innermost one, if there is one.
+    #[inline(always)]
     pub(crate) fn change(&mut self, frame: Frame)
         ensures { self.new ≡ changed (frame_of frame) self.old }
     {
-        if let Some(top) = self.frames.last_mut() {
-            *top = frame;
+        if self.top.is_some() {
+            self.top = Some(frame);
         }
     }
 
     /// Closes the innermost array or map, if there is one.
+    #[inline(always)]
     pub(crate) fn pop(&mut self)
         ensures { self.new ≡ around self.old }
     {
-        self.frames.pop();
+        if self.top.is_some() {
+            self.top = self.outer.pop();
+        }
     }
 }

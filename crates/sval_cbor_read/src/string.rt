@@ -1,10 +1,12 @@
 //! Definite strings.
 
-ghost use Rattle.std.specs.Prelude.{◌≡◌, ◌<◌, ◌≤◌, ◌+◌, List, ℕ, length, take, drop, IfSome, IsUtf8};
+ghost use Rattle.std.specs.Prelude.{◌≡◌, true, ◌<◌, ◌≤◌, ◌+◌, List, ℕ, length, take, drop, IfSome, IsUtf8};
+ghost use Rattle.std.specs.Str.{IsAscii};
 ghost use Rattle.sval_cbor_read.specs.SeenStrings.{IsBehind, IsStringAt, HasNoString};
 
 use crate::head::{Head, read_head};
 use simdutf8::compat::from_utf8;
+use std::str::from_utf8_unchecked;
 
 /// A string, and the place behind it.
 #[derive(Clone, Copy)]
@@ -14,6 +16,7 @@ pub(crate) struct Piece<T> {
 }
 
 /// The bytes behind a head, as many as its number says.
+#[inline(always)]
 pub(crate) fn binary_behind(bytes: &[u8], head: Head) -> Option<Piece<&[u8]>>
     requires { head.next ≤ length bytes.now }
     ensures found { IfSome result (λ piece. IsBehind bytes.now head piece.content.now piece.next) }
@@ -29,7 +32,36 @@ pub(crate) fn binary_behind(bytes: &[u8], head: Head) -> Option<Piece<&[u8]>>
     })
 }
 
+/// Whether all bytes are ASCII.
+#[inline(always)]
+fn are_ascii(bytes: &[u8]) -> bool
+    ensures { result ≡ true → IsAscii bytes.now }
+{
+    for byte in bytes {
+        if *byte >= 128 {
+            return false;
+        }
+    }
+    true
+}
+
+/// The bytes as a text, where they are UTF-8. Most texts are short and ASCII.
+#[inline(always)]
+fn as_text(bytes: &[u8]) -> Option<&str>
+    ensures found { IfSome result (λ text. (text.now ≡ bytes.now) × IsUtf8 bytes.now) }
+    ensures nothing { result ≡ None → IsUtf8 bytes.now → ⊥ }
+{
+    if bytes.len() < 24 && are_ascii(bytes) {
+        return Some(unsafe { from_utf8_unchecked(bytes) });
+    }
+    match from_utf8(bytes) {
+        Ok(text) => Some(text),
+        Err(_) => None,
+    }
+}
+
 /// The text behind a head, of as many bytes as its number says.
+#[inline(always)]
 pub(crate) fn text_behind(bytes: &[u8], head: Head) -> Option<Piece<&str>>
     requires { head.next ≤ length bytes.now }
     ensures found { IfSome result (λ piece. IsBehind bytes.now head piece.content.now piece.next × IsUtf8 piece.content.now) }
@@ -37,12 +69,12 @@ pub(crate) fn text_behind(bytes: &[u8], head: Head) -> Option<Piece<&str>>
 {
     match binary_behind(bytes, head) {
         None => None,
-        Some(piece) => match from_utf8(piece.content) {
-            Ok(content) => Some(Piece {
+        Some(piece) => match as_text(piece.content) {
+            None => None,
+            Some(content) => Some(Piece {
                 content,
                 next: piece.next,
             }),
-            Err(_) => None,
         },
     }
 }

@@ -1,4 +1,5 @@
-use Rattle.std.proofs.Common.{arith}
+use Rattle.std.proofs.Common.{sym, subst, arith}
+use Rattle.sval_cbor_read.specs.SeenNodes.{AreKept}
 use Rattle.sval_cbor_read.specs.SeenReader.{spot_of}
 use Rattle.sval_cbor_read.proofs.Loop.{reached_by, nearer_by, reached_first, makes_some, more_is_bad, all_is_read}
 use Rattle.sval_cbor_read.proofs.document.read_nodes.Goals as goal
@@ -7,12 +8,13 @@ pub loop-reader-init : goal.loop-reader-init
 loop-reader-init c = record {
   reached = reached_first c.args.bytes.now _ (c.new-reader.ensures.starts c.args.bytes.now);
   within = let e = c.new-reader.ensures.at in omega arith;
+  kept = subst (AreKept c.args.bytes.now) (sym c.new-reader.ensures.nodes) tt;
 }
 
 pub loop-reader-preserved : goal.loop-reader-preserved
 loop-reader-preserved c =
     let on = (rw c.in-Ok-true.field-0-test at c.in-Ok-true.ensures.goes) in
-    record { reached = reached_by on.goes c.loop-reader.invariant.reached; within = on.within }
+    record { reached = reached_by on.goes c.loop-reader.invariant.reached; within = on.within; kept = on.kept c.loop-reader.invariant.kept }
 
 pub loop-reader-smaller : goal.loop-reader-smaller
 loop-reader-smaller c = let on = (rw c.in-Ok-true.field-0-test at c.in-Ok-true.ensures.goes) in nearer_by on.goes

@@ -1,9 +1,8 @@
-use Rattle.std.proofs.Common.{◌<◌, ◌^◌, pos, [], ◌∷◌, refl, ap, ◌∙◌, arith}
-use Rattle.sval_label.specs.Calls.{Int, U128}
+use Rattle.std.proofs.Common.{◌<◌, ◌^◌, refl, arith}
 use Rattle.sval_cbor_read.specs.Items.{big_endian}
 use Rattle.sval_cbor_read.proofs.Sound as sound
 use Rattle.sval_cbor_read.proofs.Complete as complete
-use Rattle.sval_cbor_read.proofs.BegunItems.{number_begins, no_number}
+use Rattle.sval_cbor_read.proofs.BegunItems.{big_begins, no_number}
 use Rattle.sval_cbor_read.proofs.item.big_item.Goals as goal
 
 pub returns-in-None-clause-nothing : goal.returns-in-None-clause-nothing
@@ -15,5 +14,4 @@ pub returns-in-Some-clause-found : goal.returns-in-Some-clause-found
 returns-in-Some-clause-found c =
     let number = c.in-Some.ensures.found in
     let small : big_endian number.content < 2 ^ 128 = let v = number.value in let s = number.small in omega arith in
-    number_begins 2 c.args.bytes.now c.args.head c.args.place _ c.in-Some.bignum c.requires.is c.requires.tag (λ after frames. refl) number (complete.fits_2 number.content small)
-    (record { begins = refl; own = ap (λ n. Int U128 (pos n) ∷ []) (c.new.ensures ∙ number.value); ends = refl })
+    big_begins c.args.bytes.now c.args.head c.in-Some.bignum c.requires.is c.requires.tag number (complete.fits_2 number.content small)

@@ -7,5 +7,4 @@ returns-in-None-clause-nothing c = λ none. no_binary c.args.bytes.now c.args.he
 
 pub returns-in-Some-clause-found : goal.returns-in-Some-clause-found
 returns-in-Some-clause-found c =
-    binary_begins c.args.bytes.now c.args.head c.args.place _ c.in-Some.piece.content.now c.in-Some.piece.next c.requires.is c.in-Some.ensures.found refl (λ frames. refl)
-    (record { begins = refl; own = refl; ends = refl })
+    binary_begins c.args.bytes.now c.args.head c.in-Some.piece.content.now c.in-Some.piece.next c.requires.is c.in-Some.ensures.found

@@ -7,7 +7,7 @@ pub returns-then-at-bytes-clause-nothing : goal.returns-then-at-bytes-clause-not
 returns-then-at-bytes-clause-nothing c = λ none. end_begins_nothing c.args.bytes.now c.args.at c.if-at-bytes.true
 
 pub returns-in-Some-clause-found : goal.returns-in-Some-clause-found
-returns-in-Some-clause-found c = marked_begins c.args.bytes.now c.args.at c.args.place _ c.if-at-bytes.false c.in-Some.ensures.found
+returns-in-Some-clause-found c = marked_begins c.args.bytes.now c.args.at _ c.if-at-bytes.false c.in-Some.ensures.found
 
 pub returns-in-None-read_head-clause-nothing : goal.returns-in-None-read_head-clause-nothing
 returns-in-None-read_head-clause-nothing c = λ none.
@@ -19,5 +19,5 @@ returns-in-Some-read_head-clause-nothing c = λ none.
 
 pub returns-in-Some-read_head-clause-found : goal.returns-in-Some-read_head-clause-found
 returns-in-Some-read_head-clause-found c =
-    some_map c.headed_item.result (λ begun b. headed_begins c.args.bytes.now c.args.at c.args.place c.in-Some-read_head.head begun c.if-at-bytes.false (c.in-None.ensures.nothing refl) c.in-Some-read_head.ensures.found b)
+    some_map c.headed_item.result (λ begun b. headed_begins c.args.bytes.now c.args.at c.in-Some-read_head.head begun c.if-at-bytes.false (c.in-None.ensures.nothing refl) c.in-Some-read_head.ensures.found b)
     c.headed_item.ensures.found

@@ -1,9 +1,8 @@
-use Rattle.std.proofs.Common.{◌<◌, ◌^◌, negsuc, [], ◌∷◌, refl, ap, ◌∙◌, arith}
-use Rattle.sval_label.specs.Calls.{Int, I128}
+use Rattle.std.proofs.Common.{◌<◌, ◌^◌, refl, arith}
 use Rattle.sval_cbor_read.specs.Items.{big_endian}
 use Rattle.sval_cbor_read.proofs.Sound as sound
 use Rattle.sval_cbor_read.proofs.Complete as complete
-use Rattle.sval_cbor_read.proofs.BegunItems.{number_begins, no_number, same_number}
+use Rattle.sval_cbor_read.proofs.BegunItems.{negative_big_begins, no_number, same_number}
 use Rattle.sval_cbor_read.proofs.item.negative_big_item.Goals as goal
 
 pub returns-in-None-clause-nothing : goal.returns-in-None-clause-nothing
@@ -15,8 +14,7 @@ pub returns-then-bignum-clause-found : goal.returns-then-bignum-clause-found
 returns-then-bignum-clause-found c =
     let number = c.in-Some.ensures.found in
     let small : big_endian number.content < 2 ^ 127 = let v = number.value in let s = c.if-bignum.true in omega arith in
-    number_begins 3 c.args.bytes.now c.args.head c.args.place _ c.in-Some.bignum c.requires.is c.requires.tag (λ after frames. refl) number (complete.fits_3 number.content small)
-    (record { begins = refl; own = ap (λ n. Int I128 n ∷ []) (c.wide_negative.ensures ∙ ap negsuc number.value); ends = refl })
+    negative_big_begins c.args.bytes.now c.args.head c.in-Some.bignum c.requires.is c.requires.tag number (complete.fits_3 number.content small)
 
 pub returns-else-bignum-clause-nothing : goal.returns-else-bignum-clause-nothing
 returns-else-bignum-clause-nothing c = λ none.

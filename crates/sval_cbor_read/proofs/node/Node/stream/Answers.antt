@@ -3,11 +3,11 @@ use Rattle.sval_cbor_read.proofs.NodeStreams.{stops_at_begin, stops_at_own, emit
 use Rattle.sval_cbor_read.proofs.node.Node.stream.Goals as goal
 
 pub returns-in_err-begin : goal.returns-in_err-begin
-returns-in_err-begin g c = passes_on c.from_residual.result c.from_residual.ensures.0 (stops_at_begin c.args.self c.in_err-begin.ensures)
+returns-in_err-begin g c = passes_on c.from_residual.result c.from_residual.ensures.0 (stops_at_begin c.args.bytes.now c.args.self c.in_err-begin.ensures)
 
 pub returns-in_err-make : goal.returns-in_err-make
 returns-in_err-make g c =
-    passes_on c.from_residual-in_err-make.result c.from_residual-in_err-make.ensures.0 (stops_at_own c.args.self c.in_ok-begin.ensures c.in_err-make.ensures)
+    passes_on c.from_residual-in_err-make.result c.from_residual-in_err-make.ensures.0 (stops_at_own c.args.bytes.now c.args.self c.in_ok-begin.ensures c.in_err-make.ensures)
 
 pub returns : goal.returns
-returns g c = emits_end c.args.self c.end.result (g.S.Stream.standing c.end.new.stream) c.in_ok-begin.ensures c.in_ok-make.ensures c.end.ensures
+returns g c = emits_end c.args.bytes.now c.args.self c.end.result (g.S.Stream.standing c.end.new.stream) c.in_ok-begin.ensures c.in_ok-make.ensures c.end.ensures

@@ -1,6 +1,4 @@
-use Rattle.std.proofs.Common.{refl, subst}
-use Rattle.sval_cbor_read.specs.declared.node.Place.{Place}
-use Rattle.sval_cbor_read.specs.SeenItems.{Begins}
+use Rattle.std.proofs.Common.{refl}
 use Rattle.sval_cbor_read.proofs.ReadsOn.{item_goes_on, item_stuck, item_makes}
 use Rattle.sval_cbor_read.proofs.reader.Reader.item.Goals as goal
 
@@ -8,11 +6,7 @@ pub returns-in-None-clause-goes : goal.returns-in-None-clause-goes
 returns-in-None-clause-goes c = item_stuck c.args.bytes.now c.args.self.now c.args.self.now c.requires.is c.requires.within refl (c.in-None.ensures.nothing refl)
 
 pub returns-in-Ok-clause-goes : goal.returns-in-Ok-clause-goes
-returns-in-Ok-clause-goes c =
-    item_goes_on c.args.bytes.now c.args.self.now c.begin_item.new.self c.in-Some.begun c.requires.is
-    (subst (λ (place : Place). Begins c.args.bytes.now c.args.self.now.at place c.in-Some.begun) c.place.ensures c.in-Some.ensures.found) c.in-Ok.ensures.keeps
+returns-in-Ok-clause-goes c = item_goes_on c.args.bytes.now c.args.self.now c.begin_item.new.self c.in-Some.begun c.requires.is c.in-Some.ensures.found c.in-Ok.ensures.keeps
 
 pub returns-in-Err-clause-no_memory : goal.returns-in-Err-clause-no_memory
-returns-in-Err-clause-no_memory c =
-    item_makes c.args.bytes.now c.args.self.now c.in-Some.begun c.requires.is
-    (subst (λ (place : Place). Begins c.args.bytes.now c.args.self.now.at place c.in-Some.begun) c.place.ensures c.in-Some.ensures.found) c.in-Err.ensures.no_memory
+returns-in-Err-clause-no_memory c = item_makes c.args.bytes.now c.args.self.now c.in-Some.begun c.requires.is c.in-Some.ensures.found c.in-Err.ensures.no_memory

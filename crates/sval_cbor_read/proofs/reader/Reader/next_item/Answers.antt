@@ -1,7 +1,7 @@
 use Rattle.std.proofs.Common.{refl}
-use Rattle.sval_cbor_read.specs.declared.node.Node.TheVariants.{EndSeq}
+use Rattle.sval_cbor_read.specs.declared.node.Kind.TheVariants.{EndSeq}
 use Rattle.sval_cbor_read.specs.Reading.{Items}
-use Rattle.sval_cbor_read.specs.SeenFrames.{around, place_in}
+use Rattle.sval_cbor_read.specs.SeenFrames.{around}
 use Rattle.sval_cbor_read.proofs.ReadsOn.{part_begins, part_ends, part_makes, part_stuck, seq_begins, seq_ends, seq_stuck}
 use Rattle.sval_cbor_read.proofs.reader.Reader.next_item.Goals as goal
 
@@ -17,11 +17,11 @@ returns-in-Another-clause-goes c =
 pub returns-in-Ok-clause-goes : goal.returns-in-Ok-clause-goes
 returns-in-Ok-clause-goes c =
     let opened = c.args.self.now.opened in
-    part_ends c.args.bytes.now c.args.self.now c.requires.is c.end_seq.new.self (EndSeq (place_in (around opened))) c.in-End.next
-    (seq_ends c.args.left c.args.bytes.now c.args.self.now.at c.in-End.next opened c.requires.top.0 c.requires.top.1 c.in-End.ensures) refl refl c.in-End.ensures.2 c.in-Ok.ensures
+    part_ends c.args.bytes.now c.args.self.now c.requires.is c.end_seq.new.self EndSeq c.in-End.next
+    (seq_ends c.args.left c.args.bytes.now c.args.self.now.at c.in-End.next opened c.requires.top.0 c.requires.top.1 c.in-End.ensures) refl refl tt c.in-End.ensures.2 c.in-Ok.ensures
 
 pub returns-in-Err-clause-no_memory : goal.returns-in-Err-clause-no_memory
 returns-in-Err-clause-no_memory c =
     let opened = c.args.self.now.opened in
-    part_makes c.args.bytes.now c.args.self.now c.requires.is (EndSeq (place_in (around opened))) c.in-End.next
-    (seq_ends c.args.left c.args.bytes.now c.args.self.now.at c.in-End.next opened c.requires.top.0 c.requires.top.1 c.in-End.ensures)
+    part_makes c.args.bytes.now c.args.self.now c.requires.is EndSeq c.in-End.next
+    (seq_ends c.args.left c.args.bytes.now c.args.self.now.at c.in-End.next opened c.requires.top.0 c.requires.top.1 c.in-End.ensures) tt

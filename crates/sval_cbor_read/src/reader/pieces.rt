@@ -1,0 +1,114 @@
+//! Strings in pieces.
+
+ghost use Rattle.std.specs.Prelude.{◌≡◌, ◌≢◌, ◌<◌, ◌≤◌, IfOk, IfErr, length, get_or};
+ghost use Rattle.sval_cbor_read.specs.Steps.{Makes};
+ghost use Rattle.sval_cbor_read.specs.SeenNodes.{node_of};
+ghost use Rattle.sval_cbor_read.specs.SeenFrames.{place_in};
+ghost use Rattle.sval_cbor_read.specs.SeenReader.{spot_of, Adds, EndsItem, piece_of, end_of, ReadsOn};
+ghost use Rattle.sval_cbor_read.specs.declared.item.Medium.TheVariants as medium;
+ghost use Rattle.sval_cbor_read.specs.declared.reader.Expected.TheVariants as expected;
+
+use super::{Expected, Reader};
+use crate::item::Medium;
+use crate::node::Kind;
+use crate::string::{binary_at, text_at};
+use sval_core::NoMemory;
+
+impl Reader {
+    /// Keeps a piece of a string, up to this place.
+    #[inline(always)]
+    fn add_piece(&mut self, medium: Medium, next: usize) -> Result<(), NoMemory>
+        ensures { IfOk result (λ done. Adds self.old
+            (node_of (piece_of medium) (place_in self.old.opened) self.old.at) next (expected.APiece medium) self.new) }
+    {
+        let place = self.place();
+        match medium {
+            Medium::Text => self.add(
+                Kind::TextPiece,
+                place,
+                self.at,
+                next,
+                Expected::APiece(medium),
+            ),
+            Medium::Binary => self.add(
+                Kind::BinaryPiece,
+                place,
+                self.at,
+                next,
+                Expected::APiece(medium),
+            ),
+        }
+    }
+
+    /// Reads a piece of a text.
+    #[inline(always)]
+    fn text_piece(&mut self, bytes: &[u8]) -> Result<bool, NoMemory>
+        requires at_in { self.old.at < length bytes.now }
+        requires no_break { get_or bytes.now self.old.at 0 ≢ 255 }
+        requires is { self.old.expected ≡ expected.APiece medium.Text }
+        ensures goes { IfOk result (ReadsOn bytes.now self.old self.new) }
+        ensures no_memory { IfErr result (λ error. Makes (spot_of bytes.now self.old)) }
+    {
+        match text_at(bytes, self.at) {
+            None => Ok(false),
+            Some(piece) => match self.add_piece(Medium::Text, piece.next) {
+                Ok(()) => Ok(true),
+                Err(error) => Err(error),
+            },
+        }
+    }
+
+    /// Reads a piece of a byte string.
+    #[inline(always)]
+    fn binary_piece(&mut self, bytes: &[u8]) -> Result<bool, NoMemory>
+        requires at_in { self.old.at < length bytes.now }
+        requires no_break { get_or bytes.now self.old.at 0 ≢ 255 }
+        requires is { self.old.expected ≡ expected.APiece medium.Binary }
+        ensures goes { IfOk result (ReadsOn bytes.now self.old self.new) }
+        ensures no_memory { IfErr result (λ error. Makes (spot_of bytes.now self.old)) }
+    {
+        match binary_at(bytes, self.at) {
+            None => Ok(false),
+            Some(piece) => match self.add_piece(Medium::Binary, piece.next) {
+                Ok(()) => Ok(true),
+                Err(error) => Err(error),
+            },
+        }
+    }
+
+    /// Ends a string in pieces, up to this place.
+    #[inline(always)]
+    fn end_pieces(&mut self, medium: Medium, next: usize) -> Result<(), NoMemory>
+        ensures { IfOk result (λ done. EndsItem self.old.opened self.old
+            (node_of (end_of medium) (place_in self.old.opened) self.old.at) next self.new) }
+    {
+        let place = self.place();
+        match medium {
+            Medium::Text => self.end_item(Kind::EndText, place, self.at, next),
+            Medium::Binary => self.end_item(Kind::EndBinary, place, self.at, next),
+        }
+    }
+
+    /// Reads a piece of a string, or its end.
+    #[inline(always)]
+    pub(super) fn piece(&mut self, medium: Medium, bytes: &[u8]) -> Result<bool, NoMemory>
+        requires within { self.old.at ≤ length bytes.now }
+        requires is { self.old.expected ≡ expected.APiece medium }
+        ensures goes { IfOk result (ReadsOn bytes.now self.old self.new) }
+        ensures no_memory { IfErr result (λ error. Makes (spot_of bytes.now self.old)) }
+    {
+        if self.at >= bytes.len() {
+            return Ok(false);
+        }
+        if bytes[self.at] != 0xff {
+            return match medium {
+                Medium::Text => self.text_piece(bytes),
+                Medium::Binary => self.binary_piece(bytes),
+            };
+        }
+        match self.end_pieces(medium, self.at + 1) {
+            Ok(()) => Ok(true),
+            Err(error) => Err(error),
+        }
+    }
+}
