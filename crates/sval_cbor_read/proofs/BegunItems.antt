@@ -17,7 +17,7 @@ use Rattle.sval_cbor_read.specs.Steps.{Spot, spot, Steps, one_step, more_steps, 
 use Rattle.sval_cbor_read.specs.SeenHeads.{IsHead}
 use Rattle.sval_cbor_read.specs.SeenStrings.{IsBehind}
 use Rattle.sval_cbor_read.specs.SeenBignums.{IsNumberAt}
-use Rattle.sval_cbor_read.specs.SeenNodes.{byte_string, step_calls, IsBignum}
+use Rattle.sval_cbor_read.specs.SeenNodes.{byte_string, step_calls}
 use Rattle.sval_cbor_read.proofs.ByteStrings.{byte_string_is}
 use Rattle.sval_cbor_read.specs.SeenItems.{state_behind, begin_calls, IsBegun, IsMarked, BeginsBehind, BeginsNothingBehind, Begins, BeginsNothing}
 use Rattle.sval_cbor_read.proofs.Bignums.{bytes_at, nothing_at}

@@ -1,9 +1,9 @@
 -- The content of a byte string is found from its bytes.
-use Rattle.std.specs.Prelude.{◌≡◌, ℕ, zero, suc, ◌<◌, ◌≤◌, List, [], ◌∷◌, ◌++◌, length, take, drop, Some, refl}
+use Rattle.std.specs.Prelude.{◌≡◌, ℕ, zero, suc, ◌<◌, ◌≤◌, List, [], ◌∷◌, ◌++◌, length, take, refl}
 use Rattle.std.proofs.Common.{ap, subst, arith}
 use Rattle.std.proofs.lemmas.List.{length-drop}
-use Rattle.sval_cbor_read.specs.Items.{head, head_of, IsString, string, ArePieces, break, piece, IsByteString, definite, in_pieces}
-use Rattle.sval_cbor_read.specs.SeenNodes.{with_string, joined, byte_string}
+use Rattle.sval_cbor_read.specs.Items.{head, string, ArePieces, break, piece, IsByteString, definite, in_pieces}
+use Rattle.sval_cbor_read.specs.SeenNodes.{joined, byte_string}
 use Rattle.sval_cbor_read.proofs.Strings.{no_head, no_break, no_pieces}
 use Rattle.sval_cbor_read.proofs.Nearer.{IsShorter, head_shorter}
 

@@ -4,15 +4,14 @@ use Rattle.std.proofs.Common.{sym, ap, ◌∙◌, subst, arith}
 use Rattle.std.proofs.lemmas.Bool.Decides.{nat_tests}
 use Rattle.std.proofs.lemmas.List.{length-drop}
 use Rattle.std.proofs.lemmas.Str.{IsUtf8-from_is_utf8}
-use Rattle.sval_label.specs.Calls.{Call}
 use Rattle.sval_cbor_read.specs.declared.head.Head as made_head
 use Rattle.sval_cbor_read.specs.declared.bignum.Bignum.{Bignum}
 use Rattle.sval_cbor_read.specs.Items.{Head, head, head_of, is_piece, big_endian, string, IsByteString, definite, in_pieces}
-use Rattle.sval_cbor_read.specs.Reading.{Frame, Mark, BinaryPieces, TextPieces, SeqToBreak, MapToBreak, Falsehood, Truth, Null, Move, mark_of, first_step, item_step, head_step, body_step, string_step, string_calls, fragment, with_piece, moves, Ended, fits}
+use Rattle.sval_cbor_read.specs.Reading.{Mark, BinaryPieces, TextPieces, SeqToBreak, MapToBreak, Falsehood, Truth, Null, Move, mark_of, first_step, item_step, head_step, string_step, string_calls, fragment, with_piece, moves, Ended}
 use Rattle.sval_cbor_read.specs.SeenHeads.{IsHead}
 use Rattle.sval_cbor_read.specs.SeenBignums.{IsNumberAt, HasNoNumber}
 use Rattle.sval_cbor_read.specs.SeenNodes.{byte_string, step_calls, piece_calls, IsBignum}
-use Rattle.sval_cbor_read.proofs.Bignums.{bytes_at, nothing_at}
+use Rattle.sval_cbor_read.proofs.Bignums.{bytes_at}
 use Rattle.sval_cbor_read.proofs.ByteStrings.{byte_string_is}
 use Rattle.sval_cbor_read.proofs.Strings.{no_head}
 use Rattle.sval_cbor_read.proofs.Sound as sound

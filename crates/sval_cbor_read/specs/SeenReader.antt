@@ -1,7 +1,6 @@
 -- What the reader of the code stands for: a spot of the bytes.
 use Rattle.std.specs.Prelude.{◌≡◌, ◌≢◌, ℕ, ◌≤◌, Bool, true, false, List, [], ◌∷◌, ◌++◌, length, drop}
 use Rattle.sval_label.specs.Calls.{Call}
-use Rattle.sval_cbor_read.specs.declared.node.Place.{Place}
 use Rattle.sval_cbor_read.specs.declared.node.Node.{Node}
 use Rattle.sval_cbor_read.specs.declared.node.Kind.{Kind}
 use Rattle.sval_cbor_read.specs.declared.node.Kind.TheVariants as kind

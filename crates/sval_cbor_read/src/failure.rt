@@ -11,7 +11,7 @@ use sval_json::{Sink, SinkError};
 use sval_program::{InputError, Line, lines, status, tell};
 
 /// Why a document wasn't written whole.
-#[derive(Clone, Copy, Debug, PartialEq, Eq)]
+#[derive(Clone, Copy)]
 pub(crate) enum WriteError {
     /// What stands in the place of a map's key can't be one.
     InvalidKey,
@@ -30,7 +30,7 @@ impl From<SinkError> for WriteError {
 }
 
 /// Why the program failed: each failure has a status and a line.
-#[derive(Clone, Copy, Debug, PartialEq, Eq)]
+#[derive(Clone, Copy)]
 pub(crate) enum Failure {
     /// The words are no form.
     Usage,

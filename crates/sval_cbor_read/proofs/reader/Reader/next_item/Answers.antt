@@ -1,7 +1,6 @@
 use Rattle.std.proofs.Common.{refl}
 use Rattle.sval_cbor_read.specs.declared.node.Kind.TheVariants.{EndSeq}
 use Rattle.sval_cbor_read.specs.Reading.{Items}
-use Rattle.sval_cbor_read.specs.SeenFrames.{around}
 use Rattle.sval_cbor_read.proofs.ReadsOn.{part_begins, part_ends, part_makes, part_stuck, seq_begins, seq_ends, seq_stuck}
 use Rattle.sval_cbor_read.proofs.reader.Reader.next_item.Goals as goal
 

@@ -1,7 +1,6 @@
 use Rattle.std.proofs.Common.{refl}
 use Rattle.sval_cbor_read.specs.declared.node.Kind.TheVariants.{EndMap}
 use Rattle.sval_cbor_read.specs.Reading.{Keys}
-use Rattle.sval_cbor_read.specs.SeenFrames.{around}
 use Rattle.sval_cbor_read.proofs.ReadsOn.{part_begins, part_ends, part_makes, part_stuck, map_begins, map_ends, map_stuck}
 use Rattle.sval_cbor_read.proofs.reader.Reader.next_pair.Goals as goal
 
