@@ -13,7 +13,7 @@ use Rattle.sval_buffer.specs.declared.error.ErrorKind.TheVariants as capture
 use Rattle.sval_buffer.specs.Capture.{IsNoAlloc}
 use Rattle.sval_buffer.specs.CapturedValues.{IsCollectCause, RunsOut}
 use Rattle.sval_json.specs.Json.{Json}
-use Rattle.sval_json.specs.Sinks.{Told, NoCountFell, Appends, AppendsFront, LacksRoom, WritesWhole, WritesFront}
+use Rattle.sval_json.specs.Sinks.{Told, NoCountFell, Appends, AppendsFront, AppendsPart, LacksRoom, WritesWhole, WritesFront}
 use Rattle.sval_json.specs.Counted.{counted_told}
 use Rattle.sval_json.specs.declared.sink.SinkError.TheVariants as sink
 use Rattle.sval_json.proofs.Appending.{appends_nothing, steady_alone, steady_counts}
@@ -90,6 +90,7 @@ due_streams e why told own due only none = record {
   ok_comes = λ has quiet. absurd (none has);
   write = λ is. absurd (subst IsOfValue is own);
   write_room = λ is. absurd (subst IsOfValue is own);
+  write_short = λ is. absurd (subst IsOfValue is own);
   write_value = λ is. absurd (subst IsOfValue is own);
   no_memory = λ is. absurd (subst IsOfValue is own);
   counts = nothing_fell told;
@@ -106,6 +107,7 @@ memory_streams e told wants = record {
   ok_comes = λ has quiet. inr refl;
   write = λ is. cc is;
   write_room = λ is. cc is;
+  write_short = λ is. cc is;
   write_value = λ is. cc is;
   no_memory = λ is. inr (refl, wants);
   counts = nothing_fell told;
@@ -288,6 +290,9 @@ module _ (e : Emission) (one : IsChecked e) where
     begins_tree : {old new : Told} → AppendsFront old bytes new → (tree : Tree) (json : Json) → Spells e.calls tree → pack_of tree ≡ Ok json → AppendsFront old (cbor json) new
     begins_tree {old} {new} front tree json spells packs = subst (λ bytes. AppendsFront old bytes new) (json_bytes (gives tree spells) packs) front
 
+    cuts_tree : {old new : Told} → AppendsPart old bytes new → (tree : Tree) (json : Json) → Spells e.calls tree → pack_of tree ≡ Ok json → AppendsPart old (cbor json) new
+    cuts_tree {old} {new} part tree json spells packs = subst (λ bytes. AppendsPart old bytes new) (json_bytes (gives tree spells) packs) part
+
     lacks_room : (old : Told) → LacksRoom old bytes → (tree : Tree) (json : Json) → Spells e.calls tree → pack_of tree ≡ Ok json → LacksRoom old (cbor json)
     lacks_room old lacks tree json spells packs = subst (LacksRoom old) (json_bytes (gives tree spells) packs) lacks
 
@@ -301,6 +306,7 @@ module _ (e : Emission) (one : IsChecked e) where
       ok_comes = λ has quiet. inl refl;
       write = λ is. cc is;
       write_room = λ is. cc is;
+      write_short = λ is. cc is;
       write_value = λ is. cc is;
       no_memory = λ is. cc is;
       counts = steady_counts w.steady;
@@ -315,6 +321,7 @@ module _ (e : Emission) (one : IsChecked e) where
       ok_comes = λ has quiet. absurd (quiet.faults front.cause);
       write = λ is. front.cause;
       write_room = λ is. lacks_room old (front.full refl);
+      write_short = λ is. cuts_tree front.part;
       write_value = λ is. has_cbor;
       no_memory = λ is. cc is;
       counts = front.counts;
@@ -329,6 +336,7 @@ module _ (e : Emission) (one : IsChecked e) where
       ok_comes = λ has quiet. inr refl;
       write = λ is. cc is;
       write_room = λ is. cc is;
+      write_short = λ is. cc is;
       write_value = λ is. cc is;
       no_memory = λ is. inl (front.cause, has_cbor);
       counts = front.counts;

@@ -80,7 +80,7 @@ IsHaltedBy (Some why) due old new = IsHalted why due old new
 
 -- the first of two steps was stopped
 declined_first : (why : SinkError) (first : Due) (next : State → Due) {old new : Told} → WritesFront why old (due_bytes first) new → IsDeclined why (due_written (then_due first next)) old new
-declined_first why (Err refusal) next front = absurd (omega (arith, front.some))
+declined_first why (Err refusal) next front = absurd (omega (arith, front.part.within))
 declined_first why (Ok done) next {old} {new} front = record { cause = front.cause; counts = front.counts; front = whole (next done.state) }
   where
     whole : (second : Due) (bytes : List ℕ) → due_written (after_bytes done.bytes second) ≡ Ok bytes → WritesFront why old bytes new
@@ -161,7 +161,11 @@ front_held {why} {old} {new} f = record {
     within = f.front.within;
     appends = record { fits = f.front.appends.fits; text = f.front.appends.text; room = f.front.appends.room };
   };
-  some = f.some;
+  part = record {
+    count = f.part.count;
+    within = f.part.within;
+    appends = record { fits = f.part.appends.fits; text = f.part.appends.text; room = f.part.appends.room };
+  };
   cause = counted_held why old new f.cause;
   full = f.full;
   counts = record { faults = f.counts.faults; wants = f.counts.wants };

@@ -9,7 +9,7 @@ use Rattle.sval_check.specs.declared.error.CheckError.{CheckError}
 use Rattle.sval_check.specs.declared.error.CheckError.TheVariants as check
 use Rattle.sval_buffer.specs.CapturedValues.{RunsOut}
 use Rattle.sval_json.specs.Json.{Json}
-use Rattle.sval_json.specs.Sinks.{Told, IsSteady, IsQuiet, IsCounted, NoCountFell, Appends, AppendsFront, LacksRoom, WritesWhole, WritesFront}
+use Rattle.sval_json.specs.Sinks.{Told, IsSteady, IsQuiet, IsCounted, NoCountFell, Appends, AppendsFront, AppendsPart, LacksRoom, WritesWhole, WritesFront}
 use Rattle.sval_json.specs.declared.sink.SinkError.{SinkError}
 use Rattle.sval_json.specs.declared.sink.SinkError.TheVariants as sink
 use Rattle.sval_cbor.specs.declared.error.CborError.{CborError}
@@ -127,6 +127,10 @@ WritesSpelled calls old new = (tree : Tree) → Spells calls tree → WritesTree
 abbrev pub BeginsSpelled : List Call → Told → Told → Type 0
 BeginsSpelled calls old new = (tree : Tree) (json : Json) → Spells calls tree → pack_of tree ≡ Ok json → AppendsFront old (cbor json) new
 
+-- where the calls spell a tree that packs, a first part of its bytes was taken, but not all of them
+abbrev pub CutsSpelled : List Call → Told → Told → Type 0
+CutsSpelled calls old new = (tree : Tree) (json : Json) → Spells calls tree → pack_of tree ≡ Ok json → AppendsPart old (cbor json) new
+
 -- where the calls spell a tree that packs, its bytes have no place in the room that is told
 abbrev pub IsTooLong : List Call → Told → Type 0
 IsTooLong calls old = (tree : Tree) (json : Json) → Spells calls tree → pack_of tree ≡ Ok json → LacksRoom old (cbor json)
@@ -148,7 +152,7 @@ IsWant told e old new = (new ≡ old) ⊎ (Rose (told old).wants (told new).want
 
 -- On Ok the sink took the bytes of what the tree that the calls spell packs to. Each error comes only where it is so, and where the sink
 -- doesn't decline and memory isn't wanting, the answer that is due comes. An error of the value comes before anything is written, and after
--- one of the sink it took a first part of the bytes.
+-- one of the sink it took a first part of the bytes, not all of them where it failed.
 pub record StreamsCbor (e : Emission) (result : CborAnswer) (old new : Told) : Type 0 where
   pub value : OnOk result (IsOneValue e)
   pub written : OnOk result (WritesSpelled e.calls old new)
@@ -158,6 +162,7 @@ pub record StreamsCbor (e : Emission) (result : CborAnswer) (old new : Told) : T
   pub ok_comes : HasCbor e → IsQuiet old new → (result ≡ Ok tt) ⊎ (result ≡ Err error.NoMemory)
   pub write : result ≡ Err error.Write → Rose old.faults new.faults
   pub write_room : result ≡ Err error.Write → IsTooLong e.calls old
+  pub write_short : result ≡ Err error.Write → CutsSpelled e.calls old new
   pub write_value : result ≡ Err error.Write → HasCbor e
   pub no_memory : result ≡ Err error.NoMemory → (Rose old.wants new.wants × HasCbor e) ⊎ ((new ≡ old) × TakesMemory e)
   pub counts : NoCountFell old new

@@ -45,7 +45,7 @@ use sval_json::{CountSink, Sink, SinkError};
 /// wherever they stand, unless memory was wanting.
 ///
 /// - [`CborError::Write`] comes only where the sink's count of faults rose, and never where the sink tells room for all
-///   bytes.
+///   bytes. Not all of them were taken.
 /// - [`CborError::NoMemory`] comes only where memory was wanting for the check or the capture, which leaves the sink as it
 ///   was, or where the sink's count of wants rose.
 ///
