@@ -1,4 +1,4 @@
--- Each script has one verdict at most.
+-- Each script has one verdict.
 use Rattle.std.specs.Prelude.{◌≡◌, ℕ, List, length, Result, refl}
 use Rattle.std.proofs.Common.{sym, ap, ◌∙◌, subst, arith}
 use Rattle.sval_label.specs.Calls.{Call}
@@ -7,8 +7,10 @@ use Rattle.sval_core.specs.Trees.{Tree}
 use Rattle.sval_core.proofs.FirstBad.{one_first_bad, none_bad}
 use Rattle.sval_core.proofs.Spellings.{spells_one, spelling_is_viable}
 use Rattle.sval_check.specs.Checks.{IsFirstBad}
-use Rattle.sval_script.specs.Lines.{Lines, Good, Bad}
+use Rattle.sval_program.proofs.FoundCalls.{Found, found_bad, found_open, found_whole, found}
+use Rattle.sval_script.specs.Lines.{Lines, Good, Bad, lines}
 use Rattle.sval_cbor.specs.Cbor.{cbor}
+use Rattle.sval_cbor.specs.Laws.{OneVerdict}
 use Rattle.sval_cbor.specs.Packs.{PackRefusal, map_ok, pack_of}
 use Rattle.sval_cbor.specs.Verdict.{Verdict, BadLine, BadCall, Unfinished, Whole, AreUnfinished, SpellWhole, IsOfCalls, OfCalls, IsVerdict, OnVerdict}
 
@@ -72,6 +74,23 @@ one_verdict (Whole due) (BadLine m) script a b = absurd (bad_or_good b a.good)
 one_verdict (Whole due) (BadCall m) script a b = one_of_lines (Whole due) (BadCall m) script a b
 one_verdict (Whole due) Unfinished script a b = one_of_lines (Whole due) Unfinished script a b
 one_verdict (Whole due) (Whole other) script a b = one_of_lines (Whole due) (Whole other) script a b
+
+-- ---- there is one
+
+some_of_calls : (script : List ℕ) (calls : List Call) → lines script ≡ Good calls → Found calls → (answer : Verdict) × IsVerdict answer script
+some_of_calls script calls good (found_bad front call rest whole before bad) = (
+  BadCall _,
+  record { calls = calls; good = good; is = record { front = front; call = call; rest = rest; whole = whole; before = before; bad = bad; number = refl } },
+)
+some_of_calls script calls good (found_open viable no_tree) = (Unfinished, record { calls = calls; good = good; is = record { viable = viable; no_tree = no_tree } })
+some_of_calls script calls good (found_whole tree spells) = (Whole _, record { calls = calls; good = good; is = record { tree = tree; spells = spells; is = refl } })
+
+some_of_lines : (script : List ℕ) (read : Lines) → lines script ≡ read → (answer : Verdict) × IsVerdict answer script
+some_of_lines script (Bad n) bad = (BadLine n, bad)
+some_of_lines script (Good calls) good = some_of_calls script calls good (found calls)
+
+pub each_one : OneVerdict
+each_one script = let some = some_of_lines script (lines script) refl in (some.0, some.1, λ other is. one_verdict some.0 other script some.1 is)
 
 -- what holds of the verdict found holds of each
 pub of_each : (script : List ℕ) (found : Verdict) (P : Verdict → Type 0) → IsVerdict found script → P found → OnVerdict P script tt

@@ -1,4 +1,4 @@
--- The laws of packed shapes and of their bytes, as facts.
+-- The laws of packed shapes, of their bytes and of verdicts, as facts.
 use Rattle.std.specs.Prelude.{◌≡◌, ℕ, ◌<◌, List, ◌∷◌, ◌++◌, Ok, Err}
 use Rattle.std.specs.List.{AllByRecursion}
 use Rattle.sval_label.specs.Calls.{Call}
@@ -12,6 +12,7 @@ use Rattle.sval_cbor.specs.Packs.{PackRefusal, map_ok, pack_of}
 use Rattle.sval_cbor.specs.Cbor.{cbor}
 use Rattle.sval_cbor.specs.Writing.{State, step, written, Went, HaveWholeTexts}
 use Rattle.sval_cbor.specs.Premises.{IsShort, HasPlainIdentifiers}
+use Rattle.sval_cbor.specs.Verdict.{Verdict, IsVerdict}
 
 -- the bytes of a packed shape are bytes
 abbrev pub CborIsBytes : Type 0
@@ -42,3 +43,7 @@ TakenCallsAreWritten = (calls : List Call) (bytes : List ℕ) (state : State) �
 abbrev pub RefusedCallRefuses : Type 0
 RefusedCallRefuses = (calls more : List Call) (bytes : List ℕ) (state : State) (call : Call) (why : PackRefusal) → Went calls bytes state → step call state ≡ Err why
     → written (calls ++ call ∷ more) ≡ Err why
+
+-- each script has one verdict, and no second one
+abbrev pub OneVerdict : Type 0
+OneVerdict = (script : List ℕ) → (answer : Verdict) × IsVerdict answer script × ((other : Verdict) → IsVerdict other script → answer ≡ other)

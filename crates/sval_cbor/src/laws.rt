@@ -1,6 +1,7 @@
-//! The laws of packed shapes and of their bytes, each as a clause that is proved.
+//! The laws of packed shapes, of their bytes and of verdicts, each as a clause that is proved.
 
-ghost use Rattle.sval_cbor.specs.Laws.{CborIsBytes, PacksAsWritten, WholeSpellingsAreWritten, CanonicalCallsAreWhole, CapturedIsWritten, TakenCallsAreWritten, RefusedCallRefuses};
+ghost use Rattle.sval_cbor.specs.Laws.{CborIsBytes, PacksAsWritten, WholeSpellingsAreWritten, CanonicalCallsAreWhole};
+ghost use Rattle.sval_cbor.specs.Laws.{CapturedIsWritten, TakenCallsAreWritten, RefusedCallRefuses, OneVerdict};
 
 /// What holds of all trees that CBOR can hold.
 pub fn packing_laws()
@@ -15,4 +16,9 @@ pub fn writing_laws()
     ensures captured_is_written { CapturedIsWritten }
     ensures taken_calls_are_written { TakenCallsAreWritten }
     ensures refused_call_refuses { RefusedCallRefuses }
+{}
+
+/// What holds of the verdict on every script.
+pub fn verdict_laws()
+    ensures { OneVerdict }
 {}
