@@ -47,7 +47,7 @@ impl fmt::Display for CborError {
 }
 
 /// Why a step of the writer refuses a call.
-#[derive(Clone, Copy, Debug, PartialEq, Eq)]
+#[derive(Clone, Copy)]
 pub(crate) enum Refusal {
     /// A key that can't be one: a container, a binary, a text under `JSON_VALUE`, or a variant with its name.
     Key,
@@ -60,7 +60,7 @@ pub(crate) enum Refusal {
 }
 
 /// What stopped the writer.
-#[derive(Clone, Copy, Debug, PartialEq, Eq)]
+#[derive(Clone, Copy)]
 pub(crate) enum Stop {
     /// Its own step.
     Step(Refusal),

@@ -13,7 +13,7 @@ use sval_program::{InputError, Line, lines, status, tell};
 use sval_script::ScriptError;
 
 /// Why a script has no CBOR.
-#[derive(Clone, Copy, Debug, PartialEq, Eq)]
+#[derive(Clone, Copy)]
 pub(crate) enum Fault {
     /// This line, counted from 1, is the first that is none.
     BadLine {
@@ -32,7 +32,7 @@ pub(crate) enum Fault {
 }
 
 /// Why the program failed: each failure has a status and a line.
-#[derive(Clone, Copy, Debug, PartialEq, Eq)]
+#[derive(Clone, Copy)]
 pub(crate) enum Failure {
     /// The words are no form.
     Usage,
