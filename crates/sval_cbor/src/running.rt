@@ -134,13 +134,13 @@ fn serve<I: Source, K: Sink>(
 /// | 4 | no value goes on with the call of a line |
 /// | 5 | the calls are not one whole value |
 /// | 6 | what stands in the place of a map's key can't be one |
-/// | 7 | text that stands for a number is none |
+/// | 7 | text that stands for a number is none, and doesn't begin with s, n or i after at most one sign: then it is null |
 /// | 8 | only where the output failed |
 /// | 9 | only where the input failed, and wherever its count of faults moved |
 /// | 10 | memory was wanting |
 /// | 11 | the input is longer than is kept |
 /// | 14 | the value has text that says it is JSON |
-/// | 15 | text that stands for a number has a fraction, an exponent or more than 128 bits |
+/// | 15 | text that stands for a number is one with a fraction, an exponent or more than 128 bits |
 ///
 /// Of 6, 7, 14 and 15 the first cause from left to right decides. Where there are no words and neither device fails, the
 /// status is the one that the script's verdict asks for, or 10. The sink is as it was after all statuses but 0, 8 and 10;

@@ -18,7 +18,8 @@ use sval_json::{CountSink, Sink, SinkError};
 /// On `Ok` it appended the bytes of what the tree that the value's calls spell packs to, however they cut its texts,
 /// binaries and numbers. `specs/Packs.antt` says what a tree packs to, and `specs/Cbor.antt` its bytes: texts are
 /// definite, arrays and maps end by a break, each head is as short as can be, and keys are texts. A variant of an enum
-/// with a name is a map of that name to its value. A binary is an array of its bytes as numbers.
+/// with a name is a map of that name to its value. A binary is an array of its bytes as numbers. A text under `NUMBER`
+/// that is no number, but begins after at most one sign with s, n or i in either case, as snan, nan and inf do, is null.
 ///
 /// The value is checked and captured in memory of `alloc`. What was captured is written twice: the first time to see that
 /// all of it can be.
@@ -36,10 +37,10 @@ use sval_json::{CountSink, Sink, SinkError};
 /// - [`CborError::Refused`] comes where all calls can be completed, and the value refuses after them.
 /// - [`CborError::Key`] comes where a key of a map is a container, a binary, a text under `JSON_VALUE` or a variant with
 ///   its name.
-/// - [`CborError::Number`] comes where a text under `NUMBER` is no number.
+/// - [`CborError::Number`] comes where a text under `NUMBER` is no number, and doesn't begin so that it is null.
 /// - [`CborError::Raw`] comes where a text stands under a tag that says it is JSON.
-/// - [`CborError::NotInteger`] comes where a text under `NUMBER` that is no key has a fraction or an exponent, or is not
-///   from -2^127 to 2^128-1.
+/// - [`CborError::NotInteger`] comes where a text under `NUMBER` that is no key is a number with a fraction or an
+///   exponent, or one that is not from -2^127 to 2^128-1.
 ///
 /// Of the last four the first from left to right comes. These six exclude each other, leave the sink as it was, and come
 /// wherever they stand, unless memory was wanting.
