@@ -103,8 +103,9 @@ seq_end
 
 
 def write(path, text):
-    with open(path, "w") as file:
-        file.write(text)
+    """Writes a text, or bytes."""
+    with open(path, "wb") as file:
+        file.write(text if isinstance(text, bytes) else text.encode())
 
 
 def copy_crates(top, libraries, program):
@@ -132,9 +133,9 @@ def write_cases(folder, inputs):
 
 
 def try_cases(crate):
-    """The status of each case, and what it wrote."""
+    """The status of each case, and what it wrote, a letter for each byte."""
     command = ["rt", "try", "--fail-alloc", str(REFUSED), "--cases", "cases"]
-    done = subprocess.run(command, cwd=crate, capture_output=True, text=True)
+    done = subprocess.run(command, cwd=crate, capture_output=True, text=True, encoding="latin-1")
     statuses = dict(re.findall(r"^case=(\S+) run=ended status=(\d+)", done.stderr + done.stdout, re.M))
     if not statuses:
         sys.exit(done.stdout + done.stderr)
