@@ -10,10 +10,10 @@ use Rattle.sval_json.specs.declared.style.Variants.TheVariants.{Inside}
 use Rattle.sval_json.specs.Json.{Json, compact}
 use Rattle.sval_json.specs.Number.{Refusal}
 use Rattle.sval_json.specs.Shape.{json_of}
-use Rattle.sval_json.specs.Sinks.{Told, IsSteady, NoCountFell, LacksRoom, Appends, AppendsFront}
+use Rattle.sval_json.specs.Sinks.{Told, IsSteady, NoCountFell, LacksRoom, Appends, AppendsFront, AppendsPart}
 use Rattle.sval_json.specs.Steps.{written_in}
 use Rattle.sval_json.specs.Laws.{IsTheValueOf, IsWrittenAs}
-use Rattle.sval_json.specs.Written.{IsWrittenIn, IsBegunIn, IsTooLongFor}
+use Rattle.sval_json.specs.Written.{IsWrittenIn, IsBegunIn, IsCutIn, IsTooLongFor}
 use Rattle.sval_json.proofs.OneValue.{denotes_one}
 use Rattle.sval_json.proofs.WritingPlain.{spelling_written}
 use Rattle.sval_script.specs.Canon.{canon}
@@ -70,9 +70,9 @@ module _ (input : List ℕ) (calls : List Call) (r : IsRead input calls) where
           writes = record { appends = subst (λ bytes. Appends (told old) bytes (told new)) (json_written json shape) w.appends; steady = steady };
         }
 
-    pub json_fault : Rose (told old).faults (told new).faults → IsTooLongFor Inside calls (told old) → IsBegunIn Inside calls (told old) (told new) → NoCountFell (told old) (told new)
+    pub json_fault : Rose (told old).faults (told new).faults → IsTooLongFor Inside calls (told old) → IsCutIn Inside calls (told old) (told new) → IsBegunIn Inside calls (told old) (told new) → NoCountFell (told old) (told new)
         → WritesDueText told input form.Json (Err Failed) old new
-    json_fault rose full begins counts =
+    json_fault rose full cut begins counts =
         let (json, shape) = has_json in
         record {
           text = compact json;
@@ -80,6 +80,7 @@ module _ (input : List ℕ) (calls : List Call) (r : IsRead input calls) where
           writes = record {
             stops = record { cause = rose; begins = subst (λ bytes. AppendsFront (told old) bytes (told new)) (json_written json shape) begins; counts = counts };
             full = λ failed. subst (LacksRoom (told old)) (json_written json shape) full;
+            short = λ failed. subst (λ bytes. AppendsPart (told old) bytes (told new)) (json_written json shape) cut;
           };
         }
 
@@ -93,6 +94,7 @@ module _ (input : List ℕ) (calls : List Call) (r : IsRead input calls) where
           writes = record {
             stops = record { cause = inr rose; begins = subst (λ bytes. AppendsFront (told old) bytes (told new)) (json_written json shape) begins; counts = counts };
             full = λ never. cc never;
+            short = λ never. cc never;
           };
         }
 

@@ -9,7 +9,7 @@ returns-in-Ok g c = λ input r. writes_json input c.args.doc.now r g.K.Sink.told
 
 pub returns-in-IO : goal.returns-in-IO
 returns-in-IO g c = λ input r.
-    json_fault input c.args.doc.now r g.K.Sink.told c.args.out.now c.stream_to_io_write.new.out (c.in-Err.ensures.io (search rules)) (c.in-Err.ensures.io_room (search rules)) c.in-Err.ensures.prefix c.in-Err.ensures.counts
+    json_fault input c.args.doc.now r g.K.Sink.told c.args.out.now c.stream_to_io_write.new.out (c.in-Err.ensures.io (search rules)) (c.in-Err.ensures.io_room (search rules)) (c.in-Err.ensures.io_short (search rules)) c.in-Err.ensures.prefix c.in-Err.ensures.counts
 
 pub returns-in-NoMemory : goal.returns-in-NoMemory
 returns-in-NoMemory g c = λ input r.
