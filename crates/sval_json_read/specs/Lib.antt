@@ -13,6 +13,7 @@ pub mod Words
 pub mod SeenNodes
 pub mod SeenReader
 pub mod ReadErrors
+pub mod ErrorTexts
 pub mod SeenPieces
 pub mod NodeCalls
 pub mod Forms

@@ -13,6 +13,7 @@ use crate::node_calls::stream_nodes;
 use crate::reader::Reader;
 use simdutf8::compat::from_utf8;
 use std::alloc::Global;
+use std::fmt;
 use std::marker::Model;
 use sval_core::{Lent, Result as StreamResult, Stream, Value};
 use sval_ref::ValueRef;
@@ -26,6 +27,23 @@ pub enum ReadError {
     BadJson { at: u64 },
     /// There was no memory for what is kept of them, or a number or string in them has 4 GiB or more.
     NoMemory,
+}
+
+impl fmt::Display for ReadError {
+    ghost use Rattle.std.specs.Prelude.{Some};
+    ghost use Rattle.sval_json_read.specs.ErrorTexts.{error_text};
+
+    ghost output = { λ error. Some (error_text error) };
+
+    fn fmt<W: fmt::Write>(&self, f: &mut fmt::Formatter<W>) -> fmt::Result {
+        match *self {
+            ReadError::NotUtf8 => f.write_str("the bytes are not UTF-8"),
+            ReadError::BadJson { at } => {
+                write!(f, "no JSON begins with more of the bytes than the first {at}")
+            }
+            ReadError::NoMemory => f.write_str("cannot allocate for a document"),
+        }
+    }
 }
 
 /// A text that was read, seen as its calls.
