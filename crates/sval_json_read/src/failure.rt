@@ -11,7 +11,7 @@ use sval_json::{Sink, SinkError};
 use sval_program::{InputError, Line, lines, status, tell};
 
 /// Why the program failed: each failure has a status and a line.
-#[derive(Clone, Copy, Debug, PartialEq, Eq)]
+#[derive(Clone, Copy)]
 pub(crate) enum Failure {
     /// The words are no form.
     Usage,

@@ -6,7 +6,7 @@ ghost use Rattle.sval_json_read.specs.Numbers as machine;
 ghost use Rattle.sval_json_read.specs.SeenReader.{phase_of};
 
 /// What of a number was read last.
-#[derive(Clone, Copy, PartialEq, Eq)]
+#[derive(Clone, Copy)]
 pub(crate) enum Phase {
     Minus,
     Zero,
