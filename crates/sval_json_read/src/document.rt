@@ -39,7 +39,10 @@ impl fmt::Display for ReadError {
         match *self {
             ReadError::NotUtf8 => f.write_str("the bytes are not UTF-8"),
             ReadError::BadJson { at } => {
-                write!(f, "no JSON begins with more of the bytes than the first {at}")
+                write!(
+                    f,
+                    "no JSON begins with more of the bytes than the first {at}"
+                )
             }
             ReadError::NoMemory => f.write_str("cannot allocate for a document"),
         }
@@ -73,9 +76,9 @@ impl<'a> JsonDoc<'a> {
     /// Reads a text whole. The document makes the calls of what it denotes.
     ///
     /// ```
-    /// let doc = JsonDoc::read(alloc, b"{\"a\" : [1, 1.50e+3]}")?;
-    /// assert_eq!(rt; stream_to_vec(alloc, &doc)?.as_slice(), b"{\"a\":[1,1.50e+3]}");
-    /// assert_eq!(rt; JsonDoc::read(alloc, b"[1,]").err(), Some(ReadError::BadJson { at: 3 }));
+    /// let doc = JsonDoc::read(alloc, b"{\"a\" : [1, 1.50e+3]}".as_slice())?;
+    /// assert_eq!(rt; stream_to_vec(alloc, &doc)?.as_slice(), b"{\"a\":[1,1.50e+3]}".as_slice());
+    /// assert_eq!(rt; JsonDoc::read(alloc, b"[1,]".as_slice()).err(), Some(ReadError::BadJson { at: 3 }));
     /// ```
     ///
     /// # Errors
