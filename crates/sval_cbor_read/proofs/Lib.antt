@@ -21,3 +21,4 @@ pub mod ItemTrees
 pub mod DueTexts
 pub mod RunAnswers
 mod examples
+mod AsciiLanes

@@ -37,13 +37,13 @@ escape_tops run n long =
     ∙ (λ i. map (λ x. any_top (nat_lt x 32) (x == 34) (x == 92) i) run)
 
 -- the mask of these lanes
-pub escape_mask : (bytes : List ℕ) → 32 ≤ length bytes
-    → mask_l (map (top 7) (zip2 bit_or (zip2 bit_or (zip2 (λ x y. lane (nat_lt x y)) (take 32 bytes) (replicate 32 32)) (zip2 (λ x y. lane (x == y)) (take 32 bytes) (replicate 32 34))) (zip2 (λ x y. lane (x == y)) (take 32 bytes) (replicate 32 92)))) % 2 ^ 64
-    ≡ mask_l (map is_escaped (take 32 bytes))
-escape_mask bytes room =
-    let long : length (take 32 bytes) ≡ 32 = length-take-le 32 bytes room in
-    ap (λ ms. mask_l ms % 2 ^ 64) (escape_tops (take 32 bytes) 32 long)
-    ∙ mask_l-mod (map is_escaped (take 32 bytes)) 64 (omega (arith, length-map (take 32 bytes) is_escaped, long))
+pub escape_mask : (n : ℕ) (bytes : List ℕ) → n ≤ length bytes → n ≤ 64
+    → mask_l (map (top 7) (zip2 bit_or (zip2 bit_or (zip2 (λ x y. lane (nat_lt x y)) (take n bytes) (replicate n 32)) (zip2 (λ x y. lane (x == y)) (take n bytes) (replicate n 34))) (zip2 (λ x y. lane (x == y)) (take n bytes) (replicate n 92)))) % 2 ^ 64
+    ≡ mask_l (map is_escaped (take n bytes))
+escape_mask n bytes room few =
+    let long : length (take n bytes) ≡ n = length-take-le n bytes room in
+    ap (λ ms. mask_l ms % 2 ^ 64) (escape_tops (take n bytes) n long)
+    ∙ mask_l-mod (map is_escaped (take n bytes)) 64 (omega (arith, length-map (take n bytes) is_escaped, long, few))
 
 -- bytes none of which is escaped
 pub plain_run : (bytes : List ℕ) (run : ℕ) → ((d k : ℕ) → k < run → is_escaped (get_or bytes k d) ≡ false) → run ≤ length bytes → AllPass is_plain (take run bytes)
@@ -57,26 +57,26 @@ plain_until bytes place start earlier plain =
     subst (AllPass is_plain) (take-take place start bytes earlier) (All-take (λ byte. is_plain byte ≡ true) place (take start bytes) plain)
 
 -- the lowest bit of a mask that isn't empty tells how many come before the first that is escaped
-pub lowest_escape : (bytes : List ℕ) (mask : ℕ) → 32 ≤ length bytes → mask ≡ mask_l (map is_escaped (take 32 bytes)) → (mask ≡ 0 → ⊥)
-    → trailing_zeros w64 mask ≡ prefix_len (λ byte. not (is_escaped byte)) (take 32 bytes)
-lowest_escape bytes mask room e some =
-    let long : length (take 32 bytes) ≡ 32 = length-take-le 32 bytes room in
+pub lowest_escape : (n : ℕ) (bytes : List ℕ) (mask : ℕ) → n ≤ length bytes → n ≤ 64 → mask ≡ mask_l (map is_escaped (take n bytes)) → (mask ≡ 0 → ⊥)
+    → trailing_zeros w64 mask ≡ prefix_len (λ byte. not (is_escaped byte)) (take n bytes)
+lowest_escape n bytes mask room few e some =
+    let long : length (take n bytes) ≡ n = length-take-le n bytes room in
     let any : 0 < mask = omega (arith, some) in
-    ap (trailing_zeros w64) e ∙ trailing_mask_l is_escaped 64 (take 32 bytes) (omega (arith, long)) (subst (λ n. 0 < n) e any)
+    ap (trailing_zeros w64) e ∙ trailing_mask_l is_escaped 64 (take n bytes) (omega (arith, long, few)) (subst (λ n. 0 < n) e any)
 
 -- so many bytes come before the first of these that is escaped
-abbrev IsCounted : List ℕ → ℕ → Type 0
-IsCounted bytes run = run ≡ prefix_len (λ byte. not (is_escaped byte)) (take 32 bytes)
+abbrev IsCounted : ℕ → List ℕ → ℕ → Type 0
+IsCounted n bytes run = run ≡ prefix_len (λ byte. not (is_escaped byte)) (take n bytes)
 
-pub counted_within : (bytes : List ℕ) (run : ℕ) → 32 ≤ length bytes → IsCounted bytes run → run ≤ 32
-counted_within bytes run room counted = run_in_chunk_le is_escaped bytes 0 32 run 0 room counted
+pub counted_within : (n : ℕ) (bytes : List ℕ) (run : ℕ) → n ≤ length bytes → IsCounted n bytes run → run ≤ n
+counted_within n bytes run room counted = run_in_chunk_le is_escaped bytes 0 n run 0 (omega (arith, room)) counted
 
-pub counted_plain : (bytes : List ℕ) (run : ℕ) → 32 ≤ length bytes → IsCounted bytes run → AllPass is_plain (take run bytes)
-counted_plain bytes run room counted =
-    let near = counted_within bytes run room counted in
-    plain_run bytes run (λ d k before. run_in_chunk_fails is_escaped bytes 0 32 run d room counted k (omega arith) (omega (arith, before))) (omega (arith, near, room))
+pub counted_plain : (n : ℕ) (bytes : List ℕ) (run : ℕ) → n ≤ length bytes → IsCounted n bytes run → AllPass is_plain (take run bytes)
+counted_plain n bytes run room counted =
+    let near = counted_within n bytes run room counted in
+    plain_run bytes run (λ d k before. run_in_chunk_fails is_escaped bytes 0 n run d (omega (arith, room)) counted k (omega arith) (omega (arith, before))) (omega (arith, near, room))
 
-pub counted_found : (bytes : List ℕ) (run : ℕ) → 32 ≤ length bytes → IsCounted bytes run → run < 32 → is_escaped (slice_index bytes run) ≡ true
-counted_found bytes run room counted more =
+pub counted_found : (n : ℕ) (bytes : List ℕ) (run : ℕ) → n ≤ length bytes → IsCounted n bytes run → run < n → is_escaped (slice_index bytes run) ≡ true
+counted_found n bytes run room counted more =
     let at : run ≡ 0 + run = omega arith in
-    ap (λ place. is_escaped (slice_index bytes place)) at ∙ run_in_chunk_stops is_escaped bytes 0 32 run 0 room counted more
+    ap (λ place. is_escaped (slice_index bytes place)) at ∙ run_in_chunk_stops is_escaped bytes 0 n run 0 (omega (arith, room)) counted more

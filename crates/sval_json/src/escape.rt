@@ -29,54 +29,56 @@ fn plain_bytes(bytes: &[u8]) -> usize
         .unwrap_or(bytes.len())
 }
 
-/// How many bytes are tested together.
-const LANES: usize = 32;
-
 /// Which of the first bytes are escaped: bit k tells it of byte k.
 #[inline(always)]
-fn escapes_ahead(bytes: &[u8]) -> u64
-    requires { 32 ≤ length bytes.now }
-    ensures { result ≡ mask_l (map is_escaped (take 32 bytes.now)) }
+fn escapes_ahead<const N: usize>(bytes: &[u8]) -> u64
+    requires long { N ≤ length bytes.now }
+    requires few { N ≤ 64 }
+    ensures { result ≡ mask_l (map is_escaped (take N bytes.now)) }
 {
-    let ahead = u8x32::from_slice(bytes);
-    let low = ahead.simd_lt(u8x32::splat(b' '));
-    let quotes = ahead.simd_eq(u8x32::splat(b'"'));
-    let backslashes = ahead.simd_eq(u8x32::splat(b'\\'));
+    let ahead = Simd::<u8, N>::from_slice(bytes);
+    let low = ahead.simd_lt(Simd::splat(b' '));
+    let quotes = ahead.simd_eq(Simd::splat(b'"'));
+    let backslashes = ahead.simd_eq(Simd::splat(b'\\'));
     (low | quotes | backslashes).to_bitmask()
 }
 
-/// How many of the first bytes come before one that is escaped, looked at together.
+/// How many of the first N bytes come before one that is escaped, looked at together.
 #[inline(always)]
-fn plain_ahead(bytes: &[u8]) -> usize
-    requires { 32 ≤ length bytes.now }
-    ensures within { result ≤ 32 }
+fn plain_ahead<const N: usize>(bytes: &[u8]) -> usize
+    requires long { N ≤ length bytes.now }
+    requires few { N ≤ 64 }
+    ensures within { result ≤ N }
     ensures plain { AllPass is_plain (take result bytes.now) }
-    ensures found { result < 32 → is_escaped (slice_index bytes.now result) ≡ true }
+    ensures found { result < N → is_escaped (slice_index bytes.now result) ≡ true }
 {
-    let escapes = escapes_ahead(bytes);
+    let escapes = escapes_ahead::<N>(bytes);
     if escapes == 0 {
-        return LANES;
+        return N;
     }
     escapes.trailing_zeros() as usize
 }
 
-/// How many bytes come before the first that is escaped. The last of them may be looked at twice.
-fn plain_by_lanes(bytes: &[u8]) -> usize
-    requires { 32 ≤ length bytes.now }
+/// How many bytes come before the first that is escaped, looked at N at a time. The last of them may be looked at twice.
+#[inline(always)]
+fn plain_by_lanes<const N: usize>(bytes: &[u8]) -> usize
+    requires long { N ≤ length bytes.now }
+    requires some { 0 < N }
+    requires few { N ≤ 64 }
     ensures within { result ≤ length bytes.now }
     ensures plain { AllPass is_plain (take result bytes.now) }
     ensures found { result < length bytes.now → is_escaped (slice_index bytes.now result) ≡ true }
 {
-    let last = bytes.len() - LANES;
+    let last = bytes.len() - N;
     let mut start = 0;
     while start < last {
-        let run = plain_ahead(&bytes[start..]);
-        if run < LANES {
+        let run = plain_ahead::<N>(&bytes[start..]);
+        if run < N {
             return start + run;
         }
-        start += LANES;
+        start += N;
     }
-    last + plain_ahead(&bytes[last..])
+    last + plain_ahead::<N>(&bytes[last..])
 }
 
 /// The place of the first byte that is escaped where a text stands between quotes, or the length where there is none: of
@@ -91,10 +93,12 @@ pub fn first_escape(bytes: &[u8]) -> usize
     ensures plain { AllPass is_plain (take result bytes.now) }
     ensures found { result < length bytes.now → is_escaped (slice_index bytes.now result) ≡ true }
 {
-    if bytes.len() < LANES {
-        return plain_bytes(bytes);
+    match bytes.len() {
+        0..=7 => plain_bytes(bytes),
+        8..=15 => plain_by_lanes::<8>(bytes),
+        16..=31 => plain_by_lanes::<16>(bytes),
+        _ => plain_by_lanes::<32>(bytes),
     }
-    plain_by_lanes(bytes)
 }
 
 /// A hex digit in lower case.

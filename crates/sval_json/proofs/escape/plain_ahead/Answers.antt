@@ -6,22 +6,22 @@ use Rattle.sval_json.proofs.EscapeLanes.{plain_run, lowest_escape, counted_withi
 use Rattle.sval_json.proofs.escape.plain_ahead.Goals as goal
 
 pub returns-then-escapes-eq0-clause-plain : goal.returns-then-escapes-eq0-clause-plain
-returns-then-escapes-eq0-clause-plain c =
+returns-then-escapes-eq0-clause-plain g c =
     let bytes = c.args.bytes.now in
-    let none : mask_l (map is_escaped (take 32 bytes)) ≡ 0 = sym c.escapes_ahead-escapes.ensures ∙ c.if-escapes-eq0.true in
-    plain_run bytes 32 (λ d k near. none_from_empty_mask is_escaped bytes 0 32 d c.requires none k (omega arith) near) c.requires
+    let none : mask_l (map is_escaped (take g.row.N bytes)) ≡ 0 = sym c.escapes_ahead-escapes.ensures ∙ c.if-escapes-eq0.true in
+    plain_run bytes g.row.N (λ d k near. none_from_empty_mask is_escaped bytes 0 g.row.N d (omega (arith, c.requires.long)) none k (omega arith) (omega (arith, near))) c.requires.long
 
 pub returns-clause-within : goal.returns-clause-within
-returns-clause-within c =
+returns-clause-within g c =
     let bytes = c.args.bytes.now in
-    counted_within bytes _ c.requires (lowest_escape bytes _ c.requires c.escapes_ahead-escapes.ensures c.if-escapes-eq0.false)
+    counted_within g.row.N bytes _ c.requires.long (lowest_escape g.row.N bytes _ c.requires.long c.requires.few c.escapes_ahead-escapes.ensures c.if-escapes-eq0.false)
 
 pub returns-clause-plain : goal.returns-clause-plain
-returns-clause-plain c =
+returns-clause-plain g c =
     let bytes = c.args.bytes.now in
-    counted_plain bytes _ c.requires (lowest_escape bytes _ c.requires c.escapes_ahead-escapes.ensures c.if-escapes-eq0.false)
+    counted_plain g.row.N bytes _ c.requires.long (lowest_escape g.row.N bytes _ c.requires.long c.requires.few c.escapes_ahead-escapes.ensures c.if-escapes-eq0.false)
 
 pub returns-clause-found : goal.returns-clause-found
-returns-clause-found c =
+returns-clause-found g c =
     let bytes = c.args.bytes.now in
-    counted_found bytes _ c.requires (lowest_escape bytes _ c.requires c.escapes_ahead-escapes.ensures c.if-escapes-eq0.false)
+    counted_found g.row.N bytes _ c.requires.long (lowest_escape g.row.N bytes _ c.requires.long c.requires.few c.escapes_ahead-escapes.ensures c.if-escapes-eq0.false)
