@@ -124,7 +124,8 @@ impl<'k, K: Sink> Writer<'k, K> {
 
     /// Writes a whole number of any type, by its digits in a key.
     fn write_int(&mut self, int: Int) -> Result
-        ensures { Does (writes (json_bytes self.old.in_key (number (signed_decimal (int_number int)))) (writer_state self.old))
+        ensures { Does
+            (writes (json_bytes self.old.in_key (number (signed_decimal (int_number int)))) (writer_state self.old))
             result (writer_target K.told self.old) (writer_view K.told self.new) }
     {
         if self.in_key {

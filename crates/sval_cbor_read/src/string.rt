@@ -107,8 +107,10 @@ fn as_text(bytes: &[u8]) -> Option<&str>
 #[inline(always)]
 pub(crate) fn text_behind(bytes: &[u8], head: Head) -> Option<Piece<&str>>
     requires { head.next ≤ length bytes.now }
-    ensures found { IfSome result (λ piece. IsBehind bytes.now head piece.content.now piece.next × IsUtf8 piece.content.now) }
-    ensures nothing { result ≡ None → head.next + head.number ≤ length bytes.now → IsUtf8 (take head.number (drop head.next bytes.now)) → ⊥ }
+    ensures found { IfSome result
+        (λ piece. IsBehind bytes.now head piece.content.now piece.next × IsUtf8 piece.content.now) }
+    ensures nothing { result ≡ None → head.next + head.number ≤ length bytes.now →
+        IsUtf8 (take head.number (drop head.next bytes.now)) → ⊥ }
 {
     match binary_behind(bytes, head) {
         None => None,

@@ -75,7 +75,8 @@ pub(crate) fn hold<L: Readable>(
     held: &mut ValueBuf<'static>,
     call: AnyCall<'_, L::Text, L::Bytes>,
 ) -> Result<(), NoMemory>
-    ensures { Holds (call_of L.text L.bytes call.entry) (capture_of held.old).forest result (capture_of held.new).forest }
+    ensures { Holds (call_of L.text L.bytes call.entry)
+        (capture_of held.old).forest result (capture_of held.new).forest }
 {
     let call = call.grouped();
     match held.take(as_computed::<L>(&call).call()) {
@@ -87,7 +88,8 @@ pub(crate) fn hold<L: Readable>(
 
 /// Reads the text that the held key is.
 pub(crate) fn read_text(held: &ValueBuf<'static>, text: &mut KeyText) -> Result<(), NoMemory>
-    ensures { IfOk result (λ _. text_by text.new.place (string_bytes text.new.text) ≡ held_label (capture_of held.now).forest) }
+    ensures { IfOk result
+        (λ _. text_by text.new.place (string_bytes text.new.text) ≡ held_label (capture_of held.now).forest) }
 {
     text.clear();
     match held.stream_ref(text) {

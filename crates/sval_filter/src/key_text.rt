@@ -89,7 +89,8 @@ impl KeyText {
 
     /// Copies a fragment, inside the text.
     fn fragment(&mut self, fragment: &str) -> sval_core::Result
-        ensures copies { Copies (with_fragment self.old.place (string_bytes self.old.text) fragment.now) self.old.wants result
+        ensures copies { Copies
+            (with_fragment self.old.place (string_bytes self.old.text) fragment.now) self.old.wants result
             (record { place = self.new.place; text = string_bytes self.new.text }) self.new.wants }
         ensures never_falls { self.old.wants ≤ self.new.wants }
     {

@@ -78,7 +78,8 @@ fn pass_key<L: Lending, S: Stream<L>>(
     fate: &Fate<'_>,
     end: AnyCall<'_, L::Text, L::Bytes>,
 ) -> Result<(), Hindrance>
-    ensures { let due = key_and_end (seen_fate fate.now) (capture_of held.now).forest (call_of L.text L.bytes end.entry) in
+    ensures { let due =
+        key_and_end (seen_fate fate.now) (capture_of held.now).forest (call_of L.text L.bytes end.entry) in
         Passes S.law (S.standing inner.old) due result (S.standing inner.new) }
 {
     if fate.is_left_out() {

@@ -43,8 +43,8 @@ pub trait Sink {
 
 /// Writes a piece whole, by as many calls of [`Sink::write`] as it takes.
 ///
-/// After an error a first part of it was taken. An empty piece makes no call. A sink that tells its room fails only
-/// where the piece has no place in it.
+/// After an error a first part of it was taken, and not all. An empty piece makes no call. A sink that tells its room
+/// fails only where the piece has no place in it.
 #[inline(never)]
 pub fn write_all<K: Sink>(sink: &mut K, piece: &[u8]) -> Result<(), SinkError>
     ensures writes { WritesAll result (K.told sink.old) piece.now (K.told sink.new) }

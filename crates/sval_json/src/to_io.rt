@@ -31,8 +31,8 @@ use sval_core::{Lent, Value};
 ///
 /// [`ErrorKind::IO`] comes only where the sink's count of faults rose, and never where the sink tells room for all that
 /// the steps write. [`ErrorKind::NoMemory`] comes only where its count of wants rose. After either the sink took a
-/// first part of that, and neither comes where the steps write nothing. No count ever falls. This call takes no memory
-/// itself, and doesn't flush the sink.
+/// first part of that and not all, and neither comes where the steps write nothing. No count ever falls. This call takes
+/// no memory itself, and doesn't flush the sink.
 pub fn stream_to_io_write<'v, K: Sink, V: Value<'v, Lent<'v>>>(
     out: &mut K,
     v: &'v V,

@@ -1,5 +1,5 @@
 -- Capturing calls that spell a tree may take memory: for the first of them.
-use Rattle.std.specs.Prelude.{◌≡◌, Bool, true, false, List, [], ◌∷◌, Some, refl}
+use Rattle.std.specs.Prelude.{◌≡◌, true, false, List, [], ◌∷◌, Some, refl}
 use Rattle.std.proofs.Common.{sym, ap, ◌∙◌, subst}
 use Rattle.sval_label.specs.Calls.{Call}
 use Rattle.sval_core.specs.Checker.{State, Runs, done, more}
@@ -12,8 +12,7 @@ use Rattle.sval_core.proofs.Completions.{spelling_is_run}
 use Rattle.sval_core.proofs.Determined.{first_step}
 use Rattle.sval_core.proofs.ManyRuns.{plain_some}
 use Rattle.sval_buffer.specs.Capture.{IsAccepted}
-use Rattle.sval_buffer.specs.CapturedValues.{RunsOut}
-use Rattle.sval_buffer.specs.Forest.{Forest, CaptureAnswer, Becomes, Rejects, Captured, Holds, RefusedAt, empty_forest, take, may_grow, forest, forest_from, is_complete}
+use Rattle.sval_buffer.specs.Forest.{Forest, CaptureAnswer, Becomes, Rejects, Holds, RefusedAt, empty_forest, take, may_grow, forest, forest_from, is_complete}
 use Rattle.sval_buffer.proofs.SameTree.{capture_keeps}
 use Rattle.sval_program.specs.Laws.{CapturingTakesMemory}
 

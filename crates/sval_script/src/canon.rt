@@ -88,7 +88,7 @@ impl<'v, 'k, K: Sink> Stream<Lent<'v>> for CanonPrinter<'k, K> {
 ///
 /// [`PrintError::Write`] comes only where the sink's count of faults rose, and never where the sink tells room for all
 /// lines. [`PrintError::NoMemory`] comes only where its count of wants rose. After either the sink took a first part of
-/// the lines. No count ever falls. This call takes no memory itself, and doesn't flush the sink.
+/// the lines, and not all. No count ever falls. This call takes no memory itself, and doesn't flush the sink.
 pub fn print_canon<'sval, V: ValueRef<Lent<'sval>>, K: Sink>(
     value: &V,
     out: &mut K,

@@ -127,8 +127,10 @@ impl<'k, K: Sink> Writer<'k, K> {
 
     /// Writes the number of an index, or `null`.
     fn write_index(&mut self, index: Option<&Index>) -> Result
-        ensures { Does (writes (json_bytes self.old.in_key (number_or_null (handle_of None (seen_option_index index.entry))))
-            (writer_state self.old)) result (writer_target K.told self.old) (writer_view K.told self.new) }
+        ensures { Does
+            (writes (json_bytes self.old.in_key (number_or_null (handle_of None (seen_option_index index.entry))))
+            (writer_state self.old))
+            result (writer_target K.told self.old) (writer_view K.told self.new) }
     {
         match number_of(index) {
             Some(number) => self.write_int(Int::I64(number)),

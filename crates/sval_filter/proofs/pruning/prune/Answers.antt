@@ -1,4 +1,4 @@
-use Rattle.std.proofs.Common.{inl, inr, ap, Err, ◌∙◌}
+use Rattle.std.proofs.Common.{inl, ap, Err, ◌∙◌}
 use Rattle.sval_filter.proofs.pruning.prune.Goals as goal
 
 pub returns-in-Err-BadCall-clause-err : goal.returns-in-Err-BadCall-clause-err
