@@ -1,4 +1,8 @@
 //! JSON (RFC 8259) of values.
+//!
+//! [`stream_to_io_write`] writes a value to any [`Sink`]: a [`VecSink`] in memory, a [`RealSink`] over one of std's
+//! writers, or one of your own. [`stream_to_vec`], [`stream_to_string`] and [`stream_to_json_str`] give the JSON in
+//! memory. An [`Error`] tells its cause by [`ErrorKind`].
 #![tactic(auto)]
 
 mod count;

@@ -32,7 +32,7 @@ impl fmt::Display for Error {
 /// What a call answers: nothing, or a refusal.
 pub type Result<T = (), E = Error> = std::result::Result<T, E>;
 
-/// Answers a refusal.
+/// Answers a refusal, as in `return refusal();`.
 ///
 /// The Rust crate calls this `error`, which here would differ from the type in case alone.
 pub fn refusal<T>() -> Result<T>

@@ -36,7 +36,7 @@ fn read_part<I: Source>(
 /// ```
 /// let mut input = MemSource::new(b"bool true\n");
 /// let script = read_script(alloc, &mut input)?.finish()?;
-/// assert_eq!(rt; script.len(), 1);
+/// assert_eq!(rt; script.line_count(), 1);
 /// ```
 ///
 /// # Errors

@@ -75,6 +75,7 @@ impl<'v, 'k, K: Sink> Stream<Lent<'v>> for CanonPrinter<'k, K> {
 /// all calls whose texts come whole and whose ends have the names of their begins.
 ///
 /// ```
+/// let value = ValueBuf::collect(alloc, &[-7i32])?;
 /// let mut sink = VecSink::new(alloc);
 /// print_canon(&value, &mut sink)?;
 /// assert_eq!(rt; sink.as_slice(), b"seq_begin -\nseq_value_begin\ni32 -7\nseq_value_end\nseq_end\n".as_slice());
