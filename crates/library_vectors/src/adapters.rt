@@ -1,135 +1,66 @@
-//! What adapters make, as tokens.
+//! What adapters make, as the lines of a script.
 
-use std::alloc::{AllocError, Global};
+use crate::shown::{has_printed, makes, new_printer};
 use std::test::Fail;
 use sval::{
-    BinaryArray, BinarySlice, Display, MapSlice, StdDisplay, Stream, stream_display,
+    BinaryArray, BinarySlice, Display, MapSlice, StdDisplay, stream_display,
     stream_display_fragments, stream_number,
 };
-use sval_check::{Token, TokenBuf, TokenName, TokenText};
-use sval_core::{Tag, tags};
 
-/// The tokens of a text that was printed.
-fn printed(alloc: Global, text: &str) -> Result<Vec<Token<'static>>, AllocError> {
-    let copy = TokenText::new(String::from_str(alloc, text)?);
-    Ok(vec![in alloc;
-        Token::TextBegin(None),
-        Token::TextFragmentComputed(copy),
-        Token::TextEnd,
-    ]?)
-}
+/// The text that is printed of 42.
+const PRINTED: &str = "text_begin -\ntext_fragment_computed =3432\ntext_end\n";
 
 #[test]
-fn shows_printed_texts(rt: HostRuntime) -> Result<(), Fail> {
+fn makes_printed_texts(rt: HostRuntime) -> Result<(), Fail> {
     let alloc = rt.alloc();
-    let text = printed(alloc, "42")?;
-    let shown = Display::new(alloc, 42u8)?;
-    let mut tokens = TokenBuf::new(alloc);
-    tokens.value(&shown)?;
-    assert!(rt; tokens.matches(text.as_slice()));
+    makes(&rt, alloc, &Display::new(alloc, 42u8)?, PRINTED);
     let by_std = Display::new(alloc, StdDisplay { value: 42u8 })?;
-    let mut tokens = TokenBuf::new(alloc);
-    tokens.value(&by_std)?;
-    assert!(rt; tokens.matches(text.as_slice()));
+    makes(&rt, alloc, &by_std, PRINTED);
     Ok(())
 }
 
 #[test]
-fn streams_printed_texts(rt: HostRuntime) -> Result<(), Fail> {
+fn makes_binaries_and_maps(rt: HostRuntime) {
     let alloc = rt.alloc();
-    let text = printed(alloc, "42")?;
-    let mut tokens = TokenBuf::new(alloc);
-    stream_display(alloc, &mut tokens, &42u8)?;
-    assert!(rt; tokens.matches(text.as_slice()));
-    Ok(())
+    makes(
+        &rt,
+        alloc,
+        &BinarySlice::new(b"abc"),
+        "binary_begin 3\nbinary_fragment =616263\nbinary_end\n",
+    );
+    makes(
+        &rt,
+        alloc,
+        &BinaryArray::new(b"abc"),
+        "tagged_begin CONSTANT_SIZE - -\n\
+         binary_begin 3\nbinary_fragment =616263\nbinary_end\n\
+         tagged_end CONSTANT_SIZE - -\n",
+    );
+    makes(
+        &rt,
+        alloc,
+        &MapSlice::new(&[(1u8, true)]),
+        "map_begin 1\n\
+         map_key_begin\nu8 1\nmap_key_end\n\
+         map_value_begin\nbool true\nmap_value_end\n\
+         map_end\n",
+    );
 }
+
+/// A printed text, a fragment of one, and a printed number.
+const STREAMED: &str = "text_begin -\ntext_fragment_computed =3432\ntext_end\n\
+    text_fragment_computed =3432\n\
+    tagged_begin NUMBER - -\n\
+    text_begin -\ntext_fragment_computed =3432\ntext_end\n\
+    tagged_end NUMBER - -\n";
 
 #[test]
-fn streams_printed_fragments(rt: HostRuntime) -> Result<(), Fail> {
+fn streams_what_is_printed(rt: HostRuntime) -> Result<(), Fail> {
     let alloc = rt.alloc();
-    let copy = TokenText::new(String::from_str(alloc, "42")?);
-    let fragment = vec![in alloc; Token::TextFragmentComputed(copy)]?;
-    let mut tokens = TokenBuf::new(alloc);
-    stream_display_fragments(alloc, &mut tokens, &42u8)?;
-    assert!(rt; tokens.matches(fragment.as_slice()));
-    Ok(())
-}
-
-/// A name that is a tag alone.
-fn tagged(tag: Tag) -> TokenName {
-    TokenName {
-        tag: Some(tag),
-        label: None,
-        index: None,
-    }
-}
-
-#[test]
-fn tags_printed_numbers(rt: HostRuntime) -> Result<(), Fail> {
-    let alloc = rt.alloc();
-    let copy = TokenText::new(String::from_str(alloc, "42")?);
-    let number = vec![in alloc;
-        Token::TaggedBegin(tagged(tags::NUMBER)),
-        Token::TextBegin(None),
-        Token::TextFragmentComputed(copy),
-        Token::TextEnd,
-        Token::TaggedEnd(tagged(tags::NUMBER)),
-    ]?;
-    let mut tokens = TokenBuf::new(alloc);
-    stream_number(alloc, &mut tokens, &42u8)?;
-    assert!(rt; tokens.matches(number.as_slice()));
-    Ok(())
-}
-
-#[test]
-fn makes_binaries(rt: HostRuntime) -> Result<(), Fail> {
-    let alloc = rt.alloc();
-    let binary = vec![in alloc;
-        Token::BinaryBegin(Some(3)),
-        Token::BinaryFragment(b"abc"),
-        Token::BinaryEnd,
-    ]?;
-    let slice = BinarySlice::new(b"abc");
-    let mut tokens = TokenBuf::new(alloc);
-    tokens.value(&slice)?;
-    assert!(rt; tokens.matches(binary.as_slice()));
-    Ok(())
-}
-
-#[test]
-fn makes_binaries_of_a_constant_size(rt: HostRuntime) -> Result<(), Fail> {
-    let alloc = rt.alloc();
-    let binary = vec![in alloc;
-        Token::TaggedBegin(tagged(tags::CONSTANT_SIZE)),
-        Token::BinaryBegin(Some(3)),
-        Token::BinaryFragment(b"abc"),
-        Token::BinaryEnd,
-        Token::TaggedEnd(tagged(tags::CONSTANT_SIZE)),
-    ]?;
-    let array = BinaryArray::new(b"abc");
-    let mut tokens = TokenBuf::new(alloc);
-    tokens.value(&array)?;
-    assert!(rt; tokens.matches(binary.as_slice()));
-    Ok(())
-}
-
-#[test]
-fn makes_maps(rt: HostRuntime) -> Result<(), Fail> {
-    let alloc = rt.alloc();
-    let pairs = [(1u8, true)];
-    let map = MapSlice::new(&pairs);
-    let mut tokens = TokenBuf::new(alloc);
-    tokens.value(&map)?;
-    let entry = vec![in alloc;
-        Token::MapBegin(Some(1)),
-        Token::MapKeyBegin,
-        Token::U8(1),
-        Token::MapKeyEnd,
-        Token::MapValueBegin,
-        Token::Bool(true),
-        Token::MapValueEnd,
-        Token::MapEnd,
-    ]?;
-    assert!(rt; tokens.matches(entry.as_slice()));
+    let mut printer = new_printer(alloc);
+    stream_display(alloc, &mut printer, &42u8)?;
+    stream_display_fragments(alloc, &mut printer, &42u8)?;
+    stream_number(alloc, &mut printer, &42u8)?;
+    has_printed(&rt, printer, STREAMED);
     Ok(())
 }

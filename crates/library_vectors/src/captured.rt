@@ -1,80 +1,63 @@
-//! What captured values make again, as tokens.
+//! What captured values make again, as the lines of a script.
 
+use crate::shown::{has_printed, makes, new_printer};
+use std::alloc::Global;
+use std::process::Abort;
 use std::test::Fail;
 use sval::{BinarySlice, MapSlice, Stream};
 use sval_buffer::{Value, ValueBuf, stream_to_value};
-use sval_check::{Token, TokenBuf, TokenName};
-use sval_core::{Index, Label, tags};
+use sval_core::Lent;
 use sval_ref::stream_ref;
 
-/// The name of an option that holds a value.
-fn some() -> TokenName {
-    TokenName {
-        tag: Some(tags::RUST_OPTION_SOME),
-        label: Some(Label::new("Some")),
-        index: Some(Index::new(1)),
+/// An option that holds 42.
+pub(crate) const SOME: &str = "tagged_begin RUST_OPTION_SOME =536f6d65:VALUE_IDENT 1:VALUE_OFFSET\n\
+    i32 42\n\
+    tagged_end RUST_OPTION_SOME =536f6d65:VALUE_IDENT 1:VALUE_OFFSET\n";
+
+/// Asserts that what was captured makes the calls of these lines.
+pub(crate) fn makes_again(rt: &impl Abort, alloc: Global, captured: &ValueBuf<'_>, lines: &str) {
+    let mut printer = new_printer(alloc);
+    assert!(rt; stream_ref(&mut printer, captured).is_ok());
+    has_printed(rt, printer, lines);
+}
+
+/// Captures a value, and asserts that the calls of these lines are made of it.
+fn captures<'v, V: sval_core::Value<'v, Lent<'v>>>(
+    rt: &impl Abort,
+    alloc: Global,
+    value: &'v V,
+    lines: &str,
+) {
+    let captured: Result<ValueBuf<'v>, sval_buffer::Error> = stream_to_value(alloc, value);
+    match captured {
+        Ok(captured) => makes_again(rt, alloc, &captured, lines),
+        Err(_) => assert!(rt; false),
     }
 }
 
 #[test]
-fn makes_an_option_again(rt: HostRuntime) -> Result<(), Fail> {
+fn makes_values_again(rt: HostRuntime) {
     let alloc = rt.alloc();
-    let value = Some(42i32);
-    let captured: ValueBuf<'_> = stream_to_value(alloc, &value)?;
-    let mut tokens = TokenBuf::new(alloc);
-    stream_ref(&mut tokens, &captured)?;
-    let expected = vec![in alloc;
-        Token::TaggedBegin(some()),
-        Token::I32(42),
-        Token::TaggedEnd(some()),
-    ]?;
-    assert!(rt; tokens.matches(expected.as_slice()));
-    Ok(())
-}
-
-#[test]
-fn makes_a_text_again(rt: HostRuntime) -> Result<(), Fail> {
-    let alloc = rt.alloc();
-    let text = "abc";
-    let captured: ValueBuf<'_> = ValueBuf::collect(alloc, &text)?;
-    let mut tokens = TokenBuf::new(alloc);
-    stream_ref(&mut tokens, &captured)?;
-    let expected = vec![in alloc;
-        Token::TextBegin(Some(3)),
-        Token::TextFragment("abc"),
-        Token::TextEnd,
-    ]?;
-    assert!(rt; tokens.matches(expected.as_slice()));
-    Ok(())
-}
-
-#[test]
-fn makes_a_binary_again(rt: HostRuntime) -> Result<(), Fail> {
-    let alloc = rt.alloc();
-    let bytes = BinarySlice::new(b"abc");
-    let captured: ValueBuf<'_> = ValueBuf::collect(alloc, &bytes)?;
-    let mut tokens = TokenBuf::new(alloc);
-    stream_ref(&mut tokens, &captured)?;
-    let expected = vec![in alloc;
-        Token::BinaryBegin(Some(3)),
-        Token::BinaryFragment(b"abc"),
-        Token::BinaryEnd,
-    ]?;
-    assert!(rt; tokens.matches(expected.as_slice()));
-    Ok(())
-}
-
-#[test]
-fn makes_an_empty_map_again(rt: HostRuntime) -> Result<(), Fail> {
-    let alloc = rt.alloc();
+    captures(&rt, alloc, &Some(42i32), SOME);
+    captures(
+        &rt,
+        alloc,
+        &"abc",
+        "text_begin 3\ntext_fragment =616263\ntext_end\n",
+    );
+    captures(
+        &rt,
+        alloc,
+        &BinarySlice::new(b"abc"),
+        "binary_begin 3\nbinary_fragment =616263\nbinary_end\n",
+    );
     let no_pairs: [(i32, bool); 0] = [];
-    let map = MapSlice::new(&no_pairs);
-    let captured: ValueBuf<'_> = ValueBuf::collect(alloc, &map)?;
-    let mut tokens = TokenBuf::new(alloc);
-    stream_ref(&mut tokens, &captured)?;
-    let expected = [Token::MapBegin(Some(0)), Token::MapEnd];
-    assert!(rt; tokens.matches(&expected));
-    Ok(())
+    captures(
+        &rt,
+        alloc,
+        &MapSlice::new(&no_pairs),
+        "map_begin 0\nmap_end\n",
+    );
 }
 
 #[test]
@@ -83,13 +66,9 @@ fn hands_out_values(rt: HostRuntime) -> Result<(), Fail> {
     let mut buffer: ValueBuf<'_> = ValueBuf::new(alloc);
     buffer.i32(42)?;
     let number: Value<'_> = buffer.to_value()?;
-    let mut tokens = TokenBuf::new(alloc);
-    tokens.value(&number)?;
-    assert!(rt; tokens.matches(&[Token::I32(42)]));
+    makes(&rt, alloc, &number, "i32 42\n");
     buffer.clear();
     let nothing: Value<'_> = buffer.into_value();
-    let mut tokens = TokenBuf::new(alloc);
-    tokens.value(&nothing)?;
-    assert!(rt; tokens.matches(&[Token::Null]));
+    makes(&rt, alloc, &nothing, "null\n");
     Ok(())
 }

@@ -21,6 +21,8 @@ mod read;
 #[cfg(test)]
 mod rendered;
 #[cfg(test)]
+mod shown;
+#[cfg(test)]
 mod tokens;
 #[cfg(test)]
 mod written;

@@ -1,157 +1,128 @@
 //! Calls as tokens.
 
-ghost use Rattle.std.specs.Prelude.{pos, [], ◌∷◌};
-ghost use Rattle.sval_label.specs.Calls.{Int, U64};
-ghost use Rattle.sval_core.specs.Values.{makes};
-ghost use Rattle.sval_core.specs.ValueCalls.{seq_calls};
-
+use crate::shown::shows;
+use std::alloc::Global;
+use std::process::Abort;
 use std::test::Fail;
-use sval_check::{Token, TokenBuf, TokenBytes, TokenName, TokenText};
-use sval_core::{Index, Label, Lent, Result, Stream, Value, tags};
+use sval_check::{Token, TokenBuf, TokenBytes, TokenText};
+use sval_core::{Stream, Value};
+use sval_script::Script;
+
+/// The tokens of the calls of a script.
+fn tokens_of<'a>(rt: &impl Abort, alloc: Global, script: &'a Script) -> TokenBuf<'a> {
+    let mut tokens = TokenBuf::new(alloc);
+    assert!(rt; script.stream(&mut tokens).is_ok());
+    tokens
+}
+
+/// A script, and how the tokens of its calls are printed.
+const PRINTED: [(&str, &str); 3] = [
+    (
+        "text_begin 4\ntext_fragment =6162\ntext_fragment_computed =6364\ntext_end\n\
+         binary_begin -\nbinary_fragment =0102\nbinary_fragment_computed =03\nbinary_end\n",
+        "[TextBegin(Some(4)), TextFragment(\"ab\"), \
+         TextFragmentComputed(TokenText { text: \"cd\" }), TextEnd, \
+         BinaryBegin(None), BinaryFragment([1, 2]), \
+         BinaryFragmentComputed(TokenBytes { bytes: [3] }), BinaryEnd]",
+    ),
+    (
+        "map_end\nmap_key_begin\nseq_begin 2\nseq_value_end\nu8 1\ni128 -1\nbool true\n\
+         tag_hint NUMBER\n",
+        "[MapEnd, MapKeyBegin, SeqBegin(Some(2)), SeqValueEnd, U8(1), I128(-1), Bool(true), \
+         TagHint(Tag { text: \"NUMBER\" })]",
+    ),
+    (
+        "tagged_begin RUST_UNIT =6964:VALUE_IDENT 1:VALUE_OFFSET\n\
+         record_tuple_begin - - - 1\n\
+         record_tuple_value_begin RUST_UNIT =6964:VALUE_IDENT 1:VALUE_OFFSET\n\
+         record_value_end - =6964:VALUE_IDENT\n",
+        "[TaggedBegin(TokenName { tag: Some(Tag { text: \"RUST_UNIT\" }), \
+         label: Some(Label { text: Owned(\"id\"), tag: Some(Tag { text: \"VALUE_IDENT\" }) }), \
+         index: Some(Index { number: 1, tag: Some(Tag { text: \"VALUE_OFFSET\" }) }) }), \
+         RecordTupleBegin(TokenName { tag: None, label: None, index: None }, Some(1)), \
+         RecordTupleValueBegin(Some(Tag { text: \"RUST_UNIT\" }), \
+         Label { text: Owned(\"id\"), tag: Some(Tag { text: \"VALUE_IDENT\" }) }, \
+         Index { number: 1, tag: Some(Tag { text: \"VALUE_OFFSET\" }) }), \
+         RecordValueEnd(None, \
+         Label { text: Owned(\"id\"), tag: Some(Tag { text: \"VALUE_IDENT\" }) })]",
+    ),
+];
 
 #[test]
-fn keeps_fragments(rt: HostRuntime) -> std::result::Result<(), Fail> {
+fn keeps_calls(rt: HostRuntime) -> Result<(), Fail> {
+    let alloc = rt.alloc();
+    for (lines, printed) in PRINTED {
+        let script = Script::read(alloc, lines.as_bytes())?;
+        let tokens = tokens_of(&rt, alloc, &script);
+        shows(&rt, format!(in alloc; "{:?}", tokens.as_tokens()), printed);
+    }
+    Ok(())
+}
+
+/// A sequence of one number.
+const ONCE: &str = "seq_begin 1\nseq_value_begin\nu64 7\nseq_value_end\nseq_end\n";
+
+/// Two scripts, and whether the tokens of one match those of the other: whatever the tags of labels and of indexes are.
+const MATCHES: [(&str, &str, bool); 7] = [
+    (ONCE, ONCE, true),
+    (
+        ONCE,
+        "seq_begin 1\nseq_value_begin\nu64 7\nseq_value_end\n",
+        false,
+    ),
+    (
+        "text_fragment_computed =6162\n",
+        "text_fragment =6162\n",
+        false,
+    ),
+    (
+        "tag RUST_UNIT =6964:VALUE_IDENT 1:VALUE_OFFSET\n",
+        "tag RUST_UNIT =6964 1\n",
+        true,
+    ),
+    (
+        "tag RUST_UNIT =6964 1:VALUE_OFFSET\n",
+        "tag RUST_UNIT =6164 1:VALUE_OFFSET\n",
+        false,
+    ),
+    (
+        "tag RUST_UNIT =6964 1:VALUE_OFFSET\n",
+        "tag RUST_UNIT =6964 2\n",
+        false,
+    ),
+    (
+        "tag RUST_UNIT =6964 1:VALUE_OFFSET\n",
+        "enum_end RUST_UNIT =6964 1:VALUE_OFFSET\n",
+        false,
+    ),
+];
+
+#[test]
+fn compares_contents(rt: HostRuntime) -> Result<(), Fail> {
+    let alloc = rt.alloc();
+    for (taken, expected, same) in MATCHES {
+        let taken = Script::read(alloc, taken.as_bytes())?;
+        let expected = Script::read(alloc, expected.as_bytes())?;
+        let tokens = tokens_of(&rt, alloc, &expected);
+        let matches = tokens_of(&rt, alloc, &taken).matches(tokens.as_tokens());
+        assert!(rt; matches == same);
+    }
+    Ok(())
+}
+
+#[test]
+fn takes_tokens_that_are_written(rt: HostRuntime) -> Result<(), Fail> {
     let alloc = rt.alloc();
     let mut buffer = TokenBuf::new(alloc);
-    buffer.text_begin(Some(4))?;
-    buffer.text_fragment("ab")?;
     buffer.text_fragment_computed("cd")?;
-    buffer.text_end()?;
-    buffer.binary_begin(None)?;
-    buffer.binary_fragment(&[1, 2])?;
     buffer.binary_fragment_computed(&[3])?;
-    buffer.binary_end()?;
-    let tokens = vec![in rt.alloc();
-        Token::TextBegin(Some(4)),
-        Token::TextFragment("ab"),
+    let tokens = vec![in alloc;
         Token::TextFragmentComputed(TokenText::new(String::from_str(alloc, "cd")?)),
-        Token::TextEnd,
-        Token::BinaryBegin(None),
-        Token::BinaryFragment(&[1, 2]),
         Token::BinaryFragmentComputed(TokenBytes::new(vec![in alloc; 3]?)),
-        Token::BinaryEnd,
     ]?;
     assert!(rt; buffer.matches(&tokens));
-    buffer.clear();
-    assert_eq!(rt; buffer.as_tokens().len(), 0);
-    buffer.text_fragment_computed("ab")?;
-    let borrowed = vec![in rt.alloc(); Token::TextFragment("ab")]?;
-    assert!(rt; !buffer.matches(&borrowed));
-    Ok(())
-}
-
-#[test]
-fn keeps_numbers_and_parts(rt: HostRuntime) -> std::result::Result<(), Fail> {
-    let mut buffer = TokenBuf::new(rt.alloc());
-    buffer.map_end()?;
-    buffer.map_key_begin()?;
-    buffer.seq_begin(Some(2))?;
-    buffer.seq_value_end()?;
-    buffer.u8(1)?;
-    buffer.i128(-1)?;
-    buffer.bool(true)?;
-    buffer.tag_hint(&tags::NUMBER)?;
-    let tokens = vec![in rt.alloc();
-        Token::MapEnd,
-        Token::MapKeyBegin,
-        Token::SeqBegin(Some(2)),
-        Token::SeqValueEnd,
-        Token::U8(1),
-        Token::I128(-1),
-        Token::Bool(true),
-        Token::TagHint(tags::NUMBER),
-    ]?;
-    assert!(rt; buffer.matches(&tokens));
-    Ok(())
-}
-
-/// A name of all three parts.
-fn name(label: Label<'static>, index: Index) -> TokenName {
-    TokenName {
-        tag: Some(tags::RUST_UNIT),
-        label: Some(label),
-        index: Some(index),
-    }
-}
-
-#[test]
-fn keeps_names(rt: HostRuntime) -> std::result::Result<(), Fail> {
-    let label = Label::new_computed("id").with_tag(&tags::VALUE_IDENT);
-    let index = Index::new(1).with_tag(&tags::VALUE_OFFSET);
-    let tag = Some(&tags::RUST_UNIT);
-    let mut buffer = TokenBuf::new(rt.alloc());
-    buffer.tagged_begin(tag, Some(&label), Some(&index))?;
-    buffer.record_tuple_begin(None, None, None, Some(1))?;
-    buffer.record_tuple_value_begin(tag, &label, &index)?;
-    buffer.record_value_end(None, &label)?;
-    let tokens = vec![in rt.alloc();
-        Token::TaggedBegin(name(Label::new("id"), Index::new(1))),
-        Token::RecordTupleBegin(
-            TokenName {
-                tag: None,
-                label: None,
-                index: None,
-            },
-            Some(1),
-        ),
-        Token::RecordTupleValueBegin(Some(tags::RUST_UNIT), Label::new("id"), Index::new(1)),
-        Token::RecordValueEnd(None, Label::new("id")),
-    ]?;
-    assert!(rt; buffer.matches(&tokens));
-    match &buffer.as_tokens()[3] {
-        Token::RecordValueEnd(_, label) => {
-            assert_eq!(rt; label.tag(), Some(&tags::VALUE_IDENT));
-            assert_eq!(rt; label.as_static_str(), None);
-        }
-        _ => assert!(rt; false),
-    }
-    Ok(())
-}
-
-#[test]
-fn compares_contents(rt: HostRuntime) {
-    let tagged = Label::new("id").with_tag(&tags::VALUE_IDENT);
-    let offset = Index::new(1).with_tag(&tags::VALUE_OFFSET);
-    assert!(rt; name(tagged, offset) == name(Label::new("id"), Index::new(1)));
-    assert!(rt; name(Label::new("id"), offset) != name(Label::new("ad"), offset));
-    assert!(rt; name(Label::new("id"), offset) != name(Label::new("id"), Index::new(2)));
-    assert!(rt;
-        Token::Tag(name(Label::new("id"), offset)) != Token::EnumEnd(name(Label::new("id"), offset))
-    );
-}
-
-/// A user's value: a sequence of one number.
-#[derive(Drop)]
-struct Once {
-    number: u64,
-}
-
-impl<'v> Value<'v, Lent<'v>> for Once {
-    ghost emission = { λ once. makes (seq_calls (λ number. Int U64 (pos number) ∷ []) (once.number ∷ [])) };
-
-    fn stream<S: Stream<Lent<'v>>>(&'v self, stream: &mut S) -> Result {
-        stream.seq_begin(Some(1))?;
-        stream.seq_value_begin()?;
-        stream.u64(self.number)?;
-        stream.seq_value_end()?;
-        stream.seq_end()
-    }
-}
-
-#[test]
-fn takes_a_users_value(rt: HostRuntime) -> std::result::Result<(), Fail> {
-    let once = Once { number: 7 };
-    let mut buffer = TokenBuf::new(rt.alloc());
-    buffer.value(&once)?;
-    let tokens = [
-        Token::SeqBegin(Some(1)),
-        Token::SeqValueBegin,
-        Token::U64(7),
-        Token::SeqValueEnd,
-        Token::SeqEnd,
-    ];
-    assert!(rt; buffer.matches(&tokens));
-    assert!(rt; !buffer.matches(&tokens[..4]));
     assert!(rt; !buffer.lacked_memory());
+    buffer.clear();
+    assert!(rt; buffer.as_tokens().is_empty());
     Ok(())
 }

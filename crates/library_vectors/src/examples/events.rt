@@ -1,11 +1,13 @@
 //! Events that are recorded and written.
 
-use event_log::{EventLog, RecordError};
+use crate::shown::shows;
+use event_log::EventLog;
 use std::alloc::{AllocError, Global};
 use std::collections::BTreeMap;
 use std::io::Write;
+use std::process::Abort;
 use std::test::Fail;
-use sval_json::{RealSink, Sink, SinkError, VecSink};
+use sval_json::{RealSink, Sink, VecSink};
 
 /// An event: a level and a message.
 fn event<'a>(
@@ -19,73 +21,54 @@ fn event<'a>(
     Ok(event)
 }
 
+/// Records an event.
+fn record(rt: &impl Abort, alloc: Global, log: &mut EventLog<'_>, level: &str, message: &str) {
+    match event(alloc, level, message) {
+        Ok(event) => assert!(rt; log.record(&event).is_ok()),
+        Err(_) => assert!(rt; false),
+    }
+}
+
 #[test]
 fn keeps_the_two_newest(rt: HostRuntime) -> Result<(), Fail> {
     let alloc = rt.alloc();
     let mut log = EventLog::new(alloc, 2)?;
-    log.record(&event(alloc, "info", "started")?)?;
-    log.record(&event(alloc, "warning", "disk \"a\" is full")?)?;
-    log.record(&event(alloc, "error", "stopped")?)?;
-    assert_eq!(rt; log.len(), 2);
+    record(&rt, alloc, &mut log, "info", "started");
+    record(&rt, alloc, &mut log, "warning", "disk \"a\" is full");
+    record(&rt, alloc, &mut log, "error", "stopped");
+    assert!(rt; log.len() == 2);
 
     let mut sink = VecSink::new(alloc);
     log.write_lines(&mut sink)?;
-    let lines =
-        b"{\"level\":\"warning\",\"message\":\"disk \\\"a\\\" is full\"}\n{\"level\":\"error\",\"message\":\"stopped\"}\n";
-    assert_eq!(rt; sink.as_slice(), lines.as_slice());
+    shows(
+        &rt,
+        String::from_utf8(sink.into_vec()),
+        "{\"level\":\"warning\",\"message\":\"disk \\\"a\\\" is full\"}\n{\"level\":\"error\",\"message\":\"stopped\"}\n",
+    );
 
     log.clear();
     assert!(rt; log.is_empty());
     Ok(())
 }
 
-/// Why a program's log wasn't written out.
-#[derive(Clone, Copy, Debug, PartialEq, Eq)]
-enum LogError {
-    /// Memory was wanting for the log or an event.
-    NoMemory,
-    /// An event wasn't recorded.
-    Record(RecordError),
-    /// A line wasn't written.
-    Write(SinkError),
-}
-
-impl From<AllocError> for LogError {
-    fn from(_error: AllocError) -> LogError {
-        LogError::NoMemory
-    }
-}
-
-impl From<RecordError> for LogError {
-    fn from(error: RecordError) -> LogError {
-        LogError::Record(error)
-    }
-}
-
-impl From<SinkError> for LogError {
-    fn from(error: SinkError) -> LogError {
-        LogError::Write(error)
-    }
-}
-
-/// Records an event and writes it out, as a program does that passes `rt.stdout()`.
-fn log_to<W: Write + Drop>(alloc: Global, message: &str, writer: W) -> Result<(), LogError> {
-    let mut log = EventLog::new(alloc, 8)?;
-    log.record(&event(alloc, "info", message)?)?;
+/// Writes a log out, as a program does that passes `rt.stdout()`.
+fn write_out<W: Write + Drop>(rt: &impl Abort, log: &EventLog<'_>, writer: W) {
     let mut sink = RealSink::new(writer);
-    log.write_lines(&mut sink)?;
-    sink.flush()?;
-    Ok(())
+    assert!(rt; log.write_lines(&mut sink).is_ok());
+    assert!(rt; sink.flush().is_ok());
 }
 
 #[test]
 fn writes_to_a_writer(rt: HostRuntime) -> Result<(), Fail> {
     let alloc = rt.alloc();
+    let mut log = EventLog::new(alloc, 8)?;
+    record(&rt, alloc, &mut log, "info", "started");
     let mut written = Vec::new(alloc);
-    assert_eq!(rt; log_to(alloc, "started", &mut written), Ok(()));
-    assert_eq!(rt;
-        written.as_slice(),
-        b"{\"level\":\"info\",\"message\":\"started\"}\n".as_slice()
+    write_out(&rt, &log, &mut written);
+    shows(
+        &rt,
+        String::from_utf8(written),
+        "{\"level\":\"info\",\"message\":\"started\"}\n",
     );
     Ok(())
 }

@@ -1,7 +1,8 @@
 //! Lines of records.
 
+use crate::shown::shows;
 use assert_tokens::Point;
-use logfmt::{LogfmtError, to_logfmt};
+use logfmt::to_logfmt;
 use std::test::Fail;
 use sval_script::Script;
 
@@ -24,22 +25,19 @@ const REQUEST: &str = "\
 
 #[test]
 fn writes_each_call(rt: HostRuntime) -> Result<(), Fail> {
-    let alloc = rt.alloc();
-    let request = Script::read(alloc, REQUEST.as_bytes())?;
-    assert_eq!(rt;
-        to_logfmt(alloc, &request)?.as_str(),
-        "said=\"a \\\"b\\\"\\n\\u0001c\\\\\" status=200 ok=true"
+    let request = Script::read(rt.alloc(), REQUEST.as_bytes())?;
+    shows(
+        &rt,
+        to_logfmt(rt.alloc(), &request),
+        "said=\"a \\\"b\\\"\\n\\u0001c\\\\\" status=200 ok=true",
     );
     Ok(())
 }
 
 #[test]
-fn writes_a_point(rt: HostRuntime) -> Result<(), Fail> {
+fn writes_a_point(rt: HostRuntime) {
     let alloc = rt.alloc();
-    assert_eq!(rt;
-        to_logfmt(alloc, &Point { x: 3, y: -4 })?.as_str(),
-        "x=3 y=-4"
-    );
-    assert_eq!(rt; to_logfmt(alloc, &7).err(), Some(LogfmtError::NotFlat));
-    Ok(())
+    shows(&rt, to_logfmt(alloc, &Point { x: 3, y: -4 }), "x=3 y=-4");
+    let error = to_logfmt(alloc, &7).err();
+    shows(&rt, format!(in alloc; "{error:?}"), "Some(NotFlat)");
 }

@@ -1,10 +1,10 @@
 //! Readings that are checked, added up, written and captured.
 
+use crate::shown::{shows, writes};
 use readings::{Reading, Readings, Report, check_readings, to_json, total_of};
 use std::alloc::{AllocError, Global};
 use std::test::Fail;
 use sval_buffer::ValueBuf;
-use sval_json::{VecSink, stream_to_io_write};
 
 /// A note and two measures.
 fn three_readings(alloc: Global) -> Result<Readings, AllocError> {
@@ -15,33 +15,32 @@ fn three_readings(alloc: Global) -> Result<Readings, AllocError> {
     Ok(Readings { readings })
 }
 
+/// Their JSON.
+const JSON: &str = "[\"tea \\\"green\\\"\",-95,100]";
+
 #[test]
 fn serves_readings(rt: HostRuntime) -> Result<(), Fail> {
     let alloc = rt.alloc();
     let readings = three_readings(alloc)?;
-    let json = "[\"tea \\\"green\\\"\",-95,100]";
-
-    assert_eq!(rt; check_readings(alloc, &readings), Ok(()));
-    assert_eq!(rt; total_of(&readings), Some(5));
-    assert_eq!(rt; to_json(alloc, &readings)?.as_slice(), json.as_bytes());
-
+    assert!(rt; check_readings(alloc, &readings).is_ok());
+    assert!(rt; total_of(&readings) == Some(5));
+    shows(&rt, String::from_utf8(to_json(alloc, &readings)?), JSON);
     let captured = ValueBuf::collect(alloc, &readings)?;
-    let mut sink = VecSink::new(alloc);
-    stream_to_io_write(&mut sink, &captured)?;
-    assert_eq!(rt; sink.as_slice(), json.as_bytes());
+    writes(&rt, alloc, &captured, JSON);
     Ok(())
 }
 
 #[test]
 fn writes_a_report(rt: HostRuntime) -> Result<(), Fail> {
-    let alloc = rt.alloc();
     let report = Report {
-        title: String::from_str(alloc, "tea")?,
-        readings: three_readings(alloc)?,
+        title: String::from_str(rt.alloc(), "tea")?,
+        readings: three_readings(rt.alloc())?,
     };
-    let mut sink = VecSink::new(alloc);
-    stream_to_io_write(&mut sink, &report)?;
-    let json = "[\"tea\",[\"tea \\\"green\\\"\",-95,100]]";
-    assert_eq!(rt; sink.as_slice(), json.as_bytes());
+    writes(
+        &rt,
+        rt.alloc(),
+        &report,
+        "[\"tea\",[\"tea \\\"green\\\"\",-95,100]]",
+    );
     Ok(())
 }

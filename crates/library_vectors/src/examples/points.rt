@@ -1,12 +1,11 @@
 //! The tokens of a point.
 
 use assert_tokens::{Point, tokens_match};
-use std::test::Fail;
 use sval_check::{Token, TokenName};
 use sval_core::Label;
 
 #[test]
-fn a_point_is_a_record(rt: HostRuntime) -> Result<(), Fail> {
+fn a_point_is_a_record(rt: HostRuntime) {
     let point = Point { x: 3, y: -4 };
     let tokens = [
         Token::RecordBegin(TokenName::none(), Some(2)),
@@ -18,19 +17,7 @@ fn a_point_is_a_record(rt: HostRuntime) -> Result<(), Fail> {
         Token::RecordValueEnd(None, Label::new("y")),
         Token::RecordEnd(TokenName::none()),
     ];
-    let same = tokens_match(rt.alloc(), &point, &tokens);
-    assert_eq!(rt; same, Ok(true));
-    Ok(())
-}
-
-#[test]
-fn other_tokens_are_told(rt: HostRuntime) -> Result<(), Fail> {
-    let point = Point { x: 3, y: -4 };
-    let too_few = tokens_match(
-        rt.alloc(),
-        &point,
-        &[Token::RecordBegin(TokenName::none(), Some(2))],
-    );
-    assert_eq!(rt; too_few, Ok(false));
-    Ok(())
+    assert!(rt; tokens_match(rt.alloc(), &point, &tokens) == Ok(true));
+    // The first of them are too few.
+    assert!(rt; tokens_match(rt.alloc(), &point, &tokens[..1]) == Ok(false));
 }
