@@ -1,11 +1,11 @@
 //! Calls as tokens.
 
 use crate::shown::shows;
-use std::alloc::Global;
+use std::alloc::{AllocError, Global};
 use std::process::Abort;
 use std::test::Fail;
 use sval_check::{Token, TokenBuf, TokenBytes, TokenText};
-use sval_core::{Stream, Value};
+use sval_core::Value;
 use sval_script::Script;
 
 /// The tokens of the calls of a script.
@@ -15,7 +15,12 @@ fn tokens_of<'a>(rt: &impl Abort, alloc: Global, script: &'a Script) -> TokenBuf
     tokens
 }
 
-/// A script, and how the tokens of its calls are printed.
+/// What is printed of tokens.
+fn printed(alloc: Global, tokens: &[Token<'_>]) -> Result<String, AllocError> {
+    format!(in alloc; "{tokens:?}")
+}
+
+/// A script, and what is printed of the tokens of its calls.
 const PRINTED: [(&str, &str); 3] = [
     (
         "text_begin 4\ntext_fragment =6162\ntext_fragment_computed =6364\ntext_end\n\
@@ -51,10 +56,10 @@ const PRINTED: [(&str, &str); 3] = [
 #[test]
 fn keeps_calls(rt: HostRuntime) -> Result<(), Fail> {
     let alloc = rt.alloc();
-    for (lines, printed) in PRINTED {
+    for (lines, want) in PRINTED {
         let script = Script::read(alloc, lines.as_bytes())?;
         let tokens = tokens_of(&rt, alloc, &script);
-        shows(&rt, format!(in alloc; "{:?}", tokens.as_tokens()), printed);
+        shows(&rt, printed(alloc, tokens.as_tokens()), want);
     }
     Ok(())
 }
@@ -110,19 +115,23 @@ fn compares_contents(rt: HostRuntime) -> Result<(), Fail> {
     Ok(())
 }
 
+/// A part of a text and one of a binary, both computed.
+const COMPUTED: &str = "text_fragment_computed =6364\nbinary_fragment_computed =03\n";
+
 #[test]
 fn takes_tokens_that_are_written(rt: HostRuntime) -> Result<(), Fail> {
     let alloc = rt.alloc();
-    let mut buffer = TokenBuf::new(alloc);
-    buffer.text_fragment_computed("cd")?;
-    buffer.binary_fragment_computed(&[3])?;
-    let tokens = vec![in alloc;
-        Token::TextFragmentComputed(TokenText::new(String::from_str(alloc, "cd")?)),
-        Token::BinaryFragmentComputed(TokenBytes::new(vec![in alloc; 3]?)),
-    ]?;
-    assert!(rt; buffer.matches(&tokens));
-    assert!(rt; !buffer.lacked_memory());
-    buffer.clear();
-    assert!(rt; buffer.as_tokens().is_empty());
+    let script = Script::read(alloc, COMPUTED.as_bytes())?;
+    let text = TokenText::new(String::from_str(alloc, "cd")?);
+    let bytes = TokenBytes::new(Vec::from_slice(alloc, &[3])?);
+    let written = [
+        Token::TextFragmentComputed(text),
+        Token::BinaryFragmentComputed(bytes),
+    ];
+    let mut tokens = tokens_of(&rt, alloc, &script);
+    assert!(rt; tokens.matches(&written));
+    assert!(rt; !tokens.lacked_memory());
+    tokens.clear();
+    assert!(rt; tokens.as_tokens().is_empty());
     Ok(())
 }
