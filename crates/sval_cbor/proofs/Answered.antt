@@ -8,10 +8,6 @@ use Rattle.sval_check.specs.Checks.{CheckAnswer, IsOneValue, OnlyRefuses}
 use Rattle.sval_check.specs.Checks as checks
 use Rattle.sval_check.specs.declared.error.CheckError.{CheckError}
 use Rattle.sval_check.specs.declared.error.CheckError.TheVariants as check
-use Rattle.sval_buffer.specs.declared.error.ErrorKind.{ErrorKind}
-use Rattle.sval_buffer.specs.declared.error.ErrorKind.TheVariants as capture
-use Rattle.sval_buffer.specs.Capture.{IsNoAlloc}
-use Rattle.sval_buffer.specs.CapturedValues.{IsCollectCause, RunsOut}
 use Rattle.sval_json.specs.Json.{Json}
 use Rattle.sval_json.specs.Sinks.{Told, NoCountFell, Appends, AppendsFront, AppendsPart, LacksRoom, WritesWhole, WritesFront}
 use Rattle.sval_json.specs.Counted.{counted_told}
@@ -191,14 +187,8 @@ unaccepted_streams e check.Unfinished told bad refused unfinished memory comes =
 unaccepted_streams e check.NoMemory told bad refused unfinished memory comes = memory_streams e told (inl (memory refl))
 
 -- what the capture doesn't take
-pub uncaptured_streams : (e : Emission) (why : ErrorKind) (told : Told) → IsOneValue e → IsCollectCause e why → ((tree : Tree) → e.refuses ≡ false → Spells e.calls tree → IsNoAlloc why) → StreamsCbor e (Err error.NoMemory) told told
-uncaptured_streams e why told one cause only = memory_streams e told (inr (runs_out why cause (only one.spells.0 one.willing one.spells.1)))
-  where
-    runs_out : (why : ErrorKind) → IsCollectCause e why → IsNoAlloc why → RunsOut e.calls
-    runs_out (capture.NoAlloc method) cause no_alloc = cause
-    runs_out (capture.Unsupported actual expected) cause no_alloc = absurd no_alloc
-    runs_out (capture.InvalidValue reason) cause no_alloc = absurd no_alloc
-    runs_out (capture.OutsideContainer method) cause no_alloc = absurd no_alloc
+pub uncaptured_streams : (e : Emission) (told : Told) → IsOneValue e → StreamsCbor e (Err error.NoMemory) told told
+uncaptured_streams e told one = memory_streams e told (inr one)
 
 -- ---- a value that was checked
 

@@ -7,7 +7,6 @@ use Rattle.sval_core.specs.Trees.{Tree}
 use Rattle.sval_check.specs.Checks.{IsOneValue, IsFirstBad, OnlyRefuses, IsUnfinished, NeedsMemory}
 use Rattle.sval_check.specs.declared.error.CheckError.{CheckError}
 use Rattle.sval_check.specs.declared.error.CheckError.TheVariants as check
-use Rattle.sval_buffer.specs.CapturedValues.{RunsOut}
 use Rattle.sval_json.specs.Json.{Json}
 use Rattle.sval_json.specs.Sinks.{Told, IsSteady, IsQuiet, IsCounted, NoCountFell, Appends, AppendsFront, AppendsPart, LacksRoom, WritesWhole, WritesFront}
 use Rattle.sval_json.specs.declared.sink.SinkError.{SinkError}
@@ -135,9 +134,9 @@ CutsSpelled calls old new = (tree : Tree) (json : Json) → Spells calls tree �
 abbrev pub IsTooLong : List Call → Told → Type 0
 IsTooLong calls old = (tree : Tree) (json : Json) → Spells calls tree → pack_of tree ≡ Ok json → LacksRoom old (cbor json)
 
--- memory was wanting to check the value or to capture it
+-- memory was wanting to check the value; or it is a whole one, and memory was wanting to capture it
 abbrev pub TakesMemory : Emission → Type 0
-TakesMemory e = NeedsMemory e.calls ⊎ RunsOut e.calls
+TakesMemory e = NeedsMemory e.calls ⊎ IsOneValue e
 
 -- the error's cause is not the sink's, nor want of memory
 abbrev pub IsOfValue : CborAnswer → Type 0

@@ -8,7 +8,6 @@ pub mod PrunedParts
 pub mod DueCalls
 pub mod Filtered
 pub mod Refusals
-mod Stopped
 mod PathTexts
 mod TailSteps
 mod LayerSteps
@@ -24,3 +23,4 @@ mod RunAnswers
 mod RunCounts
 mod WordSteps
 mod examples
+mod TakenCalls

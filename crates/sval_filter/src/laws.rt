@@ -1,7 +1,7 @@
 //! The laws of pruning, of the filter and of verdicts, each as a clause that is proved.
 
 ghost use Rattle.sval_filter.specs.Laws.{PrunedIsGood, PrunedIsReal, DueCallsSpellPruned, NothingDropped};
-ghost use Rattle.sval_filter.specs.Laws.{InnerTakesPruned, TakesTrees, RefusesWithCause, OneVerdict};
+ghost use Rattle.sval_filter.specs.Laws.{InnerTakesPruned, TakesTrees, RefusesWithCause, OneVerdict, StandsForTaken};
 
 use sval_core::Stream;
 use sval_label::Lending;
@@ -19,6 +19,7 @@ pub fn stream_laws<L: Lending, S: Stream<L>>()
     ensures inner_takes_pruned { InnerTakesPruned S.law }
     ensures takes_trees { TakesTrees S.law }
     ensures refuses_with_cause { RefusesWithCause S.law }
+    ensures stands_for_taken { StandsForTaken S.law }
 {}
 
 /// What holds of the verdict on every script.

@@ -3,8 +3,7 @@
 ghost use Rattle.std.specs.Prelude.{IfOk, IfErr};
 ghost use Rattle.sval_check.specs.Checks.{CheckAnswer, IsDue, IsOneValue};
 ghost use Rattle.sval_buffer.specs.FlatForest.{forest_in};
-ghost use Rattle.sval_filter.specs.Pruning.{IsPruned, PassesPruned, PassStops, IsPruneCause, IsDueToPrune, IsWant};
-ghost use Rattle.sval_filter.specs.Pruning.{TakesPassMemory};
+ghost use Rattle.sval_filter.specs.Pruning.{IsPruned, PassesPruned, IsPruneCause, IsDueToPrune, IsWant};
 
 use crate::filter::Filter;
 use crate::paths::{Paths, Rule};
@@ -61,8 +60,8 @@ impl fmt::Display for PruneError {
 /// unfinished. [`PruneError::Refused`] exactly where it answers that the value itself refuses. The first two come
 /// wherever they stand, unless memory was wanting.
 ///
-/// [`PruneError::NoMemory`] comes only where memory was wanting for a call that can be completed and begins something;
-/// or, of a whole value, for a call that begins something or is held for a key, or to capture a call of what is left.
+/// [`PruneError::NoMemory`] comes only where a call that can be completed begins something, for which checking may take
+/// memory, or where the value is a whole one, which is filtered and captured.
 pub fn prune<'sval, N: CallStore + 'sval, V: Value<'sval, Lent<'sval>>>(
     alloc: Global,
     v: &'sval V,
@@ -70,7 +69,7 @@ pub fn prune<'sval, N: CallStore + 'sval, V: Value<'sval, Lent<'sval>>>(
     paths: &Paths,
 ) -> Result<AnyValue<'sval, N>, PruneError>
     ensures ok { IfOk result (λ value. IsPruned (V.emission v.now) rule paths.now (forest_in value)) }
-    ensures err { IfErr result (λ why. IsPruneCause (V.emission v.now) rule paths.now why) }
+    ensures err { IfErr result (IsPruneCause (V.emission v.now)) }
     ensures comes { (due : CheckAnswer) → IsDue (V.emission v.now) due → IsDueToPrune due result }
 {
     match check(alloc, v) {
@@ -92,7 +91,6 @@ pub(crate) fn prune_tree<'sval, N: CallStore + 'sval, V: Value<'sval, Lent<'sval
     requires { IsOneValue (V.emission v.now) }
     ensures ok { IfOk result (λ value. IsPruned (V.emission v.now) rule paths.now (forest_in value)) }
     ensures err { IfErr result IsWant }
-    ensures want { IfErr result (λ why. TakesPassMemory rule paths.now (V.emission v.now).calls) }
 {
     let buffer: AnyValueBuf<'sval, N> = AnyValueBuf::new(alloc);
     match pass_value(alloc, v, rule, paths, buffer) {
@@ -109,9 +107,8 @@ fn pass_value<'v, L: Readable, S: Stream<L> + Drop, V: Value<'v, L>>(
     paths: &Paths,
     stream: S,
 ) -> Result<S, NoMemory>
-    ensures ok { let e = V.emission v.now in
+    ensures { let e = V.emission v.now in
         IfOk result (λ after. PassesPruned S.law (S.standing stream) e rule paths.now (S.standing after)) }
-    ensures err { IfErr result (λ why. PassStops S.law S.standing stream (V.emission v.now) rule paths.now) }
 {
     let mut filter = Filter::new(alloc, rule, paths, stream);
     match v.stream(&mut filter) {

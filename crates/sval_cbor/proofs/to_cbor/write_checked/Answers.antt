@@ -15,7 +15,7 @@ returns-in-Ok-clause-streams g c =
 
 pub returns-in-Err-clause-streams : goal.returns-in-Err-clause-streams
 returns-in-Err-clause-streams g c =
-    uncaptured_streams (g.V.Value.emission c.args.v.now) c.in-Err.field-0 (g.K.Sink.told c.args.out.now) c.requires.value c.in-Err.ensures.err c.in-Err.ensures.complete
+    uncaptured_streams (g.V.Value.emission c.args.v.now) (g.K.Sink.told c.args.out.now) c.requires.value
 
 pub returns-in-Ok-clause-want : goal.returns-in-Ok-clause-want
 returns-in-Ok-clause-want g c = λ is.

@@ -1,19 +1,16 @@
-use Rattle.std.proofs.Common.{sym, subst, inl, inr}
+use Rattle.std.proofs.Common.{sym, subst}
 use Rattle.sval_buffer.specs.Forest.{Forest, replayed}
 use Rattle.sval_buffer.specs.SeenBuffers.{capture_of}
 use Rattle.sval_core.specs.Spells.{Spells}
-use Rattle.sval_filter.specs.Filtering.{fresh, all_due}
 use Rattle.sval_filter.specs.Pruned.{pruned}
-use Rattle.sval_filter.proofs.DueCalls.{due_spells_pruned}
 use Rattle.sval_filter.proofs.PruneSteps.{replays_left}
-use Rattle.sval_filter.proofs.Stopped.{buffer_runs_out}
 use Rattle.sval_filter.proofs.pruning.prune_tree.Goals as goal
 
 pub returns-in-Ok-clause-ok : goal.returns-in-Ok-clause-ok
 returns-in-Ok-clause-ok g c =
     let tree = c.requires.spells.0 in
     let left = pruned c.args.rule c.args.paths.now tree in
-    let p = c.in-Ok.ensures.ok tree c.requires.spells.1 in
+    let p = c.in-Ok.ensures tree c.requires.spells.1 in
     record {
       willing = c.requires.willing;
       tree = tree;
@@ -21,15 +18,3 @@ returns-in-Ok-clause-ok g c =
       left = subst (λ (f : Forest). Spells (replayed f) left) (sym c.into_value.ensures)
           (replays_left p.1.0 left (capture_of c.in-Ok.buffer) (capture_of c.new-buffer.result) c.new-buffer.ensures p.1.1 p.1.2);
     }
-
-pub returns-in-Err-clause-want : goal.returns-in-Err-clause-want
-returns-in-Err-clause-want g c =
-    let tree = c.requires.spells.0 in
-    let calls = (g.V.Value.emission c.args.v.now).calls in
-    let stops = c.in-Err.ensures.err c.requires.willing tree c.requires.spells.1 in
-    elim stops [
-      | inl takes ↦ inl takes
-      | inr stopped ↦ inr (buffer_runs_out (all_due c.args.rule c.args.paths.now fresh calls) (pruned c.args.rule c.args.paths.now tree)
-          (capture_of c.new-buffer.result) (capture_of stopped.0) c.new-buffer.ensures stopped.1
-          (due_spells_pruned c.args.rule c.args.paths.now calls tree c.requires.spells.1))
-    ]
