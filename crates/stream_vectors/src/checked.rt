@@ -1,59 +1,16 @@
-//! What checking answers, and what a checked stream passes on.
+//! What checking says, and what a checked stream passes on.
 
-ghost use Rattle.std.specs.Prelude.{[], ◌∷◌, Some, None, false, codes};
-ghost use Rattle.sval_label.specs.Calls.{TextBegin, TextFragment, TextEnd, Begin, Seq};
 ghost use Rattle.sval_label.specs.Made.{lent_call};
 ghost use Rattle.sval_core.specs.Law.{Answers};
 ghost use Rattle.sval_core.specs.Lenient.{lenient, with_wants};
-ghost use Rattle.sval_core.specs.Values.{makes};
 
-use crate::values::Refusing;
-use std::alloc::Global;
-use sval_check::{CheckError, Checked, Why, check};
-use sval_core::{AnyCall, Call, Index, Label, Lent, Name, Result, Stream, Value, refusal, tags};
-
-/// A text of two bytes, which says this size.
-struct Text {
-    size: usize,
-}
-
-impl<'v> Value<'v, Lent<'v>> for Text {
-    ghost emission = { λ text.
-        makes (TextBegin (Some text.size) ∷ TextFragment false (codes "ab") ∷ TextEnd ∷ []) };
-
-    fn stream<S: Stream<Lent<'v>>>(&'v self, stream: &mut S) -> Result {
-        stream.text_begin(Some(self.size))?;
-        stream.text_fragment_computed("ab")?;
-        stream.text_end()
-    }
-}
-
-/// A sequence that doesn't end.
-struct Open {}
-
-impl<'v> Value<'v, Lent<'v>> for Open {
-    ghost emission = { λ _. makes (Begin Seq None ∷ []) };
-
-    fn stream<S: Stream<Lent<'v>>>(&'v self, stream: &mut S) -> Result {
-        stream.seq_begin(None)
-    }
-}
-
-#[test]
-fn gives_each_answer(rt: HostRuntime) {
-    let alloc = rt.alloc();
-    assert_eq!(rt; check(alloc, &Text { size: 2 }), Ok(()));
-    assert_eq!(rt;
-        check(alloc, &Text { size: 1 }),
-        Err(CheckError::BadCall { at: 2 })
-    );
-    assert_eq!(rt;
-        check(alloc, &Text { size: 3 }),
-        Err(CheckError::BadCall { at: 3 })
-    );
-    assert_eq!(rt; check(alloc, &Open {}), Err(CheckError::Unfinished));
-    assert_eq!(rt; check(alloc, &Refusing {}), Err(CheckError::Refused));
-}
+use crate::cases::{Look, agree};
+use std::alloc::{AllocError, Global};
+use std::test::Fail;
+use sval_check::Checked;
+use sval_core::{Call, Lent, Result as Answer, Stream, Value, refusal};
+use sval_ref::ValueRef;
+use sval_script::Script;
 
 /// Counts the calls that it takes, and has room for so many.
 #[derive(Drop)]
@@ -63,16 +20,6 @@ struct Counted {
     wants: u64,
 }
 
-impl Counted {
-    fn new(room: usize) -> Self {
-        Counted {
-            taken: 0,
-            room,
-            wants: 0,
-        }
-    }
-}
-
 impl<'v> Stream<Lent<'v>> for Counted {
     ghost View = { Unit {0} };
 
@@ -80,7 +27,7 @@ impl<'v> Stream<Lent<'v>> for Counted {
 
     ghost standing = { λ counted. with_wants counted.wants };
 
-    fn take(&mut self, call: Call<'v, '_>) -> Result
+    fn take(&mut self, call: Call<'v, '_>) -> Answer
         ensures { Answers lenient result
             (with_wants self.old.wants) (lent_call call.entry) (with_wants self.new.wants) }
     {
@@ -93,164 +40,205 @@ impl<'v> Stream<Lent<'v>> for Counted {
     }
 }
 
-/// How many of the calls are passed on before one is refused.
-fn taken(alloc: Global, calls: &[Call<'_, '_>]) -> usize {
-    let mut checked = Checked::new(alloc, Counted::new(usize::MAX));
-    for call in calls {
-        if checked.take(*call).is_err() {
+/// A checked stream over one that has room for so many calls.
+fn checked_with(alloc: Global, room: usize) -> Checked<Counted> {
+    Checked::new(
+        alloc,
+        Counted {
+            taken: 0,
+            room,
+            wants: 0,
+        },
+    )
+}
+
+/// Whether what was passed on is one value, and how many calls that was.
+fn told(alloc: Global, checked: Checked<Counted>) -> Result<String, AllocError> {
+    let whole = checked.is_whole();
+    let taken = checked.into_inner().taken;
+    format!(in alloc; "whole: {whole}, passed on: {taken}")
+}
+
+/// What is passed on of these calls, before one is refused.
+pub(crate) fn passed(alloc: Global, script: &Script) -> Result<String, AllocError> {
+    let mut checked = checked_with(alloc, usize::MAX);
+    let _answer = script.stream(&mut checked);
+    told(alloc, checked)
+}
+
+/// Whether each call is taken, and then why the last that wasn't was refused and whether the calls so far are one value.
+pub(crate) fn answers(alloc: Global, script: &Script, room: usize) -> Result<String, AllocError> {
+    let mut checked = checked_with(alloc, room);
+    let mut seen = String::new(alloc);
+    for at in 0..script.line_count() {
+        let Some(line) = script.slice(at, at + 1) else {
             break;
-        }
+        };
+        let taken = line.stream_ref(&mut checked).is_ok();
+        let why = checked.why();
+        let whole = checked.is_whole();
+        let answer = format!(in alloc; "taken: {taken}, why: {why:?}, whole: {whole}\n")?;
+        seen.push_str(answer.as_str())?;
     }
-    checked.into_inner().taken
+    seen.push_str(told(alloc, checked)?.as_str())?;
+    Ok(seen)
 }
+
+/// Texts of two bytes, and a sequence without an end.
+const SPELLED: &'static str = r#"text_begin 2
+text_fragment_computed =6162
+text_end
+--
+Ok(())
+
+text_begin 1
+text_fragment_computed =6162
+text_end
+--
+Err(BadCall { at: 2 })
+
+text_begin 3
+text_fragment_computed =6162
+text_end
+--
+Err(BadCall { at: 3 })
+
+seq_begin -
+--
+Err(Unfinished)"#;
 
 #[test]
-fn counts_bytes_and_entries(rt: HostRuntime) {
-    let alloc = rt.alloc();
-    let bytes: &[u8] = &[1, 2];
-    let binary = [
-        AnyCall::BinaryBegin(Some(2)),
-        AnyCall::BinaryFragmentComputed(bytes),
-        AnyCall::BinaryEnd,
-        AnyCall::Null,
-    ];
-    assert_eq!(rt; taken(alloc, &binary), 3);
-    let map = [
-        AnyCall::MapBegin(Some(1)),
-        AnyCall::MapKeyBegin,
-        AnyCall::Null,
-        AnyCall::MapKeyEnd,
-        AnyCall::MapValueBegin,
-        AnyCall::U8(1),
-        AnyCall::MapValueEnd,
-        AnyCall::MapEnd,
-    ];
-    assert_eq!(rt; taken(alloc, &map), 8);
-    let key_alone = [
-        AnyCall::MapBegin(None),
-        AnyCall::MapKeyBegin,
-        AnyCall::Null,
-        AnyCall::MapKeyEnd,
-        AnyCall::MapEnd,
-    ];
-    assert_eq!(rt; taken(alloc, &key_alone), 4);
+fn gives_each_answer(rt: HostRuntime) -> Result<(), Fail> {
+    agree(&rt, rt.alloc(), Look::Check, SPELLED)
 }
 
-/// How many calls of a record with one field are taken, which begins and ends with these labels.
-fn taken_of_record<'c>(alloc: Global, begun: &'c Label<'c>, ended: &'c Label<'c>) -> usize {
-    let name = Name {
-        tag: None,
-        label: None,
-        index: None,
-    };
-    let calls = [
-        AnyCall::RecordBegin(name, Some(1)),
-        AnyCall::RecordValueBegin(None, begun),
-        AnyCall::Null,
-        AnyCall::RecordValueEnd(None, ended),
-        AnyCall::RecordEnd(name),
-    ];
-    taken(alloc, &calls)
-}
+/// Bytes and entries are counted, labels compared by their texts and indexes by their numbers, and enums and tagged
+/// values looked into.
+const COMPLETED: &'static str = r#"binary_begin 2
+binary_fragment_computed =0102
+binary_end
+null
+--
+whole: true, passed on: 3
 
-#[test]
-fn compares_labels_by_their_texts(rt: HostRuntime) {
-    let alloc = rt.alloc();
-    let begun = Label::new("field").with_tag(&tags::VALUE_IDENT);
-    assert_eq!(rt;
-        taken_of_record(alloc, &begun, &Label::new_computed("field")),
-        5
-    );
-    assert_eq!(rt; taken_of_record(alloc, &begun, &Label::new("other")), 3);
-}
+map_begin 1
+map_key_begin
+null
+map_key_end
+map_value_begin
+u8 1
+map_value_end
+map_end
+--
+whole: true, passed on: 8
 
-/// How many calls of a tuple with one field are taken, which begins and ends with these indexes.
-fn taken_of_tuple<'c>(alloc: Global, begun: &'c Index, ended: &'c Index) -> usize {
-    let name = Name {
-        tag: None,
-        label: None,
-        index: Some(begun),
-    };
-    let calls = [
-        AnyCall::TupleBegin(name, Some(1)),
-        AnyCall::TupleValueBegin(None, begun),
-        AnyCall::Null,
-        AnyCall::TupleValueEnd(None, ended),
-        AnyCall::TupleEnd(name),
-    ];
-    taken(alloc, &calls)
-}
+map_begin -
+map_key_begin
+null
+map_key_end
+map_end
+--
+whole: false, passed on: 4
 
-#[test]
-fn compares_indexes_by_their_numbers(rt: HostRuntime) {
-    let alloc = rt.alloc();
-    let begun = Index::new(1);
-    let tagged = Index::new(1).with_tag(&tags::VALUE_OFFSET);
-    assert_eq!(rt; taken_of_tuple(alloc, &begun, &tagged), 5);
-    assert_eq!(rt; taken_of_tuple(alloc, &begun, &Index::new(2)), 3);
-}
+record_begin - - - 1
+record_value_begin - =6669656c64:VALUE_IDENT
+null
+record_value_end - =6669656c64
+record_end - - -
+--
+whole: true, passed on: 5
 
-#[test]
-fn looks_into_enums_and_tagged_values(rt: HostRuntime) {
-    let alloc = rt.alloc();
-    let number = Name {
-        tag: Some(&tags::NUMBER),
-        label: None,
-        index: None,
-    };
-    let whole = [
-        AnyCall::EnumBegin(number),
-        AnyCall::TagHint(&tags::NUMBER),
-        AnyCall::TaggedBegin(number),
-        AnyCall::TextBegin(None),
-        AnyCall::TextEnd,
-        AnyCall::TaggedEnd(number),
-        AnyCall::EnumEnd(number),
-    ];
-    assert_eq!(rt; taken(alloc, &whole), 7);
-    assert_eq!(rt;
-        taken(alloc, &[AnyCall::TaggedBegin(number), AnyCall::Null]),
-        1
-    );
-    assert_eq!(rt;
-        taken(
-            alloc,
-            &[AnyCall::EnumBegin(number), AnyCall::SeqBegin(None)]
-        ),
-        1
-    );
-    assert_eq!(rt;
-        taken(alloc, &[AnyCall::EnumBegin(number), AnyCall::Tag(number)]),
-        2
-    );
-}
+record_begin - - - 1
+record_value_begin - =6669656c64:VALUE_IDENT
+null
+record_value_end - =6f74686572
+record_end - - -
+--
+whole: false, passed on: 3
+
+tuple_begin - - 1 1
+tuple_value_begin - 1
+null
+tuple_value_end - 1:VALUE_OFFSET
+tuple_end - - 1
+--
+whole: true, passed on: 5
+
+tuple_begin - - 1 1
+tuple_value_begin - 1
+null
+tuple_value_end - 2
+tuple_end - - 1
+--
+whole: false, passed on: 3
+
+enum_begin NUMBER - -
+tag_hint NUMBER
+tagged_begin NUMBER - -
+text_begin -
+text_end
+tagged_end NUMBER - -
+enum_end NUMBER - -
+--
+whole: true, passed on: 7
+
+tagged_begin NUMBER - -
+null
+--
+whole: false, passed on: 1
+
+enum_begin NUMBER - -
+seq_begin -
+--
+whole: false, passed on: 1
+
+enum_begin NUMBER - -
+tag NUMBER - -
+--
+whole: false, passed on: 2"#;
 
 #[test]
-fn passes_on_what_is_viable(rt: HostRuntime) {
-    let mut checked = Checked::new(rt.alloc(), Counted::new(9));
-    assert_eq!(rt; checked.is_whole(), false);
-    assert_eq!(rt; checked.text_end().is_err(), true);
-    assert_eq!(rt; checked.why(), Some(Why::NotViable));
-    assert_eq!(rt; checked.text_begin(Some(2)).is_ok(), true);
-    assert_eq!(rt; checked.is_whole(), false);
-    assert_eq!(rt; checked.null().is_err(), true);
-    assert_eq!(rt; checked.text_fragment("ab").is_ok(), true);
-    assert_eq!(rt; checked.text_fragment_computed("c").is_err(), true);
-    assert_eq!(rt; checked.text_end().is_ok(), true);
-    assert_eq!(rt; checked.is_whole(), true);
-    assert_eq!(rt; checked.why(), Some(Why::NotViable));
-    assert_eq!(rt; checked.into_inner().taken, 3);
+fn passes_on_what_can_be_completed(rt: HostRuntime) -> Result<(), Fail> {
+    agree(&rt, rt.alloc(), Look::Passed, COMPLETED)
 }
 
+/// A text with calls between that no value has, and no call.
+const VIABLE: &'static str = r#"text_end
+text_begin 2
+null
+text_fragment =6162
+text_fragment_computed =63
+text_end
+--
+taken: false, why: Some(NotViable), whole: false
+taken: true, why: Some(NotViable), whole: false
+taken: false, why: Some(NotViable), whole: false
+taken: true, why: Some(NotViable), whole: false
+taken: false, why: Some(NotViable), whole: false
+taken: true, why: Some(NotViable), whole: true
+whole: true, passed on: 3
+
+--
+whole: false, passed on: 0"#;
+
 #[test]
-fn is_as_before_after_a_refusal_inside(rt: HostRuntime) {
-    let mut checked = Checked::new(rt.alloc(), Counted::new(1));
-    assert_eq!(rt; checked.map_begin(Some(1)).is_ok(), true);
-    assert_eq!(rt; checked.map_key_begin().is_err(), true);
-    assert_eq!(rt; checked.why(), Some(Why::Inner));
-    assert_eq!(rt; checked.null().is_err(), true);
-    assert_eq!(rt; checked.why(), Some(Why::NotViable));
-    assert_eq!(rt; checked.map_key_begin().is_err(), true);
-    assert_eq!(rt; checked.why(), Some(Why::Inner));
-    assert_eq!(rt; checked.into_inner().taken, 1);
+fn goes_on_after_a_call_that_is_not_viable(rt: HostRuntime) -> Result<(), Fail> {
+    agree(&rt, rt.alloc(), Look::Answers(9), VIABLE)
+}
+
+/// A map whose key the inner stream has no room for.
+const REFUSED_INSIDE: &'static str = r#"map_begin 1
+map_key_begin
+null
+map_key_begin
+--
+taken: true, why: None, whole: false
+taken: false, why: Some(Inner), whole: false
+taken: false, why: Some(NotViable), whole: false
+taken: false, why: Some(Inner), whole: false
+whole: false, passed on: 1"#;
+
+#[test]
+fn is_as_before_after_a_refusal_inside(rt: HostRuntime) -> Result<(), Fail> {
+    agree(&rt, rt.alloc(), Look::Answers(1), REFUSED_INSIDE)
 }

@@ -1,11 +1,22 @@
-//! Tests of streams: what checking says, and what is written as JSON, by their public calls.
+//! Tests of streams and buffers, by their public calls: what checking says, what is written as JSON, and what buffers
+//! capture, join, collect and make again.
 #![tactic(auto)]
 
 #[cfg(test)]
+mod cases;
+#[cfg(test)]
 mod checked;
 #[cfg(test)]
-mod json;
+mod collected;
 #[cfg(test)]
-mod json_calls;
+mod fragments;
 #[cfg(test)]
-mod values;
+mod labels;
+#[cfg(test)]
+mod refused;
+#[cfg(test)]
+mod replayed;
+#[cfg(test)]
+mod sinks;
+#[cfg(test)]
+mod written;

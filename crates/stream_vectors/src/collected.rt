@@ -1,0 +1,157 @@
+//! What is collected of values as texts and as binaries.
+
+use crate::cases::{Look, agree, shows};
+use std::alloc::{AllocError, Global};
+use std::test::Fail;
+use sval_buffer::{BinaryBuf, TextBuf, ValueBuf};
+use sval_core::{Call, Label, Name, Stream, tags};
+
+/// What is collected of captured calls as a text, and whether it is borrowed, or why nothing is.
+pub(crate) fn text_of(alloc: Global, value: &ValueBuf<'_>) -> Result<String, AllocError> {
+    match TextBuf::collect(alloc, value) {
+        Ok(text) => format!(in alloc; "{text:?} {}", text.as_borrowed_str().is_some()),
+        Err(error) => format!(in alloc; "{error}"),
+    }
+}
+
+/// The same as a binary.
+pub(crate) fn binary_of(alloc: Global, value: &ValueBuf<'_>) -> Result<String, AllocError> {
+    match BinaryBuf::collect(alloc, value) {
+        Ok(bytes) => format!(in alloc; "{bytes:?} {}", bytes.as_borrowed_slice().is_some()),
+        Err(error) => format!(in alloc; "{error}"),
+    }
+}
+
+/// Texts, integers that no `i64` is, labels, and what no text is collected of.
+const TEXTS: &'static str = r#"text_begin -
+text_end
+--
+"" true
+
+text_begin 8
+text_fragment =6120737472696e67
+text_end
+--
+"a string" true
+
+u128 340282366920938463463374607431768211455
+--
+"340282366920938463463374607431768211455" false
+
+u64 9223372036854775808
+--
+"9223372036854775808" false
+
+i128 -9223372036854775809
+--
+"-9223372036854775809" false
+
+u64 9223372036854775807
+--
+unexpected integer, expected text
+
+u8 1
+--
+unexpected integer, expected text
+
+bool true
+--
+unexpected boolean, expected text
+
+map_begin -
+--
+unexpected sequence, expected text
+
+binary_begin -
+--
+unexpected sequence, expected text
+
+tagged_begin CONSTANT_SIZE - -
+text_begin -
+text_fragment =61
+text_fragment_computed =62
+text_end
+tagged_end CONSTANT_SIZE - -
+--
+"ab" false
+
+tag - =7769647468 -
+--
+"width" false"#;
+
+#[test]
+fn collects_texts(rt: HostRuntime) -> Result<(), Fail> {
+    agree(&rt, rt.alloc(), Look::Text, TEXTS)
+}
+
+/// Scripts have no static labels, which a text borrows.
+#[test]
+fn collects_static_labels(rt: HostRuntime) -> Result<(), Fail> {
+    let kind = Label::new("kind");
+    let rows = [
+        (None, "\"kind\" true"),
+        (
+            Some(&tags::RUST_OPTION_NONE),
+            "unexpected null, expected text",
+        ),
+    ];
+    for (tag, want) in rows {
+        let mut value: ValueBuf<'_> = ValueBuf::new(rt.alloc());
+        value.take(Call::Tag(Name {
+            tag,
+            label: Some(&kind),
+            index: None,
+        }))?;
+        shows(&rt, text_of(rt.alloc(), &value)?.as_str(), want);
+    }
+    Ok(())
+}
+
+/// Binaries, bytes alone and in a sequence, and what no binary is collected of.
+const BINARIES: &'static str = r#"tagged_begin CONSTANT_SIZE - -
+seq_begin 2
+seq_value_begin
+u8 97
+seq_value_end
+seq_value_begin
+u8 32
+seq_value_end
+seq_end
+tagged_end CONSTANT_SIZE - -
+--
+[97, 32] false
+
+binary_begin -
+binary_fragment =6162
+binary_end
+--
+[97, 98] true
+
+u8 7
+--
+[7] false
+
+bool true
+--
+unexpected boolean, expected binary
+
+u16 7
+--
+unexpected integer, expected binary
+
+u64 9223372036854775808
+--
+unexpected text, expected binary
+
+text_begin -
+--
+unexpected text, expected binary
+
+map_begin -
+--
+unexpected map, expected binary"#;
+
+#[test]
+fn collects_binaries(rt: HostRuntime) -> Result<(), Fail> {
+    agree(&rt, rt.alloc(), Look::Binary, BINARIES)
+}

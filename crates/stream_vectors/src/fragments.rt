@@ -1,0 +1,187 @@
+//! What buffers for texts and binaries hold, and what they make of it.
+
+use crate::cases::shows;
+use crate::replayed::{lent_script_of, script_of};
+use std::alloc::{AllocError, Global};
+use std::test::Fail;
+use sval_buffer::{BinaryBuf, Error, TextBuf};
+
+/// What is done to a text and a binary, with a fragment.
+#[derive(Clone, Copy)]
+enum Step {
+    /// Both are made of the fragment alone, which they borrow.
+    Make,
+    /// Both take the fragment, which they may borrow.
+    Push,
+    /// Both take a copy of the fragment.
+    PushComputed,
+    /// The text is written the fragment, and the binary takes a copy of it.
+    Write,
+    /// Both forget all.
+    Clear,
+    /// Both are replaced by what they are cloned to.
+    Clone,
+}
+
+/// Does a step to a text.
+fn step_text(
+    alloc: Global,
+    text: &mut TextBuf<'static>,
+    step: Step,
+    fragment: &'static str,
+) -> Result<(), Error> {
+    match step {
+        Step::Make => *text = TextBuf::from_text(alloc, fragment),
+        Step::Push => text.push_fragment(fragment)?,
+        Step::PushComputed => text.push_fragment_computed(fragment)?,
+        Step::Write => text.write_str(fragment)?,
+        Step::Clear => text.clear(),
+        Step::Clone => *text = text.try_clone()?,
+    }
+    Ok(())
+}
+
+/// Does a step to a binary.
+fn step_binary(
+    alloc: Global,
+    binary: &mut BinaryBuf<'static>,
+    step: Step,
+    fragment: &'static [u8],
+) -> Result<(), Error> {
+    match step {
+        Step::Make => *binary = BinaryBuf::from_bytes(alloc, fragment),
+        Step::Push => binary.push_fragment(fragment)?,
+        Step::PushComputed | Step::Write => binary.push_fragment_computed(fragment)?,
+        Step::Clear => binary.clear(),
+        Step::Clone => *binary = binary.try_clone()?,
+    }
+    Ok(())
+}
+
+/// What a text holds and borrows, and whether it equals `abc`.
+fn text_seen(alloc: Global, text: &TextBuf<'static>) -> Result<String, AllocError> {
+    let lent = text.as_borrowed_str();
+    let equal = *text == TextBuf::from_text(alloc, "abc");
+    format!(in alloc; "{text:?} {lent:?} {equal}")
+}
+
+/// The same of a binary.
+fn binary_seen(alloc: Global, binary: &BinaryBuf<'static>) -> Result<String, AllocError> {
+    let lent = binary.as_borrowed_slice();
+    let equal = *binary == BinaryBuf::from_array(alloc, b"abc");
+    format!(in alloc; "{binary:?} {lent:?} {equal}")
+}
+
+/// Steps, one after another, each with its fragment, and what the text and the binary then hold and borrow, and whether
+/// they equal `abc`.
+const STEPS: [(Step, &'static str, &'static str, &'static str); 16] = [
+    (Step::Clear, "", r#""" Some("") false"#, "[] Some([]) false"),
+    (
+        Step::Push,
+        "abc",
+        r#""abc" Some("abc") true"#,
+        "[97, 98, 99] Some([97, 98, 99]) true",
+    ),
+    (
+        Step::Push,
+        "def",
+        r#""abcdef" None false"#,
+        "[97, 98, 99, 100, 101, 102] None false",
+    ),
+    (Step::Clear, "", r#""" Some("") false"#, "[] Some([]) false"),
+    (Step::PushComputed, "", r#""" None false"#, "[] None false"),
+    (
+        Step::Push,
+        "abc",
+        r#""abc" Some("abc") true"#,
+        "[97, 98, 99] Some([97, 98, 99]) true",
+    ),
+    (
+        Step::PushComputed,
+        "def",
+        r#""abcdef" None false"#,
+        "[97, 98, 99, 100, 101, 102] None false",
+    ),
+    (
+        Step::Make,
+        "abc",
+        r#""abc" Some("abc") true"#,
+        "[97, 98, 99] Some([97, 98, 99]) true",
+    ),
+    (
+        Step::Clone,
+        "",
+        r#""abc" Some("abc") true"#,
+        "[97, 98, 99] Some([97, 98, 99]) true",
+    ),
+    (Step::Clear, "", r#""" Some("") false"#, "[] Some([]) false"),
+    (
+        Step::Write,
+        "ab",
+        r#""ab" None false"#,
+        "[97, 98] None false",
+    ),
+    (
+        Step::Write,
+        "c",
+        r#""abc" None true"#,
+        "[97, 98, 99] None true",
+    ),
+    (
+        Step::Clone,
+        "",
+        r#""abc" None true"#,
+        "[97, 98, 99] None true",
+    ),
+    (
+        Step::Push,
+        "d",
+        r#""abcd" None false"#,
+        "[97, 98, 99, 100] None false",
+    ),
+    (
+        Step::Make,
+        "é\n",
+        r#""é\n" Some("é\n") false"#,
+        "[195, 169, 10] Some([195, 169, 10]) false",
+    ),
+    (
+        Step::Push,
+        "\"",
+        r#""é\n\"" None false"#,
+        "[195, 169, 10, 34] None false",
+    ),
+];
+
+#[test]
+fn holds_fragments(rt: HostRuntime) -> Result<(), Fail> {
+    let mut text = TextBuf::new(rt.alloc());
+    let mut binary = BinaryBuf::new(rt.alloc());
+    for (step, fragment, want_text, want_binary) in STEPS {
+        step_text(rt.alloc(), &mut text, step, fragment)?;
+        step_binary(rt.alloc(), &mut binary, step, fragment.as_bytes())?;
+        shows(&rt, text_seen(rt.alloc(), &text)?.as_str(), want_text);
+        shows(&rt, binary_seen(rt.alloc(), &binary)?.as_str(), want_binary);
+    }
+    Ok(())
+}
+
+/// A text that is joined is borrowed from the buffer, but lent as a computed one for longer.
+#[test]
+fn lends_what_it_joins(rt: HostRuntime) -> Result<(), Fail> {
+    let mut text = TextBuf::from_text(rt.alloc(), "abc");
+    text.push_fragment("def")?;
+    let again = script_of(rt.alloc(), &text)?;
+    let want = "text_begin 6\ntext_fragment =616263646566\ntext_end\n";
+    shows(&rt, again.as_str(), want);
+    let lent = lent_script_of(rt.alloc(), &text)?;
+    let want = "text_begin 6\ntext_fragment_computed =616263646566\ntext_end\n";
+    shows(&rt, lent.as_str(), want);
+
+    let mut binary = BinaryBuf::from_bytes(rt.alloc(), b"abc");
+    binary.push_fragment_computed(b"def")?;
+    let lent = lent_script_of(rt.alloc(), &binary)?;
+    let want = "binary_begin 6\nbinary_fragment_computed =616263646566\nbinary_end\n";
+    shows(&rt, lent.as_str(), want);
+    Ok(())
+}

@@ -1,0 +1,85 @@
+//! Values that refuse, and keys that can't be one: why there is nothing of them.
+
+ghost use Rattle.std.specs.Prelude.{[], true};
+
+use crate::cases::shows;
+use std::alloc::{AllocError, Global};
+use std::process::Abort;
+use std::test::Fail;
+use sval_buffer::{BinaryBuf, TextBuf, ValueBuf};
+use sval_check::{CheckError, check};
+use sval_core::{Lent, Stream, Value};
+use sval_json::{Error, stream_to_json_str, stream_to_string, stream_to_vec};
+use sval_script::Script;
+
+/// Refuses, and makes no call.
+#[derive(Drop)]
+struct Refusing {}
+
+impl<'v> Value<'v, Lent<'v>> for Refusing {
+    ghost emission = { λ _. record { calls = []; refuses = true } };
+
+    fn stream<S: Stream<Lent<'v>>>(&'v self, _stream: &mut S) -> sval_core::Result {
+        Err(sval_core::Error::new())
+    }
+}
+
+/// Why there is no JSON.
+fn why_unwritten<T: Drop>(alloc: Global, json: Result<T, Error>) -> Result<String, AllocError> {
+    match json {
+        Ok(_json) => Ok(String::new(alloc)),
+        Err(error) => format!(in alloc; "{:?}: {error}", error.kind()),
+    }
+}
+
+/// Asserts that a value is written to no target in memory, for this cause.
+fn is_unwritten<'v, V: Value<'v, Lent<'v>>>(
+    rt: &impl Abort,
+    alloc: Global,
+    value: &'v V,
+    want: &str,
+) -> Result<(), AllocError> {
+    let bytes = why_unwritten(alloc, stream_to_vec(alloc, value))?;
+    shows(rt, bytes.as_str(), want);
+    let text = why_unwritten(alloc, stream_to_string(alloc, value))?;
+    shows(rt, text.as_str(), want);
+    let json = why_unwritten(alloc, stream_to_json_str(alloc, value))?;
+    shows(rt, json.as_str(), want);
+    Ok(())
+}
+
+#[test]
+fn tells_why_there_is_no_json(rt: HostRuntime) -> Result<(), Fail> {
+    let want = "Generic: an error occurred serializing a value to JSON";
+    is_unwritten(&rt, rt.alloc(), &Refusing {}, want)?;
+    let seq_as_key = Script::read(rt.alloc(), b"map_begin -\nmap_key_begin\nseq_begin -\n")?;
+    let want = "InvalidKey: attempt to serialize a non-string key";
+    is_unwritten(&rt, rt.alloc(), &seq_as_key, want)?;
+    Ok(())
+}
+
+/// Why nothing was collected.
+fn why_uncollected<T: Drop>(
+    alloc: Global,
+    collected: Result<T, sval_buffer::Error>,
+) -> Result<String, AllocError> {
+    match collected {
+        Ok(_collected) => Ok(String::new(alloc)),
+        Err(error) => format!(in alloc; "{error}"),
+    }
+}
+
+#[test]
+fn tells_that_a_value_refused(rt: HostRuntime) -> Result<(), Fail> {
+    let alloc = rt.alloc();
+    let want = "the value is invalid: the value itself failed to stream";
+    let refusing = Refusing {};
+    let captured: Result<ValueBuf<'_>, sval_buffer::Error> = ValueBuf::collect(alloc, &refusing);
+    shows(&rt, why_uncollected(alloc, captured)?.as_str(), want);
+    let text = why_uncollected(alloc, TextBuf::collect(alloc, &refusing))?;
+    shows(&rt, text.as_str(), want);
+    let binary = why_uncollected(alloc, BinaryBuf::collect(alloc, &refusing))?;
+    shows(&rt, binary.as_str(), want);
+    assert_eq!(rt; check(alloc, &refusing), Err(CheckError::Refused));
+    Ok(())
+}

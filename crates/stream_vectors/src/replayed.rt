@@ -1,0 +1,314 @@
+//! What a buffer captures of calls, refused ones among them, and what it makes again.
+
+use crate::cases::{Look, agree, shows};
+use std::alloc::Global;
+use std::test::Fail;
+use sval_buffer::ValueBuf;
+use sval_core::{Lent, Value};
+use sval_json::VecSink;
+use sval_ref::{ValueRef, stream_ref};
+use sval_script::{Printer, Script};
+
+/// A buffer after the calls of a script. A call that is refused is made once more, as after want of memory.
+pub(crate) fn captured<'s>(alloc: Global, script: &'s Script) -> ValueBuf<'s> {
+    let mut buffer: ValueBuf<'s> = ValueBuf::new(alloc);
+    for at in 0..script.line_count() {
+        let Some(line) = script.slice(at, at + 1) else {
+            break;
+        };
+        if line.stream_ref(&mut buffer).is_err() {
+            let _answer = line.stream_ref(&mut buffer);
+        }
+    }
+    buffer
+}
+
+/// The calls of a value, as a script.
+pub(crate) fn script_of<'v, V: Value<'v, Lent<'v>>>(
+    alloc: Global,
+    value: &'v V,
+) -> Result<String, Fail> {
+    let mut printer = Printer::new(VecSink::new(alloc));
+    value.stream(&mut printer)?;
+    Ok(String::from_utf8(printer.into_inner().into_vec())?)
+}
+
+/// The calls of a value by `stream_ref`, as a script.
+pub(crate) fn lent_script_of<'sval, V: ValueRef<Lent<'sval>>>(
+    alloc: Global,
+    value: &V,
+) -> Result<String, Fail> {
+    let mut printer = Printer::new(VecSink::new(alloc));
+    stream_ref(&mut printer, value)?;
+    Ok(String::from_utf8(printer.into_inner().into_vec())?)
+}
+
+/// What a buffer makes again of the calls of a script, whether that is a whole value, and why the last refused call was
+/// refused.
+pub(crate) fn replayed(alloc: Global, script: &Script) -> Result<String, Fail> {
+    let buffer = captured(alloc, script);
+    let again = script_of(alloc, &buffer)?;
+    let alike = lent_script_of(alloc, &buffer)? == again;
+    let calls = if again == script_of(alloc, script)? {
+        "the same\n"
+    } else {
+        again.as_str()
+    };
+    let seen = format!(in alloc;
+        "{calls}complete: {}, lent alike: {alike}",
+        buffer.is_complete()
+    )?;
+    match buffer.into_err() {
+        Some(error) => Ok(format!(in alloc; "{seen}\n{:?}: {error}", error.kind())?),
+        None => Ok(seen),
+    }
+}
+
+/// Calls that are no value's, or not whole: what can be is made again with its ends, and without what was refused.
+const CALLS: &'static str = r#"--
+null
+complete: false, lent alike: true
+
+seq_end
+--
+null
+complete: false, lent alike: true
+InvalidValue { reason: Unbalanced }: the value is invalid: unbalanced calls to `begin` and `end`
+
+text_fragment =61
+--
+null
+complete: false, lent alike: true
+OutsideContainer { method: Text }: expected a fragment while buffering text
+
+binary_fragment =61
+--
+null
+complete: false, lent alike: true
+OutsideContainer { method: Binary }: expected a fragment while buffering binary
+
+seq_begin -
+seq_value_end
+--
+seq_begin -
+seq_end
+complete: true, lent alike: true
+
+seq_begin -
+null
+--
+seq_begin -
+seq_end
+null
+complete: false, lent alike: true
+
+seq_begin -
+seq_value_begin
+bool true
+--
+seq_begin -
+seq_end
+seq_value_begin
+seq_value_end
+bool true
+complete: false, lent alike: true
+
+text_begin -
+text_fragment =61
+text_end
+text_fragment =62
+--
+text_begin 2
+text_fragment_computed =6162
+text_end
+complete: true, lent alike: true
+
+text_begin -
+null
+text_fragment =61
+--
+text_begin 0
+text_fragment =
+text_end
+null
+complete: false, lent alike: true
+OutsideContainer { method: Text }: expected a fragment while buffering text
+
+seq_begin 2
+seq_value_begin
+seq_begin 0
+seq_end
+seq_value_end
+seq_value_begin
+text_begin 1
+text_fragment =61
+text_end
+seq_value_end
+seq_end
+--
+the same
+complete: true, lent alike: true
+
+seq_begin -
+seq_value_begin
+i64 -7
+seq_value_end
+seq_end
+seq_end
+--
+seq_begin -
+seq_value_begin
+i64 -7
+seq_value_end
+seq_end
+complete: true, lent alike: true
+InvalidValue { reason: Unbalanced }: the value is invalid: unbalanced calls to `begin` and `end`
+
+seq_begin -
+seq_value_begin
+text_begin -
+text_fragment =61
+text_fragment_computed =62
+text_fragment =63
+text_end
+seq_value_end
+seq_end
+--
+seq_begin -
+seq_value_begin
+text_begin 3
+text_fragment_computed =616263
+text_end
+seq_value_end
+seq_end
+complete: true, lent alike: true
+
+tagged_begin RUST_UNIT =6b696e64 -
+seq_end
+--
+tagged_begin RUST_UNIT =6b696e64 -
+tagged_end RUST_UNIT =6b696e64 -
+complete: true, lent alike: true
+
+binary_begin -
+tag_hint NUMBER
+binary_fragment =6162
+binary_end
+--
+binary_begin 2
+binary_fragment =6162
+binary_end
+complete: true, lent alike: true"#;
+
+#[test]
+fn captures_calls(rt: HostRuntime) -> Result<(), Fail> {
+    agree(&rt, rt.alloc(), Look::Captured, CALLS)
+}
+
+/// Calls that are made again as they came: numbers, the containers with names, and calls with names that differ in one
+/// thing each, in turns.
+const NAMES: &'static str = r#"u8 255
+u16 65535
+u32 4294967295
+u64 18446744073709551615
+u128 18446744073709551616
+u128 340282366920938463463374607431768211455
+i8 -128
+i16 -32768
+i32 -2147483648
+i64 -9223372036854775808
+i128 -1
+i128 -170141183460469231731687303715884105728
+--
+the same
+complete: true, lent alike: true
+
+tuple_begin RUST_UNIT =7769647468 18446744073709551615 -
+tuple_value_begin - 18446744073709551615
+map_begin 1
+map_key_begin
+i8 -7
+map_key_end
+map_value_begin
+bool false
+map_value_end
+map_end
+tuple_value_end - 18446744073709551615
+tuple_end RUST_UNIT =7769647468 18446744073709551615
+record_tuple_begin RUST_UNIT =7769647468 18446744073709551615 -
+record_tuple_value_begin - =7769647468 18446744073709551615
+null
+record_tuple_value_end - =7769647468 18446744073709551615
+record_tuple_end RUST_UNIT =7769647468 18446744073709551615
+--
+the same
+complete: true, lent alike: true
+
+tag - =6964 -
+tag RUST_UNIT =6964 -
+tag RUST_UNIT =6964 -
+tag - =6964 -
+tag - - -
+tag - - -
+tag - =6964 -
+tag - =6164 -
+tag - =6164 -
+tag - =6964 -
+tag - =6964:VALUE_IDENT -
+tag - =6964:VALUE_IDENT -
+--
+the same
+complete: true, lent alike: true
+
+tag - =6964 0
+tag - =6964 -
+tag - =6964 -
+tag - =6964 0
+tag - =6964 1
+tag - =6964 1
+tag - =6964 0
+tag - =6964 0:VALUE_OFFSET
+tag - =6964 0:VALUE_OFFSET
+--
+the same
+complete: true, lent alike: true
+
+enum_begin - =6964 -
+enum_end - =6964 -
+tag - =6964 -
+tuple_begin - =6964 - 1
+tuple_end - =6964 -
+tuple_begin - =6964 - -
+tuple_end - =6964 -
+tuple_begin - =6964 - 1
+tuple_end - =6964 -
+--
+the same
+complete: true, lent alike: true"#;
+
+#[test]
+fn makes_calls_again(rt: HostRuntime) -> Result<(), Fail> {
+    agree(&rt, rt.alloc(), Look::Captured, NAMES)
+}
+
+/// A sequence of one item.
+const SEQ: &'static str = "seq_begin -\nseq_value_begin\nnull\nseq_value_end\nseq_end\n";
+
+#[test]
+fn collects_values(rt: HostRuntime) -> Result<(), Fail> {
+    let script = Script::read(rt.alloc(), SEQ.as_bytes())?;
+    let buffer = captured(rt.alloc(), &script);
+    let again: ValueBuf<'_> = ValueBuf::collect(rt.alloc(), &buffer)?;
+    assert!(rt; again.is_complete());
+    shows(&rt, script_of(rt.alloc(), &again)?.as_str(), SEQ);
+    Ok(())
+}
+
+#[test]
+fn forgets_calls(rt: HostRuntime) -> Result<(), Fail> {
+    let script = Script::read(rt.alloc(), b"seq_begin -\ntext_end\n")?;
+    let mut buffer = captured(rt.alloc(), &script);
+    buffer.clear();
+    shows(&rt, script_of(rt.alloc(), &buffer)?.as_str(), "null\n");
+    Ok(())
+}

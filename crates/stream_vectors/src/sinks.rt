@@ -1,0 +1,98 @@
+//! JSON that is written as it is, and what takes JSON.
+
+use crate::cases::shows;
+use crate::written::told;
+use std::alloc::Global;
+use std::test::Fail;
+use sval_json::{
+    CountSink, FaultySink, FixedSink, JsonStr, JsonString, TrickleSink, VecSink,
+    stream_to_fmt_write, stream_to_io_write, stream_to_json_str, stream_to_string, stream_to_vec,
+};
+
+#[test]
+fn writes_json_as_it_is(rt: HostRuntime) -> Result<(), Fail> {
+    let json = JsonString::boxed(String::from_str(rt.alloc(), "[1, 2]")?);
+    let text = json.as_json_str();
+    assert!(rt; text.is_text("[1, 2]") && text == JsonStr::from("[1, 2]"));
+    let mut sink = VecSink::new(rt.alloc());
+    stream_to_io_write(&mut sink, &text)?;
+    let shown = format!(in rt.alloc(); "{text} {}", str::from_utf8(sink.as_slice())?)?;
+    shows(&rt, shown.as_str(), "[1, 2] [1, 2]");
+    Ok(())
+}
+
+/// A JSON of 13 bytes.
+const FIELD: &'static str = "{\"field_0\":1}";
+
+#[test]
+fn takes_one_byte_a_call_and_counts(rt: HostRuntime) -> Result<(), Fail> {
+    let value = JsonStr::new(FIELD);
+    let mut sink = TrickleSink::new(rt.alloc());
+    let answer = stream_to_io_write(&mut sink, &value);
+    shows(
+        &rt,
+        told(rt.alloc(), sink.as_slice(), answer)?.as_str(),
+        FIELD,
+    );
+    let mut count = CountSink::new();
+    stream_to_io_write(&mut count, &value)?;
+    assert_eq!(rt; count.count(), 13);
+    Ok(())
+}
+
+/// What a sink over a buffer takes of the JSON, why not all, and what room is left.
+fn fitted(alloc: Global, buffer: &mut [u8]) -> Result<String, Fail> {
+    let mut sink = FixedSink::new(buffer);
+    let answer = stream_to_io_write(&mut sink, &JsonStr::new(FIELD));
+    let seen = told(alloc, sink.as_slice(), answer)?;
+    Ok(format!(in alloc; "{seen} {}", sink.room())?)
+}
+
+#[test]
+fn takes_what_fits(rt: HostRuntime) -> Result<(), Fail> {
+    let seen = fitted(rt.alloc(), &mut [0; 10])?;
+    let want = "IO: failed to write JSON, after `{\"field_0\"` 0";
+    shows(&rt, seen.as_str(), want);
+    let seen = fitted(rt.alloc(), &mut [0; 13])?;
+    shows(&rt, seen.as_str(), "{\"field_0\":1} 0");
+    Ok(())
+}
+
+#[test]
+fn fails_where_it_is_told_to(rt: HostRuntime) -> Result<(), Fail> {
+    let mut sink = FaultySink::new(rt.alloc(), 1, &[3]);
+    let answer = stream_to_io_write(&mut sink, &JsonStr::new(FIELD));
+    let seen = told(rt.alloc(), sink.as_slice(), answer)?;
+    shows(&rt, seen.as_str(), "IO: failed to write JSON, after `{\"`");
+    Ok(())
+}
+
+#[test]
+fn writes_the_same_to_all_targets(rt: HostRuntime) -> Result<(), Fail> {
+    let value = JsonStr::new(FIELD);
+    let bytes = stream_to_vec(rt.alloc(), &value)?;
+    shows(&rt, str::from_utf8(bytes.as_slice())?, FIELD);
+    shows(&rt, stream_to_string(rt.alloc(), &value)?.as_str(), FIELD);
+    let json = stream_to_json_str(rt.alloc(), &value)?;
+    shows(&rt, json.as_json_str().as_str(), FIELD);
+    Ok(())
+}
+
+#[test]
+fn writes_the_same_to_sinks(rt: HostRuntime) -> Result<(), Fail> {
+    let value = JsonStr::new(FIELD);
+    let mut sink = TrickleSink::new(rt.alloc());
+    let answer = stream_to_fmt_write(&mut sink, &value);
+    shows(
+        &rt,
+        told(rt.alloc(), sink.as_slice(), answer)?.as_str(),
+        FIELD,
+    );
+    let mut buffer = [0; 10];
+    let mut short = FixedSink::new(&mut buffer);
+    let answer = stream_to_fmt_write(&mut short, &value);
+    let seen = told(rt.alloc(), short.as_slice(), answer)?;
+    let want = "Generic: an error occurred serializing a value to JSON, after `{\"field_0\"`";
+    shows(&rt, seen.as_str(), want);
+    Ok(())
+}
