@@ -22,6 +22,8 @@ ghost use Rattle.logfmt.specs.Writing.{Gives, WritesText, nothing_written, writt
 mod writer;
 
 use std::alloc::Global;
+use std::error::Error;
+use std::fmt;
 use sval_core::{Lent, Value};
 use writer::LogfmtWriter;
 
@@ -39,6 +41,25 @@ pub enum LogfmtError {
     /// Memory was wanting.
     NoMemory,
 }
+
+impl fmt::Display for LogfmtError {
+    ghost use Rattle.std.specs.Prelude.{Some};
+    ghost use Rattle.logfmt.specs.ErrorTexts.{error_text};
+
+    ghost output = { λ error. Some (error_text error) };
+
+    fn fmt<W: fmt::Write>(&self, f: &mut fmt::Formatter<W>) -> fmt::Result {
+        f.write_str(match self {
+            LogfmtError::NotFlat => "the value is not a record of leaves",
+            LogfmtError::InvalidKey => "a key cannot stand in a line",
+            LogfmtError::Refused => "the value refused",
+            LogfmtError::Unfinished => "the calls are not one whole record",
+            LogfmtError::NoMemory => "cannot allocate for a line",
+        })
+    }
+}
+
+impl Error for LogfmtError {}
 
 /// The line of a value: `key=value` for each field of a record, with one space between each two.
 ///
