@@ -4,6 +4,8 @@ ghost use Rattle.std.specs.Prelude.{◌≡◌, OnOk, IfErr};
 ghost use Rattle.event_log.specs.Events.{unfit, HasJson, IsCause};
 
 use std::alloc::Global;
+use std::error::Error;
+use std::fmt;
 use sval_check::{CheckError, check};
 use sval_core::{Lent, Value};
 use sval_json::{CountSink, stream_to_io_write};
@@ -18,6 +20,23 @@ pub enum RecordError {
     /// Memory was wanting.
     NoMemory,
 }
+
+impl fmt::Display for RecordError {
+    ghost use Rattle.std.specs.Prelude.{Some};
+    ghost use Rattle.event_log.specs.ErrorTexts.{error_text};
+
+    ghost output = { λ error. Some (error_text error) };
+
+    fn fmt<W: fmt::Write>(&self, f: &mut fmt::Formatter<W>) -> fmt::Result {
+        f.write_str(match self {
+            RecordError::NotOneValue => "the event refused or is not one whole value",
+            RecordError::NoJson => "the event has no JSON",
+            RecordError::NoMemory => "cannot allocate for an event",
+        })
+    }
+}
+
+impl Error for RecordError {}
 
 /// Why a value that didn't pass the check is no event.
 fn unfit(error: CheckError) -> RecordError
