@@ -10,3 +10,4 @@ pub mod Serves
 pub mod Runs
 pub mod MadeLaws
 pub mod Laws
+pub mod ErrorTexts

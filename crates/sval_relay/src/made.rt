@@ -14,6 +14,8 @@ use crate::relaying::{RelayError, relay};
 use crate::way::Way;
 use itoa::Buffer;
 use std::alloc::Global;
+use std::error::Error;
+use std::fmt;
 use sval_core::{Label, Lending, Stream, tags};
 use sval_json::{Sink, SinkError, VecSink, write_all};
 use sval_script::Printer;
@@ -26,6 +28,22 @@ pub enum MadeError {
     /// Memory was wanting.
     NoMemory,
 }
+
+impl fmt::Display for MadeError {
+    ghost use Rattle.std.specs.Prelude.{Some};
+    ghost use Rattle.sval_relay.specs.ErrorTexts.{made_error_text};
+
+    ghost output = { λ error. Some (made_error_text error) };
+
+    fn fmt<W: fmt::Write>(&self, f: &mut fmt::Formatter<W>) -> fmt::Result {
+        f.write_str(match self {
+            MadeError::Write => "write fault",
+            MadeError::NoMemory => "out of memory",
+        })
+    }
+}
+
+impl Error for MadeError {}
 
 impl From<SinkError> for MadeError {
     ghost use Rattle.sval_relay.specs.Made.{made_error};

@@ -10,6 +10,8 @@ use crate::lists::write_list;
 use crate::trees::write_tree;
 use crate::way::{Task, Way};
 use std::alloc::Global;
+use std::error::Error;
+use std::fmt;
 use sval_check::{CheckError, check, check_all};
 use sval_json::{Sink, SinkError};
 use sval_script::{Script, ScriptError};
@@ -38,6 +40,29 @@ pub enum RelayError {
     /// Memory was wanting.
     NoMemory,
 }
+
+impl fmt::Display for RelayError {
+    ghost use Rattle.std.specs.Prelude.{Some};
+    ghost use Rattle.sval_relay.specs.ErrorTexts.{relay_error_text};
+
+    ghost output = { λ error. Some (relay_error_text error) };
+
+    fn fmt<W: fmt::Write>(&self, f: &mut fmt::Formatter<W>) -> fmt::Result {
+        match *self {
+            RelayError::BadLine { line } => write!(f, "line {line}: not a call"),
+            RelayError::BadCall { line } => {
+                write!(f, "line {line}: no value goes on with this call")
+            }
+            RelayError::Unfinished => f.write_str("the calls are not one whole value"),
+            RelayError::InvalidKey => f.write_str("attempt to serialize a non-string key"),
+            RelayError::InvalidNumber => f.write_str("attempt to serialize an invalid number"),
+            RelayError::Write => f.write_str("write fault"),
+            RelayError::NoMemory => f.write_str("out of memory"),
+        }
+    }
+}
+
+impl Error for RelayError {}
 
 impl From<ScriptError> for RelayError {
     ghost use Rattle.sval_relay.specs.Relays.{of_script};
