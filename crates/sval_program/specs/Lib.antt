@@ -6,3 +6,4 @@ pub mod Outputs
 pub mod Laws
 pub mod Statuses
 pub mod Reports
+pub mod ErrorTexts

@@ -8,6 +8,8 @@ use crate::line::Line;
 use crate::source::SourceError;
 use crate::{lines, status};
 use std::alloc::AllocError;
+use std::error::Error;
+use std::fmt;
 
 /// Why an input wasn't read.
 #[derive(Clone, Copy, Debug, PartialEq, Eq)]
@@ -43,6 +45,23 @@ impl InputError {
         }
     }
 }
+
+impl fmt::Display for InputError {
+    ghost use Rattle.std.specs.Prelude.{Some};
+    ghost use Rattle.sval_program.specs.ErrorTexts.{input_error_text};
+
+    ghost output = { λ error. Some (input_error_text error) };
+
+    fn fmt<W: fmt::Write>(&self, f: &mut fmt::Formatter<W>) -> fmt::Result {
+        f.write_str(match self {
+            Self::ReadFault => "read fault",
+            Self::TooLong => "the input is longer than 16777216 bytes",
+            Self::NoMemory => "out of memory",
+        })
+    }
+}
+
+impl Error for InputError {}
 
 impl From<AllocError> for InputError {
     ghost use Rattle.sval_program.specs.declared.input_error.InputError.TheVariants.{NoMemory};

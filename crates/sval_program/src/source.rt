@@ -3,6 +3,8 @@
 ghost use Rattle.std.specs.Prelude.{◌≡◌, ℕ, List, Ok, IfOk, min, drop, length};
 ghost use Rattle.sval_program.specs.Sources.{Supply, ReadsInto, in_memory};
 
+use std::error::Error;
+use std::fmt;
 use std::marker::Model;
 
 /// Why a source gave nothing.
@@ -11,6 +13,21 @@ pub enum SourceError {
     /// The source failed.
     Failed,
 }
+
+impl fmt::Display for SourceError {
+    ghost use Rattle.std.specs.Prelude.{Some};
+    ghost use Rattle.sval_program.specs.ErrorTexts.{source_error_text};
+
+    ghost output = { λ error. Some (source_error_text error) };
+
+    fn fmt<W: fmt::Write>(&self, f: &mut fmt::Formatter<W>) -> fmt::Result {
+        f.write_str(match self {
+            SourceError::Failed => "read fault",
+        })
+    }
+}
+
+impl Error for SourceError {}
 
 /// What bytes are read from, part by part. A source counts its faults, and the count never falls: so an error is one of
 /// this call.
