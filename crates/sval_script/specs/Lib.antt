@@ -17,3 +17,4 @@ pub mod MadeLines
 pub mod Readings
 pub mod Runs
 pub mod ReadLines
+pub mod ErrorTexts

@@ -3,6 +3,7 @@
 ghost use Rattle.std.specs.Prelude.{◌≡◌};
 ghost use Rattle.sval_script.specs.Printing.{print_error_of};
 
+use std::error::Error;
 use std::fmt;
 use sval_json::SinkError;
 
@@ -45,3 +46,5 @@ impl fmt::Display for PrintError {
         })
     }
 }
+
+impl Error for PrintError {}

@@ -13,6 +13,8 @@ use crate::reader::ScriptReader;
 use crate::slice::{ScriptSlice, make_lines};
 use crate::store::Store;
 use std::alloc::{AllocError, AllocFailed, Global};
+use std::error::Error;
+use std::fmt;
 use std::marker::Model;
 use sval_core::{Lent, Stream, Value};
 
@@ -24,6 +26,22 @@ pub enum ScriptError {
     /// There was no memory for the script, or one of its texts or binaries has 4 GiB or more.
     NoMemory,
 }
+
+impl fmt::Display for ScriptError {
+    ghost use Rattle.std.specs.Prelude.{Some};
+    ghost use Rattle.sval_script.specs.ErrorTexts.{script_error_text};
+
+    ghost output = { λ error. Some (script_error_text error) };
+
+    fn fmt<W: fmt::Write>(&self, f: &mut fmt::Formatter<W>) -> fmt::Result {
+        match *self {
+            ScriptError::BadLine { line } => write!(f, "line {line}: not a call"),
+            ScriptError::NoMemory => f.write_str("cannot allocate for a script"),
+        }
+    }
+}
+
+impl Error for ScriptError {}
 
 impl<T: Drop> From<AllocFailed<T>> for ScriptError {
     ghost from_gives = { λ _ r. r ≡ error.NoMemory };
