@@ -3,3 +3,4 @@ pub mod Rendered
 pub mod Shown
 pub mod Emissions
 pub mod Laws
+pub mod ErrorTexts

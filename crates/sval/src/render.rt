@@ -4,6 +4,9 @@ ghost use Rattle.std.specs.Prelude.{ℕ, List, Bool, Option};
 ghost use Rattle.std.specs.String.{string_bytes};
 ghost use Rattle.sval.specs.Rendered.{Renders};
 
+use std::error::Error;
+use std::fmt;
+
 /// Why a value wasn't printed, or not whole.
 #[derive(Clone, Copy, Debug, PartialEq, Eq)]
 pub enum RenderError {
@@ -12,6 +15,22 @@ pub enum RenderError {
     /// Memory was wanting.
     NoMemory,
 }
+
+impl fmt::Display for RenderError {
+    ghost use Rattle.std.specs.Prelude.{Some};
+    ghost use Rattle.sval.specs.ErrorTexts.{render_error_text};
+
+    ghost output = { λ error. Some (render_error_text error) };
+
+    fn fmt<W: fmt::Write>(&self, f: &mut fmt::Formatter<W>) -> fmt::Result {
+        f.write_str(match self {
+            RenderError::Format => "the value cannot be printed",
+            RenderError::NoMemory => "cannot allocate for a text",
+        })
+    }
+}
+
+impl Error for RenderError {}
 
 /// What prints itself as a text: the bound in place of std's `Display`, whose errors don't tell a value that can't be
 /// printed from memory that is wanting.

@@ -11,6 +11,8 @@ ghost use Rattle.sval.specs.Shown.{IsPrinted, CantRender, Shows, of_stream, frag
 
 use crate::render::{Render, RenderError};
 use std::alloc::Global;
+use std::error::Error;
+use std::fmt;
 use sval_core::{Lending, Lent, Stream, Tag, Value, tags};
 
 /// Why a printed value wasn't streamed.
@@ -23,6 +25,23 @@ pub enum DisplayError {
     /// Memory was wanting.
     NoMemory,
 }
+
+impl fmt::Display for DisplayError {
+    ghost use Rattle.std.specs.Prelude.{Some};
+    ghost use Rattle.sval.specs.ErrorTexts.{display_error_text};
+
+    ghost output = { λ error. Some (display_error_text error) };
+
+    fn fmt<W: fmt::Write>(&self, f: &mut fmt::Formatter<W>) -> fmt::Result {
+        f.write_str(match self {
+            DisplayError::Format => "the value cannot be printed",
+            DisplayError::Refused => "the stream refused a call",
+            DisplayError::NoMemory => "cannot allocate for a text",
+        })
+    }
+}
+
+impl Error for DisplayError {}
 
 /// A value that is shown by the text that it prints: a text whose size isn't given, in one computed fragment.
 ///
