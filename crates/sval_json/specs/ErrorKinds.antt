@@ -43,3 +43,8 @@ error_text kind.IO = codes "failed to write JSON"
 error_text kind.InvalidKey = codes "attempt to serialize a non-string key"
 error_text kind.InvalidNumber = codes "attempt to serialize an invalid number"
 error_text kind.NoMemory = codes "cannot allocate for JSON"
+
+-- what a sink's error says
+abbrev pub sink_error_text : SinkError → List ℕ
+sink_error_text Failed = codes "write fault"
+sink_error_text NoMemory = codes "out of memory"

@@ -6,6 +6,8 @@ ghost use Rattle.sval_json.specs.Sinks.{Told, Writes, Flushes, WritesAll};
 ghost use Rattle.sval_json.specs.Taken.{Taken, taken_told};
 
 use std::alloc::Global;
+use std::error::Error;
+use std::fmt;
 use std::marker::Model;
 
 /// Why a sink declined a call.
@@ -16,6 +18,22 @@ pub enum SinkError {
     /// The sink had no memory.
     NoMemory,
 }
+
+impl fmt::Display for SinkError {
+    ghost use Rattle.std.specs.Prelude.{Some};
+    ghost use Rattle.sval_json.specs.ErrorKinds.{sink_error_text};
+
+    ghost output = { λ error. Some (sink_error_text error) };
+
+    fn fmt<W: fmt::Write>(&self, f: &mut fmt::Formatter<W>) -> fmt::Result {
+        f.write_str(match self {
+            SinkError::Failed => "write fault",
+            SinkError::NoMemory => "out of memory",
+        })
+    }
+}
+
+impl Error for SinkError {}
 
 /// A place that bytes are written to, piece by piece.
 ///
