@@ -10,3 +10,4 @@ pub mod ManyChecks
 pub mod Listing
 pub mod Tokens
 pub mod TokenBufs
+pub mod ErrorTexts

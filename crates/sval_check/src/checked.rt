@@ -13,6 +13,7 @@ ghost use Rattle.sval_check.specs.Checked.{CheckedView, Passes, StandsFor, check
 use crate::machine::{Machine, Refusal};
 use crate::measured::Measured;
 use std::alloc::Global;
+use std::fmt;
 use sval_core::{AnyCall, Error, Stream};
 
 /// Why a [`Checked`] refused a call.
@@ -25,6 +26,23 @@ pub enum Why {
     /// The inner stream refused the call.
     Inner,
 }
+
+impl fmt::Display for Why {
+    ghost use Rattle.std.specs.Prelude.{Some};
+    ghost use Rattle.sval_check.specs.ErrorTexts.{why_text};
+
+    ghost output = { λ error. Some (why_text error) };
+
+    fn fmt<W: fmt::Write>(&self, f: &mut fmt::Formatter<W>) -> fmt::Result {
+        f.write_str(match self {
+            Why::NotViable => "no value goes on with the call",
+            Why::NoMemory => "cannot allocate for a check",
+            Why::Inner => "the inner stream refused the call",
+        })
+    }
+}
+
+impl std::error::Error for Why {}
 
 impl From<Refusal> for Why {
     ghost use Rattle.sval_check.specs.Checked.{why_of};

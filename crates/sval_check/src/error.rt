@@ -1,5 +1,8 @@
 //! Why a value was not accepted.
 
+use std::error::Error;
+use std::fmt;
+
 /// Why a value's calls were not accepted as one whole value by [`check`](crate::check), or as a list of them by
 /// [`check_all`](crate::check_all).
 #[derive(Clone, Copy, Debug, PartialEq, Eq)]
@@ -17,3 +20,21 @@ pub enum CheckError {
     /// Memory was wanting.
     NoMemory,
 }
+
+impl fmt::Display for CheckError {
+    ghost use Rattle.std.specs.Prelude.{Some};
+    ghost use Rattle.sval_check.specs.ErrorTexts.{check_error_text};
+
+    ghost output = { λ error. Some (check_error_text error) };
+
+    fn fmt<W: fmt::Write>(&self, f: &mut fmt::Formatter<W>) -> fmt::Result {
+        match *self {
+            CheckError::BadCall { at } => write!(f, "no value goes on with call {at}"),
+            CheckError::Refused => f.write_str("the value refused"),
+            CheckError::Unfinished => f.write_str("the calls are unfinished"),
+            CheckError::NoMemory => f.write_str("cannot allocate for a check"),
+        }
+    }
+}
+
+impl Error for CheckError {}

@@ -23,6 +23,8 @@ use crate::kept::NamedValue;
 use crate::measured::Measured;
 use crate::stack::Stack;
 use std::alloc::Global;
+use std::error::Error;
+use std::fmt;
 use std::marker::Model;
 use sval_core::{AnyCall, Fragment, GroupedCall, Head, Name, Slot};
 
@@ -34,6 +36,22 @@ pub enum Refusal {
     /// One does, the call begins something, and memory was wanting to keep that.
     NoMemory,
 }
+
+impl fmt::Display for Refusal {
+    ghost use Rattle.std.specs.Prelude.{Some};
+    ghost use Rattle.sval_check.specs.ErrorTexts.{refusal_text};
+
+    ghost output = { λ error. Some (refusal_text error) };
+
+    fn fmt<W: fmt::Write>(&self, f: &mut fmt::Formatter<W>) -> fmt::Result {
+        f.write_str(match self {
+            Refusal::NotViable => "no value goes on with the call",
+            Refusal::NoMemory => "cannot allocate for a check",
+        })
+    }
+}
+
+impl Error for Refusal {}
 
 /// What is still to be done for a call that [`Machine::ready`] made ready: by [`Machine::finish`] where the call is taken,
 /// by [`Machine::undo`] where it isn't.
