@@ -29,6 +29,8 @@ impl fmt::Display for Error {
     }
 }
 
+impl std::error::Error for Error {}
+
 /// What a call answers: nothing, or a refusal.
 pub type Result<T = (), E = Error> = std::result::Result<T, E>;
 
@@ -44,3 +46,15 @@ pub fn refusal<T>() -> Result<T>
 /// Memory was wanting, in a call that can fail in no other way.
 #[derive(Clone, Copy, Debug, PartialEq, Eq)]
 pub struct NoMemory;
+
+impl fmt::Display for NoMemory {
+    ghost use Rattle.std.specs.Prelude.{Some, codes};
+
+    ghost output = { λ _. Some (codes "out of memory") };
+
+    fn fmt<W: fmt::Write>(&self, f: &mut fmt::Formatter<W>) -> fmt::Result {
+        f.write_str("out of memory")
+    }
+}
+
+impl std::error::Error for NoMemory {}
