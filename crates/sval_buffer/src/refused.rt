@@ -1,5 +1,6 @@
 //! What a call that takes a value hands back where it is refused.
 
+ghost use Rattle.std.specs.Prelude.{◌≡◌};
 ghost use Rattle.sval_buffer.specs.Capture.{IsNoAlloc};
 
 use crate::error::{Error, ErrorKind, Word};
@@ -11,6 +12,14 @@ pub struct Refused<T> {
     pub value: T,
     /// Why the call was refused.
     pub error: Error,
+}
+
+impl<T: Drop> From<Refused<T>> for Error {
+    ghost from_gives = { λ refused error. error ≡ refused.error };
+
+    fn from(refused: Refused<T>) -> Error {
+        refused.error
+    }
 }
 
 /// Says that there was no memory for the parts of a value.

@@ -160,7 +160,7 @@ impl<'sval, N: CallStore> AnyValueBuf<'sval, N> {
     /// wanting, and then the buffer is handed back as it was.
     ///
     /// ```
-    /// let owned = ValueBuf::collect(alloc, &value)?.into_owned().map_err(|refused| refused.error)?;
+    /// let owned = ValueBuf::collect(alloc, &value)?.into_owned()?;
     /// stream.value(&owned)?;
     /// ```
     #[tactic(auto, using(crate::proofs::OwnedForest::replay_computed))]
