@@ -1,5 +1,6 @@
 //! Why CBOR wasn't written.
 
+use std::error::Error;
 use std::fmt;
 use sval_json::SinkError;
 
@@ -45,6 +46,8 @@ impl fmt::Display for CborError {
         })
     }
 }
+
+impl Error for CborError {}
 
 /// Why a step of the writer refuses a call.
 #[derive(Clone, Copy)]

@@ -9,6 +9,7 @@ use crate::node::Node;
 use crate::node_calls::stream_nodes;
 use crate::reader::Reader;
 use std::alloc::Global;
+use std::error::Error;
 use std::fmt;
 use std::marker::Model;
 use sval_core::{Lent, Result as StreamResult, Stream, Value};
@@ -36,6 +37,8 @@ impl fmt::Display for CborReadError {
         })
     }
 }
+
+impl Error for CborReadError {}
 
 /// An item that was read, seen as its calls.
 ///

@@ -6,6 +6,7 @@ ghost use Rattle.sval_filter.specs.SeenPaths.{labels_in, paths_in};
 ghost use Rattle.sval_filter.specs.PathErrors.{Adds, AddsLabel, AddsWord};
 
 use std::alloc::{AllocError, Global};
+use std::error::Error;
 use std::fmt;
 use std::marker::Model;
 
@@ -43,6 +44,8 @@ impl fmt::Display for PathError {
         })
     }
 }
+
+impl Error for PathError {}
 
 /// Paths of labels, each of at least one, seen as a list of paths. A label is its text.
 ///

@@ -9,6 +9,7 @@ use crate::filter::Filter;
 use crate::paths::{Paths, Rule};
 use crate::readable::Readable;
 use std::alloc::Global;
+use std::error::Error;
 use std::fmt;
 use sval_buffer::{AnyValue, AnyValueBuf, CallStore};
 use sval_check::{CheckError, check};
@@ -39,6 +40,8 @@ impl fmt::Display for PruneError {
         })
     }
 }
+
+impl Error for PruneError {}
 
 /// A copy of a value with what a rule and paths leave of it.
 ///

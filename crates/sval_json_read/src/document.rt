@@ -13,6 +13,7 @@ use crate::node_calls::stream_nodes;
 use crate::reader::Reader;
 use simdutf8::compat::from_utf8;
 use std::alloc::Global;
+use std::error::Error;
 use std::fmt;
 use std::marker::Model;
 use sval_core::{Lent, Result as StreamResult, Stream, Value};
@@ -48,6 +49,8 @@ impl fmt::Display for ReadError {
         }
     }
 }
+
+impl Error for ReadError {}
 
 /// A text that was read, seen as its calls.
 ///
