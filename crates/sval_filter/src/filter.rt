@@ -1,9 +1,14 @@
 //! The filter as a stream.
 
-ghost use Rattle.std.specs.Prelude.{◌≡◌, ◌≤◌, [], None, Some};
+ghost use Rattle.std.specs.Prelude.{◌≡◌, ◌≤◌, List, [], None, Some};
+ghost use Rattle.std.specs.Bool.{Decides};
+ghost use Rattle.sval_label.specs.Calls.{Call};
 ghost use Rattle.sval_label.specs.Made.{call_of};
 ghost use Rattle.sval_core.specs.Law.{Answers};
 ghost use Rattle.sval_core.specs.CheckerSteps.{is_whole_tree, unfilled};
+ghost use Rattle.sval_core.specs.Spells.{Spells};
+ghost use Rattle.sval_core.specs.Trees.{Tree};
+ghost use Rattle.sval_check.specs.Checked.{StandsFor};
 ghost use Rattle.sval_filter.specs.Filtering.{fresh};
 ghost use Rattle.sval_filter.specs.FilterLaw.{Ruled, wants_after, is_stopped, ruled_law, ruled_standing};
 ghost use Rattle.sval_filter.specs.SeenFilters.{ruled_of, rule_in, paths_of, state_in, kept_in, stream_in, why_in, wants_in, why_by, Filters};
@@ -73,7 +78,9 @@ impl<'p, S> Filter<'p, S> {
 
     /// Whether the calls that were taken are one whole value.
     pub fn is_whole(&self) -> bool
-        ensures { result ≡ is_whole_tree (state_in self.now) }
+        ensures state { result ≡ is_whole_tree (state_in self.now) }
+        ensures spells { (calls : List Call) → StandsFor (state_in self.now) calls
+            → Decides result ((tree : Tree) × Spells calls tree) }
     {
         self.machine.is_whole()
     }

@@ -1,0 +1,12 @@
+use Rattle.std.proofs.Common.{sym, subst}
+use Rattle.std.specs.Bool.{Decides}
+use Rattle.std.specs.Prelude.{Bool}
+use Rattle.sval_core.specs.Spells.{Spells}
+use Rattle.sval_core.specs.Trees.{Tree}
+use Rattle.sval_core.proofs.StepLaws.{whole_decides}
+use Rattle.sval_filter.specs.SeenFilters.{state_in}
+use Rattle.sval_filter.proofs.filter.Filter.is_whole.Goals as goal
+
+pub returns-clause-spells : goal.returns-clause-spells
+returns-clause-spells g c calls so_far =
+    subst (λ (whole : Bool). Decides whole ((tree : Tree) × Spells calls tree)) (sym c.is_whole.ensures) (whole_decides calls (state_in c.args.self.now) so_far.keeps)
