@@ -1,0 +1,7 @@
+//! The reader and the writer of CBOR.
+
+mod depth;
+mod items;
+mod malformed;
+mod sinks;
+mod written;

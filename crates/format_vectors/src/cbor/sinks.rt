@@ -1,0 +1,22 @@
+//! Sinks that fail, and that are just large enough.
+
+use std::test::Fail;
+use sval_cbor::{CborError, stream_to_cbor};
+use sval_json::{FaultySink, FixedSink};
+use sval_script::Script;
+
+/// The text `abc`.
+const TEXT: &'static [u8] = b"text_begin -\ntext_fragment =616263\ntext_end\n";
+
+#[test]
+fn sinks_that_decline(rt: HostRuntime) -> Result<(), Fail> {
+    let value = Script::read(rt.alloc(), TEXT)?;
+    let mut faulty = FaultySink::new(rt.alloc(), 1, &[3]);
+    let answer = stream_to_cbor(rt.alloc(), &mut faulty, &value);
+    assert!(rt; answer == Err(CborError::Write) && faulty.as_slice() == b"ca".as_slice());
+    let mut buffer = [0; 4];
+    let mut fixed = FixedSink::new(&mut buffer);
+    stream_to_cbor(rt.alloc(), &mut fixed, &value)?;
+    assert!(rt; fixed.as_slice() == b"cabc".as_slice());
+    Ok(())
+}

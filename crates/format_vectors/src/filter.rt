@@ -1,0 +1,5 @@
+//! The filter of fields.
+
+mod paths;
+mod refused;
+mod values;

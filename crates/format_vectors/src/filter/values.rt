@@ -1,0 +1,129 @@
+//! Values that are pruned.
+
+use std::alloc::Global;
+use std::process::Abort;
+use std::test::Fail;
+use sval_filter::{Paths, PruneError, Rule, prune};
+use sval_json::stream_to_string;
+use sval_script::Script;
+
+/// Scripts, and below each, behind arrows, words and what they leave of its value as JSON, or why nothing is left. Words
+/// are those of the program: a rule, and paths.
+const LEFT: &'static str = r#"record_begin - - - 3
+record_value_begin - =6669656c645f30
+i64 1
+record_value_end - =6669656c645f30
+record_value_begin - =6669656c645f31
+bool true
+record_value_end - =6669656c645f31
+record_value_begin - =6669656c645f32
+text_begin -
+text_fragment =736f6d652074657874
+text_end
+record_value_end - =6669656c645f32
+record_end - - -
+-> drop field_1: {"field_0":1,"field_2":"some text"}
+-> keep field_2: {"field_2":"some text"}
+-> keep none: {}
+-> drop field: {"field_0":1,"field_1":true,"field_2":"some text"}
+-> drop field_0.a: {"field_0":1,"field_1":true,"field_2":"some text"}
+-> drop: {"field_0":1,"field_1":true,"field_2":"some text"}
+
+enum_begin - - -
+record_begin - =56 - 1
+record_value_begin - =61
+i64 1
+record_value_end - =61
+record_end - =56 -
+enum_end - - -
+-> drop a: {"V":{}}
+-> drop a.b: {"V":{"a":1}}
+
+map_begin 1
+map_key_begin
+text_begin -
+text_fragment =6b
+text_end
+map_key_end
+map_value_begin
+record_begin - - - 1
+record_value_begin - =61
+i64 1
+record_value_end - =61
+record_end - - -
+map_value_end
+map_end
+-> drop k: {}
+-> drop k.a: {"k":{}}
+
+map_begin 1
+map_key_begin
+tag - =6b -
+map_key_end
+map_value_begin
+record_begin - - - 1
+record_value_begin - =61
+i64 1
+record_value_end - =61
+record_end - - -
+map_value_end
+map_end
+-> drop k: {"k":{"a":1}}
+-> keep k: {}
+
+-> drop: NotATree
+
+seq_begin -
+-> drop: NotATree
+
+null
+null
+-> drop: NotATree
+
+seq_end
+-> drop: NotATree"#;
+
+/// What words leave of the value of a script.
+fn left(alloc: Global, lines: &str, words: &str) -> Result<String, Fail> {
+    let script = Script::read(alloc, lines.as_bytes())?;
+    let (rule, paths) = rule_and_paths(alloc, words)?;
+    let pruned: Result<sval_buffer::Value<'_>, PruneError> = prune(alloc, &script, rule, &paths);
+    match pruned {
+        Ok(value) => Ok(stream_to_string(alloc, &value)?),
+        Err(error) => Ok(format!(in alloc; "{error:?}")?),
+    }
+}
+
+/// The rule and the paths of these words.
+fn rule_and_paths(alloc: Global, words: &str) -> Result<(Rule, Paths), Fail> {
+    let mut paths = Paths::new(alloc);
+    let mut words = words.split(' ');
+    let rule = match words.next() {
+        Some("drop") => Rule::Drop,
+        _ => Rule::Keep,
+    };
+    for word in words {
+        paths.push_word(word)?;
+    }
+    Ok((rule, paths))
+}
+
+/// Tries the words below a script.
+fn try_script(rt: &impl Abort, alloc: Global, part: &str) -> Result<(), Fail> {
+    let mut pieces = part.split("-> ");
+    let script = pieces.next().unwrap_or("");
+    for piece in pieces {
+        let (words, wanted) = piece.trim_end().split_once(": ").ok_or("no colon")?;
+        let left = left(alloc, script, words)?;
+        assert_eq!(rt; left.as_str(), wanted, "{words}");
+    }
+    Ok(())
+}
+
+#[test]
+fn values_that_are_pruned(rt: HostRuntime) -> Result<(), Fail> {
+    for part in LEFT.split("\n\n") {
+        try_script(&rt, rt.alloc(), part)?;
+    }
+    Ok(())
+}

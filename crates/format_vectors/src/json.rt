@@ -1,0 +1,4 @@
+//! The reader of JSON.
+
+mod depth;
+mod documents;

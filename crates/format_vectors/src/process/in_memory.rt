@@ -1,0 +1,52 @@
+//! A process whose words and streams are in memory.
+
+use crate::process::row::Row;
+use std::alloc::Global;
+use std::env::FillError;
+use std::process::{Abort, ExitCode};
+use std::rt::Env;
+use sval_program::{Program, run_process};
+
+/// A process with these words, the program's name first.
+#[derive(Drop)]
+struct Process<'a> {
+    words: &'a [Vec<u8>],
+}
+
+impl<'a> Env for Process<'a> {
+    fn arg(&self, i: usize, buf: &mut [u8]) -> Result<usize, FillError> {
+        let Some(word) = self.words.get(i) else {
+            return Err(FillError::NotPresent);
+        };
+        let word = word.as_slice();
+        let Some(place) = buf.get_mut(..word.len()) else {
+            return Err(FillError::TooLong);
+        };
+        place.copy_from_slice(word);
+        Ok(word.len())
+    }
+
+    fn var(&self, _name: &str, _buf: &mut [u8]) -> Result<usize, FillError> {
+        Err(FillError::NotPresent)
+    }
+
+    fn var_at(&self, _i: usize, _buf: &mut [u8]) -> Result<usize, FillError> {
+        Err(FillError::NotPresent)
+    }
+}
+
+/// Runs a program in a process, and compares what comes of it with the row.
+pub(crate) fn try_process<P: Program>(rt: &impl Abort, alloc: Global, row: &Row) {
+    let mut stdout = Vec::new(alloc);
+    let mut stderr = Vec::new(alloc);
+    let words = row.words.as_slice();
+    let input = row.input.as_slice();
+    let env = (Process { words }, alloc);
+    let status = run_process::<P, _, _, _, _>(&env, input, &mut stdout, &mut stderr);
+    assert!(rt;
+        status == ExitCode::from(row.status)
+            && stdout.as_slice() == row.written.as_slice()
+            && stderr.as_slice() == row.line.as_slice(),
+        "{words:?}: {status:?} {stdout:?} {stderr:?}"
+    );
+}
