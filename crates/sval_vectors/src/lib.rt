@@ -1,31 +1,31 @@
-//! Lists of calls as values, and the tests that cross crates.
-//!
-//! A [`Said`] makes the calls of a list, whatever they are, so that a stream can be tested with calls that spell no
-//! value.
+//! The tests that cross crates: scripts and what is answered for them, the program over any devices, sinks, and hostile
+//! use: devices that give and take little, or fail at any call; inputs at the limit of what is read; long and deep
+//! values; and calls that no value goes on with.
 #![tactic(auto)]
 
 #[cfg(test)]
-mod canonical;
+mod calls;
 #[cfg(test)]
-mod checked;
+mod captured;
 #[cfg(test)]
-mod named_calls;
+mod fakes;
+#[cfg(test)]
+mod forms;
+#[cfg(test)]
+mod hostile;
+#[cfg(test)]
+mod pictures;
 #[cfg(test)]
 mod printing;
-#[cfg(test)]
-mod reading;
 #[cfg(test)]
 mod real_sinks;
 #[cfg(test)]
 mod relay;
-mod said;
+#[cfg(test)]
+mod rows;
 #[cfg(test)]
 mod scripts;
 #[cfg(test)]
 mod sinks;
 #[cfg(test)]
 mod slices;
-#[cfg(test)]
-mod written;
-
-pub use said::{PlainCall, Said};

@@ -1,11 +1,12 @@
 //! Std's writers, and writers that work late or never.
 
-use crate::said::{PlainCall as Call, Said};
+use crate::sinks::answer_of;
 use std::alloc::Global;
 use std::io;
 use std::io::{Cursor, Write};
 use std::test::Fail;
-use sval_json::{ErrorKind, RealSink, Sink, SinkError, stream_to_io_write};
+use sval_core::Null;
+use sval_json::{RealSink, Sink, SinkError};
 
 /// A writer whose first calls fail, or take nothing where no kind of error is given.
 #[derive(Drop)]
@@ -57,70 +58,95 @@ impl Write for Late {
     }
 }
 
-#[test]
-fn makes_interrupted_calls_again(rt: HostRuntime) {
-    let interrupted = Some(io::ErrorKind::Interrupted);
-    let denied = Some(io::ErrorKind::PermissionDenied);
-    let blocked = Some(io::ErrorKind::WouldBlock);
-    let late = Some(io::ErrorKind::TimedOut);
-    let broken = Some(io::ErrorKind::BrokenPipe);
-    let nothing = Some(io::ErrorKind::WriteZero);
-    // calls that come to nothing, how they do, the last error, and how many such calls are left
-    let table = [
-        (0, None, None, 0),
-        (2, interrupted, None, 0),
-        (999, interrupted, None, 0),
-        (1000, interrupted, interrupted, 0),
-        (5000, interrupted, interrupted, 4000),
-        (2, denied, denied, 1),
-        (2, blocked, blocked, 1),
-        (2, late, late, 1),
-        (2, broken, broken, 1),
-        (2, None, nothing, 1),
-    ];
-    for (delay, kind, last_error, left) in table {
-        let mut writer = Late::new(rt.alloc(), delay, kind);
-        let mut sink = RealSink::new(&mut writer);
-        let answer = stream_to_io_write(&mut sink, &Said::willing(&[Call::Null]));
-        let want = match last_error {
-            None => Ok(()),
-            Some(_) => Err(ErrorKind::IO),
-        };
-        assert_eq!(rt;
-            answer.map_err(|error| error.kind()),
-            want,
-            "{delay} calls {kind:?}"
-        );
-        assert_eq!(rt; sink.last_error(), last_error, "{delay} calls {kind:?}");
-        assert_eq!(rt; writer.delay, left, "{delay} calls {kind:?}");
-        let taken: &[u8] = if last_error.is_none() { b"null" } else { b"" };
-        assert_eq!(rt; writer.taken.as_slice(), taken, "{delay} calls {kind:?}");
-    }
+/// How many calls come to nothing, how they do, and what is told of writing a null and of flushing: the answer, the last
+/// error, how many such calls are left, and what was written.
+const LATE: [(u32, Option<io::ErrorKind>, &'static str, &'static str); 10] = [
+    (0, None, "Ok, None, 0 left: null", "Ok(()), None, 0 left"),
+    (
+        2,
+        Some(io::ErrorKind::Interrupted),
+        "Ok, None, 0 left: null",
+        "Ok(()), None, 0 left",
+    ),
+    (
+        999,
+        Some(io::ErrorKind::Interrupted),
+        "Ok, None, 0 left: null",
+        "Ok(()), None, 0 left",
+    ),
+    (
+        1000,
+        Some(io::ErrorKind::Interrupted),
+        "IO, Some(Interrupted), 0 left: ",
+        "Err(Failed), Some(Interrupted), 0 left",
+    ),
+    (
+        5000,
+        Some(io::ErrorKind::Interrupted),
+        "IO, Some(Interrupted), 4000 left: ",
+        "Err(Failed), Some(Interrupted), 4000 left",
+    ),
+    (
+        2,
+        Some(io::ErrorKind::PermissionDenied),
+        "IO, Some(PermissionDenied), 1 left: ",
+        "Err(Failed), Some(PermissionDenied), 1 left",
+    ),
+    (
+        2,
+        Some(io::ErrorKind::WouldBlock),
+        "IO, Some(WouldBlock), 1 left: ",
+        "Err(Failed), Some(WouldBlock), 1 left",
+    ),
+    (
+        2,
+        Some(io::ErrorKind::TimedOut),
+        "IO, Some(TimedOut), 1 left: ",
+        "Err(Failed), Some(TimedOut), 1 left",
+    ),
+    (
+        2,
+        Some(io::ErrorKind::BrokenPipe),
+        "IO, Some(BrokenPipe), 1 left: ",
+        "Err(Failed), Some(BrokenPipe), 1 left",
+    ),
+    (
+        2,
+        None,
+        "IO, Some(WriteZero), 1 left: ",
+        "Ok(()), None, 1 left",
+    ),
+];
+
+/// What is told of writing a null over a late writer.
+fn told_of_writing(alloc: Global, mut writer: Late) -> Result<String, Fail> {
+    let mut sink = RealSink::new(&mut writer);
+    let answer = answer_of(alloc, &mut sink, &Null)?;
+    let error = sink.last_error();
+    drop(sink);
+    let taken = std::str::from_utf8(&writer.taken)?;
+    Ok(format!(in alloc; "{answer}, {error:?}, {} left: {taken}", writer.delay)?)
 }
 
+/// What is told of flushing a late writer.
+fn told_of_flushing(alloc: Global, mut writer: Late) -> Result<String, Fail> {
+    let mut sink = RealSink::new(&mut writer);
+    let answer = sink.flush();
+    let error = sink.last_error();
+    drop(sink);
+    Ok(format!(in alloc; "{answer:?}, {error:?}, {} left", writer.delay)?)
+}
+
+/// Interrupted calls are made again, up to 1,000 times, and others aren't.
 #[test]
-fn flushes_again_after_interrupts(rt: HostRuntime) {
-    let interrupted = Some(io::ErrorKind::Interrupted);
-    let denied = Some(io::ErrorKind::PermissionDenied);
-    let blocked = Some(io::ErrorKind::WouldBlock);
-    let late = Some(io::ErrorKind::TimedOut);
-    // calls that fail, how they do, the answer, the last error, and how many such calls are left
-    let table = [
-        (2, interrupted, Ok(()), None, 0),
-        (999, interrupted, Ok(()), None, 0),
-        (1000, interrupted, Err(SinkError::Failed), interrupted, 0),
-        (5000, interrupted, Err(SinkError::Failed), interrupted, 4000),
-        (2, denied, Err(SinkError::Failed), denied, 1),
-        (2, blocked, Err(SinkError::Failed), blocked, 1),
-        (2, late, Err(SinkError::Failed), late, 1),
-    ];
-    for (delay, kind, want, last_error, left) in table {
-        let mut writer = Late::new(rt.alloc(), delay, kind);
-        let mut sink = RealSink::new(&mut writer);
-        assert_eq!(rt; sink.flush(), want, "{delay} calls {kind:?}");
-        assert_eq!(rt; sink.last_error(), last_error, "{delay} calls {kind:?}");
-        assert_eq!(rt; writer.delay, left, "{delay} calls {kind:?}");
+fn late_writers(rt: HostRuntime) -> Result<(), Fail> {
+    for (delay, kind, writing, flushing) in LATE {
+        let seen = told_of_writing(rt.alloc(), Late::new(rt.alloc(), delay, kind))?;
+        assert_eq!(rt; seen.as_str(), writing);
+        let seen = told_of_flushing(rt.alloc(), Late::new(rt.alloc(), delay, kind))?;
+        assert_eq!(rt; seen.as_str(), flushing);
     }
+    Ok(())
 }
 
 #[test]
@@ -128,49 +154,35 @@ fn flushes_after_a_fault(rt: HostRuntime) {
     let denied = Some(io::ErrorKind::PermissionDenied);
     let mut writer = Late::new(rt.alloc(), 1, denied);
     let mut sink = RealSink::new(&mut writer);
-    assert_eq!(rt; sink.write(b"a"), Err(SinkError::Failed));
-    assert_eq!(rt; sink.flush(), Ok(()));
-    assert_eq!(rt; sink.write(b"b"), Ok(1));
-    assert_eq!(rt; sink.flush(), Ok(()));
-    assert_eq!(rt; sink.last_error(), denied);
-    assert_eq!(rt; writer.flushes, 2);
-    assert_eq!(rt; writer.taken.as_slice(), b"b".as_slice());
+    assert!(rt; sink.write(b"a") == Err(SinkError::Failed) && sink.flush() == Ok(()));
+    assert!(rt; sink.write(b"b") == Ok(1) && sink.flush() == Ok(()));
+    assert!(rt; sink.last_error() == denied);
+    drop(sink);
+    assert!(rt; writer.flushes == 2 && writer.taken.as_slice() == b"b".as_slice());
 }
 
-/// A piece is passed to the writer whole, by one call.
+/// A piece is passed to the writer whole, by one call, and an empty one by none.
 #[test]
 fn passes_a_piece_whole(rt: HostRuntime) -> Result<(), Fail> {
     let piece = vec![in rt.alloc(); b'a'; 100_000]?;
     let mut writer = Late::new(rt.alloc(), 0, None);
-    assert_eq!(rt;
-        RealSink::new(&mut writer).write(piece.as_slice()),
-        Ok(100_000)
-    );
-    assert_eq!(rt; writer.pieces, 1);
-    Ok(())
-}
-
-#[test]
-fn takes_an_empty_piece(rt: HostRuntime) {
+    let taken = RealSink::new(&mut writer).write(piece.as_slice());
+    assert!(rt; taken == Ok(100_000) && writer.pieces == 1);
     let mut sink = RealSink::new(Late::new(rt.alloc(), 1, None));
-    assert_eq!(rt; sink.write(b""), Ok(0));
-    assert_eq!(rt; sink.last_error(), None);
+    assert!(rt; sink.write(b"") == Ok(0) && sink.last_error().is_none());
+    Ok(())
 }
 
 #[test]
 fn writes_to_memory(rt: HostRuntime) -> Result<(), Fail> {
     let mut bytes: Vec<u8> = Vec::new(rt.alloc());
-    stream_to_io_write(
-        &mut RealSink::new(&mut bytes),
-        &Said::willing(&[Call::I64(-7)]),
-    )?;
-    assert_eq!(rt; bytes.as_slice(), b"-7".as_slice());
-
+    let answer = answer_of(rt.alloc(), &mut RealSink::new(&mut bytes), &-7i64)?;
+    assert!(rt; answer.as_str() == "Ok" && bytes.as_slice() == b"-7".as_slice());
     let mut full = Cursor::new([0u8; 4]);
     let mut sink = RealSink::new(&mut full);
-    let answer = stream_to_io_write(&mut sink, &Said::willing(&[Call::Bool(false)]));
-    assert_eq!(rt; answer.map_err(|error| error.kind()), Err(ErrorKind::IO));
-    assert_eq!(rt; sink.last_error(), Some(io::ErrorKind::WriteZero));
+    let answer = answer_of(rt.alloc(), &mut sink, &false)?;
+    let error = sink.last_error();
+    assert!(rt; answer.as_str() == "IO" && error == Some(io::ErrorKind::WriteZero));
     assert_eq!(rt; full.into_inner(), *b"fals");
     Ok(())
 }

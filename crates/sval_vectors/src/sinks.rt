@@ -1,185 +1,171 @@
-//! Sinks that take little, or stop.
+//! Sinks that take little, stop, or hold back what they take, and a value that refuses.
 
-ghost use Rattle.std.specs.Prelude.{◌+◌, Some, None};
+ghost use Rattle.std.specs.Prelude.{◌∷◌, [], true};
+ghost use Rattle.sval_label.specs.Calls as call;
 
-use crate::said::{PlainCall as Call, Said};
-use std::alloc::Global;
+use crate::fakes::{Balky, HoldingSink};
+use crate::forms::{INSIDE, run_over};
+use std::alloc::{AllocError, Global};
 use std::test::Fail;
-use sval_json::{ErrorKind, FixedSink, Sink, SinkError, VecSink, stream_to_io_write, write_all};
-
-/// A sink in memory that counts its calls, and may take one byte a call, or stop at a call.
-#[derive(Drop)]
-struct Balky {
-    taken: VecSink,
-    calls: usize,
-    flushes: usize,
-    /// Takes one byte a call.
-    trickles: bool,
-    /// Answers an error at the call of this number.
-    stops: Option<(usize, SinkError)>,
-    faults: u64,
-    wants: u64,
-}
-
-impl Balky {
-    /// A sink that takes all that it is given.
-    fn new(alloc: Global) -> Balky {
-        Balky {
-            taken: VecSink::new(alloc),
-            calls: 0,
-            flushes: 0,
-            trickles: false,
-            stops: None,
-            faults: 0,
-            wants: 0,
-        }
-    }
-
-    /// A sink that takes one byte a call, and stops at the call of this number.
-    fn trickling(alloc: Global, stops: Option<(usize, SinkError)>) -> Balky {
-        let mut sink = Balky::new(alloc);
-        sink.trickles = true;
-        sink.stops = stops;
-        sink
-    }
-}
-
-impl Sink for Balky {
-    ghost told = { λ sink. record {
-      text = Some sink.taken.bytes;
-      room = None;
-      held = Some 0;
-      faults = sink.faults;
-      wants = sink.taken.wants + sink.wants;
-    } };
-
-    fn write(&mut self, piece: &[u8]) -> Result<usize, SinkError> {
-        self.calls = self.calls.saturating_add(1);
-        match self.stops {
-            Some((at, SinkError::Failed)) if at == self.calls => {
-                self.faults = self.faults.saturating_add(1);
-                return Err(SinkError::Failed);
-            }
-            Some((at, SinkError::NoMemory)) if at == self.calls => {
-                self.wants = self.wants.saturating_add(1);
-                return Err(SinkError::NoMemory);
-            }
-            _ => {}
-        }
-        if self.trickles && !piece.is_empty() {
-            self.taken.write(&piece[..1])
-        } else {
-            self.taken.write(piece)
-        }
-    }
-
-    fn flush(&mut self) -> Result<(), SinkError> {
-        self.flushes = self.flushes.saturating_add(1);
-        Ok(())
-    }
-}
+use sval_check::{CheckError, check};
+use sval_core::{Lent, Stream, Value, refusal};
+use sval_json::{FixedSink, Sink, SinkError, VecSink, stream_to_io_write, write_all};
+use sval_relay::MemSource;
+use sval_script::Script;
 
 /// A text with escapes, a number and a truth value in a sequence.
-fn calls<'a>() -> [Call<'a>; 13] {
-    [
-        Call::SeqBegin(None),
-        Call::SeqValueBegin,
-        Call::TextBegin(None),
-        Call::TextFragment("a\"\u{01}b"),
-        Call::TextEnd,
-        Call::SeqValueEnd,
-        Call::SeqValueBegin,
-        Call::I64(-12),
-        Call::SeqValueEnd,
-        Call::SeqValueBegin,
-        Call::Bool(true),
-        Call::SeqValueEnd,
-        Call::SeqEnd,
-    ]
-}
+const SCRIPT: &'static str = r#"seq_begin -
+seq_value_begin
+text_begin -
+text_fragment =61220162
+text_end
+seq_value_end
+seq_value_begin
+i64 -12
+seq_value_end
+seq_value_begin
+bool true
+seq_value_end
+seq_end
+"#;
 
 /// The JSON of these.
-const JSON: &[u8] = b"[\"a\\\"\\u0001b\",-12,true]";
+const JSON: &'static [u8] = b"[\"a\\\"\\u0001b\",-12,true]";
 
-#[test]
-fn writes_the_rest_of_each_piece(rt: HostRuntime) -> Result<(), Fail> {
-    let calls = calls();
-    let mut sink = Balky::trickling(rt.alloc(), None);
-    stream_to_io_write(&mut sink, &Said::willing(&calls))?;
-    assert_eq!(rt; sink.taken.as_slice(), JSON);
-    assert_eq!(rt; sink.calls, JSON.len());
-    Ok(())
+/// What writing a value's JSON answers.
+pub(crate) fn answer_of<'v, K: Sink, V: Value<'v, Lent<'v>>>(
+    alloc: Global,
+    sink: &mut K,
+    value: &'v V,
+) -> Result<String, AllocError> {
+    match stream_to_io_write(sink, value) {
+        Ok(()) => String::from_str(alloc, "Ok"),
+        Err(error) => format!(in alloc; "{:?}", error.kind()),
+    }
 }
 
+/// What writing the script's JSON over a sink answers, how often the sink was called and flushed, and what it has.
+fn told_of(alloc: Global, script: &Script, mut sink: Balky) -> Result<String, Fail> {
+    let answer = answer_of(alloc, &mut sink, script)?;
+    let taken = std::str::from_utf8(sink.taken.as_slice())?;
+    let (calls, flushes) = (sink.calls, sink.flushes);
+    Ok(format!(in alloc; "{answer}, {calls} calls, {flushes} flushes: {taken}")?)
+}
+
+/// A sink that takes one byte a call is given the rest of each piece, and one that stops is given no more.
 #[test]
-fn stops_where_a_sink_stops(rt: HostRuntime) {
-    let calls = calls();
-    let kinds = [
-        (SinkError::Failed, ErrorKind::IO),
-        (SinkError::NoMemory, ErrorKind::NoMemory),
-    ];
-    for (stop, kind) in kinds {
+fn stops_where_a_sink_stops(rt: HostRuntime) -> Result<(), Fail> {
+    let alloc = rt.alloc();
+    let script = Script::read(alloc, SCRIPT.as_bytes())?;
+    for (stop, kind) in [(SinkError::Failed, "IO"), (SinkError::NoMemory, "NoMemory")] {
         for taken in 0..JSON.len() {
             let at = taken + 1;
-            let mut sink = Balky::trickling(rt.alloc(), Some((at, stop)));
-            let answer = stream_to_io_write(&mut sink, &Said::willing(&calls));
-            assert_eq!(rt;
-                answer.map_err(|error| error.kind()),
-                Err(kind),
-                "call {at}"
-            );
-            assert_eq!(rt; sink.taken.as_slice(), &JSON[..taken], "call {at}");
-            assert_eq!(rt; sink.calls, at, "call {at}");
-            assert_eq!(rt; sink.flushes, 0, "call {at}");
+            let text = std::str::from_utf8(&JSON[..taken])?;
+            let seen = told_of(alloc, &script, Balky::trickling(alloc, Some((at, stop))))?;
+            let due = format!(in alloc; "{kind}, {at} calls, 0 flushes: {text}")?;
+            assert_eq!(rt; seen.as_str(), due.as_str());
         }
     }
-}
-
-#[test]
-fn fails_where_room_is_lacking(rt: HostRuntime) -> Result<(), Fail> {
-    let calls = calls();
-    for room in 0..JSON.len() {
-        let mut buffer = vec![in rt.alloc(); 0; room]?;
-        let mut sink = FixedSink::new(&mut buffer);
-        let answer = stream_to_io_write(&mut sink, &Said::willing(&calls));
-        assert_eq!(rt;
-            answer.map_err(|error| error.kind()),
-            Err(ErrorKind::IO),
-            "room {room}"
-        );
-        assert_eq!(rt; sink.as_slice(), &JSON[..room], "room {room}");
-    }
-    let mut buffer = vec![in rt.alloc(); 0; JSON.len()]?;
-    let mut enough = FixedSink::new(&mut buffer);
-    stream_to_io_write(&mut enough, &Said::willing(&calls))?;
-    assert_eq!(rt; enough.as_slice(), JSON);
-    assert_eq!(rt; enough.room(), 0);
+    let seen = told_of(alloc, &script, Balky::trickling(alloc, None))?;
+    let text = std::str::from_utf8(JSON)?;
+    let due = format!(in alloc; "Ok, {} calls, 0 flushes: {text}", JSON.len())?;
+    assert_eq!(rt; seen.as_str(), due.as_str());
     Ok(())
 }
+
+/// Rooms from none to enough.
+#[test]
+fn fails_where_room_is_lacking(rt: HostRuntime) -> Result<(), Fail> {
+    let alloc = rt.alloc();
+    let script = Script::read(alloc, SCRIPT.as_bytes())?;
+    for room in 0..=JSON.len() {
+        let mut buffer = vec![in alloc; 0; room]?;
+        let mut sink = FixedSink::new(&mut buffer);
+        let answer = answer_of(alloc, &mut sink, &script)?;
+        let due = if room < JSON.len() { "IO" } else { "Ok" };
+        assert_eq!(rt; answer.as_str(), due, "room {room}");
+        assert_eq!(rt; sink.as_slice(), &JSON[..room], "room {room}");
+        assert_eq!(rt; sink.room(), 0, "room {room}");
+    }
+    Ok(())
+}
+
+/// The script of a text of one fragment of 67 letters, which is written as one piece between its quotes.
+const RUN: &'static str = r#"text_begin 67
+text_fragment =6162636465666768696a6b6c6d6e6f707172737475767778797a4142434445464748494a4b4c4d4e4f505152535455565758595a6162636465666768696a6b6c6d6e6f
+text_end
+"#;
+
+/// Its JSON.
+const RUN_JSON: &'static str =
+    r#""abcdefghijklmnopqrstuvwxyzABCDEFGHIJKLMNOPQRSTUVWXYZabcdefghijklmno""#;
 
 #[test]
 fn writes_a_run_as_one_piece(rt: HostRuntime) -> Result<(), Fail> {
-    let run = "abcdefghijklmnopqrstuvwxyzABCDEFGHIJKLMNOPQRSTUVWXYZabcdefghijklmno";
-    assert_eq!(rt; run.len(), 67);
-    let calls = [
-        Call::TextBegin(Some(67)),
-        Call::TextFragment(run),
-        Call::TextEnd,
-    ];
-    let mut sink = Balky::new(rt.alloc());
-    stream_to_io_write(&mut sink, &Said::willing(&calls))?;
-    assert_eq!(rt; sink.calls, 3);
-    assert_eq!(rt; sink.taken.as_slice().len(), 69);
+    let alloc = rt.alloc();
+    let script = Script::read(alloc, RUN.as_bytes())?;
+    let seen = told_of(alloc, &script, Balky::new(alloc))?;
+    let due = format!(in alloc; "Ok, 3 calls, 0 flushes: {RUN_JSON}")?;
+    assert_eq!(rt; seen.as_str(), due.as_str());
     Ok(())
 }
 
 #[test]
-fn writes_a_piece_whole(rt: HostRuntime) {
+fn writes_a_piece_whole(rt: HostRuntime) -> Result<(), Fail> {
     let mut sink = Balky::trickling(rt.alloc(), None);
-    assert_eq!(rt; write_all(&mut sink, b""), Ok(()));
-    assert_eq!(rt; sink.calls, 0);
-    assert_eq!(rt; write_all(&mut sink, b"abc"), Ok(()));
-    assert_eq!(rt; sink.calls, 3);
-    assert_eq!(rt; sink.flush(), Ok(()));
+    let empty = write_all(&mut sink, b"");
+    assert!(rt; empty == Ok(()) && sink.calls == 0);
+    let whole = write_all(&mut sink, b"abc");
+    assert!(rt; whole == Ok(()) && sink.calls == 3);
+    assert!(rt; sink.flush() == Ok(()) && sink.flushes == 1);
     assert_eq!(rt; sink.taken.into_vec().as_slice(), b"abc".as_slice());
+    Ok(())
+}
+
+/// Outputs of the program: one that fails at each flush, and one that holds back all until it is flushed.
+#[test]
+fn flushes_at_the_end(rt: HostRuntime) -> Result<(), Fail> {
+    let alloc = rt.alloc();
+    for way in INSIDE {
+        let mut diag = VecSink::new(alloc);
+        let mut input = MemSource::new(SCRIPT.as_bytes());
+        let mut out = Balky::trickling(alloc, Some((0, SinkError::Failed)));
+        let status = run_over(alloc, way, &mut input, &mut out, &mut diag)?;
+        assert_eq!(rt; status, 8, "{way}");
+        assert_eq!(rt; out.taken.as_slice(), JSON, "{way}");
+        assert_eq!(rt; diag.as_slice(), b"write fault\n".as_slice(), "{way}");
+        let mut input = MemSource::new(SCRIPT.as_bytes());
+        let mut out = HoldingSink::new(alloc);
+        let status = run_over(alloc, way, &mut input, &mut out, &mut diag)?;
+        assert_eq!(rt; status, 0, "{way}");
+        assert_eq!(rt; out.passed.as_slice(), JSON, "{way}");
+        assert_eq!(rt; diag.as_slice(), b"write fault\n".as_slice(), "{way}");
+    }
+    Ok(())
+}
+
+/// Says that there is no value, and then refuses.
+#[derive(Drop)]
+struct Refusing {}
+
+impl<'v> Value<'v, Lent<'v>> for Refusing {
+    ghost emission = { λ _. record { calls = call.Null ∷ []; refuses = true } };
+
+    #[tactic(auto, using(sval_core::proofs::Emissions::streams_one, sval_core::proofs::Emissions::stops_one))]
+    fn stream<S: Stream<Lent<'v>>>(&'v self, stream: &mut S) -> sval_core::Result {
+        stream.null()?;
+        refusal()
+    }
+}
+
+/// A refusal of a value isn't one of its stream.
+#[test]
+fn tells_a_value_that_refuses(rt: HostRuntime) -> Result<(), Fail> {
+    let refusing = [Refusing {}];
+    let mut sink = VecSink::new(rt.alloc());
+    let answer = answer_of(rt.alloc(), &mut sink, &refusing)?;
+    assert_eq!(rt; answer.as_str(), "Generic");
+    assert_eq!(rt; sink.as_slice(), b"[null".as_slice());
+    assert_eq!(rt; check(rt.alloc(), &refusing), Err(CheckError::Refused));
+    Ok(())
 }

@@ -1,7 +1,9 @@
 //! Readers that are interrupted, or fail.
 
+use super::sources::reads_of;
 use std::io;
-use sval_relay::{RealSource, Source, SourceError};
+use std::test::Fail;
+use sval_relay::RealSource;
 
 /// Fails with this error the first times, and then gives one byte a call.
 #[derive(Drop)]
@@ -24,70 +26,61 @@ impl io::Read for Failing {
     }
 }
 
-#[test]
-fn errors_of_readers(rt: HostRuntime) {
-    let table = [
-        (io::ErrorKind::Interrupted, 0, Ok(1)),
-        (io::ErrorKind::Interrupted, 2, Ok(1)),
-        (io::ErrorKind::Interrupted, 999, Ok(1)),
-        (io::ErrorKind::Interrupted, 1000, Err(SourceError::Failed)),
-        (
-            io::ErrorKind::Interrupted,
-            u32::MAX,
-            Err(SourceError::Failed),
-        ),
-        (io::ErrorKind::PermissionDenied, 1, Err(SourceError::Failed)),
-        (io::ErrorKind::WouldBlock, 1, Err(SourceError::Failed)),
-    ];
-    for (error, times, wanted) in table {
-        let mut source = RealSource::new(Failing { error, times });
-        let mut buffer = [0; 4];
-        assert_eq!(rt;
-            source.read(&mut buffer),
-            wanted,
-            "at {error:?}, {times} times"
-        );
-    }
-}
+/// How a reader fails, how often, and what is told of so many reads and of the failures that are left: a read that fails
+/// makes one call of the reader, or up to 1,000 where it is interrupted.
+const READERS: [(io::ErrorKind, u32, u64, &'static str); 11] = [
+    (io::ErrorKind::Interrupted, 0, 1, "Ok(1) x---\n0"),
+    (io::ErrorKind::Interrupted, 2, 1, "Ok(1) x---\n0"),
+    (io::ErrorKind::Interrupted, 999, 1, "Ok(1) x---\n0"),
+    (io::ErrorKind::Interrupted, 1000, 1, "Err(Failed) ----\n0"),
+    (
+        io::ErrorKind::Interrupted,
+        5000,
+        1,
+        "Err(Failed) ----\n4000",
+    ),
+    (
+        io::ErrorKind::Interrupted,
+        u32::MAX,
+        1,
+        "Err(Failed) ----\n4294966295",
+    ),
+    (io::ErrorKind::PermissionDenied, 1, 1, "Err(Failed) ----\n0"),
+    (
+        io::ErrorKind::PermissionDenied,
+        5000,
+        1,
+        "Err(Failed) ----\n4999",
+    ),
+    (io::ErrorKind::WouldBlock, 1, 1, "Err(Failed) ----\n0"),
+    (io::ErrorKind::WouldBlock, 5000, 1, "Err(Failed) ----\n4999"),
+    (
+        io::ErrorKind::TimedOut,
+        2,
+        3,
+        "Err(Failed) ----\nErr(Failed) ----\nOk(1) x---\n0",
+    ),
+];
 
-/// How many calls of the reader a read that fails makes: one, or 1,000 where it is interrupted.
 #[test]
-fn calls_of_readers(rt: HostRuntime) {
-    let table = [
-        (io::ErrorKind::Interrupted, 1000),
-        (io::ErrorKind::PermissionDenied, 1),
-        (io::ErrorKind::WouldBlock, 1),
-        (io::ErrorKind::TimedOut, 1),
-    ];
-    for (error, calls) in table {
-        let mut reader = Failing { error, times: 5000 };
+fn errors_of_readers(rt: HostRuntime) -> Result<(), Fail> {
+    for (error, times, count, due) in READERS {
+        let mut reader = Failing { error, times };
         let mut source = RealSource::new(&mut reader);
-        assert_eq!(rt; source.read(&mut [0; 4]), Err(SourceError::Failed));
+        let told = reads_of(rt.alloc(), &mut source, &mut [b'-'; 4], count)?;
         drop(source);
-        assert_eq!(rt; reader.times, 5000 - calls, "at {error:?}");
+        let seen = format!(in rt.alloc(); "{told}{}", reader.times)?;
+        assert_eq!(rt; seen.as_str(), due, "at {error:?}, {times} times");
     }
+    Ok(())
 }
 
 /// A read asks the reader for all that has room.
 #[test]
-fn fills_the_buffer(rt: HostRuntime) {
+fn fills_the_buffer(rt: HostRuntime) -> Result<(), Fail> {
     let mut bytes: &[u8] = &[b'a'; 10_000];
     let mut source = RealSource::new(&mut bytes);
-    assert_eq!(rt; source.read(&mut [0; 9_000]), Ok(9_000));
-    assert_eq!(rt; source.read(&mut [0; 9_000]), Ok(1_000));
-    assert_eq!(rt; source.read(&mut [0; 9_000]), Ok(0));
-}
-
-/// What is read after a fault is what is left.
-#[test]
-fn reads_after_a_fault(rt: HostRuntime) {
-    let mut source = RealSource::new(Failing {
-        error: io::ErrorKind::TimedOut,
-        times: 2,
-    });
-    let mut buffer = [0; 4];
-    assert_eq!(rt; source.read(&mut buffer), Err(SourceError::Failed));
-    assert_eq!(rt; source.read(&mut buffer), Err(SourceError::Failed));
-    assert_eq!(rt; source.read(&mut buffer), Ok(1));
-    assert_eq!(rt; buffer, *b"x\0\0\0");
+    let seen = reads_of(rt.alloc(), &mut source, &mut [0; 9_000], 3)?;
+    assert_eq!(rt; seen.as_str(), "Ok(9000) aaaa\nOk(1000) aaaa\nOk(0) aaaa\n");
+    Ok(())
 }

@@ -1,74 +1,87 @@
 //! Reading memory, and a source that fails where it is told to.
 
-use super::{WAYS, run_on};
+use crate::forms::{INSIDE, run_over};
+use std::alloc::Global;
+use std::fmt::Write;
 use std::test::Fail;
 use sval_json::VecSink;
-use sval_relay::{FaultySource, MemSource, Source, SourceError};
+use sval_relay::{FaultySource, MemSource, Source};
 
-#[test]
-fn reads_part_by_part(rt: HostRuntime) {
-    let mut source = MemSource::new(b"abcde");
-    let mut buffer = [0; 3];
-    assert_eq!(rt; source.read(&mut []), Ok(0));
-    assert_eq!(rt; source.read(&mut buffer), Ok(3));
-    assert_eq!(rt; buffer, *b"abc");
-    assert_eq!(rt; source.read(&mut buffer), Ok(2));
-    assert_eq!(rt; buffer, *b"dec");
-    assert_eq!(rt; source.read(&mut buffer), Ok(0));
-    assert_eq!(rt; source.read(&mut buffer), Ok(0));
+/// What a source answers to so many reads into a buffer, and the first bytes of the buffer behind each.
+pub(super) fn reads_of<I: Source>(
+    alloc: Global,
+    source: &mut I,
+    buffer: &mut [u8],
+    count: u64,
+) -> Result<String, Fail> {
+    let mut told = String::new(alloc);
+    for _ in 0..count {
+        let answer = source.read(buffer);
+        let shown = std::str::from_utf8(&buffer[..buffer.len().min(4)])?;
+        write!(told, "{answer:?} {shown}\n")?;
+    }
+    Ok(told)
 }
 
-/// All that fits is given at once.
+/// All that fits is given at once, and then what is left.
 #[test]
-fn reads_long_parts(rt: HostRuntime) -> Result<(), Fail> {
+fn reads_part_by_part(rt: HostRuntime) -> Result<(), Fail> {
     let alloc = rt.alloc();
-    let bytes = vec![in alloc; 7; 100_000]?;
-    let mut buffer = vec![in alloc; 0; 100_001]?;
-    let mut source = MemSource::new(&bytes);
-    assert_eq!(rt; source.read(&mut buffer), Ok(100_000));
-    assert_eq!(rt; source.read(&mut buffer), Ok(0));
+    let mut source = MemSource::new(b"abcde");
+    let seen = reads_of(alloc, &mut source, &mut [], 1)?;
+    assert_eq!(rt; seen.as_str(), "Ok(0) \n");
+    let seen = reads_of(alloc, &mut source, &mut [b'-'; 3], 4)?;
+    assert_eq!(rt;
+        seen.as_str(),
+        "Ok(3) abc\nOk(2) dec\nOk(0) dec\nOk(0) dec\n"
+    );
+    let bytes = vec![in alloc; b'7'; 100_000]?;
+    let mut buffer = vec![in alloc; b'0'; 100_001]?;
+    let seen = reads_of(alloc, &mut MemSource::new(&bytes), &mut buffer, 2)?;
+    assert_eq!(rt; seen.as_str(), "Ok(100000) 7777\nOk(0) 7777\n");
     Ok(())
 }
 
 /// The calls that are listed fail, and the others give what is next.
+const FAILING: &'static str = r#"Err(Failed) ----
+Ok(2) ab--
+Err(Failed) ab--
+Err(Failed) ab--
+Ok(2) cd--
+Ok(1) ed--
+Ok(0) ed--
+"#;
+
 #[test]
-fn fails_at_listed_calls(rt: HostRuntime) {
+fn fails_at_listed_calls(rt: HostRuntime) -> Result<(), Fail> {
     let mut source = FaultySource::new(b"abcde", 2, &[1, 3, 4]);
-    let mut buffer = *b"----";
-    let table = [
-        (Err(SourceError::Failed), *b"----"),
-        (Ok(2), *b"ab--"),
-        (Err(SourceError::Failed), *b"ab--"),
-        (Err(SourceError::Failed), *b"ab--"),
-        (Ok(2), *b"cd--"),
-        (Ok(1), *b"ed--"),
-        (Ok(0), *b"ed--"),
-    ];
-    for (wanted, left) in table {
-        assert_eq!(rt; source.read(&mut buffer), wanted);
-        assert_eq!(rt; buffer, left);
-    }
+    let seen = reads_of(rt.alloc(), &mut source, &mut [b'-'; 4], 7)?;
+    assert_eq!(rt; seen.as_str(), FAILING);
+    Ok(())
 }
+
+/// The call that fails, the status, what is written, and what is told.
+const FAULTS: [(u64, u8, &'static str, &'static str); 4] = [
+    (1, 9, "", "read fault\n"),
+    (2, 9, "", "read fault\n"),
+    (3, 9, "", "read fault\n"),
+    (4, 0, "null", ""),
+];
 
 /// A run stops at a call that fails. The second call gives the last bytes, and the third sees the end.
 #[test]
 fn runs_over_a_fault(rt: HostRuntime) -> Result<(), Fail> {
     let alloc = rt.alloc();
-    let table: [(u64, u8, &[u8], &[u8]); 4] = [
-        (1, 9, b"", b"read fault\n"),
-        (2, 9, b"", b"read fault\n"),
-        (3, 9, b"", b"read fault\n"),
-        (4, 0, b"null", b""),
-    ];
-    for way in WAYS {
-        for (call, wanted, text, said) in table {
+    for way in INSIDE {
+        for (call, wanted, text, told) in FAULTS {
             let failing = [call];
             let mut input = FaultySource::new(b"null\n", 3, &failing);
             let mut out = VecSink::new(alloc);
-            let (status, diag) = run_on(alloc, way, &mut input, &mut out)?;
+            let mut diag = VecSink::new(alloc);
+            let status = run_over(alloc, way, &mut input, &mut out, &mut diag)?;
             assert_eq!(rt; status, wanted, "{way} at {call}");
-            assert_eq!(rt; out.as_slice(), text, "{way} at {call}");
-            assert_eq!(rt; diag.as_slice(), said, "{way} at {call}");
+            assert_eq!(rt; out.as_slice(), text.as_bytes(), "{way} at {call}");
+            assert_eq!(rt; diag.as_slice(), told.as_bytes(), "{way} at {call}");
         }
     }
     Ok(())

@@ -1,101 +1,86 @@
 //! Words that are no form.
 
-use super::fakes::FaultySink;
+use crate::pictures::plain_text;
 use std::alloc::{AllocError, Global};
+use std::process::Abort;
 use std::test::Fail;
-use sval_json::VecSink;
+use sval_json::{FaultySink, VecSink};
 use sval_relay::{MemSource, Source, run};
 
-/// These words, each as a `String`.
-fn owned(alloc: Global, texts: &[&str]) -> Result<Vec<String>, AllocError> {
+/// Words, each behind a bar; none stand in the first row.
+const ROWS: &'static str = r#"
+no words
+|
+|Direct
+|direct␠
+|direc
+|directs
+|direct|direct
+|direct|
+|Buffered
+|buffer
+|buffered|direct
+|beside
+|beside|direct
+|calls|beside
+|direct|Beside
+|direct|besides
+|direct|inside
+|direct|lines|beside
+|direct|beside|line
+|direct|lines|lines
+|direct|beside|lines|lines
+|lines
+|Calls
+|calls|calls
+|calls|beside|lines
+|calls|1
+|made
+|made|
+|made|50001
+|made|01
+|made|+1
+|made|1|lines
+|buffered|beside|beside
+|--help
+|--version
+"#;
+
+/// What is told of them.
+const USAGE: &'static [u8] =
+    b"usage: sval_relay direct [beside] [lines]|buffered [beside] [lines]|calls [lines]|made N\n";
+
+/// The words of a row.
+fn words_of(alloc: Global, row: &str) -> Result<Vec<String>, AllocError> {
     let mut words = Vec::new(alloc);
-    for text in texts {
-        words.push(String::from_str(alloc, text)?)?;
+    for word in row.split('|').skip(1) {
+        words.push(plain_text(alloc, word)?)?;
     }
     Ok(words)
 }
 
-#[test]
-fn no_form(rt: HostRuntime) -> Result<(), Fail> {
-    let alloc = rt.alloc();
-    let table: [&'static [&'static str]; 35] = [
-        &[],
-        &[""],
-        &["Direct"],
-        &["direct "],
-        &["direc"],
-        &["directs"],
-        &["direct", "direct"],
-        &["direct", ""],
-        &["Buffered"],
-        &["buffer"],
-        &["buffered", "direct"],
-        &["beside"],
-        &["beside", "direct"],
-        &["calls", "beside"],
-        &["direct", "Beside"],
-        &["direct", "besides"],
-        &["direct", "inside"],
-        &["direct", "lines", "beside"],
-        &["direct", "beside", "line"],
-        &["direct", "lines", "lines"],
-        &["direct", "beside", "lines", "lines"],
-        &["lines"],
-        &["Calls"],
-        &["calls", "calls"],
-        &["calls", "beside", "lines"],
-        &["calls", "1"],
-        &["made"],
-        &["made", ""],
-        &["made", "50001"],
-        &["made", "01"],
-        &["made", "+1"],
-        &["made", "1", "lines"],
-        &["buffered", "beside", "beside"],
-        &["--help"],
-        &["--version"],
-    ];
-    for texts in table {
-        let words = owned(alloc, texts)?;
-        let mut input = MemSource::new(b"null\n");
-        let mut out = VecSink::new(alloc);
-        let mut diag = VecSink::new(alloc);
-        let status = run(alloc, &words, &mut input, &mut out, &mut diag);
-        assert_eq!(rt; status, 2, "at {texts:?}");
-        assert_eq!(rt; input.read(&mut [0; 8]), Ok(5), "at {texts:?}");
-        assert!(rt; out.as_slice().is_empty(), "at {texts:?}");
-        assert_eq!(rt;
-            diag.as_slice(),
-            b"usage: sval_relay direct [beside] [lines]|buffered [beside] [lines]|calls [lines]|made N\n".as_slice()
-        );
-    }
+/// Nothing is read and nothing is written, and the third device is told the usage; it fails behind so many bytes.
+fn try_words(rt: &impl Abort, alloc: Global, row: &str, taken: usize) -> Result<(), Fail> {
+    let words = words_of(alloc, row)?;
+    let failing = [(taken as u64).saturating_add(1)];
+    let mut input = MemSource::new(b"null\n");
+    let mut out = VecSink::new(alloc);
+    let mut diag = FaultySink::new(alloc, 1, &failing);
+    let status = run(alloc, &words, &mut input, &mut out, &mut diag);
+    let told = diag.as_slice();
+    assert!(rt; status == 2 && out.as_slice().is_empty(), "{row}");
+    assert!(rt; input.read(&mut [0; 8]) == Ok(5), "{row}");
+    assert!(rt; told.len() == taken && USAGE.starts_with(told), "{row}");
     Ok(())
 }
 
-/// A line that isn't taken changes no status.
 #[test]
-fn diag_fails(rt: HostRuntime) -> Result<(), Fail> {
-    let alloc = rt.alloc();
-    let table: [(&'static [&'static str], &'static str, u8); 10] = [
-        (&[], "null\n", 2),
-        (&["direct"], "null\n", 0),
-        (&["direct"], "nil\n", 3),
-        (&["direct"], "seq_end\n", 4),
-        (&["direct"], "", 5),
-        (&["direct"], "null", 3),
-        (&["buffered"], "null\n", 0),
-        (&["buffered"], "seq_end\n", 4),
-        (&["direct", "beside"], "null\n", 0),
-        (&["buffered", "beside"], "seq_end\n", 4),
-    ];
-    for (texts, script, wanted) in table {
-        let words = owned(alloc, texts)?;
-        for failing in 0..4 {
-            let mut input = MemSource::new(script.as_bytes());
-            let mut out = VecSink::new(alloc);
-            let mut diag = FaultySink::new(alloc, failing, false);
-            let status = run(alloc, &words, &mut input, &mut out, &mut diag);
-            assert_eq!(rt; status, wanted, "at {texts:?} and {script:?}");
+fn no_form(rt: HostRuntime) -> Result<(), Fail> {
+    for row in ROWS.lines() {
+        if !row.is_empty() {
+            for taken in [USAGE.len(), 0, 1, 2] {
+                try_words(&rt, rt.alloc(), row, taken)?;
+            }
         }
     }
     Ok(())

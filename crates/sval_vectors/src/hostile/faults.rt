@@ -1,9 +1,10 @@
-//! A device that fails at one call, each in turn, over each script in each form.
+//! Devices that give and take a few bytes at a time, and a device that fails at one call, each in turn, over each script
+//! in each form.
 
 ghost use Rattle.std.specs.Prelude.{◌≤◌};
 
-use crate::cases::{Case, compare, each_case};
-use crate::forms::run_over;
+use super::cases::{Case, compare, each_case};
+use crate::forms::{EACH_WAY, run_over};
 use std::alloc::Global;
 use std::process::Abort;
 use std::test::Fail;
@@ -95,87 +96,79 @@ fn try_reports(rt: &impl Abort, alloc: Global, case: &Case) -> Result<(), Fail> 
     Ok(())
 }
 
-/// Bytes one by one, and whole pieces.
+/// Runs a form over devices that give and take from 1 to 70 bytes a call at most.
+fn try_sizes(rt: &impl Abort, alloc: Global, case: &Case) -> Result<(), Fail> {
+    for size in 1..71 {
+        let mut input = FaultySource::new(case.script.as_bytes(), size, &[]);
+        let mut out = FaultySink::new(alloc, 71 - size, &[]);
+        let mut diag = FaultySink::new(alloc, size, &[]);
+        let status = run_over(alloc, case.form, &mut input, &mut out, &mut diag)?;
+        let ran = (status, out.as_slice(), diag.as_slice());
+        compare(rt, case, size, ran, case.answer());
+    }
+    Ok(())
+}
+
+/// Outputs that fail take bytes one by one, and whole pieces.
 #[test]
-fn writes_that_fail(rt: HostRuntime) -> Result<(), Fail> {
+fn devices_in_each_case(rt: HostRuntime) -> Result<(), Fail> {
     for case in &each_case(rt.alloc())? {
         try_writes(&rt, rt.alloc(), case, 1)?;
         try_writes(&rt, rt.alloc(), case, 1000)?;
-    }
-    Ok(())
-}
-
-#[test]
-fn reads_that_fail(rt: HostRuntime) -> Result<(), Fail> {
-    for case in &each_case(rt.alloc())? {
         try_reads(&rt, rt.alloc(), case)?;
-    }
-    Ok(())
-}
-
-#[test]
-fn reports_that_fail(rt: HostRuntime) -> Result<(), Fail> {
-    for case in &each_case(rt.alloc())? {
         try_reports(&rt, rt.alloc(), case)?;
+        try_sizes(&rt, rt.alloc(), case)?;
     }
     Ok(())
 }
 
 /// The line of a made script over an output that fails at a call, and a third device that fails at the same one. The
 /// input, which would fail, isn't read.
-#[test]
-fn made_scripts(rt: HostRuntime) -> Result<(), Fail> {
-    let alloc = rt.alloc();
-    for (form, line) in [
-        ("made 0", b"calls 2 json 2\n".as_slice()),
-        ("made 2", b"calls 28 json 43\n".as_slice()),
-    ] {
-        for taken in 0..line.len() {
-            let failing = [taken as u64 + 1];
-            let mut input = FaultySource::new(b"nil\n", 1, &[1]);
-            let mut out = FaultySink::new(alloc, 1, &failing);
-            let mut diag = FaultySink::new(alloc, 1, &failing);
-            let status = run_over(alloc, form, &mut input, &mut out, &mut diag)?;
-            assert_eq!(rt; status, 8, "{form} after {taken}");
-            assert_eq!(rt; out.as_slice(), &line[..taken], "{form}");
-            assert_eq!(rt;
-                diag.as_slice(),
-                &WRITE_FAULT[..taken.min(WRITE_FAULT.len())],
-                "{form}"
-            );
-        }
+fn try_made(rt: &impl Abort, alloc: Global, form: &str, line: &[u8]) -> Result<(), Fail> {
+    for taken in 0..line.len() {
+        let failing = [taken as u64 + 1];
+        let mut input = FaultySource::new(b"nil\n", 1, &[1]);
+        let mut out = FaultySink::new(alloc, 1, &failing);
+        let mut diag = FaultySink::new(alloc, 1, &failing);
+        let status = run_over(alloc, form, &mut input, &mut out, &mut diag)?;
+        assert_eq!(rt; status, 8, "{form} after {taken}");
+        assert_eq!(rt; out.as_slice(), &line[..taken], "{form}");
+        let told = &WRITE_FAULT[..taken.min(WRITE_FAULT.len())];
+        assert_eq!(rt; diag.as_slice(), told, "{form}");
     }
     Ok(())
 }
 
-/// Calls at which the input fails, and the output; the status, what is written, and what is told.
-type Failing = (
-    &'static [u64],
-    &'static [u64],
-    u8,
-    &'static str,
-    &'static str,
-);
+#[test]
+fn made_scripts(rt: HostRuntime) -> Result<(), Fail> {
+    try_made(&rt, rt.alloc(), "made 0", b"calls 2 json 2\n")?;
+    try_made(&rt, rt.alloc(), "made 2", b"calls 28 json 43\n")
+}
+
+/// Calls at which the input fails, and the output; and the status, what is written, and what is told, of a third device
+/// that fails at its fourth call.
+type Failing = (&'static [u64], &'static [u64], &'static str);
 
 /// Where two or all devices fail, the input's failure is the answer, and then the output's.
 #[test]
 fn devices_that_fail_together(rt: HostRuntime) -> Result<(), Fail> {
     let alloc = rt.alloc();
     let table: [Failing; 4] = [
-        (&[2], &[2], 9, "", "rea"),
-        (&[1], &[], 9, "", "rea"),
-        (&[], &[2], 8, "t", "wri"),
-        (&[], &[], 0, "true", ""),
+        (&[2], &[2], "9 |rea"),
+        (&[1], &[], "9 |rea"),
+        (&[], &[2], "8 t|wri"),
+        (&[], &[], "0 true|"),
     ];
-    for form in ["direct", "buffered", "direct beside", "buffered beside"] {
-        for (reads, writes, wanted, text, told) in table {
+    for form in EACH_WAY {
+        for (reads, writes, due) in table {
             let mut input = FaultySource::new(b"bool true\n", 4, reads);
             let mut out = FaultySink::new(alloc, 1, writes);
             let mut diag = FaultySink::new(alloc, 1, &[4]);
             let status = run_over(alloc, form, &mut input, &mut out, &mut diag)?;
-            assert_eq!(rt; status, wanted, "{form} at {reads:?} and {writes:?}");
-            assert_eq!(rt; out.as_slice(), text.as_bytes(), "{form}");
-            assert_eq!(rt; diag.as_slice(), told.as_bytes(), "{form}");
+            let text = std::str::from_utf8(out.as_slice())?;
+            let told = std::str::from_utf8(diag.as_slice())?;
+            let seen = format!(in alloc; "{status} {text}|{told}")?;
+            assert_eq!(rt; seen.as_str(), due, "{form} at {reads:?} and {writes:?}");
         }
     }
     Ok(())

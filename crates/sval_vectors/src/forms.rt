@@ -18,6 +18,26 @@ pub(crate) const FORMS: [&'static str; 10] = [
     "calls lines",
 ];
 
+/// The forms that write one value's JSON with variants under their names.
+pub(crate) const INSIDE: [&'static str; 2] = ["direct", "buffered"];
+
+/// The forms that write one value's JSON.
+pub(crate) const EACH_WAY: [&'static str; 4] = [
+    "direct",
+    "buffered",
+    "direct beside",
+    "buffered beside",
+];
+
+/// The forms that take many values.
+pub(crate) const LISTS: [&'static str; 5] = [
+    "direct lines",
+    "buffered lines",
+    "direct beside lines",
+    "buffered beside lines",
+    "calls lines",
+];
+
 /// What is written of a value.
 #[derive(Clone, Copy)]
 pub(crate) enum Text {
@@ -45,6 +65,15 @@ pub(crate) fn takes_many(form: &str) -> bool {
     form.ends_with("lines")
 }
 
+/// The words of a form.
+pub(crate) fn words_of(alloc: Global, form: &str) -> Result<Vec<String>, AllocError> {
+    let mut words = Vec::new(alloc);
+    for word in form.split(' ') {
+        words.push(String::from_str(alloc, word)?)?;
+    }
+    Ok(words)
+}
+
 /// Runs a form over these devices, and answers the status.
 pub(crate) fn run_over<I: Source, K: Sink, D: Sink>(
     alloc: Global,
@@ -53,9 +82,6 @@ pub(crate) fn run_over<I: Source, K: Sink, D: Sink>(
     out: &mut K,
     diag: &mut D,
 ) -> Result<u8, AllocError> {
-    let mut words = Vec::new(alloc);
-    for word in form.split(' ') {
-        words.push(String::from_str(alloc, word)?)?;
-    }
-    Ok(run(alloc, words.as_slice(), input, out, diag))
+    let words = words_of(alloc, form)?;
+    Ok(run(alloc, &words, input, out, diag))
 }

@@ -1,0 +1,244 @@
+//! Calls as a stream takes them: those of scripts' lines, and each named call, through the bounds.
+
+ghost use Rattle.sval_core.specs.Law.{emits};
+ghost use Rattle.sval_label.specs.Calls as call;
+
+use crate::fakes::Record;
+use std::fmt::Write;
+use std::test::Fail;
+use sval_core::{Index, Label, Lending, Lent, Result, Stream, Tag, Value, tags};
+use sval_script::Script;
+
+/// A line of a script, and the call that it is.
+const LINES: &'static str = r#"
+# Calls without names.
+null -> Null
+bool true -> Bool(true)
+u8 1 -> U8(1)
+u16 2 -> U16(2)
+u32 3 -> U32(3)
+u64 4 -> U64(4)
+u128 5 -> U128(5)
+i8 -1 -> I8(-1)
+i16 -2 -> I16(-2)
+i32 -3 -> I32(-3)
+i64 -4 -> I64(-4)
+i128 -5 -> I128(-5)
+text_begin 3 -> TextBegin(Some(3))
+text_fragment =61 -> TextFragment("a")
+text_fragment_computed =C3a9 -> TextFragmentComputed("é")
+text_end -> TextEnd
+binary_begin - -> BinaryBegin(None)
+binary_fragment =00ff -> BinaryFragment([0, 255])
+binary_fragment_computed = -> BinaryFragmentComputed([])
+binary_end -> BinaryEnd
+map_begin 1 -> MapBegin(Some(1))
+map_key_begin -> MapKeyBegin
+map_key_end -> MapKeyEnd
+map_value_begin -> MapValueBegin
+map_value_end -> MapValueEnd
+map_end -> MapEnd
+seq_begin - -> SeqBegin(None)
+seq_value_begin -> SeqValueBegin
+seq_value_end -> SeqValueEnd
+seq_end -> SeqEnd
+
+# Whole numbers at the ends of their types.
+u8 0 -> U8(0)
+u8 255 -> U8(255)
+u16 65535 -> U16(65535)
+u32 4294967295 -> U32(4294967295)
+u64 18446744073709551615 -> U64(18446744073709551615)
+u128 18446744073709551616 -> U128(18446744073709551616)
+u128 340282366920938463463374607431768211455 -> U128(340282366920938463463374607431768211455)
+i8 -128 -> I8(-128)
+i8 127 -> I8(127)
+i16 -32768 -> I16(-32768)
+i16 32767 -> I16(32767)
+i32 -2147483648 -> I32(-2147483648)
+i32 2147483647 -> I32(2147483647)
+i64 -9223372036854775808 -> I64(-9223372036854775808)
+i64 9223372036854775807 -> I64(9223372036854775807)
+i128 -1 -> I128(-1)
+i128 -170141183460469231731687303715884105728 -> I128(-170141183460469231731687303715884105728)
+i128 170141183460469231731687303715884105727 -> I128(170141183460469231731687303715884105727)
+
+# Calls with names, whose texts and numbers stand in a store between those of other lines.
+enum_begin RUST_OPTION_SOME =45:VALUE_IDENT 1:VALUE_OFFSET -> EnumBegin(Name { tag: Some(Tag { text: "RUST_OPTION_SOME" }), label: Some(Label { text: Computed("E"), tag: Some(Tag { text: "VALUE_IDENT" }) }), index: Some(Index { number: 1, tag: Some(Tag { text: "VALUE_OFFSET" }) }) })
+enum_end - - - -> EnumEnd(Name { tag: None, label: None, index: None })
+tagged_begin - =c3a9 - -> TaggedBegin(Name { tag: None, label: Some(Label { text: Computed("é"), tag: None }), index: None })
+tagged_end - - -1 -> TaggedEnd(Name { tag: None, label: None, index: Some(Index { number: -1, tag: None }) })
+tag NUMBER = 18446744073709551615 -> Tag(Name { tag: Some(Tag { text: "NUMBER" }), label: Some(Label { text: Computed(""), tag: None }), index: Some(Index { number: 18446744073709551615, tag: None }) })
+tag_hint JSON_TEXT -> TagHint(Tag { text: "JSON_TEXT" })
+record_begin - =52 - 7 -> RecordBegin(Name { tag: None, label: Some(Label { text: Computed("R"), tag: None }), index: None }, Some(7))
+record_value_begin CONSTANT_SIZE =66:VALUE_IDENT -> RecordValueBegin(Some(Tag { text: "CONSTANT_SIZE" }), Label { text: Computed("f"), tag: Some(Tag { text: "VALUE_IDENT" }) })
+record_value_end - =67 -> RecordValueEnd(None, Label { text: Computed("g"), tag: None })
+record_end RUST_UNIT =53 2 -> RecordEnd(Name { tag: Some(Tag { text: "RUST_UNIT" }), label: Some(Label { text: Computed("S"), tag: None }), index: Some(Index { number: 2, tag: None }) })
+tuple_begin - - 3 - -> TupleBegin(Name { tag: None, label: None, index: Some(Index { number: 3, tag: None }) }, None)
+tuple_value_begin - 0:VALUE_OFFSET -> TupleValueBegin(None, Index { number: 0, tag: Some(Tag { text: "VALUE_OFFSET" }) })
+tuple_value_end JSON_NUMBER -9223372036854775808 -> TupleValueEnd(Some(Tag { text: "JSON_NUMBER" }), Index { number: -9223372036854775808, tag: None })
+tuple_end - - 4 -> TupleEnd(Name { tag: None, label: None, index: Some(Index { number: 4, tag: None }) })
+record_tuple_begin RUST_OPTION_NONE =54 5 6 -> RecordTupleBegin(Name { tag: Some(Tag { text: "RUST_OPTION_NONE" }), label: Some(Label { text: Computed("T"), tag: None }), index: Some(Index { number: 5, tag: None }) }, Some(6))
+record_tuple_value_begin - =68:VALUE_IDENT 8:VALUE_OFFSET -> RecordTupleValueBegin(None, Label { text: Computed("h"), tag: Some(Tag { text: "VALUE_IDENT" }) }, Index { number: 8, tag: Some(Tag { text: "VALUE_OFFSET" }) })
+record_tuple_value_end JSON_VALUE =69 -9 -> RecordTupleValueEnd(Some(Tag { text: "JSON_VALUE" }), Label { text: Computed("i"), tag: None }, Index { number: -9, tag: None })
+record_tuple_end - - - -> RecordTupleEnd(Name { tag: None, label: None, index: None })
+"#;
+
+#[test]
+fn makes_the_calls_of_its_lines(rt: HostRuntime) -> std::result::Result<(), Fail> {
+    let mut script = String::new(rt.alloc());
+    let mut calls = String::new(rt.alloc());
+    for row in LINES.lines() {
+        if let Some((line, call)) = row.split_once(" -> ") {
+            write!(script, "{line}\n")?;
+            write!(calls, "{call}\n")?;
+        }
+    }
+    let mut record = Record::new(rt.alloc());
+    let script = Script::read(rt.alloc(), script.as_bytes())?;
+    script.stream(&mut record)?;
+    assert_eq!(rt; record.text.as_str(), calls.as_str());
+    Ok(())
+}
+
+/// A value that says that there is none.
+struct Nothing {}
+
+impl<'v> Value<'v, Lent<'v>> for Nothing {
+    ghost emission = { λ _. emits call.Null };
+
+    #[tactic(auto, using(sval_core::proofs::Emissions::streams_one, sval_core::proofs::Emissions::stops_one))]
+    fn stream<S: Stream<Lent<'v>>>(&'v self, stream: &mut S) -> Result {
+        stream.null()
+    }
+}
+
+/// The calls of plain values, of texts and of binaries.
+fn make_plain<'v, S: Stream<Lent<'v>>>(stream: &mut S) -> Result {
+    stream.null()?;
+    stream.bool(true)?;
+    stream.u8(8)?;
+    stream.u16(16)?;
+    stream.u32(32)?;
+    stream.u64(64)?;
+    stream.u128(128)?;
+    stream.i8(-8)?;
+    stream.i16(-16)?;
+    stream.i32(-32)?;
+    stream.i64(-64)?;
+    stream.i128(-128)?;
+    stream.text_begin(Some(2))?;
+    stream.text_fragment("a")?;
+    stream.text_fragment_computed("b")?;
+    stream.text_end()?;
+    stream.binary_begin(Some(2))?;
+    stream.binary_fragment(b"a")?;
+    stream.binary_fragment_computed(b"b")?;
+    stream.binary_end()
+}
+
+/// The calls of maps and sequences.
+fn make_parts<L: Lending, S: Stream<L>>(stream: &mut S) -> Result {
+    stream.map_begin(Some(1))?;
+    stream.map_key_begin()?;
+    stream.map_key_end()?;
+    stream.map_value_begin()?;
+    stream.map_value_end()?;
+    stream.map_end()?;
+    stream.seq_begin(Some(1))?;
+    stream.seq_value_begin()?;
+    stream.seq_value_end()?;
+    stream.seq_end()
+}
+
+/// The calls of enums, tags and tagged values.
+fn make_named<L: Lending, S: Stream<L>>(stream: &mut S, tag: &Tag) -> Result {
+    stream.enum_begin(Some(tag), None, None)?;
+    stream.enum_end(None, None, None)?;
+    stream.tagged_begin(None, None, None)?;
+    stream.tagged_end(None, None, None)?;
+    stream.tag(Some(tag), None, None)?;
+    stream.tag_hint(tag)
+}
+
+/// The calls of records and tuples.
+fn make_fields<L: Lending, S: Stream<L>>(stream: &mut S, label: &Label, index: &Index) -> Result {
+    stream.record_begin(None, Some(label), None, Some(1))?;
+    stream.record_value_begin(None, label)?;
+    stream.record_value_end(None, label)?;
+    stream.record_end(None, None, None)?;
+    stream.tuple_begin(None, None, Some(index), Some(1))?;
+    stream.tuple_value_begin(None, index)?;
+    stream.tuple_value_end(None, index)?;
+    stream.tuple_end(None, None, None)?;
+    stream.record_tuple_begin(None, None, None, None)?;
+    stream.record_tuple_value_begin(None, label, index)?;
+    stream.record_tuple_value_end(None, label, index)?;
+    stream.record_tuple_end(None, None, None)
+}
+
+/// What is written down of the calls that are made.
+const CALLS: &'static str = r#"Null
+Bool(true)
+U8(8)
+U16(16)
+U32(32)
+U64(64)
+U128(128)
+I8(-8)
+I16(-16)
+I32(-32)
+I64(-64)
+I128(-128)
+TextBegin(Some(2))
+TextFragment("a")
+TextFragmentComputed("b")
+TextEnd
+BinaryBegin(Some(2))
+BinaryFragment([97])
+BinaryFragmentComputed([98])
+BinaryEnd
+MapBegin(Some(1))
+MapKeyBegin
+MapKeyEnd
+MapValueBegin
+MapValueEnd
+MapEnd
+SeqBegin(Some(1))
+SeqValueBegin
+SeqValueEnd
+SeqEnd
+EnumBegin(Name { tag: Some(Tag { text: "NUMBER" }), label: None, index: None })
+EnumEnd(Name { tag: None, label: None, index: None })
+TaggedBegin(Name { tag: None, label: None, index: None })
+TaggedEnd(Name { tag: None, label: None, index: None })
+Tag(Name { tag: Some(Tag { text: "NUMBER" }), label: None, index: None })
+TagHint(Tag { text: "NUMBER" })
+RecordBegin(Name { tag: None, label: Some(Label { text: Static("a"), tag: None }), index: None }, Some(1))
+RecordValueBegin(None, Label { text: Static("a"), tag: None })
+RecordValueEnd(None, Label { text: Static("a"), tag: None })
+RecordEnd(Name { tag: None, label: None, index: None })
+TupleBegin(Name { tag: None, label: None, index: Some(Index { number: 0, tag: None }) }, Some(1))
+TupleValueBegin(None, Index { number: 0, tag: None })
+TupleValueEnd(None, Index { number: 0, tag: None })
+TupleEnd(Name { tag: None, label: None, index: None })
+RecordTupleBegin(Name { tag: None, label: None, index: None }, None)
+RecordTupleValueBegin(None, Label { text: Static("a"), tag: None }, Index { number: 0, tag: None })
+RecordTupleValueEnd(None, Label { text: Static("a"), tag: None }, Index { number: 0, tag: None })
+RecordTupleEnd(Name { tag: None, label: None, index: None })
+Null
+Null
+"#;
+
+#[test]
+fn passes_each_call_on(rt: HostRuntime) -> std::result::Result<(), Fail> {
+    let mut record = Record::new(rt.alloc());
+    make_plain(&mut record)?;
+    make_parts(&mut record)?;
+    make_named(&mut record, &tags::NUMBER)?;
+    make_fields(&mut record, &Label::new("a"), &Index::new(0))?;
+    record.value(&Nothing {})?;
+    record.value_computed(&Nothing {})?;
+    assert_eq!(rt; record.text.as_str(), CALLS);
+    Ok(())
+}

@@ -1,0 +1,276 @@
+//! Scripts with what is due of each, as rows of text, and what tries them.
+//!
+//! A row is the lines of a script and, behind them, lines that say what is due of it:
+//!
+//! ```text
+//! = json TEXT          its JSON
+//! = inside TEXT        its JSON with variants inside an object under their names
+//! = beside TEXT        its JSON with variants beside their names
+//! = bad-key TEXT       a key is no text, and this is written before it
+//! = bad-number TEXT    a number is none, and this is written before its fault
+//! = bad-line N         line N is no call
+//! = bad-call N         no value goes on with the call of line N, nor does a list of values
+//! = second N           a second value begins at line N
+//! = unfinished         its calls are not one whole value
+//! = lines              each of its lines is a call, whatever they spell
+//! = canon LINES        its calls are printed canonically as these lines
+//! = captured COMPLETE, ERROR: LINES    what is captured of its calls, one by one ([`try_captured`])
+//! = captured-json TEXT the JSON of what is captured of its calls, one by one
+//! = run WORDS: STATUS TEXT|LINE    what a run in these words answers, writes and tells
+//! ```
+//!
+//! A blank line says nothing, and neither does one that begins with `# `. A script's line that ends with `␄` has no
+//! newline, and `␀`, `␉`, `␊`, `␍`, `␠` and `␡` stand for the letters of which they are pictures.
+
+use crate::captured::{try_captured, try_captured_json};
+use crate::forms::{EACH_WAY, LISTS, run_over, words_of};
+use crate::pictures::{add_line, plain_text};
+use std::alloc::{AllocError, Global};
+use std::process::Abort;
+use std::test::Fail;
+use sval_check::{Checked, check};
+use sval_core::Value;
+use sval_json::{FaultySink, VecSink};
+use sval_relay::{MemSource, relay_streams};
+use sval_script::{Printer, Script, print_canon};
+
+/// Tries each row.
+pub(crate) fn try_rows(rt: &impl Abort, alloc: Global, rows: &str) -> Result<(), Fail> {
+    let mut script = String::new(alloc);
+    let mut is_whole = false;
+    for line in rows.lines() {
+        if line.is_empty() || line.starts_with("# ") {
+            continue;
+        }
+        if let Some(due) = line.strip_prefix("= ") {
+            try_row(rt, alloc, &script, &plain_text(alloc, due)?)?;
+            is_whole = true;
+        } else {
+            if is_whole {
+                script.clear();
+                is_whole = false;
+            }
+            add_line(&mut script, line)?;
+        }
+    }
+    Ok(())
+}
+
+/// Tries a script at what is due of it.
+fn try_row(rt: &impl Abort, alloc: Global, script: &str, due: &str) -> Result<(), Fail> {
+    let (kind, rest) = due.split_once(' ').unwrap_or((due, ""));
+    match kind {
+        "run" => try_run(rt, alloc, script, rest),
+        "canon" => try_canon(rt, alloc, script, rest),
+        "captured" => try_captured(rt, alloc, script, rest),
+        "captured-json" => try_captured_json(rt, alloc, script, rest),
+        "lines" => try_reading(rt, alloc, script, kind, rest),
+        _ => {
+            try_reading(rt, alloc, script, kind, rest)?;
+            try_checking(rt, alloc, script, kind, rest)?;
+            try_ways(rt, alloc, script, kind, rest)
+        }
+    }
+}
+
+/// Compares what is seen of a script with what is due.
+pub(crate) fn compare(rt: &impl Abort, seen: &str, due: &str, script: &str) {
+    assert_eq!(rt; seen, due, "at {script:?}");
+}
+
+/// Runs a form on a script, where both stand in one row.
+fn try_run(rt: &impl Abort, alloc: Global, script: &str, row: &str) -> Result<(), Fail> {
+    let (form, due) = row.split_once(": ").unwrap_or((row, ""));
+    try_way(rt, alloc, form, script, due)
+}
+
+/// Prints a script's calls canonically.
+fn try_canon(rt: &impl Abort, alloc: Global, script: &str, due: &str) -> Result<(), Fail> {
+    let read = Script::read(alloc, script.as_bytes())?;
+    let mut sink = VecSink::new(alloc);
+    print_canon(&read.as_slice(), &mut sink)?;
+    compare(rt, std::str::from_utf8(sink.as_slice())?, due, script);
+    Ok(())
+}
+
+/// Reads a script: how many lines it has, or which of them is no call.
+fn try_reading(
+    rt: &impl Abort,
+    alloc: Global,
+    script: &str,
+    kind: &str,
+    rest: &str,
+) -> Result<(), Fail> {
+    let seen = match Script::read(alloc, script.as_bytes()) {
+        Ok(read) => format!(in alloc; "{} lines", read.line_count())?,
+        Err(error) => format!(in alloc; "{error:?}")?,
+    };
+    let due = if kind == "bad-line" {
+        format!(in alloc; "BadLine {{ line: {rest} }}")?
+    } else {
+        format!(in alloc; "{} lines", script.lines().count())?
+    };
+    compare(rt, &seen, &due, script);
+    Ok(())
+}
+
+/// Checks a script whose lines are calls.
+fn try_checking(
+    rt: &impl Abort,
+    alloc: Global,
+    script: &str,
+    kind: &str,
+    rest: &str,
+) -> Result<(), Fail> {
+    let due = match kind {
+        "bad-line" => return Ok(()),
+        "bad-call" | "second" => format!(in alloc; "Err(BadCall {{ at: {rest} }})")?,
+        "unfinished" => String::from_str(alloc, "Err(Unfinished)")?,
+        _ => String::from_str(alloc, "Ok(())")?,
+    };
+    let read = Script::read(alloc, script.as_bytes())?;
+    let seen = format!(in alloc; "{:?}", check(alloc, &read))?;
+    compare(rt, &seen, &due, script);
+    if due.starts_with("Err(BadCall") {
+        let seen = checked_calls(alloc, script, &read)?;
+        let due = format!(in alloc; "Some(NotViable) at line {rest}")?;
+        compare(rt, &seen, &due, script);
+    }
+    Ok(())
+}
+
+/// Why a `Checked` refused a call of a script, and the line behind those of the calls that it took.
+fn checked_calls(alloc: Global, text: &str, script: &Script) -> Result<String, AllocError> {
+    let mut checked = Checked::new(alloc, Printer::new(VecSink::new(alloc)));
+    let _answer = script.stream(&mut checked);
+    let why = checked.why();
+    let taken = checked.into_inner().into_inner().into_vec();
+    if !text.as_bytes().starts_with(&taken) {
+        return String::from_str(alloc, "other calls");
+    }
+    let lines = taken.iter().filter(|byte| **byte == b'\n').count();
+    format!(in alloc; "{why:?} at line {}", lines.saturating_add(1))
+}
+
+/// The status of a run on a script in memory, what it wrote, and behind a bar what it told.
+pub(crate) fn run_in(alloc: Global, form: &str, script: &str) -> Result<String, Fail> {
+    let mut input = MemSource::new(script.as_bytes());
+    let mut out = VecSink::new(alloc);
+    let mut diag = VecSink::new(alloc);
+    let status = run_over(alloc, form, &mut input, &mut out, &mut diag)?;
+    let out = std::str::from_utf8(out.as_slice())?;
+    let diag = std::str::from_utf8(diag.as_slice())?;
+    Ok(format!(in alloc; "{status} {out}|{diag}")?)
+}
+
+/// The same over std's readers and writers.
+pub(crate) fn run_over_streams(alloc: Global, form: &str, script: &str) -> Result<String, Fail> {
+    let words = words_of(alloc, form)?;
+    let mut out = Vec::new(alloc);
+    let mut diag = Vec::new(alloc);
+    let status = relay_streams(alloc, &words, script.as_bytes(), &mut out, &mut diag);
+    let out = std::str::from_utf8(&out)?;
+    let diag = std::str::from_utf8(&diag)?;
+    Ok(format!(in alloc; "{status} {out}|{diag}")?)
+}
+
+/// What is due of a run that writes JSON.
+fn json_due(alloc: Global, kind: &str, rest: &str) -> Result<String, AllocError> {
+    match kind {
+        "bad-line" => format!(in alloc; "3 |line {rest}: not a call\n"),
+        "bad-call" | "second" => {
+            format!(in alloc; "4 |line {rest}: no value goes on with this call\n")
+        }
+        "unfinished" => String::from_str(alloc, "5 |the calls are not one whole value\n"),
+        "bad-key" => format!(in alloc; "6 {rest}|attempt to serialize a non-string key\n"),
+        "bad-number" => format!(in alloc; "7 {rest}|attempt to serialize an invalid number\n"),
+        _ => format!(in alloc; "0 {rest}|"),
+    }
+}
+
+/// Whether a row of a kind tells of the JSON that a way writes.
+fn tells_of(kind: &str, way: &str) -> bool {
+    match kind {
+        "inside" => !way.ends_with("beside"),
+        "beside" => way.ends_with("beside"),
+        _ => true,
+    }
+}
+
+/// Runs a way on a script, over memory and over std's readers and writers.
+fn try_way(rt: &impl Abort, alloc: Global, way: &str, script: &str, due: &str) -> Result<(), Fail> {
+    compare(rt, &run_in(alloc, way, script)?, due, script);
+    compare(rt, &run_over_streams(alloc, way, script)?, due, script);
+    Ok(())
+}
+
+/// Runs each way on a script, and prints the script's calls.
+fn try_ways(
+    rt: &impl Abort,
+    alloc: Global,
+    script: &str,
+    kind: &str,
+    rest: &str,
+) -> Result<(), Fail> {
+    let due = json_due(alloc, kind, rest)?;
+    for way in EACH_WAY {
+        if tells_of(kind, way) {
+            try_way(rt, alloc, way, script, &due)?;
+        }
+    }
+    try_reports(rt, alloc, script, &due)?;
+    match kind {
+        "beside" => Ok(()),
+        "bad-line" | "second" | "unfinished" => {
+            compare(rt, &run_in(alloc, "calls", script)?, &due, script);
+            Ok(())
+        }
+        "bad-call" => {
+            compare(rt, &run_in(alloc, "calls", script)?, &due, script);
+            try_behind_a_value(rt, alloc, script, rest)
+        }
+        _ => try_canonical(rt, alloc, script, &due),
+    }
+}
+
+/// A line that isn't taken changes no status.
+fn try_reports(rt: &impl Abort, alloc: Global, script: &str, due: &str) -> Result<(), Fail> {
+    for failing in 1..4 {
+        let failing = [failing];
+        let mut input = MemSource::new(script.as_bytes());
+        let mut out = VecSink::new(alloc);
+        let mut diag = FaultySink::new(alloc, 1, &failing);
+        let status = run_over(alloc, "direct", &mut input, &mut out, &mut diag)?;
+        let status = format!(in alloc; "{status} ")?;
+        assert!(rt; due.starts_with(status.as_str()), "{script:?}");
+    }
+    Ok(())
+}
+
+/// Runs each form that takes many values on a script behind a value.
+fn try_behind_a_value(
+    rt: &impl Abort,
+    alloc: Global,
+    script: &str,
+    line: &str,
+) -> Result<(), Fail> {
+    let behind = format!(in alloc; "null\n{script}")?;
+    let line = line.parse::<u64>()?.saturating_add(1);
+    let due = format!(in alloc; "4 |line {line}: no value goes on with this call\n")?;
+    for form in LISTS {
+        compare(rt, &run_in(alloc, form, &behind)?, &due, &behind);
+    }
+    Ok(())
+}
+
+/// Prints a script's canonical one, which gives the same JSON, or the same refusal of it, and prints as itself.
+fn try_canonical(rt: &impl Abort, alloc: Global, script: &str, due: &str) -> Result<(), Fail> {
+    let printed = run_in(alloc, "calls", script)?;
+    let (status, rest) = printed.split_once(' ').unwrap_or(("", ""));
+    let (lines, told) = rest.split_once('|').unwrap_or((rest, "no bar"));
+    compare(rt, status, "0", script);
+    compare(rt, told, "", script);
+    compare(rt, &run_in(alloc, "direct", lines)?, due, script);
+    compare(rt, &run_in(alloc, "calls", lines)?, &printed, script);
+    Ok(())
+}
