@@ -314,16 +314,17 @@ fn try_script(rt: &impl Abort, alloc: Global, rows: &str) -> Result<(), Fail> {
     let mut part = String::new(alloc);
     let mut script = String::new(alloc);
     let mut due = String::new(alloc);
-    let mut forms = "";
+    let mut forms = String::new(alloc);
     for line in rows.lines() {
         if let Some(pieces) = line.strip_prefix("$ ") {
             add_pieces(alloc, &mut part, pieces, "")?;
         } else if let Some(next) = line.strip_prefix("= ") {
             if !forms.is_empty() {
-                try_forms(rt, alloc, forms, &script, &due)?;
+                try_forms(rt, alloc, &forms, &script, &due)?;
+                forms.clear();
             }
             due.clear();
-            forms = next;
+            forms.push_str(next)?;
         } else if forms.is_empty() {
             if !line.starts_with("# ") {
                 add_pieces(alloc, &mut script, line, &part)?;
@@ -332,7 +333,7 @@ fn try_script(rt: &impl Abort, alloc: Global, rows: &str) -> Result<(), Fail> {
             add_pieces(alloc, &mut due, line, &part)?;
         }
     }
-    try_forms(rt, alloc, forms, &script, &due)
+    try_forms(rt, alloc, &forms, &script, &due)
 }
 
 #[test]
