@@ -124,7 +124,7 @@ fn serve<I: Source, K: Sink>(
 /// The words are those after the program's name: one word, `json` or `calls`. The input is read to its end, at most
 /// 16,777,216 bytes and one more to see that there are too many, and as one item of CBOR (RFC 8949) in the profile of
 /// [`CborDoc::read`]. With `json` the JSON of the value that the item is is written, without white space: byte strings
-/// as arrays of numbers, keys that are numbers or truth values as texts. With `calls` the canonical script of the
+/// as arrays of numbers, keys that are numbers, truth values or null as texts. With `calls` the canonical script of the
 /// document's calls is written, after it was captured. Where the status isn't 0, one line is written to `diag` that says
 /// why; what `diag` answers changes nothing.
 ///

@@ -86,8 +86,8 @@ impl<'a> JsonDoc<'a> {
     ///
     /// # Errors
     ///
-    /// [`ReadError::NotUtf8`] exactly where the bytes are no UTF-8. [`ReadError::BadJson`] exactly where they are and
-    /// denote no value. [`ReadError::NoMemory`] may come in place of `BadJson` and of a document, but only where some
+    /// [`ReadError::NotUtf8`] exactly where the bytes are no UTF-8. [`ReadError::BadJson`] comes only where they are and
+    /// denote no value. [`ReadError::NoMemory`] may come in its place and in that of a document, but only where some
     /// first bytes hold a whole number or string, a bracket or brace, or the first letter of a word.
     pub fn read(alloc: Global, bytes: &'a [u8]) -> Result<Self, ReadError>
         ensures ok { IfOk result (λ doc. IsRead bytes.now doc) }
