@@ -2,6 +2,7 @@
 
 ghost use Rattle.std.specs.Prelude.{◌≡◌, ◌↔◌, true, None, map, string_bytes, OnOk, OnErr};
 ghost use Rattle.std.specs.Option.{is_some};
+ghost use Rattle.sval_json.specs.Sinks.{Told};
 ghost use Rattle.sval_program.specs.Reports.{TellsLine, out_of_memory};
 
 use crate::line::tell;
@@ -17,10 +18,12 @@ use sval_json::{RealSink, Sink};
 /// How many bytes of output are held back at most.
 const BUFFER: usize = 1 << 16;
 
-/// A program: its words, and what it does over any devices.
+/// A program: its words, and what is so of its runs over any devices.
 pub trait Program {
     ghost use Rattle.std.specs.Prelude.{ℕ, Bool, List, Option};
     ghost use Rattle.sval_program.specs.declared.status.TheConstants.{USAGE, NO_MEMORY};
+    ghost use Rattle.sval_program.specs.Sources.{Supply};
+    ghost use Rattle.sval_json.specs.Sinks.{Told};
 
     /// What its words may ask for.
     ghost Form: { Type 0 };
@@ -31,11 +34,15 @@ pub trait Program {
     /// Whether it ends with this status.
     ghost is_status: { ℕ → Bool };
 
+    /// What is so after a run: of its words, of what the source and the sink told before and after it, and its status.
+    ghost Ends: { List (List ℕ) → Supply → Supply → Told → Told → ℕ → Type 0 };
+
     /// Whether words are one of its forms.
     fn takes(words: &[String]) -> bool
         ensures { result ≡ is_some (form_named (map string_bytes words.now)) };
 
-    /// Runs it on its words, its devices and an allocator, and answers its status.
+    /// Runs it on its words, its devices and an allocator, and answers its status. When each status comes, and what is
+    /// made of the source and the sink, is as the program's `Ends` says.
     fn run<I: Source, K: Sink, D: Sink>(
         alloc: Global,
         words: &[String],
@@ -44,7 +51,9 @@ pub trait Program {
         diag: &mut D,
     ) -> u8
         ensures known { is_status result ≡ true }
-        ensures usage { (result ≡ USAGE) ↔ (form_named (map string_bytes words.now) ≡ None) };
+        ensures usage { (result ≡ USAGE) ↔ (form_named (map string_bytes words.now) ≡ None) }
+        ensures ends { Ends (map string_bytes words.now) (I.told input.old) (I.told input.new)
+            (K.told out.old) (K.told out.new) result };
 
     /// It may say that the words are no form, and that memory was wanting.
     ghost has_usage: { is_status USAGE ≡ true };
@@ -88,7 +97,8 @@ pub fn run_streams<P: Program, R: Read + Drop, W: Write + Drop, D: Write + Drop>
     )
 }
 
-/// Runs a program over the output's buffer. Where there is none memory was wanting, and only that is said.
+/// Runs a program over the output's buffer, as its `Ends` says for some tellings of it, which std doesn't give. Where
+/// there is no buffer memory was wanting: that is said, and nothing is read.
 fn run_buffered<P: Program, I: Source, W: Write + Drop, D: Sink>(
     alloc: Global,
     words: &[String],
@@ -98,7 +108,10 @@ fn run_buffered<P: Program, I: Source, W: Write + Drop, D: Sink>(
 ) -> u8
     ensures known { P.is_status result ≡ true }
     ensures usage { OnOk stdout ((result ≡ USAGE) ↔ (P.form_named (map string_bytes words.now) ≡ None)) }
+    ensures ends { OnOk stdout ((old : Told) × (new : Told)
+        × P.Ends (map string_bytes words.now) (I.told input.old) (I.told input.new) old new result) }
     ensures no_buffer { OnErr stdout (result ≡ NO_MEMORY) }
+    ensures no_buffer_unread { OnErr stdout (input.new ≡ input.old) }
     ensures no_buffer_told { OnErr stdout (TellsLine (D.told diag.old) out_of_memory (D.told diag.new)) }
 {
     match stdout {
