@@ -20,3 +20,4 @@ pub mod Forms
 pub mod Statuses
 pub mod Serves
 pub mod Reports
+pub mod Ends
