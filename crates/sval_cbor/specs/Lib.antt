@@ -13,3 +13,4 @@ pub mod Verdict
 pub mod Statuses
 pub mod Reports
 pub mod Serves
+pub mod Ends

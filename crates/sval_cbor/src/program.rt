@@ -1,6 +1,7 @@
 //! The whole program, for a process.
 
 ghost use Rattle.std.specs.Prelude.{refl};
+ghost use Rattle.sval_cbor.specs.Ends.{CborEnds};
 ghost use Rattle.sval_cbor.specs.Forms.{form_named};
 ghost use Rattle.sval_cbor.specs.Statuses.{is_status};
 
@@ -10,7 +11,7 @@ use sval_json::Sink;
 use sval_program::{Program, Source};
 
 /// The program, as [`run_process`](sval_program::run_process) and [`run_streams`](sval_program::run_streams) run it: what
-/// it does is [`run_cbor`].
+/// it does is [`run_cbor`], and its `Ends` are the clauses of `run_cbor` on what the source and the sink tell.
 pub struct WriteCbor;
 
 impl Program for WriteCbor {
@@ -19,6 +20,8 @@ impl Program for WriteCbor {
     ghost form_named = { form_named };
 
     ghost is_status = { is_status };
+
+    ghost Ends = { CborEnds };
 
     ghost has_usage = { refl };
 
