@@ -21,3 +21,4 @@ pub mod Refused
 pub mod Statuses
 pub mod Reports
 pub mod Serves
+pub mod Ends

@@ -1,6 +1,7 @@
 //! The whole program, for a process.
 
 ghost use Rattle.std.specs.Prelude.{refl};
+ghost use Rattle.sval_filter.specs.Ends.{FilterEnds};
 ghost use Rattle.sval_filter.specs.Statuses.{is_status};
 ghost use Rattle.sval_filter.specs.Words.{rule_and_paths};
 
@@ -11,7 +12,7 @@ use sval_json::Sink;
 use sval_program::{Program, Source};
 
 /// The program, as [`run_process`](sval_program::run_process) and [`run_streams`](sval_program::run_streams) run it: what
-/// it does is [`run_filter`].
+/// it does is [`run_filter`], and its `Ends` are the clauses of `run_filter` on what the source and the sink tell.
 pub struct FilterFields;
 
 impl Program for FilterFields {
@@ -22,6 +23,8 @@ impl Program for FilterFields {
     ghost form_named = { rule_and_paths };
 
     ghost is_status = { is_status };
+
+    ghost Ends = { FilterEnds };
 
     ghost has_usage = { refl };
 
