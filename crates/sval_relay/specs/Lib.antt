@@ -11,3 +11,4 @@ pub mod Runs
 pub mod MadeLaws
 pub mod Laws
 pub mod ErrorTexts
+pub mod Ends

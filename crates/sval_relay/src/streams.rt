@@ -1,6 +1,7 @@
 //! The whole program, over std's readers and writers.
 
 ghost use Rattle.std.specs.Prelude.{◌≡◌, ◌↔◌, true, None, refl};
+ghost use Rattle.sval_relay.specs.Ends.{RelayEnds};
 ghost use Rattle.sval_relay.specs.Statuses.{is_status};
 ghost use Rattle.sval_relay.specs.Ways.{form_of, form_named};
 
@@ -12,7 +13,8 @@ use sval_json::Sink;
 use sval_program::status::USAGE;
 use sval_program::{Program, Source, run_streams};
 
-/// The program, as [`run_process`](sval_program::run_process) runs it: what it does is [`run`].
+/// The program, as [`run_process`](sval_program::run_process) runs it: what it does is [`run`], and its `Ends` are the
+/// clauses of `run` on what the source and the sink tell.
 pub struct Relay;
 
 impl Program for Relay {
@@ -23,6 +25,8 @@ impl Program for Relay {
     ghost form_named = { form_named };
 
     ghost is_status = { is_status };
+
+    ghost Ends = { RelayEnds };
 
     ghost has_usage = { refl };
 
