@@ -17,3 +17,4 @@ pub mod Forms
 pub mod Statuses
 pub mod Reports
 pub mod Serves
+pub mod Ends

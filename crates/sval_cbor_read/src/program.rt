@@ -1,6 +1,7 @@
 //! The whole program, for a process.
 
 ghost use Rattle.std.specs.Prelude.{refl};
+ghost use Rattle.sval_cbor_read.specs.Ends.{ReadEnds};
 ghost use Rattle.sval_cbor_read.specs.Forms.{form_named};
 ghost use Rattle.sval_cbor_read.specs.Statuses.{is_status};
 
@@ -11,7 +12,8 @@ use sval_json::Sink;
 use sval_program::{Program, Source};
 
 /// The program, as [`run_process`](sval_program::run_process) and [`run_streams`](sval_program::run_streams) run it: what
-/// it does is [`run_cbor_read`].
+/// it does is [`run_cbor_read`], and its `Ends` are the clauses of `run_cbor_read` on what the source and the sink
+/// tell.
 pub struct ReadCbor;
 
 impl Program for ReadCbor {
@@ -22,6 +24,8 @@ impl Program for ReadCbor {
     ghost form_named = { form_named };
 
     ghost is_status = { is_status };
+
+    ghost Ends = { ReadEnds };
 
     ghost has_usage = { refl };
 
