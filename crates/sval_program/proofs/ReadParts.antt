@@ -1,10 +1,10 @@
 -- An input that is read part by part.
 use Rattle.std.specs.Prelude.{◌≡◌, ◌≢◌, ◌⊎◌, ℕ, zero, suc, ◌∷◌, ◌+◌, ◌^◌, ◌<◌, ◌≤◌, List, [], ◌++◌, take, drop, length, Option, Some, None, IfSome, Err, refl}
 use Rattle.std.proofs.Common.{sym, ap, inl, inr, ◌∙◌, subst, arith, append_assoc}
-use Rattle.std.proofs.lemmas.List.{length-drop, length-take-le, length-append, drop-drop, take-append-le, take_all, append-nil}
+use Rattle.std.proofs.lemmas.List.{length-drop, drop_all, length-take-le, length-append, drop-drop, take-append-le, take_all, append-nil}
 use Rattle.std.proofs.Math.Seq.{drop-nil, take-add, take-append-add}
 use Rattle.sval_program.specs.Sources.{Supply, TakesFirst, Gives}
-use Rattle.sval_program.specs.Inputs.{TakesAll, TakesOneMore, GivesPart, HasRead}
+use Rattle.sval_program.specs.Inputs.{TakesAll, ReadsWhole, TakesOneMore, TakesAtMost, StaysShort, GivesPart, HasRead}
 use Rattle.sval_script.specs.Lines.{lines}
 use Rattle.sval_script.specs.Readings.{Reading, answer_to, answer_with, TakesPiece}
 use Rattle.sval_script.specs.declared.script.ScriptError.TheVariants.{NoMemory}
@@ -59,6 +59,24 @@ read_long (Some all) mid new xs b n p e g one =
       long = omega (arith, room, place);
       left = t.left ∙ ap (λ x. Some x) (drop-drop n (length xs) all ∙ ap (λ m. drop m all) place);
     }
+
+-- where reading goes no further, no more than the limit was taken
+pub read_short : (old mid new : Option (List ℕ)) (xs : List ℕ) → IsPartlyRead old mid xs → length xs ≤ 2 ^ 24 → new ≡ mid → IfSome old (λ all. TakesAtMost (2 ^ 24) all new)
+read_short None mid new xs p short same = tt
+read_short (Some all) mid new xs p short same = (length xs, short, same ∙ p.left)
+
+-- nothing was taken
+pub read_nothing : (left : Option (List ℕ)) → IfSome left (λ all. TakesAtMost (2 ^ 24) all left)
+read_nothing None = tt
+read_nothing (Some all) = (0, omega arith, refl)
+
+-- all was taken, which was no more than the limit
+pub read_all : {old new : Supply} {bytes : List ℕ} → ReadsWhole old bytes new → StaysShort old new
+read_all {old} {new} {bytes} r = from old.left r.taken
+  where
+    from : (left : Option (List ℕ)) → IfSome left (λ all. TakesAll all bytes new.left) → IfSome left (λ all. TakesAtMost (2 ^ 24) all new.left)
+    from None t = tt
+    from (Some all) t = (length bytes, r.short, t.left ∙ ap Some (sym (drop_all (length bytes) all (omega (arith, ap length t.all)))))
 
 -- what a reader answers that was given these bytes
 abbrev pub KnowsInput : Reading → List ℕ → Type 0

@@ -1,5 +1,5 @@
 -- What reading an input to its end makes of its source.
-use Rattle.std.specs.Prelude.{◌≡◌, ◌⊎◌, ℕ, ◌+◌, ◌<◌, ◌≤◌, ◌^◌, List, [], take, drop, length, Option, Some, IfSome, Err, ⊤}
+use Rattle.std.specs.Prelude.{◌≡◌, ◌≢◌, ◌⊎◌, ℕ, ◌+◌, ◌<◌, ◌≤◌, ◌^◌, List, [], take, drop, length, Option, Some, IfSome, Err, ⊤}
 use Rattle.sval_core.specs.Law.{Rose}
 use Rattle.sval_script.specs.Lines.{lines}
 use Rattle.sval_script.specs.Readings.{Reading, answer_to, answer_with, TakesPiece}
@@ -62,11 +62,20 @@ pub record TakesOneMore (whole : List ℕ) (rest : Option (List ℕ)) : Type 0 w
 abbrev pub IsTooLong : Supply → Supply → Type 0
 IsTooLong old new = IfSome old.left (λ all. TakesOneMore all new.left)
 
+-- some first bytes were taken, no more than so many, and the others are left
+abbrev pub TakesAtMost : ℕ → List ℕ → Option (List ℕ) → Type 0
+TakesAtMost most whole rest = (count : ℕ) × (count ≤ most) × (rest ≡ Some (drop count whole))
+
+-- no more than 16,777,216 bytes were taken, where the source tells what it has left
+abbrev pub StaysShort : Supply → Supply → Type 0
+StaysShort old new = IfSome old.left (λ all. TakesAtMost (2 ^ 24) all new.left)
+
 -- reading stopped, and this is why; a count of faults that moved means a fault
 pub record StopsReading (why : InputError) (old new : Supply) : Type 0 where
   pub fault : why ≡ ReadFault → Rose old.faults new.faults
   pub moved : old.faults < new.faults → why ≡ ReadFault
   pub long : why ≡ TooLong → IsTooLong old new
+  pub short : why ≢ TooLong → StaysShort old new
   pub faults : old.faults ≤ new.faults
 
 -- the input wasn't read, and the sink is as it was

@@ -32,7 +32,7 @@ impl Model for Line {
 }
 
 impl Line {
-    /// A line that is this text, which ends with a line feed.
+    /// A line that is this text. No line feed is added, so the text brings its own.
     pub fn text(text: &'static str) -> Self
         ensures { result ≡ text.now }
     {
@@ -43,7 +43,7 @@ impl Line {
         }
     }
 
-    /// A line with a number between two texts, as a decimal. The second text ends with a line feed.
+    /// A line with a number between two texts, as a decimal. No line feed is added, so the second text brings its own.
     pub fn numbered(before: &'static str, number: u64, after: &'static str) -> Self
         ensures { result ≡ before.now ++ (decimal number ++ after.now) }
     {

@@ -44,7 +44,7 @@ fn read_part<I: Source>(
 /// [`InputError::ReadFault`] comes only where the source failed, and wherever its count of faults moved.
 /// [`InputError::TooLong`] comes only where there were more bytes, of which one more was taken.
 /// [`InputError::NoMemory`] comes where there was no memory to read into; where there was none for the script, the
-/// reader says so at its end.
+/// reader says so at its end. After a fault or want of memory at most 16,777,216 bytes were taken.
 pub fn read_script<I: Source>(alloc: Global, input: &mut I) -> Result<ScriptReader, InputError>
     ensures ok { IfOk result (λ reader. HasRead (I.told input.old) reader (I.told input.new)) }
     ensures err { IfErr result (λ why. StopsReading why (I.told input.old) (I.told input.new)) }

@@ -1,4 +1,4 @@
-use Rattle.std.proofs.Common.{rules, arith, ◌≡◌, ◌≤◌, ◌<◌, ◌+◌, ◌-◌, ◌^◌, ◌++◌, ◌∙◌, take, drop, length, IfSome, subst, sym, ap}
+use Rattle.std.proofs.Common.{rules, arith, ◌≡◌, ◌≤◌, ◌+◌, ◌-◌, ◌∙◌, take, drop, length, IfSome, refl, subst, sym, ap}
 use Rattle.std.proofs.lemmas.List.{length-take-le, length-drop, take_all}
 use Rattle.sval_program.specs.Inputs.{TakesAll}
 use Rattle.sval_program.proofs.ReadParts.{IsPartlyRead, read_on, read_whole, read_long, filled_on}
@@ -46,5 +46,6 @@ returns-in_default-clause-err g c =
       fault = λ e. cc e;
       moved = λ m. absurd (omega (arith, m, c.in_ok-read.ensures.faults, c.loop-filled.invariant.faults));
       long = λ e. read_long _ _ _ (take c.loop-filled.filled c.loop-filled.bytes.items) c.read-2.new.buffer c.in_ok-read.field-0 c.loop-filled.invariant.read full c.in_ok-read.ensures one;
+      short = λ n. absurd (n refl);
       faults = omega (arith, c.in_ok-read.ensures.faults, c.loop-filled.invariant.faults);
     }

@@ -1,7 +1,7 @@
 use Rattle.std.proofs.Common.{rules, refl, arith, ◌≡◌, ◌≤◌, ◌<◌, ◌∙◌, length}
 use Rattle.std.proofs.lemmas.List.{length-take-le}
 use Rattle.std.proofs.lemmas.Result.{err_from_is_err_and}
-use Rattle.sval_program.proofs.ReadParts.{reads-none, reads-more, reads-all, read_long}
+use Rattle.sval_program.proofs.ReadParts.{reads-none, reads-more, reads-all, read_long, read_short, read_nothing}
 use Rattle.sval_program.proofs.reading.read_script.Goals as goal
 
 pub loop-taken-init : goal.loop-taken-init
@@ -10,6 +10,17 @@ loop-taken-init g c = record {
   short = omega arith;
   buffer = c.in_ok-buffer.ensures.len;
 }
+
+pub returns-in_err-buffer-clause-err : goal.returns-in_err-buffer-clause-err
+returns-in_err-buffer-clause-err g c =
+    let p = err_from_is_err_and c.from_residual.result c.from_residual.ensures.1 in
+    rw (p.1, p.2) record {
+      fault = λ e. cc e;
+      moved = λ m. absurd (omega (arith, m));
+      long = λ e. cc e;
+      short = λ n. read_nothing (g.I.Source.told c.args.input.now).left;
+      faults = omega arith;
+    }
 
 pub loop-taken-preserved : goal.loop-taken-preserved
 loop-taken-preserved g c =
@@ -44,12 +55,26 @@ returns-in_err-count-clause-err g c =
       fault = λ e. rw (← r.faults) no.cause;
       moved = λ m. refl;
       long = λ e. cc e;
+      short = λ n. read_short _ _ _ r.bytes r.read (omega (arith, r.size, c.loop-taken.invariant.short)) no.left;
       faults = omega (arith, r.faults, no.faults);
     }
 
 pub returns-in-0-clause-ok : goal.returns-in-0-clause-ok
 returns-in-0-clause-ok g c =
     reads-all (g.I.Source.told c.read.new.self) c.read.new.buffer c.in_ok-read.field-0 c.loop-taken.invariant.reading c.in_ok-read.ensures c.in-0.is (omega (arith, c.read.auto.buffer)) c.loop-taken.invariant.short
+
+pub returns-in_err-read-clause-err : goal.returns-in_err-read-clause-err
+returns-in_err-read-clause-err g c =
+    let p = err_from_is_err_and c.from_residual-in_err-read.result c.from_residual-in_err-read.ensures.1 in
+    let r = c.loop-taken.invariant.reading in
+    let no = c.in_err-read.ensures in
+    rw (p.1, p.2) record {
+      fault = λ e. rw (← r.faults) no.cause;
+      moved = λ m. refl;
+      long = λ e. cc e;
+      short = λ n. read_short _ _ _ r.bytes r.read (omega (arith, r.size, c.loop-taken.invariant.short)) no.left;
+      faults = omega (arith, r.faults, no.faults);
+    }
 
 pub returns-in_default-clause-err : goal.returns-in_default-clause-err
 returns-in_default-clause-err g c =
@@ -60,5 +85,6 @@ returns-in_default-clause-err g c =
       fault = λ e. cc e;
       moved = λ m. absurd (omega (arith, m, c.in_ok-read.ensures.faults, r.faults));
       long = λ e. read_long _ _ _ r.bytes c.read.new.buffer c.in_ok-read.field-0 r.read full c.in_ok-read.ensures one;
+      short = λ n. absurd (n refl);
       faults = omega (arith, c.in_ok-read.ensures.faults, r.faults);
     }
