@@ -1,6 +1,6 @@
 -- From what serving a form says to what each status says.
 use Rattle.std.specs.Prelude.{◌≡◌, ℕ, ◌⊎◌, List, Option, Some, None, Result, Ok, Err, IfSome, IsUtf8, refl}
-use Rattle.std.proofs.Common.{sym, subst, arith, inl, inr}
+use Rattle.std.proofs.Common.{sym, ap, subst, arith, inl, inr}
 use Rattle.sval_core.specs.Law.{Rose}
 use Rattle.sval_json.specs.Grammar.{JsonValue, Denotes}
 use Rattle.sval_json.specs.Sinks.{Told, AppendsFront}
@@ -10,9 +10,10 @@ use Rattle.sval_json.proofs.Appending.{all_is_front}
 use Rattle.sval_program.specs.declared.status.TheConstants.{READ, NO_MEMORY, TOO_LONG}
 use Rattle.sval_program.specs.declared.input_error.InputError.{InputError}
 use Rattle.sval_program.specs.declared.input_error.InputError.TheVariants as input
-use Rattle.sval_program.specs.Inputs.{ReadsWhole, OnShort, OnBoth, TakesAll, TakesOneMore, IsUnread}
+use Rattle.sval_program.specs.Inputs.{ReadsWhole, OnShort, OnBoth, TakesAll, TakesOneMore, StaysShort, IsUnread}
 use Rattle.sval_program.specs.Outputs.{Grows}
 use Rattle.sval_program.specs.Sources.{Supply}
+use Rattle.sval_program.proofs.ReadParts.{read_nothing, read_all}
 use Rattle.sval_program.proofs.Growing.{front_of_nothing, grows_by_nothing, grows_by_front}
 use Rattle.sval_json_read.specs.declared.status.TheConstants.{NOT_UTF8, BAD_JSON}
 use Rattle.sval_json_read.specs.declared.document.ReadError.{ReadError}
@@ -198,3 +199,14 @@ grows k = by_end k (λ form r. Grows (k.sink k.old) (k.sink k.new))
     (λ asked why u. grows_same k u.out)
     (λ asked why s. grows_same k s.serves.out)
     (λ asked why s. grows_by_front s.serves.stops.begins)
+
+-- ---- what is left of the source
+
+-- no more than the limit was taken, unless the input is too long
+pub stays_short : {I K : Type 0} (k : Case I K) (form : Option Form) (r : Result (Unit {0}) Failure) → Ran k form r → (status_of r ≡ TOO_LONG → ⊥) → StaysShort (k.source k.before) (k.source k.after)
+stays_short k = by_end k (λ form r. (status_of r ≡ TOO_LONG → ⊥) → StaysShort (k.source k.before) (k.source k.after))
+    (λ input out no. subst (λ after. StaysShort (k.source k.before) (k.source after)) (sym input) (read_nothing (k.source k.before).left))
+    (λ asked s no. read_all s.reads)
+    (λ asked why u no. u.stops.short (λ e. no (ap (λ w. status_of (Err (Input w))) e)))
+    (λ asked why s no. read_all s.reads)
+    (λ asked why s no. read_all s.reads)
