@@ -14,3 +14,4 @@ pub mod MadeScripts
 pub mod MadeAnswers
 pub mod MadeStreams
 mod examples
+pub mod ToldWants

@@ -8,7 +8,7 @@ use Rattle.sval_program.specs.Outputs.{Grows}
 use Rattle.sval_program.specs.Sources.{Supply}
 use Rattle.sval_relay.specs.declared.way.Task.{Task}
 use Rattle.sval_relay.specs.Relays.{WritesText, WritesValue, WritesUpTo, MayLeave}
-use Rattle.sval_relay.specs.Runs.{WritesMadeLine, BeginsMadeLine}
+use Rattle.sval_relay.specs.Runs.{IsWantOf, WritesMadeLine, BeginsMadeLine}
 use Rattle.sval_relay.specs.Statuses.{is_of_made, is_unwritten, is_read, IsStatusDue}
 use Rattle.sval_relay.specs.Verdict.{Unfinished, Key, Number, IsVerdict, HasBadLine, HasBadCall, OnVerdict}
 use Rattle.sval_relay.specs.Ways.{form_named, task_in, OnRecords}
@@ -33,6 +33,7 @@ pub record RelayEnds (words : List (List ℕ)) (in_old in_new : Supply) (out_old
   pub invalid_number : status ≡ INVALID_NUMBER → OnNamed words in_old (WritesUpTo Number out_old out_new)
   pub write : status ≡ WRITE → Rose out_old.faults out_new.faults
   pub read : status ≡ READ → Rose in_old.faults in_new.faults
+  pub own_want : status ≡ NO_MEMORY → IsWantOf (form_named words) (λ (told : Told). told) out_old out_new
   pub long : status ≡ TOO_LONG → IsTooLong in_old in_new
   pub read_comes : in_old.faults < in_new.faults → status ≡ READ
   pub comes : (Rose in_old.faults in_new.faults → ⊥) → (Rose out_old.faults out_new.faults → ⊥) → OnNamed words in_old (OnShort (OnVerdict (IsStatusDue status)))
@@ -48,3 +49,4 @@ pub record RelayEnds (words : List (List ℕ)) (in_old in_new : Supply) (out_old
   pub made_line : status ≡ DONE → OnMadeNamed words (WritesMadeLine out_old out_new)
   pub made_begins : OnMadeNamed words (BeginsMadeLine out_old out_new)
   pub made_comes : (Rose out_old.faults out_new.faults → ⊥) → OnMadeNamed words (λ _. (status ≡ DONE) ⊎ (status ≡ NO_MEMORY))
+  pub made_reads_nothing : OnMadeNamed words (λ _. in_new ≡ in_old)
