@@ -1,6 +1,6 @@
 -- From what serving the input says to what each status says.
 use Rattle.std.specs.Prelude.{◌≡◌, ℕ, ◌≤◌, ◌⊎◌, true, List, Option, Some, None, Result, Ok, Err, IfSome, refl}
-use Rattle.std.proofs.Common.{sym, subst, arith, inl, inr}
+use Rattle.std.proofs.Common.{sym, ap, subst, arith, inl, inr}
 use Rattle.sval_core.specs.Law.{Rose}
 use Rattle.sval_json.specs.Sinks.{Told, IsSteady, NoCountFell, Appends}
 use Rattle.sval_json.specs.declared.sink.SinkError.{SinkError}
@@ -9,9 +9,10 @@ use Rattle.sval_json.proofs.Appending.{appends_nothing, all_is_front, steady_alo
 use Rattle.sval_program.specs.declared.status.TheConstants.{DONE, BAD_LINE, BAD_CALL, UNFINISHED, INVALID_KEY, INVALID_NUMBER, WRITE, READ, NO_MEMORY, TOO_LONG}
 use Rattle.sval_program.specs.declared.input_error.InputError.{InputError}
 use Rattle.sval_program.specs.declared.input_error.InputError.TheVariants as input
-use Rattle.sval_program.specs.Inputs.{IsSpent, OnShort, OnBoth, TakesAll, TakesOneMore, IsUnread}
+use Rattle.sval_program.specs.Inputs.{IsSpent, OnShort, OnBoth, TakesAll, TakesOneMore, IsUnread, StaysShort}
 use Rattle.sval_program.specs.Outputs.{Grows, IsOwnWant}
 use Rattle.sval_program.specs.Sources.{Supply}
+use Rattle.sval_program.proofs.ReadParts.{read_nothing, read_all}
 use Rattle.sval_program.proofs.Growing.{counts_stay, grows_by_nothing, grows_by_front}
 use Rattle.sval_cbor.specs.declared.failure.Failure.{Failure}
 use Rattle.sval_cbor.specs.declared.failure.Failure.TheVariants.{Usage, Input, Script, Write}
@@ -457,3 +458,18 @@ steady k = by_end k (λ form r. is_read (status_of r) ≡ true → IsSteadyRun k
 pub line_is : (r : Result (Unit {0}) Failure) → line_of_result r ≡ report (status_of r) (line_in r)
 line_is (Ok done) = refl
 line_is (Err why) = refl
+
+-- ---- what is left of the source
+
+-- a source that is as it was
+short_same : {I K : Type 0} (k : Case I K) → k.after ≡ k.before → StaysShort (k.source k.before) (k.source k.after)
+short_same k same = subst (λ after. StaysShort (k.source k.before) (k.source after)) (sym same) (read_nothing (k.source k.before).left)
+
+-- no more than the limit was taken, unless the input is too long
+pub stays_short : {I K : Type 0} (k : Case I K) (form : Option (Unit {0})) (r : Result (Unit {0}) Failure) → Ran k form r → (status_of r ≡ TOO_LONG → ⊥) → StaysShort (k.source k.before) (k.source k.after)
+stays_short k = by_end k (λ form r. (status_of r ≡ TOO_LONG → ⊥) → StaysShort (k.source k.before) (k.source k.after))
+    (λ input out no. short_same k input)
+    (λ asked s no. read_all s.reads)
+    (λ asked why u no. u.stops.short (λ e. no (ap (λ w. status_of (Err (Input w))) e)))
+    (λ asked why s no. read_all s.reads)
+    (λ asked why s no. read_all s.reads)

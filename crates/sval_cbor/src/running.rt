@@ -4,7 +4,7 @@ ghost use Rattle.std.specs.Prelude.{◌≡◌, ◌⊎◌, ◌<◌, ◌≤◌, �
 ghost use Rattle.sval_core.specs.Law.{Rose};
 ghost use Rattle.sval_core.specs.Values.{makes};
 ghost use Rattle.sval_json.specs.Sinks.{HoldsNothing, IsSteady, NoCountFell};
-ghost use Rattle.sval_program.specs.Inputs.{OnShort, OnLong, IsSpent, IsTooLong};
+ghost use Rattle.sval_program.specs.Inputs.{OnShort, OnLong, IsSpent, IsTooLong, StaysShort};
 ghost use Rattle.sval_program.specs.Outputs.{Grows, IsOwnWant};
 ghost use Rattle.sval_script.specs.Lines.{lines, Good};
 ghost use Rattle.sval_cbor.specs.Forms.{form_of, OnAsked};
@@ -206,6 +206,7 @@ pub fn run_cbor<I: Source, K: Sink, D: Sink>(
     // What is left of the source.
     ensures nothing_read { result ≡ USAGE → input.new ≡ input.old }
     ensures spent { is_read result ≡ true → OnAsked words.now (I.told input.old) (IsSpent (I.told input.new)) }
+    ensures short { ¬ (result ≡ TOO_LONG) → StaysShort (I.told input.old) (I.told input.new) }
 
     // The counts.
     ensures steady { is_read result ≡ true → ((I.told input.new).faults ≡ (I.told input.old).faults)

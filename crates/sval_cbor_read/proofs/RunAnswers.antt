@@ -12,9 +12,10 @@ use Rattle.sval_json.proofs.Appending.{all_is_front}
 use Rattle.sval_program.specs.declared.status.TheConstants.{DONE, INVALID_KEY, NO_MEMORY, TOO_LONG}
 use Rattle.sval_program.specs.declared.input_error.InputError.{InputError}
 use Rattle.sval_program.specs.declared.input_error.InputError.TheVariants as input
-use Rattle.sval_program.specs.Inputs.{ReadsWhole, OnShort, OnLong, OnBoth, IsSpent, TakesAll, TakesOneMore, IsUnread}
+use Rattle.sval_program.specs.Inputs.{ReadsWhole, OnShort, OnLong, OnBoth, IsSpent, TakesAll, TakesOneMore, IsUnread, StaysShort}
 use Rattle.sval_program.specs.Outputs.{Grows}
 use Rattle.sval_program.specs.Sources.{Supply}
+use Rattle.sval_program.proofs.ReadParts.{read_nothing, read_all}
 use Rattle.sval_program.proofs.Growing.{front_of_nothing, grows_by_nothing, grows_by_front}
 use Rattle.sval_cbor_read.specs.declared.status.TheConstants.{BAD_CBOR}
 use Rattle.sval_cbor_read.specs.declared.document.CborReadError.{CborReadError}
@@ -290,3 +291,19 @@ spent k = by_end k (λ form r. is_read (status_of r) ≡ true → OnInput k form
     (λ asked why s e. spent_served k asked s)
     (λ asked s e. spent_served k asked s)
     (λ asked why s e. spent_served k asked s)
+
+-- ---- what is left of the source
+
+-- a source that is as it was
+short_same : {I K : Type 0} (k : Case I K) → k.after ≡ k.before → StaysShort (k.source k.before) (k.source k.after)
+short_same k same = subst (λ after. StaysShort (k.source k.before) (k.source after)) (sym same) (read_nothing (k.source k.before).left)
+
+-- no more than the limit was taken, unless the input is too long
+pub stays_short : {I K : Type 0} (k : Case I K) (form : Option Form) (r : Result (Unit {0}) Failure) → Ran k form r → (status_of r ≡ TOO_LONG → ⊥) → StaysShort (k.source k.before) (k.source k.after)
+stays_short k = by_end k (λ form r. (status_of r ≡ TOO_LONG → ⊥) → StaysShort (k.source k.before) (k.source k.after))
+    (λ input out no. short_same k input)
+    (λ asked s no. read_all s.reads)
+    (λ asked why u no. u.stops.short (λ e. no (ap (λ w. status_of (Err (Input w))) e)))
+    (λ asked why s no. read_all s.reads)
+    (λ asked s no. read_all s.reads)
+    (λ asked why s no. read_all s.reads)

@@ -17,7 +17,7 @@ use Rattle.sval_relay.specs.declared.made.MadeError.TheVariants as made
 use Rattle.sval_relay.specs.declared.failure.Failure.{Failure}
 use Rattle.sval_relay.specs.declared.failure.Failure.TheVariants.{Usage, Input, Relay}
 use Rattle.sval_program.specs.Sources.{Supply}
-use Rattle.sval_program.specs.Inputs.{OnShort, OnBoth, TakesAll, TakesOneMore, IsUnread}
+use Rattle.sval_program.specs.Inputs.{OnShort, OnBoth, TakesAll, TakesOneMore, IsUnread, StaysShort}
 use Rattle.sval_relay.specs.Ways.{task_in}
 use Rattle.sval_relay.specs.Verdict.{Verdict, BadLine, BadCall, Unfinished, Key, Number, Text, HasBadLine, HasBadCall, OnVerdict}
 use Rattle.sval_program.specs.Outputs.{Grows}
@@ -25,6 +25,7 @@ use Rattle.sval_relay.specs.Relays.{MayLeave, IsAnswerTo}
 use Rattle.sval_relay.specs.Statuses.{IsStatusOf, IsStatusDue, status_of_relayed, status_of}
 use Rattle.sval_relay.specs.Made.{TellsMade}
 use Rattle.sval_relay.specs.Serves.{IsServed, Serves}
+use Rattle.sval_program.proofs.ReadParts.{read_nothing, read_all}
 use Rattle.sval_program.proofs.Growing.{grows_by_nothing, grows_by_front}
 use Rattle.sval_relay.proofs.Writing.{may_stay}
 
@@ -190,3 +191,20 @@ grows k = by_end k (λ form r. Grows (k.sink k.old) (k.sink k.new))
     (λ task why u. grows_same k u.out)
     (λ task why s. s.relays.grows)
     (λ count input t held. grows_by_front t.front) (λ count input t. grows_by_front t.front) (λ count input t. grows_by_front t.front)
+
+-- ---- what is left of the source
+
+-- a source that is as it was
+short_same : {I K : Type 0} (k : Case I K) → k.after ≡ k.before → StaysShort (k.source k.before) (k.source k.after)
+short_same k same = subst (λ after. StaysShort (k.source k.before) (k.source after)) (sym same) (read_nothing (k.source k.before).left)
+
+-- no more than the limit was taken, unless the input is too long
+pub stays_short : {I K : Type 0} (k : Case I K) (form : Option Form) (r : Result (Unit {0}) Failure) → Ran k form r → (status_of r ≡ TOO_LONG → ⊥) → StaysShort (k.source k.before) (k.source k.after)
+stays_short k = by_end k (λ form r. (status_of r ≡ TOO_LONG → ⊥) → StaysShort (k.source k.before) (k.source k.after))
+    (λ input out no. short_same k input)
+    (λ task s held no. read_all s.reads)
+    (λ task why u no. u.stops.short (λ e. no (ap (λ w. status_of (Err (Input w))) e)))
+    (λ task why s no. read_all s.reads)
+    (λ count input told held no. short_same k input)
+    (λ count input told no. short_same k input)
+    (λ count input told no. short_same k input)

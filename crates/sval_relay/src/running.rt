@@ -3,7 +3,7 @@
 ghost use Rattle.std.specs.Prelude.{◌≡◌, ◌⊎◌, ◌<◌, ◌≤◌, ◌↔◌, true, None};
 ghost use Rattle.sval_core.specs.Law.{Rose};
 ghost use Rattle.sval_json.specs.Sinks.{HoldsNothing, IsSteady, NoCountFell};
-ghost use Rattle.sval_program.specs.Inputs.{OnShort, OnLong, IsSpent, IsTooLong};
+ghost use Rattle.sval_program.specs.Inputs.{OnShort, OnLong, IsSpent, IsTooLong, StaysShort};
 ghost use Rattle.sval_relay.specs.Ways.{form_of, takes_many, OnAsked, OnMade};
 ghost use Rattle.sval_relay.specs.Verdict.{Unfinished, Key, Number, IsVerdict, HasBadLine, HasBadCall, OnVerdict};
 ghost use Rattle.sval_program.specs.Outputs.{Grows};
@@ -169,6 +169,7 @@ pub fn run<I: Source, K: Sink, D: Sink>(
     // What is left of the source.
     ensures nothing_read { result ≡ USAGE → input.new ≡ input.old }
     ensures spent { is_read result ≡ true → OnAsked words.now (I.told input.old) (IsSpent (I.told input.new)) }
+    ensures short { ¬ (result ≡ TOO_LONG) → StaysShort (I.told input.old) (I.told input.new) }
 
     // The counts.
     ensures steady { is_read result ≡ true → ((I.told input.new).faults ≡ (I.told input.old).faults)

@@ -89,3 +89,6 @@ returns-clause-spent g c = λ e. answers.spent (case_of g c) (form_of c.args.wor
 
 pub returns-clause-steady : goal.returns-clause-steady
 returns-clause-steady g c = λ e. answers.steady (case_of g c) (form_of c.args.words.now) c.serve-served.result (ran g c) (ap is_read (sym c.conclude.ensures.status) ∙ e)
+
+pub returns-clause-short : goal.returns-clause-short
+returns-clause-short g c = λ no. answers.stays_short (case_of g c) (form_of c.args.words.now) c.serve-served.result (ran g c) (λ e. no (c.conclude.ensures.status ∙ e))

@@ -55,3 +55,6 @@ returns-clause-leaves_long g c = answers.leaves_long (case_of g c) (form_of c.ar
 pub returns-clause-spent : goal.returns-clause-spent
 returns-clause-spent g c = λ e.
     answers.spent (case_of g c) (form_of c.args.words.now) c.serve-served.result (ran g c) (subst (λ status. is_read status ≡ true) c.conclude.ensures.status e)
+
+pub returns-clause-short : goal.returns-clause-short
+returns-clause-short g c = λ no. answers.stays_short (case_of g c) (form_of c.args.words.now) c.serve-served.result (ran g c) (λ e. no (c.conclude.ensures.status ∙ e))

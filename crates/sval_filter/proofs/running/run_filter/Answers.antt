@@ -93,3 +93,6 @@ returns-clause-long_comes g c = λ quiet.
 
 pub returns-clause-leaves_long : goal.returns-clause-leaves_long
 returns-clause-leaves_long g c = answers.leaves_long (case_of g c) (form_of c.args.words.now) c.serve-served.result (ran g c)
+
+pub returns-clause-short : goal.returns-clause-short
+returns-clause-short g c = λ no. answers.stays_short (case_of g c) (form_of c.args.words.now) c.serve-served.result (ran g c) (λ e. no (c.conclude.ensures.status ∙ e))

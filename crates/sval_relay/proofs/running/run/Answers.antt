@@ -40,3 +40,6 @@ pub returns-clause-comes : goal.returns-clause-comes
 returns-clause-comes g c = λ quiet_read quiet_write.
     subst (λ status. OnAsked c.args.words.now (g.I.Source.told c.args.input.now) (OnShort (OnVerdict (IsStatusDue status)))) (sym c.conclude.ensures.status)
     (answers.comes (case_of g c) (form_of c.args.words.now) c.serve-served.result (ran g c) quiet_read quiet_write)
+
+pub returns-clause-short : goal.returns-clause-short
+returns-clause-short g c = λ no. answers.stays_short (case_of g c) (form_of c.args.words.now) c.serve-served.result (ran g c) (λ e. no (c.conclude.ensures.status ∙ e))
