@@ -4,7 +4,7 @@ use Rattle.sval_core.specs.Law.{Rose}
 use Rattle.sval_json.specs.Number.{InvalidKey, InvalidNumber}
 use Rattle.sval_json.specs.Sinks.{Told, HoldsNothing, IsSteady, NoCountFell}
 use Rattle.sval_program.specs.declared.status.TheConstants.{DONE, USAGE, BAD_LINE, BAD_CALL, UNFINISHED, INVALID_KEY, INVALID_NUMBER, WRITE, READ, NO_MEMORY, TOO_LONG}
-use Rattle.sval_program.specs.Inputs.{OnShort, OnLong, OnBoth, IsSpent, IsTooLong}
+use Rattle.sval_program.specs.Inputs.{OnShort, OnLong, OnBoth, IsSpent, IsTooLong, StaysShort}
 use Rattle.sval_program.specs.Outputs.{Grows}
 use Rattle.sval_program.specs.Sources.{Supply}
 use Rattle.sval_filter.specs.Forms.{Asked}
@@ -38,5 +38,6 @@ pub record FilterEnds (words : List (List ℕ)) (in_old in_new : Supply) (out_ol
   pub grows : Grows out_old out_new
   pub nothing_read : status ≡ USAGE → in_new ≡ in_old
   pub spent : is_read status ≡ true → OnNamed words in_old (IsSpent in_new)
+  pub short : (status ≡ TOO_LONG → ⊥) → StaysShort in_old in_new
   pub steady : is_read status ≡ true → (in_new.faults ≡ in_old.faults) × IsSteady out_old out_new
   pub counts : (in_old.faults ≤ in_new.faults) × NoCountFell out_old out_new

@@ -3,7 +3,7 @@ use Rattle.std.specs.Prelude.{◌≡◌, ◌⊎◌, ℕ, ◌<◌, ◌≤◌, tru
 use Rattle.sval_core.specs.Law.{Rose}
 use Rattle.sval_json.specs.Sinks.{Told, HoldsNothing, IsSteady, NoCountFell}
 use Rattle.sval_program.specs.declared.status.TheConstants.{DONE, USAGE, BAD_LINE, BAD_CALL, UNFINISHED, INVALID_KEY, INVALID_NUMBER, WRITE, READ, NO_MEMORY, TOO_LONG}
-use Rattle.sval_program.specs.Inputs.{OnShort, OnLong, OnBoth, IsSpent, IsTooLong}
+use Rattle.sval_program.specs.Inputs.{OnShort, OnLong, OnBoth, IsSpent, IsTooLong, StaysShort}
 use Rattle.sval_program.specs.Outputs.{Grows}
 use Rattle.sval_program.specs.Sources.{Supply}
 use Rattle.sval_relay.specs.declared.way.Task.{Task}
@@ -43,6 +43,7 @@ pub record RelayEnds (words : List (List ℕ)) (in_old in_new : Supply) (out_old
   pub grows : Grows out_old out_new
   pub nothing_read : status ≡ USAGE → in_new ≡ in_old
   pub spent : is_read status ≡ true → OnNamed words in_old (IsSpent in_new)
+  pub short : (status ≡ TOO_LONG → ⊥) → StaysShort in_old in_new
   pub steady : is_read status ≡ true → (in_new.faults ≡ in_old.faults) × IsSteady out_old out_new
   pub counts : (in_old.faults ≤ in_new.faults) × NoCountFell out_old out_new
   pub made_status : OnMadeNamed words (λ _. is_of_made status ≡ true)

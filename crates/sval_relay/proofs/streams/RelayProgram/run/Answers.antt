@@ -22,6 +22,7 @@ returns-clause-ends g c = record {
   leaves = c.run.ensures.leaves;
   grows = c.run.ensures.grows;
   spent = c.run.ensures.spent;
+  short = c.run.ensures.short;
   steady = c.run.ensures.steady;
   counts = c.run.ensures.counts;
   made_status = c.run.ensures.made_status;

@@ -1,0 +1,25 @@
+use Rattle.std.proofs.Common.{ap, inl, inr}
+use Rattle.sval_cbor_read.proofs.program.ReadCborProgram.run.Goals as goal
+
+pub returns-clause-ends : goal.returns-clause-ends
+returns-clause-ends g c = record {
+  done = c.run_cbor_read.ensures.done;
+  flushed = c.run_cbor_read.ensures.flushed;
+  invalid_key = c.run_cbor_read.ensures.invalid_key;
+  bad_cbor = c.run_cbor_read.ensures.bad_cbor;
+  write = c.run_cbor_read.ensures.write;
+  read = c.run_cbor_read.ensures.read;
+  own_want = λ e. elim (c.run_cbor_read.ensures.own_want e) [ inl same ↦ inl (ap g.K.Sink.told same) | inr rose ↦ inr rose ];
+  long = c.run_cbor_read.ensures.long;
+  read_comes = c.run_cbor_read.ensures.read_comes;
+  comes = c.run_cbor_read.ensures.comes;
+  long_comes = c.run_cbor_read.ensures.long_comes;
+  untouched = λ e. ap g.K.Sink.told (c.run_cbor_read.ensures.untouched e);
+  leaves = c.run_cbor_read.ensures.leaves;
+  grows = c.run_cbor_read.ensures.grows;
+  nothing_read = λ e. ap g.I.Source.told (c.run_cbor_read.ensures.nothing_read e);
+  spent = c.run_cbor_read.ensures.spent;
+  short = c.run_cbor_read.ensures.short;
+  steady = c.run_cbor_read.ensures.steady;
+  counts = c.run_cbor_read.ensures.counts;
+}
