@@ -67,6 +67,15 @@ unit_emission = tag_emission (tag_alone unit_tag)
 abbrev pub text_emission : (borrowed : Bool) → List ℕ → Emission
 text_emission borrowed text = between (Call.TextBegin (Some (length text))) Call.TextEnd (emits (Call.TextFragment borrowed text))
 
+-- the calls of a whole text in one borrowed fragment, which tells this size, if it tells one
+abbrev pub whole_text_calls : Option ℕ → List ℕ → List Call
+whole_text_calls size text = Call.TextBegin size ∷ Call.TextFragment true text ∷ Call.TextEnd ∷ []
+
+-- the same as a key of a map
+abbrev pub whole_key_calls : Option ℕ → List ℕ → List Call
+whole_key_calls size text =
+    Call.PartBegin Slot.Key ∷ Call.TextBegin size ∷ Call.TextFragment true text ∷ Call.TextEnd ∷ Call.PartEnd Slot.Key ∷ []
+
 -- a `str`: a text of one borrowed fragment
 abbrev pub str_emission : List ℕ → Emission
 str_emission text = text_emission true text

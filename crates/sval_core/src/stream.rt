@@ -7,6 +7,7 @@ ghost use Rattle.sval_label.specs.SeenTags.{seen_tag};
 ghost use Rattle.sval_label.specs.SeenIndex.{seen_index};
 ghost use Rattle.sval_label.specs.SeenName.{seen_option_tag, name_of};
 ghost use Rattle.sval_core.specs.Law.{Law, Standing, Answers, Emits, as_computed};
+ghost use Rattle.sval_core.specs.Values.{makes, whole_text_calls, whole_key_calls};
 
 use crate::computed::Computed;
 use crate::value::Value;
@@ -14,9 +15,11 @@ use sval_label::{AnyCall, Index, Label, Lending, Lent, Name, Result, Tag};
 
 /// What takes calls, one by one.
 ///
-/// An implementation writes [`take`](Stream::take) alone; each named call passes the call of its name to it. A call is
-/// refused only where the stream doesn't accept it after those that it has taken, or where one of its counts rose: that
-/// of faults, or that of refusals for want of memory. A call that is taken leaves both counts as they were.
+/// An implementation writes [`take`](Stream::take), and each named call passes the call of its name to it. So do
+/// [`whole_text`](Stream::whole_text) and [`whole_text_key`](Stream::whole_text_key) with theirs, unless it has code of
+/// its own for these. A call is refused only where the stream doesn't accept it after those that it has taken, or where
+/// one of its counts rose: that of faults, or that of refusals for want of memory. A call that is taken leaves both
+/// counts as they were.
 ///
 /// # A stream of your own
 ///
@@ -193,6 +196,39 @@ pub trait Stream<L: Lending> {
         ensures { Answers law result (standing self.old) call.TextEnd (standing self.new) }
     {
         self.take(AnyCall::TextEnd)
+    }
+
+    /// A whole text, which this stream may keep: the calls [`text_begin`](Stream::text_begin) with this size,
+    /// [`text_fragment`](Stream::text_fragment) and [`text_end`](Stream::text_end), in one. The size is that of the text
+    /// in bytes, or left out, as by what is read from JSON, where no size stands before a text; nothing compares it with
+    /// the text here. For a text that doesn't live long enough to be kept there are the three calls.
+    ///
+    /// An implementation may write it anew, where it does less for the three together. One that passes calls on passes a
+    /// whole text on as one call only where it does.
+    ///
+    /// ```
+    /// stream.whole_text("a text", Some(6))?;
+    /// ```
+    fn whole_text(&mut self, text: L::Text, size: Option<usize>) -> Result
+        ensures { Emits law result (standing self.old) (makes (whole_text_calls size (L.text text))) (standing self.new) }
+    {
+        self.take(AnyCall::TextBegin(size))?;
+        self.take(AnyCall::TextFragment(text))?;
+        self.take(AnyCall::TextEnd)
+    }
+
+    /// A key of a map that is a whole text: [`map_key_begin`](Stream::map_key_begin), the three calls of
+    /// [`whole_text`](Stream::whole_text), and [`map_key_end`](Stream::map_key_end), in one.
+    ///
+    /// An implementation may write it anew, where it does less for the five together.
+    fn whole_text_key(&mut self, text: L::Text, size: Option<usize>) -> Result
+        ensures { Emits law result (standing self.old) (makes (whole_key_calls size (L.text text))) (standing self.new) }
+    {
+        self.take(AnyCall::MapKeyBegin)?;
+        self.take(AnyCall::TextBegin(size))?;
+        self.take(AnyCall::TextFragment(text))?;
+        self.take(AnyCall::TextEnd)?;
+        self.take(AnyCall::MapKeyEnd)
     }
 
     /// A binary begins, of `size` bytes where that is given.

@@ -16,12 +16,12 @@ use Rattle.sval_json.proofs.Appending.{appended-appended, appended-nothing, less
 abbrev with_both : Target → Option (List ℕ) → Option ℕ → Target
 with_both target text room = record target { told = record target.told { text = text; room = room } }
 
-with_bytes-nothing : (target : Target) → with_bytes [] target ≡ target
+pub with_bytes-nothing : (target : Target) → with_bytes [] target ≡ target
 with_bytes-nothing target =
     ap (λ text. with_both target text (less_room target.told.room 0)) (appended-nothing target.told.text)
     ∙ ap (with_both target target.told.text) (less_room-zero target.told.room)
 
-with_bytes-append : (target : Target) (xs ys : List ℕ) → with_bytes ys (with_bytes xs target) ≡ with_bytes (xs ++ ys) target
+pub with_bytes-append : (target : Target) (xs ys : List ℕ) → with_bytes ys (with_bytes xs target) ≡ with_bytes (xs ++ ys) target
 with_bytes-append target xs ys =
     ap (λ text. with_both target text (less_room (less_room target.told.room (length xs)) (length ys))) (appended-appended target.told.text xs ys)
     ∙ ap (with_both target (appended target.told.text (xs ++ ys))) (less_room-less_room target.told.room (length xs) (length ys) ∙ ap (less_room target.told.room) (sym (length-append xs ys)))

@@ -34,3 +34,4 @@ pub mod JsonTexts
 pub mod Told
 pub mod FaultyWrites
 mod examples
+mod Joined

@@ -70,6 +70,10 @@ pub record AppendsFront (old : Told) (bytes : List ℕ) (new : Told) : Type 0 wh
   pub within : count ≤ length bytes
   pub appends : Appends old (take count bytes) new
 
+-- where the room is told, none is left
+abbrev pub IsFull : Told → Type 0
+IsFull told = IfSome told.room (λ left. left ≡ 0)
+
 -- nothing of what was taken is held back, where that is told
 abbrev pub HoldsNothing : Told → Type 0
 HoldsNothing told = IfSome told.held (λ count. count ≡ 0)

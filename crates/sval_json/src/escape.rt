@@ -94,7 +94,8 @@ pub fn first_escape(bytes: &[u8]) -> usize
     ensures found { result < length bytes.now → is_escaped (slice_index bytes.now result) ≡ true }
 {
     match bytes.len() {
-        0..=7 => plain_bytes(bytes),
+        0..=3 => plain_bytes(bytes),
+        4..=7 => plain_by_lanes::<4>(bytes),
         8..=15 => plain_by_lanes::<8>(bytes),
         16..=31 => plain_by_lanes::<16>(bytes),
         _ => plain_by_lanes::<32>(bytes),

@@ -17,7 +17,7 @@ const TRIES: u32 = 1000;
 
 /// A sink over one of std's writers. It tells no text and no room, and each error that it answers is one fault.
 ///
-/// It holds nothing back: each piece is a call of the writer, some forty for a short record of JSON. So a writer whose
+/// It holds nothing back: each piece is a call of the writer, some twenty for a short record of JSON. So a writer whose
 /// calls cost goes behind a `BufWriter`, and the sink is flushed at the end.
 ///
 /// A call that is interrupted is made again, and has failed where that happened 1,000 times in a row. A writer that

@@ -2,7 +2,7 @@
 
 ghost use Rattle.std.specs.Prelude.{◌≡◌, [], IfOk, OnErr, length};
 ghost use Rattle.sval_core.specs.Law.{one_more};
-ghost use Rattle.sval_json.specs.Sinks.{Told, Writes, Flushes, WritesAll};
+ghost use Rattle.sval_json.specs.Sinks.{Told, Writes, Flushes, WritesAll, IsFull};
 ghost use Rattle.sval_json.specs.Taken.{Taken, taken_told};
 
 use std::alloc::Global;
@@ -67,6 +67,7 @@ pub trait Sink {
 pub fn write_all<K: Sink>(sink: &mut K, piece: &[u8]) -> Result<(), SinkError>
     ensures writes { WritesAll result (K.told sink.old) piece.now (K.told sink.new) }
     ensures nothing { piece.now ≡ [] → (result ≡ Ok tt) × (sink.new ≡ sink.old) }
+    ensures full { result ≡ Err SinkError.Failed → IsFull (K.told sink.new) }
 {
     write_in_place(sink, piece)
 }
@@ -76,6 +77,7 @@ pub fn write_all<K: Sink>(sink: &mut K, piece: &[u8]) -> Result<(), SinkError>
 pub(crate) fn write_in_place<K: Sink>(sink: &mut K, piece: &[u8]) -> Result<(), SinkError>
     ensures writes { WritesAll result (K.told sink.old) piece.now (K.told sink.new) }
     ensures nothing { piece.now ≡ [] → (result ≡ Ok tt) × (sink.new ≡ sink.old) }
+    ensures full { result ≡ Err SinkError.Failed → IsFull (K.told sink.new) }
 {
     if piece.is_empty() {
         return Ok(());
@@ -91,7 +93,8 @@ pub(crate) fn write_in_place<K: Sink>(sink: &mut K, piece: &[u8]) -> Result<(), 
 #[cold]
 #[inline(never)]
 fn write_rest<K: Sink>(sink: &mut K, piece: &[u8]) -> Result<(), SinkError>
-    ensures { WritesAll result (K.told sink.old) piece.now (K.told sink.new) }
+    ensures writes { WritesAll result (K.told sink.old) piece.now (K.told sink.new) }
+    ensures full { result ≡ Err SinkError.Failed → IsFull (K.told sink.new) }
 {
     let mut rest = piece;
     while !rest.is_empty() {

@@ -7,15 +7,18 @@ mod short;
 mod tagged;
 mod texts;
 
-ghost use Rattle.std.specs.Prelude.{◌≡◌, ◌++◌};
+ghost use Rattle.std.specs.Prelude.{◌≡◌, ◌++◌, Some, OnErr, codes};
+ghost use Rattle.std.specs.Bool.{OnTrue};
 ghost use Rattle.std.specs.Fmt.{signed_decimal};
 ghost use Rattle.sval_label.specs.Grouped.{int_number};
 ghost use Rattle.sval_label.specs.Made.{lent_call};
-ghost use Rattle.sval_core.specs.Law.{Answers};
+ghost use Rattle.sval_core.specs.Law.{Answers, Emits};
+ghost use Rattle.sval_core.specs.Values.{makes, whole_text_calls, whole_key_calls};
 ghost use Rattle.sval_json.specs.ErrorKinds.{seen_refusal};
 ghost use Rattle.sval_json.specs.Escape.{escaped};
-ghost use Rattle.sval_json.specs.Actions.{write, refuse};
-ghost use Rattle.sval_json.specs.SeenWriter.{quoted_text};
+ghost use Rattle.sval_json.specs.Actions.{write, refuse, escapes};
+ghost use Rattle.sval_json.specs.SeenWriter.{quoted_text, seen_handler};
+ghost use Rattle.sval_json.specs.Sinks.{IsFull};
 ghost use Rattle.sval_json.specs.Steps.{value_written, refuse_in_key, opens, closes};
 ghost use Rattle.sval_json.specs.WriterLaw.{WriterView, Does, writer_law, writer_view, writer_standing};
 
@@ -23,9 +26,9 @@ use crate::digits::format_int;
 use crate::error::{Refusal, Stop};
 use crate::escape::write_escaped;
 use crate::number::NumberMachine;
-use crate::sink::{Sink, write_all, write_in_place};
+use crate::sink::{Sink, SinkError, write_all, write_in_place};
 use crate::style::Variants;
-use crate::writer::short::{Quoted, push_between};
+use crate::writer::short::{Quoted, push_between, push_plain};
 use arrayvec::ArrayString;
 use itoa::Buffer;
 use sval_core::{Call, Error, Fragment, GroupedCall, Int, Lent, Result, Stream};
@@ -73,6 +76,29 @@ impl<'k, K: Sink> Writer<'k, K> {
                 Err(Error::new())
             }
         }
+    }
+
+    /// Writes the bytes of several calls, which are few. Where the sink failed, it has no room left, if it tells its room.
+    #[inline(always)]
+    fn write_joined(&mut self, bytes: &[u8]) -> Result
+        ensures does { Does (write bytes.now) result (writer_view K.told self.old) (writer_view K.told self.new) }
+        ensures full { OnErr result
+            (self.new.why ≡ Some (Stop.Sink SinkError.Failed) → IsFull (K.told self.new.sink.now)) }
+    {
+        match write_in_place(self.sink, bytes) {
+            Ok(()) => Ok(()),
+            Err(why) => {
+                self.why = Some(Stop::Sink(why));
+                Err(Error::new())
+            }
+        }
+    }
+
+    /// Whether the fragments of a text are escaped.
+    fn escapes(&self) -> bool
+        ensures { OnTrue result (seen_handler self.now.handler ≡ escapes) }
+    {
+        matches!(self.handler, Handler::Escapes)
     }
 
     /// Writes a mark of a byte or two.
@@ -165,6 +191,15 @@ impl<'k, K: Sink> Writer<'k, K> {
         self.write(bytes)
     }
 
+    /// Writes the word `null`.
+    #[inline(always)]
+    fn write_null(&mut self) -> Result
+        ensures { Does (value_written (codes "null")) result (writer_view K.told self.old) (writer_view K.told self.new) }
+    {
+        self.empty = false;
+        self.write_mark(b"null")
+    }
+
     /// Writes a whole number.
     #[inline(never)]
     fn write_int(&mut self, number: Int) -> Result
@@ -203,12 +238,47 @@ impl<'k, 'sval, K: Sink> Stream<Lent<'sval>> for Writer<'k, K> {
     ghost standing = { writer_standing K.told };
 
     #[inline(always)]
+    fn whole_text(&mut self, text: &'sval str, size: Option<usize>) -> Result
+        ensures { Emits writer_law result (writer_standing K.told self.old)
+            (makes (whole_text_calls size text.now)) (writer_standing K.told self.new) }
+    {
+        let mut joined = ArrayString::new();
+        if self.quoted && self.escapes() && push_plain(&mut joined, "\"", text, "\"") {
+            self.empty = false;
+            return self.write_joined(joined.as_bytes());
+        }
+        self.take(Call::TextBegin(size))?;
+        self.take(Call::TextFragment(text))?;
+        self.take(Call::TextEnd)
+    }
+
+    #[inline(always)]
+    fn whole_text_key(&mut self, text: &'sval str, size: Option<usize>) -> Result
+        ensures { Emits writer_law result (writer_standing K.told self.old)
+            (makes (whole_key_calls size text.now)) (writer_standing K.told self.new) }
+    {
+        let mut joined = ArrayString::new();
+        if self.escapes() && push_plain(&mut joined, ",\"", text, "\":") {
+            let no_comma = if self.empty { 1 } else { 0 };
+            self.named = false;
+            self.empty = false;
+            self.quoted = true;
+            return self.write_joined(&joined.as_bytes()[no_comma..]);
+        }
+        self.take(Call::MapKeyBegin)?;
+        self.take(Call::TextBegin(size))?;
+        self.take(Call::TextFragment(text))?;
+        self.take(Call::TextEnd)?;
+        self.take(Call::MapKeyEnd)
+    }
+
+    #[inline(always)]
     fn take(&mut self, call: Call<'sval, '_>) -> Result
         ensures { Answers writer_law result
             (writer_standing K.told self.old) (lent_call call.entry) (writer_standing K.told self.new) }
     {
         match call.grouped() {
-            GroupedCall::Null => self.write_value(b"null"),
+            GroupedCall::Null => self.write_null(),
             GroupedCall::Bool(true) => self.write_value(b"true"),
             GroupedCall::Bool(false) => self.write_value(b"false"),
             GroupedCall::Int(number) => self.write_int(number),

@@ -15,9 +15,7 @@ use sval_label::{Lent, Result};
 pub fn stream_str<'v, S: Stream<Lent<'v>>>(stream: &mut S, text: &'v str) -> Result
     ensures { Emits S.law result (S.standing stream.old) (str_emission text.now) (S.standing stream.new) }
 {
-    stream.text_begin(Some(text.len()))?;
-    stream.text_fragment(text)?;
-    stream.text_end()
+    stream.whole_text(text, Some(text.len()))
 }
 
 impl<'v, 'a> Value<'v, Lent<'v>> for &'a str {

@@ -29,6 +29,20 @@ pub(crate) fn push_between(
         && joined.try_push_str(after).is_ok()
 }
 
+/// Appends a text between two others, and answers whether all three had room and nothing of the text is escaped.
+#[inline(always)]
+pub(crate) fn push_plain(
+    joined: &mut ArrayString<ROOM>,
+    before: &str,
+    text: &str,
+    after: &str,
+) -> bool
+    ensures joined { OnTrue result (joined.new.bytes ≡ joined.old.bytes ++ before.now ++ text.now ++ after.now) }
+    ensures plain { OnTrue result (escaped text.now ≡ text.now) }
+{
+    push_between(joined, before, text, after) && is_all_plain(text.as_bytes())
+}
+
 /// A text that comes between quotes.
 #[derive(Clone, Copy)]
 pub(crate) struct Quoted<'a> {
