@@ -8,6 +8,7 @@ ghost use Rattle.sval_buffer.specs.Pushes.{pushed};
 ghost use Rattle.std.specs.Str.{IsUtf8};
 ghost use Rattle.sval_buffer.specs.Forest.{no_bytes, held_text_calls};
 ghost use Rattle.sval_buffer.specs.Capture.{IsNoAlloc};
+ghost use Rattle.sval_core.specs.Law.{Emits};
 ghost use Rattle.sval_core.specs.Values.{makes};
 
 use crate::error::{Error, ErrorKind, Word};
@@ -16,7 +17,7 @@ use std::alloc::Global;
 use std::fmt;
 use std::marker::Model;
 use sval::{Render, RenderError};
-use sval_core::{Fragment, Lent, Result, Stream, Value};
+use sval_core::{Fragment, Lending, Lent, Result, Stream, Value};
 use sval_ref::ValueRef;
 
 /// A text that comes in fragments.
@@ -201,14 +202,22 @@ impl<'sval> TextBuf<'sval> {
     }
 }
 
+/// Makes the calls of a text in one computed fragment.
+fn stream_computed<L: Lending, S: Stream<L>>(text: &str, stream: &mut S) -> Result
+    ensures { Emits S.law result (S.standing stream.old)
+        (makes (held_text_calls (record { borrowed = false; bytes = text.now }))) (S.standing stream.new) }
+{
+    stream.text_begin(Some(text.len()))?;
+    stream.text_fragment_computed(text)?;
+    stream.text_end()
+}
+
 impl<'v, 'sval> Value<'v, Lent<'v>> for TextBuf<'sval> {
     ghost emission = { λ text. makes (held_text_calls (record { borrowed = true; bytes = text.bytes })) };
 
     fn stream<S: Stream<Lent<'v>>>(&'v self, stream: &mut S) -> Result {
         let text = self.as_str();
-        stream.text_begin(Some(text.len()))?;
-        stream.text_fragment(text)?;
-        stream.text_end()
+        stream.whole_text(text, Some(text.len()))
     }
 }
 
@@ -216,12 +225,10 @@ impl<'sval> ValueRef<Lent<'sval>> for TextBuf<'sval> {
     ghost ref_emission = { λ text. makes (held_text_calls text) };
 
     fn stream_ref<S: Stream<Lent<'sval>>>(&self, stream: &mut S) -> Result {
-        stream.text_begin(Some(self.as_str().len()))?;
         match self.fragments.fragment() {
-            Fragment::Borrowed(bytes) => stream.text_fragment(text(bytes))?,
-            Fragment::Computed(bytes) => stream.text_fragment_computed(text(bytes))?,
+            Fragment::Borrowed(bytes) => stream.whole_text(text(bytes), Some(bytes.len())),
+            Fragment::Computed(bytes) => stream_computed(text(bytes), stream),
         }
-        stream.text_end()
     }
 }
 
