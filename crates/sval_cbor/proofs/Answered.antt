@@ -89,6 +89,7 @@ due_streams e why told own due only none = record {
   write_short = λ is. absurd (subst IsOfValue is own);
   write_value = λ is. absurd (subst IsOfValue is own);
   no_memory = λ is. absurd (subst IsOfValue is own);
+  no_memory_short = λ is. absurd (subst IsOfValue is own);
   counts = nothing_fell told;
   prefix = λ tree json spells packs. nothing_is_front told (cbor json);
 }
@@ -106,6 +107,7 @@ memory_streams e told wants = record {
   write_short = λ is. cc is;
   write_value = λ is. cc is;
   no_memory = λ is. inr (refl, wants);
+  no_memory_short = λ is. inl refl;
   counts = nothing_fell told;
   prefix = λ tree json spells packs. nothing_is_front told (cbor json);
 }
@@ -299,6 +301,7 @@ module _ (e : Emission) (one : IsChecked e) where
       write_short = λ is. cc is;
       write_value = λ is. cc is;
       no_memory = λ is. cc is;
+      no_memory_short = λ is. cc is;
       counts = steady_counts w.steady;
       prefix = tt;
     }
@@ -314,6 +317,7 @@ module _ (e : Emission) (one : IsChecked e) where
       write_short = λ is. cuts_tree front.part;
       write_value = λ is. has_cbor;
       no_memory = λ is. cc is;
+      no_memory_short = λ is. cc is;
       counts = front.counts;
       prefix = begins_tree front.front;
     }
@@ -329,6 +333,7 @@ module _ (e : Emission) (one : IsChecked e) where
       write_short = λ is. cc is;
       write_value = λ is. cc is;
       no_memory = λ is. inl (front.cause, has_cbor);
+      no_memory_short = λ is. inr (cuts_tree front.part);
       counts = front.counts;
       prefix = begins_tree front.front;
     }

@@ -3,22 +3,19 @@ use Rattle.std.specs.Prelude.{◌≡◌, ◌⊎◌, ℕ, ◌<◌, ◌≤◌, tru
 use Rattle.sval_core.specs.Law.{Rose}
 use Rattle.sval_json.specs.Sinks.{Told, HoldsNothing, IsSteady, NoCountFell}
 use Rattle.sval_program.specs.declared.status.TheConstants.{DONE, USAGE, BAD_LINE, BAD_CALL, UNFINISHED, INVALID_KEY, INVALID_NUMBER, WRITE, READ, NO_MEMORY, TOO_LONG}
-use Rattle.sval_program.specs.Inputs.{OnShort, OnLong, OnBoth, IsSpent, IsTooLong, StaysShort}
+use Rattle.sval_program.specs.Inputs.{OnShort, OnLong, IsSpent, IsTooLong, StaysShort}
 use Rattle.sval_program.specs.Outputs.{Grows}
 use Rattle.sval_program.specs.Sources.{Supply}
 use Rattle.sval_cbor.specs.declared.status.TheConstants.{RAW, NOT_INTEGER}
-use Rattle.sval_cbor.specs.Forms.{form_named}
+use Rattle.sval_cbor.specs.Forms.{OnNamed}
+use Rattle.sval_cbor.specs.Reports.{Reports}
 use Rattle.sval_cbor.specs.Packs.{BadKey, BadNumber, RawJson, NotInteger}
 use Rattle.sval_cbor.specs.Serves.{WritesBytes, WritesValue, MayLeave}
 use Rattle.sval_cbor.specs.Statuses.{is_unwritten, is_read, IsStatusDue}
 use Rattle.sval_cbor.specs.Verdict.{Unfinished, Whole, HasVerdict, HasBadLine, HasBadCall, OnVerdict}
 
--- a fact on the input and what is asked for of it, by the words' bytes
-abbrev pub OnNamed : List (List ℕ) → Supply → (List ℕ → Unit {0} → Type 0) → Type 0
-OnNamed words input P = OnBoth (form_named words) input.left P
-
--- what a run says: when each status comes, what is left of the sink and the source, and their counts
-pub record CborEnds (words : List (List ℕ)) (in_old in_new : Supply) (out_old out_new : Told) (status : ℕ) : Type 0 where
+-- what a run says: when each status comes, what is left of the sink and the source, and their counts, and which line was told
+pub record CborEnds (words : List (List ℕ)) (in_old in_new : Supply) (out_old out_new diag_old diag_new : Told) (status : ℕ) : Type 0 where
   pub done : status ≡ DONE → OnNamed words in_old (WritesBytes out_old out_new)
   pub writes : status ≡ DONE → OnNamed words in_old (WritesValue out_old out_new)
   pub flushed : status ≡ DONE → HoldsNothing out_new
@@ -44,3 +41,4 @@ pub record CborEnds (words : List (List ℕ)) (in_old in_new : Supply) (out_old 
   pub short : (status ≡ TOO_LONG → ⊥) → StaysShort in_old in_new
   pub steady : is_read status ≡ true → (in_new.faults ≡ in_old.faults) × IsSteady out_old out_new
   pub counts : (in_old.faults ≤ in_new.faults) × NoCountFell out_old out_new
+  pub reports : Reports words in_old status diag_old diag_new

@@ -1,5 +1,5 @@
 -- What the third device is told.
-use Rattle.std.specs.Prelude.{◌≡◌, ℕ, false, List, [], ◌∷◌, ◌++◌, String, Result, Ok, Err, codes}
+use Rattle.std.specs.Prelude.{◌≡◌, ℕ, false, List, [], ◌∷◌, ◌++◌, Result, Ok, Err, codes}
 use Rattle.sval_json.specs.Sinks.{Told}
 use Rattle.sval_program.specs.declared.status.TheConstants.{USAGE, BAD_LINE, BAD_CALL}
 use Rattle.sval_program.specs.Reports.{TellsLine, script_reports, device_reports, report_among}
@@ -11,7 +11,7 @@ use Rattle.sval_cbor.specs.declared.failure.Fault.TheVariants as fault
 use Rattle.sval_cbor.specs.declared.status.TheConstants.{RAW, NOT_INTEGER}
 use Rattle.sval_cbor.specs.Packs.{PackRefusal}
 use Rattle.sval_cbor.specs.Statuses.{status_of_refusal, status_of_fault, status_of_failure}
-use Rattle.sval_cbor.specs.Forms.{OnAsked}
+use Rattle.sval_cbor.specs.Forms.{OnNamed}
 use Rattle.sval_cbor.specs.Verdict.{BadLine, BadCall, HasVerdict}
 
 -- the line for each status; those for 3 and 4 name a line of the script by its number
@@ -54,8 +54,8 @@ line_of_result (Ok done) = []
 line_of_result (Err why) = report_of why
 
 -- the status's line was told, which for the statuses 3 and 4 names the line that the verdict names
-pub record Reports {A : Type 0} (words : List (String A)) (input : Supply) (status : ℕ) (old new : Told) : Type 0 where
+pub record Reports (words : List (List ℕ)) (input : Supply) (status : ℕ) (old new : Told) : Type 0 where
   pub line : ℕ
-  pub bad_line : status ≡ BAD_LINE → OnAsked words input (HasVerdict (BadLine line))
-  pub bad_call : status ≡ BAD_CALL → OnAsked words input (HasVerdict (BadCall line))
+  pub bad_line : status ≡ BAD_LINE → OnNamed words input (HasVerdict (BadLine line))
+  pub bad_call : status ≡ BAD_CALL → OnNamed words input (HasVerdict (BadCall line))
   pub tells : TellsLine old (report status line) new

@@ -151,7 +151,7 @@ IsWant told e old new = (new ≡ old) ⊎ (Rose (told old).wants (told new).want
 
 -- On Ok the sink took the bytes of what the tree that the calls spell packs to. Each error comes only where it is so, and where the sink
 -- doesn't decline and memory isn't wanting, the answer that is due comes. An error of the value comes before anything is written, and after
--- one of the sink it took a first part of the bytes, not all of them where it failed.
+-- one of the sink it took a first part of the bytes, not all of them.
 pub record StreamsCbor (e : Emission) (result : CborAnswer) (old new : Told) : Type 0 where
   pub value : OnOk result (IsOneValue e)
   pub written : OnOk result (WritesSpelled e.calls old new)
@@ -164,5 +164,6 @@ pub record StreamsCbor (e : Emission) (result : CborAnswer) (old new : Told) : T
   pub write_short : result ≡ Err error.Write → CutsSpelled e.calls old new
   pub write_value : result ≡ Err error.Write → HasCbor e
   pub no_memory : result ≡ Err error.NoMemory → (Rose old.wants new.wants × HasCbor e) ⊎ ((new ≡ old) × TakesMemory e)
+  pub no_memory_short : result ≡ Err error.NoMemory → (new ≡ old) ⊎ CutsSpelled e.calls old new
   pub counts : NoCountFell old new
   pub prefix : OnErr result (BeginsSpelled e.calls old new)

@@ -1,6 +1,6 @@
 //! The whole program, over any words and devices.
 
-ghost use Rattle.std.specs.Prelude.{◌≡◌, ◌⊎◌, ◌<◌, ◌≤◌, ◌↔◌, ℕ, List, true, None, Some, Ok, Err};
+ghost use Rattle.std.specs.Prelude.{◌≡◌, ◌⊎◌, ◌<◌, ◌≤◌, ◌↔◌, ℕ, List, true, None, Some, Ok, Err, map, string_bytes};
 ghost use Rattle.sval_core.specs.Law.{Rose};
 ghost use Rattle.sval_core.specs.Values.{makes};
 ghost use Rattle.sval_json.specs.Sinks.{HoldsNothing, IsSteady, NoCountFell};
@@ -215,7 +215,8 @@ pub fn run_cbor<I: Source, K: Sink, D: Sink>(
         × NoCountFell (K.told out.old) (K.told out.new) }
 
     // What the third device is told.
-    ensures reports { Reports words.now (I.told input.old) result (D.told diag.old) (D.told diag.new) }
+    ensures reports { Reports (map string_bytes words.now) (I.told input.old) result
+        (D.told diag.old) (D.told diag.new) }
 {
     let served = serve(alloc, named_form(words), input, out);
     conclude(served, diag)

@@ -50,7 +50,8 @@ use sval_json::{CountSink, Sink, SinkError};
 /// - [`CborError::NoMemory`] comes only where memory was wanting for the check or the capture, which leaves the sink as it
 ///   was, or where the sink's count of wants rose.
 ///
-/// After either the sink took a first part of the bytes. No count ever falls, and the sink isn't flushed.
+/// After either the sink took a first part of the bytes, and never all of them. No count ever falls. The sink isn't
+/// flushed.
 pub fn stream_to_cbor<'v, K: Sink, V: Value<'v, Lent<'v>>>(
     alloc: Global,
     out: &mut K,

@@ -4,21 +4,17 @@ use Rattle.sval_core.specs.Law.{Rose}
 use Rattle.sval_json.specs.Number.{InvalidKey, InvalidNumber}
 use Rattle.sval_json.specs.Sinks.{Told, HoldsNothing, IsSteady, NoCountFell}
 use Rattle.sval_program.specs.declared.status.TheConstants.{DONE, USAGE, BAD_LINE, BAD_CALL, UNFINISHED, INVALID_KEY, INVALID_NUMBER, WRITE, READ, NO_MEMORY, TOO_LONG}
-use Rattle.sval_program.specs.Inputs.{OnShort, OnLong, OnBoth, IsSpent, IsTooLong, StaysShort}
+use Rattle.sval_program.specs.Inputs.{OnShort, OnLong, IsSpent, IsTooLong, StaysShort}
 use Rattle.sval_program.specs.Outputs.{Grows}
 use Rattle.sval_program.specs.Sources.{Supply}
-use Rattle.sval_filter.specs.Forms.{Asked}
-use Rattle.sval_filter.specs.Words.{rule_and_paths}
+use Rattle.sval_filter.specs.Forms.{OnNamed}
+use Rattle.sval_filter.specs.Reports.{Reports}
 use Rattle.sval_filter.specs.Serves.{WritesText, WritesUpToRefusal, MayLeave}
 use Rattle.sval_filter.specs.Statuses.{is_unwritten, is_read, IsStatusDue}
 use Rattle.sval_filter.specs.Verdict.{Unfinished, IsVerdict, HasBadLine, HasBadCall, OnVerdict}
 
--- a fact on the input and what is asked for of it, by the words' bytes
-abbrev pub OnNamed : List (List ℕ) → Supply → (List ℕ → Asked → Type 0) → Type 0
-OnNamed words input P = OnBoth (rule_and_paths words) input.left P
-
--- what a run says: when each status comes, what is left of the sink and the source, and their counts
-pub record FilterEnds (words : List (List ℕ)) (in_old in_new : Supply) (out_old out_new : Told) (status : ℕ) : Type 0 where
+-- what a run says: when each status comes, what is left of the sink and the source, and their counts, and which line was told
+pub record FilterEnds (words : List (List ℕ)) (in_old in_new : Supply) (out_old out_new diag_old diag_new : Told) (status : ℕ) : Type 0 where
   pub done : status ≡ DONE → OnNamed words in_old (WritesText out_old out_new)
   pub flushed : status ≡ DONE → HoldsNothing out_new
   pub bad_line : status ≡ BAD_LINE → OnNamed words in_old HasBadLine
@@ -41,3 +37,4 @@ pub record FilterEnds (words : List (List ℕ)) (in_old in_new : Supply) (out_ol
   pub short : (status ≡ TOO_LONG → ⊥) → StaysShort in_old in_new
   pub steady : is_read status ≡ true → (in_new.faults ≡ in_old.faults) × IsSteady out_old out_new
   pub counts : (in_old.faults ≤ in_new.faults) × NoCountFell out_old out_new
+  pub reports : Reports words in_old status diag_old diag_new

@@ -17,6 +17,10 @@ asked_by rule words = (rule, map labels_of (map string_bytes words))
 abbrev pub form_of : {A : Type 0} → List (String A) → Option Asked
 form_of words = rule_and_paths (map string_bytes words)
 
+-- a fact on the input and what is asked for of it, by the words' bytes
+abbrev pub OnNamed : List (List ℕ) → Supply → (List ℕ → Asked → Type 0) → Type 0
+OnNamed words input P = OnBoth (rule_and_paths words) input.left P
+
 -- a fact on the input and on what is asked for of it: where the words are a form, and the source tells its bytes
 abbrev pub OnAsked : {A : Type 0} → List (String A) → Supply → (List ℕ → Asked → Type 0) → Type 0
 OnAsked words input P = OnBoth (form_of words) input.left P

@@ -1,5 +1,5 @@
 -- What the third device is told.
-use Rattle.std.specs.Prelude.{◌≡◌, ℕ, false, List, [], ◌∷◌, ◌++◌, String, Result, Ok, Err, codes}
+use Rattle.std.specs.Prelude.{◌≡◌, ℕ, false, List, [], ◌∷◌, ◌++◌, Result, Ok, Err, codes}
 use Rattle.sval_json.specs.Sinks.{Told}
 use Rattle.sval_program.specs.declared.status.TheConstants.{USAGE, BAD_LINE, BAD_CALL}
 use Rattle.sval_program.specs.Reports.{TellsLine, script_reports, device_reports, report_among}
@@ -9,7 +9,7 @@ use Rattle.sval_filter.specs.declared.failure.Failure.TheVariants as failure
 use Rattle.sval_filter.specs.declared.failure.Fault.{Fault}
 use Rattle.sval_filter.specs.declared.failure.Fault.TheVariants as fault
 use Rattle.sval_filter.specs.Statuses.{status_of_fault, status_of_failure}
-use Rattle.sval_filter.specs.Forms.{OnAsked}
+use Rattle.sval_filter.specs.Forms.{OnNamed}
 use Rattle.sval_filter.specs.Verdict.{BadLine, BadCall, IsVerdict}
 
 -- the line for each status; those for 3 and 4 name a line of the script by its number
@@ -45,8 +45,8 @@ line_of_result (Ok done) = []
 line_of_result (Err why) = report_of why
 
 -- the status's line was told, which for the statuses 3 and 4 names the line that the verdict names
-pub record Reports {A : Type 0} (words : List (String A)) (input : Supply) (status : ℕ) (old new : Told) : Type 0 where
+pub record Reports (words : List (List ℕ)) (input : Supply) (status : ℕ) (old new : Told) : Type 0 where
   pub line : ℕ
-  pub bad_line : status ≡ BAD_LINE → OnAsked words input (IsVerdict (BadLine line))
-  pub bad_call : status ≡ BAD_CALL → OnAsked words input (IsVerdict (BadCall line))
+  pub bad_line : status ≡ BAD_LINE → OnNamed words input (IsVerdict (BadLine line))
+  pub bad_call : status ≡ BAD_CALL → OnNamed words input (IsVerdict (BadCall line))
   pub tells : TellsLine old (report status line) new

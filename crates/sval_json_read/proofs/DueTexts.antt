@@ -81,12 +81,13 @@ module _ (input : List ℕ) (calls : List Call) (r : IsRead input calls) where
             stops = record { cause = rose; begins = subst (λ bytes. AppendsFront (told old) bytes (told new)) (json_written json shape) begins; counts = counts };
             full = λ failed. subst (LacksRoom (told old)) (json_written json shape) full;
             short = λ failed. subst (λ bytes. AppendsPart (told old) bytes (told new)) (json_written json shape) cut;
+            no_memory_short = λ never. cc never;
           };
         }
 
-    pub json_want : Rose (told old).wants (told new).wants → IsBegunIn Inside calls (told old) (told new) → NoCountFell (told old) (told new)
+    pub json_want : Rose (told old).wants (told new).wants → IsCutIn Inside calls (told old) (told new) → IsBegunIn Inside calls (told old) (told new) → NoCountFell (told old) (told new)
         → WritesDueText told input form.Json (Err NoMemory) old new
-    json_want rose begins counts =
+    json_want rose cut begins counts =
         let (json, shape) = has_json in
         record {
           text = compact json;
@@ -95,6 +96,7 @@ module _ (input : List ℕ) (calls : List Call) (r : IsRead input calls) where
             stops = record { cause = inr rose; begins = subst (λ bytes. AppendsFront (told old) bytes (told new)) (json_written json shape) begins; counts = counts };
             full = λ never. cc never;
             short = λ never. cc never;
+            no_memory_short = λ is. inr (subst (λ bytes. AppendsPart (told old) bytes (told new)) (json_written json shape) cut);
           };
         }
 

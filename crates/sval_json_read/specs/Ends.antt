@@ -3,21 +3,17 @@ use Rattle.std.specs.Prelude.{◌≡◌, ◌⊎◌, ℕ, ◌<◌, ◌≤◌, tru
 use Rattle.sval_core.specs.Law.{Rose}
 use Rattle.sval_json.specs.Sinks.{Told, HoldsNothing, IsSteady, NoCountFell}
 use Rattle.sval_program.specs.declared.status.TheConstants.{DONE, USAGE, WRITE, READ, NO_MEMORY, TOO_LONG}
-use Rattle.sval_program.specs.Inputs.{OnShort, OnLong, OnBoth, IsSpent, IsTooLong, StaysShort}
+use Rattle.sval_program.specs.Inputs.{OnShort, OnLong, IsSpent, IsTooLong, StaysShort}
 use Rattle.sval_program.specs.Outputs.{Grows}
 use Rattle.sval_program.specs.Sources.{Supply}
-use Rattle.sval_json_read.specs.declared.form.Form.{Form}
 use Rattle.sval_json_read.specs.declared.status.TheConstants.{NOT_UTF8, BAD_JSON}
-use Rattle.sval_json_read.specs.Forms.{form_named}
+use Rattle.sval_json_read.specs.Forms.{OnNamed}
+use Rattle.sval_json_read.specs.Reports.{Reports}
 use Rattle.sval_json_read.specs.Serves.{WritesDue, MayLeave, IsNoUtf8, HasBadJson}
 use Rattle.sval_json_read.specs.Statuses.{is_unwritten, is_read, IsStatusDue}
 
--- a fact on the input and what is asked for of it, by the words' bytes
-abbrev pub OnNamed : List (List ℕ) → Supply → (List ℕ → Form → Type 0) → Type 0
-OnNamed words input P = OnBoth (form_named words) input.left P
-
--- what a run says: when each status comes, what is left of the sink and the source, and their counts
-pub record ReadEnds (words : List (List ℕ)) (in_old in_new : Supply) (out_old out_new : Told) (status : ℕ) : Type 0 where
+-- what a run says: when each status comes, what is left of the sink and the source, and their counts, and which line was told
+pub record ReadEnds (words : List (List ℕ)) (in_old in_new : Supply) (out_old out_new diag_old diag_new : Told) (status : ℕ) : Type 0 where
   pub done : status ≡ DONE → OnNamed words in_old (WritesDue out_old out_new)
   pub flushed : status ≡ DONE → HoldsNothing out_new
   pub not_utf8 : status ≡ NOT_UTF8 → OnNamed words in_old IsNoUtf8
@@ -37,3 +33,4 @@ pub record ReadEnds (words : List (List ℕ)) (in_old in_new : Supply) (out_old 
   pub short : (status ≡ TOO_LONG → ⊥) → StaysShort in_old in_new
   pub steady : is_read status ≡ true → (in_new.faults ≡ in_old.faults) × IsSteady out_old out_new
   pub counts : (in_old.faults ≤ in_new.faults) × NoCountFell out_old out_new
+  pub reports : Reports words in_old status diag_old diag_new

@@ -18,6 +18,10 @@ form_named words = None
 abbrev pub form_of : {A : Type 0} → List (String A) → Option Form
 form_of words = form_named (map string_bytes words)
 
+-- a fact on the input and what is asked for of it, by the words' bytes
+abbrev pub OnNamed : List (List ℕ) → Supply → (List ℕ → Form → Type 0) → Type 0
+OnNamed words input P = OnBoth (form_named words) input.left P
+
 -- a fact on the input and what is asked for of it: where the words are a form, and the source tells its bytes
 abbrev pub OnAsked : {A : Type 0} → List (String A) → Supply → (List ℕ → Form → Type 0) → Type 0
 OnAsked words input P = OnBoth (form_of words) input.left P

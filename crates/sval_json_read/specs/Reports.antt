@@ -1,5 +1,5 @@
 -- What the third device is told.
-use Rattle.std.specs.Prelude.{◌≡◌, ℕ, List, [], ◌∷◌, ◌++◌, String, Result, Ok, Err, codes, decimal}
+use Rattle.std.specs.Prelude.{◌≡◌, ℕ, List, [], ◌∷◌, ◌++◌, Result, Ok, Err, codes, decimal}
 use Rattle.sval_json.specs.Sinks.{Told}
 use Rattle.sval_program.specs.declared.status.TheConstants.{USAGE}
 use Rattle.sval_program.specs.Reports.{TellsLine, device_reports, report_among}
@@ -10,7 +10,7 @@ use Rattle.sval_json_read.specs.declared.failure.Failure.{Failure}
 use Rattle.sval_json_read.specs.declared.failure.Failure.TheVariants as failure
 use Rattle.sval_json_read.specs.Documents.{IsBadJson}
 use Rattle.sval_json_read.specs.Statuses.{status_of_failure}
-use Rattle.sval_json_read.specs.Forms.{OnAsked}
+use Rattle.sval_json_read.specs.Forms.{OnNamed}
 
 -- the line for each status; that for 13 names the byte at which the input fails
 abbrev pub reports : ℕ → List (ℕ × List ℕ)
@@ -42,7 +42,7 @@ abbrev pub FailsAtByte : {A : Type 0} → ℕ → List ℕ → A → Type 0
 FailsAtByte at input asked = IsBadJson input at
 
 -- the status's line was told, which for the status 13 names the byte at which the input fails
-pub record Reports {A : Type 0} (words : List (String A)) (input : Supply) (status : ℕ) (old new : Told) : Type 0 where
+pub record Reports (words : List (List ℕ)) (input : Supply) (status : ℕ) (old new : Told) : Type 0 where
   pub at : ℕ
-  pub bad_json : status ≡ BAD_JSON → OnAsked words input (FailsAtByte at)
+  pub bad_json : status ≡ BAD_JSON → OnNamed words input (FailsAtByte at)
   pub tells : TellsLine old (report status at) new

@@ -26,11 +26,13 @@ pub record StopsWithin {K : Type 0} (why : SinkError) (told : K → Told) (text 
   pub begins : AppendsFront (told old) text (told new)
   pub counts : NoCountFell (told old) (told new)
 
--- the same of a sink that wasn't flushed: where it failed, the text had no place in the room that it told, and not all of it was taken
+-- the same of a sink that wasn't flushed: where it failed, the text had no place in the room that it told; not all of it was taken, and where
+-- memory was wanting the sink may be as it was
 pub record StopsWriting {K : Type 0} (why : SinkError) (told : K → Told) (text : List ℕ) (old new : K) : Type 0 where
   pub stops : StopsWithin why told text old new
   pub full : why ≡ sink.Failed → LacksRoom (told old) text
   pub short : why ≡ sink.Failed → AppendsPart (told old) text (told new)
+  pub no_memory_short : why ≡ sink.NoMemory → (new ≡ old) ⊎ AppendsPart (told old) text (told new)
 
 -- the text was taken whole, or a first part of it
 abbrev pub WritesText : {K : Type 0} → Result (Unit {0}) SinkError → (K → Told) → List ℕ → K → K → Type 0

@@ -34,15 +34,16 @@ pub trait Program {
     /// Whether it ends with this status.
     ghost is_status: { ℕ → Bool };
 
-    /// What is so after a run: of its words, of what the source and the sink told before and after it, and its status.
-    ghost Ends: { List (List ℕ) → Supply → Supply → Told → Told → ℕ → Type 0 };
+    /// What is so after a run: of its words, of what the source, the sink and the device for its line told before and
+    /// after it, and its status.
+    ghost Ends: { List (List ℕ) → Supply → Supply → Told → Told → Told → Told → ℕ → Type 0 };
 
     /// Whether words are one of its forms.
     fn takes(words: &[String]) -> bool
         ensures { result ≡ is_some (form_named (map string_bytes words.now)) };
 
-    /// Runs it on its words, its devices and an allocator, and answers its status. When each status comes, and what is
-    /// made of the source and the sink, is as the program's `Ends` says.
+    /// Runs it on its words, its devices and an allocator, and answers its status. When each status comes, what is made
+    /// of the source and the sink, and which line `diag` takes, is as the program's `Ends` says.
     fn run<I: Source, K: Sink, D: Sink>(
         alloc: Global,
         words: &[String],
@@ -53,7 +54,7 @@ pub trait Program {
         ensures known { is_status result ≡ true }
         ensures usage { (result ≡ USAGE) ↔ (form_named (map string_bytes words.now) ≡ None) }
         ensures ends { Ends (map string_bytes words.now) (I.told input.old) (I.told input.new)
-            (K.told out.old) (K.told out.new) result };
+            (K.told out.old) (K.told out.new) (D.told diag.old) (D.told diag.new) result };
 
     /// It may say that the words are no form, and that memory was wanting.
     ghost has_usage: { is_status USAGE ≡ true };
@@ -109,7 +110,8 @@ fn run_buffered<P: Program, I: Source, W: Write + Drop, D: Sink>(
     ensures known { P.is_status result ≡ true }
     ensures usage { OnOk stdout ((result ≡ USAGE) ↔ (P.form_named (map string_bytes words.now) ≡ None)) }
     ensures ends { OnOk stdout ((old : Told) × (new : Told)
-        × P.Ends (map string_bytes words.now) (I.told input.old) (I.told input.new) old new result) }
+        × P.Ends (map string_bytes words.now) (I.told input.old) (I.told input.new) old new
+        (D.told diag.old) (D.told diag.new) result) }
     ensures no_buffer { OnErr stdout (result ≡ NO_MEMORY) }
     ensures no_buffer_unread { OnErr stdout (input.new ≡ input.old) }
     ensures no_buffer_told { OnErr stdout (TellsLine (D.told diag.old) out_of_memory (D.told diag.new)) }

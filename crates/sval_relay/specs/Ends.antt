@@ -3,26 +3,22 @@ use Rattle.std.specs.Prelude.{◌≡◌, ◌⊎◌, ℕ, ◌<◌, ◌≤◌, tru
 use Rattle.sval_core.specs.Law.{Rose}
 use Rattle.sval_json.specs.Sinks.{Told, HoldsNothing, IsSteady, NoCountFell}
 use Rattle.sval_program.specs.declared.status.TheConstants.{DONE, USAGE, BAD_LINE, BAD_CALL, UNFINISHED, INVALID_KEY, INVALID_NUMBER, WRITE, READ, NO_MEMORY, TOO_LONG}
-use Rattle.sval_program.specs.Inputs.{OnShort, OnLong, OnBoth, IsSpent, IsTooLong, StaysShort}
+use Rattle.sval_program.specs.Inputs.{OnShort, OnLong, IsSpent, IsTooLong, StaysShort}
 use Rattle.sval_program.specs.Outputs.{Grows}
 use Rattle.sval_program.specs.Sources.{Supply}
-use Rattle.sval_relay.specs.declared.way.Task.{Task}
 use Rattle.sval_relay.specs.Relays.{WritesText, WritesValue, WritesUpTo, MayLeave}
 use Rattle.sval_relay.specs.Runs.{IsWantOf, WritesMadeLine, BeginsMadeLine}
 use Rattle.sval_relay.specs.Statuses.{is_of_made, is_unwritten, is_read, IsStatusDue}
 use Rattle.sval_relay.specs.Verdict.{Unfinished, Key, Number, IsVerdict, HasBadLine, HasBadCall, OnVerdict}
-use Rattle.sval_relay.specs.Ways.{form_named, task_in, OnRecords}
-
--- a fact on the input and what is asked for of it, by the words' bytes
-abbrev pub OnNamed : List (List ℕ) → Supply → (List ℕ → Task → Type 0) → Type 0
-OnNamed words input P = OnBoth (task_in (form_named words)) input.left P
+use Rattle.sval_relay.specs.Ways.{form_named, OnNamed, OnRecords}
+use Rattle.sval_relay.specs.Reports.{Reports}
 
 -- a fact on the number of records, where the words ask for a made script
 abbrev pub OnMadeNamed : List (List ℕ) → (ℕ → Type 0) → Type 0
 OnMadeNamed words P = OnRecords (form_named words) P
 
--- what a run says: when each status comes, what is left of the sink and the source, and their counts
-pub record RelayEnds (words : List (List ℕ)) (in_old in_new : Supply) (out_old out_new : Told) (status : ℕ) : Type 0 where
+-- what a run says: when each status comes, what is left of the sink and the source, and their counts, and which line was told
+pub record RelayEnds (words : List (List ℕ)) (in_old in_new : Supply) (out_old out_new diag_old diag_new : Told) (status : ℕ) : Type 0 where
   pub done : status ≡ DONE → OnNamed words in_old (WritesText out_old out_new)
   pub denotes : status ≡ DONE → OnNamed words in_old (WritesValue out_old out_new)
   pub flushed : status ≡ DONE → HoldsNothing out_new
@@ -51,3 +47,4 @@ pub record RelayEnds (words : List (List ℕ)) (in_old in_new : Supply) (out_old
   pub made_begins : OnMadeNamed words (BeginsMadeLine out_old out_new)
   pub made_comes : (Rose out_old.faults out_new.faults → ⊥) → OnMadeNamed words (λ _. (status ≡ DONE) ⊎ (status ≡ NO_MEMORY))
   pub made_reads_nothing : OnMadeNamed words (λ _. in_new ≡ in_old)
+  pub reports : Reports words in_old status diag_old diag_new

@@ -1,5 +1,5 @@
 -- What the third device is told.
-use Rattle.std.specs.Prelude.{◌≡◌, ℕ, Bool, List, [], ◌∷◌, ◌++◌, String, Result, Ok, Err, codes}
+use Rattle.std.specs.Prelude.{◌≡◌, ℕ, Bool, List, [], ◌∷◌, ◌++◌, Result, Ok, Err, codes}
 use Rattle.sval_json.specs.Sinks.{Told}
 use Rattle.sval_program.specs.declared.status.TheConstants.{USAGE, BAD_LINE, BAD_CALL}
 use Rattle.sval_relay.specs.declared.relaying.RelayError.TheVariants as answer
@@ -7,7 +7,7 @@ use Rattle.sval_relay.specs.declared.failure.Failure.{Failure}
 use Rattle.sval_relay.specs.declared.failure.Failure.TheVariants as failure
 use Rattle.sval_program.specs.Reports.{TellsLine, script_reports, device_reports, report_among}
 use Rattle.sval_program.specs.Sources.{Supply}
-use Rattle.sval_relay.specs.Ways.{OnAsked, many_asked}
+use Rattle.sval_relay.specs.Ways.{OnNamed, form_named, takes_many}
 use Rattle.sval_relay.specs.Verdict.{BadLine, BadCall, IsVerdict}
 use Rattle.sval_relay.specs.Statuses.{status_of_failure}
 
@@ -39,8 +39,8 @@ line_of_result many (Ok done) = []
 line_of_result many (Err why) = report_of many why
 
 -- the status's line was told, which for the statuses 3 and 4 names the line that the verdict names
-pub record Reports {A : Type 0} (words : List (String A)) (input : Supply) (status : ℕ) (old new : Told) : Type 0 where
+pub record Reports (words : List (List ℕ)) (input : Supply) (status : ℕ) (old new : Told) : Type 0 where
   pub line : ℕ
-  pub bad_line : status ≡ BAD_LINE → OnAsked words input (IsVerdict (BadLine line))
-  pub bad_call : status ≡ BAD_CALL → OnAsked words input (IsVerdict (BadCall line))
-  pub tells : TellsLine old (report (many_asked words) status line) new
+  pub bad_line : status ≡ BAD_LINE → OnNamed words input (IsVerdict (BadLine line))
+  pub bad_call : status ≡ BAD_CALL → OnNamed words input (IsVerdict (BadCall line))
+  pub tells : TellsLine old (report (takes_many (form_named words)) status line) new

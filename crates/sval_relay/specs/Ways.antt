@@ -60,6 +60,10 @@ abbrev pub task_in : Option Form → Option Task
 task_in (Some (Serve task)) = Some task
 task_in _ = None
 
+-- a fact on the input and what is asked for of it, by the words' bytes
+abbrev pub OnNamed : List (List ℕ) → Supply → (List ℕ → Task → Type 0) → Type 0
+OnNamed words input P = OnBoth (task_in (form_named words)) input.left P
+
 -- a fact on the script and what is asked for of it: where the words ask for something of a script, and the source tells its bytes
 abbrev pub OnAsked : {A : Type 0} → List (String A) → Supply → (List ℕ → Task → Type 0) → Type 0
 OnAsked words input P = OnBoth (task_in (form_of words)) input.left P
@@ -68,10 +72,6 @@ OnAsked words input P = OnBoth (task_in (form_of words)) input.left P
 abbrev pub takes_many : Option Form → Bool
 takes_many (Some (Serve task)) = task.many
 takes_many _ = false
-
--- the same of the program's words
-abbrev pub many_asked : {A : Type 0} → List (String A) → Bool
-many_asked words = takes_many (form_of words)
 
 -- a fact on the number of records, where there is one
 abbrev pub OnRecords : Option Form → (ℕ → Type 0) → Type 0

@@ -1,6 +1,6 @@
 //! The whole program, over any words and devices.
 
-ghost use Rattle.std.specs.Prelude.{◌≡◌, ◌⊎◌, ◌<◌, ◌≤◌, ◌↔◌, true, None};
+ghost use Rattle.std.specs.Prelude.{◌≡◌, ◌⊎◌, ◌<◌, ◌≤◌, ◌↔◌, true, None, map, string_bytes};
 ghost use Rattle.sval_core.specs.Law.{Rose};
 ghost use Rattle.sval_json.specs.Sinks.{HoldsNothing, IsSteady, NoCountFell};
 ghost use Rattle.sval_program.specs.Inputs.{OnShort, OnLong, IsSpent, IsTooLong, StaysShort};
@@ -186,7 +186,8 @@ pub fn run<I: Source, K: Sink, D: Sink>(
     ensures made_reads_nothing { OnMade words.now (λ _. input.new ≡ input.old) }
 
     // What the third device is told.
-    ensures reports { Reports words.now (I.told input.old) result (D.told diag.old) (D.told diag.new) }
+    ensures reports { Reports (map string_bytes words.now) (I.told input.old) result
+        (D.told diag.old) (D.told diag.new) }
 {
     let form = named_form(words);
     let served = serve(alloc, form, input, out);

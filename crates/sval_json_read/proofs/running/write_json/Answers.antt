@@ -13,7 +13,7 @@ returns-in-IO g c = λ input r.
 
 pub returns-in-NoMemory : goal.returns-in-NoMemory
 returns-in-NoMemory g c = λ input r.
-    json_want input c.args.doc.now r g.K.Sink.told c.args.out.now c.stream_to_io_write.new.out (c.in-Err.ensures.no_memory (search rules)) c.in-Err.ensures.prefix c.in-Err.ensures.counts
+    json_want input c.args.doc.now r g.K.Sink.told c.args.out.now c.stream_to_io_write.new.out (c.in-Err.ensures.no_memory (search rules)) (c.in-Err.ensures.no_memory_short (search rules)) c.in-Err.ensures.prefix c.in-Err.ensures.counts
 
 -- its tree has a JSON
 pub unreachable-requires : goal.unreachable-requires

@@ -17,16 +17,19 @@ returns-in-Err-Write g c = λ tree s p.
       stops = record { cause = c.in-Err-Write.ensures.write (search rules); begins = begins; counts = c.in-Err-Write.ensures.counts };
       full = λ failed. full;
       short = λ failed. short;
+      no_memory_short = λ never. cc never;
     }
 
 pub returns-in-Err-NoMemory : goal.returns-in-Err-NoMemory
 returns-in-Err-NoMemory g c = λ tree s p.
     let e = g.V.Value.emission c.args.value.now in
     let begins = begins_script e tree (capture_of c.in-Ok.captured) s p c.in-Ok.ensures.ok c.in-Ok.ensures.keeps_the_tree c.in-Err-NoMemory.ensures.prefix in
+    let short = cuts_script e tree (capture_of c.in-Ok.captured) s p c.in-Ok.ensures.ok c.in-Ok.ensures.keeps_the_tree (c.in-Err-NoMemory.ensures.no_memory_short (search rules)) in
     record {
       stops = record { cause = inr (c.in-Err-NoMemory.ensures.no_memory (search rules)); begins = begins; counts = c.in-Err-NoMemory.ensures.counts };
       full = λ never. cc never;
       short = λ never. cc never;
+      no_memory_short = λ is. inr short;
     }
 
 -- each tag that the lines show is one of scripts

@@ -28,4 +28,5 @@ returns-clause-ends g c = record {
   short = c.run_cbor.ensures.short;
   steady = c.run_cbor.ensures.steady;
   counts = c.run_cbor.ensures.counts;
+  reports = c.run_cbor.ensures.reports;
 }

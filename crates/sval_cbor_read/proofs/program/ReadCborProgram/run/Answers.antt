@@ -22,4 +22,5 @@ returns-clause-ends g c = record {
   short = c.run_cbor_read.ensures.short;
   steady = c.run_cbor_read.ensures.steady;
   counts = c.run_cbor_read.ensures.counts;
+  reports = c.run_cbor_read.ensures.reports;
 }

@@ -25,4 +25,5 @@ returns-clause-ends g c = record {
   short = c.run_filter.ensures.short;
   steady = c.run_filter.ensures.steady;
   counts = c.run_filter.ensures.counts;
+  reports = c.run_filter.ensures.reports;
 }

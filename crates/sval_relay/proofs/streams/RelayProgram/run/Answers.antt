@@ -33,4 +33,5 @@ returns-clause-ends g c = record {
   untouched = λ e. ap g.K.Sink.told (c.run.ensures.untouched e);
   nothing_read = λ e. ap g.I.Source.told (c.run.ensures.nothing_read e);
   made_reads_nothing = stays_told (form_of c.args.words.now) g.I.Source.told c.args.input.now c.run.new.input c.run.ensures.made_reads_nothing;
+  reports = c.run.ensures.reports;
 }
