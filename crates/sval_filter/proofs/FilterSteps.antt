@@ -11,7 +11,8 @@ use Rattle.sval_check.specs.Checked.{why_of}
 use Rattle.sval_check.specs.Dues.{Readies}
 use Rattle.sval_check.specs.declared.machine.Refusal.{Refusal}
 use Rattle.sval_check.specs.declared.machine.Refusal.TheVariants as refusal
-use Rattle.sval_filter.specs.Filtering.{may_take_memory, mode_in, key_may_grow}
+use Rattle.sval_core.specs.Stacks.{below}
+use Rattle.sval_filter.specs.Filtering.{may_take_memory, mode_in, label_may_grow, key_may_grow}
 use Rattle.sval_filter.specs.FilterLaw.{Why, NotViable, NoMemory, Inner, is_stopped, wants_after, Ruled, ruled_standing, ruled_law, IsFilterCause}
 use Rattle.sval_filter.specs.Sieves.{SieveView, Moves, due_at, next_kept}
 use Rattle.sval_filter.specs.SeenFilters.{ruled_by, why_by, IsHindrance, Filters}
@@ -58,10 +59,12 @@ pub not_ready : {V : Type 0} (law : Law V) (state now : State) (sieve : SieveVie
     → Filters law (ruled_by state sieve why wants) call (Err (why_of cause)) (ruled_by now sieve why wants)
 not_ready law state now sieve call why wants refusal.NotViable r = ((ap (λ (o : Option State). is_some o) r.0, refl), ap (λ (s : State). ruled_by s sieve why wants) r.1)
 not_ready law state now sieve call why wants refusal.NoMemory r =
-    ((r.1, grows (opens call) (key_may_grow (mode_in sieve.paths sieve.kept.layers) sieve.kept.held call) r.0, refl), ap (λ (s : State). ruled_by s sieve why wants) r.2)
+    let inside = mode_in sieve.paths sieve.kept.layers in
+    let label = label_may_grow call inside (mode_in sieve.paths (below sieve.kept.layers)) sieve.kept.held in
+    ((r.1, grows (opens call) label (key_may_grow inside sieve.kept.held call) r.0, refl), ap (λ (s : State). ruled_by s sieve why wants) r.2)
   where
-    grows : (a b : Bool) → a ≡ true → (a || b) ≡ true
-    grows a b e = ap (λ c. c || b) e
+    grows : (a b c : Bool) → a ≡ true → (a || b || c) ≡ true
+    grows a b c e = ap (λ x. x || b || c) e
 
 -- ---- the law
 

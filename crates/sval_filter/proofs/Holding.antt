@@ -1,11 +1,11 @@
--- What a buffer says of a key's call that it refuses, and the text that a key's calls begin with.
-use Rattle.std.specs.Prelude.{◌≡◌, ℕ, ◌≤◌, Bool, true, false, not, List, [], ◌∷◌, ◌++◌, fold, Option, Some, None, Result, Ok, Err, refl}
-use Rattle.std.proofs.Common.{inr, sym, ap, subst, ◌∙◌}
+-- What a buffer says of a key's call that it refuses, the text that a key's calls begin with, and that reading it stops only where there is one.
+use Rattle.std.specs.Prelude.{◌≡◌, ℕ, ◌≤◌, Bool, true, false, not, List, [], ◌∷◌, ◌++◌, fold, Option, Some, None, is_some, Result, Ok, Err, refl}
+use Rattle.std.proofs.Common.{inl, inr, sym, ap, subst, ◌∙◌}
 use Rattle.std.proofs.lemmas.List.{append_assoc, append-nil}
 use Rattle.sval_label.specs.declared.error.NoMemory.{NoMemory}
 use Rattle.sval_label.specs.declared.error.Error.{Error}
 use Rattle.sval_label.specs.Calls.{Call, TagHint, TextBegin, TextFragment, TextEnd, BinaryFragment, BinaryEnd, EnumEnd, TaggedEnd, End, PartEnd}
-use Rattle.sval_core.specs.Law.{Standing, Takes, Refuses, Answers, Streams, computed, one_more}
+use Rattle.sval_core.specs.Law.{Standing, Takes, Refuses, Answers, Streams, StoppedIn, Stops, computed, one_more}
 use Rattle.sval_core.specs.Values.{makes}
 use Rattle.sval_core.proofs.Folds.{streams_folds}
 use Rattle.sval_core.specs.Spells.{plain}
@@ -119,10 +119,38 @@ label_read calls place text wants new p t s =
     text_read calls (read_standing (record { place = place; text = text }) wants) new
     (ap (λ (x : Place). let key : KeyRead = record { place = x; text = text } in key) p ∙ ap (λ (x : List ℕ). let key : KeyRead = record { place = Before; text = x } in key) t) s
 
+-- calls of which one was refused have a text
+has_text : (old new : Standing KeyRead) (place : Place) (text : List ℕ) (calls : List Call)
+    → StoppedIn read_law old new (record { place = place; text = text }) calls false → is_some (label_after place text calls) ≡ true
+has_text old new place text [] s = absurd (cc (s.0))
+has_text old new place text (call ∷ calls) (inl s) =
+    ap (λ (p : Place). is_some (label_after p text (call ∷ calls))) s.1 ∙ ap is_some (within text (call ∷ calls))
+has_text old new place text (call ∷ calls) (inr s) =
+    let key : KeyRead = read (record { place = place; text = text }) call in has_text old new key.place key.text calls s.1
+
+-- the same of calls from where nothing was read
+pub label_wanted : (calls : List Call) (place : Place) (text : List ℕ) (wants : ℕ) (new : Standing KeyRead) → place ≡ Before → text ≡ []
+    → Stops read_law (read_standing (record { place = place; text = text }) wants) (makes calls) new → is_some (text_of (plain calls)) ≡ true
+label_wanted calls place text wants new p t s =
+    ap is_some (sym (ap (λ (x : Place). label_after x text calls) p ∙ ap (λ (x : List ℕ). label_after Before x calls) t ∙ from_start calls))
+    ∙ has_text (read_standing (record { place = place; text = text }) wants) new place text calls s.stopped
+
+-- what is refused where a fragment leads inside the text is refused inside it
+was_inside : (place : Place) (text bytes : List ℕ) → (with_fragment place text bytes).place ≡ Inside → place ≡ Inside
+was_inside Inside text bytes e = refl
+was_inside Before text bytes e = absurd (cc e)
+was_inside After text bytes e = absurd (cc e)
+was_inside NoText text bytes e = absurd (cc e)
+
 -- a fragment that was copied was read, and one that wasn't was refused
 pub fragment_read : (old new : KeyRead) (wants now : ℕ) (borrowed : Bool) (bytes : List ℕ) (call : Call) (result : Result (Unit {0}) Error) → call ≡ TextFragment borrowed bytes
     → Copies (with_fragment old.place old.text bytes) wants result new now → wants ≤ now → Answers read_law result (read_standing old wants) call (read_standing new now)
 fragment_read old new wants now borrowed bytes call (Ok done) is c up =
     record { accepted = tt; view = c.0 ∙ ap (λ (c : Call). read old c) (sym is); faults = refl; wants = c.1 }
 fragment_read old new wants now borrowed bytes call (Err refusal) is c up =
-    record { cause = inr (inr (subst (λ n. one_more wants ≤ n) (sym c) (least (one_more wants)))); left = tt; faults = least 0; wants = up }
+    record {
+      cause = inr (inr (subst (λ n. one_more wants ≤ n) (sym c.1) (least (one_more wants))));
+      left = was_inside old.place old.text bytes c.0;
+      faults = least 0;
+      wants = up;
+    }

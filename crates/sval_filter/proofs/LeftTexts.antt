@@ -1,8 +1,7 @@
 -- What writing the JSON of a value leaves of a sink, by the tree that its calls spell.
 use Rattle.std.specs.Prelude.{◌≡◌, ℕ, List, Option, Some, None, Result, Ok, Err, refl}
-use Rattle.std.proofs.Common.{sym, ap, subst, ◌∙◌, inr}
+use Rattle.std.proofs.Common.{ap, subst}
 use Rattle.sval_label.specs.Calls.{Call}
-use Rattle.sval_core.specs.Law.{Rose}
 use Rattle.sval_core.specs.Spells.{Spells}
 use Rattle.sval_core.specs.Trees.{Tree, calls_of}
 use Rattle.sval_core.proofs.Spellings.{calls_of-spells}
@@ -11,17 +10,16 @@ use Rattle.sval_json.specs.Json.{Json, compact}
 use Rattle.sval_json.specs.Laws.{IsWrittenAs}
 use Rattle.sval_json.specs.Number.{Refusal}
 use Rattle.sval_json.specs.Shape.{json_of}
-use Rattle.sval_json.specs.Sinks.{Told, IsSteady, NoCountFell, Appends, AppendsFront}
+use Rattle.sval_json.specs.Sinks.{Told, IsSteady, NoCountFell}
 use Rattle.sval_json.specs.Steps.{written_in}
-use Rattle.sval_json.specs.Written.{IsWrittenIn, IsBegunIn, IsRefusedIn, WritesSpelledTree}
+use Rattle.sval_json.specs.Written.{IsBegunIn, IsRefusedIn, WritesSpelledTree}
 use Rattle.sval_json.specs.declared.sink.SinkError.{SinkError}
-use Rattle.sval_json.specs.declared.sink.SinkError.TheVariants as sink
 use Rattle.sval_json.specs.declared.style.Variants.TheVariants.{Inside}
 use Rattle.sval_json.proofs.WritingPlain.{spelling_written}
 use Rattle.sval_json.proofs.WrittenOnce.{written_once}
 use Rattle.sval_program.specs.Outputs.{IsStopCause}
 use Rattle.sval_filter.specs.Serves.{WritesTree, StopsWithinTree}
-use Rattle.sval_filter.specs.Verdict.{IsWritten, IsJson, IsCutAt}
+use Rattle.sval_filter.specs.Verdict.{IsWritten}
 
 -- what is written of a tree, where it has this JSON or none
 record Found (bytes : List ℕ) (tree : Tree) : Type 0 where

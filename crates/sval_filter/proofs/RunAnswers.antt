@@ -1,19 +1,19 @@
 -- From what serving the input says to what each status says.
-use Rattle.std.specs.Prelude.{◌≡◌, ℕ, ◌≤◌, ◌⊎◌, true, List, Option, Some, None, Result, Ok, Err, IfSome, refl}
+use Rattle.std.specs.Prelude.{◌≡◌, ℕ, ◌⊎◌, List, Option, Some, None, Result, Ok, Err, IfSome, refl}
 use Rattle.std.proofs.Common.{sym, ap, subst, arith, inl, inr}
 use Rattle.sval_core.specs.Law.{Rose}
-use Rattle.sval_json.specs.Sinks.{Told, IsSteady, NoCountFell, Appends}
+use Rattle.sval_json.specs.Sinks.{Told}
 use Rattle.sval_json.specs.declared.sink.SinkError.{SinkError}
 use Rattle.sval_json.specs.declared.sink.SinkError.TheVariants as sink
-use Rattle.sval_json.proofs.Appending.{all_is_front, steady_alone, steady_counts}
-use Rattle.sval_program.specs.declared.status.TheConstants.{DONE, BAD_LINE, BAD_CALL, UNFINISHED, INVALID_KEY, INVALID_NUMBER, WRITE, READ, NO_MEMORY, TOO_LONG}
+use Rattle.sval_json.proofs.Appending.{all_is_front}
+use Rattle.sval_program.specs.declared.status.TheConstants.{DONE, BAD_LINE, BAD_CALL, UNFINISHED, INVALID_KEY, INVALID_NUMBER, NO_MEMORY, TOO_LONG}
 use Rattle.sval_program.specs.declared.input_error.InputError.{InputError}
 use Rattle.sval_program.specs.declared.input_error.InputError.TheVariants as input
-use Rattle.sval_program.specs.Inputs.{IsSpent, OnShort, OnBoth, TakesAll, TakesOneMore, IsUnread, StaysShort, OnLong}
-use Rattle.sval_program.specs.Outputs.{Grows, IsOwnWant}
+use Rattle.sval_program.specs.Inputs.{OnShort, OnBoth, TakesAll, TakesOneMore, IsUnread, StaysShort, OnLong}
+use Rattle.sval_program.specs.Outputs.{Grows}
 use Rattle.sval_program.specs.Sources.{Supply}
 use Rattle.sval_program.proofs.ReadParts.{read_nothing, read_all}
-use Rattle.sval_program.proofs.Growing.{counts_stay, grows_by_nothing, grows_by_front, front_of_nothing}
+use Rattle.sval_program.proofs.Growing.{grows_by_nothing, grows_by_front, front_of_nothing}
 use Rattle.sval_filter.specs.declared.failure.Failure.{Failure}
 use Rattle.sval_filter.specs.declared.failure.Failure.TheVariants.{Usage, Input, Script, Refused, Write}
 use Rattle.sval_filter.specs.declared.failure.Fault.{Fault}
@@ -22,13 +22,13 @@ use Rattle.sval_filter.specs.declared.failure.Refusal.{Refusal}
 use Rattle.sval_filter.specs.declared.failure.Refusal.TheVariants as refusal
 use Rattle.sval_json.specs.Number.{InvalidKey, InvalidNumber}
 use Rattle.sval_json.specs.Number as json
-use Rattle.sval_filter.specs.Reports.{line_named, line_of, line_of_result, report}
+use Rattle.sval_filter.specs.Reports.{line_named, line_of}
 use Rattle.sval_filter.specs.Refused.{seen_refusal}
 use Rattle.sval_filter.specs.Forms.{Asked}
-use Rattle.sval_filter.specs.Statuses.{is_read, status_of, status_of_fault, status_of_refusal, status_of_verdict, IsStatusDue}
+use Rattle.sval_filter.specs.Statuses.{status_of, status_of_fault, status_of_refusal, status_of_verdict, IsStatusDue}
 use Rattle.sval_filter.specs.Verdict.{Verdict, BadLine, BadCall, Unfinished, Whole, IsVerdict, HasBadLine, HasBadCall, OnVerdict}
-use Rattle.sval_filter.specs.Serves.{WritesUpTo, WritesText, WritesUpToRefusal, MayLeave, verdict_of, WritesAll, StopsWithinAll, StopsWriting, IsServed, Serves}
-use Rattle.sval_filter.proofs.Verdicts.{one_verdict, of_each}
+use Rattle.sval_filter.specs.Serves.{WritesText, WritesUpToRefusal, MayLeave, verdict_of, WritesAll, StopsWriting, IsServed, Serves}
+use Rattle.sval_filter.proofs.Verdicts.{of_each}
 
 -- the devices of a run
 pub record Case (I K : Type 0) : Type 0 where

@@ -1,6 +1,6 @@
 -- A sieve's step, by kind of call.
-use Rattle.std.specs.Prelude.{◌≡◌, ℕ, Bool, true, false, not, ◌&&◌, List, [], ◌∷◌, Result, refl}
-use Rattle.std.proofs.Common.{sym, subst}
+use Rattle.std.specs.Prelude.{◌≡◌, ℕ, Bool, true, false, not, ◌&&◌, ◌||◌, List, [], ◌∷◌, is_some, Result, Ok, Err, refl}
+use Rattle.std.proofs.Common.{sym, ap, subst}
 use Rattle.sval_label.specs.Calls as calls
 use Rattle.sval_label.specs.Calls.{Call, Head, Slot}
 use Rattle.std.specs.Borrow.{Bor}
@@ -12,10 +12,18 @@ use Rattle.sval_core.specs.Stacks.{below}
 use Rattle.sval_buffer.specs.Forest.{Forest, empty_forest}
 use Rattle.sval_filter.specs.Paths as path
 use Rattle.sval_filter.specs.Paths.{Path, Rule, Fate}
-use Rattle.sval_filter.specs.Filtering.{Mode, Holding, By, layer, mode_in, entry_in, with_entry, mode_of_part, passed, hint_due, without_size, held_after, held_label, key_may_grow, due_at_end, kept_after_end, key_due, fate_in, may_take_memory}
+use Rattle.sval_filter.specs.Filtering.{Filtering, Mode, Holding, By, layer, mode_in, entry_in, with_entry, mode_of_part, passed, hint_due, without_size, held_after, held_label, key_may_grow, label_may_grow, due_at_end, kept_after_end, key_due, fate_in, may_take_memory}
 use Rattle.sval_filter.specs.SeenLayers.{is_holding, entry_by}
 use Rattle.sval_filter.specs.Sieves.{SieveView, Moves, due_at, next_kept, key_and_end}
 use Rattle.sval_filter.specs.declared.sieve.Hindrance.{Hindrance}
+use Rattle.sval_filter.specs.declared.sieve.Hindrance.TheVariants.{NoMemory, Inside}
+
+-- what may take memory for one cause may take it for that or another one
+for_either : {V : Type 0} (law : Law V) (old new : SieveView V) (due : List Call) (after : Filtering) (one other : Bool) (result : Result (Unit {0}) Hindrance)
+    → Moves law old due after one result new → Moves law old due after (one || other) result new
+for_either law old new due after one other (Ok done) m = m
+for_either law old new due after one other (Err NoMemory) m = (ap (λ b. b || other) m.0, m.1)
+for_either law old new due after one other (Err Inside) m = m
 
 -- the call begins and ends nothing, and is no hint
 abbrev pub is_single : Call → Bool
@@ -119,13 +127,13 @@ module _ {V : Type 0} (law : Law V) (old new : SieveView V) (result : Result (Un
   abbrev EndsBy : Mode → Mode → Slot → Type 0
   EndsBy inside around slot =
       Moves law old (due_at_end old.rule inside around old.kept.held slot) (kept_after_end old.rule inside around (below old.kept.layers) old.kept.held slot)
-      (key_may_grow inside old.kept.held (calls.PartEnd slot)) result new
+      (label_may_grow (calls.PartEnd slot) inside around old.kept.held || key_may_grow inside old.kept.held (calls.PartEnd slot)) result new
 
   -- the end of a key that is in no other key
   abbrev KeyEnds : Mode → Call → Type 0
   KeyEnds around end =
       Moves law old (key_and_end (entry_by old.rule around (held_label old.kept.held)) old.kept.held end)
-      (record { layers = with_entry (entry_by old.rule around (held_label old.kept.held)) (below old.kept.layers); held = empty_forest }) true result new
+      (record { layers = with_entry (entry_by old.rule around (held_label old.kept.held)) (below old.kept.layers); held = empty_forest }) (is_some (held_label old.kept.held)) result new
 
   -- any other end of a part
   abbrev PartEnds : Mode → Call → Type 0
@@ -133,14 +141,18 @@ module _ {V : Type 0} (law : Law V) (old new : SieveView V) (result : Result (Un
       Moves law old (passed inside (end ∷ [])) (record { layers = with_entry path.Stays (below old.kept.layers); held = held_after inside old.kept.held end })
       (key_may_grow inside old.kept.held end) result new
 
-  by_fate : (fate : Fate) (slot : Slot) → Moves law old (key_and_end fate old.kept.held (calls.PartEnd slot)) (record { layers = with_entry fate (below old.kept.layers); held = empty_forest }) true result new
-      → Moves law old (key_due fate old.kept.held slot) (record { layers = with_entry fate (below old.kept.layers); held = empty_forest }) true result new
-  by_fate path.LeftOut slot m = m
-  by_fate path.Stays slot m = m
-  by_fate (path.Within paths) slot m = m
+  by_fate : (fate : Fate) (grows : Bool) (slot : Slot) → Moves law old (key_and_end fate old.kept.held (calls.PartEnd slot)) (record { layers = with_entry fate (below old.kept.layers); held = empty_forest }) grows result new
+      → Moves law old (key_due fate old.kept.held slot) (record { layers = with_entry fate (below old.kept.layers); held = empty_forest }) grows result new
+  by_fate path.LeftOut grows slot m = m
+  by_fate path.Stays grows slot m = m
+  by_fate (path.Within paths) grows slot m = m
 
   key_by : (inside around : Mode) (slot : Slot) → true ≡ (is_holding inside && not (is_holding around)) → KeyEnds around (calls.PartEnd slot) → EndsBy inside around slot
-  key_by Holding (By fate) slot h m = by_fate (fate_in old.rule fate (held_label old.kept.held)) slot m
+  key_by Holding (By fate) slot h m =
+      let entry = fate_in old.rule fate (held_label old.kept.held) in
+      let grows = is_some (held_label old.kept.held) in
+      for_either law old new (key_due entry old.kept.held slot) (record { layers = with_entry entry (below old.kept.layers); held = empty_forest })
+      grows (key_may_grow Holding old.kept.held (calls.PartEnd slot)) result (by_fate entry grows slot m)
   key_by Holding Holding slot h m = absurd (cc h)
   key_by (By fate) around slot h m = absurd (cc h)
 

@@ -293,10 +293,10 @@ module _ {V : Type 0} (law : Law V) (rule : Rule) (held : Forest) (inner later :
         ∙ ap (λ (forest : Forest). view_by rule forest later (record all { layers = with_entry due (below all.layers) })) empty,
   )
 
-  pub key_is_refused : (why : Hindrance) (after : Filtering) → Passes law inner (key_and_end fate held end) (Err why) later
-      → Moves law old_key (key_and_end due held end) after true (Err why) (view_by rule held later all)
-  key_is_refused NoMemory after p = absurd p
-  key_is_refused Inside after p = (subst (λ (f : Fate). Stops law inner (makes (key_and_end f held end)) later) is p, refl)
+  pub key_is_refused : (grows : Bool) (why : Hindrance) (after : Filtering) → Passes law inner (key_and_end fate held end) (Err why) later
+      → Moves law old_key (key_and_end due held end) after grows (Err why) (view_by rule held later all)
+  key_is_refused grows NoMemory after p = absurd p
+  key_is_refused grows Inside after p = (subst (λ (f : Fate). Stops law inner (makes (key_and_end f held end)) later) is p, refl)
 
 -- what a result that is no refusal says
 pub got : {E P : Type 0} (result : Result (Unit {0}) E) → false ≡ is_err result → IfOk result (λ done. P) → P

@@ -17,7 +17,7 @@ use Rattle.sval_script.specs.Lines.{Lines, Good, Bad, lines}
 use Rattle.sval_filter.specs.Forms.{Asked}
 use Rattle.sval_filter.specs.Laws.{OneVerdict}
 use Rattle.sval_filter.specs.Pruned.{pruned}
-use Rattle.sval_filter.specs.Verdict.{Verdict, BadLine, BadCall, Unfinished, Whole, IsJson, IsCutAt, IsWritten, AreUnfinished, SpellWhole, IsOfCalls, OfCalls, IsVerdict, OnVerdict}
+use Rattle.sval_filter.specs.Verdict.{Verdict, BadLine, BadCall, Unfinished, Whole, IsWritten, AreUnfinished, SpellWhole, IsOfCalls, OfCalls, IsVerdict, OnVerdict}
 
 -- ---- of a tree
 

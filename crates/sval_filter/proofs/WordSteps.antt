@@ -1,7 +1,7 @@
 -- Words, tested and made paths of one after another.
 use Rattle.std.specs.Prelude.{◌≡◌, ℕ, zero, suc, ◌+◌, ◌<◌, ◌≤◌, Bool, false, ◌||◌, List, [], ◌∷◌, ◌++◌, length, drop, take, map, refl}
 use Rattle.std.specs.List.{list_any}
-use Rattle.std.proofs.Common.{get_or, sym, ap, ◌∙◌, arith, add-one}
+use Rattle.std.proofs.Common.{get_or, sym, ap, arith, add-one}
 
 module _ {X : Type 0} (bytes : X → List ℕ) where
   behind : (xs : List X) (i : ℕ) (x : X) → i < length xs → x ≡ get_or xs i x → drop i xs ≡ x ∷ drop (i + 1) xs

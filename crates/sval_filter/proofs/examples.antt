@@ -2,3 +2,4 @@
 mod PrunedTrees
 mod PassedCalls
 mod RefusedFilters
+mod TakenMemory

@@ -1,5 +1,5 @@
 -- The filter as a machine: what it keeps, which calls are due at a call, and what it keeps after it.
-use Rattle.std.specs.Prelude.{ℕ, Bool, true, false, ◌||◌, List, [], ◌∷◌, ◌++◌, map, Option, Some, None}
+use Rattle.std.specs.Prelude.{ℕ, Bool, true, false, ◌||◌, List, [], ◌∷◌, ◌++◌, map, Option, Some, None, is_some}
 use Rattle.sval_label.specs.Calls.{Call, Head, Slot}
 use Rattle.sval_core.specs.Law.{computed}
 use Rattle.sval_core.specs.Spells.{plain}
@@ -58,17 +58,24 @@ abbrev pub held_after : Mode → Forest → Call → Forest
 held_after Holding held call = forest_by (take held (computed call)) held
 held_after (By fate) held call = held
 
--- the held key may take memory for the call: for a fragment, where it may grow, and at a key's end, which keeps what its label says of paths
+-- the held key may take memory for the call: for a fragment, and where it may grow
 abbrev pub key_may_grow : Mode → Forest → Call → Bool
 key_may_grow (By fate) held call = false
-key_may_grow Holding held (Call.PartEnd slot) = true
 key_may_grow Holding held (Call.TextFragment borrowed bytes) = true
 key_may_grow Holding held (Call.BinaryFragment borrowed bytes) = true
 key_may_grow Holding held call = may_grow held (computed call)
 
--- a call may take memory: it begins what has an end of its own, or the held key takes some
+-- the end of a key in no other key may take memory where the key is a text: for the copy of its label, and for what that says of paths
+abbrev pub label_may_grow : Call → Mode → Mode → Forest → Bool
+label_may_grow (Call.PartEnd slot) Holding (By fate) held = is_some (held_label held)
+label_may_grow call inside around held = false
+
+-- a call may take memory: it begins what has an end of its own, it ends a key that is a text, or the held key takes some
 abbrev pub may_take_memory : List Path → Filtering → Call → Bool
-may_take_memory paths kept call = opens call || key_may_grow (mode_in paths kept.layers) kept.held call
+may_take_memory paths kept call =
+    opens call
+    || label_may_grow call (mode_in paths kept.layers) (mode_in paths (below kept.layers)) kept.held
+    || key_may_grow (mode_in paths kept.layers) kept.held call
 
 -- the layers after a call that is neither a part's begin nor its end
 abbrev pub layers_after : Mode → List Layer → Call → List Layer

@@ -44,15 +44,15 @@ text_by Inside text = Some text
 text_by After text = Some text
 text_by place text = None
 
--- it takes all calls
+-- it takes all calls, and refuses one only inside the text
 abbrev pub read_law : Law KeyRead
-read_law = record { accepts = λ key call. ⊤; after = read; stopped = λ key call left. ⊤ }
+read_law = record { accepts = λ key call. ⊤; after = read; stopped = λ key call left. key.place ≡ Inside }
 
 -- where it stands that has read this, and wanted memory so often
 abbrev pub read_standing : KeyRead → ℕ → Standing KeyRead
 read_standing key wants = record { view = key; faults = 0; wants = wants }
 
--- what copying a fragment says, which is to lead here: it did, or memory was wanting
+-- what copying a fragment says, which is to lead here: it did, or memory was wanting inside the text
 abbrev pub Copies : KeyRead → ℕ → Result (Unit {0}) Error → KeyRead → ℕ → Type 0
 Copies due wants (Ok done) new now = (new ≡ due) × (now ≡ wants)
-Copies due wants (Err refusal) new now = now ≡ one_more wants
+Copies due wants (Err refusal) new now = (due.place ≡ Inside) × (now ≡ one_more wants)

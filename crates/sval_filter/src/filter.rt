@@ -31,8 +31,8 @@ use sval_core::{AnyCall, Error, Stream};
 /// [`why`](Filter::why) then tells:
 ///
 /// - [`Why::NotViable`] comes exactly where no value goes on with the call after those so far. It leaves all as before.
-/// - [`Why::NoMemory`] comes only where one does, and memory was wanting for what the call begins, or for the key that
-///   is held. It leaves all as before.
+/// - [`Why::NoMemory`] comes only where one does, and memory was wanting for what the call begins, for the key that is
+///   held, or, at the end of a key that is a text, for its label. It leaves all as before.
 /// - [`Why::Inner`] comes only where one does, and the inner stream refused a call that was due. It then took a front of
 ///   those that were. No later call is taken: each is refused as this, whether a value goes on with it or not.
 ///

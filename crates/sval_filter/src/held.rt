@@ -1,6 +1,6 @@
 //! The key that is held.
 
-ghost use Rattle.std.specs.Prelude.{◌≡◌, ℕ, List, IfOk, string_bytes};
+ghost use Rattle.std.specs.Prelude.{◌≡◌, ℕ, true, List, is_some, IfOk, OnErr, string_bytes};
 ghost use Rattle.sval_label.specs.Made.{call_of};
 ghost use Rattle.sval_label.specs.Grouped.{grouped_call};
 ghost use Rattle.sval_core.specs.Law.{computed};
@@ -86,10 +86,11 @@ pub(crate) fn hold<L: Readable>(
     }
 }
 
-/// Reads the text that the held key is.
+/// Reads the text that the held key is. It takes memory only where it is one.
 pub(crate) fn read_text(held: &ValueBuf<'static>, text: &mut KeyText) -> Result<(), NoMemory>
-    ensures { IfOk result
+    ensures label { IfOk result
         (λ _. text_by text.new.place (string_bytes text.new.text) ≡ held_label (capture_of held.now).forest) }
+    ensures want { OnErr result (is_some (held_label (capture_of held.now).forest) ≡ true) }
 {
     text.clear();
     match held.stream_ref(text) {

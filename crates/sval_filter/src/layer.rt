@@ -1,6 +1,6 @@
 //! How calls are treated by what they are in.
 
-ghost use Rattle.std.specs.Prelude.{◌≡◌, ◌&&◌, not, IfOk, option_map};
+ghost use Rattle.std.specs.Prelude.{◌≡◌, ◌&&◌, true, not, is_some, IfOk, OnErr, option_map};
 ghost use Rattle.sval_label.specs.Grouped.{seen_slot};
 ghost use Rattle.sval_filter.specs.Layers.{fate_in, mode_of_part};
 ghost use Rattle.sval_filter.specs.SeenLayers.{seen_fate, seen_mode, is_left_out, is_holding, passes, entry_by};
@@ -95,10 +95,12 @@ impl<'p> Mode<'p> {
 }
 
 impl<'p> Fate<'p> {
-    /// What becomes of the entry of a key with this label, in a map of which this becomes.
+    /// What becomes of the entry of a key with this label, in a map of which this becomes. It takes memory only for a
+    /// label.
     fn of_entry(&self, alloc: Global, rule: Rule, label: Option<&str>) -> Result<Self, AllocError>
-        ensures { let label = option_map (λ text. text.now) label.entry in
+        ensures fate { let label = option_map (λ text. text.now) label.entry in
             IfOk result (λ fate. seen_fate fate ≡ fate_in rule (seen_fate self.now) label) }
+        ensures want { OnErr result (is_some label.entry ≡ true) }
     {
         match (self, label, rule) {
             (Fate::LeftOut, _, _) => Ok(Fate::LeftOut),
@@ -111,15 +113,17 @@ impl<'p> Fate<'p> {
 }
 
 impl<'p> Mode<'p> {
-    /// What becomes of the entry of a key with this label, in a map whose calls are treated so.
+    /// What becomes of the entry of a key with this label, in a map whose calls are treated so. It takes memory only
+    /// for a label.
     pub(crate) fn entry(
         &self,
         alloc: Global,
         rule: Rule,
         label: Option<&str>,
     ) -> Result<Fate<'p>, AllocError>
-        ensures { let label = option_map (λ text. text.now) label.entry in
+        ensures fate { let label = option_map (λ text. text.now) label.entry in
             IfOk result (λ fate. seen_fate fate ≡ entry_by rule (seen_mode self.now) label) }
+        ensures want { OnErr result (is_some label.entry ≡ true) }
     {
         match self {
             Mode::Holding => Ok(Fate::Stays),

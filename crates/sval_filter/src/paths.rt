@@ -51,6 +51,8 @@ impl Error for PathError {}
 ///
 /// A path names the field of its first label in a record, or the entry whose key is that text in a map, in that one the
 /// field or entry of its second label, and so on.
+/// It goes through the items of sequences and the fields of tuples, and through enums and tagged values, which take no
+/// label of it.
 ///
 /// ```
 /// let mut paths = Paths::new(alloc);

@@ -1,6 +1,6 @@
 //! What passes calls on that go on.
 
-ghost use Rattle.std.specs.Prelude.{◌≡◌, true, ◌∷◌, []};
+ghost use Rattle.std.specs.Prelude.{◌≡◌, true, ◌∷◌, [], is_some};
 ghost use Rattle.sval_label.specs.Calls as calls;
 ghost use Rattle.sval_label.specs.Made.{call_of};
 ghost use Rattle.sval_label.specs.Grouped.{seen_head, seen_slot};
@@ -300,8 +300,8 @@ fn end_key<L: Readable, S: Stream<L>>(
         let taken = call_of L.text L.bytes call.entry in
         let fate = entry_by old.rule (mode_in old.paths (below old.kept.layers)) (held_label old.kept.held) in
         Moves S.law old (key_and_end fate old.kept.held taken)
-        (record { layers = with_entry fate (below old.kept.layers); held = empty_forest }) true
-        result (sieve_view S.standing sieve.new) }
+        (record { layers = with_entry fate (below old.kept.layers); held = empty_forest })
+        (is_some (held_label old.kept.held)) result (sieve_view S.standing sieve.new) }
 {
     if read_text(&sieve.held, &mut sieve.text).is_err() {
         return Err(Hindrance::NoMemory);

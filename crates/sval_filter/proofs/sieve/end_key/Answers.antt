@@ -1,4 +1,4 @@
-use Rattle.std.proofs.Common.{ap, ◌∙◌}
+use Rattle.std.proofs.Common.{ap, ◌∙◌, is_some}
 use Rattle.sval_label.specs.Made.{call_of}
 use Rattle.sval_buffer.specs.SeenBuffers.{capture_of}
 use Rattle.sval_core.specs.Stacks.{below}
@@ -12,11 +12,11 @@ use Rattle.sval_filter.proofs.sieve.end_key.Goals as goal
 pub returns-in-Ok-pass_key : goal.returns-in-Ok-pass_key
 returns-in-Ok-pass_key g c =
     key_ends g.S.Stream.law c.args.sieve.now.rule (capture_of c.args.sieve.now.held).forest (g.S.Stream.standing c.args.sieve.now.inner) (g.S.Stream.standing c.pass_key.new.inner) c.args.sieve.now.layers c.close.new.self (call_of g.L.Lending.text g.L.Lending.bytes c.args.call) (seen_fate c.in-Ok.fate) (entry_by c.args.sieve.now.rule (mode_in c.args.sieve.now.layers.paths (below c.args.sieve.now.layers.layers)) (held_label (capture_of c.args.sieve.now.held).forest))
-    (c.in-Ok.ensures ∙ ap (λ label. entry_by c.args.sieve.now.rule (seen_mode c.around.result.now) label) (c.text.ensures ∙ got c.read_text.result c.if-is_err.ensures.value c.read_text.ensures) ∙ ap (λ m. entry_by c.args.sieve.now.rule m (held_label (capture_of c.args.sieve.now.held).forest)) c.around.ensures)
+    (c.in-Ok.ensures.fate ∙ ap (λ label. entry_by c.args.sieve.now.rule (seen_mode c.around.result.now) label) (c.text.ensures ∙ got c.read_text.result c.if-is_err.ensures.value c.read_text.ensures.label) ∙ ap (λ m. entry_by c.args.sieve.now.rule m (held_label (capture_of c.args.sieve.now.held).forest)) c.around.ensures)
     c.in-Ok-pass_key.ensures c.close.ensures (capture_of c.clear.new.self).forest (ap (λ (capture : Capture). capture.forest) c.clear.ensures)
 
 pub returns-in-Err : goal.returns-in-Err
 returns-in-Err g c =
     key_is_refused g.S.Stream.law c.args.sieve.now.rule (capture_of c.args.sieve.now.held).forest (g.S.Stream.standing c.args.sieve.now.inner) (g.S.Stream.standing c.pass_key.new.inner) c.args.sieve.now.layers c.args.sieve.now.layers (call_of g.L.Lending.text g.L.Lending.bytes c.args.call) (seen_fate c.in-Ok.fate) (entry_by c.args.sieve.now.rule (mode_in c.args.sieve.now.layers.paths (below c.args.sieve.now.layers.layers)) (held_label (capture_of c.args.sieve.now.held).forest))
-    (c.in-Ok.ensures ∙ ap (λ label. entry_by c.args.sieve.now.rule (seen_mode c.around.result.now) label) (c.text.ensures ∙ got c.read_text.result c.if-is_err.ensures.value c.read_text.ensures) ∙ ap (λ m. entry_by c.args.sieve.now.rule m (held_label (capture_of c.args.sieve.now.held).forest)) c.around.ensures)
-    c.in-Err.why (record { layers = with_entry (entry_by c.args.sieve.now.rule (mode_in c.args.sieve.now.layers.paths (below c.args.sieve.now.layers.layers)) (held_label (capture_of c.args.sieve.now.held).forest)) (below c.args.sieve.now.layers.layers); held = empty_forest }) c.in-Err.ensures
+    (c.in-Ok.ensures.fate ∙ ap (λ label. entry_by c.args.sieve.now.rule (seen_mode c.around.result.now) label) (c.text.ensures ∙ got c.read_text.result c.if-is_err.ensures.value c.read_text.ensures.label) ∙ ap (λ m. entry_by c.args.sieve.now.rule m (held_label (capture_of c.args.sieve.now.held).forest)) c.around.ensures)
+    (is_some (held_label (capture_of c.args.sieve.now.held).forest)) c.in-Err.why (record { layers = with_entry (entry_by c.args.sieve.now.rule (mode_in c.args.sieve.now.layers.paths (below c.args.sieve.now.layers.layers)) (held_label (capture_of c.args.sieve.now.held).forest)) (below c.args.sieve.now.layers.layers); held = empty_forest }) c.in-Err.ensures
