@@ -1,12 +1,12 @@
 -- Where a string is cut into its pieces.
-use Rattle.std.specs.Prelude.{◌≡◌, ℕ, zero, suc, ◌+◌, ◌-◌, ◌<◌, ◌≤◌, Bool, true, false, not, ◌==◌, List, [], ◌∷◌, ◌++◌, length, take, drop, get_or, refl, IsUtf8, IsCharBoundary}
+use Rattle.std.specs.Prelude.{◌≡◌, ℕ, zero, suc, ◌+◌, ◌-◌, ◌<◌, ◌≤◌, Bool, true, false, not, ◌==◌, List, [], ◌∷◌, ◌++◌, length, take, drop, get_or, Option, Some, None, is_some, refl, IsUtf8, IsCharBoundary}
 use Rattle.std.specs.List.{list_all}
 use Rattle.std.specs.Char.{encode_utf8}
 use Rattle.std.proofs.Common.{sym, ap, subst, ◌∙◌, arith, take-append-drop, drop-cons, length-drop, length-take-le, append-nil, take_all}
 use Rattle.std.proofs.lemmas.Bool.{and_from}
 use Rattle.std.proofs.lemmas.Bool.Decides.{nat_tests}
 use Rattle.std.proofs.lemmas.Str.{IsCharBoundary-after_ascii}
-use Rattle.memchr.specs.Find.{Nowhere, Passes, is_byte}
+use Rattle.memchr.specs.Find.{IsFirstByte, Nowhere, Passes, is_byte}
 use Rattle.sval_json_read.specs.RawStrings.{IsRaw, plain, short, unit, pair, is_no_backslash}
 use Rattle.sval_json_read.specs.Calls.{run, escape, escape_after, pieces}
 use Rattle.sval_json_read.proofs.RawStrings.{ends_run, pieces-run, pieces-escape, raw-run, raw-escape}
@@ -41,6 +41,11 @@ pub whole_run : (raw : List ℕ) → 0 < length raw → Nowhere (Passes (is_byte
 whole_run raw l h =
     ap pieces (sym (append-nil raw))
     ∙ nonempty_run raw [] l (subst (λ x. list_all is_no_backslash x ≡ true) (take_all (length raw) raw (omega arith)) (no_backslashes raw (length raw) h)) refl
+
+-- a string in which no backslash was found is one run
+pub one_run : (raw : List ℕ) (found : Option ℕ) → 0 < length raw → IsFirstByte (is_byte 92) raw found → is_some found ≡ false → pieces raw ≡ run raw ∷ []
+one_run raw None some first none = whole_run raw some first
+one_run raw (Some place) some first none = absurd (cc none)
 
 pub run_ends : (raw : List ℕ) (n : ℕ) → n < length raw → get_or raw n 0 ≡ 92 → ends_run (drop n raw) ≡ true
 run_ends raw n l e = ap ends_run (drop-cons raw n 0 l) ∙ (let t : (get_or raw n 0 == 92) ≡ true = grind (arith, nat_tests) in t)

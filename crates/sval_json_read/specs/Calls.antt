@@ -69,6 +69,10 @@ piece_call (escape bytes) = Call.TextFragment false bytes
 abbrev pub text_calls : List ℕ → List Call
 text_calls bytes = Call.TextBegin None ∷ (map piece_call (pieces bytes) ++ (Call.TextEnd ∷ []))
 
+-- a string that is a key of an object
+abbrev pub key_calls : List ℕ → List Call
+key_calls bytes = Call.PartBegin Slot.Key ∷ (text_calls bytes ++ (Call.PartEnd Slot.Key ∷ []))
+
 -- a number: an `i64` where it has no fraction and no exponent and fits, and else its text under the tag `NUMBER`
 abbrev pub number_calls : List ℕ → List Call
 number_calls text =

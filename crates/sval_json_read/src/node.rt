@@ -1,5 +1,7 @@
 //! What is kept of a text.
 
+use std::mem::size_of;
+
 /// Where a value stands.
 #[derive(Clone, Copy)]
 pub(crate) enum Place {
@@ -28,3 +30,6 @@ pub(crate) enum Node {
     BeginObject(Place),
     EndObject(Place),
 }
+
+/// Each word, number and string, and each begin and end, is kept as a node.
+const _: () = prove!(size_of::<Node>() == 16);

@@ -10,7 +10,7 @@ ghost use Rattle.sval_json_read.specs.SeenNodes.{place_of, node_of, IsKeptOf, Ar
 
 use crate::node::{Node, Place};
 use crate::number_calls::stream_number;
-use crate::string_calls::stream_string;
+use crate::string_calls::{stream_key, stream_string};
 use sval_core::{Lending, Lent, Result, Stream};
 
 impl Place {
@@ -98,8 +98,8 @@ impl Node {
         }
     }
 
-    /// Makes its calls, in a text that it stands in.
-    fn stream<'v, S: Stream<Lent<'v>>>(self, text: &'v str, stream: &mut S) -> Result
+    /// Makes its calls in three parts, in a text that it stands in.
+    fn stream_parts<'v, S: Stream<Lent<'v>>>(self, text: &'v str, stream: &mut S) -> Result
         requires { IsKeptOf text.now self }
         ensures { Emits S.law result (S.standing stream.old)
             (makes (token_calls (placed_in text.now (node_of self)))) (S.standing stream.new) }
@@ -107,6 +107,20 @@ impl Node {
         self.begin(stream)?;
         self.make(text, stream)?;
         self.end(stream)
+    }
+
+    /// Makes its calls, in a text that it stands in.
+    fn stream<'v, S: Stream<Lent<'v>>>(self, text: &'v str, stream: &mut S) -> Result
+        requires { IsKeptOf text.now self }
+        ensures { Emits S.law result (S.standing stream.old)
+            (makes (token_calls (placed_in text.now (node_of self)))) (S.standing stream.new) }
+    {
+        match self {
+            Node::Text(Place::Key, length, from) => {
+                stream_key(&text[from..from + length as usize], stream)
+            },
+            _ => self.stream_parts(text, stream),
+        }
     }
 }
 

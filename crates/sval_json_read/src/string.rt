@@ -59,6 +59,35 @@ fn escape(byte: u8) -> Option<Within>
     }
 }
 
+/// Where a byte leads, if it is one that may come.
+fn when(comes: bool, next: Within) -> Option<Within>
+    ensures { option_map within_of result ≡ machine.when comes (within_of next) }
+{
+    if comes { Some(next) } else { None }
+}
+
+/// A hex digit after the `u` of an escape.
+fn first_digit(value: u8) -> Option<Within>
+    ensures { (byte : ℕ) → digit_value byte ≡ value
+        → option_map within_of result ≡ machine.next_within machine.Unit byte }
+{
+    if value == 13 {
+        return Some(Within::UnitD);
+    }
+    when(value < 16, Within::ThreeLeft)
+}
+
+/// A hex digit after a first `d`, which may make the unit a high surrogate, and not a low one.
+fn digit_after_d(value: u8) -> Option<Within>
+    ensures { (byte : ℕ) → digit_value byte ≡ value
+        → option_map within_of result ≡ machine.next_within machine.UnitD byte }
+{
+    if value < 8 {
+        return Some(Within::TwoLeft);
+    }
+    when(value < 12, Within::HighTwoLeft)
+}
+
 /// One more byte of a string, other than its closing quote.
 pub(crate) fn next_within(within: Within, byte: u8) -> Option<Within>
     ensures { option_map within_of result ≡ machine.next_within (within_of within) byte }
@@ -67,70 +96,18 @@ pub(crate) fn next_within(within: Within, byte: u8) -> Option<Within>
     match within {
         Within::Plain => plain(byte),
         Within::Backslash => escape(byte),
-        Within::Unit => if value == 13 {
-            Some(Within::UnitD)
-        } else if value < 16 {
-            Some(Within::ThreeLeft)
-        } else {
-            None
-        },
-        Within::UnitD => if value < 8 {
-            Some(Within::TwoLeft)
-        } else if value < 12 {
-            Some(Within::HighTwoLeft)
-        } else {
-            None
-        },
-        Within::ThreeLeft => if value < 16 {
-            Some(Within::TwoLeft)
-        } else {
-            None
-        },
-        Within::TwoLeft => if value < 16 {
-            Some(Within::OneLeft)
-        } else {
-            None
-        },
-        Within::OneLeft => if value < 16 {
-            Some(Within::Plain)
-        } else {
-            None
-        },
-        Within::HighTwoLeft => if value < 16 {
-            Some(Within::HighOneLeft)
-        } else {
-            None
-        },
-        Within::HighOneLeft => if value < 16 { Some(Within::High) } else { None },
-        Within::High => if byte == b'\\' {
-            Some(Within::LowBackslash)
-        } else {
-            None
-        },
-        Within::LowBackslash => if byte == b'u' {
-            Some(Within::LowUnit)
-        } else {
-            None
-        },
-        Within::LowUnit => if value == 13 {
-            Some(Within::LowD)
-        } else {
-            None
-        },
-        Within::LowD => if 12 <= value && value < 16 {
-            Some(Within::LowTwoLeft)
-        } else {
-            None
-        },
-        Within::LowTwoLeft => if value < 16 {
-            Some(Within::LowOneLeft)
-        } else {
-            None
-        },
-        Within::LowOneLeft => if value < 16 {
-            Some(Within::Plain)
-        } else {
-            None
-        },
+        Within::Unit => first_digit(value),
+        Within::UnitD => digit_after_d(value),
+        Within::ThreeLeft => when(value < 16, Within::TwoLeft),
+        Within::TwoLeft => when(value < 16, Within::OneLeft),
+        Within::OneLeft => when(value < 16, Within::Plain),
+        Within::HighTwoLeft => when(value < 16, Within::HighOneLeft),
+        Within::HighOneLeft => when(value < 16, Within::High),
+        Within::High => when(byte == b'\\', Within::LowBackslash),
+        Within::LowBackslash => when(byte == b'u', Within::LowUnit),
+        Within::LowUnit => when(value == 13, Within::LowD),
+        Within::LowD => when(12 <= value && value < 16, Within::LowTwoLeft),
+        Within::LowTwoLeft => when(value < 16, Within::LowOneLeft),
+        Within::LowOneLeft => when(value < 16, Within::Plain),
     }
 }

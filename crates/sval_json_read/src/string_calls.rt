@@ -1,13 +1,15 @@
 //! The calls of a string.
 
-ghost use Rattle.std.specs.Prelude.{map};
+ghost use Rattle.std.specs.Prelude.{◌≡◌, ◌∷◌, [], map};
+ghost use Rattle.std.specs.Bool.{OnTrue};
 ghost use Rattle.sval_core.specs.Law.{Answers, Emits};
 ghost use Rattle.sval_core.specs.Values.{makes};
-ghost use Rattle.sval_json_read.specs.Calls.{text_calls, piece_call, pieces};
+ghost use Rattle.sval_json_read.specs.Calls.{run, text_calls, key_calls, piece_call, pieces};
 ghost use Rattle.sval_json_read.specs.RawStrings.{IsRaw};
 ghost use Rattle.sval_json_read.specs.SeenPieces.{piece_of};
 
 use crate::piece::{Piece, first_piece};
+use memchr::memchr;
 use sval_core::{Lent, Result, Stream};
 
 /// Makes the call of a piece.
@@ -39,13 +41,38 @@ fn stream_pieces<'v, S: Stream<Lent<'v>>>(raw: &'v str, stream: &mut S) -> Resul
     Ok(())
 }
 
+/// Whether what stands between a string's quotes is one run, without an escape.
+fn is_one_run(raw: &str) -> bool
+    requires { IsRaw raw.now }
+    ensures { OnTrue result (pieces raw.now ≡ run raw.now ∷ []) }
+{
+    !raw.is_empty() && memchr(b'\\', raw.as_bytes()).is_none()
+}
+
 /// Makes the calls of a string, of which this stands between the quotes.
 pub(crate) fn stream_string<'v, S: Stream<Lent<'v>>>(raw: &'v str, stream: &mut S) -> Result
     requires { IsRaw raw.now }
     ensures { Emits S.law result
         (S.standing stream.old) (makes (text_calls raw.now)) (S.standing stream.new) }
 {
+    if is_one_run(raw) {
+        return stream.whole_text(raw, None);
+    }
     stream.text_begin(None)?;
     stream_pieces(raw, stream)?;
     stream.text_end()
+}
+
+/// Makes the calls of a key of an object, of which this stands between the quotes.
+pub(crate) fn stream_key<'v, S: Stream<Lent<'v>>>(raw: &'v str, stream: &mut S) -> Result
+    requires { IsRaw raw.now }
+    ensures { Emits S.law result
+        (S.standing stream.old) (makes (key_calls raw.now)) (S.standing stream.new) }
+{
+    if is_one_run(raw) {
+        return stream.whole_text_key(raw, None);
+    }
+    stream.map_key_begin()?;
+    stream_string(raw, stream)?;
+    stream.map_key_end()
 }

@@ -1,7 +1,7 @@
 use Rattle.sval_core.proofs.Emissions.{passes_on}
 use Rattle.sval_json_read.specs.SeenNodes.{node_of}
 use Rattle.sval_json_read.proofs.NodeStreams.{stops_at_begin, stops_at_own, emits_end}
-use Rattle.sval_json_read.proofs.node.Node.stream.Goals as goal
+use Rattle.sval_json_read.proofs.node.Node.stream_parts.Goals as goal
 
 pub returns-in_err-begin : goal.returns-in_err-begin
 returns-in_err-begin g c =
