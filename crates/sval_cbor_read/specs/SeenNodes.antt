@@ -1,5 +1,5 @@
 -- What the nodes of the code stand for: the calls that each makes, by the reader's step at its place in the bytes.
-use Rattle.std.specs.Prelude.{◌≡◌, ℕ, zero, suc, ◌+◌, ◌*◌, ◌/◌, ◌%◌, ◌^◌, ◌<◌, true, ◌==◌, if◌then◌else◌, List, [], ◌∷◌, ◌++◌, length, take, drop, flat_map, Option, Some, None, ⊤}
+use Rattle.std.specs.Prelude.{◌≡◌, ℕ, zero, suc, ◌+◌, ◌*◌, ◌/◌, ◌%◌, ◌^◌, ◌<◌, ◌≤◌, true, ◌==◌, if◌then◌else◌, List, [], ◌∷◌, ◌++◌, length, take, drop, flat_map, Option, Some, None, ⊤}
 use Rattle.std.specs.List.{AllByRecursion}
 use Rattle.sval_label.specs.Calls.{Call}
 use Rattle.sval_label.specs.Calls as calls
@@ -8,8 +8,9 @@ use Rattle.sval_cbor_read.specs.declared.node.Place.TheVariants as place
 use Rattle.sval_cbor_read.specs.declared.node.Kind as made_kind
 use Rattle.sval_cbor_read.specs.declared.node.Kind.TheVariants as kind
 use Rattle.sval_cbor_read.specs.declared.node.Node.{Node}
+use Rattle.sval_cbor_read.specs.declared.head.Head as made_head
 use Rattle.sval_cbor_read.specs.Items.{Head, head, head_of, IsByteString}
-use Rattle.sval_cbor_read.specs.Reading.{Move, moves, Ended, item_step, fragment, with_piece, fits, number_call}
+use Rattle.sval_cbor_read.specs.Reading.{Move, moves, Ended, item_step, string_step, fragment, with_piece, fits, number_call}
 
 -- ---- places in the bytes
 
@@ -46,6 +47,11 @@ pub record IsBignum (tag : ℕ) (bytes : List ℕ) : Type 0 where
   pub stands : IsByteString bytes content rest
   pub small : fits tag content ≡ true
 
+-- a definite text stands at a place, behind this head
+pub record IsTextAt (bytes : List ℕ) (at : ℕ) (h : made_head.Head) : Type 0 where
+  pub step : item_step (drop at bytes) [] ≡ string_step 3 h.number (drop h.next bytes) []
+  pub within : h.next ≤ length bytes
+
 -- ---- calls
 
 -- the begin of the part that an item in this place stands in, if it stands in one
@@ -66,6 +72,10 @@ place_ends place.Value = Call.PartEnd calls.Value ∷ []
 abbrev pub step_calls : Option Move → List Call
 step_calls None = []
 step_calls (Some move) = move.calls
+
+-- an item that is a key of a map
+abbrev pub key_calls : List Call → List Call
+key_calls item = Call.PartBegin calls.Key ∷ (item ++ (Call.PartEnd calls.Key ∷ []))
 
 -- the fragment that a definite string of this major type is, with which the bytes begin
 abbrev pub piece_calls : ℕ → List ℕ → List Call

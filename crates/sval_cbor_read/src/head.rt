@@ -1,8 +1,9 @@
 //! Heads, with which items begin (RFC 8949, section 3).
 
-ghost use Rattle.std.specs.Prelude.{◌≡◌, ◌+◌, ◌<◌, ◌≤◌, length, drop, IfSome};
+ghost use Rattle.std.specs.Prelude.{◌≡◌, ◌+◌, ◌<◌, ◌≤◌, length, drop, get_or, None, IfSome};
 ghost use Rattle.std.specs.Int.Digits.{number_from_digits};
 ghost use Rattle.sval_cbor_read.specs.Items.{wide_head, head_of};
+ghost use Rattle.sval_cbor_read.specs.Reading.{mark_of};
 ghost use Rattle.sval_cbor_read.specs.SeenHeads.{IsHead};
 
 /// A head: its major type, its number, and the place behind it.
@@ -70,4 +71,24 @@ pub(crate) fn read_head(bytes: &[u8], at: usize) -> Option<Head>
         27 => read_wide(bytes, next, 8, major),
         _ => None,
     }
+}
+
+/// The head of a text of less than 24 bytes, if one stands at a place: one byte, as most texts have it.
+#[tactic(auto, unfolding(crate::specs::Items::head_of))]
+#[inline(always)]
+pub(crate) fn short_text_head(bytes: &[u8], at: usize) -> Option<Head>
+    requires { at < length bytes.now }
+    ensures found { IfSome result (λ h. (at < h.next) × IsHead bytes.now at h (head_of (drop at bytes.now))) }
+    ensures text { IfSome result (λ h. h.major ≡ 3) }
+    ensures no_mark { IfSome result (λ h. mark_of (get_or bytes.now at 0) ≡ None) }
+{
+    let first = bytes[at];
+    if first < 0x60 || 0x77 < first {
+        return None;
+    }
+    Some(Head {
+        major: 3,
+        number: (first - 0x60) as u64,
+        next: at + 1,
+    })
 }

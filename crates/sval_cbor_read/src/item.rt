@@ -5,7 +5,7 @@ ghost use Rattle.sval_cbor_read.specs.Reading.{mark_of};
 ghost use Rattle.sval_cbor_read.specs.SeenItems.{IsMarked, Begins, BeginsBehind, BeginsNothing, BeginsNothingBehind};
 
 use crate::bignum::read_bignum;
-use crate::head::{Head, read_head};
+use crate::head::{Head, read_head, short_text_head};
 use crate::stack::Frame;
 use crate::string::{binary_behind, text_behind};
 
@@ -188,6 +188,9 @@ pub(crate) fn item_at(bytes: &[u8], at: usize) -> Option<Begun>
 {
     if at >= bytes.len() {
         return None;
+    }
+    if let Some(head) = short_text_head(bytes, at) {
+        return text_item(bytes, head);
     }
     match marked_item(bytes[at]) {
         Some(item) => Some(Begun { item, next: at + 1 }),

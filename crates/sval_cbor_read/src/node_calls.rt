@@ -1,15 +1,15 @@
 //! The calls of nodes.
 
-ghost use Rattle.std.specs.Prelude.{◌≡◌, ◌≢◌, ◌∷◌, [], true, false, ◌+◌, ◌^◌, ◌<◌, ◌≤◌, length, take, drop, pos, negsuc, Some, None};
+ghost use Rattle.std.specs.Prelude.{◌≡◌, ◌≢◌, ◌∷◌, [], true, false, ◌+◌, ◌^◌, ◌<◌, ◌≤◌, length, take, drop, pos, negsuc, Some, None, IfSome};
 ghost use Rattle.sval_label.specs.Calls as call;
 ghost use Rattle.sval_core.specs.Law.{Emits};
 ghost use Rattle.sval_core.specs.Values.{makes};
 ghost use Rattle.sval_cbor_read.specs.Items.{negative_type, big_endian};
 ghost use Rattle.sval_cbor_read.specs.Reading.{mark_of, first_step, item_step, body_step, string_step, number_call};
-ghost use Rattle.sval_cbor_read.specs.SeenNodes.{place_begins, place_ends, byte_string, step_calls, piece_calls, IsBignum, begins_before, own_calls, ends_behind, node_at, node_calls, IsKept, AreKept, streamed};
+ghost use Rattle.sval_cbor_read.specs.SeenNodes.{place_begins, place_ends, byte_string, step_calls, piece_calls, IsBignum, IsTextAt, key_calls, begins_before, own_calls, ends_behind, node_at, node_calls, IsKept, AreKept, streamed};
 
 use crate::bignum::read_bignum;
-use crate::head::{Head, read_head};
+use crate::head::{Head, read_head, short_text_head};
 use crate::node::{Kind, Node, Place};
 use std::str::from_utf8_unchecked;
 use sval_core::{Lending, Lent, Result, Stream};
@@ -42,18 +42,6 @@ impl Place {
             Place::Value => stream.map_value_end(),
         }
     }
-}
-
-/// Makes the calls of a text in one fragment.
-#[inline(always)]
-fn stream_text<L: Lending, S: Stream<L>>(text: L::Text, len: usize, stream: &mut S) -> Result
-    ensures { Emits S.law result (S.standing stream.old)
-        (makes (call.TextBegin (Some len) ∷ call.TextFragment true (L.text text) ∷ call.TextEnd ∷ []))
-        (S.standing stream.new) }
-{
-    stream.text_begin(Some(len))?;
-    stream.text_fragment(text)?;
-    stream.text_end()
 }
 
 /// Makes the calls of a byte string in one fragment.
@@ -146,7 +134,7 @@ fn stream_text_behind<'v, S: Stream<Lent<'v>>>(
         (makes (step_calls (string_step 3 head.number (drop head.next bytes.now) []))) (S.standing stream.new) }
 {
     let content = unsafe { from_utf8_unchecked(content_behind(bytes, head)) };
-    stream_text::<Lent<'v>, S>(content, head.number as usize, stream)
+    stream.whole_text(content, Some(head.number as usize))
 }
 
 /// Makes the calls with which the item of a head begins.
@@ -176,6 +164,9 @@ fn stream_item<'v, S: Stream<Lent<'v>>>(bytes: &'v [u8], at: usize, stream: &mut
     ensures { Emits S.law result (S.standing stream.old)
         (makes (step_calls (item_step (drop at bytes.now) []))) (S.standing stream.new) }
 {
+    if let Some(head) = short_text_head(bytes, at) {
+        return stream_text_behind(bytes, head, stream);
+    }
     if is_mark(bytes[at]) {
         return stream_mark(bytes[at], stream);
     }
@@ -183,6 +174,37 @@ fn stream_item<'v, S: Stream<Lent<'v>>>(bytes: &'v [u8], at: usize, stream: &mut
         None => Ok(()),
         Some(head) => stream_headed(bytes, head, stream),
     }
+}
+
+/// The head of the text in one piece that stands at a place, if one does.
+#[inline(always)]
+fn text_head(bytes: &[u8], at: usize) -> Option<Head>
+    requires { at < length bytes.now }
+    ensures { IfSome result (λ head. IsTextAt bytes.now at head) }
+{
+    if let Some(head) = short_text_head(bytes, at) {
+        return Some(head);
+    }
+    if is_mark(bytes[at]) {
+        return None;
+    }
+    match read_head(bytes, at) {
+        Some(head) if head.major == 3 => Some(head),
+        _ => None,
+    }
+}
+
+/// Makes the calls of a key that is the text behind a head.
+#[inline(always)]
+fn stream_text_key<'v, S: Stream<Lent<'v>>>(bytes: &'v [u8], head: Head, stream: &mut S) -> Result
+    requires within { head.next ≤ length bytes.now }
+    requires some { 0 < length (step_calls (string_step 3 head.number (drop head.next bytes.now) [])) }
+    ensures { Emits S.law result (S.standing stream.old)
+        (makes (key_calls (step_calls (string_step 3 head.number (drop head.next bytes.now) []))))
+        (S.standing stream.new) }
+{
+    let content = unsafe { from_utf8_unchecked(content_behind(bytes, head)) };
+    stream.whole_text_key(content, Some(head.number as usize))
 }
 
 /// The number under the tag 2 whose byte string stands at a place.
@@ -309,6 +331,11 @@ impl Node {
         ensures { Emits S.law result (S.standing stream.old)
             (makes (node_calls bytes.now self)) (S.standing stream.new) }
     {
+        if let (Kind::Item, Place::Key) = (self.kind, self.place) {
+            if let Some(head) = text_head(bytes, self.at()) {
+                return stream_text_key(bytes, head, stream);
+            }
+        }
         self.begin(stream)?;
         self.make(bytes, stream)?;
         self.end(stream)

@@ -82,7 +82,8 @@ fn are_ascii(bytes: &[u8]) -> bool
     ensures { result ≡ true → IsAscii bytes.now }
 {
     match bytes.len() {
-        0..=7 => are_ascii_each(bytes),
+        0..=3 => are_ascii_each(bytes),
+        4..=7 => are_ascii_by_lanes::<4>(bytes),
         8..=15 => are_ascii_by_lanes::<8>(bytes),
         _ => are_ascii_by_lanes::<16>(bytes),
     }
