@@ -3,7 +3,7 @@
 use crate::shown::{has_printed, makes, new_printer};
 use std::test::Fail;
 use sval::{
-    BinaryArray, BinarySlice, Display, MapSlice, StdDisplay, stream_display,
+    BinaryArray, BinarySlice, Display, MapSlice, StdDisplay, Stream, stream_display,
     stream_display_fragments, stream_number,
 };
 
@@ -62,5 +62,18 @@ fn streams_what_is_printed(rt: HostRuntime) -> Result<(), Fail> {
     stream_display_fragments(alloc, &mut printer, &42u8)?;
     stream_number(alloc, &mut printer, &42u8)?;
     has_printed(&rt, printer, STREAMED);
+    Ok(())
+}
+
+/// A whole text, and one that is a key.
+const WHOLE: &str = "text_begin 2\ntext_fragment =6869\ntext_end\n\
+    map_key_begin\ntext_begin -\ntext_fragment =6869\ntext_end\nmap_key_end\n";
+
+#[test]
+fn streams_whole_texts(rt: HostRuntime) -> Result<(), Fail> {
+    let mut printer = new_printer(rt.alloc());
+    printer.whole_text("hi", Some(2))?;
+    printer.whole_text_key("hi", None)?;
+    has_printed(&rt, printer, WHOLE);
     Ok(())
 }

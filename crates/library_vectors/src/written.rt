@@ -17,6 +17,31 @@ fn writes_values_of_std(rt: HostRuntime) {
     writes(&rt, alloc, &Null, "null");
 }
 
+/// Texts as they are joined with their quotes, at most 32 bytes with these, and as they go out piece by piece.
+const TEXTS: [(&str, &str); 5] = [
+    ("", "\"\""),
+    ("a\nb", "\"a\\nb\""),
+    (
+        "twenty-nine bytes of a text..",
+        "\"twenty-nine bytes of a text..\"",
+    ),
+    (
+        "thirty bytes of a plain text..",
+        "\"thirty bytes of a plain text..\"",
+    ),
+    (
+        "thirty-one bytes of plain text.",
+        "\"thirty-one bytes of plain text.\"",
+    ),
+];
+
+#[test]
+fn writes_texts_of_any_length(rt: HostRuntime) {
+    for (text, want) in TEXTS {
+        writes(&rt, rt.alloc(), &text, want);
+    }
+}
+
 #[test]
 fn writes_maps_in_the_order_of_their_keys(rt: HostRuntime) -> Result<(), Fail> {
     let mut map = BTreeMap::new(rt.alloc());
