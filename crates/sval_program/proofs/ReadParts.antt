@@ -1,10 +1,10 @@
 -- An input that is read part by part.
-use Rattle.std.specs.Prelude.{◌≡◌, ◌≢◌, ◌⊎◌, ℕ, zero, suc, ◌∷◌, ◌+◌, ◌^◌, ◌<◌, ◌≤◌, List, [], ◌++◌, take, drop, length, Option, Some, None, IfSome, Err, refl}
+use Rattle.std.specs.Prelude.{◌≡◌, ◌≢◌, ◌⊎◌, ℕ, zero, suc, ◌∷◌, ◌+◌, ◌-◌, ◌^◌, ◌<◌, ◌≤◌, List, [], ◌++◌, take, drop, length, Option, Some, None, IfSome, Err, refl}
 use Rattle.std.proofs.Common.{sym, ap, inl, inr, ◌∙◌, subst, arith, append_assoc}
 use Rattle.std.proofs.lemmas.List.{length-drop, drop_all, length-take-le, length-append, drop-drop, take-append-le, take_all, append-nil}
 use Rattle.std.proofs.Math.Seq.{drop-nil, take-add, take-append-add}
 use Rattle.sval_program.specs.Sources.{Supply, TakesFirst, Gives}
-use Rattle.sval_program.specs.Inputs.{TakesAll, ReadsWhole, TakesOneMore, TakesAtMost, StaysShort, GivesPart, HasRead}
+use Rattle.sval_program.specs.Inputs.{TakesAll, ReadsWhole, TakesOneMore, TakesAtMost, StaysShort, StaysBelow, GivesPart, HasRead}
 use Rattle.sval_script.specs.Lines.{lines}
 use Rattle.sval_script.specs.Readings.{Reading, answer_to, answer_with, TakesPiece}
 use Rattle.sval_script.specs.declared.script.ScriptError.TheVariants.{NoMemory}
@@ -64,6 +64,13 @@ read_long (Some all) mid new xs b n p e g one =
 pub read_short : (old mid new : Option (List ℕ)) (xs : List ℕ) → IsPartlyRead old mid xs → length xs ≤ 2 ^ 24 → new ≡ mid → IfSome old (λ all. TakesAtMost (2 ^ 24) all new)
 read_short None mid new xs p short same = tt
 read_short (Some all) mid new xs p short same = (length xs, short, same ∙ p.left)
+
+pub below_nothing : (supply : Supply) → StaysBelow supply supply
+below_nothing supply = from supply.left
+  where
+    from : (left : Option (List ℕ)) → IfSome left (λ all. TakesAtMost (2 ^ 24 - 1) all left)
+    from None = tt
+    from (Some all) = (0, omega arith, refl)
 
 -- nothing was taken
 pub read_nothing : (left : Option (List ℕ)) → IfSome left (λ all. TakesAtMost (2 ^ 24) all left)

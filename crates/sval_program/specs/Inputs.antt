@@ -1,11 +1,11 @@
 -- What reading an input to its end makes of its source.
-use Rattle.std.specs.Prelude.{◌≡◌, ◌≢◌, ◌⊎◌, ℕ, ◌+◌, ◌<◌, ◌≤◌, ◌^◌, List, [], take, drop, length, Option, Some, IfSome, Err, ⊤}
+use Rattle.std.specs.Prelude.{◌≡◌, ◌≢◌, ◌⊎◌, ℕ, ◌+◌, ◌-◌, ◌<◌, ◌≤◌, ◌^◌, List, [], take, drop, length, Option, Some, IfSome, Err, ⊤}
 use Rattle.sval_core.specs.Law.{Rose}
 use Rattle.sval_script.specs.Lines.{lines}
 use Rattle.sval_script.specs.Readings.{Reading, answer_to, answer_with, TakesPiece}
-use Rattle.sval_script.specs.declared.script.ScriptError.TheVariants.{NoMemory}
+use Rattle.sval_script.specs.declared.script.ScriptError.TheVariants as reading
 use Rattle.sval_program.specs.declared.input_error.InputError.{InputError}
-use Rattle.sval_program.specs.declared.input_error.InputError.TheVariants.{ReadFault, TooLong}
+use Rattle.sval_program.specs.declared.input_error.InputError.TheVariants.{ReadFault, TooLong, NoMemory}
 use Rattle.sval_program.specs.Sources.{Supply, Gives}
 
 -- an input of at most 16,777,216 bytes, which is kept whole
@@ -51,7 +51,7 @@ pub record GivesPart (count : ℕ) (old : Supply) (buffer : List ℕ) (new : Sup
 pub record HasRead (old : Supply) (reader : Reading) (new : Supply) : Type 0 where
   pub script : List ℕ
   pub reads : ReadsWhole old script new
-  pub answer : (answer_with reader [] ≡ answer_to (lines script)) ⊎ ((answer_with reader [] ≡ Err NoMemory) × (0 < length script))
+  pub answer : (answer_with reader [] ≡ answer_to (lines script)) ⊎ ((answer_with reader [] ≡ Err reading.NoMemory) × (0 < length script))
 
 -- there were more than 16,777,216 bytes, and one more than these was taken
 pub record TakesOneMore (whole : List ℕ) (rest : Option (List ℕ)) : Type 0 where
@@ -70,12 +70,17 @@ TakesAtMost most whole rest = (count : ℕ) × (count ≤ most) × (rest ≡ Som
 abbrev pub StaysShort : Supply → Supply → Type 0
 StaysShort old new = IfSome old.left (λ all. TakesAtMost (2 ^ 24) all new.left)
 
+-- fewer were taken than are read at most, where the source tells what it has left
+abbrev pub StaysBelow : Supply → Supply → Type 0
+StaysBelow old new = IfSome old.left (λ all. TakesAtMost (2 ^ 24 - 1) all new.left)
+
 -- reading stopped, and this is why; a count of faults that moved means a fault
 pub record StopsReading (why : InputError) (old new : Supply) : Type 0 where
   pub fault : why ≡ ReadFault → Rose old.faults new.faults
   pub moved : old.faults < new.faults → why ≡ ReadFault
   pub long : why ≡ TooLong → IsTooLong old new
   pub short : why ≢ TooLong → StaysShort old new
+  pub want : why ≡ NoMemory → StaysBelow old new
   pub faults : old.faults ≤ new.faults
 
 -- the input wasn't read, and the sink is as it was

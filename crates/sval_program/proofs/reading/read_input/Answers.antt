@@ -1,7 +1,8 @@
 use Rattle.std.proofs.Common.{rules, arith, ◌≡◌, ◌≤◌, ◌+◌, ◌-◌, ◌∙◌, take, drop, length, IfSome, refl, subst, sym, ap}
 use Rattle.std.proofs.lemmas.List.{length-take-le, length-drop, take_all}
+use Rattle.std.proofs.lemmas.Result.{err_from_is_err_and}
 use Rattle.sval_program.specs.Inputs.{TakesAll}
-use Rattle.sval_program.proofs.ReadParts.{IsPartlyRead, read_on, read_whole, read_long, filled_on}
+use Rattle.sval_program.proofs.ReadParts.{IsPartlyRead, read_on, read_whole, read_long, read_short, filled_on}
 use Rattle.sval_program.proofs.reading.read_input.Goals as goal
 
 pub loop-filled-preserved : goal.loop-filled-preserved
@@ -22,6 +23,22 @@ loop-filled-preserved g c =
       filled = omega (arith, within);
       short = omega (arith, room.short, longer);
       faults = part.faults ∙ c.loop-filled.invariant.faults;
+    }
+
+pub returns-in_err-read-clause-err : goal.returns-in_err-read-clause-err
+returns-in_err-read-clause-err g c =
+    let p = err_from_is_err_and c.from_residual-in_err-read.result c.from_residual-in_err-read.ensures.1 in
+    let no = c.in_err-read.ensures in
+    let held : length c.loop-filled.bytes.items ≡ c.loop-filled.bytes.len = search rules in
+    let size : length (take c.loop-filled.filled c.loop-filled.bytes.items) ≡ c.loop-filled.filled =
+    length-take-le c.loop-filled.filled c.loop-filled.bytes.items (omega (arith, c.loop-filled.invariant.filled, held)) in
+    rw (p.1, p.2) record {
+      fault = λ e. rw (← c.loop-filled.invariant.faults) no.cause;
+      moved = λ m. refl;
+      long = λ e. cc e;
+      short = λ n. read_short _ _ _ (take c.loop-filled.filled c.loop-filled.bytes.items) c.loop-filled.invariant.read (omega (arith, size, c.loop-filled.invariant.filled, c.loop-filled.invariant.short)) no.left;
+      want = λ e. cc e;
+      faults = omega (arith, c.loop-filled.invariant.faults, no.faults);
     }
 
 pub returns-in-0-clause-ok : goal.returns-in-0-clause-ok
@@ -47,5 +64,6 @@ returns-in_default-clause-err g c =
       moved = λ m. absurd (omega (arith, m, c.in_ok-read.ensures.faults, c.loop-filled.invariant.faults));
       long = λ e. read_long _ _ _ (take c.loop-filled.filled c.loop-filled.bytes.items) c.read-2.new.buffer c.in_ok-read.field-0 c.loop-filled.invariant.read full c.in_ok-read.ensures one;
       short = λ n. absurd (n refl);
+      want = λ e. cc e;
       faults = omega (arith, c.in_ok-read.ensures.faults, c.loop-filled.invariant.faults);
     }

@@ -1,7 +1,7 @@
 use Rattle.std.proofs.Common.{rules, refl, arith, ◌≡◌, ◌≤◌, ◌<◌, ◌∙◌, length}
 use Rattle.std.proofs.lemmas.List.{length-take-le}
 use Rattle.std.proofs.lemmas.Result.{err_from_is_err_and}
-use Rattle.sval_program.proofs.ReadParts.{reads-none, reads-more, reads-all, read_long, read_short, read_nothing}
+use Rattle.sval_program.proofs.ReadParts.{reads-none, reads-more, reads-all, read_long, read_short, read_nothing, below_nothing}
 use Rattle.sval_program.proofs.reading.read_script.Goals as goal
 
 pub loop-taken-init : goal.loop-taken-init
@@ -19,6 +19,7 @@ returns-in_err-buffer-clause-err g c =
       moved = λ m. absurd (omega (arith, m));
       long = λ e. cc e;
       short = λ n. read_nothing (g.I.Source.told c.args.input.now).left;
+      want = λ e. below_nothing (g.I.Source.told c.args.input.now);
       faults = omega arith;
     }
 
@@ -56,6 +57,7 @@ returns-in_err-count-clause-err g c =
       moved = λ m. refl;
       long = λ e. cc e;
       short = λ n. read_short _ _ _ r.bytes r.read (omega (arith, r.size, c.loop-taken.invariant.short)) no.left;
+      want = λ e. cc e;
       faults = omega (arith, r.faults, no.faults);
     }
 
@@ -73,6 +75,7 @@ returns-in_err-read-clause-err g c =
       moved = λ m. refl;
       long = λ e. cc e;
       short = λ n. read_short _ _ _ r.bytes r.read (omega (arith, r.size, c.loop-taken.invariant.short)) no.left;
+      want = λ e. cc e;
       faults = omega (arith, r.faults, no.faults);
     }
 
@@ -86,5 +89,6 @@ returns-in_default-clause-err g c =
       moved = λ m. absurd (omega (arith, m, c.in_ok-read.ensures.faults, r.faults));
       long = λ e. read_long _ _ _ r.bytes c.read.new.buffer c.in_ok-read.field-0 r.read full c.in_ok-read.ensures one;
       short = λ n. absurd (n refl);
+      want = λ e. cc e;
       faults = omega (arith, c.in_ok-read.ensures.faults, r.faults);
     }
