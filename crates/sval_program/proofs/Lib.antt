@@ -4,3 +4,5 @@ pub mod Telling
 pub mod PrintedTrees
 pub mod FoundCalls
 mod CapturedMemory
+pub mod JobRuns
+pub mod ToldRuns

@@ -1,5 +1,5 @@
 -- What the third device is told: a line in its pieces, and then passed on.
-use Rattle.std.specs.Prelude.{◌≡◌, ℕ, List, [], ◌++◌, Result, Ok, Err, refl}
+use Rattle.std.specs.Prelude.{◌≡◌, ℕ, List, [], ◌++◌, Result, Ok, Err}
 use Rattle.std.proofs.Common.{sym, ap, subst, ◌∙◌, append-nil, append_assoc, arith}
 use Rattle.sval_json.specs.declared.sink.SinkError.{SinkError}
 use Rattle.sval_json.specs.declared.sink.SinkError.TheVariants.{Failed, NoMemory}

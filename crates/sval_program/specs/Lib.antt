@@ -7,3 +7,6 @@ pub mod Laws
 pub mod Statuses
 pub mod Reports
 pub mod ErrorTexts
+pub mod Failures
+pub mod Jobs
+pub mod Runs

@@ -1,5 +1,5 @@
 -- What the third device is told.
-use Rattle.std.specs.Prelude.{◌≡◌, ℕ, ◌<◌, ◌==◌, Bool, true, false, List, [], ◌∷◌, ◌++◌, length, Option, Some, None, codes, decimal, if◌then◌else◌}
+use Rattle.std.specs.Prelude.{ℕ, ◌<◌, ◌==◌, Bool, true, false, List, [], ◌∷◌, ◌++◌, length, Option, Some, None, codes, decimal, if◌then◌else◌}
 use Rattle.sval_json.specs.Sinks.{Told, IsQuiet, NoCountFell, HoldsNothing, Appends, AppendsFront}
 use Rattle.sval_program.specs.declared.status.TheConstants.{BAD_LINE, BAD_CALL, UNFINISHED, INVALID_KEY, INVALID_NUMBER, WRITE, READ, NO_MEMORY, TOO_LONG}
 
@@ -43,6 +43,23 @@ out_of_memory = codes "out of memory\n"
 
 abbrev pub too_long : List ℕ
 too_long = codes "the input is longer than 16777216 bytes\n"
+
+-- bytes that aren't UTF-8, and the place where a text fails that denotes no value of JSON
+abbrev pub not_utf8 : List ℕ
+not_utf8 = codes "the input is not UTF-8\n"
+
+abbrev pub bad_json : ℕ → List ℕ
+bad_json at = codes "byte " ++ decimal at ++ codes ": not JSON\n"
+
+-- what CBOR can't take, and bytes that are no item of it
+abbrev pub raw : List ℕ
+raw = codes "attempt to write raw JSON as CBOR\n"
+
+abbrev pub not_integer : List ℕ
+not_integer = codes "attempt to write a number that is no whole number of 128 bits\n"
+
+abbrev pub bad_cbor : List ℕ
+bad_cbor = codes "not one CBOR item of this profile\n"
 
 -- ---- tables of statuses and their lines
 

@@ -4,8 +4,8 @@ ghost use Rattle.std.specs.Prelude.{◌≡◌};
 ghost use Rattle.sval_program.specs.Laws.{CapturingTakesMemory};
 
 use crate::status::{
-    BAD_CALL, BAD_LINE, DONE, INVALID_KEY, INVALID_NUMBER, NO_MEMORY, NO_WORDS, READ, TOO_LONG,
-    UNFINISHED, USAGE, WRITE,
+    BAD_CALL, BAD_CBOR, BAD_JSON, BAD_LINE, DONE, INVALID_KEY, INVALID_NUMBER, NO_MEMORY, NO_WORDS,
+    NOT_INTEGER, NOT_UTF8, RAW, READ, TOO_LONG, UNFINISHED, USAGE, WRITE,
 };
 
 /// The number of each status.
@@ -21,6 +21,11 @@ pub fn status_laws()
     ensures read { READ ≡ 9 }
     ensures no_memory { NO_MEMORY ≡ 10 }
     ensures too_long { TOO_LONG ≡ 11 }
+    ensures not_utf8 { NOT_UTF8 ≡ 12 }
+    ensures bad_json { BAD_JSON ≡ 13 }
+    ensures raw { RAW ≡ 14 }
+    ensures not_integer { NOT_INTEGER ≡ 15 }
+    ensures bad_cbor { BAD_CBOR ≡ 16 }
     ensures no_words { NO_WORDS ≡ 17 }
 {}
 

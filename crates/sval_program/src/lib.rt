@@ -6,8 +6,10 @@
 #![tactic(auto)]
 
 mod captured;
+mod failure;
 mod faulty_source;
 mod input_error;
+pub mod job;
 pub mod laws;
 mod line;
 pub mod lines;
@@ -19,8 +21,10 @@ mod source;
 pub mod status;
 
 pub use captured::print_captured;
+pub use failure::{Failure, Fault};
 pub use faulty_source::FaultySource;
 pub use input_error::InputError;
+pub use job::Job;
 pub use line::{Line, tell};
 pub use process::{run_process, status_without_words};
 pub use program::{Program, run_streams};

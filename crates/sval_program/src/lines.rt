@@ -71,3 +71,38 @@ pub fn too_long() -> Line
 {
     Line::text("the input is longer than 16777216 bytes\n")
 }
+
+/// The input is not UTF-8.
+pub fn not_utf8() -> Line
+    ensures { result ≡ reports.not_utf8 }
+{
+    Line::text("the input is not UTF-8\n")
+}
+
+/// The input denotes no value of JSON, and fails at this byte.
+pub fn bad_json(at: u64) -> Line
+    ensures { result ≡ reports.bad_json at }
+{
+    Line::numbered("byte ", at, ": not JSON\n")
+}
+
+/// A value has text that says it is JSON.
+pub fn raw() -> Line
+    ensures { result ≡ reports.raw }
+{
+    Line::text("attempt to write raw JSON as CBOR\n")
+}
+
+/// Text that stands for a number is none that CBOR can take.
+pub fn not_integer() -> Line
+    ensures { result ≡ reports.not_integer }
+{
+    Line::text("attempt to write a number that is no whole number of 128 bits\n")
+}
+
+/// The input is not one item of CBOR.
+pub fn bad_cbor() -> Line
+    ensures { result ≡ reports.bad_cbor }
+{
+    Line::text("not one CBOR item of this profile\n")
+}

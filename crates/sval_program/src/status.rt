@@ -35,3 +35,18 @@ pub const TOO_LONG: u8 = 11;
 
 /// The words can't be had. Nothing is said.
 pub const NO_WORDS: u8 = 17;
+
+/// The input is not UTF-8.
+pub const NOT_UTF8: u8 = 12;
+
+/// The input denotes no value of JSON.
+pub const BAD_JSON: u8 = 13;
+
+/// The value has text that says it is JSON, which CBOR can't take.
+pub const RAW: u8 = 14;
+
+/// Text that stands for a number is one that CBOR can't take as a whole number.
+pub const NOT_INTEGER: u8 = 15;
+
+/// The input is not one item of CBOR, in the profile that is read.
+pub const BAD_CBOR: u8 = 16;

@@ -1,0 +1,527 @@
+-- From what serving the words says to what each status says.
+use Rattle.std.specs.Prelude.{◌≡◌, ◌⊎◌, ◌↔◌, ℕ, ◌==◌, ◌<◌, ◌≤◌, Bool, true, false, not, ◌||◌, List, ◌∷◌, Option, Some, None, Result, Ok, Err, IfSome, OnOk, refl}
+use Rattle.std.proofs.Common.{sym, ap, subst, ◌∙◌, arith, inl, inr}
+use Rattle.sval_core.specs.Law.{Rose}
+use Rattle.sval_json.specs.Sinks.{Told, IsSteady, NoCountFell, Declines, PassesOn}
+use Rattle.sval_json.specs.declared.sink.SinkError.{SinkError}
+use Rattle.sval_json.specs.declared.sink.SinkError.TheVariants as sink
+use Rattle.sval_json.proofs.Appending.{all_is_front, steady_counts}
+use Rattle.sval_program.specs.declared.failure.Fault.{Fault}
+use Rattle.sval_program.specs.declared.failure.Fault.TheVariants as fault
+use Rattle.sval_program.specs.declared.failure.Failure.{Failure}
+use Rattle.sval_program.specs.declared.failure.Failure.TheVariants.{Usage, Input, Fault as Found, NoMemory, Write}
+use Rattle.sval_program.specs.declared.input_error.InputError.{InputError}
+use Rattle.sval_program.specs.declared.input_error.InputError.TheVariants as input
+use Rattle.sval_program.specs.declared.status.TheConstants.{DONE, USAGE, WRITE, READ, NO_MEMORY, TOO_LONG}
+use Rattle.sval_program.specs.Failures.{status_of_fault, status_of_failure, status_of, is_fault, is_read}
+use Rattle.sval_program.specs.Inputs.{ReadsWhole, OnShort, OnLong, OnBoth, IsSpent, IsTooLong, TakesAll, TakesOneMore, StaysShort, IsUnread}
+use Rattle.sval_program.specs.Jobs.{Terms, may_write, WritesAllDue, FindsFault, ServesBytes, IsServed, ServesInput, ServesForm}
+use Rattle.sval_program.specs.Outputs.{Grows, IsOwnWant}
+use Rattle.sval_program.specs.Runs.{is_status, is_unwritten, TakesDue, TakesFault, IsStatusDue, MayLeave, HasFault, AreQuiet, TakesAllOrLess}
+use Rattle.sval_program.specs.Sources.{Supply}
+use Rattle.sval_program.specs.Statuses.{is_among}
+use Rattle.sval_program.proofs.Growing.{counts_stay, grows_by_nothing, grows_by_front, passed_on, held_back}
+use Rattle.sval_program.proofs.ReadParts.{read_nothing, read_all}
+
+abbrev Ended : Type 0
+Ended = Result (Unit {0}) Failure
+
+-- a program and the devices of a run of it
+pub record Case (Form I K : Type 0) : Type 1 where
+  pub terms : Terms Form
+  pub source : I → Supply
+  pub sink : K → Told
+  pub before : I
+  pub after : I
+  pub old : K
+  pub new : K
+
+abbrev pub Ran : {Form I K : Type 0} → Case Form I K → Option Form → Result (Unit {0}) Failure → Type 0
+Ran k form result = ServesForm k.terms k.source k.sink form result k.before k.after k.old k.new
+
+abbrev Served : {Form I K : Type 0} → Case Form I K → Form → Result (Unit {0}) Failure → Type 0
+Served k asked result = IsServed k.terms k.source k.sink asked result k.before k.after k.old k.new
+
+abbrev Unread : {Form I K : Type 0} → Case Form I K → InputError → Type 0
+Unread k why = IsUnread k.source why k.before k.after k.old k.new
+
+-- a fact where the words are a form, and the source told what it had
+abbrev pub OnInput : {Form I K : Type 0} → Case Form I K → Option Form → (List ℕ → Form → Type 0) → Type 0
+OnInput k form P = OnBoth form (k.source k.before).left P
+
+-- ---- an input that was read and served
+
+pub served : {Form I K : Type 0} (terms : Terms Form) (source : I → Supply) (told : K → Told) (before after : I) (old new : K) {input : List ℕ} (asked : Form) (result : Result (Unit {0}) Failure)
+    → ReadsWhole (source before) input (source after) → ServesBytes terms told asked input result old new → ServesInput terms source told asked result before after old new
+served terms source told before after old new {input = input} asked (Ok done) reads serves = record { input = input; reads = reads; serves = serves }
+served terms source told before after old new asked (Err Usage) reads serves = absurd serves
+served terms source told before after old new asked (Err (Input why)) reads serves = absurd serves
+served terms source told before after old new {input = input} asked (Err (Found why)) reads serves = record { input = input; reads = reads; serves = serves }
+served terms source told before after old new {input = input} asked (Err NoMemory) reads serves = record { input = input; reads = reads; serves = serves }
+served terms source told before after old new {input = input} asked (Err (Write why)) reads serves = record { input = input; reads = reads; serves = serves }
+
+-- ---- a fact on what was asked for
+
+-- one that holds of each input that the source may have told
+on_input : {Form : Type 0} (asked : Form) (left : Option (List ℕ)) (P : List ℕ → Form → Type 0) → ((input : List ℕ) → left ≡ Some input → P input asked) → OnBoth (Some asked) left P
+on_input asked None P f = tt
+on_input asked (Some input) P f = f input refl
+
+-- one that holds of the input that was served
+on_served : {Form I K : Type 0} (k : Case Form I K) (asked : Form) {r : Ended} (P : List ℕ → Form → Type 0) (s : Served k asked r) → P s.input asked → OnInput k (Some asked) P
+on_served k asked P s p = on_input asked (k.source k.before).left P (λ input told.
+    let all : TakesAll input s.input (k.source k.after).left = subst (λ left. IfSome left (λ all. TakesAll all s.input (k.source k.after).left)) told s.reads.taken in
+    subst (λ input. P input asked) all.all p)
+
+-- one that follows from another
+pub on_both : {Form : Type 0} (form : Option Form) (left : Option (List ℕ)) (P Q : List ℕ → Form → Type 0) → ((input : List ℕ) (asked : Form) → P input asked → Q input asked) → OnBoth form left P → OnBoth form left Q
+on_both None left P Q f h = tt
+on_both (Some asked) None P Q f h = tt
+on_both (Some asked) (Some input) P Q f h = f input asked h
+
+-- ---- how it ended
+
+-- a fact on each way to end
+by_end : {Form I K : Type 0} (k : Case Form I K) (P : Option Form → Ended → Type 0)
+    → (k.after ≡ k.before → k.new ≡ k.old → P None (Err Usage))
+    → ((asked : Form) → Served k asked (Ok tt) → P (Some asked) (Ok tt))
+    → ((asked : Form) (why : InputError) → Unread k why → P (Some asked) (Err (Input why)))
+    → ((asked : Form) (why : Fault) → Served k asked (Err (Found why)) → P (Some asked) (Err (Found why)))
+    → ((asked : Form) → Served k asked (Err NoMemory) → P (Some asked) (Err NoMemory))
+    → ((asked : Form) (why : SinkError) → Served k asked (Err (Write why)) → P (Some asked) (Err (Write why)))
+    → (form : Option Form) (r : Ended) → Ran k form r → P form r
+by_end k P none done unread found want stopped None r ran = subst (P None) (sym ran.usage) (none ran.input ran.out)
+by_end k P none done unread found want stopped (Some asked) (Ok u) ran = done asked ran
+by_end k P none done unread found want stopped (Some asked) (Err Usage) ran = absurd ran.serves
+by_end k P none done unread found want stopped (Some asked) (Err (Input why)) ran = unread asked why ran
+by_end k P none done unread found want stopped (Some asked) (Err (Found why)) ran = found asked why ran
+by_end k P none done unread found want stopped (Some asked) (Err NoMemory) ran = want asked ran
+by_end k P none done unread found want stopped (Some asked) (Err (Write why)) ran = stopped asked why ran
+
+-- ---- which status is whose
+
+fault_status : (why : Fault) → is_fault (status_of_fault why) ≡ true
+fault_status (fault.BadLine number) = refl
+fault_status (fault.BadCall number) = refl
+fault_status (fault.Unfinished many) = refl
+fault_status fault.InvalidKey = refl
+fault_status fault.InvalidNumber = refl
+fault_status fault.NotUtf8 = refl
+fault_status (fault.BadJson at) = refl
+fault_status fault.Raw = refl
+fault_status fault.NotInteger = refl
+fault_status fault.BadCbor = refl
+
+-- a fault's status is none of the others
+no_fault : (why : Fault) (status : ℕ) → is_fault status ≡ false → status_of_fault why ≡ status → ⊥
+no_fault why status other e = let never : true ≡ false = sym (fault_status why) ∙ ap is_fault e ∙ other in cc never
+
+unread_status : (why : InputError) → (is_fault (status_of_failure (Input why)) ≡ true → ⊥) × (is_read (status_of_failure (Input why)) ≡ true → ⊥) × (status_of_failure (Input why) ≡ DONE → ⊥) × (status_of_failure (Input why) ≡ USAGE → ⊥)
+    × (status_of_failure (Input why) ≡ WRITE → ⊥)
+unread_status input.ReadFault = (λ e. cc e, λ e. cc e, λ e. omega (arith, e), λ e. omega (arith, e), λ e. omega (arith, e))
+unread_status input.TooLong = (λ e. cc e, λ e. cc e, λ e. omega (arith, e), λ e. omega (arith, e), λ e. omega (arith, e))
+unread_status input.NoMemory = (λ e. cc e, λ e. cc e, λ e. omega (arith, e), λ e. omega (arith, e), λ e. omega (arith, e))
+
+stopped_status : (why : SinkError) → (is_fault (status_of_failure (Write why)) ≡ true → ⊥) × (is_read (status_of_failure (Write why)) ≡ true → ⊥) × (status_of_failure (Write why) ≡ DONE → ⊥) × (status_of_failure (Write why) ≡ USAGE → ⊥)
+    × (status_of_failure (Write why) ≡ READ → ⊥) × (status_of_failure (Write why) ≡ TOO_LONG → ⊥)
+stopped_status sink.Failed = (λ e. cc e, λ e. cc e, λ e. omega (arith, e), λ e. omega (arith, e), λ e. omega (arith, e), λ e. omega (arith, e))
+stopped_status sink.NoMemory = (λ e. cc e, λ e. cc e, λ e. omega (arith, e), λ e. omega (arith, e), λ e. omega (arith, e), λ e. omega (arith, e))
+
+-- a failure with a fault's status is that fault
+pub the_fault : (r : Result (Unit {0}) Failure) → is_fault (status_of r) ≡ true → (why : Fault) × (r ≡ Err (Found why))
+the_fault (Ok done) e = absurd (cc e)
+the_fault (Err Usage) e = absurd (cc e)
+the_fault (Err (Input why)) e = absurd ((unread_status why).0 e)
+the_fault (Err (Found why)) e = (why, refl)
+the_fault (Err NoMemory) e = absurd (cc e)
+the_fault (Err (Write why)) e = absurd ((stopped_status why).0 e)
+
+-- ---- the statuses there are
+
+or_more : (s : ℕ) (statuses : List ℕ) (status : ℕ) → is_among status statuses ≡ true → is_among status (s ∷ statuses) ≡ true
+or_more s statuses status e = either (s == status) e
+  where
+    either : (b : Bool) → is_among status statuses ≡ true → (b || is_among status statuses) ≡ true
+    either true e = refl
+    either false e = e
+
+pub known : {Form I K : Type 0} (k : Case Form I K) (form : Option Form) (r : Ended) → Ran k form r → is_status k.terms (status_of r) ≡ true
+known k = by_end k (λ form r. is_status k.terms (status_of r) ≡ true)
+    (λ input out. refl)
+    (λ asked s. refl)
+    (λ asked why u. of_input why)
+    (λ asked why s. of_fault (status_of_fault why) s.serves.known)
+    (λ asked s. refl)
+    (λ asked why s. of_sink why)
+  where
+    of_input : (why : InputError) → is_status k.terms (status_of (Err (Input why))) ≡ true
+    of_input input.ReadFault = refl
+    of_input input.TooLong = refl
+    of_input input.NoMemory = refl
+
+    of_sink : (why : SinkError) → is_status k.terms (status_of (Err (Write why))) ≡ true
+    of_sink sink.Failed = refl
+    of_sink sink.NoMemory = refl
+
+    of_fault : (status : ℕ) → is_among status k.terms.faults ≡ true → is_status k.terms status ≡ true
+    of_fault status e =
+        or_more DONE (USAGE ∷ WRITE ∷ READ ∷ NO_MEMORY ∷ TOO_LONG ∷ k.terms.faults) status
+        (or_more USAGE (WRITE ∷ READ ∷ NO_MEMORY ∷ TOO_LONG ∷ k.terms.faults) status
+        (or_more WRITE (READ ∷ NO_MEMORY ∷ TOO_LONG ∷ k.terms.faults) status
+        (or_more READ (NO_MEMORY ∷ TOO_LONG ∷ k.terms.faults) status
+        (or_more NO_MEMORY (TOO_LONG ∷ k.terms.faults) status
+        (or_more TOO_LONG k.terms.faults status e)))))
+
+-- ---- what each status says
+
+due_taken : {Form : Type 0} {terms : Terms Form} {found : Option Fault} {old new : Told} {input : List ℕ} {asked : Form} → WritesAllDue terms asked input found old new → TakesDue terms found old new input asked
+due_taken w = record { bytes = w.bytes; due = w.due; appends = w.writes.appends }
+
+pub done : {Form I K : Type 0} (k : Case Form I K) (form : Option Form) (r : Ended) → Ran k form r → status_of r ≡ DONE → OnInput k form (TakesDue k.terms None (k.sink k.old) (k.sink k.new))
+done k = by_end k (λ form r. status_of r ≡ DONE → OnInput k form (TakesDue k.terms None (k.sink k.old) (k.sink k.new)))
+    (λ input out e. tt)
+    (λ asked s e. on_served k asked (TakesDue k.terms None (k.sink k.old) (k.sink k.new)) s (due_taken s.serves))
+    (λ asked why u e. absurd ((unread_status why).2 e))
+    (λ asked why s e. absurd (no_fault why DONE refl e))
+    (λ asked s e. absurd (omega (arith, e)))
+    (λ asked why s e. absurd ((stopped_status why).2 e))
+
+-- what is so of a run that was well
+pub flushed : {Form I K : Type 0} (k : Case Form I K) {P : Type 0} (form : Option Form) (r : Ended) → Ran k form r → OnOk r P → status_of r ≡ DONE → P
+flushed k {P} = by_end k (λ form r. OnOk r P → status_of r ≡ DONE → P)
+    (λ input out held e. absurd (omega (arith, e)))
+    (λ asked s held e. held)
+    (λ asked why u held e. absurd ((unread_status why).2 e))
+    (λ asked why s held e. absurd (no_fault why DONE refl e))
+    (λ asked s held e. absurd (omega (arith, e)))
+    (λ asked why s held e. absurd ((stopped_status why).2 e))
+
+pub finds : {Form I K : Type 0} (k : Case Form I K) (form : Option Form) (r : Ended) → Ran k form r → is_fault (status_of r) ≡ true → OnInput k form (TakesFault k.terms (status_of r) (k.sink k.old) (k.sink k.new))
+finds k = by_end k (λ form r. is_fault (status_of r) ≡ true → OnInput k form (TakesFault k.terms (status_of r) (k.sink k.old) (k.sink k.new)))
+    (λ input out e. tt)
+    (λ asked s e. absurd (cc e))
+    (λ asked why u e. absurd ((unread_status why).0 e))
+    (λ asked why s e. on_served k asked (TakesFault k.terms (status_of_fault why) (k.sink k.old) (k.sink k.new)) s (record { why = why; is = refl; takes = due_taken s.serves.all }))
+    (λ asked s e. absurd (cc e))
+    (λ asked why s e. absurd ((stopped_status why).0 e))
+
+pub write : {Form I K : Type 0} (k : Case Form I K) (form : Option Form) (r : Ended) → Ran k form r → status_of r ≡ WRITE → Rose (k.sink k.old).faults (k.sink k.new).faults
+write {Form} k = by_end k (λ form r. status_of r ≡ WRITE → Rose (k.sink k.old).faults (k.sink k.new).faults)
+    (λ input out e. absurd (omega (arith, e)))
+    (λ asked s e. absurd (omega (arith, e)))
+    (λ asked why u e. absurd ((unread_status why).4 e))
+    (λ asked why s e. absurd (no_fault why WRITE refl e))
+    (λ asked s e. absurd (omega (arith, e)))
+    (λ asked why s. rose asked why s)
+  where
+    rose : (asked : Form) (why : SinkError) → Served k asked (Err (Write why)) → status_of_failure (Write why) ≡ WRITE → Rose (k.sink k.old).faults (k.sink k.new).faults
+    rose asked sink.Failed s e = s.serves.stops.cause
+    rose asked sink.NoMemory s e = absurd (omega (arith, e))
+
+pub read : {Form I K : Type 0} (k : Case Form I K) (form : Option Form) (r : Ended) → Ran k form r → status_of r ≡ READ → Rose (k.source k.before).faults (k.source k.after).faults
+read {Form} k = by_end k (λ form r. status_of r ≡ READ → Rose (k.source k.before).faults (k.source k.after).faults)
+    (λ input out e. absurd (omega (arith, e)))
+    (λ asked s e. absurd (omega (arith, e)))
+    (λ asked why u. rose asked why u)
+    (λ asked why s e. absurd (no_fault why READ refl e))
+    (λ asked s e. absurd (omega (arith, e)))
+    (λ asked why s e. absurd ((stopped_status why).4 e))
+  where
+    rose : (asked : Form) (why : InputError) → Unread k why → status_of_failure (Input why) ≡ READ → Rose (k.source k.before).faults (k.source k.after).faults
+    rose asked input.ReadFault u e = u.stops.fault refl
+    rose asked input.TooLong u e = absurd (omega (arith, e))
+    rose asked input.NoMemory u e = absurd (omega (arith, e))
+
+pub own_want : {Form I K : Type 0} (k : Case Form I K) (form : Option Form) (r : Ended) → Ran k form r → status_of r ≡ NO_MEMORY → IsOwnWant k.sink k.old k.new
+own_want {Form} k = by_end k (λ form r. status_of r ≡ NO_MEMORY → IsOwnWant k.sink k.old k.new)
+    (λ input out e. inl out)
+    (λ asked s e. absurd (omega (arith, e)))
+    (λ asked why u e. inl u.out)
+    (λ asked why s e. absurd (no_fault why NO_MEMORY refl e))
+    (λ asked s e. inl s.serves)
+    (λ asked why s. want asked why s)
+  where
+    want : (asked : Form) (why : SinkError) → Served k asked (Err (Write why)) → status_of_failure (Write why) ≡ NO_MEMORY → IsOwnWant k.sink k.old k.new
+    want asked sink.Failed s e = absurd (omega (arith, e))
+    want asked sink.NoMemory s e = s.serves.stops.cause
+
+spent_served : {Form I K : Type 0} (k : Case Form I K) (asked : Form) {r : Ended} → Served k asked r → OnInput k (Some asked) (IsSpent (k.source k.after))
+spent_served k asked s = on_input asked (k.source k.before).left (IsSpent (k.source k.after)) (λ input told.
+    let all : TakesAll input s.input (k.source k.after).left = subst (λ left. IfSome left (λ all. TakesAll all s.input (k.source k.after).left)) told s.reads.taken in
+    all.left)
+
+spent_or_less : {Form I K : Type 0} (k : Case Form I K) (asked : Form) {r : Ended} → Served k asked r → OnInput k (Some asked) (TakesAllOrLess (k.source k.before) (k.source k.after))
+spent_or_less k asked s = on_both (Some asked) (k.source k.before).left (IsSpent (k.source k.after)) (TakesAllOrLess (k.source k.before) (k.source k.after)) (λ input asked spent. inl spent) (spent_served k asked s)
+
+pub want : {Form I K : Type 0} (k : Case Form I K) (form : Option Form) (r : Ended) → Ran k form r → status_of r ≡ NO_MEMORY → OnInput k form (TakesAllOrLess (k.source k.before) (k.source k.after))
+want {Form} k = by_end k (λ form r. status_of r ≡ NO_MEMORY → OnInput k form (TakesAllOrLess (k.source k.before) (k.source k.after)))
+    (λ input out e. tt)
+    (λ asked s e. spent_or_less k asked s)
+    (λ asked why u. less asked why u)
+    (λ asked why s e. spent_or_less k asked s)
+    (λ asked s e. spent_or_less k asked s)
+    (λ asked why s e. spent_or_less k asked s)
+  where
+    less : (asked : Form) (why : InputError) → Unread k why → status_of_failure (Input why) ≡ NO_MEMORY → OnInput k (Some asked) (TakesAllOrLess (k.source k.before) (k.source k.after))
+    less asked input.ReadFault u e = absurd (omega (arith, e))
+    less asked input.TooLong u e = absurd (omega (arith, e))
+    less asked input.NoMemory u e = on_input asked (k.source k.before).left (TakesAllOrLess (k.source k.before) (k.source k.after)) (λ input told. inr (u.stops.want refl))
+
+pub long : {Form I K : Type 0} (k : Case Form I K) (form : Option Form) (r : Ended) → Ran k form r → status_of r ≡ TOO_LONG → IsTooLong (k.source k.before) (k.source k.after)
+long {Form} k = by_end k (λ form r. status_of r ≡ TOO_LONG → IsTooLong (k.source k.before) (k.source k.after))
+    (λ input out e. absurd (omega (arith, e)))
+    (λ asked s e. absurd (omega (arith, e)))
+    (λ asked why u. too_long asked why u)
+    (λ asked why s e. absurd (no_fault why TOO_LONG refl e))
+    (λ asked s e. absurd (omega (arith, e)))
+    (λ asked why s e. absurd ((stopped_status why).5 e))
+  where
+    too_long : (asked : Form) (why : InputError) → Unread k why → status_of_failure (Input why) ≡ TOO_LONG → IsTooLong (k.source k.before) (k.source k.after)
+    too_long asked input.ReadFault u e = absurd (omega (arith, e))
+    too_long asked input.TooLong u e = u.stops.long refl
+    too_long asked input.NoMemory u e = absurd (omega (arith, e))
+
+-- a fault of the source that was counted means READ
+pub read_comes : {Form I K : Type 0} (k : Case Form I K) (form : Option Form) (r : Ended) → Ran k form r → (k.source k.before).faults < (k.source k.after).faults → status_of r ≡ READ
+read_comes k = by_end k (λ form r. (k.source k.before).faults < (k.source k.after).faults → status_of r ≡ READ)
+    (λ input out moved. absurd (stays (ap (λ source. (k.source source).faults) input) moved))
+    (λ asked s moved. absurd (stays s.reads.faults moved))
+    (λ asked why u moved. ap (λ why. status_of_failure (Input why)) (u.stops.moved moved))
+    (λ asked why s moved. absurd (stays s.reads.faults moved))
+    (λ asked s moved. absurd (stays s.reads.faults moved))
+    (λ asked why s moved. absurd (stays s.reads.faults moved))
+  where
+    stays : (k.source k.after).faults ≡ (k.source k.before).faults → (k.source k.before).faults < (k.source k.after).faults → ⊥
+    stays e moved = omega (arith, e, moved)
+
+-- ---- the status that is due
+
+due_unread : {Form I K : Type 0} (k : Case Form I K) (asked : Form) (why : InputError) → Unread k why → (Rose (k.source k.before).faults (k.source k.after).faults → ⊥)
+    → OnInput k (Some asked) (OnShort (IsStatusDue k.terms (status_of (Err (Input why)))))
+due_unread k asked input.ReadFault u quiet = absurd (quiet (u.stops.fault refl))
+due_unread k asked input.TooLong u quiet = on_input asked (k.source k.before).left (OnShort (IsStatusDue k.terms TOO_LONG)) (λ input told short.
+    let long : TakesOneMore input (k.source k.after).left = subst (λ left. IfSome left (λ all. TakesOneMore all (k.source k.after).left)) told (u.stops.long refl) in absurd (omega (arith, short, long.long)))
+due_unread k asked input.NoMemory u quiet = on_input asked (k.source k.before).left (OnShort (IsStatusDue k.terms NO_MEMORY)) (λ input told short. inr refl)
+
+due_stopped : {Form I K : Type 0} (k : Case Form I K) (asked : Form) (why : SinkError) → Served k asked (Err (Write why)) → (Rose (k.sink k.old).faults (k.sink k.new).faults → ⊥)
+    → OnInput k (Some asked) (OnShort (IsStatusDue k.terms (status_of (Err (Write why)))))
+due_stopped k asked sink.Failed s quiet = absurd (quiet s.serves.stops.cause)
+due_stopped k asked sink.NoMemory s quiet = on_input asked (k.source k.before).left (OnShort (IsStatusDue k.terms NO_MEMORY)) (λ input told short. inr refl)
+
+pub comes : {Form I K : Type 0} (k : Case Form I K) (form : Option Form) (r : Ended) → Ran k form r → AreQuiet k.source k.sink k.before k.after k.old k.new → OnInput k form (OnShort (IsStatusDue k.terms (status_of r)))
+comes k form r ran quiet = by_end k (λ form r. OnInput k form (OnShort (IsStatusDue k.terms (status_of r))))
+    (λ input out. tt)
+    (λ asked s. on_served k asked (OnShort (IsStatusDue k.terms DONE)) s (λ short. inl (record { found = None; bytes = s.serves.bytes; due = s.serves.due; is = refl })))
+    (λ asked why u. due_unread k asked why u quiet.input)
+    (λ asked why s. on_served k asked (OnShort (IsStatusDue k.terms (status_of_fault why))) s (λ short. inl (record { found = Some why; bytes = s.serves.all.bytes; due = s.serves.all.due; is = refl })))
+    (λ asked s. on_served k asked (OnShort (IsStatusDue k.terms NO_MEMORY)) s (λ short. inr refl))
+    (λ asked why s. due_stopped k asked why s quiet.out)
+    form r ran
+
+-- ---- what is left of the sink
+
+-- the fault of a status before which nothing is written
+unwritten_fault : {Form : Type 0} (terms : Terms Form) (why : Fault) → is_unwritten terms (status_of_fault why) ≡ true → may_write terms (Some why) ≡ false
+unwritten_fault terms why e = neither (DONE == status_of_fault why) (WRITE == status_of_fault why) (NO_MEMORY == status_of_fault why) (is_among (status_of_fault why) terms.written) e
+  where
+    neither : (a b c d : Bool) → not (a || (b || (c || d))) ≡ true → d ≡ false
+    neither a b c false e = refl
+    neither true b c true e = sym e
+    neither false true c true e = sym e
+    neither false false true true e = sym e
+    neither false false false true e = sym e
+
+pub untouched : {Form I K : Type 0} (k : Case Form I K) (form : Option Form) (r : Ended) → Ran k form r → is_unwritten k.terms (status_of r) ≡ true → k.new ≡ k.old
+untouched k = by_end k (λ form r. is_unwritten k.terms (status_of r) ≡ true → k.new ≡ k.old)
+    (λ input out e. out)
+    (λ asked s e. absurd (cc e))
+    (λ asked why u e. u.out)
+    (λ asked why s e. s.serves.untouched (unwritten_fault k.terms why e))
+    (λ asked s e. s.serves)
+    (λ asked why s. written why)
+  where
+    written : (why : SinkError) → is_unwritten k.terms (status_of_failure (Write why)) ≡ true → k.new ≡ k.old
+    written sink.Failed e = absurd (cc e)
+    written sink.NoMemory e = absurd (cc e)
+
+left_by_fault : {Form I K : Type 0} (k : Case Form I K) (asked : Form) (input : List ℕ) (why : Fault) → FindsFault k.terms k.sink asked input why k.old k.new → MayLeave k.terms k.sink k.old k.new input asked
+left_by_fault k asked input why s = either (may_write k.terms (Some why)) refl
+  where
+    either : (b : Bool) → may_write k.terms (Some why) ≡ b → MayLeave k.terms k.sink k.old k.new input asked
+    either true e = inr (record { found = Some why; bytes = s.all.bytes; due = s.all.due; may = e; front = all_is_front s.all.bytes s.all.writes.appends })
+    either false e = inl (s.untouched e)
+
+pub leaves : {Form I K : Type 0} (k : Case Form I K) (form : Option Form) (r : Ended) → Ran k form r → OnInput k form (OnShort (MayLeave k.terms k.sink k.old k.new))
+leaves k = by_end k (λ form r. OnInput k form (OnShort (MayLeave k.terms k.sink k.old k.new)))
+    (λ input out. tt)
+    (λ asked s. on_served k asked (OnShort (MayLeave k.terms k.sink k.old k.new)) s (λ short.
+    inr (record { found = None; bytes = s.serves.bytes; due = s.serves.due; may = refl; front = all_is_front s.serves.bytes s.serves.writes.appends })))
+    (λ asked why u. on_input asked (k.source k.before).left (OnShort (MayLeave k.terms k.sink k.old k.new)) (λ input told short. inl u.out))
+    (λ asked why s. on_served k asked (OnShort (MayLeave k.terms k.sink k.old k.new)) s (λ short. left_by_fault k asked s.input why s.serves))
+    (λ asked s. on_served k asked (OnShort (MayLeave k.terms k.sink k.old k.new)) s (λ short. inl s.serves))
+    (λ asked why s. on_served k asked (OnShort (MayLeave k.terms k.sink k.old k.new)) s (λ short.
+    inr (record { found = s.serves.found; bytes = s.serves.bytes; due = s.serves.due; may = s.serves.may; front = s.serves.stops.begins })))
+
+grows_same : {Form I K : Type 0} (k : Case Form I K) → k.new ≡ k.old → Grows (k.sink k.old) (k.sink k.new)
+grows_same k same = subst (λ out. Grows (k.sink k.old) (k.sink out)) (sym same) (grows_by_nothing (k.sink k.old))
+
+pub grows : {Form I K : Type 0} (k : Case Form I K) (form : Option Form) (r : Ended) → Ran k form r → Grows (k.sink k.old) (k.sink k.new)
+grows k = by_end k (λ form r. Grows (k.sink k.old) (k.sink k.new))
+    (λ input out. grows_same k out)
+    (λ asked s. (_, s.serves.writes.appends))
+    (λ asked why u. grows_same k u.out)
+    (λ asked why s. (_, s.serves.all.writes.appends))
+    (λ asked s. grows_same k s.serves)
+    (λ asked why s. grows_by_front s.serves.stops.begins)
+
+-- ---- an input that is too long, and one that was read whole
+
+long_served : {Form I K : Type 0} (k : Case Form I K) (asked : Form) {r : Ended} (P : Type 0) → Served k asked r → OnInput k (Some asked) (OnLong P)
+long_served k asked P s = on_served k asked (OnLong P) s (λ long. absurd (omega (arith, long, s.reads.short)))
+
+abbrev IsLongStatus : ℕ → Type 0
+IsLongStatus status = (status ≡ TOO_LONG) ⊎ (status ≡ NO_MEMORY)
+
+long_unread : {Form I K : Type 0} (k : Case Form I K) (asked : Form) (why : InputError) → Unread k why → (Rose (k.source k.before).faults (k.source k.after).faults → ⊥)
+    → OnInput k (Some asked) (OnLong (IsLongStatus (status_of (Err (Input why)))))
+long_unread k asked input.ReadFault u quiet = absurd (quiet (u.stops.fault refl))
+long_unread k asked input.TooLong u quiet = on_input asked (k.source k.before).left (OnLong (IsLongStatus TOO_LONG)) (λ input told long. inl refl)
+long_unread k asked input.NoMemory u quiet = on_input asked (k.source k.before).left (OnLong (IsLongStatus NO_MEMORY)) (λ input told long. inr refl)
+
+pub long_comes : {Form I K : Type 0} (k : Case Form I K) (form : Option Form) (r : Ended) → Ran k form r → (Rose (k.source k.before).faults (k.source k.after).faults → ⊥)
+    → OnInput k form (OnLong ((status_of r ≡ TOO_LONG) ⊎ (status_of r ≡ NO_MEMORY)))
+long_comes k form r ran quiet = by_end k (λ form r. OnInput k form (OnLong (IsLongStatus (status_of r))))
+    (λ input out. tt)
+    (λ asked s. long_served k asked (IsLongStatus (status_of (Ok tt))) s)
+    (λ asked why u. long_unread k asked why u quiet)
+    (λ asked why s. long_served k asked (IsLongStatus (status_of (Err (Found why)))) s)
+    (λ asked s. long_served k asked (IsLongStatus (status_of (Err NoMemory))) s)
+    (λ asked why s. long_served k asked (IsLongStatus (status_of (Err (Write why)))) s)
+    form r ran
+
+pub leaves_long : {Form I K : Type 0} (k : Case Form I K) (form : Option Form) (r : Ended) → Ran k form r → OnInput k form (OnLong (k.new ≡ k.old))
+leaves_long k = by_end k (λ form r. OnInput k form (OnLong (k.new ≡ k.old)))
+    (λ input out. tt)
+    (λ asked s. long_served k asked (k.new ≡ k.old) s)
+    (λ asked why u. on_input asked (k.source k.before).left (OnLong (k.new ≡ k.old)) (λ input told long. u.out))
+    (λ asked why s. long_served k asked (k.new ≡ k.old) s)
+    (λ asked s. long_served k asked (k.new ≡ k.old) s)
+    (λ asked why s. long_served k asked (k.new ≡ k.old) s)
+
+-- ---- what is left of the source
+
+pub nothing_read : {Form I K : Type 0} (k : Case Form I K) (form : Option Form) (r : Ended) → Ran k form r → status_of r ≡ USAGE → k.after ≡ k.before
+nothing_read k = by_end k (λ form r. status_of r ≡ USAGE → k.after ≡ k.before)
+    (λ input out e. input)
+    (λ asked s e. absurd (omega (arith, e)))
+    (λ asked why u e. absurd ((unread_status why).3 e))
+    (λ asked why s e. absurd (no_fault why USAGE refl e))
+    (λ asked s e. absurd (omega (arith, e)))
+    (λ asked why s e. absurd ((stopped_status why).3 e))
+
+pub spent : {Form I K : Type 0} (k : Case Form I K) (form : Option Form) (r : Ended) → Ran k form r → is_read (status_of r) ≡ true → OnInput k form (IsSpent (k.source k.after))
+spent k = by_end k (λ form r. is_read (status_of r) ≡ true → OnInput k form (IsSpent (k.source k.after)))
+    (λ input out e. tt)
+    (λ asked s e. spent_served k asked s)
+    (λ asked why u e. absurd ((unread_status why).1 e))
+    (λ asked why s e. spent_served k asked s)
+    (λ asked s e. spent_served k asked s)
+    (λ asked why s e. spent_served k asked s)
+
+short_same : {Form I K : Type 0} (k : Case Form I K) → k.after ≡ k.before → StaysShort (k.source k.before) (k.source k.after)
+short_same k same = subst (λ after. StaysShort (k.source k.before) (k.source after)) (sym same) (read_nothing (k.source k.before).left)
+
+-- no more than the limit was taken, unless the input is too long
+pub stays_short : {Form I K : Type 0} (k : Case Form I K) (form : Option Form) (r : Ended) → Ran k form r → (status_of r ≡ TOO_LONG → ⊥) → StaysShort (k.source k.before) (k.source k.after)
+stays_short k = by_end k (λ form r. (status_of r ≡ TOO_LONG → ⊥) → StaysShort (k.source k.before) (k.source k.after))
+    (λ input out no. short_same k input)
+    (λ asked s no. read_all s.reads)
+    (λ asked why u no. u.stops.short (λ e. no (ap (λ w. status_of_failure (Input w)) e)))
+    (λ asked why s no. read_all s.reads)
+    (λ asked s no. read_all s.reads)
+    (λ asked why s no. read_all s.reads)
+
+-- ---- the counts
+
+abbrev Steady : {Form I K : Type 0} → Case Form I K → Type 0
+Steady k = ((k.source k.after).faults ≡ (k.source k.before).faults) × IsSteady (k.sink k.old) (k.sink k.new)
+
+pub steady : {Form I K : Type 0} (k : Case Form I K) (form : Option Form) (r : Ended) → Ran k form r → is_read (status_of r) ≡ true → ((k.source k.after).faults ≡ (k.source k.before).faults) × IsSteady (k.sink k.old) (k.sink k.new)
+steady k = by_end k (λ form r. is_read (status_of r) ≡ true → Steady k)
+    (λ input out e. absurd (cc e))
+    (λ asked s e. (s.reads.faults, s.serves.writes.steady))
+    (λ asked why u e. absurd ((unread_status why).1 e))
+    (λ asked why s e. (s.reads.faults, s.serves.all.writes.steady))
+    (λ asked s e. absurd (cc e))
+    (λ asked why s e. absurd ((stopped_status why).1 e))
+
+abbrev Counts : {Form I K : Type 0} → Case Form I K → Type 0
+Counts k = ((k.source k.before).faults ≤ (k.source k.after).faults) × NoCountFell (k.sink k.old) (k.sink k.new)
+
+count_stays : {n m : ℕ} → m ≡ n → n ≤ m
+count_stays e = omega (arith, e)
+
+counts_same : {Form I K : Type 0} (k : Case Form I K) → k.new ≡ k.old → NoCountFell (k.sink k.old) (k.sink k.new)
+counts_same k same = subst (λ out. NoCountFell (k.sink k.old) (k.sink out)) (sym same) (counts_stay (k.sink k.old))
+
+pub counts : {Form I K : Type 0} (k : Case Form I K) (form : Option Form) (r : Ended) → Ran k form r → ((k.source k.before).faults ≤ (k.source k.after).faults) × NoCountFell (k.sink k.old) (k.sink k.new)
+counts k = by_end k (λ form r. Counts k)
+    (λ input out. (count_stays (ap (λ source. (k.source source).faults) input), counts_same k out))
+    (λ asked s. (count_stays s.reads.faults, steady_counts s.serves.writes.steady))
+    (λ asked why u. (u.stops.faults, counts_same k u.out))
+    (λ asked why s. (count_stays s.reads.faults, steady_counts s.serves.all.writes.steady))
+    (λ asked s. (count_stays s.reads.faults, counts_same k s.serves))
+    (λ asked why s. (count_stays s.reads.faults, s.serves.stops.counts))
+
+-- ---- what is told
+
+pub has_fault : {Form I K : Type 0} (k : Case Form I K) (form : Option Form) (r : Ended) → Ran k form r → (why : Fault) → r ≡ Err (Found why) → OnInput k form (HasFault k.terms why)
+has_fault k form r ran why = by_end k (λ form r. r ≡ Err (Found why) → OnInput k form (HasFault k.terms why))
+    (λ input out e. absurd (cc e))
+    (λ asked s e. absurd (cc e))
+    (λ asked other u e. absurd (cc e))
+    (λ asked other s e. on_served k asked (HasFault k.terms why) s (s.serves.all.bytes, subst (λ found. k.terms.Due asked s.input (Some found) s.serves.all.bytes) (same other e) s.serves.all.due))
+    (λ asked s e. absurd (cc e))
+    (λ asked other s e. absurd (cc e))
+    form r ran
+  where
+    same : (other : Fault) → ◌≡◌ {A = Ended} (Err (Found other)) (Err (Found why)) → other ≡ why
+    same other e = cc e
+
+-- ---- words that are no form
+
+pub usage : {Form I K : Type 0} (k : Case Form I K) (form : Option Form) (r : Ended) → Ran k form r → (status_of r ≡ USAGE) ↔ (form ≡ None)
+usage k = by_end k (λ form r. (status_of r ≡ USAGE) ↔ (form ≡ None))
+    (λ input out. both (λ e. refl) (λ e. refl))
+    (λ asked s. neither (λ e. omega (arith, e)))
+    (λ asked why u. neither ((unread_status why).3))
+    (λ asked why s. neither (no_fault why USAGE refl))
+    (λ asked s. neither (λ e. omega (arith, e)))
+    (λ asked why s. neither ((stopped_status why).3))
+  where
+    both : {A B : Type 0} → (A → B) → (B → A) → A ↔ B
+    both f g = (f, g)
+
+    neither : {A : Type 0} {F : Type 0} {x : F} → (A → ⊥) → A ↔ (Some x ≡ None)
+    neither never = both (λ a. absurd (never a)) (λ e. absurd (cc e))
+
+-- ---- the flush
+
+-- where the sink fails to pass on what was written, a first part of it was taken, for all that is known
+pub stops_at_flush : {Form I K : Type 0} (terms : Terms Form) (source : I → Supply) (told : K → Told) (before after : I) (old mid new : K) (form : Option Form) (why : SinkError)
+    → ServesForm terms source told form (Ok tt) before after old mid → Declines why (told mid) (told new) → ServesForm terms source told form (Err (Write why)) before after old new
+stops_at_flush terms source told before after old mid new None why s d = let never = s.usage in absurd (cc never)
+stops_at_flush terms source told before after old mid new (Some asked) why s d = record {
+  input = s.input;
+  reads = s.reads;
+  serves = record { found = None; bytes = s.serves.bytes; due = s.serves.due; may = refl; stops = held_back told old mid new why s.serves.writes d };
+}
+
+pub passes_on : {Form I K : Type 0} (terms : Terms Form) (source : I → Supply) (told : K → Told) (before after : I) (old mid new : K) (form : Option Form)
+    → ServesForm terms source told form (Ok tt) before after old mid → PassesOn (told mid) (told new) → ServesForm terms source told form (Ok tt) before after old new
+passes_on terms source told before after old mid new None s p = let never = s.usage in absurd (cc never)
+passes_on terms source told before after old mid new (Some asked) s p = record {
+  input = s.input;
+  reads = s.reads;
+  serves = record { bytes = s.serves.bytes; due = s.serves.due; writes = passed_on s.serves.writes p };
+}

@@ -1,0 +1,135 @@
+//! Why a program failed.
+
+ghost use Rattle.std.specs.Prelude.{◌≡◌};
+ghost use Rattle.sval_program.specs.Failures.{status_of_fault, row_of_fault, status_of_failure};
+
+use crate::input_error::InputError;
+use crate::line::Line;
+use crate::{lines, status};
+use sval_json::SinkError;
+
+/// Why nothing more is due of an input.
+#[derive(Clone, Copy)]
+pub enum Fault {
+    /// This line of a script, counted from 1, is the first that is no call.
+    BadLine {
+        /// The line's number.
+        line: u64,
+    },
+    /// No value, or no list of values, goes on with the call of this line of a script, counted from 1.
+    BadCall {
+        /// The line's number.
+        line: u64,
+    },
+    /// The calls are not one whole value, or not whole values where many may come.
+    Unfinished {
+        /// Whether many values may come.
+        many: bool,
+    },
+    /// What stands in the place of a map's key can't be one.
+    InvalidKey,
+    /// Text that stands for a number is none.
+    InvalidNumber,
+    /// The input is not UTF-8.
+    NotUtf8,
+    /// The input denotes no value of JSON.
+    BadJson {
+        /// The byte at which it fails.
+        at: u64,
+    },
+    /// The value has text that says it is JSON, which CBOR can't take.
+    Raw,
+    /// Text that stands for a number is one that CBOR can't take as a whole number.
+    NotInteger,
+    /// The input is not one item of CBOR, in the profile that is read.
+    BadCbor,
+}
+
+impl Fault {
+    /// The program's status.
+    pub fn status(self) -> u8
+        ensures { result ≡ status_of_fault self }
+    {
+        match self {
+            Fault::BadLine { .. } => status::BAD_LINE,
+            Fault::BadCall { .. } => status::BAD_CALL,
+            Fault::Unfinished { .. } => status::UNFINISHED,
+            Fault::InvalidKey => status::INVALID_KEY,
+            Fault::InvalidNumber => status::INVALID_NUMBER,
+            Fault::NotUtf8 => status::NOT_UTF8,
+            Fault::BadJson { .. } => status::BAD_JSON,
+            Fault::Raw => status::RAW,
+            Fault::NotInteger => status::NOT_INTEGER,
+            Fault::BadCbor => status::BAD_CBOR,
+        }
+    }
+
+    /// The line that the third device is told.
+    pub fn line(self) -> Line
+        ensures { result ≡ (row_of_fault self).1 }
+    {
+        match self {
+            Fault::BadLine { line } => lines::bad_line(line),
+            Fault::BadCall { line } => lines::bad_call(line),
+            Fault::Unfinished { many } => lines::unfinished(many),
+            Fault::InvalidKey => lines::invalid_key(),
+            Fault::InvalidNumber => lines::invalid_number(),
+            Fault::NotUtf8 => lines::not_utf8(),
+            Fault::BadJson { at } => lines::bad_json(at),
+            Fault::Raw => lines::raw(),
+            Fault::NotInteger => lines::not_integer(),
+            Fault::BadCbor => lines::bad_cbor(),
+        }
+    }
+}
+
+/// Why a program failed: each failure has a status and a line.
+#[derive(Clone, Copy)]
+pub enum Failure {
+    /// The words are no form.
+    Usage,
+    /// The input wasn't read.
+    Input(InputError),
+    /// Nothing more is due of the input.
+    Fault(Fault),
+    /// Memory was wanting before anything was written.
+    NoMemory,
+    /// The sink failed, or memory was wanting to write.
+    Write(SinkError),
+}
+
+impl From<InputError> for Failure {
+    ghost use Rattle.sval_program.specs.declared.failure.Failure.TheVariants.{Input};
+
+    ghost from_gives = { λ error failure. failure ≡ Input error };
+
+    fn from(error: InputError) -> Failure {
+        Failure::Input(error)
+    }
+}
+
+impl From<SinkError> for Failure {
+    ghost use Rattle.sval_program.specs.declared.failure.Failure.TheVariants.{Write};
+
+    ghost from_gives = { λ error failure. failure ≡ Write error };
+
+    fn from(error: SinkError) -> Failure {
+        Failure::Write(error)
+    }
+}
+
+impl Failure {
+    /// The program's status.
+    pub fn status(self) -> u8
+        ensures { result ≡ status_of_failure self }
+    {
+        match self {
+            Failure::Usage => status::USAGE,
+            Failure::Input(error) => error.status(),
+            Failure::Fault(fault) => fault.status(),
+            Failure::NoMemory => status::NO_MEMORY,
+            Failure::Write(SinkError::Failed) => status::WRITE,
+            Failure::Write(SinkError::NoMemory) => status::NO_MEMORY,
+        }
+    }
+}

@@ -1,0 +1,141 @@
+//! Programs that read an input whole and write what is due of it: a program says what, and its run is the same for all.
+
+ghost use Rattle.std.specs.Prelude.{◌≡◌, ◌↔◌, true, None, map, string_bytes, OnOk};
+ghost use Rattle.sval_json.specs.Sinks.{HoldsNothing};
+ghost use Rattle.sval_program.specs.Failures.{status_of, line_of, line_of_failure};
+ghost use Rattle.sval_program.specs.Jobs.{Serves};
+ghost use Rattle.sval_program.specs.Reports.{TellsLine};
+ghost use Rattle.sval_program.specs.Runs.{Ends};
+
+use crate::failure::Failure;
+use crate::line::{Line, tell};
+use crate::lines;
+use crate::program::Program;
+use crate::source::Source;
+use crate::status::DONE;
+use std::alloc::Global;
+use sval_json::{Sink, SinkError};
+
+/// A program that reads an input whole and writes what is due of it.
+pub trait Job {
+    ghost use Rattle.std.specs.Option.{is_some};
+    ghost use Rattle.sval_program.specs.Jobs.{Terms};
+
+    /// What its words may ask for.
+    ghost Form: { Type 0 };
+
+    /// Its words, what is due of an input, and its faults.
+    ghost terms: { Terms Form };
+
+    /// The line for words that are no form.
+    fn usage() -> Line
+        ensures { result ≡ terms.usage };
+
+    /// Whether words are one of its forms.
+    fn takes(words: &[String]) -> bool
+        ensures { result ≡ is_some (terms.form_named (map string_bytes words.now)) };
+
+    /// Reads the input to its end, and writes what is due of it, if the words are a form. The sink isn't flushed.
+    fn serve<I: Source, K: Sink>(
+        alloc: Global,
+        words: &[String],
+        input: &mut I,
+        out: &mut K,
+    ) -> Result<(), Failure>
+        ensures { Serves terms I.told K.told (map string_bytes words.now) result
+            input.old input.new out.old out.new };
+}
+
+/// Serves the words, and passes on what was written.
+fn pass_on<J: Job, I: Source, K: Sink>(
+    alloc: Global,
+    words: &[String],
+    input: &mut I,
+    out: &mut K,
+) -> Result<(), Failure>
+    ensures serves { Serves J.terms I.told K.told (map string_bytes words.now) result
+        input.old input.new out.old out.new }
+    ensures flushed { OnOk result (HoldsNothing (K.told out.new)) }
+{
+    J::serve(alloc, words, input, out)?;
+    Ok(out.flush()?)
+}
+
+/// The line that the third device is told of a failure.
+fn line<J: Job>(failure: Failure) -> Line
+    ensures { result ≡ line_of_failure J.terms.usage failure }
+{
+    match failure {
+        Failure::Usage => J::usage(),
+        Failure::Input(error) => error.line(),
+        Failure::Fault(fault) => fault.line(),
+        Failure::NoMemory => lines::out_of_memory(),
+        Failure::Write(SinkError::Failed) => lines::write_fault(),
+        Failure::Write(SinkError::NoMemory) => lines::out_of_memory(),
+    }
+}
+
+/// Tells the third device how the program ended, and answers the status.
+fn conclude<J: Job, D: Sink>(ended: Result<(), Failure>, diag: &mut D) -> u8
+    ensures status { result ≡ status_of ended }
+    ensures tells { TellsLine (D.told diag.old) (line_of J.terms.usage ended) (D.told diag.new) }
+{
+    match ended {
+        Ok(()) => DONE,
+        Err(failure) => {
+            tell(&line::<J>(failure), diag);
+            failure.status()
+        }
+    }
+}
+
+/// Runs a program on its words, its devices and an allocator, and answers its status.
+///
+/// The input is read to its end, at most 16,777,216 bytes and one more to see that there are too many. Where the status
+/// isn't 0, one line is written to `diag` that says why; what `diag` answers changes nothing.
+pub fn run<J: Job, I: Source, K: Sink, D: Sink>(
+    alloc: Global,
+    words: &[String],
+    input: &mut I,
+    out: &mut K,
+    diag: &mut D,
+) -> u8
+    ensures { Ends J.terms I.told K.told (map string_bytes words.now) input.old input.new
+        out.old out.new (D.told diag.old) (D.told diag.new) result }
+{
+    let ended = pass_on::<J, I, K>(alloc, words, input, out);
+    conclude::<J, D>(ended, diag)
+}
+
+/// A job is a program, as [`run_streams`](crate::run_streams) and [`run_process`](crate::run_process) run it. Its `Ends`
+/// are those of its [`run`], on what the source and the sink tell.
+impl<J: Job> Program for J {
+    ghost use Rattle.std.specs.Prelude.{refl};
+    ghost use Rattle.sval_program.specs.Runs.{is_status, ToldEnds};
+
+    ghost Form = { J.Form };
+
+    ghost form_named = { J.terms.form_named };
+
+    ghost is_status = { is_status J.terms };
+
+    ghost Ends = { ToldEnds J.terms };
+
+    ghost has_usage = { refl };
+
+    ghost has_no_memory = { refl };
+
+    fn takes(words: &[String]) -> bool {
+        <J as Job>::takes(words)
+    }
+
+    fn run<I: Source, K: Sink, D: Sink>(
+        alloc: Global,
+        words: &[String],
+        input: &mut I,
+        out: &mut K,
+        diag: &mut D,
+    ) -> u8 {
+        run::<J, I, K, D>(alloc, words, input, out, diag)
+    }
+}
