@@ -1,173 +1,78 @@
--- From what serving a form says to what each status says.
-use Rattle.std.specs.Prelude.{◌≡◌, ℕ, ◌⊎◌, List, Option, Some, None, Result, Ok, Err, IfSome, IsUtf8, refl}
-use Rattle.std.proofs.Common.{sym, ap, subst, arith, inl, inr}
-use Rattle.sval_core.specs.Law.{Rose}
-use Rattle.sval_json.specs.Grammar.{JsonValue, Denotes}
+-- What the facts on a run say of JSON.
+use Rattle.std.specs.Prelude.{◌≡◌, ℕ, true, List, [], Option, Some, None, Result, Ok, Err, refl}
+use Rattle.std.proofs.Common.{sym, ap, subst, ◌∙◌, arith, inl, inr}
 use Rattle.sval_json.specs.Sinks.{Told, AppendsFront}
 use Rattle.sval_json.specs.declared.sink.SinkError.{SinkError}
 use Rattle.sval_json.specs.declared.sink.SinkError.TheVariants as sink
-use Rattle.sval_json.proofs.Appending.{all_is_front}
-use Rattle.sval_program.specs.declared.status.TheConstants.{READ, NO_MEMORY, TOO_LONG}
-use Rattle.sval_program.specs.declared.input_error.InputError.{InputError}
+use Rattle.sval_json.proofs.Appending.{writes_nothing}
+use Rattle.sval_program.specs.declared.failure.Fault.{Fault}
+use Rattle.sval_program.specs.declared.failure.Fault.TheVariants as fault
+use Rattle.sval_program.specs.declared.failure.Failure.{Failure}
+use Rattle.sval_program.specs.declared.failure.Failure.TheVariants as failure
+use Rattle.sval_program.specs.declared.status.TheConstants.{NOT_UTF8, BAD_JSON}
 use Rattle.sval_program.specs.declared.input_error.InputError.TheVariants as input
-use Rattle.sval_program.specs.Inputs.{ReadsWhole, OnShort, OnBoth, TakesAll, TakesOneMore, StaysShort, IsUnread}
-use Rattle.sval_program.specs.Outputs.{Grows}
+use Rattle.sval_program.specs.Failures.{is_fault, status_of_fault, status_of_found, status_of, line_of}
+use Rattle.sval_program.specs.Inputs.{OnBoth}
+use Rattle.sval_program.specs.Jobs.{may_write, ServesBytes, WritesAllDue}
+use Rattle.sval_program.specs.Reports.{TellsLine}
+use Rattle.sval_program.specs.Runs as runs
 use Rattle.sval_program.specs.Sources.{Supply}
-use Rattle.sval_program.proofs.ReadParts.{read_nothing, read_all}
-use Rattle.sval_program.proofs.Growing.{front_of_nothing, grows_by_nothing, grows_by_front}
-use Rattle.sval_json_read.specs.declared.status.TheConstants.{NOT_UTF8, BAD_JSON}
+use Rattle.sval_program.proofs.Growing.{front_of_nothing}
+use Rattle.sval_program.proofs.JobRuns.{on_both, the_fault}
 use Rattle.sval_json_read.specs.declared.document.ReadError.{ReadError}
 use Rattle.sval_json_read.specs.declared.document.ReadError.TheVariants as reading
-use Rattle.sval_json_read.specs.declared.failure.Failure.{Failure}
-use Rattle.sval_json_read.specs.declared.failure.Failure.TheVariants.{Usage, Input, Read, Write}
 use Rattle.sval_json_read.specs.declared.form.Form.{Form}
-use Rattle.sval_json_read.specs.Reports.{byte_named, FailsAtByte}
-use Rattle.sval_json_read.specs.Serves.{IsDue, MayLeave, IsServed, IsNotRead, ServesBytes, ServesInput, Serves, IsNoUtf8, HasBadJson}
-use Rattle.sval_json_read.specs.Statuses.{IsStatusOf, IsStatusDue, status_of, status_of_failure}
+use Rattle.sval_json_read.specs.Forms.{form_named, OnNamed}
+use Rattle.sval_json_read.specs.ReadErrors.{IsReadError}
+use Rattle.sval_json_read.specs.Reports.{Reports, FailsAtByte, report}
+use Rattle.sval_json_read.specs.Serves.{IsDue, Due, a_text, no_utf8, no_json, read_terms, failure_of, WritesDue, MayLeave, WritesDueText, IsNoUtf8, HasBadJson}
+use Rattle.sval_json_read.specs.Statuses.{IsStatusOf, IsStatusDue}
 use Rattle.sval_json_read.proofs.DueTexts.{one_due}
 
--- an input that was read and served
-pub served : {I K : Type 0} (source : I → Supply) (told : K → Told) (before after : I) (old new : K) {input : List ℕ} (asked : Form) (result : Result (Unit {0}) Failure)
-    → ReadsWhole (source before) input (source after) → ServesBytes told input asked result old new → ServesInput source told asked result before after old new
-served source told before after old new {input = input} asked (Ok done) reads serves = record { input = input; reads = reads; serves = serves }
-served source told before after old new asked (Err Usage) reads serves = absurd serves
-served source told before after old new asked (Err (Input why)) reads serves = absurd serves
-served source told before after old new {input = input} asked (Err (Read why)) reads serves = record { input = input; reads = reads; serves = serves }
-served source told before after old new {input = input} asked (Err (Write why)) reads serves = record { input = input; reads = reads; serves = serves }
+-- ---- what serving bytes makes of the sink
 
--- the devices of a run
-pub record Case (I K : Type 0) : Type 0 where
-  pub source : I → Supply
-  pub sink : K → Told
-  pub before : I
-  pub after : I
-  pub old : K
-  pub new : K
+-- nothing is written before a fault
+faulty : {input : List ℕ} {asked : Form} {why : Fault} (told : Told) → Due asked input (Some why) [] → WritesAllDue read_terms asked input (Some why) told told
+faulty told d = record { bytes = []; due = d; writes = writes_nothing told }
 
-abbrev pub Ran : {I K : Type 0} → Case I K → Option Form → Result (Unit {0}) Failure → Type 0
-Ran k form result = Serves k.source k.sink form result k.before k.after k.old k.new
+pub unread : {K : Type 0} (told : K → Told) (input : List ℕ) (asked : Form) (old : K) (why : ReadError) → IsReadError input why → ServesBytes read_terms told asked input (Err (failure_of why)) old old
+unread told input asked old reading.NotUtf8 cause = record { all = faulty (told old) (no_utf8 cause); known = refl; untouched = λ e. refl }
+unread told input asked old (reading.BadJson at) cause = record { all = faulty (told old) (no_json cause); known = refl; untouched = λ e. refl }
+unread told input asked old reading.NoMemory cause = refl
 
-abbrev Served : {I K : Type 0} → Case I K → Form → Result (Unit {0}) Failure → Type 0
-Served k asked result = IsServed k.source k.sink asked result k.before k.after k.old k.new
+pub writes_all : {K : Type 0} (told : K → Told) (input : List ℕ) (asked : Form) (old new : K) → WritesDueText told input asked (Ok tt) old new → ServesBytes read_terms told asked input (Ok tt) old new
+writes_all told input asked old new w = record { bytes = w.text; due = a_text w.due; writes = w.writes }
 
-abbrev Unread : {I K : Type 0} → Case I K → InputError → Type 0
-Unread k why = IsUnread k.source why k.before k.after k.old k.new
+pub stops_within : {K : Type 0} (told : K → Told) (input : List ℕ) (asked : Form) (old new : K) (why : SinkError) → WritesDueText told input asked (Err why) old new
+    → ServesBytes read_terms told asked input (Err (failure.Write why)) old new
+stops_within told input asked old new why w = record { found = None; bytes = w.text; due = a_text w.due; may = refl; stops = w.writes.stops }
 
--- a fact where the words are a form, and the source told what it had
-abbrev OnInput : {I K : Type 0} → Case I K → Option Form → (List ℕ → Form → Type 0) → Type 0
-OnInput k form P = OnBoth form (k.source k.before).left P
+-- ---- what each status says
 
--- ---- a fact on what was asked for
+text_due : {asked : Form} {input text : List ℕ} → Due asked input None text → IsDue text input asked
+text_due (a_text d) = d
 
--- one that holds of each input that the source may have told
-on_input : (asked : Form) (left : Option (List ℕ)) (P : List ℕ → Form → Type 0) → ((input : List ℕ) → left ≡ Some input → P input asked) → OnBoth (Some asked) left P
-on_input asked None P f = tt
-on_input asked (Some input) P f = f input refl
+pub done : (form : Option Form) (left : Option (List ℕ)) (old new : Told) → OnBoth form left (runs.TakesDue read_terms None old new) → OnBoth form left (WritesDue old new)
+done form left old new f = on_both form left (runs.TakesDue read_terms None old new) (WritesDue old new) (λ input asked t. record { text = t.bytes; due = text_due t.due; appends = t.appends }) f
 
--- one that holds of the input that was served
-on_served : {I K : Type 0} (k : Case I K) (asked : Form) {r : Result (Unit {0}) Failure} (P : List ℕ → Form → Type 0) (s : Served k asked r) → P s.input asked → OnInput k (Some asked) P
-on_served k asked P s p = on_input asked (k.source k.before).left P (λ input told.
-    let all : TakesAll input s.input (k.source k.after).left = subst (λ left. IfSome left (λ all. TakesAll all s.input (k.source k.after).left)) told s.reads.taken in
-    subst (λ input. P input asked) all.all p)
+pub is_no_utf8 : {input text : List ℕ} {asked : Form} (why : Fault) → NOT_UTF8 ≡ status_of_fault why → Due asked input (Some why) text → IsNoUtf8 input asked
+is_no_utf8 _ e (no_utf8 cause) = cause
+is_no_utf8 _ e (no_json bad) = absurd (omega (arith, e))
 
--- ---- how it ended
-
--- a fact on each way to end
-by_end : {I K : Type 0} (k : Case I K) (P : Option Form → Result (Unit {0}) Failure → Type 0)
-    → (k.after ≡ k.before → k.new ≡ k.old → P None (Err Usage))
-    → ((asked : Form) → Served k asked (Ok tt) → P (Some asked) (Ok tt))
-    → ((asked : Form) (why : InputError) → Unread k why → P (Some asked) (Err (Input why)))
-    → ((asked : Form) (why : ReadError) → Served k asked (Err (Read why)) → P (Some asked) (Err (Read why)))
-    → ((asked : Form) (why : SinkError) → Served k asked (Err (Write why)) → P (Some asked) (Err (Write why)))
-    → (form : Option Form) (r : Result (Unit {0}) Failure) → Ran k form r → P form r
-by_end k P none done unread bad stopped None r ran = subst (P None) (sym ran.usage) (none ran.input ran.out)
-by_end k P none done unread bad stopped (Some asked) (Ok u) ran = done asked ran
-by_end k P none done unread bad stopped (Some asked) (Err Usage) ran = absurd ran.serves
-by_end k P none done unread bad stopped (Some asked) (Err (Input why)) ran = unread asked why ran
-by_end k P none done unread bad stopped (Some asked) (Err (Read why)) ran = bad asked why ran
-by_end k P none done unread bad stopped (Some asked) (Err (Write why)) ran = stopped asked why ran
-
--- ---- what the statuses of reading say of the input
-
--- what a failure of reading says
-reading_says : (input : List ℕ) (asked : Form) (why : ReadError) {K : Type 0} (old new : K) → IsNotRead input why old new
-    → (status_of_failure (Read why) ≡ NOT_UTF8 → IsNoUtf8 input asked) × (status_of_failure (Read why) ≡ BAD_JSON → FailsAtByte (byte_named (Read why)) input asked)
-reading_says input asked reading.NotUtf8 old new n = (λ e. n.cause, λ e. absurd (omega (arith, e)))
-reading_says input asked (reading.BadJson at) old new n = (λ e. absurd (omega (arith, e)), λ e. n.cause)
-reading_says input asked reading.NoMemory old new n = (λ e. absurd (omega (arith, e)), λ e. absurd (omega (arith, e)))
-
--- the other failures have other statuses
-below_both : (why : InputError) → (status_of_failure (Input why) ≡ NOT_UTF8 → ⊥) × (status_of_failure (Input why) ≡ BAD_JSON → ⊥)
-below_both input.ReadFault = (λ e. omega (arith, e), λ e. omega (arith, e))
-below_both input.TooLong = (λ e. omega (arith, e), λ e. omega (arith, e))
-below_both input.NoMemory = (λ e. omega (arith, e), λ e. omega (arith, e))
-
-below_written : (why : SinkError) → (status_of_failure (Write why) ≡ NOT_UTF8 → ⊥) × (status_of_failure (Write why) ≡ BAD_JSON → ⊥)
-below_written sink.Failed = (λ e. omega (arith, e), λ e. omega (arith, e))
-below_written sink.NoMemory = (λ e. omega (arith, e), λ e. omega (arith, e))
-
-pub not_utf8 : {I K : Type 0} (k : Case I K) (form : Option Form) (r : Result (Unit {0}) Failure) → Ran k form r → status_of r ≡ NOT_UTF8 → OnInput k form IsNoUtf8
-not_utf8 k = by_end k (λ form r. status_of r ≡ NOT_UTF8 → OnInput k form IsNoUtf8)
-    (λ input out e. tt)
-    (λ asked s e. absurd (omega (arith, e)))
-    (λ asked why u e. absurd ((below_both why).0 e))
-    (λ asked why s e. on_served k asked IsNoUtf8 s ((reading_says s.input asked why k.old k.new s.serves).0 e))
-    (λ asked why s e. absurd ((below_written why).0 e))
-
--- the byte that is named
-pub byte_of : Result (Unit {0}) Failure → ℕ
-byte_of (Ok done) = 0
-byte_of (Err why) = byte_named why
-
-pub fails_at : {I K : Type 0} (k : Case I K) (form : Option Form) (r : Result (Unit {0}) Failure) → Ran k form r → status_of r ≡ BAD_JSON → OnInput k form (FailsAtByte (byte_of r))
-unfolding byte_of
-fails_at k = by_end k (λ form r. status_of r ≡ BAD_JSON → OnInput k form (FailsAtByte (byte_of r)))
-    (λ input out e. tt)
-    (λ asked s e. absurd (omega (arith, e)))
-    (λ asked why u e. absurd ((below_both why).1 e))
-    (λ asked why s e. on_served k asked (FailsAtByte (byte_named (Read why))) s ((reading_says s.input asked why k.old k.new s.serves).1 e))
-    (λ asked why s e. absurd ((below_written why).1 e))
-
-pub bad_json : {I K : Type 0} (k : Case I K) (form : Option Form) (r : Result (Unit {0}) Failure) → Ran k form r → status_of r ≡ BAD_JSON → OnInput k form HasBadJson
-bad_json k form r ran e = somewhere form (k.source k.before).left (fails_at k form r ran e)
-  where
-    somewhere : (form : Option Form) (left : Option (List ℕ)) → OnBoth form left (FailsAtByte (byte_of r)) → OnBoth form left HasBadJson
-    somewhere None left f = tt
-    somewhere (Some asked) None f = tt
-    somewhere (Some asked) (Some input) f = (byte_of r, f)
+pub has_bad_json : {input text : List ℕ} {asked : Form} (why : Fault) → BAD_JSON ≡ status_of_fault why → Due asked input (Some why) text → HasBadJson input asked
+has_bad_json _ e (no_utf8 cause) = absurd (omega (arith, e))
+has_bad_json _ e (no_json {at = at} bad) = (at, bad)
 
 -- ---- the status that is due
 
-due_of_value : (input : List ℕ) (asked : Form) (text : List ℕ) → IsDue text input asked → IsStatusOf input (status_of (Ok tt))
-due_of_value input asked text d = record { not_utf8 = λ no. absurd (no d.denotes.utf8); bad_json = λ n bad. absurd (bad.denotes_none d.value d.denotes); done = λ value denotes. refl }
+pub status_of_due : {input text : List ℕ} {asked : Form} {status : ℕ} (found : Option Fault) → status ≡ status_of_found found → Due asked input found text → IsStatusOf input status
+status_of_due _ e (a_text d) = record { not_utf8 = λ cause. absurd (cause d.denotes.utf8); bad_json = λ n bad. absurd (bad.denotes_none d.value d.denotes); done = λ value denotes. e }
+status_of_due _ e (no_utf8 cause) = record { not_utf8 = λ _. e; bad_json = λ at bad. absurd (cause bad.utf8); done = λ value d. absurd (cause d.utf8) }
+status_of_due _ e (no_json bad) = record { not_utf8 = λ cause. absurd (cause bad.utf8); bad_json = λ n _. e; done = λ value d. absurd (bad.denotes_none value d) }
 
-due_of_reading : (input : List ℕ) (asked : Form) (why : ReadError) {K : Type 0} (old new : K) → IsNotRead input why old new → IsStatusDue (status_of (Err (Read why))) input asked
-due_of_reading input asked reading.NotUtf8 old new n = inl (record { not_utf8 = λ no. refl; bad_json = λ at bad. absurd (n.cause bad.utf8); done = λ value d. absurd (n.cause d.utf8) })
-due_of_reading input asked (reading.BadJson at) old new n =
-    inl (record { not_utf8 = λ no. absurd (no n.cause.utf8); bad_json = λ m bad. refl; done = λ value d. absurd (n.cause.denotes_none value d) })
-due_of_reading input asked reading.NoMemory old new n = inr refl
-
-due_unread : {I K : Type 0} (k : Case I K) (asked : Form) (why : InputError) → Unread k why → (Rose (k.source k.before).faults (k.source k.after).faults → ⊥)
-    → OnInput k (Some asked) (OnShort (IsStatusDue (status_of (Err (Input why)))))
-due_unread k asked input.ReadFault u quiet = absurd (quiet (u.stops.fault refl))
-due_unread k asked input.TooLong u quiet = on_input asked (k.source k.before).left (OnShort (IsStatusDue TOO_LONG)) (λ input told short.
-    let long : TakesOneMore input (k.source k.after).left = subst (λ left. IfSome left (λ all. TakesOneMore all (k.source k.after).left)) told (u.stops.long refl) in absurd (omega (arith, short, long.long)))
-due_unread k asked input.NoMemory u quiet = on_input asked (k.source k.before).left (OnShort (IsStatusDue NO_MEMORY)) (λ input told short. inr refl)
-
-due_stopped : {I K : Type 0} (k : Case I K) (asked : Form) (why : SinkError) → Served k asked (Err (Write why)) → (Rose (k.sink k.old).faults (k.sink k.new).faults → ⊥)
-    → OnInput k (Some asked) (OnShort (IsStatusDue (status_of (Err (Write why)))))
-due_stopped k asked sink.Failed s quiet = absurd (quiet s.serves.stops.cause)
-due_stopped k asked sink.NoMemory s quiet = on_input asked (k.source k.before).left (OnShort (IsStatusDue NO_MEMORY)) (λ input told short. inr refl)
-
-pub comes : {I K : Type 0} (k : Case I K) (form : Option Form) (r : Result (Unit {0}) Failure) → Ran k form r → (Rose (k.source k.before).faults (k.source k.after).faults → ⊥)
-    → (Rose (k.sink k.old).faults (k.sink k.new).faults → ⊥) → OnInput k form (OnShort (IsStatusDue (status_of r)))
-comes k form r ran quiet_read quiet_write = by_end k (λ form r. OnInput k form (OnShort (IsStatusDue (status_of r))))
-    (λ input out. tt)
-    (λ asked s. on_served k asked (OnShort (IsStatusDue (status_of (Ok tt)))) s (λ short. inl (due_of_value s.input asked s.serves.text s.serves.due)))
-    (λ asked why u. due_unread k asked why u quiet_read)
-    (λ asked why s. on_served k asked (OnShort (IsStatusDue (status_of (Err (Read why))))) s (λ short. due_of_reading s.input asked why k.old k.new s.serves))
-    (λ asked why s. due_stopped k asked why s quiet_write)
-    form r ran
+pub status_due : {input : List ℕ} {asked : Form} {status : ℕ} → runs.IsStatusDue read_terms status input asked → IsStatusDue status input asked
+status_due (inl s) = inl (status_of_due s.found s.is s.due)
+status_due (inr e) = inr e
 
 -- ---- what is left of the sink
 
@@ -175,38 +80,58 @@ may_stay : {K : Type 0} (told : K → Told) (old new : K) (input : List ℕ) (as
 may_stay told old new input asked same = subst (λ out. MayLeave (told old) (told out) input asked) (sym same) (record { begins = λ text due. front_of_nothing (told old) text; nothing = λ none. refl })
 
 -- a first part of the text that is due, which is the only one
-may_begin : {old new : Told} (input : List ℕ) (asked : Form) (text : List ℕ) → IsDue text input asked → AppendsFront old text new → MayLeave old new input asked
-may_begin {old} {new} input asked text due front = record {
+may_begin : {old new : Told} {input : List ℕ} {asked : Form} {text : List ℕ} (found : Option Fault) → may_write read_terms found ≡ true → Due asked input found text → AppendsFront old text new → MayLeave old new input asked
+may_begin {old} {new} {input} {asked} {text} _ may (a_text due) front = record {
   begins = λ other d. subst (λ bytes. AppendsFront old bytes new) (one_due input asked text other due d) front;
   nothing = λ none. absurd (none due.value due.denotes);
 }
+may_begin _ may (no_utf8 cause) front = absurd (cc may)
+may_begin _ may (no_json bad) front = absurd (cc may)
 
-pub leaves : {I K : Type 0} (k : Case I K) (form : Option Form) (r : Result (Unit {0}) Failure) → Ran k form r → OnInput k form (OnShort (MayLeave (k.sink k.old) (k.sink k.new)))
-leaves k = by_end k (λ form r. OnInput k form (OnShort (MayLeave (k.sink k.old) (k.sink k.new))))
-    (λ input out. tt)
-    (λ asked s. on_served k asked (OnShort (MayLeave (k.sink k.old) (k.sink k.new))) s (λ short. may_begin s.input asked s.serves.text s.serves.due (all_is_front s.serves.text s.serves.writes.appends)))
-    (λ asked why u. on_input asked (k.source k.before).left (OnShort (MayLeave (k.sink k.old) (k.sink k.new))) (λ input told short. may_stay k.sink k.old k.new input asked u.out))
-    (λ asked why s. on_served k asked (OnShort (MayLeave (k.sink k.old) (k.sink k.new))) s (λ short. may_stay k.sink k.old k.new s.input asked s.serves.out))
-    (λ asked why s. on_served k asked (OnShort (MayLeave (k.sink k.old) (k.sink k.new))) s (λ short. may_begin s.input asked s.serves.text s.serves.due s.serves.stops.begins))
+pub may_leave : {K : Type 0} (told : K → Told) (old new : K) (input : List ℕ) (asked : Form) → runs.MayLeave read_terms told old new input asked → MayLeave (told old) (told new) input asked
+may_leave told old new input asked (inl same) = may_stay told old new input asked same
+may_leave told old new input asked (inr f) = may_begin f.found f.may f.due f.front
 
-grows_same : {I K : Type 0} (k : Case I K) → k.new ≡ k.old → Grows (k.sink k.old) (k.sink k.new)
-grows_same k same = subst (λ out. Grows (k.sink k.old) (k.sink out)) (sym same) (grows_by_nothing (k.sink k.old))
+-- ---- the line that is told
 
-pub grows : {I K : Type 0} (k : Case I K) (form : Option Form) (r : Result (Unit {0}) Failure) → Ran k form r → Grows (k.sink k.old) (k.sink k.new)
-grows k = by_end k (λ form r. Grows (k.sink k.old) (k.sink k.new))
-    (λ input out. grows_same k out)
-    (λ asked s. (s.serves.text, s.serves.writes.appends))
-    (λ asked why u. grows_same k u.out)
-    (λ asked why s. grows_same k s.serves.out)
-    (λ asked why s. grows_by_front s.serves.stops.begins)
+named : Result (Unit {0}) Failure → ℕ
+named (Err (failure.Fault (fault.BadJson at))) = at
+named _ = 0
 
--- ---- what is left of the source
+-- the line of a status that the program has is the status's
+told_line : (ended : Result (Unit {0}) Failure) → runs.is_status read_terms (status_of ended) ≡ true → line_of read_terms.usage ended ≡ report (status_of ended) (named ended)
+unfolding named
+told_line (Ok done) known = refl
+told_line (Err failure.Usage) known = refl
+told_line (Err (failure.Input input.ReadFault)) known = refl
+told_line (Err (failure.Input input.TooLong)) known = refl
+told_line (Err (failure.Input input.NoMemory)) known = refl
+told_line (Err (failure.Fault (fault.BadLine number))) known = absurd (cc known)
+told_line (Err (failure.Fault (fault.BadCall number))) known = absurd (cc known)
+told_line (Err (failure.Fault (fault.Unfinished many))) known = absurd (cc known)
+told_line (Err (failure.Fault fault.InvalidKey)) known = absurd (cc known)
+told_line (Err (failure.Fault fault.InvalidNumber)) known = absurd (cc known)
+told_line (Err (failure.Fault fault.NotUtf8)) known = refl
+told_line (Err (failure.Fault (fault.BadJson at))) known = refl
+told_line (Err (failure.Fault fault.Raw)) known = absurd (cc known)
+told_line (Err (failure.Fault fault.NotInteger)) known = absurd (cc known)
+told_line (Err (failure.Fault fault.BadCbor)) known = absurd (cc known)
+told_line (Err failure.NoMemory) known = refl
+told_line (Err (failure.Write sink.Failed)) known = refl
+told_line (Err (failure.Write sink.NoMemory)) known = refl
 
--- no more than the limit was taken, unless the input is too long
-pub stays_short : {I K : Type 0} (k : Case I K) (form : Option Form) (r : Result (Unit {0}) Failure) → Ran k form r → (status_of r ≡ TOO_LONG → ⊥) → StaysShort (k.source k.before) (k.source k.after)
-stays_short k = by_end k (λ form r. (status_of r ≡ TOO_LONG → ⊥) → StaysShort (k.source k.before) (k.source k.after))
-    (λ input out no. subst (λ after. StaysShort (k.source k.before) (k.source after)) (sym input) (read_nothing (k.source k.before).left))
-    (λ asked s no. read_all s.reads)
-    (λ asked why u no. u.stops.short (λ e. no (ap (λ w. status_of (Err (Input w))) e)))
-    (λ asked why s no. read_all s.reads)
-    (λ asked why s no. read_all s.reads)
+fails_at : {input text : List ℕ} {asked : Form} (why : Fault) → status_of_fault why ≡ BAD_JSON → Due asked input (Some why) text → FailsAtByte (named (Err (failure.Fault why))) input asked
+unfolding named
+fails_at _ e (no_utf8 cause) = absurd (omega (arith, e))
+fails_at _ e (no_json bad) = bad
+
+pub reports : {words : List (List ℕ)} {input : Supply} {status : ℕ} {old new : Told} → runs.Reports read_terms words input status old new → runs.is_status read_terms status ≡ true → Reports words input status old new
+reports {words} {input} {status} {old} {new} r known = record {
+  at = named r.ended;
+  bad_json = λ e.
+      let (why, is) = the_fault r.ended (ap is_fault (sym r.is ∙ e)) in
+      let of_why : status_of_fault why ≡ BAD_JSON = ap status_of (sym is) ∙ sym r.is ∙ e in
+      subst (λ ended. OnNamed words input (FailsAtByte (named ended))) (sym is)
+      (on_both (form_named words) input.left (runs.HasFault read_terms why) (FailsAtByte (named (Err (failure.Fault why)))) (λ bytes asked f. fails_at why of_why f.1) (r.found why is));
+  tells = subst (λ line. TellsLine old line new) (told_line r.ended (subst (λ status. runs.is_status read_terms status ≡ true) r.is known) ∙ ap (λ status. report status (named r.ended)) (sym r.is)) r.tells;
+}

@@ -20,4 +20,3 @@ pub mod Forms
 pub mod Statuses
 pub mod Serves
 pub mod Reports
-pub mod Ends

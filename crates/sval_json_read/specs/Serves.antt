@@ -1,24 +1,27 @@
--- What serving an input says of it, and what it makes of the sink.
-use Rattle.std.specs.Prelude.{◌≡◌, ℕ, List, Option, Some, None, Result, Ok, Err, IsUtf8}
+-- What is due of an input, and what writing it makes of the sink.
+use Rattle.std.specs.Prelude.{◌≡◌, ℕ, List, [], ◌∷◌, Option, Some, None, Result, Ok, IsUtf8, codes}
 use Rattle.sval_core.specs.Trees.{calls_of}
 use Rattle.sval_json.specs.Grammar.{JsonValue, Denotes}
 use Rattle.sval_json.specs.Json.{Json, compact}
 use Rattle.sval_json.specs.Laws.{IsTheValueOf}
 use Rattle.sval_json.specs.Shape.{json_of}
-use Rattle.sval_json.specs.Sinks.{Told, HoldsNothing, Appends, AppendsFront, WritesWhole}
+use Rattle.sval_json.specs.Sinks.{Told, Appends, AppendsFront}
 use Rattle.sval_json.specs.declared.sink.SinkError.{SinkError}
 use Rattle.sval_script.specs.Canon.{canon}
 use Rattle.sval_script.specs.Lines.{Good, lines}
-use Rattle.sval_program.specs.Inputs.{ReadsWhole, IsUnread}
-use Rattle.sval_program.specs.Outputs.{StopsWithin, WritesText}
-use Rattle.sval_program.specs.Sources.{Supply}
+use Rattle.sval_program.specs.declared.failure.Fault.{Fault}
+use Rattle.sval_program.specs.declared.failure.Fault.TheVariants as fault
+use Rattle.sval_program.specs.declared.failure.Failure.{Failure}
+use Rattle.sval_program.specs.declared.failure.Failure.TheVariants as failure
+use Rattle.sval_program.specs.declared.status.TheConstants.{NOT_UTF8, BAD_JSON}
+use Rattle.sval_program.specs.Jobs.{Terms}
+use Rattle.sval_program.specs.Outputs.{WritesText}
 use Rattle.sval_json_read.specs.declared.document.ReadError.{ReadError}
-use Rattle.sval_json_read.specs.declared.failure.Failure.{Failure}
-use Rattle.sval_json_read.specs.declared.failure.Failure.TheVariants as failure
+use Rattle.sval_json_read.specs.declared.document.ReadError.TheVariants as reading
 use Rattle.sval_json_read.specs.declared.form.Form.{Form}
 use Rattle.sval_json_read.specs.declared.form.Form.TheVariants as form
 use Rattle.sval_json_read.specs.Documents.{IsBadJson}
-use Rattle.sval_json_read.specs.ReadErrors.{IsReadError}
+use Rattle.sval_json_read.specs.Forms.{form_named}
 use Rattle.sval_json_read.specs.Trees.{tree_of, settled}
 
 -- ---- what is due of a value
@@ -45,6 +48,30 @@ pub record IsDue (text input : List ℕ) (asked : Form) : Type 0 where
   pub denotes : Denotes input value
   pub is : IsTextOf asked value text
 
+-- what is due of an input: the text of its value, or the fault that it has, before which nothing is written
+pub data Due : Form → List ℕ → Option Fault → List ℕ → Type 0 where
+  a_text : {asked : Form} {input text : List ℕ} → IsDue text input asked → Due asked input None text
+  no_utf8 : {asked : Form} {input : List ℕ} → (IsUtf8 input → ⊥) → Due asked input (Some fault.NotUtf8) []
+  no_json : {asked : Form} {input : List ℕ} {at : ℕ} → IsBadJson input at → Due asked input (Some (fault.BadJson at)) []
+
+-- the failure where bytes weren't read
+abbrev pub failure_of : ReadError → Failure
+failure_of reading.NotUtf8 = failure.Fault fault.NotUtf8
+failure_of (reading.BadJson at) = failure.Fault (fault.BadJson at)
+failure_of reading.NoMemory = failure.NoMemory
+
+-- what the program does
+abbrev pub read_terms : Terms Form
+read_terms = record { form_named = form_named; Due = Due; faults = NOT_UTF8 ∷ BAD_JSON ∷ []; written = []; usage = codes "usage: sval_json_read json|calls\n" }
+
+-- ---- writing what is due of a value
+
+-- the text that is due was written, or a first part of it
+pub record WritesDueText {K : Type 0} (told : K → Told) (input : List ℕ) (asked : Form) (result : Result (Unit {0}) SinkError) (old new : K) : Type 0 where
+  pub text : List ℕ
+  pub due : IsDue text input asked
+  pub writes : WritesText result told text old new
+
 -- ---- what is left of a sink
 
 -- exactly the text that is due was taken
@@ -57,62 +84,6 @@ pub record WritesDue (old new : Told) (input : List ℕ) (asked : Form) : Type 0
 pub record MayLeave (old new : Told) (input : List ℕ) (asked : Form) : Type 0 where
   pub begins : (text : List ℕ) → IsDue text input asked → AppendsFront old text new
   pub nothing : ((value : JsonValue) → Denotes input value → ⊥) → new ≡ old
-
--- ---- serving bytes
-
--- the text that is due was written, or a first part of it
-pub record WritesDueText {K : Type 0} (told : K → Told) (input : List ℕ) (asked : Form) (result : Result (Unit {0}) SinkError) (old new : K) : Type 0 where
-  pub text : List ℕ
-  pub due : IsDue text input asked
-  pub writes : WritesText result told text old new
-
--- the text that is due was written, and nothing of it is held back
-pub record PassesOnDue (input : List ℕ) (asked : Form) (old new : Told) : Type 0 where
-  pub text : List ℕ
-  pub due : IsDue text input asked
-  pub writes : WritesWhole old text new
-  pub flushed : HoldsNothing new
-
--- a first part of the text that is due was taken
-pub record StopsWithinDue {K : Type 0} (told : K → Told) (input : List ℕ) (asked : Form) (why : SinkError) (old new : K) : Type 0 where
-  pub text : List ℕ
-  pub due : IsDue text input asked
-  pub stops : StopsWithin why told text old new
-
--- the bytes weren't read, and the sink is as it was
-pub record IsNotRead {K : Type 0} (input : List ℕ) (why : ReadError) (old new : K) : Type 0 where
-  pub cause : IsReadError input why
-  pub out : new ≡ old
-
--- by how it ended
-abbrev pub ServesBytes : {K : Type 0} → (K → Told) → List ℕ → Form → Result (Unit {0}) Failure → K → K → Type 0
-ServesBytes told input asked (Ok done) old new = PassesOnDue input asked (told old) (told new)
-ServesBytes told input asked (Err failure.Usage) old new = ⊥
-ServesBytes told input asked (Err (failure.Input why)) old new = ⊥
-ServesBytes told input asked (Err (failure.Read why)) old new = IsNotRead input why old new
-ServesBytes told input asked (Err (failure.Write why)) old new = StopsWithinDue told input asked why old new
-
--- ---- serving a source
-
--- the input was read whole, and its bytes were served
-pub record IsServed {I K : Type 0} (source : I → Supply) (told : K → Told) (asked : Form) (result : Result (Unit {0}) Failure) (before after : I) (old new : K) : Type 0 where
-  pub input : List ℕ
-  pub reads : ReadsWhole (source before) input (source after)
-  pub serves : ServesBytes told input asked result old new
-
--- both devices are as they were
-pub record IsNoForm {I K : Type 0} (result : Result (Unit {0}) Failure) (before after : I) (old new : K) : Type 0 where
-  pub usage : result ≡ Err failure.Usage
-  pub input : after ≡ before
-  pub out : new ≡ old
-
-abbrev pub ServesInput : {I K : Type 0} → (I → Supply) → (K → Told) → Form → Result (Unit {0}) Failure → I → I → K → K → Type 0
-ServesInput source told asked (Err (failure.Input why)) before after old new = IsUnread source why before after old new
-ServesInput source told asked result before after old new = IsServed source told asked result before after old new
-
-abbrev pub Serves : {I K : Type 0} → (I → Supply) → (K → Told) → Option Form → Result (Unit {0}) Failure → I → I → K → K → Type 0
-Serves source told None result before after old new = IsNoForm result before after old new
-Serves source told (Some asked) result before after old new = ServesInput source told asked result before after old new
 
 -- ---- what a status says of the input
 

@@ -12,7 +12,6 @@
 
 mod document;
 mod escape;
-mod failure;
 mod form;
 pub mod laws;
 mod node;

@@ -1,24 +1,24 @@
 //! The whole program, over any words and devices.
 
-ghost use Rattle.std.specs.Prelude.{◌≡◌, ◌⊎◌, ◌<◌, ◌≤◌, ◌^◌, ◌↔◌, ℕ, List, true, None, length, map, string_bytes};
-ghost use Rattle.sval_core.specs.Law.{Rose};
-ghost use Rattle.sval_json.specs.Sinks.{HoldsNothing, IsSteady, NoCountFell};
-ghost use Rattle.sval_program.specs.Inputs.{OnShort, OnLong, IsSpent, IsTooLong, StaysShort};
-ghost use Rattle.sval_program.specs.Outputs.{Grows, IsOwnWant};
-ghost use Rattle.sval_json_read.specs.Forms.{form_of, OnAsked};
+ghost use Rattle.std.specs.Prelude.{◌≡◌, ◌<◌, ◌^◌, ℕ, List, length, map, string_bytes};
+ghost use Rattle.sval_program.specs.Inputs.{OnShort};
+ghost use Rattle.sval_program.specs.Jobs.{ServesBytes, ServesInput, Serves};
+ghost use Rattle.sval_program.specs.Runs.{AreQuiet, Ends};
+ghost use Rattle.sval_json_read.specs.Forms.{OnAsked};
 ghost use Rattle.sval_json_read.specs.ReadErrors.{IsRead};
 ghost use Rattle.sval_json_read.specs.Reports.{Reports};
-ghost use Rattle.sval_json_read.specs.Serves.{WritesDue, MayLeave, WritesDueText, ServesBytes, ServesInput, Serves, IsNoUtf8, HasBadJson};
-ghost use Rattle.sval_json_read.specs.Statuses.{is_status, is_unwritten, is_read, IsStatusDue};
+ghost use Rattle.sval_json_read.specs.Serves.{read_terms, WritesDue, MayLeave, WritesDueText, IsNoUtf8, HasBadJson};
+ghost use Rattle.sval_json_read.specs.Statuses.{IsStatusDue};
 
 use crate::document::JsonDoc;
-use crate::failure::{Failure, conclude};
 use crate::form::{Form, named_form};
+use crate::program::ReadJson;
 use crate::status::{BAD_JSON, NOT_UTF8};
 use std::alloc::Global;
 use sval_json::{ErrorKind, Sink, SinkError, stream_to_io_write};
-use sval_program::status::{DONE, NO_MEMORY, READ, TOO_LONG, USAGE, WRITE};
-use sval_program::{Source, print_captured, read_input};
+use sval_program::job::run;
+use sval_program::status::DONE;
+use sval_program::{Failure, Source, print_captured, read_input};
 
 /// Writes the JSON of a document.
 fn write_json<K: Sink>(doc: &JsonDoc<'_>, out: &mut K) -> Result<(), SinkError>
@@ -64,30 +64,13 @@ fn write_document<K: Sink>(
     }
 }
 
-/// Writes what is asked for of a document, and passes it on.
-fn pass_on<K: Sink>(
-    alloc: Global,
-    form: Form,
-    doc: &JsonDoc<'_>,
-    out: &mut K,
-) -> Result<(), Failure>
-    requires { (input : List ℕ) × IsRead input doc.now × (length input < 2 ^ 64) }
-    ensures { (input : List ℕ) → IsRead input doc.now → length input < 2 ^ 64
-        → ServesBytes K.told input form result out.old out.new }
-{
-    write_document(alloc, form, doc, out)?;
-    Ok(out.flush()?)
-}
-
 /// Reads bytes, and writes what is asked for of the value that they denote.
 fn serve_bytes<K: Sink>(alloc: Global, form: Form, bytes: &[u8], out: &mut K) -> Result<(), Failure>
     requires { length bytes.now < 2 ^ 64 }
-    ensures { ServesBytes K.told bytes.now form result out.old out.new }
+    ensures { ServesBytes read_terms K.told form bytes.now result out.old out.new }
 {
-    match JsonDoc::read(alloc, bytes) {
-        Ok(doc) => pass_on(alloc, form, &doc, out),
-        Err(error) => Err(Failure::Read(error)),
-    }
+    let doc = JsonDoc::read(alloc, bytes)?;
+    Ok(write_document(alloc, form, &doc, out)?)
 }
 
 /// Reads the input whole, and serves its bytes.
@@ -97,22 +80,23 @@ fn serve_input<I: Source, K: Sink>(
     input: &mut I,
     out: &mut K,
 ) -> Result<(), Failure>
-    ensures { ServesInput I.told K.told form result input.old input.new out.old out.new }
+    ensures { ServesInput read_terms I.told K.told form result input.old input.new out.old out.new }
 {
     let bytes = read_input(alloc, input)?;
     serve_bytes(alloc, form, bytes.as_slice(), out)
 }
 
-/// Serves a form.
-fn serve<I: Source, K: Sink>(
+/// Serves the form that the words are, if they are one.
+pub(crate) fn serve<I: Source, K: Sink>(
     alloc: Global,
-    form: Option<Form>,
+    words: &[String],
     input: &mut I,
     out: &mut K,
 ) -> Result<(), Failure>
-    ensures { Serves I.told K.told form result input.old input.new out.old out.new }
+    ensures { Serves read_terms I.told K.told (map string_bytes words.now) result
+        input.old input.new out.old out.new }
 {
-    match form {
+    match named_form(words) {
         None => Err(Failure::Usage),
         Some(form) => serve_input(alloc, form, input, out),
     }
@@ -157,52 +141,26 @@ pub fn run_read<I: Source, K: Sink, D: Sink>(
     out: &mut K,
     diag: &mut D,
 ) -> u8
-    ensures known { is_status result ≡ true }
+    ensures ends { Ends read_terms I.told K.told (map string_bytes words.now) input.old input.new
+        out.old out.new (D.told diag.old) (D.told diag.new) result }
 
     // Each status comes only where it is so.
-    ensures usage { (result ≡ USAGE) ↔ (form_of words.now ≡ None) }
     ensures done { result ≡ DONE
         → OnAsked words.now (I.told input.old) (WritesDue (K.told out.old) (K.told out.new)) }
-    ensures flushed { result ≡ DONE → HoldsNothing (K.told out.new) }
     ensures not_utf8 { result ≡ NOT_UTF8 → OnAsked words.now (I.told input.old) IsNoUtf8 }
     ensures bad_json { result ≡ BAD_JSON → OnAsked words.now (I.told input.old) HasBadJson }
-    ensures write { result ≡ WRITE → Rose (K.told out.old).faults (K.told out.new).faults }
-    ensures read { result ≡ READ → Rose (I.told input.old).faults (I.told input.new).faults }
-    ensures own_want { result ≡ NO_MEMORY → IsOwnWant K.told out.old out.new }
-    ensures long { result ≡ TOO_LONG → IsTooLong (I.told input.old) (I.told input.new) }
-
-    // A fault of the source that was counted means READ.
-    ensures read_comes { (I.told input.old).faults < (I.told input.new).faults → result ≡ READ }
 
     // Where the devices don't fail, the status is the one that is due, or memory was wanting.
-    ensures comes { ¬ Rose (I.told input.old).faults (I.told input.new).faults
-        → ¬ Rose (K.told out.old).faults (K.told out.new).faults
+    ensures comes { AreQuiet I.told K.told input.old input.new out.old out.new
         → OnAsked words.now (I.told input.old) (OnShort (IsStatusDue result)) }
-    ensures long_comes { ¬ Rose (I.told input.old).faults (I.told input.new).faults
-        → OnAsked words.now (I.told input.old) (OnLong ((result ≡ TOO_LONG) ⊎ (result ≡ NO_MEMORY))) }
 
     // What is left of the sink.
-    ensures untouched { is_unwritten result ≡ true → out.new ≡ out.old }
     ensures leaves { OnAsked words.now (I.told input.old)
         (OnShort (MayLeave (K.told out.old) (K.told out.new))) }
-    ensures leaves_long { OnAsked words.now (I.told input.old) (OnLong (out.new ≡ out.old)) }
-    ensures grows { Grows (K.told out.old) (K.told out.new) }
-
-    // What is left of the source.
-    ensures nothing_read { result ≡ USAGE → input.new ≡ input.old }
-    ensures spent { is_read result ≡ true → OnAsked words.now (I.told input.old) (IsSpent (I.told input.new)) }
-    ensures short { ¬ (result ≡ TOO_LONG) → StaysShort (I.told input.old) (I.told input.new) }
-
-    // The counts.
-    ensures steady { is_read result ≡ true → ((I.told input.new).faults ≡ (I.told input.old).faults)
-        × IsSteady (K.told out.old) (K.told out.new) }
-    ensures counts { ((I.told input.old).faults ≤ (I.told input.new).faults)
-        × NoCountFell (K.told out.old) (K.told out.new) }
 
     // What the third device is told.
     ensures reports { Reports (map string_bytes words.now) (I.told input.old) result
         (D.told diag.old) (D.told diag.new) }
 {
-    let served = serve(alloc, named_form(words), input, out);
-    conclude(served, diag)
+    run::<ReadJson, I, K, D>(alloc, words, input, out, diag)
 }

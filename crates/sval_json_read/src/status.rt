@@ -1,7 +1,3 @@
-//! The statuses that the program has beside those of [`sval_program::status`].
+//! The statuses that the program has beside those of every program.
 
-/// The input is not UTF-8.
-pub const NOT_UTF8: u8 = 12;
-
-/// The input denotes no value.
-pub const BAD_JSON: u8 = 13;
+pub use sval_program::status::{BAD_JSON, NOT_UTF8};
