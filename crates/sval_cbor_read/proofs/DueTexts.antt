@@ -1,31 +1,35 @@
 -- The text that is due of an item, and what writing it leaves of a sink.
-use Rattle.std.specs.Prelude.{◌≡◌, ℕ, List, Ok, Err, refl}
+use Rattle.std.specs.Prelude.{◌≡◌, ℕ, true, List, Option, Some, None, Result, Ok, Err, refl}
 use Rattle.std.proofs.Common.{sym, ap, subst, ◌∙◌, inr}
 use Rattle.sval_label.specs.Calls.{Call}
 use Rattle.sval_core.specs.Law.{Rose}
 use Rattle.sval_core.specs.Real.{IsPrintable}
 use Rattle.sval_core.specs.Trees.{Tree}
-use Rattle.sval_json.specs.declared.sink.SinkError.{SinkError}
 use Rattle.sval_json.specs.declared.sink.SinkError.TheVariants.{Failed, NoMemory}
 use Rattle.sval_json.specs.declared.style.Variants.TheVariants.{Inside}
 use Rattle.sval_json.specs.Json.{Json, compact}
 use Rattle.sval_json.specs.Laws.{IsWrittenAs}
-use Rattle.sval_json.specs.Number.{InvalidKey, InvalidNumber}
+use Rattle.sval_json.specs.Number.{Refusal, InvalidKey, InvalidNumber}
 use Rattle.sval_json.specs.Shape.{json_of}
 use Rattle.sval_json.specs.Sinks.{Told, IsSteady, NoCountFell, Appends, AppendsFront}
+use Rattle.sval_json.specs.declared.sink.SinkError.{SinkError}
 use Rattle.sval_json.specs.Steps.{written_in}
 use Rattle.sval_json.specs.Written.{IsWrittenIn, IsBegunIn, IsRefusedIn, WritesSpelledValue}
 use Rattle.sval_json.proofs.WritingPlain.{spelling_written}
 use Rattle.sval_script.specs.Canon.{canon}
 use Rattle.sval_script.proofs.CanonicalScripts.{canon-reads_back}
+use Rattle.sval_json.proofs.Meaning.{text_means}
+use Rattle.sval_program.specs.declared.failure.Fault.{Fault}
+use Rattle.sval_program.specs.declared.failure.Fault.TheVariants as fault
+use Rattle.sval_program.specs.declared.failure.Failure.TheVariants as failure
+use Rattle.sval_program.specs.Jobs.{may_write, ServesBytes}
 use Rattle.sval_program.specs.Outputs.{WritesText}
-use Rattle.sval_cbor_read.specs.declared.failure.WriteError.TheVariants as writing
 use Rattle.sval_cbor_read.specs.declared.form.Form.{Form}
 use Rattle.sval_cbor_read.specs.declared.form.Form.TheVariants as form
 use Rattle.sval_cbor_read.specs.Document.{document_calls}
 use Rattle.sval_cbor_read.specs.Items.{IsItemOf}
 use Rattle.sval_cbor_read.specs.ReadErrors.{IsRead}
-use Rattle.sval_cbor_read.specs.Serves.{IsInMemory, IsDue, IsWrittenUpToKey, most_of, WritesDocument}
+use Rattle.sval_cbor_read.specs.Serves.{IsInMemory, IsDue, IsMeant, IsWrittenUpToKey, Due, a_text, up_to_key, read_terms, most_of}
 use Rattle.sval_cbor_read.proofs.Complete.{item_is_read}
 use Rattle.sval_cbor_read.proofs.ItemTrees.{item_printable, item_promises}
 use Rattle.sval_cbor_read.proofs.OneReading.{one_document}
@@ -59,6 +63,41 @@ pub up_to_key_is_most : {input written : List ℕ} (asked : Form) {tree : Tree} 
 up_to_key_is_most form.Json i w = w.is_written ∙ one_most form.Json w.item i
 up_to_key_is_most form.Calls i w = let never = w.json in cc never
 
+-- ---- what is due of an item
+
+-- what is written of an item, as the text that is due or as what is written up to a key
+pub record DueOf (asked : Form) (input bytes : List ℕ) : Type 0 where
+  pub found : Option Fault
+  pub due : Due asked input found bytes
+  pub may : may_write read_terms found ≡ true
+
+module _ {input : List ℕ} {tree : Tree} (m : IsInMemory input) (item : IsItemOf input tree) where
+  means_json : (json : Json) → json_of tree ≡ Ok json → IsMeant form.Json tree (most_of form.Json item)
+  means_json json shape =
+      let meant = text_means Inside tree json (item_is_real input tree m.bytes item) (item_promises m item) shape in
+      record { json = json; shape = shape; is_text = json_written item json shape; value = meant.0; is = meant.1 }
+
+  pub json_due : (json : Json) → json_of tree ≡ Ok json → Due form.Json input None (most_of form.Json item)
+  json_due json shape = a_text (record { tree = tree; item = item; is = record { json = json; shape = shape; is_text = json_written item json shape } }) (means_json json shape)
+
+  pub script_due : Due form.Calls input None (most_of form.Calls item)
+  script_due = a_text (record { tree = tree; item = item; is = refl }) (canon-reads_back tree (item_printable m item))
+
+  pub key_due : json_of tree ≡ Err InvalidKey → Due form.Json input (Some fault.InvalidKey) (most_of form.Json item)
+  key_due refused = up_to_key (record { json = refl; tree = tree; item = item; refused = refused; is_written = refl })
+
+  pub due_of : (asked : Form) → DueOf asked input (most_of asked item)
+  due_of form.Calls = record { found = None; due = script_due; may = refl }
+  due_of form.Json = by_shape (json_of tree) refl
+    where
+      by_refusal : (why : Refusal) → json_of tree ≡ Err why → DueOf form.Json input (most_of form.Json item)
+      by_refusal InvalidKey refused = record { found = Some fault.InvalidKey; due = key_due refused; may = refl }
+      by_refusal InvalidNumber refused = let never = refused_by_key input tree InvalidNumber item refused in absurd (cc never)
+
+      by_shape : (shape : Result Json Refusal) → json_of tree ≡ shape → DueOf form.Json input (most_of form.Json item)
+      by_shape (Ok json) shape = record { found = None; due = json_due json shape; may = refl }
+      by_shape (Err why) refused = by_refusal why refused
+
 -- ---- a document in JSON
 
 module _ (input : List ℕ) (calls : List Call) (r : IsRead input calls) where
@@ -70,37 +109,40 @@ module _ (input : List ℕ) (calls : List Call) (r : IsRead input calls) where
 
   module _ {K : Type 0} (told : K → Told) (old new : K) where
     pub writes_json : IsInMemory input → IsWrittenIn Inside calls (told old) (told new) → WritesSpelledValue Inside calls (told old) (told new) → IsSteady (told old) (told new)
-        → WritesDocument told input form.Json (Ok tt) old new
+        → ServesBytes read_terms told form.Json input (Ok tt) old new
     writes_json m w spelled steady =
         let value = spelled r.tree r.spells (item_is_real input r.tree m.bytes r.item) (item_promises m r.item) in
-        let is_text = json_written r.item value.json value.shape in
         record {
-          tree = r.tree;
-          item = r.item;
-          is = record { json = value.json; shape = value.shape; is_text = is_text };
-          meant = record { json = value.json; shape = value.shape; is_text = is_text; value = value.value; is = value.is };
+          bytes = most_of form.Json r.item;
+          due = json_due m r.item value.json value.shape;
           writes = record { appends = subst (λ bytes. Appends (told old) bytes (told new)) is_most w.appends; steady = steady };
         }
 
-    pub stops_at_key : IsRefusedIn Inside InvalidKey calls (told old) (told new) → json_of r.tree ≡ Err InvalidKey → WritesDocument told input form.Json (Err writing.InvalidKey) old new
-    stops_at_key w refused = record {
-      json = refl;
-      tree = r.tree;
-      item = r.item;
-      refused = refused;
-      writes = record { appends = subst (λ bytes. Appends (told old) bytes (told new)) is_most w.appends; steady = w.steady };
+    pub stops_at_key : IsInMemory input → IsRefusedIn Inside InvalidKey calls (told old) (told new) → json_of r.tree ≡ Err InvalidKey → ServesBytes read_terms told form.Json input (Err (failure.Fault fault.InvalidKey)) old new
+    stops_at_key m w refused = record {
+      all = record {
+        bytes = most_of form.Json r.item;
+        due = key_due m r.item refused;
+        writes = record { appends = subst (λ bytes. Appends (told old) bytes (told new)) is_most w.appends; steady = w.steady };
+      };
+      known = refl;
+      untouched = λ never. absurd (cc never);
     }
 
     begins_json : IsBegunIn Inside calls (told old) (told new) → AppendsFront (told old) (most_of form.Json r.item) (told new)
     begins_json begins = subst (λ bytes. AppendsFront (told old) bytes (told new)) is_most begins
 
-    pub json_fault : Rose (told old).faults (told new).faults → IsBegunIn Inside calls (told old) (told new) → NoCountFell (told old) (told new)
-        → WritesDocument told input form.Json (Err (writing.Sink Failed)) old new
-    json_fault rose begins counts = record { tree = r.tree; item = r.item; stops = record { cause = rose; begins = begins_json begins; counts = counts } }
+    pub json_fault : IsInMemory input → Rose (told old).faults (told new).faults → IsBegunIn Inside calls (told old) (told new) → NoCountFell (told old) (told new)
+        → ServesBytes read_terms told form.Json input (Err (failure.Write Failed)) old new
+    json_fault m rose begins counts =
+        let d = due_of m r.item form.Json in
+        record { found = d.found; bytes = most_of form.Json r.item; due = d.due; may = d.may; stops = record { cause = rose; begins = begins_json begins; counts = counts } }
 
-    pub json_want : Rose (told old).wants (told new).wants → IsBegunIn Inside calls (told old) (told new) → NoCountFell (told old) (told new)
-        → WritesDocument told input form.Json (Err (writing.Sink NoMemory)) old new
-    json_want rose begins counts = record { tree = r.tree; item = r.item; stops = record { cause = inr rose; begins = begins_json begins; counts = counts } }
+    pub json_want : IsInMemory input → Rose (told old).wants (told new).wants → IsBegunIn Inside calls (told old) (told new) → NoCountFell (told old) (told new)
+        → ServesBytes read_terms told form.Json input (Err (failure.Write NoMemory)) old new
+    json_want m rose begins counts =
+        let d = due_of m r.item form.Json in
+        record { found = d.found; bytes = most_of form.Json r.item; due = d.due; may = d.may; stops = record { cause = inr rose; begins = begins_json begins; counts = counts } }
 
   -- ---- a document as a script
 
@@ -108,8 +150,8 @@ module _ (input : List ℕ) (calls : List Call) (r : IsRead input calls) where
   printable m = item_printable m r.item
 
   module _ {K : Type 0} (told : K → Told) (old new : K) where
-    pub writes_script : IsInMemory input → WritesText (Ok tt) told (canon r.tree) old new → WritesDocument told input form.Calls (Ok tt) old new
-    writes_script m w = record { tree = r.tree; item = r.item; is = refl; meant = canon-reads_back r.tree (printable m); writes = w }
+    pub writes_script : IsInMemory input → WritesText (Ok tt) told (canon r.tree) old new → ServesBytes read_terms told form.Calls input (Ok tt) old new
+    writes_script m w = record { bytes = canon r.tree; due = script_due m r.item; writes = w }
 
-    pub script_stops : {why : SinkError} → WritesText (Err why) told (canon r.tree) old new → WritesDocument told input form.Calls (Err (writing.Sink why)) old new
-    script_stops w = record { tree = r.tree; item = r.item; stops = w.stops }
+    pub script_stops : IsInMemory input → (why : SinkError) → WritesText (Err why) told (canon r.tree) old new → ServesBytes read_terms told form.Calls input (Err (failure.Write why)) old new
+    script_stops m why w = record { found = None; bytes = canon r.tree; due = script_due m r.item; may = refl; stops = w.stops }

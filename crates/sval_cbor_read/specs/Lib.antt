@@ -17,4 +17,3 @@ pub mod Forms
 pub mod Statuses
 pub mod Reports
 pub mod Serves
-pub mod Ends

@@ -1,5 +1,5 @@
--- What serving an input says of it, and what it makes of the sink.
-use Rattle.std.specs.Prelude.{◌≡◌, ◌<◌, ◌^◌, ℕ, List, length, Option, Some, None, Result, Ok, Err}
+-- What is due of an input, and what writing it leaves of a sink.
+use Rattle.std.specs.Prelude.{◌≡◌, ◌<◌, ◌^◌, ℕ, List, [], ◌∷◌, length, Option, Some, None, Ok, Err, codes}
 use Rattle.sval_core.specs.Real.{AreBytes}
 use Rattle.sval_core.specs.Trees.{Tree, calls_of}
 use Rattle.sval_json.specs.Grammar.{JsonValue}
@@ -7,25 +7,24 @@ use Rattle.sval_json.specs.Json.{Json, compact}
 use Rattle.sval_json.specs.Laws.{IsTheValueOf}
 use Rattle.sval_json.specs.Number.{InvalidKey}
 use Rattle.sval_json.specs.Shape.{json_of}
-use Rattle.sval_json.specs.Sinks.{Told, HoldsNothing, Appends, AppendsFront, WritesWhole}
+use Rattle.sval_json.specs.Sinks.{Told, Appends, AppendsFront}
 use Rattle.sval_json.specs.Steps.{written_in}
-use Rattle.sval_json.specs.declared.sink.SinkError.{SinkError}
 use Rattle.sval_json.specs.declared.style.Variants.TheVariants.{Inside}
 use Rattle.sval_script.specs.Canon.{canon}
 use Rattle.sval_script.specs.Lines.{Good, lines}
-use Rattle.sval_program.specs.Inputs.{ReadsWhole, IsUnread}
-use Rattle.sval_program.specs.Outputs.{StopsWithin}
-use Rattle.sval_program.specs.Sources.{Supply}
+use Rattle.sval_program.specs.declared.failure.Fault.{Fault}
+use Rattle.sval_program.specs.declared.failure.Fault.TheVariants as fault
+use Rattle.sval_program.specs.declared.failure.Failure.{Failure}
+use Rattle.sval_program.specs.declared.failure.Failure.TheVariants as failure
+use Rattle.sval_program.specs.declared.status.TheConstants.{INVALID_KEY, BAD_CBOR}
+use Rattle.sval_program.specs.Jobs.{Terms}
 use Rattle.sval_cbor_read.specs.declared.document.CborReadError.{CborReadError}
-use Rattle.sval_cbor_read.specs.declared.failure.WriteError.{WriteError}
-use Rattle.sval_cbor_read.specs.declared.failure.WriteError.TheVariants as writing
-use Rattle.sval_cbor_read.specs.declared.failure.Failure.{Failure}
-use Rattle.sval_cbor_read.specs.declared.failure.Failure.TheVariants as failure
+use Rattle.sval_cbor_read.specs.declared.document.CborReadError.TheVariants as reading
 use Rattle.sval_cbor_read.specs.declared.form.Form.{Form}
 use Rattle.sval_cbor_read.specs.declared.form.Form.TheVariants as form
 use Rattle.sval_cbor_read.specs.Document.{document_calls}
+use Rattle.sval_cbor_read.specs.Forms.{form_named}
 use Rattle.sval_cbor_read.specs.Items.{IsItemOf}
-use Rattle.sval_cbor_read.specs.ReadErrors.{IsReadError}
 
 -- bytes as memory can hold them
 pub record IsInMemory (input : List ℕ) : Type 0 where
@@ -77,6 +76,27 @@ pub record IsWrittenUpToKey (written input : List ℕ) (asked : Form) : Type 0 w
 abbrev pub IsNoItem : List ℕ → Form → Type 0
 IsNoItem input asked = (tree : Tree) → IsItemOf input tree → ⊥
 
+-- what is due of an input: the text of its item, what is written up to a key, or no bytes where it is no item
+pub data Due : Form → List ℕ → Option Fault → List ℕ → Type 0 where
+  a_text : {asked : Form} {input text : List ℕ} (due : IsDue text input asked) → IsMeant asked due.tree text → Due asked input None text
+  up_to_key : {asked : Form} {input written : List ℕ} → IsWrittenUpToKey written input asked → Due asked input (Some fault.InvalidKey) written
+  no_item : {asked : Form} {input : List ℕ} → IsNoItem input asked → Due asked input (Some fault.BadCbor) []
+
+-- the failure where bytes weren't read
+abbrev pub failure_of : CborReadError → Failure
+failure_of reading.Bad = failure.Fault fault.BadCbor
+failure_of reading.NoMemory = failure.NoMemory
+
+-- what the program does
+abbrev pub read_terms : Terms Form
+read_terms = record { form_named = form_named; Due = Due; faults = INVALID_KEY ∷ BAD_CBOR ∷ []; written = INVALID_KEY ∷ []; usage = codes "usage: sval_cbor_read json|calls\n" }
+
+-- what is written of an item at most: in JSON what the steps write of the document's calls, which is the text that is due where a key
+-- isn't refused
+abbrev pub most_of : Form → {input : List ℕ} {tree : Tree} → IsItemOf input tree → List ℕ
+most_of form.Json item = (written_in Inside (document_calls item)).written
+most_of form.Calls {tree = tree} item = canon tree
+
 -- ---- what is left of a sink
 
 -- exactly the text that is due was taken, and it is what is meant
@@ -97,79 +117,3 @@ pub record MayLeave (old new : Told) (input : List ℕ) (asked : Form) : Type 0 
   pub begins : (text : List ℕ) → IsDue text input asked → AppendsFront old text new
   pub up_to_key : (written : List ℕ) → IsWrittenUpToKey written input asked → AppendsFront old written new
   pub nothing : IsNoItem input asked → new ≡ old
-
--- ---- serving bytes
-
--- what is written of an item at most: in JSON what the steps write of the document's calls, which is the text that is due where a key
--- isn't refused
-abbrev pub most_of : Form → {input : List ℕ} {tree : Tree} → IsItemOf input tree → List ℕ
-most_of form.Json item = (written_in Inside (document_calls item)).written
-most_of form.Calls {tree = tree} item = canon tree
-
--- all of it was written, and it is the text that is due
-pub record WritesAllOf (input : List ℕ) (asked : Form) (old new : Told) : Type 0 where
-  pub tree : Tree
-  pub item : IsItemOf input tree
-  pub is : IsTextOf asked tree (most_of asked item)
-  pub meant : IsMeant asked tree (most_of asked item)
-  pub writes : WritesWhole old (most_of asked item) new
-
--- all of it was written up to a key that is refused
-pub record StopsAtKey (input : List ℕ) (asked : Form) (old new : Told) : Type 0 where
-  pub json : asked ≡ form.Json
-  pub tree : Tree
-  pub item : IsItemOf input tree
-  pub refused : json_of tree ≡ Err InvalidKey
-  pub writes : WritesWhole old (most_of form.Json item) new
-
--- a first part of it was written
-pub record StopsWithinItem {K : Type 0} (told : K → Told) (input : List ℕ) (asked : Form) (why : SinkError) (old new : K) : Type 0 where
-  pub tree : Tree
-  pub item : IsItemOf input tree
-  pub stops : StopsWithin why told (most_of asked item) old new
-
--- by how writing a document ended
-abbrev pub WritesDocument : {K : Type 0} → (K → Told) → List ℕ → Form → Result (Unit {0}) WriteError → K → K → Type 0
-WritesDocument told input asked (Ok done) old new = WritesAllOf input asked (told old) (told new)
-WritesDocument told input asked (Err writing.InvalidKey) old new = StopsAtKey input asked (told old) (told new)
-WritesDocument told input asked (Err (writing.Sink why)) old new = StopsWithinItem told input asked why old new
-
--- all of it was written, and nothing of it is held back
-pub record PassesOnAllOf (input : List ℕ) (asked : Form) (old new : Told) : Type 0 where
-  pub all : WritesAllOf input asked old new
-  pub flushed : HoldsNothing new
-
--- the bytes weren't read, and the sink is as it was
-pub record IsNotRead {K : Type 0} (input : List ℕ) (why : CborReadError) (old new : K) : Type 0 where
-  pub cause : IsReadError input why
-  pub out : new ≡ old
-
--- by how it ended
-abbrev pub ServesBytes : {K : Type 0} → (K → Told) → List ℕ → Form → Result (Unit {0}) Failure → K → K → Type 0
-ServesBytes told input asked (Ok done) old new = PassesOnAllOf input asked (told old) (told new)
-ServesBytes told input asked (Err failure.Usage) old new = ⊥
-ServesBytes told input asked (Err (failure.Input why)) old new = ⊥
-ServesBytes told input asked (Err (failure.Read why)) old new = IsNotRead input why old new
-ServesBytes told input asked (Err (failure.Write why)) old new = WritesDocument told input asked (Err why) old new
-
--- ---- serving a source
-
--- the input was read whole, and its bytes were served
-pub record IsServed {I K : Type 0} (source : I → Supply) (told : K → Told) (asked : Form) (result : Result (Unit {0}) Failure) (before after : I) (old new : K) : Type 0 where
-  pub input : List ℕ
-  pub reads : ReadsWhole (source before) input (source after)
-  pub serves : ServesBytes told input asked result old new
-
--- both devices are as they were
-pub record IsNoForm {I K : Type 0} (result : Result (Unit {0}) Failure) (before after : I) (old new : K) : Type 0 where
-  pub usage : result ≡ Err failure.Usage
-  pub input : after ≡ before
-  pub out : new ≡ old
-
-abbrev pub ServesInput : {I K : Type 0} → (I → Supply) → (K → Told) → Form → Result (Unit {0}) Failure → I → I → K → K → Type 0
-ServesInput source told asked (Err (failure.Input why)) before after old new = IsUnread source why before after old new
-ServesInput source told asked result before after old new = IsServed source told asked result before after old new
-
-abbrev pub Serves : {I K : Type 0} → (I → Supply) → (K → Told) → Option Form → Result (Unit {0}) Failure → I → I → K → K → Type 0
-Serves source told None result before after old new = IsNoForm result before after old new
-Serves source told (Some asked) result before after old new = ServesInput source told asked result before after old new

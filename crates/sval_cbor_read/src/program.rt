@@ -1,47 +1,53 @@
-//! The whole program, for a process.
+//! The program, as a job.
 
-ghost use Rattle.std.specs.Prelude.{refl};
-ghost use Rattle.sval_cbor_read.specs.Ends.{ReadEnds};
-ghost use Rattle.sval_cbor_read.specs.Forms.{form_named};
-ghost use Rattle.sval_cbor_read.specs.Statuses.{is_status};
+ghost use Rattle.sval_cbor_read.specs.Serves.{read_terms};
 
+use crate::document::CborReadError;
 use crate::form::named_form;
-use crate::running::run_cbor_read;
+use crate::running::serve;
 use std::alloc::Global;
 use sval_json::Sink;
-use sval_program::{Program, Source};
+use sval_program::{Failure, Fault, Job, Line, Source};
 
-/// The program, as [`run_process`](sval_program::run_process) and [`run_streams`](sval_program::run_streams) run it: what
-/// it does is [`run_cbor_read`], and its `Ends` are the clauses of `run_cbor_read` on what the source and the sink
-/// tell.
+impl From<CborReadError> for Failure {
+    ghost use Rattle.std.specs.Prelude.{◌≡◌};
+    ghost use Rattle.sval_cbor_read.specs.Serves.{failure_of};
+
+    ghost from_gives = { λ error failure. failure ≡ failure_of error };
+
+    fn from(error: CborReadError) -> Failure {
+        match error {
+            CborReadError::Bad => Failure::Fault(Fault::BadCbor),
+            CborReadError::NoMemory => Failure::NoMemory,
+        }
+    }
+}
+
+/// The program, as [`run_process`](sval_program::run_process) and [`run_streams`](sval_program::run_streams) run it:
+/// [`run_cbor_read`](crate::run_cbor_read) says more of its runs.
 pub struct ReadCbor;
 
-impl Program for ReadCbor {
+impl Job for ReadCbor {
     ghost use Rattle.sval_cbor_read.specs.declared.form.Form.{Form};
 
     ghost Form = { Form };
 
-    ghost form_named = { form_named };
+    ghost terms = { read_terms };
 
-    ghost is_status = { is_status };
-
-    ghost Ends = { ReadEnds };
-
-    ghost has_usage = { refl };
-
-    ghost has_no_memory = { refl };
+    fn usage() -> Line {
+        Line::text("usage: sval_cbor_read json|calls\n")
+    }
 
     fn takes(words: &[String]) -> bool {
         named_form(words).is_some()
     }
 
-    fn run<I: Source, K: Sink, D: Sink>(
+    fn serve<I: Source, K: Sink>(
         alloc: Global,
         words: &[String],
         input: &mut I,
         out: &mut K,
-        diag: &mut D,
-    ) -> u8 {
-        run_cbor_read(alloc, words, input, out, diag)
+    ) -> Result<(), Failure> {
+        serve(alloc, words, input, out)
     }
 }

@@ -1,37 +1,37 @@
 //! The whole program, over any words and devices.
 
-ghost use Rattle.std.specs.Prelude.{◌≡◌, ◌⊎◌, ◌<◌, ◌≤◌, ◌^◌, ◌↔◌, ℕ, List, true, None, length};
-ghost use Rattle.sval_core.specs.Law.{Rose};
-ghost use Rattle.sval_json.specs.Sinks.{HoldsNothing, IsSteady, NoCountFell};
-ghost use Rattle.sval_program.specs.Inputs.{OnShort, OnLong, IsSpent, IsTooLong, StaysShort};
-ghost use Rattle.sval_program.specs.Outputs.{Grows, IsOwnWant};
-ghost use Rattle.sval_cbor_read.specs.Forms.{form_of, OnAsked};
+ghost use Rattle.std.specs.Prelude.{◌≡◌, ◌<◌, ◌^◌, ℕ, List, length, map, string_bytes};
+ghost use Rattle.sval_program.specs.Inputs.{OnShort};
+ghost use Rattle.sval_program.specs.Jobs.{ServesBytes, ServesInput, Serves};
+ghost use Rattle.sval_program.specs.Runs.{AreQuiet, Ends};
+ghost use Rattle.sval_cbor_read.specs.Forms.{OnAsked};
 ghost use Rattle.sval_cbor_read.specs.ReadErrors.{IsRead};
 ghost use Rattle.sval_cbor_read.specs.Reports.{Reports};
-ghost use Rattle.sval_cbor_read.specs.Serves.{IsInMemory, IsNoItem, WritesDue, WritesUpToKey, MayLeave, WritesDocument, ServesBytes, ServesInput, Serves};
-ghost use Rattle.sval_cbor_read.specs.Statuses.{is_status, is_unwritten, is_read, IsStatusDue};
+ghost use Rattle.sval_cbor_read.specs.Serves.{read_terms, IsInMemory, IsNoItem, WritesDue, WritesUpToKey, MayLeave};
+ghost use Rattle.sval_cbor_read.specs.Statuses.{IsStatusDue};
 
 use crate::document::CborDoc;
-use crate::failure::{Failure, WriteError, conclude};
 use crate::form::{Form, named_form};
+use crate::program::ReadCbor;
 use crate::status::BAD_CBOR;
 use std::alloc::Global;
 use sval_json::{ErrorKind, Sink, SinkError, stream_to_io_write};
-use sval_program::status::{DONE, INVALID_KEY, NO_MEMORY, READ, TOO_LONG, USAGE, WRITE};
-use sval_program::{Source, print_captured, read_input};
+use sval_program::job::run;
+use sval_program::status::{DONE, INVALID_KEY};
+use sval_program::{Failure, Fault, Source, print_captured, read_input};
 
 /// Writes the JSON of a document.
-fn write_json<K: Sink>(doc: &CborDoc<'_>, out: &mut K) -> Result<(), WriteError>
+fn write_json<K: Sink>(doc: &CborDoc<'_>, out: &mut K) -> Result<(), Failure>
     requires { (input : List ℕ) × IsRead input doc.now × IsInMemory input }
     ensures { (input : List ℕ) → IsRead input doc.now → IsInMemory input
-        → WritesDocument K.told input Form.Json result out.old out.new }
+        → ServesBytes read_terms K.told Form.Json input result out.old out.new }
 {
     match stream_to_io_write(out, doc) {
         Ok(()) => Ok(()),
         Err(error) => match error.kind() {
-            ErrorKind::IO => Err(WriteError::Sink(SinkError::Failed)),
-            ErrorKind::NoMemory => Err(WriteError::Sink(SinkError::NoMemory)),
-            ErrorKind::InvalidKey => Err(WriteError::InvalidKey),
+            ErrorKind::IO => Err(Failure::Write(SinkError::Failed)),
+            ErrorKind::NoMemory => Err(Failure::Write(SinkError::NoMemory)),
+            ErrorKind::InvalidKey => Err(Failure::Fault(Fault::InvalidKey)),
             ErrorKind::InvalidNumber => unreachable!("numbers of items are numbers"),
             ErrorKind::Generic => unreachable!("a document doesn't refuse"),
         },
@@ -39,10 +39,10 @@ fn write_json<K: Sink>(doc: &CborDoc<'_>, out: &mut K) -> Result<(), WriteError>
 }
 
 /// Captures a document, and prints the canonical script of what it captured.
-fn print_script<K: Sink>(alloc: Global, doc: &CborDoc<'_>, out: &mut K) -> Result<(), WriteError>
+fn print_script<K: Sink>(alloc: Global, doc: &CborDoc<'_>, out: &mut K) -> Result<(), Failure>
     requires { (input : List ℕ) × IsRead input doc.now × IsInMemory input }
     ensures { (input : List ℕ) → IsRead input doc.now → IsInMemory input
-        → WritesDocument K.told input Form.Calls result out.old out.new }
+        → ServesBytes read_terms K.told Form.Calls input result out.old out.new }
 {
     Ok(print_captured(alloc, doc.node_count(), doc, out)?)
 }
@@ -53,10 +53,10 @@ fn write_document<K: Sink>(
     form: Form,
     doc: &CborDoc<'_>,
     out: &mut K,
-) -> Result<(), WriteError>
+) -> Result<(), Failure>
     requires { (input : List ℕ) × IsRead input doc.now × IsInMemory input }
     ensures { (input : List ℕ) → IsRead input doc.now → IsInMemory input
-        → WritesDocument K.told input form result out.old out.new }
+        → ServesBytes read_terms K.told form input result out.old out.new }
 {
     match form {
         Form::Json => write_json(doc, out),
@@ -64,30 +64,13 @@ fn write_document<K: Sink>(
     }
 }
 
-/// Writes what is asked for of a document, and passes it on.
-fn pass_on<K: Sink>(
-    alloc: Global,
-    form: Form,
-    doc: &CborDoc<'_>,
-    out: &mut K,
-) -> Result<(), Failure>
-    requires { (input : List ℕ) × IsRead input doc.now × IsInMemory input }
-    ensures { (input : List ℕ) → IsRead input doc.now → IsInMemory input
-        → ServesBytes K.told input form result out.old out.new }
-{
-    write_document(alloc, form, doc, out)?;
-    Ok(out.flush()?)
-}
-
 /// Reads bytes, and writes what is asked for of the item that they are.
 fn serve_bytes<K: Sink>(alloc: Global, form: Form, bytes: &[u8], out: &mut K) -> Result<(), Failure>
     requires { length bytes.now < 2 ^ 64 }
-    ensures { ServesBytes K.told bytes.now form result out.old out.new }
+    ensures { ServesBytes read_terms K.told form bytes.now result out.old out.new }
 {
-    match CborDoc::read(alloc, bytes) {
-        Ok(doc) => pass_on(alloc, form, &doc, out),
-        Err(error) => Err(Failure::Read(error)),
-    }
+    let doc = CborDoc::read(alloc, bytes)?;
+    write_document(alloc, form, &doc, out)
 }
 
 /// Reads the input whole, and serves its bytes.
@@ -97,22 +80,23 @@ fn serve_input<I: Source, K: Sink>(
     input: &mut I,
     out: &mut K,
 ) -> Result<(), Failure>
-    ensures { ServesInput I.told K.told form result input.old input.new out.old out.new }
+    ensures { ServesInput read_terms I.told K.told form result input.old input.new out.old out.new }
 {
     let bytes = read_input(alloc, input)?;
     serve_bytes(alloc, form, bytes.as_slice(), out)
 }
 
-/// Serves a form.
-fn serve<I: Source, K: Sink>(
+/// Serves the form that the words are, if they are one.
+pub(crate) fn serve<I: Source, K: Sink>(
     alloc: Global,
-    form: Option<Form>,
+    words: &[String],
     input: &mut I,
     out: &mut K,
 ) -> Result<(), Failure>
-    ensures { Serves I.told K.told form result input.old input.new out.old out.new }
+    ensures { Serves read_terms I.told K.told (map string_bytes words.now) result
+        input.old input.new out.old out.new }
 {
-    match form {
+    match named_form(words) {
         None => Err(Failure::Usage),
         Some(form) => serve_input(alloc, form, input, out),
     }
@@ -159,52 +143,26 @@ pub fn run_cbor_read<I: Source, K: Sink, D: Sink>(
     out: &mut K,
     diag: &mut D,
 ) -> u8
-    ensures known { is_status result ≡ true }
+    ensures ends { Ends read_terms I.told K.told (map string_bytes words.now) input.old input.new
+        out.old out.new (D.told diag.old) (D.told diag.new) result }
 
     // Each status comes only where it is so.
-    ensures usage { (result ≡ USAGE) ↔ (form_of words.now ≡ None) }
     ensures done { result ≡ DONE
         → OnAsked words.now (I.told input.old) (WritesDue (K.told out.old) (K.told out.new)) }
-    ensures flushed { result ≡ DONE → HoldsNothing (K.told out.new) }
     ensures invalid_key { result ≡ INVALID_KEY
         → OnAsked words.now (I.told input.old) (WritesUpToKey (K.told out.old) (K.told out.new)) }
     ensures bad_cbor { result ≡ BAD_CBOR → OnAsked words.now (I.told input.old) IsNoItem }
-    ensures write { result ≡ WRITE → Rose (K.told out.old).faults (K.told out.new).faults }
-    ensures read { result ≡ READ → Rose (I.told input.old).faults (I.told input.new).faults }
-    ensures own_want { result ≡ NO_MEMORY → IsOwnWant K.told out.old out.new }
-    ensures long { result ≡ TOO_LONG → IsTooLong (I.told input.old) (I.told input.new) }
-
-    // A fault of the source that was counted means READ.
-    ensures read_comes { (I.told input.old).faults < (I.told input.new).faults → result ≡ READ }
 
     // Where the devices don't fail, the status is the one that is due, or memory was wanting.
-    ensures comes { ¬ Rose (I.told input.old).faults (I.told input.new).faults
-        → ¬ Rose (K.told out.old).faults (K.told out.new).faults
+    ensures comes { AreQuiet I.told K.told input.old input.new out.old out.new
         → OnAsked words.now (I.told input.old) (OnShort (IsStatusDue result)) }
-    ensures long_comes { ¬ Rose (I.told input.old).faults (I.told input.new).faults
-        → OnAsked words.now (I.told input.old) (OnLong ((result ≡ TOO_LONG) ⊎ (result ≡ NO_MEMORY))) }
 
     // What is left of the sink.
-    ensures untouched { is_unwritten result ≡ true → out.new ≡ out.old }
     ensures leaves { OnAsked words.now (I.told input.old)
         (OnShort (MayLeave (K.told out.old) (K.told out.new))) }
-    ensures leaves_long { OnAsked words.now (I.told input.old) (OnLong (out.new ≡ out.old)) }
-    ensures grows { Grows (K.told out.old) (K.told out.new) }
-
-    // What is left of the source.
-    ensures nothing_read { result ≡ USAGE → input.new ≡ input.old }
-    ensures spent { is_read result ≡ true → OnAsked words.now (I.told input.old) (IsSpent (I.told input.new)) }
-    ensures short { ¬ (result ≡ TOO_LONG) → StaysShort (I.told input.old) (I.told input.new) }
-
-    // The counts.
-    ensures steady { is_read result ≡ true → ((I.told input.new).faults ≡ (I.told input.old).faults)
-        × IsSteady (K.told out.old) (K.told out.new) }
-    ensures counts { ((I.told input.old).faults ≤ (I.told input.new).faults)
-        × NoCountFell (K.told out.old) (K.told out.new) }
 
     // What the third device is told.
     ensures reports { Reports result (D.told diag.old) (D.told diag.new) }
 {
-    let served = serve(alloc, named_form(words), input, out);
-    conclude(served, diag)
+    run::<ReadCbor, I, K, D>(alloc, words, input, out, diag)
 }

@@ -1,4 +1,3 @@
-//! The status that the program has beside those of [`sval_program::status`].
+//! The status that the program has beside those of every program.
 
-/// The input is not one item of this profile.
-pub const BAD_CBOR: u8 = 16;
+pub use sval_program::status::BAD_CBOR;

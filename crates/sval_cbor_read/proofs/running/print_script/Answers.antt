@@ -9,7 +9,7 @@ print_captured-requires g c = λ _. let (input, r, m) = c.requires in ((refl, tt
 pub returns-in_err-print_captured : goal.returns-in_err-print_captured
 returns-in_err-print_captured g c = λ input r m.
     let p = err_from_is_err_and c.from_residual.result c.from_residual.ensures.1 in
-    let stops = script_stops input c.args.doc.now r g.K.Sink.told c.args.out.now c.print_captured.new.out (c.in_err-print_captured.ensures r.tree r.spells (printable input c.args.doc.now r m)) in
+    let stops = script_stops input c.args.doc.now r g.K.Sink.told c.args.out.now c.print_captured.new.out m c.in_err-print_captured.field-0.0 (c.in_err-print_captured.ensures r.tree r.spells (printable input c.args.doc.now r m)) in
     rw (p.1, p.2) stops
 
 pub returns : goal.returns

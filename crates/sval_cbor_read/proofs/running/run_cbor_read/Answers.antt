@@ -1,60 +1,38 @@
-use Rattle.std.proofs.Common.{◌≡◌, ◌⊎◌, true, sym, subst, ◌∙◌}
-use Rattle.sval_program.specs.declared.status.TheConstants.{NO_MEMORY, TOO_LONG}
-use Rattle.sval_program.specs.Inputs.{OnShort, OnLong}
-use Rattle.sval_cbor_read.specs.Forms.{form_of, OnAsked}
-use Rattle.sval_cbor_read.specs.Statuses.{is_read, IsStatusDue}
-use Rattle.sval_cbor_read.proofs.RunAnswers.{Case, Ran}
+use Rattle.std.proofs.Common.{ap, sym, ◌∙◌}
+use Rattle.std.specs.Prelude.{None}
+use Rattle.sval_program.specs.Failures.{is_fault}
+use Rattle.sval_program.specs.Inputs.{OnShort}
+use Rattle.sval_program.specs.Runs as runs
+use Rattle.sval_program.proofs.JobRuns.{on_both}
+use Rattle.sval_cbor_read.specs.Forms.{form_of}
+use Rattle.sval_cbor_read.specs.Serves.{read_terms, WritesDue, WritesUpToKey, MayLeave, IsNoItem}
+use Rattle.sval_cbor_read.specs.Statuses.{IsStatusDue}
 use Rattle.sval_cbor_read.proofs.RunAnswers as answers
-use Rattle.sval_cbor_read.proofs.running.run_cbor_read.Given as given
 use Rattle.sval_cbor_read.proofs.running.run_cbor_read.Goals as goal
-use Rattle.sval_cbor_read.proofs.running.run_cbor_read.Goals.{After-conclude}
-
--- the devices of this run
-abbrev case_of : (g : given.Over) → After-conclude g → Case g.row.I.Denot g.row.K.Denot
-case_of g c = record {
-  source = g.I.Source.told;
-  sink = g.K.Sink.told;
-  before = c.args.input.now;
-  after = c.serve-served.new.input;
-  old = c.args.out.now;
-  new = c.serve-served.new.out;
-}
-
--- it served the form that the words are
-ran : (g : given.Over) (c : After-conclude g) → Ran (case_of g c) (form_of c.args.words.now) c.serve-served.result
-ran g c = subst (λ form. Ran (case_of g c) form c.serve-served.result) c.named_form.ensures c.serve-served.ensures
 
 pub returns-clause-done : goal.returns-clause-done
-returns-clause-done g c = λ e. answers.done (case_of g c) (form_of c.args.words.now) c.serve-served.result (ran g c) (sym c.conclude.ensures.status ∙ e)
+returns-clause-done g c = λ e.
+    on_both (form_of c.args.words.now) (g.I.Source.told c.args.input.now).left (runs.TakesDue read_terms None (g.K.Sink.told c.args.out.now) (g.K.Sink.told c.run.new.out)) (WritesDue (g.K.Sink.told c.args.out.now) (g.K.Sink.told c.run.new.out)) (λ input asked t. answers.writes_due t)
+    (c.run.ensures.done e)
 
 pub returns-clause-invalid_key : goal.returns-clause-invalid_key
-returns-clause-invalid_key g c = λ e. answers.invalid_key (case_of g c) (form_of c.args.words.now) c.serve-served.result (ran g c) (sym c.conclude.ensures.status ∙ e)
+returns-clause-invalid_key g c = λ e.
+    on_both (form_of c.args.words.now) (g.I.Source.told c.args.input.now).left (runs.TakesFault read_terms c.run.result (g.K.Sink.told c.args.out.now) (g.K.Sink.told c.run.new.out)) (WritesUpToKey (g.K.Sink.told c.args.out.now) (g.K.Sink.told c.run.new.out)) (λ input asked t. answers.writes_up_to_key t.why (sym e ∙ t.is) t.takes)
+    (c.run.ensures.finds (ap is_fault e))
 
 pub returns-clause-bad_cbor : goal.returns-clause-bad_cbor
-returns-clause-bad_cbor g c = λ e. answers.bad_cbor (case_of g c) (form_of c.args.words.now) c.serve-served.result (ran g c) (sym c.conclude.ensures.status ∙ e)
-
-pub returns-clause-leaves : goal.returns-clause-leaves
-returns-clause-leaves g c = answers.leaves (case_of g c) (form_of c.args.words.now) c.serve-served.result (ran g c)
-
-pub returns-clause-grows : goal.returns-clause-grows
-returns-clause-grows g c = answers.grows (case_of g c) (form_of c.args.words.now) c.serve-served.result (ran g c)
+returns-clause-bad_cbor g c = λ e.
+    on_both (form_of c.args.words.now) (g.I.Source.told c.args.input.now).left (runs.TakesFault read_terms c.run.result (g.K.Sink.told c.args.out.now) (g.K.Sink.told c.run.new.out)) IsNoItem (λ input asked t. answers.is_no_item t.why (sym e ∙ t.is) t.takes.due)
+    (c.run.ensures.finds (ap is_fault e))
 
 pub returns-clause-comes : goal.returns-clause-comes
-returns-clause-comes g c = λ quiet_read quiet_write.
-    subst (λ status. OnAsked c.args.words.now (g.I.Source.told c.args.input.now) (OnShort (IsStatusDue status))) (sym c.conclude.ensures.status)
-    (answers.comes (case_of g c) (form_of c.args.words.now) c.serve-served.result (ran g c) quiet_read quiet_write)
+returns-clause-comes g c = λ quiet.
+    on_both (form_of c.args.words.now) (g.I.Source.told c.args.input.now).left (OnShort (runs.IsStatusDue read_terms c.run.result)) (OnShort (IsStatusDue c.run.result)) (λ input asked due short. answers.status_due (due short)) (c.run.ensures.comes quiet)
 
-pub returns-clause-long_comes : goal.returns-clause-long_comes
-returns-clause-long_comes g c = λ quiet.
-    subst (λ status. OnAsked c.args.words.now (g.I.Source.told c.args.input.now) (OnLong ((status ≡ TOO_LONG) ⊎ (status ≡ NO_MEMORY)))) (sym c.conclude.ensures.status)
-    (answers.long_comes (case_of g c) (form_of c.args.words.now) c.serve-served.result (ran g c) quiet)
+pub returns-clause-leaves : goal.returns-clause-leaves
+returns-clause-leaves g c =
+    on_both (form_of c.args.words.now) (g.I.Source.told c.args.input.now).left (OnShort (runs.MayLeave read_terms g.K.Sink.told c.args.out.now c.run.new.out)) (OnShort (MayLeave (g.K.Sink.told c.args.out.now) (g.K.Sink.told c.run.new.out)))
+    (λ input asked left short. answers.may_leave g.K.Sink.told c.args.out.now c.run.new.out input asked (left short)) c.run.ensures.leaves
 
-pub returns-clause-leaves_long : goal.returns-clause-leaves_long
-returns-clause-leaves_long g c = answers.leaves_long (case_of g c) (form_of c.args.words.now) c.serve-served.result (ran g c)
-
-pub returns-clause-spent : goal.returns-clause-spent
-returns-clause-spent g c = λ e.
-    answers.spent (case_of g c) (form_of c.args.words.now) c.serve-served.result (ran g c) (subst (λ status. is_read status ≡ true) c.conclude.ensures.status e)
-
-pub returns-clause-short : goal.returns-clause-short
-returns-clause-short g c = λ no. answers.stays_short (case_of g c) (form_of c.args.words.now) c.serve-served.result (ran g c) (λ e. no (c.conclude.ensures.status ∙ e))
+pub returns-clause-reports : goal.returns-clause-reports
+returns-clause-reports g c = answers.reports c.run.ensures.reports c.run.ensures.known

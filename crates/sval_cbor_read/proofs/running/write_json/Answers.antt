@@ -8,15 +8,15 @@ returns-in-Ok g c = λ input r m. writes_json input c.args.doc.now r g.K.Sink.to
 
 pub returns-in-IO : goal.returns-in-IO
 returns-in-IO g c = λ input r m.
-    json_fault input c.args.doc.now r g.K.Sink.told c.args.out.now c.stream_to_io_write.new.out (c.in-Err.ensures.io (search rules)) c.in-Err.ensures.prefix c.in-Err.ensures.counts
+    json_fault input c.args.doc.now r g.K.Sink.told c.args.out.now c.stream_to_io_write.new.out m (c.in-Err.ensures.io (search rules)) c.in-Err.ensures.prefix c.in-Err.ensures.counts
 
 pub returns-in-NoMemory : goal.returns-in-NoMemory
 returns-in-NoMemory g c = λ input r m.
-    json_want input c.args.doc.now r g.K.Sink.told c.args.out.now c.stream_to_io_write.new.out (c.in-Err.ensures.no_memory (search rules)) c.in-Err.ensures.prefix c.in-Err.ensures.counts
+    json_want input c.args.doc.now r g.K.Sink.told c.args.out.now c.stream_to_io_write.new.out m (c.in-Err.ensures.no_memory (search rules)) c.in-Err.ensures.prefix c.in-Err.ensures.counts
 
 pub returns-in-InvalidKey : goal.returns-in-InvalidKey
 returns-in-InvalidKey g c = λ input r m.
-    stops_at_key input c.args.doc.now r g.K.Sink.told c.args.out.now c.stream_to_io_write.new.out (c.in-Err.ensures.invalid_key (search rules))
+    stops_at_key input c.args.doc.now r g.K.Sink.told c.args.out.now c.stream_to_io_write.new.out m (c.in-Err.ensures.invalid_key (search rules))
     (c.in-Err.ensures.tree_refused InvalidKey (search rules) r.tree r.spells)
 
 -- numbers of items are numbers
