@@ -419,6 +419,15 @@ nothing_read k = by_end k (λ form r. status_of r ≡ USAGE → k.after ≡ k.be
     (λ asked s e. absurd (omega (arith, e)))
     (λ asked why s e. absurd ((stopped_status why).3 e))
 
+pub nothing_written : {Form I K : Type 0} (k : Case Form I K) (form : Option Form) (r : Ended) → Ran k form r → status_of r ≡ USAGE → k.new ≡ k.old
+nothing_written k = by_end k (λ form r. status_of r ≡ USAGE → k.new ≡ k.old)
+    (λ input out e. out)
+    (λ asked s e. absurd (omega (arith, e)))
+    (λ asked why u e. absurd ((unread_status why).3 e))
+    (λ asked why s e. absurd (no_fault why USAGE refl e))
+    (λ asked s e. absurd (omega (arith, e)))
+    (λ asked why s e. absurd ((stopped_status why).3 e))
+
 pub spent : {Form I K : Type 0} (k : Case Form I K) (form : Option Form) (r : Ended) → Ran k form r → is_read (status_of r) ≡ true → OnInput k form (IsSpent (k.source k.after))
 spent k = by_end k (λ form r. is_read (status_of r) ≡ true → OnInput k form (IsSpent (k.source k.after)))
     (λ input out e. tt)

@@ -38,6 +38,7 @@ told_ends {terms = terms} {source = source} {sink = sink} {words = words} {befor
   leaves_long = on_both (terms.form_named words) (source before).left (OnLong (new ≡ old)) (OnLong (sink new ≡ sink old)) (λ input asked left long. ap sink (left long)) e.leaves_long;
   grows = e.grows;
   nothing_read = λ is. ap source (e.nothing_read is);
+  nothing_written = λ is. ap sink (e.nothing_written is);
   spent = e.spent;
   short = e.short;
   steady = e.steady;

@@ -112,6 +112,7 @@ pub record Ends {Form I K : Type 0} (terms : Terms Form) (source : I → Supply)
   pub grows : Grows (sink old) (sink new)
   -- what is left of the source
   pub nothing_read : status ≡ USAGE → after ≡ before
+  pub nothing_written : status ≡ USAGE → new ≡ old
   pub spent : is_read status ≡ true → OnNamed terms words (source before) (IsSpent (source after))
   pub short : (status ≡ TOO_LONG → ⊥) → StaysShort (source before) (source after)
   -- the counts

@@ -54,7 +54,8 @@ pub trait Program {
         ensures known { is_status result ≡ true }
         ensures usage { (result ≡ USAGE) ↔ (form_named (map string_bytes words.now) ≡ None) }
         ensures ends { Ends (map string_bytes words.now) (I.told input.old) (I.told input.new)
-            (K.told out.old) (K.told out.new) (D.told diag.old) (D.told diag.new) result };
+            (K.told out.old) (K.told out.new) (D.told diag.old) (D.told diag.new) result }
+        ensures unread { result ≡ USAGE → (input.new ≡ input.old) × (out.new ≡ out.old) };
 
     /// It may say that the words are no form, and that memory was wanting.
     ghost has_usage: { is_status USAGE ≡ true };

@@ -51,6 +51,7 @@ returns g c =
       leaves_long = answers.leaves_long k form r ran;
       grows = answers.grows k form r ran;
       nothing_read = λ e. answers.nothing_read k form r ran (back ∙ e);
+      nothing_written = λ e. answers.nothing_written k form r ran (back ∙ e);
       spent = λ e. answers.spent k form r ran (subst (λ status. is_read status ≡ true) is e);
       short = λ no. answers.stays_short k form r ran (λ e. no (is ∙ e));
       steady = λ e. answers.steady k form r ran (subst (λ status. is_read status ≡ true) is e);

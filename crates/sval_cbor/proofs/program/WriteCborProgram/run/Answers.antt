@@ -1,4 +1,5 @@
 use Rattle.std.proofs.Common.{ap, inl, inr}
+use Rattle.sval_cbor.specs.Statuses.{is_unwritten}
 use Rattle.sval_cbor.proofs.program.WriteCborProgram.run.Goals as goal
 
 pub returns-clause-ends : goal.returns-clause-ends
@@ -30,3 +31,6 @@ returns-clause-ends g c = record {
   counts = c.run_cbor.ensures.counts;
   reports = c.run_cbor.ensures.reports;
 }
+
+pub returns-clause-unread : goal.returns-clause-unread
+returns-clause-unread g c = λ e. (c.run_cbor.ensures.nothing_read e, c.run_cbor.ensures.untouched (ap (is_unwritten) e))

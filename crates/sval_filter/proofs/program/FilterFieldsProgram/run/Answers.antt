@@ -1,4 +1,5 @@
 use Rattle.std.proofs.Common.{ap, inl, inr}
+use Rattle.sval_filter.specs.Statuses.{is_unwritten}
 use Rattle.sval_filter.proofs.program.FilterFieldsProgram.run.Goals as goal
 
 pub returns-clause-ends : goal.returns-clause-ends
@@ -27,3 +28,6 @@ returns-clause-ends g c = record {
   counts = c.run_filter.ensures.counts;
   reports = c.run_filter.ensures.reports;
 }
+
+pub returns-clause-unread : goal.returns-clause-unread
+returns-clause-unread g c = λ e. (c.run_filter.ensures.nothing_read e, c.run_filter.ensures.untouched (ap (is_unwritten) e))

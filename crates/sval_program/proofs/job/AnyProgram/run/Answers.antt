@@ -3,3 +3,6 @@ use Rattle.sval_program.proofs.job.AnyProgram.run.Goals as goal
 
 pub returns-clause-ends : goal.returns-clause-ends
 returns-clause-ends g c = told_ends c.run.ensures
+
+pub returns-clause-unread : goal.returns-clause-unread
+returns-clause-unread g c = λ e. (c.run.ensures.nothing_read e, c.run.ensures.nothing_written e)

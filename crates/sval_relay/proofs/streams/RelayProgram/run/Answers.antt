@@ -1,6 +1,7 @@
 use Rattle.std.proofs.Common.{ap}
 use Rattle.sval_relay.specs.Ways.{form_of}
 use Rattle.sval_relay.proofs.ToldWants.{want_told, stays_told}
+use Rattle.sval_relay.specs.Statuses.{is_unwritten}
 use Rattle.sval_relay.proofs.streams.RelayProgram.run.Goals as goal
 
 pub returns-clause-ends : goal.returns-clause-ends
@@ -35,3 +36,6 @@ returns-clause-ends g c = record {
   made_reads_nothing = stays_told (form_of c.args.words.now) g.I.Source.told c.args.input.now c.run.new.input c.run.ensures.made_reads_nothing;
   reports = c.run.ensures.reports;
 }
+
+pub returns-clause-unread : goal.returns-clause-unread
+returns-clause-unread g c = λ e. (c.run.ensures.nothing_read e, c.run.ensures.untouched (ap (is_unwritten) e))
