@@ -2,5 +2,8 @@ pub mod Seen
 pub mod Rendered
 pub mod Shown
 pub mod Emissions
+pub mod Structs
+pub mod Fields
+pub mod StructTrees
 pub mod Laws
 pub mod ErrorTexts

@@ -2,6 +2,8 @@
 #![tactic(auto, unfolding(sval_core::specs::Law::emits, sval_core::specs::Law::then_emits))]
 
 ghost use Rattle.std.specs.Prelude.{◌≡◌};
+ghost use Rattle.sval_core.specs.Law.{Emits};
+ghost use Rattle.sval_core.specs.Values.{binary_emission};
 ghost use Rattle.sval.specs.Seen.{slice_bytes};
 
 use sval_core::{Lent, Result, Stream, Value};
@@ -35,14 +37,25 @@ impl<'a> BinarySlice<'a> {
     }
 }
 
+/// Streams bytes as a binary in one borrowed fragment: what [`BinarySlice`] streams, of bytes that a value holds.
+///
+/// # Errors
+///
+/// It refuses at the first call that the stream refuses.
+pub fn stream_binary<'v, S: Stream<Lent<'v>>>(stream: &mut S, bytes: &'v [u8]) -> Result
+    ensures { Emits S.law result (S.standing stream.old) (binary_emission bytes.now) (S.standing stream.new) }
+{
+    stream.binary_begin(Some(bytes.len()))?;
+    stream.binary_fragment(bytes)?;
+    stream.binary_end()
+}
+
 impl<'v, 'a> Value<'v, Lent<'v>> for BinarySlice<'a> {
     ghost use Rattle.sval.specs.Emissions.{slice_emission};
 
     ghost emission = { slice_emission };
 
     fn stream<S: Stream<Lent<'v>>>(&'v self, stream: &mut S) -> Result {
-        stream.binary_begin(Some(self.binary.len()))?;
-        stream.binary_fragment(self.binary)?;
-        stream.binary_end()
+        stream_binary(stream, self.binary)
     }
 }

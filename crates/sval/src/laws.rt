@@ -1,5 +1,6 @@
 //! The laws of this crate's values, each as a clause that is proved.
 
+ghost use Rattle.sval.specs.StructTrees.{StructsTell, UnitVariantsTell, StructVariantsTell};
 ghost use Rattle.sval.specs.Laws.{BinarySlicesTell, BinaryArraysTell, DisplaysTell, ShownTextsTell, ShownNumbersTell};
 
 /// Which trees the values of this crate spell, and the texts that it prints.
@@ -9,4 +10,11 @@ pub fn tree_laws<V>()
     ensures displays_tell { DisplaysTell V }
     ensures shown_texts_tell { ShownTextsTell }
     ensures shown_numbers_tell { ShownNumbersTell }
+{}
+
+/// Which trees structs and enums of a user's own spell.
+pub fn struct_laws()
+    ensures structs_tell { StructsTell }
+    ensures unit_variants_tell { UnitVariantsTell }
+    ensures struct_variants_tell { StructVariantsTell }
 {}

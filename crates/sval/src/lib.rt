@@ -7,6 +7,7 @@
 
 mod binary_array;
 mod binary_slice;
+mod fields;
 pub mod laws;
 mod map_slice;
 mod prints;
@@ -14,14 +15,19 @@ mod render;
 mod shown;
 mod std_display;
 mod streaming;
+mod structs;
 
 pub use binary_array::BinaryArray;
-pub use binary_slice::BinarySlice;
-pub use map_slice::MapSlice;
+pub use binary_slice::{BinarySlice, stream_binary};
+pub use fields::{Fields, Named};
+pub use map_slice::{MapSlice, stream_map};
 pub use render::{Render, RenderError};
 pub use shown::{Display, DisplayError, stream_display, stream_display_fragments, stream_number};
 pub use std_display::StdDisplay;
 pub use streaming::{stream, stream_computed};
+pub use structs::{
+    stream_record, stream_struct, stream_struct_variant, stream_unit_variant, stream_value_variant,
+};
 pub use sval_core::{
     AnyCall, Call, Computed, Error, Fragment, GroupedCall, Head, Index, Int, Label, Lending, Lent,
     Name, NoMemory, Null, Result, Slot, Stream, Tag, Value, refusal, stream_seq, stream_str, tags,

@@ -76,8 +76,12 @@ fn stream_entry<'v, K: Value<'v, Lent<'v>>, V: Value<'v, Lent<'v>>, S: Stream<Le
     stream_value(stream, &entry.1)
 }
 
-/// Streams pairs as a map that tells how many they are.
-fn stream_map<'v, K: Value<'v, Lent<'v>>, V: Value<'v, Lent<'v>>, S: Stream<Lent<'v>>>(
+/// Streams pairs as a map that tells how many they are: what [`MapSlice`] streams, of pairs that a value holds.
+///
+/// # Errors
+///
+/// It refuses where a key or a value refuses by itself, after its calls, or at the first call that the stream refuses.
+pub fn stream_map<'v, K: Value<'v, Lent<'v>>, V: Value<'v, Lent<'v>>, S: Stream<Lent<'v>>>(
     stream: &mut S,
     entries: &'v [(K, V)],
 ) -> Result
