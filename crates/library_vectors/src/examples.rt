@@ -4,3 +4,4 @@ mod events;
 mod lines;
 mod measures;
 mod points;
+mod structs;

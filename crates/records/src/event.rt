@@ -1,0 +1,35 @@
+//! An event of a log.
+
+ghost use Rattle.sval.specs.Fields.{[], ◌∷◌, a_struct, field, string_emission, option_emission, u64_emission, vec_emission};
+ghost use Rattle.records.specs.Records.{level_emission};
+
+use crate::Level;
+use sval::{Lent, Result, Stream, Value, fields, stream_struct};
+
+/// An event.
+#[derive(Drop, Debug)]
+pub struct Event {
+    /// When it was.
+    pub ts: String,
+    /// How much it matters.
+    pub level: Level,
+    /// What it is.
+    pub msg: String,
+    /// The number of who did it, if that is known.
+    pub user: Option<u64>,
+    /// Words to find it by.
+    pub tags: Vec<String>,
+}
+
+impl<'v> Value<'v, Lent<'v>> for Event {
+    ghost emission = { λ event. a_struct "Event" (
+        field "ts" (string_emission event.ts) ∷
+        field "level" (level_emission event.level) ∷
+        field "msg" (string_emission event.msg) ∷
+        field "user" (option_emission u64_emission event.user) ∷
+        field "tags" (vec_emission string_emission event.tags) ∷ []) };
+
+    fn stream<S: Stream<Lent<'v>>>(&'v self, stream: &mut S) -> Result {
+        stream_struct(stream, "Event", fields!(self, ts, level, msg, user, tags))
+    }
+}
