@@ -7,6 +7,7 @@ pub mod WritingParts
 pub mod WritingValues
 pub mod WritingPlain
 pub mod WrittenOnce
+pub mod WrittenUtf8
 pub mod Refused
 pub mod MendedNumbers
 pub mod MendedRuns
