@@ -51,6 +51,7 @@ module _ {style : Variants} {e : Emission} {old new : Taken} (found : ErrorKind)
     written = tt;
     tree = tt;
     denotes = tt;
+    utf8 = tt;
     willing = tt;
     generic_comes = itself_comes found refl;
     generic = λ f. itself (cc f);
@@ -76,6 +77,7 @@ given_no_text bytes given broken = record {
   written = tt;
   tree = tt;
   denotes = tt;
+  utf8 = tt;
   willing = tt;
   generic_comes = λ itself. inr refl;
   generic = λ f. cc f;

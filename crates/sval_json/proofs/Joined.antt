@@ -17,7 +17,7 @@ use Rattle.sval_json.specs.Actions.{State, Outcome, escapes, write}
 use Rattle.sval_json.specs.Escape.{escaped}
 use Rattle.sval_json.specs.Steps.{step}
 use Rattle.sval_json.specs.Sinks.{Told, IsSteady, IsCounted, NoCountFell, IsFull, less_room, HasRoom, Appends, AppendsPart, WritesFront}
-use Rattle.sval_json.specs.WriterLaw.{WriterView, with_bytes, after_action, MayDo, IsLeftBy, IsStopped, Does, writer_law, writer_view, writer_standing}
+use Rattle.sval_json.specs.WriterLaw.{WriterView, with_bytes, after_action, MayDo, IsLeftBy, IsStopped, Does, step_law, writer_view, writer_standing}
 use Rattle.sval_json.proofs.Appending.{appended-appended, less_room-less_room, counted_since, counts_since}
 use Rattle.sval_json.proofs.Doing.{with_bytes-nothing, with_bytes-append}
 
@@ -43,7 +43,7 @@ room_rest None xs ys h = tt
 room_rest (Some left) xs ys h = omega (arith, length-append xs ys, h)
 
 pub joined_ran : (view : WriterView) (calls : List Call) (bytes : List ℕ) (last : State) → JoinsAs view.style view.state calls bytes last → HasRoom view.target.told bytes
-    → Ran writer_law view calls (joined view bytes last)
+    → Ran step_law view calls (joined view bytes last)
 joined_ran view [] bytes last j fits =
     ap (λ bytes. joined view bytes last) j.0 ∙ ap (joined view []) j.1
     ∙ ap (λ target. let same : WriterView = record view { target = target } in same) (with_bytes-nothing view.target)
@@ -54,11 +54,11 @@ joined_ran view (call ∷ calls) bytes last j fits =
     let here : HasRoom view.target.told (o.written ++ rest) = subst (HasRoom view.target.told) split fits in
     let next : WriterView = after_action (step view.style call) view in
     let may : MayDo (step view.style call) view = record { refusal = j.0; fits = room_first view.target.told.room o.written rest here } in
-    let on : Ran writer_law next calls (joined next rest last) = joined_ran next calls rest last j.1.2 (room_rest view.target.told.room o.written rest here) in
+    let on : Ran step_law next calls (joined next rest last) = joined_ran next calls rest last j.1.2 (room_rest view.target.told.room o.written rest here) in
     let same : joined next rest last ≡ joined view bytes last =
     ap (λ target. let end : WriterView = record { style = view.style; state = last; target = target } in end) (with_bytes-append view.target o.written rest)
     ∙ ap (λ bytes. joined view bytes last) (sym split) in
-    (may, subst (Ran writer_law next calls) same on)
+    (may, subst (Ran step_law next calls) same on)
 
 -- ---- a first part was taken
 
@@ -135,7 +135,7 @@ stops_behind why view new call rest bytes split accepted cut behind =
     (record { refusal = accepted; fits = room_first told.room piece (take n rest) appends.fits }, later)
 
 pub joined_stops : (old new : Standing WriterView) (why : SinkError) → Rose old.faults new.faults ⊎ Rose old.wants new.wants → (view : WriterView) (calls : List Call) (bytes : List ℕ) (last : State)
-    → JoinsAs view.style view.state calls bytes last → Cut why view bytes new.view → StoppedIn writer_law old new view calls false
+    → JoinsAs view.style view.state calls bytes last → Cut why view bytes new.view → StoppedIn step_law old new view calls false
 joined_stops old new why rose view [] bytes last j cut =
     let none : cut.part.count < 0 = subst (λ bytes. cut.part.count < length bytes) j.0 cut.part.within in
     absurd (omega (arith, none))
@@ -147,7 +147,7 @@ joined_stops old new why rose view (call ∷ calls) bytes last j cut =
     next = after_action (step view.style call) view
 
     by_order : (cut.part.count < length (step view.style call view.state).written) ⊎ (length (step view.style call view.state).written ≤ cut.part.count)
-        → (Cut why next j.1.0 new.view → StoppedIn writer_law old new next calls false) → StoppedIn writer_law old new view (call ∷ calls) false
+        → (Cut why next j.1.0 new.view → StoppedIn step_law old new next calls false) → StoppedIn step_law old new view (call ∷ calls) false
     by_order (inl within) on = inl (inr rose, stops_in_first why view new.view call j.1.0 bytes j.1.1 cut within)
     by_order (inr behind) on =
         let two = stops_behind why view new.view call j.1.0 bytes j.1.1 j.0 cut behind in
@@ -189,10 +189,10 @@ module _ {K : Type 0} (told : K → Told) (w w' : Writer K) where
 
   pub emits_joined : (r : Result (Unit {0}) Error) (calls : List Call) (bytes : List ℕ) (last : State) → JoinsAs before.style before.state calls bytes last
       → Does (write bytes) r (record before { state = last }) behind → OnErr r (w'.why ≡ Some (Sink Failed) → IsFull (told w'.sink.now))
-      → Emits writer_law r (writer_standing told w) (makes calls) (writer_standing told w')
+      → Emits step_law r (writer_standing told w) (makes calls) (writer_standing told w')
   emits_joined (Ok done) calls bytes last j d full = record {
     willing = refl;
-    ran = subst (Ran writer_law before calls) (sym d.view) (joined_ran before calls bytes last j d.may.fits);
+    ran = subst (Ran step_law before calls) (sym d.view) (joined_ran before calls bytes last j d.may.fits);
     faults = ap (λ view. view.target.told.faults) d.view;
     wants = ap (λ view. view.target.told.wants) d.view;
   }

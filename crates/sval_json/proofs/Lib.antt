@@ -8,6 +8,7 @@ pub mod WritingValues
 pub mod WritingPlain
 pub mod WrittenOnce
 pub mod WrittenUtf8
+pub mod Passing
 pub mod Refused
 pub mod MendedNumbers
 pub mod MendedRuns

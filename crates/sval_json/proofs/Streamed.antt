@@ -33,7 +33,7 @@ use Rattle.sval_json.proofs.Doing.{nothing_done, done_then, stopped_first, stopp
 
 pub ran_as : (calls : List Call) (old new : WriterView) → Ran writer_law old calls new → HasDone (steps old.style calls) old new
 ran_as [] old new e = subst (HasDone nothing old) (sym e) (nothing_done old)
-ran_as (call ∷ calls) old new r = done_then (record { may = r.0; view = refl }) (ran_as calls (after_action (step old.style call) old) new r.1)
+ran_as (call ∷ calls) old new r = done_then (record { may = r.0.0; view = refl }) (ran_as calls (after_action (step old.style call) old) new r.1)
 
 -- all calls were taken and the value refused, or the writer was stopped in one of them
 pub data Ending (old : WriterView) (e : Emission) (new : WriterView) : Type 0 where
@@ -47,7 +47,7 @@ ending_of old new (call ∷ calls) refuses view (inl (cause, stop)) = failed (st
 ending_of old new (call ∷ calls) refuses view (inr (accepted, rest)) = later (ending_of old new calls refuses (after_action (step view.style call) view) rest)
   where
     first : HasDone (step view.style call) view (after_action (step view.style call) view)
-    first = record { may = accepted; view = refl }
+    first = record { may = accepted.0; view = refl }
 
     later : Ending (after_action (step view.style call) view) (record { calls = calls; refuses = refuses }) new.view → Ending view (record { calls = call ∷ calls; refuses = refuses }) new.view
     later (refused r done) = refused r (done_then first done)

@@ -20,7 +20,8 @@ use Rattle.sval_json.specs.Number.{Refusal, InvalidKey, Phase, Start, Signed, Ze
 use Rattle.sval_json.specs.Shape.{handle, handle_of, is_identifier, is_none_tag}
 use Rattle.sval_json.specs.Actions.{Handler, escapes, copies, reads, State, start, set_named, set_empty, set_quoted, set_handler, Outcome, Action, write, nothing, refuse, continue, ◌then◌, ◌sets◌, from, when}
 use Rattle.sval_json.specs.Steps.{value_written, refuse_in_key, opens, closes, quote_if_quoted, handle_text, opens_handle, name_step, after_name, comma_unless_empty, item_begins, text_begins, fragment, fragment_by, number_ends, handler_ends, bytes_step, label_step, own_step, standalone_step, label_text, field_begins, begins_tagged, number_is_over, ends_tagged, refuses_key, container_begins, container_ends, part_begins, part_ends, step, steps, written_in}
-use Rattle.sval_json.specs.Laws.{HasRealEnd, AreOfAProgram, WrittenIsUtf8}
+use Rattle.sval_json.specs.Laws.{WrittenIsUtf8}
+use Rattle.sval_json.specs.Passed.{HasRealEnd, ArePassed}
 use Rattle.sval_json.proofs.NumberTexts.{ascii_utf8, number_utf8, signed_number, natural_number, escaped_utf8}
 use Rattle.sval_json.proofs.Meaning.{truth_utf8, comma_utf8, indexes_number, numbers_utf8, handle_utf8}
 
@@ -220,7 +221,7 @@ own_step_utf8 false l o u v = label_utf8 l o u v
 standalone_utf8 : (name : Name) → IsRealName name → WritesUtf8 (standalone_step name)
 standalone_utf8 name r =
     let own : WritesUtf8 (own_step (is_none_tag name.tag) name.label (handle_of None name.index)) =
-      own_step_utf8 (is_none_tag name.tag) name.label (handle_of None name.index) r.0 (numbers_utf8 _ (indexes_number name.index r.1)) in
+    own_step_utf8 (is_none_tag name.tag) name.label (handle_of None name.index) r.0 (numbers_utf8 _ (indexes_number name.index r.1)) in
     record { at = λ state. own.at (set_empty false (set_named false state)) }
 
 label_text_utf8 : (b : Bool) (text : List ℕ) → IsUtf8 text → IsUtf8 (if b then text else escaped text)
@@ -317,7 +318,7 @@ step_utf8 style (Call.EnumBegin name) r e = record { at = λ state. (named_utf8 
 step_utf8 style (Call.EnumEnd name) r e = enum_end_utf8 name e
 step_utf8 style (Call.TaggedBegin name) r e =
     let both : WritesUtf8 (refuses_key (text_kind name.tag) then name_step style (handle name)) =
-      then_utf8 (refuses_key (text_kind name.tag)) (name_step style (handle name)) (refuses_key_utf8 (text_kind name.tag)) (named_utf8 style name r) in
+    then_utf8 (refuses_key (text_kind name.tag)) (name_step style (handle name)) (refuses_key_utf8 (text_kind name.tag)) (named_utf8 style name r) in
     record { at = λ state. both.at state }
 step_utf8 style (Call.TaggedEnd name) r e =
     sets_utf8 _ (after_name name) (then_utf8 (ends_tagged (text_kind name.tag)) _ (ends_tagged_utf8 (text_kind name.tag))
@@ -327,7 +328,7 @@ step_utf8 style (Call.End head) r e = ends_utf8 head
 step_utf8 style (Call.PartBegin slot) r e = part_begins_utf8 slot r
 step_utf8 style (Call.PartEnd slot) r e = part_ends_utf8 slot
 
-steps_utf8 : (style : Variants) (calls : List Call) → AreOfAProgram calls → WritesUtf8 (steps style calls)
+steps_utf8 : (style : Variants) (calls : List Call) → ArePassed calls → WritesUtf8 (steps style calls)
 steps_utf8 style [] r = nothing_utf8
 steps_utf8 style (call ∷ calls) r = then_utf8 (step style call) (steps style calls) (step_utf8 style call r.0.0 r.0.1) (steps_utf8 style calls r.1)
 

@@ -1,5 +1,5 @@
 -- What streaming a value to JSON in memory answers: the bytes, or why there are none.
-use Rattle.std.specs.Prelude.{◌≡◌, ◌⊎◌, ℕ, false, List, None, Some, Result, Ok, Err, IfOk, OnOk}
+use Rattle.std.specs.Prelude.{◌≡◌, ◌⊎◌, ℕ, false, List, None, Some, Result, Ok, Err, IfOk, OnOk, IsUtf8}
 use Rattle.sval_label.specs.Calls.{Call}
 use Rattle.sval_core.specs.Law.{Emission}
 use Rattle.sval_core.specs.Spells.{Spells}
@@ -60,6 +60,7 @@ pub record GivesJson (style : Variants) (emission : Emission) (result : Result (
   pub written : IfOk result (IsTextIn style emission.calls)
   pub tree : IfOk result (IsSpelledTextIn style emission.calls)
   pub denotes : IfOk result (IsSpelledValueIn style emission.calls)
+  pub utf8 : IfOk result IsUtf8
   pub willing : OnOk result (emission.refuses ≡ false)
   pub generic_comes : RefusesItself style emission → ComesInMemory kind.Generic result
   pub generic : result ≡ Err kind.Generic → RefusesItself style emission

@@ -28,3 +28,4 @@ pub mod Given
 pub mod ToFmt
 pub mod Room
 pub mod Laws
+pub mod Passed

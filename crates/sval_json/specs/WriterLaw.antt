@@ -11,6 +11,7 @@ use Rattle.sval_json.specs.Actions.{State, Action}
 use Rattle.sval_json.specs.SeenWriter.{seen_handler}
 use Rattle.sval_json.specs.Steps.{step}
 use Rattle.sval_json.specs.Number.{Refusal}
+use Rattle.sval_json.specs.Passed.{IsPassed}
 use Rattle.sval_json.specs.ErrorKinds.{seen_refusal}
 use Rattle.sval_json.specs.Sinks.{Told, appended, less_room, HasRoom, WritesWhole, WritesFront}
 
@@ -69,9 +70,17 @@ abbrev pub IsOnlySet : (State → State) → WriterView → WriterView → Type 
 IsOnlySet change old new = new ≡ record old { state = change old.state }
 
 -- a call is taken where its step refuses nothing and what it writes has room
+abbrev pub step_law : Law WriterView
+step_law = record {
+  accepts = λ view call. MayDo (step view.style call) view;
+  after = λ view call. after_action (step view.style call) view;
+  stopped = λ view call left. IsStopped (step view.style call) view left;
+}
+
+-- the same, of calls that a program can pass: no other is passed
 abbrev pub writer_law : Law WriterView
 writer_law = record {
-  accepts = λ view call. MayDo (step view.style call) view;
+  accepts = λ view call. MayDo (step view.style call) view × IsPassed call;
   after = λ view call. after_action (step view.style call) view;
   stopped = λ view call left. IsStopped (step view.style call) view left;
 }

@@ -1,5 +1,5 @@
 -- What streaming a value to JSON leaves of a sink.
-use Rattle.std.specs.Prelude.{◌≡◌, ◌<◌, true, false, length, List, None, Some, Result, Ok, Err, OnOk, OnErr}
+use Rattle.std.specs.Prelude.{◌≡◌, ◌<◌, true, false, length, List, None, Some, Result, Ok, Err, OnOk, OnErr, IsUtf8}
 use Rattle.sval_label.specs.Calls.{Call}
 use Rattle.sval_core.specs.Law.{Emission, Rose}
 use Rattle.sval_core.specs.Spells.{Spells}
@@ -16,6 +16,7 @@ use Rattle.sval_json.specs.Sinks.{Told, IsSteady, IsQuiet, NoCountFell, Appends,
 use Rattle.sval_json.specs.Steps.{written_in}
 use Rattle.sval_json.specs.Grammar.{JsonValue}
 use Rattle.sval_json.specs.Promises.{KeepsPromises}
+use Rattle.sval_json.specs.Passed.{ArePassed}
 use Rattle.sval_json.specs.Laws.{IsTheValueOf}
 
 -- no step refuses a call, and exactly what the steps write in this style was taken
@@ -97,6 +98,8 @@ pub record StreamsJson (style : Variants) (emission : Emission) (result : Result
   pub written : OnOk result (IsWrittenIn style emission.calls old new)
   pub tree : OnOk result (WritesSpelledTree style emission.calls old new)
   pub denotes : OnOk result (WritesSpelledValue style emission.calls old new)
+  pub passed : OnOk result (ArePassed emission.calls)
+  pub utf8 : OnOk result (IsUtf8 (written_in style emission.calls).written)
   pub willing : OnOk result (emission.refuses ≡ false)
   pub steady : OnOk result (IsSteady old new)
   pub generic_comes : RefusesItself style emission → IsQuiet old new → result ≡ Err kind.Generic

@@ -15,6 +15,7 @@ mod fixed;
 mod json_str;
 pub mod laws;
 mod number;
+mod passed;
 mod real;
 mod sink;
 mod style;

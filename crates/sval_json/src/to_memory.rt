@@ -4,9 +4,9 @@ ghost use Rattle.std.specs.Prelude.{string_bytes};
 ghost use Rattle.sval_json.specs.declared.style.Variants.TheVariants.{Inside};
 ghost use Rattle.sval_json.specs.Given.{GivesJson, by_bytes};
 
-use crate::error::{Error, Stop};
+use crate::error::Error;
 use crate::json_str::JsonString;
-use crate::sink::{SinkError, VecSink};
+use crate::sink::VecSink;
 use crate::to_io::stream_to_io_write;
 use std::alloc::Global;
 use sval_core::{Lent, Value};
@@ -40,8 +40,7 @@ pub fn stream_to_vec<'v, V: Value<'v, Lent<'v>>>(alloc: Global, v: &'v V) -> Res
 
 /// The JSON of a value, as a text.
 ///
-/// It answers as [`stream_to_vec`] does, and takes no more memory. No proof says that the bytes are UTF-8, so they are
-/// looked through once more.
+/// It answers as [`stream_to_vec`] does, and takes no more memory. The bytes are UTF-8, so nothing looks through them again.
 ///
 /// ```
 /// let json = stream_to_string(alloc, &value)?;
@@ -50,9 +49,7 @@ pub fn stream_to_vec<'v, V: Value<'v, Lent<'v>>>(alloc: Global, v: &'v V) -> Res
 ///
 /// # Errors
 ///
-/// Those of [`stream_to_vec`]. [`NoMemory`](crate::ErrorKind::NoMemory) would also stand for bytes that aren't UTF-8,
-/// which texts and labels, being UTF-8 themselves, never give.
-#[tactic(auto, using(crate::proofs::Given::given_no_text))]
+/// Those of [`stream_to_vec`].
 pub fn stream_to_string<'v, V: Value<'v, Lent<'v>>>(
     alloc: Global,
     v: &'v V,
@@ -60,10 +57,8 @@ pub fn stream_to_string<'v, V: Value<'v, Lent<'v>>>(
     ensures { GivesJson Inside (V.emission v.now) (by_bytes result string_bytes) }
 {
     let json = stream_to_vec(alloc, v)?;
-    match String::from_utf8(json) {
-        Ok(text) => Ok(text),
-        Err(_) => Err(Error::of(Some(Stop::Sink(SinkError::NoMemory)))),
-    }
+    // What is written is UTF-8 (`utf8` of `GivesJson`).
+    Ok(unsafe { String::from_utf8_unchecked(json) })
 }
 
 /// The JSON of a value, as a text that is a value again, which the writer writes as it is.

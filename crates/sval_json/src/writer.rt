@@ -10,7 +10,7 @@ mod texts;
 ghost use Rattle.std.specs.Prelude.{◌≡◌, ◌++◌, Some, OnErr, codes};
 ghost use Rattle.std.specs.Bool.{OnTrue};
 ghost use Rattle.std.specs.Fmt.{signed_decimal};
-ghost use Rattle.sval_label.specs.Grouped.{int_number};
+ghost use Rattle.sval_label.specs.Grouped.{grouped_call, int_number};
 ghost use Rattle.sval_label.specs.Made.{lent_call};
 ghost use Rattle.sval_core.specs.Law.{Answers, Emits};
 ghost use Rattle.sval_core.specs.Values.{makes, whole_text_calls, whole_key_calls};
@@ -20,12 +20,13 @@ ghost use Rattle.sval_json.specs.Actions.{write, refuse, escapes};
 ghost use Rattle.sval_json.specs.SeenWriter.{quoted_text, seen_handler};
 ghost use Rattle.sval_json.specs.Sinks.{IsFull};
 ghost use Rattle.sval_json.specs.Steps.{value_written, refuse_in_key, opens, closes};
-ghost use Rattle.sval_json.specs.WriterLaw.{WriterView, Does, writer_law, writer_view, writer_standing};
+ghost use Rattle.sval_json.specs.WriterLaw.{WriterView, Does, step_law, writer_law, writer_view, writer_standing};
 
 use crate::digits::format_int;
 use crate::error::{Refusal, Stop};
 use crate::escape::write_escaped;
 use crate::number::NumberMachine;
+use crate::passed::{call_is_real, end_is_real, text_is_real};
 use crate::sink::{Sink, SinkError, write_all, write_in_place};
 use crate::style::Variants;
 use crate::writer::short::{Quoted, push_between, push_plain};
@@ -228,56 +229,14 @@ impl<'k, K: Sink> Writer<'k, K> {
         self.empty = false;
         self.write_mark(bracket)
     }
-}
 
-impl<'k, 'sval, K: Sink> Stream<Lent<'sval>> for Writer<'k, K> {
-    ghost View = { WriterView };
-
-    ghost law = { writer_law };
-
-    ghost standing = { writer_standing K.told };
-
+    /// Does what a call's step does.
     #[inline(always)]
-    fn whole_text(&mut self, text: &'sval str, size: Option<usize>) -> Result
-        ensures { Emits writer_law result (writer_standing K.told self.old)
-            (makes (whole_text_calls size text.now)) (writer_standing K.told self.new) }
+    fn take_grouped(&mut self, call: GroupedCall<'_, &str, &[u8]>) -> Result
+        ensures { Answers step_law result (writer_standing K.told self.old)
+            (grouped_call (λ text. text.now) (λ bytes. bytes.now) call.entry) (writer_standing K.told self.new) }
     {
-        let mut joined = ArrayString::new();
-        if self.quoted && self.escapes() && push_plain(&mut joined, "\"", text, "\"") {
-            self.empty = false;
-            return self.write_joined(joined.as_bytes());
-        }
-        self.take(Call::TextBegin(size))?;
-        self.take(Call::TextFragment(text))?;
-        self.take(Call::TextEnd)
-    }
-
-    #[inline(always)]
-    fn whole_text_key(&mut self, text: &'sval str, size: Option<usize>) -> Result
-        ensures { Emits writer_law result (writer_standing K.told self.old)
-            (makes (whole_key_calls size text.now)) (writer_standing K.told self.new) }
-    {
-        let mut joined = ArrayString::new();
-        if self.escapes() && push_plain(&mut joined, ",\"", text, "\":") {
-            let no_comma = if self.empty { 1 } else { 0 };
-            self.named = false;
-            self.empty = false;
-            self.quoted = true;
-            return self.write_joined(&joined.as_bytes()[no_comma..]);
-        }
-        self.take(Call::MapKeyBegin)?;
-        self.take(Call::TextBegin(size))?;
-        self.take(Call::TextFragment(text))?;
-        self.take(Call::TextEnd)?;
-        self.take(Call::MapKeyEnd)
-    }
-
-    #[inline(always)]
-    fn take(&mut self, call: Call<'sval, '_>) -> Result
-        ensures { Answers writer_law result
-            (writer_standing K.told self.old) (lent_call call.entry) (writer_standing K.told self.new) }
-    {
-        match call.grouped() {
+        match call {
             GroupedCall::Null => self.write_null(),
             GroupedCall::Bool(true) => self.write_value(b"true"),
             GroupedCall::Bool(false) => self.write_value(b"false"),
@@ -303,5 +262,62 @@ impl<'k, 'sval, K: Sink> Stream<Lent<'sval>> for Writer<'k, K> {
             GroupedCall::PartBegin(slot) => self.begin_part(slot),
             GroupedCall::PartEnd(slot) => self.end_part(slot),
         }
+    }
+}
+
+impl<'k, 'sval, K: Sink> Stream<Lent<'sval>> for Writer<'k, K> {
+    ghost View = { WriterView };
+
+    ghost law = { writer_law };
+
+    ghost standing = { writer_standing K.told };
+
+    #[inline(always)]
+    fn whole_text(&mut self, text: &'sval str, size: Option<usize>) -> Result
+        ensures { Emits writer_law result (writer_standing K.told self.old)
+            (makes (whole_text_calls size text.now)) (writer_standing K.told self.new) }
+    {
+        text_is_real(text);
+        let mut joined = ArrayString::new();
+        if self.quoted && self.escapes() && push_plain(&mut joined, "\"", text, "\"") {
+            self.empty = false;
+            return self.write_joined(joined.as_bytes());
+        }
+        self.take(Call::TextBegin(size))?;
+        self.take(Call::TextFragment(text))?;
+        self.take(Call::TextEnd)
+    }
+
+    #[inline(always)]
+    fn whole_text_key(&mut self, text: &'sval str, size: Option<usize>) -> Result
+        ensures { Emits writer_law result (writer_standing K.told self.old)
+            (makes (whole_key_calls size text.now)) (writer_standing K.told self.new) }
+    {
+        text_is_real(text);
+        let mut joined = ArrayString::new();
+        if self.escapes() && push_plain(&mut joined, ",\"", text, "\":") {
+            let no_comma = if self.empty { 1 } else { 0 };
+            self.named = false;
+            self.empty = false;
+            self.quoted = true;
+            return self.write_joined(&joined.as_bytes()[no_comma..]);
+        }
+        self.take(Call::MapKeyBegin)?;
+        self.take(Call::TextBegin(size))?;
+        self.take(Call::TextFragment(text))?;
+        self.take(Call::TextEnd)?;
+        self.take(Call::MapKeyEnd)
+    }
+
+    #[inline(always)]
+    #[tactic(auto, using(crate::proofs::Passing::answers_passed))]
+    fn take(&mut self, call: Call<'sval, '_>) -> Result
+        ensures { Answers writer_law result
+            (writer_standing K.told self.old) (lent_call call.entry) (writer_standing K.told self.new) }
+    {
+        let call = call.grouped();
+        call_is_real(call);
+        end_is_real(call);
+        self.take_grouped(call)
     }
 }

@@ -1,6 +1,8 @@
 use Rattle.std.proofs.Common.{refl, rules, true, false, None}
 use Rattle.sval_json.specs.declared.writer.Handler.TheVariants.{Escapes}
 use Rattle.sval_json.proofs.Streamed.{after_streams, after_stops, is_generic, is_refused, writes_spelled, values_spelled, refuses_spelled, begins_spelled}
+use Rattle.sval_json.proofs.Passing.{ran_is_passed}
+use Rattle.sval_json.proofs.WrittenUtf8.{written_is_utf8}
 use Rattle.sval_json.specs.Number.{InvalidKey, InvalidNumber}
 use Rattle.sval_json.proofs.to_io.stream_to_io_write_with.Goals as goal
 
@@ -8,10 +10,13 @@ use Rattle.sval_json.proofs.to_io.stream_to_io_write_with.Goals as goal
 pub returns-in-Ok : goal.returns-in-Ok
 returns-in-Ok g c =
     let after = after_streams g.K.Sink.told (g.V.Value.emission c.args.v.now) (record { sink = record c.args.out { ghost_name = _ }; variants = c.args.variants; named = false; empty = true; quoted = true; handler = Escapes; why = None }) c.stream-streamed.new.stream refl c.in-Ok.ensures in
+    let passed = ran_is_passed (g.V.Value.emission c.args.v.now).calls _ _ c.in-Ok.ensures.ran in
     record {
       written = search rules;
       tree = λ tree spells. let whole = writes_spelled after.written tree spells in search rules;
       denotes = λ tree spells real promises. let whole = values_spelled after.written tree spells real promises in search rules;
+      passed = passed;
+      utf8 = written_is_utf8 c.args.variants (g.V.Value.emission c.args.v.now).calls passed;
       willing = search rules;
       steady = search rules;
       generic_comes = λ itself _. let willing = c.in-Ok.ensures.willing in let refuses = itself.refuses in cc;
@@ -37,6 +42,8 @@ returns-in-Err g c =
       written = search rules;
       tree = search rules;
       denotes = search rules;
+      passed = search rules;
+      utf8 = search rules;
       willing = search rules;
       steady = search rules;
       generic_comes = λ itself quiet. let is = is_generic after itself.refusal (search rules) in cc;
