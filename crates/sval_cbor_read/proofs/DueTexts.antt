@@ -111,7 +111,7 @@ module _ (input : List ℕ) (calls : List Call) (r : IsRead input calls) where
     pub writes_json : IsInMemory input → IsWrittenIn Inside calls (told old) (told new) → WritesSpelledValue Inside calls (told old) (told new) → IsSteady (told old) (told new)
         → ServesBytes read_terms told form.Json input (Ok tt) old new
     writes_json m w spelled steady =
-        let value = spelled r.tree r.spells (item_is_real input r.tree m.bytes r.item) (item_promises m r.item) in
+        let value = spelled r.tree r.spells (item_promises m r.item) in
         record {
           bytes = most_of form.Json r.item;
           due = json_due m r.item value.json value.shape;

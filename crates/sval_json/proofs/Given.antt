@@ -1,8 +1,6 @@
 -- Why there are no bytes: what stopped the writer over a sink in memory.
-use Rattle.std.specs.Prelude.{◌≡◌, ◌<◌, ℕ, List, [], ◌∷◌, length, None, Some, Ok, Err, refl}
-use Rattle.std.specs.Str.{IsUtf8}
-use Rattle.std.proofs.Common.{sym, ap, ◌∙◌, subst, inl, inr, arith}
-use Rattle.std.proofs.lemmas.Str.{IsUtf8-nil}
+use Rattle.std.specs.Prelude.{◌≡◌, None, Some, Err, refl}
+use Rattle.std.proofs.Common.{sym, ap, ◌∙◌, inl, inr, arith}
 use Rattle.sval_core.specs.Law.{Emission, Rose}
 use Rattle.sval_json.specs.declared.style.Variants.{Variants}
 use Rattle.sval_json.specs.Number.{Refusal, InvalidKey, InvalidNumber}
@@ -61,29 +59,3 @@ module _ {style : Variants} {e : Emission} {old new : Taken} (found : ErrorKind)
     io = λ f. no_fault (streams.io (let same : found ≡ IO = cc f in ap Err same));
     no_memory = λ f. let same : found ≡ kind.NoMemory = cc f in let cut = streams.no_memory_short (ap Err same) in omega (arith, cut.within);
   }
-
--- bytes that aren't UTF-8 are some
-some_bytes : (bytes : List ℕ) → (IsUtf8 bytes → ⊥) → 0 < length bytes
-some_bytes [] broken = absurd (broken IsUtf8-nil)
-some_bytes (byte ∷ bytes) broken = omega arith
-
-never_refused : (why : Refusal) → kind.NoMemory ≡ refusal_kind why → ⊥
-never_refused InvalidKey is = cc is
-never_refused InvalidNumber is = cc is
-
--- the bytes aren't UTF-8, for which want of memory stands
-pub given_no_text : {style : Variants} {e : Emission} (bytes : List ℕ) → GivesJson style e (Ok bytes) → (IsUtf8 bytes → ⊥) → GivesJson style e (Err kind.NoMemory)
-given_no_text bytes given broken = record {
-  written = tt;
-  tree = tt;
-  denotes = tt;
-  utf8 = tt;
-  willing = tt;
-  generic_comes = λ itself. inr refl;
-  generic = λ f. cc f;
-  refused_comes = λ why some. inr refl;
-  refused = λ why f. let same : kind.NoMemory ≡ refusal_kind why = cc f in absurd (never_refused why same);
-  tree_refused = λ why f. let same : kind.NoMemory ≡ refusal_kind why = cc f in absurd (never_refused why same);
-  io = λ f. cc f;
-  no_memory = λ f. subst (λ text. 0 < length text) given.written.text (some_bytes bytes broken);
-}

@@ -4,6 +4,11 @@ use Rattle.std.proofs.Common.{inl, inr}
 use Rattle.sval_label.specs.declared.error.Error.{Error}
 use Rattle.sval_label.specs.Calls.{Call}
 use Rattle.sval_core.specs.Law.{Standing, Emission, HasCause, Answers, Ran, StoppedIn, Emits}
+use Rattle.std.specs.List.{AllByRecursion}
+use Rattle.sval_core.specs.Trees.{Tree}
+use Rattle.sval_core.specs.Spells.{Spells}
+use Rattle.sval_core.specs.Real.{IsRealCall, IsReal}
+use Rattle.sval_core.proofs.RealTrees.{real_calls-real_tree}
 use Rattle.sval_json.specs.Passed.{IsPassed, ArePassed}
 use Rattle.sval_json.specs.WriterLaw.{WriterView, step_law, writer_law}
 
@@ -31,6 +36,14 @@ pub emits_passed : (r : Result (Unit {0}) Error) (old new : Standing WriterView)
 emits_passed (Ok done) old new e passed s = record { willing = s.willing; ran = ran_passed e.calls old.view new.view passed s.ran; faults = s.faults; wants = s.wants }
 emits_passed (Err refusal) old new e passed s =
     record { stopped = stopped_passed old new e.calls e.refuses old.view passed s.stopped; faults = s.faults; wants = s.wants }
+
+each_real : (calls : List Call) → ArePassed calls → AllByRecursion IsRealCall calls
+each_real [] passed = tt
+each_real (call ∷ calls) passed = (passed.0.0, each_real calls passed.1)
+
+-- the tree that passed calls spell is real
+pub passed_real : (calls : List Call) (tree : Tree) → ArePassed calls → Spells calls tree → IsReal tree
+passed_real calls tree passed spells = real_calls-real_tree calls tree (each_real calls passed) spells
 
 -- what was taken was passed
 pub ran_is_passed : (calls : List Call) (view last : WriterView) → Ran writer_law view calls last → ArePassed calls

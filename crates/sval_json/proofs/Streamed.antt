@@ -24,6 +24,8 @@ use Rattle.sval_json.specs.WriterLaw.{WriterView, after_action, HasDone, IsLeftB
 use Rattle.sval_json.specs.Laws.{IsWrittenAs}
 use Rattle.sval_json.specs.Promises.{KeepsPromises}
 use Rattle.sval_json.specs.Written.{IsWrittenIn, IsBegunIn, IsCutIn, IsRefusedIn, IsTooLongFor, WritesTreeIn, WritesSpelledTree, WritesValueIn, WritesSpelledValue, RefusesSpelledTree, BeginsSpelledTree, EndsRefused}
+use Rattle.sval_json.specs.Passed.{ArePassed}
+use Rattle.sval_json.proofs.Passing.{passed_real}
 use Rattle.sval_json.proofs.WritingPlain.{spelling_written}
 use Rattle.sval_json.proofs.Meaning.{text_means}
 use Rattle.sval_json.proofs.Appending.{all_is_front, steady_counts}
@@ -246,8 +248,8 @@ written_value style tree done real promises =
     let meant = text_means style tree done.json real promises done.shape in
     record { json = done.json; shape = done.shape; value = meant.0; is = meant.1; appends = done.appends }
 
-pub values_spelled : {old new : Told} {style : Variants} {calls : List Call} → IsWrittenIn style calls old new → WritesSpelledValue style calls old new
-values_spelled {style = style} done tree s real promises = written_value style tree (writes_spelled done tree s) real promises
+pub values_spelled : {old new : Told} {style : Variants} {calls : List Call} → IsWrittenIn style calls old new → ArePassed calls → WritesSpelledValue style calls old new
+values_spelled {style = style} {calls = calls} done passed tree s promises = written_value style tree (writes_spelled done tree s) (passed_real calls tree passed s) promises
 
 refused_tree : (style : Variants) (tree : Tree) (found : Result Json Refusal) (refusal : Option Refusal) (why : Refusal) → refusal ≡ Some why → json_in style tree ≡ found
     → ((json : Json) → found ≡ Ok json → refusal ≡ None) → ((other : Refusal) → found ≡ Err other → refusal ≡ Some other) → json_in style tree ≡ Err why

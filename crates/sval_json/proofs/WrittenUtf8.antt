@@ -14,12 +14,11 @@ use Rattle.sval_core.specs.Real.{IsRealLabel, IsRealName, IsRealSlot, IsRealCall
 use Rattle.sval_json.specs.declared.style.Variants.{Variants}
 use Rattle.sval_json.specs.declared.style.Variants.TheVariants.{Inside, Beside}
 use Rattle.sval_json.specs.Escape.{escaped}
-use Rattle.sval_json.specs.Json.{comma}
 use Rattle.sval_json.specs.Digits.{minus, point, zero_digit, is_sign, is_exponent_mark}
-use Rattle.sval_json.specs.Number.{Refusal, InvalidKey, Phase, Start, Signed, Zero, Whole, Point, Fraction, Exponent, ExponentSign, ExponentDigits, Word, Machine, Reading, begins_word, sign, moves, stops, word_or_stop, take_byte, take_bytes, at_end}
+use Rattle.sval_json.specs.Number.{Refusal, InvalidKey, Phase, Start, Signed, Zero, Whole, Point, Fraction, Exponent, ExponentSign, ExponentDigits, Word, Machine, Reading, begins_word, sign, word_or_stop, take_byte, take_bytes, at_end}
 use Rattle.sval_json.specs.Shape.{handle, handle_of, is_identifier, is_none_tag}
 use Rattle.sval_json.specs.Actions.{Handler, escapes, copies, reads, State, start, set_named, set_empty, set_quoted, set_handler, Outcome, Action, write, nothing, refuse, continue, ◌then◌, ◌sets◌, from, when}
-use Rattle.sval_json.specs.Steps.{value_written, refuse_in_key, opens, closes, quote_if_quoted, handle_text, opens_handle, name_step, after_name, comma_unless_empty, item_begins, text_begins, fragment, fragment_by, number_ends, handler_ends, bytes_step, label_step, own_step, standalone_step, label_text, field_begins, begins_tagged, number_is_over, ends_tagged, refuses_key, container_begins, container_ends, part_begins, part_ends, step, steps, written_in}
+use Rattle.sval_json.specs.Steps.{value_written, refuse_in_key, opens, closes, quote_if_quoted, handle_text, opens_handle, name_step, after_name, comma_unless_empty, item_begins, text_begins, fragment, fragment_by, number_ends, handler_ends, bytes_step, label_step, own_step, standalone_step, field_begins, ends_tagged, refuses_key, container_begins, container_ends, part_begins, part_ends, step, steps}
 use Rattle.sval_json.specs.Laws.{WrittenIsUtf8}
 use Rattle.sval_json.specs.Passed.{HasRealEnd, ArePassed}
 use Rattle.sval_json.proofs.NumberTexts.{ascii_utf8, number_utf8, signed_number, natural_number, escaped_utf8}

@@ -4,7 +4,6 @@ use Rattle.sval_label.specs.Calls.{Call}
 use Rattle.sval_core.specs.Law.{Emission}
 use Rattle.sval_core.specs.Spells.{Spells}
 use Rattle.sval_core.specs.Trees.{Tree}
-use Rattle.sval_core.specs.Real.{IsReal}
 use Rattle.sval_json.specs.declared.style.Variants.{Variants}
 use Rattle.sval_json.specs.Json.{Json, compact}
 use Rattle.sval_json.specs.Shape.{json_in}
@@ -41,9 +40,9 @@ pub record IsTreeValueIn (style : Variants) (tree : Tree) (bytes : List ℕ) : T
   pub is : IsTheValueOf json value
   pub text : bytes ≡ compact json
 
--- if the calls spell a real tree that keeps its promises, the bytes denote what is meant
+-- if the calls spell a tree that keeps its promises, the bytes denote what is meant
 abbrev pub IsSpelledValueIn : Variants → List Call → List ℕ → Type 0
-IsSpelledValueIn style calls bytes = (tree : Tree) → Spells calls tree → IsReal tree → KeepsPromises tree → IsTreeValueIn style tree bytes
+IsSpelledValueIn style calls bytes = (tree : Tree) → Spells calls tree → KeepsPromises tree → IsTreeValueIn style tree bytes
 
 -- an answer by what is seen of its bytes
 abbrev pub by_bytes : {T : Type 0} → Result T ErrorKind → (T → List ℕ) → Result (List ℕ) ErrorKind

@@ -4,7 +4,6 @@ use Rattle.sval_label.specs.Calls.{Call}
 use Rattle.sval_core.specs.Law.{Emission, Rose}
 use Rattle.sval_core.specs.Spells.{Spells}
 use Rattle.sval_core.specs.Trees.{Tree}
-use Rattle.sval_core.specs.Real.{IsReal}
 use Rattle.sval_json.specs.declared.style.Variants.{Variants}
 use Rattle.sval_json.specs.Json.{Json, compact}
 use Rattle.sval_json.specs.Shape.{json_in}
@@ -64,10 +63,10 @@ pub record WritesValueIn (style : Variants) (tree : Tree) (old new : Told) : Typ
   pub is : IsTheValueOf json value
   pub appends : Appends old (compact json) new
 
--- if the calls spell a real tree that keeps its promises, the text that was taken denotes what is meant
+-- if the calls spell a tree that keeps its promises, the text that was taken denotes what is meant
 abbrev pub WritesSpelledValue : Variants → List Call → Told → Told → Type 0
 WritesSpelledValue style calls old new =
-    (tree : Tree) → Spells calls tree → IsReal tree → KeepsPromises tree → WritesValueIn style tree old new
+    (tree : Tree) → Spells calls tree → KeepsPromises tree → WritesValueIn style tree old new
 
 -- if the calls spell a tree, it has no JSON, for this cause
 abbrev pub RefusesSpelledTree : Variants → Refusal → List Call → Type 0

@@ -94,15 +94,15 @@ refuses_tree {old} {new} style why calls tree s r refused = record {
   steady = r.steady;
 }
 
-pub writes_tree : {old new : Told} (style : Variants) (calls : List Call) (tree : Tree) → Spells calls tree → IsReal tree → WritesSpelledTree style calls old new → WritesSpelledValue style calls old new
+pub writes_tree : {old new : Told} (style : Variants) (calls : List Call) (tree : Tree) → Spells calls tree → WritesSpelledTree style calls old new → WritesSpelledValue style calls old new
     → IsSteady old new → WritesTextOf (JsonIn style) tree old new
-writes_tree style calls tree s real spelled value steady =
+writes_tree style calls tree s spelled value steady =
     let w = spelled tree s in
     record {
       text = compact w.json;
       is = ap (map_ok compact) w.shape;
       meant = λ promises.
-          let v = value tree s real promises in
+          let v = value tree s promises in
           let same : Ok w.json ≡ Ok v.json = sym w.shape ∙ v.shape in
           let json : w.json ≡ v.json = cc same in
           record { json = v.json; shape = v.shape; is_text = ap compact json; value = v.value; is = v.is };

@@ -14,7 +14,7 @@ returns-in-Ok g c =
     record {
       written = search rules;
       tree = λ tree spells. let whole = writes_spelled after.written tree spells in search rules;
-      denotes = λ tree spells real promises. let whole = values_spelled after.written tree spells real promises in search rules;
+      denotes = λ tree spells promises. let whole = values_spelled after.written passed tree spells promises in search rules;
       passed = passed;
       utf8 = written_is_utf8 c.args.variants (g.V.Value.emission c.args.v.now).calls passed;
       willing = search rules;
