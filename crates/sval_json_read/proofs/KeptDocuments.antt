@@ -1,7 +1,7 @@
 -- What is kept of a document can be cut from its bytes, and makes its calls.
 use Rattle.std.specs.Prelude.{◌≡◌, ℕ, zero, suc, ◌+◌, ◌-◌, ◌<◌, ◌≤◌, true, List, [], ◌∷◌, map, length, drop, get_or, IsUtf8, IsCharBoundary}
 use Rattle.std.specs.List.{between, list_all, AllByRecursion}
-use Rattle.std.proofs.Common.{subst, ◌∙◌, arith, inl, inr, length-drop, length-take-le, get_or-drop}
+use Rattle.std.proofs.Common.{sym, subst, ◌∙◌, arith, inl, inr, length-drop, length-take-le, get_or-drop}
 use Rattle.std.proofs.lemmas.Bool.{cases_lt, and_parts}
 use Rattle.std.proofs.lemmas.List.{get_or-take}
 use Rattle.std.proofs.lemmas.Str.{IsCharBoundary-before_ascii, IsCharBoundary-after_ascii}
@@ -14,6 +14,13 @@ use Rattle.sval_json_read.specs.Documents.{IsDocument}
 use Rattle.sval_json_read.specs.RawStrings.{IsProperToken, AreProperTokens}
 use Rattle.sval_json_read.specs.SeenNodes.{node_of, StandsIn, IsCutFrom, AreKeptOf}
 use Rattle.sval_json_read.specs.ReadErrors.{IsRead}
+use Rattle.sval_core.specs.Spells.{Spells}
+use Rattle.sval_json_read.specs.Trees.{tree_of}
+use Rattle.sval_json_read.specs.Tokens.{Placed}
+use Rattle.sval_json_read.specs.KeptDocuments.{IsKeptDocument}
+use Rattle.sval_json_read.specs.SeenValues.{value_in}
+use Rattle.sval_json_read.specs.ValueNodes.{IsOfValue, alone, AreOfValue}
+use Rattle.sval_json_read.proofs.SeenValues.{value-seen}
 use Rattle.sval_json_read.proofs.Boundaries.{no_number_byte}
 use Rattle.sval_json_read.proofs.KeptNodes.{streamed-calls, streamed-spells}
 use Rattle.sval_json_read.proofs.RawStrings.{document-tokens}
@@ -71,6 +78,20 @@ cut_all bytes (node ∷ nodes) u s p = (record { cut = cut_one bytes node u s.0 
 
 pub document-kept : (bytes : List ℕ) (nodes : List Node) → IsUtf8 bytes → AllByRecursion (StandsIn bytes) nodes → IsDocument bytes (tokens_in bytes (map node_of nodes)) → AreKeptOf bytes nodes
 document-kept bytes nodes u s d = cut_all bytes nodes u s (document-tokens bytes (tokens_in bytes (map node_of nodes)) d)
+
+root-is : {bytes : List ℕ} {tokens : List Placed} (d : IsDocument bytes tokens) → IsOfValue tokens d.value
+root-is d = subst (λ row. IsOfValue row d.value) (sym d.same) (alone d.denotes.is_value)
+
+pub kept-document : (bytes : List ℕ) (nodes : List Node) → IsUtf8 bytes → AllByRecursion (StandsIn bytes) nodes → IsDocument bytes (tokens_in bytes (map node_of nodes)) → IsKeptDocument bytes nodes
+kept-document bytes nodes u s d = record { kept = document-kept bytes nodes u s d; document = d }
+
+-- and they are those of a value, which the calls spell
+pub root-nodes : (bytes : List ℕ) (nodes : List Node) → IsKeptDocument bytes nodes → AreOfValue bytes nodes
+root-nodes bytes nodes k = record { kept = k.kept; value = k.document.value; is_of = root-is k.document }
+
+pub root-spells : (bytes : List ℕ) (nodes : List Node) → IsKeptDocument bytes nodes → Spells (streamed bytes (map node_of nodes)) (tree_of (value_in (tokens_in bytes (map node_of nodes))))
+root-spells bytes nodes k =
+    subst (λ value. Spells (streamed bytes (map node_of nodes)) (tree_of value)) (sym (value-seen (root-is k.document))) (streamed-spells bytes (map node_of nodes) k.document)
 
 pub document-read : (bytes : List ℕ) (nodes : List Node) → IsDocument bytes (tokens_in bytes (map node_of nodes)) → IsRead bytes (streamed bytes (map node_of nodes))
 document-read bytes nodes d = record {

@@ -32,3 +32,10 @@ pub mod PlainRuns
 mod examples
 pub mod DueTexts
 pub mod RunAnswers
+mod SpanTokens
+mod SeenValues
+mod FirstNodes
+mod InnerNodes
+mod NextNodes
+mod SameTexts
+mod ParsedNaturals

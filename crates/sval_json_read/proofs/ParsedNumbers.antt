@@ -23,22 +23,22 @@ abbrev pub ReadsI64 : {E : Type 0} → List ℕ → Result ℤ E → Type 0
 ReadsI64 text (Ok n) = (fits_i64 text ≡ true) × (n ≡ whole_value text)
 ReadsI64 text (Err e) = fits_i64 text ≡ false
 
-own : IsNumeralModel (λ ds. all_ascii_digits ds ≡ true) (digits_value 10)
+pub own : IsNumeralModel (λ ds. all_ascii_digits ds ≡ true) (digits_value 10)
 own = numerals_by_value (λ ds. all_ascii_digits ds ≡ true) tells_all_ascii_digits
 
 abbrev AreDigits : ℕ → List ℕ → Type 0
 AreDigits most unsigned = (all_ascii_digits unsigned ≡ true) × (0 < length unsigned) × (digits_value 10 unsigned < most)
 
 -- the digits of a number without a tail
-none_after : (unsigned : List ℕ) → all_ascii_digits unsigned ≡ true → (digits_of unsigned ≡ unsigned) × (is_empty (after_digits unsigned) ≡ true)
+pub none_after : (unsigned : List ℕ) → all_ascii_digits unsigned ≡ true → (digits_of unsigned ≡ unsigned) × (is_empty (after_digits unsigned) ≡ true)
 none_after unsigned h = let (e, f) = all_in_front is_ascii_digit unsigned h in (e, ap is_empty f)
 
-all_of_whole : (unsigned : List ℕ) → is_decimal (digits_of unsigned) ≡ true → is_empty (after_digits unsigned) ≡ true → (all_ascii_digits unsigned ≡ true) × (0 < length unsigned)
+pub all_of_whole : (unsigned : List ℕ) → is_decimal (digits_of unsigned) ≡ true → is_empty (after_digits unsigned) ≡ true → (all_ascii_digits unsigned ≡ true) × (0 < length unsigned)
 all_of_whole unsigned d e =
     let k = whole_digits unsigned e in
     let f = subst (λ x. is_decimal x ≡ true) k d in (decimal_digits unsigned f, some_digits unsigned f)
 
-in_range_test : (n m : ℕ) → n < m → nat_lt n m ≡ true
+pub in_range_test : (n m : ℕ) → n < m → nat_lt n m ≡ true
 in_range_test n m h = grind (arith, nat_tests)
 
 negative_fits : (n : ℕ) → n ≤ 2 ^ 63 → is_of_type I64 (neg_ℤ (pos n)) ≡ true
@@ -71,7 +71,7 @@ negative_reads unsigned r u h =
     (d.0, d.1, subst (λ x. digits_value 10 x ≤ 2 ^ 63) (whole_digits unsigned w) (fits_negative (digits_value 10 (digits_of unsigned)) o)))
     (λ p. ap (λ x. neg_ℤ (pos (digits_value 10 x))) (sym (none_after unsigned p.0).0))
 
-no_sign : (byte : ℕ) → is_ascii_digit byte ≡ true → (byte ≢ 43) × (byte ≢ 45)
+pub no_sign : (byte : ℕ) → is_ascii_digit byte ≡ true → (byte ≢ 43) × (byte ≢ 45)
 no_sign byte h = (λ e. grind (arith, nat_tests), λ e. grind (arith, nat_tests))
 
 positive_value : (byte : ℕ) (bytes : List ℕ) → (byte == minus) ≡ false → whole_value (byte ∷ bytes) ≡ pos (digits_value 10 (digits_of (byte ∷ bytes)))

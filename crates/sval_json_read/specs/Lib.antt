@@ -20,3 +20,10 @@ pub mod Forms
 pub mod Statuses
 pub mod Serves
 pub mod Reports
+pub mod SeenValues
+pub mod Lookups
+pub mod NodeSpans
+pub mod ValueNodes
+pub mod SeenParts
+pub mod ValueCodes
+pub mod KeptDocuments

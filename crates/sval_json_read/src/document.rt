@@ -2,12 +2,15 @@
 
 ghost use Rattle.std.specs.Prelude.{IfOk, IfErr, IsUtf8, map};
 ghost use Rattle.std.specs.List.{AllByRecursion};
+ghost use Rattle.sval_core.specs.Spells.{Spells};
 ghost use Rattle.sval_core.specs.Values.{makes};
+ghost use Rattle.sval_json_read.specs.Trees.{tree_of};
 ghost use Rattle.sval_json_read.specs.Documents.{IsDocument};
 ghost use Rattle.sval_json_read.specs.Nodes.{tokens_in};
 ghost use Rattle.sval_json_read.specs.SeenNodes.{node_of, StandsIn};
 ghost use Rattle.sval_json_read.specs.ReadErrors.{IsReadError, IsRead};
 
+use crate::json_ref::JsonRef;
 use crate::node::Node;
 use crate::node_calls::stream_nodes;
 use crate::reader::Reader;
@@ -66,13 +69,14 @@ impl<'a> Model for JsonDoc<'a> {
     ghost use Rattle.std.specs.Prelude.{List, map};
     ghost use Rattle.sval_label.specs.Calls.{Call};
     ghost use Rattle.sval_json_read.specs.Nodes.{streamed};
-    ghost use Rattle.sval_json_read.specs.SeenNodes.{node_of, AreKeptOf};
+    ghost use Rattle.sval_json_read.specs.KeptDocuments.{IsKeptDocument};
+    ghost use Rattle.sval_json_read.specs.SeenNodes.{node_of};
 
     ghost Value = { List Call };
 
     ghost view = { λ doc. streamed doc.text.now (map node_of doc.nodes.items) };
 
-    ghost invariant = { λ doc. AreKeptOf doc.text.now doc.nodes.items };
+    ghost invariant = { λ doc. IsKeptDocument doc.text.now doc.nodes.items };
 }
 
 impl<'a> JsonDoc<'a> {
@@ -97,6 +101,13 @@ impl<'a> JsonDoc<'a> {
             Ok(text) => read_text(alloc, text),
             Err(_) => Err(ReadError::NotUtf8),
         }
+    }
+
+    /// The value that the text denotes.
+    pub fn root(&self) -> JsonRef<'_>
+        ensures { Spells self.now (tree_of result) }
+    {
+        JsonRef::new(self.text, self.nodes.as_slice())
     }
 
     /// How many nodes are kept of the text.

@@ -13,6 +13,9 @@
 mod document;
 mod escape;
 mod form;
+mod json_parts;
+mod json_ref;
+mod json_text;
 pub mod laws;
 mod node;
 mod node_calls;
@@ -22,6 +25,7 @@ mod piece;
 mod program;
 mod reader;
 mod running;
+mod span;
 mod stack;
 pub mod status;
 mod string;
@@ -29,5 +33,8 @@ mod string_calls;
 mod word;
 
 pub use document::{JsonDoc, ReadError};
+pub use json_parts::{JsonItems, JsonMember, JsonMembers};
+pub use json_ref::{JsonKind, JsonRef};
+pub use json_text::JsonText;
 pub use program::ReadJson;
 pub use running::run_read;

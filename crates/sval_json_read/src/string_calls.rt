@@ -42,7 +42,7 @@ fn stream_pieces<'v, S: Stream<Lent<'v>>>(raw: &'v str, stream: &mut S) -> Resul
 }
 
 /// Whether what stands between a string's quotes is one run, without an escape.
-fn is_one_run(raw: &str) -> bool
+pub(crate) fn is_one_run(raw: &str) -> bool
     requires { IsRaw raw.now }
     ensures { OnTrue result (pieces raw.now ≡ run raw.now ∷ []) }
 {

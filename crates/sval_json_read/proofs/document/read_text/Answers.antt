@@ -3,12 +3,12 @@ use Rattle.std.specs.List.{AllByRecursion}
 use Rattle.sval_json_read.specs.Documents.{IsDocument}
 use Rattle.sval_json_read.specs.Nodes.{tokens_in}
 use Rattle.sval_json_read.specs.SeenNodes.{node_of, StandsIn}
-use Rattle.sval_json_read.proofs.KeptDocuments.{document-kept, document-read}
+use Rattle.sval_json_read.proofs.KeptDocuments.{kept-document, document-read}
 use Rattle.sval_json_read.proofs.document.read_text.Goals as goal
 
 pub invariant_of-result : goal.invariant_of-result
 invariant_of-result c =
-    document-kept c.args.text.now c.in-Ok.nodes.items c.utf8.text (subst (λ bytes. AllByRecursion (StandsIn bytes) c.in-Ok.nodes.items) c.as_bytes.ensures.value c.in-Ok.ensures.stand)
+    kept-document c.args.text.now c.in-Ok.nodes.items c.utf8.text (subst (λ bytes. AllByRecursion (StandsIn bytes) c.in-Ok.nodes.items) c.as_bytes.ensures.value c.in-Ok.ensures.stand)
     (subst (λ bytes. IsDocument bytes (tokens_in bytes (map node_of c.in-Ok.nodes.items))) c.as_bytes.ensures.value c.in-Ok.ensures.ok)
 
 pub returns-in-Ok-clause-ok : goal.returns-in-Ok-clause-ok

@@ -1,0 +1,113 @@
+//! What is looked up in documents.
+
+use crate::cases::{Case, try_cases};
+use std::alloc::Global;
+use std::test::Fail;
+use sval_json_read::{JsonDoc, JsonRef};
+
+/// A text, and what its value is taken for, item by item and member by member.
+struct Parts;
+
+impl Case for Parts {
+    const BETWEEN: &'static str = "\n";
+
+    const ARROW: &'static str = " -> ";
+
+    fn seen(alloc: Global, input: &str) -> Result<String, Fail> {
+        let mut seen = String::new(alloc);
+        let doc = JsonDoc::read(alloc, input.as_bytes())?;
+        push_parts(alloc, &doc.root(), &mut seen)?;
+        Ok(seen)
+    }
+}
+
+/// A text, and what the last member of it with the name `a` and a line feed is as an `i64`.
+struct Member;
+
+impl Case for Member {
+    const BETWEEN: &'static str = "\n";
+
+    const ARROW: &'static str = " -> ";
+
+    fn seen(alloc: Global, input: &str) -> Result<String, Fail> {
+        let doc = JsonDoc::read(alloc, input.as_bytes())?;
+        let number = match doc.root().get("a\n") {
+            Some(value) => value.as_i64(),
+            None => None,
+        };
+        Ok(format!(in alloc; "{number:?}")?)
+    }
+}
+
+/// What a value is taken for.
+fn push_one(alloc: Global, value: &JsonRef<'_>, seen: &mut String) -> Result<(), Fail> {
+    let kind = value.kind();
+    let truth = value.as_bool();
+    let signed = value.as_i64();
+    let unsigned = value.as_u64();
+    let number = value.as_number();
+    seen.push_str(format!(in alloc;
+        "{kind:?} {truth:?} {signed:?} {unsigned:?} {number:?}"
+    )?.as_str())?;
+    if let Some(text) = value.as_text() {
+        let lent = text.as_lent();
+        let copied = text.to_text(alloc)?;
+        let is_copied = text.is(copied.as_str());
+        seen.push_str(format!(in alloc; " {lent:?} {copied:?} {is_copied:?}")?.as_str())?;
+    }
+    Ok(())
+}
+
+/// What a value and what stands directly in it are taken for.
+fn push_parts(alloc: Global, value: &JsonRef<'_>, seen: &mut String) -> Result<(), Fail> {
+    push_one(alloc, value, seen)?;
+    if let Some(items) = value.items() {
+        let mut left = items;
+        while let Some(item) = left.next() {
+            seen.push_str("; ")?;
+            push_one(alloc, &item, seen)?;
+        }
+    }
+    if let Some(members) = value.members() {
+        let mut left = members;
+        while let Some(member) = left.next() {
+            let name = member.name.to_text(alloc)?;
+            seen.push_str(format!(in alloc; "; {name:?} ")?.as_str())?;
+            push_one(alloc, &member.value, seen)?;
+        }
+    }
+    Ok(())
+}
+
+const PARTS: &'static str = r#"null -> Null None None None None
+ true  -> Bool Some(true) None None None
+-0 -> Number None Some(0) None Some("-0")
+1.0 -> Number None None None Some("1.0")
+18446744073709551615 -> Number None None Some(18446744073709551615) Some("18446744073709551615")
+18446744073709551616 -> Number None None None Some("18446744073709551616")
+-9223372036854775808 -> Number None Some(-9223372036854775808) None Some("-9223372036854775808")
+"" -> Text None None None None Some("") "" true
+"ab" -> Text None None None None Some("ab") "ab" true
+"a\u0062" -> Text None None None None None "ab" true
+[] -> Array None None None None
+[[1,[2]],{"a":3},4] -> Array None None None None; Array None None None None; Object None None None None; Number None Some(4) Some(4) Some("4")
+{} -> Object None None None None
+{"a":[{"b":1}],"\u0063":2} -> Object None None None None; "a" Array None None None None; "c" Number None Some(2) Some(2) Some("2")"#;
+
+const MEMBERS: &'static str = r#"1 -> None
+[1] -> None
+{} -> None
+{"a":1} -> None
+{"a\n":1} -> Some(1)
+{"a\u000a":1,"b":{"a\n":3},"a\n":2,"a":4} -> Some(2)
+{"a\n":1,"a\n":"x"} -> None"#;
+
+#[test]
+fn what_values_are(rt: HostRuntime) -> Result<(), Fail> {
+    try_cases::<Parts>(&rt, rt.alloc(), PARTS)
+}
+
+#[test]
+fn the_last_of_a_name(rt: HostRuntime) -> Result<(), Fail> {
+    try_cases::<Member>(&rt, rt.alloc(), MEMBERS)
+}

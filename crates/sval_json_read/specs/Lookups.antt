@@ -1,0 +1,84 @@
+-- What is looked up in a value of JSON.
+use Rattle.std.specs.Prelude.{ℕ, ◌^◌, ℤ, Bool, not, ◌&&◌, nat_lt, if◌then◌else◌, List, [], ◌∷◌, Option, Some, None}
+use Rattle.std.specs.Str.{bytes_eq}
+use Rattle.std.specs.Option.{option_or}
+use Rattle.std.specs.Str.Parse.{digits_value}
+use Rattle.sval_json.specs.Digits.{digits_of}
+use Rattle.sval_json.specs.Number.{is_negative}
+use Rattle.sval_json.specs.Grammar.{JsonValue, Null, Truth, Number, Text, Array, Object, Values, no_values, a_value, Members, no_members, a_member}
+use Rattle.sval_json_read.specs.Trees.{is_whole, whole_value, fits_i64}
+use Rattle.sval_json_read.specs.declared.json_ref.JsonKind as made
+use Rattle.sval_json_read.specs.declared.json_ref.JsonKind.TheVariants as kind
+
+-- which of the six a value is
+abbrev pub kind_of : JsonValue → made.JsonKind
+kind_of Null = kind.Null
+kind_of (Truth _) = kind.Bool
+kind_of (Number _) = kind.Number
+kind_of (Text _) = kind.Text
+kind_of (Array _) = kind.Array
+kind_of (Object _) = kind.Object
+
+-- the truth that a value is
+abbrev pub truth_of : JsonValue → Option Bool
+truth_of (Truth b) = Some b
+truth_of _ = None
+
+-- the text of the number that a value is, as it stands
+abbrev pub number_of : JsonValue → Option (List ℕ)
+number_of (Number text) = Some text
+number_of _ = None
+
+-- the number that a value is, where it has no fraction and no exponent and is in the range of `i64`
+abbrev pub i64_of : JsonValue → Option ℤ
+i64_of (Number text) = if fits_i64 text then Some (whole_value text) else None
+i64_of _ = None
+
+-- a number without a minus, a fraction and an exponent, in the range of `u64`
+abbrev pub fits_u64 : List ℕ → Bool
+fits_u64 text = is_whole text && (not (is_negative text) && nat_lt (digits_value 10 (digits_of text)) (2 ^ 64))
+
+-- the number that a value is, where it has no minus, no fraction and no exponent and is in the range of `u64`
+abbrev pub u64_of : JsonValue → Option ℕ
+u64_of (Number text) = if fits_u64 text then Some (digits_value 10 (digits_of text)) else None
+u64_of _ = None
+
+-- the text of the string that a value is
+abbrev pub text_of : JsonValue → Option (List ℕ)
+text_of (Text text) = Some text
+text_of _ = None
+
+-- the values, in order
+abbrev pub listed : Values → List JsonValue
+listed no_values = []
+listed (a_value value values) = value ∷ listed values
+
+-- the items of the array that a value is, in order
+abbrev pub items_of : JsonValue → Option (List JsonValue)
+items_of (Array values) = Some (listed values)
+items_of _ = None
+
+-- a pair of an object: the text of its key, and its value
+pub record Member : Type 0 where
+  pub name : List ℕ
+  pub value : JsonValue
+
+-- the pairs, in order
+abbrev pub paired : Members → List Member
+paired no_members = []
+paired (a_member text value members) = record { name = text; value = value } ∷ paired members
+
+-- the pairs of the object that a value is, in order
+abbrev pub members_of : JsonValue → Option (List Member)
+members_of (Object members) = Some (paired members)
+members_of _ = None
+
+-- the value of the last pair with this name
+abbrev pub last_named : List ℕ → List Member → Option JsonValue
+last_named name [] = None
+last_named name (member ∷ members) = option_or (last_named name members) (if bytes_eq member.name name then Some member.value else None)
+
+-- the value of the last pair with this name of the object that a value is
+abbrev pub member_of : List ℕ → JsonValue → Option JsonValue
+member_of name (Object members) = last_named name (paired members)
+member_of name _ = None

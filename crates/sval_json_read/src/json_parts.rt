@@ -1,0 +1,152 @@
+//! The items of arrays, and the pairs of objects.
+
+ghost use Rattle.std.specs.Prelude.{◌≡◌, ◌<◌, map, length, drop};
+ghost use Rattle.sval_json_read.specs.Lookups.{last_named, listed, paired};
+ghost use Rattle.sval_json_read.specs.Nodes.{tokens_in};
+ghost use Rattle.sval_json_read.specs.SeenNodes.{node_of};
+ghost use Rattle.sval_json_read.specs.SeenValues.{values_in, members_in};
+ghost use Rattle.sval_json_read.specs.ValueNodes.{AreOfValues, AreOfMembers};
+ghost use Rattle.sval_json_read.specs.SeenParts.{TakesFirst, TakesFirstPair};
+
+use crate::json_ref::JsonRef;
+use crate::json_text::JsonText;
+use crate::node::Node;
+use crate::span::value_len;
+use std::marker::Model;
+
+/// The items of an array that are left, seen as a list of them.
+#[derive(Drop)]
+pub struct JsonItems<'d> {
+    text: &'d str,
+    nodes: &'d [Node],
+}
+
+impl<'d> Model for JsonItems<'d> {
+    ghost use Rattle.std.specs.Prelude.{List, map};
+    ghost use Rattle.sval_json.specs.Grammar.{JsonValue};
+    ghost use Rattle.sval_json_read.specs.Nodes.{tokens_in};
+    ghost use Rattle.sval_json_read.specs.SeenNodes.{node_of};
+    ghost use Rattle.sval_json_read.specs.SeenValues.{values_in};
+    ghost use Rattle.sval_json_read.specs.Lookups.{listed};
+    ghost use Rattle.std.specs.Coded.{coded_list};
+    ghost use Rattle.sval_json_read.specs.ValueCodes.{value_code};
+    ghost use Rattle.sval_json_read.specs.ValueNodes.{AreOfValues};
+
+    ghost Value = { List JsonValue };
+
+    ghost coded = { coded_list value_code };
+
+    ghost view = { λ items. listed (values_in (tokens_in items.text.now (map node_of items.nodes.now))) };
+
+    ghost invariant = { λ items. AreOfValues items.text.now items.nodes.now };
+}
+
+impl<'d> JsonItems<'d> {
+    /// The items that these nodes are of.
+    pub(crate) fn new(text: &'d str, nodes: &'d [Node]) -> Self
+        requires { AreOfValues text.now nodes.now }
+        ensures { result ≡ listed (values_in (tokens_in text.now (map node_of nodes.now))) }
+    {
+        JsonItems { text, nodes }
+    }
+
+    /// Takes the first item that is left.
+    pub fn next(&mut self) -> Option<JsonRef<'d>>
+        ensures { TakesFirst result self.old self.new }
+    {
+        if self.nodes.is_empty() {
+            return None;
+        }
+        let (first, behind) = self.nodes.split_at(value_len(self.nodes));
+        self.nodes = behind;
+        Some(JsonRef::new(self.text, first))
+    }
+}
+
+/// A pair of an object.
+#[derive(Drop)]
+pub struct JsonMember<'d> {
+    /// The text of its key.
+    pub name: JsonText<'d>,
+    pub value: JsonRef<'d>,
+}
+
+/// The pairs of an object that are left, seen as a list of them.
+#[derive(Drop)]
+pub struct JsonMembers<'d> {
+    text: &'d str,
+    nodes: &'d [Node],
+}
+
+impl<'d> Model for JsonMembers<'d> {
+    ghost use Rattle.std.specs.Prelude.{List, map};
+    ghost use Rattle.sval_json_read.specs.Nodes.{tokens_in};
+    ghost use Rattle.sval_json_read.specs.SeenNodes.{node_of};
+    ghost use Rattle.sval_json_read.specs.SeenValues.{members_in};
+    ghost use Rattle.sval_json_read.specs.Lookups.{Member, paired};
+    ghost use Rattle.std.specs.Coded.{coded_list};
+    ghost use Rattle.sval_json_read.specs.ValueCodes.{member_code};
+    ghost use Rattle.sval_json_read.specs.ValueNodes.{AreOfMembers};
+
+    ghost Value = { List Member };
+
+    ghost coded = { coded_list member_code };
+
+    ghost view = { λ members. paired (members_in (tokens_in members.text.now (map node_of members.nodes.now))) };
+
+    ghost invariant = { λ members. AreOfMembers members.text.now members.nodes.now };
+}
+
+impl<'d> JsonMembers<'d> {
+    /// The pairs that these nodes are of.
+    pub(crate) fn new(text: &'d str, nodes: &'d [Node]) -> Self
+        requires { AreOfMembers text.now nodes.now }
+        ensures { result ≡ paired (members_in (tokens_in text.now (map node_of nodes.now))) }
+    {
+        JsonMembers { text, nodes }
+    }
+
+    /// Takes the first pair that is left.
+    pub fn next(&mut self) -> Option<JsonMember<'d>>
+        ensures { TakesFirstPair result self.old self.new }
+    {
+        if self.nodes.is_empty() {
+            return None;
+        }
+        match self.nodes[0] {
+            Node::Text(_, length, from) => {
+                let name = JsonText::new(&self.text[from..from + length as usize]);
+                let values = behind_first(self.nodes);
+                let (first, behind) = values.split_at(value_len(values));
+                self.nodes = behind;
+                Some(JsonMember {
+                    name,
+                    value: JsonRef::new(self.text, first),
+                })
+            },
+            _ => unreachable!(),
+        }
+    }
+
+    /// The value of the last pair with this name among those that are left.
+    pub(crate) fn last_named(self, name: &str) -> Option<JsonRef<'d>>
+        ensures { result ≡ last_named name.now self.entry }
+    {
+        let mut left = self;
+        let mut found = None;
+        while let Some(member) = left.next() {
+            if member.name.is(name) {
+                found = Some(member.value);
+            }
+        }
+        found
+    }
+}
+
+/// The nodes behind the first.
+fn behind_first(nodes: &[Node]) -> &[Node]
+    requires { 0 < length nodes.now }
+    ensures { result.now ≡ drop 1 nodes.now }
+{
+    nodes.split_at(1).1
+}

@@ -1,0 +1,176 @@
+//! Values of a document.
+
+ghost use Rattle.std.specs.Prelude.{◌≡◌, ◌≤◌, ◌-◌, map, option_map, length, take, drop, IfSome, true};
+ghost use Rattle.sval_json.specs.Digits.{is_json_number};
+ghost use Rattle.sval_json_read.specs.Nodes.{tokens_in};
+ghost use Rattle.sval_json_read.specs.SeenNodes.{node_of};
+ghost use Rattle.sval_json_read.specs.SeenValues.{value_in};
+ghost use Rattle.sval_json_read.specs.ValueNodes.{AreOfValue};
+ghost use Rattle.sval_json_read.specs.Lookups.{kind_of, truth_of, number_of, i64_of, u64_of, text_of, items_of, members_of, member_of};
+
+use crate::json_parts::{JsonItems, JsonMembers};
+use crate::json_text::JsonText;
+use crate::node::Node;
+use std::marker::Model;
+
+/// Which of the six a value is.
+#[derive(Clone, Copy, Debug, PartialEq, Eq)]
+pub enum JsonKind {
+    Null,
+    Bool,
+    Number,
+    Text,
+    Array,
+    Object,
+}
+
+/// A value that a document holds, seen as the value of JSON. It takes no memory, and lends its texts from the bytes.
+///
+/// ```
+/// let doc = JsonDoc::read(alloc, b"{\"user\": 42, \"tags\": [\"a\", \"b\\n\"]}".as_slice())?;
+/// assert_eq!(rt; doc.root().get("user").and_then(|user| user.as_i64()), Some(42));
+/// ```
+#[derive(Drop)]
+pub struct JsonRef<'d> {
+    text: &'d str,
+    nodes: &'d [Node],
+}
+
+impl<'d> Model for JsonRef<'d> {
+    ghost use Rattle.std.specs.Prelude.{map};
+    ghost use Rattle.sval_json.specs.Grammar.{JsonValue};
+    ghost use Rattle.sval_json_read.specs.Nodes.{tokens_in};
+    ghost use Rattle.sval_json_read.specs.SeenNodes.{node_of};
+    ghost use Rattle.sval_json_read.specs.SeenValues.{value_in};
+    ghost use Rattle.sval_json_read.specs.ValueCodes.{value_code};
+    ghost use Rattle.sval_json_read.specs.ValueNodes.{AreOfValue};
+
+    ghost Value = { JsonValue };
+
+    ghost coded = { value_code };
+
+    ghost view = { λ here. value_in (tokens_in here.text.now (map node_of here.nodes.now)) };
+
+    ghost invariant = { λ here. AreOfValue here.text.now here.nodes.now };
+}
+
+impl<'d> JsonRef<'d> {
+    /// The value that these nodes are of.
+    pub(crate) fn new(text: &'d str, nodes: &'d [Node]) -> Self
+        requires { AreOfValue text.now nodes.now }
+        ensures { result ≡ value_in (tokens_in text.now (map node_of nodes.now)) }
+    {
+        JsonRef { text, nodes }
+    }
+
+    /// Which of the six it is.
+    pub fn kind(&self) -> JsonKind
+        ensures { result ≡ kind_of self.now }
+    {
+        match self.nodes[0] {
+            Node::Null(_) => JsonKind::Null,
+            Node::Bool(..) => JsonKind::Bool,
+            Node::Number(..) => JsonKind::Number,
+            Node::Text(..) => JsonKind::Text,
+            Node::BeginArray(_) | Node::EndArray(_) => JsonKind::Array,
+            Node::BeginObject(_) | Node::EndObject(_) => JsonKind::Object,
+        }
+    }
+
+    /// The truth that it is.
+    pub fn as_bool(&self) -> Option<bool>
+        ensures { result ≡ truth_of self.now }
+    {
+        match self.nodes[0] {
+            Node::Bool(_, value) => Some(value),
+            _ => None,
+        }
+    }
+
+    /// The text of the number that it is, as it stands in the document.
+    pub fn as_number(&self) -> Option<&'d str>
+        ensures number { option_map (λ text. text.now) result ≡ number_of self.now }
+        ensures proper { IfSome result (λ text. is_json_number text.now ≡ true) }
+    {
+        match self.nodes[0] {
+            Node::Number(_, length, from) => Some(&self.text[from..from + length as usize]),
+            _ => None,
+        }
+    }
+
+    /// The number that it is, where it has no fraction and no exponent and fits.
+    pub fn as_i64(&self) -> Option<i64>
+        ensures { result ≡ i64_of self.now }
+    {
+        match self.as_number() {
+            Some(text) => match text.parse::<i64>() {
+                Ok(number) => Some(number),
+                Err(_) => None,
+            },
+            None => None,
+        }
+    }
+
+    /// The number that it is, where it has no minus, no fraction and no exponent and fits.
+    pub fn as_u64(&self) -> Option<u64>
+        ensures { result ≡ u64_of self.now }
+    {
+        match self.as_number() {
+            Some(text) => match text.parse::<u64>() {
+                Ok(number) => Some(number),
+                Err(_) => None,
+            },
+            None => None,
+        }
+    }
+
+    /// The string that it is.
+    pub fn as_text(&self) -> Option<JsonText<'d>>
+        ensures { result ≡ text_of self.now }
+    {
+        match self.nodes[0] {
+            Node::Text(_, length, from) => {
+                Some(JsonText::new(&self.text[from..from + length as usize]))
+            },
+            _ => None,
+        }
+    }
+
+    /// The items of the array that it is.
+    pub fn items(&self) -> Option<JsonItems<'d>>
+        ensures { result ≡ items_of self.now }
+    {
+        match self.nodes[0] {
+            Node::BeginArray(_) => { Some(JsonItems::new(self.text, between_ends(self.nodes))) },
+            _ => None,
+        }
+    }
+
+    /// The pairs of the object that it is.
+    pub fn members(&self) -> Option<JsonMembers<'d>>
+        ensures { result ≡ members_of self.now }
+    {
+        match self.nodes[0] {
+            Node::BeginObject(_) => { Some(JsonMembers::new(self.text, between_ends(self.nodes))) },
+            _ => None,
+        }
+    }
+
+    /// The value of the last pair with this name of the object that it is.
+    pub fn get(&self, name: &str) -> Option<JsonRef<'d>>
+        ensures { result ≡ member_of name.now self.now }
+    {
+        match self.members() {
+            Some(members) => members.last_named(name),
+            None => None,
+        }
+    }
+}
+
+/// The nodes between the first and the last.
+fn between_ends(nodes: &[Node]) -> &[Node]
+    requires { 2 ≤ length nodes.now }
+    ensures { result.now ≡ take (length nodes.now - 1 - 1) (drop 1 nodes.now) }
+{
+    &nodes[1..nodes.len() - 1]
+}

@@ -1,0 +1,36 @@
+//! How many nodes a value has.
+
+ghost use Rattle.std.specs.Prelude.{◌≡◌, ◌+◌, ◌<◌, ◌^◌, map};
+ghost use Rattle.sval_json_read.specs.NodeSpans.{depth_behind, span};
+ghost use Rattle.sval_json_read.specs.SeenNodes.{node_of};
+
+use crate::node::Node;
+
+/// How many arrays and objects are open behind a node, where so many are before it.
+fn depth_behind(node: Node, depth: usize) -> usize
+    requires { depth + 1 < 2 ^ 64 }
+    ensures { result ≡ depth_behind (node_of node).kept depth }
+{
+    match node {
+        Node::BeginArray(_) | Node::BeginObject(_) => depth + 1,
+        Node::EndArray(_) | Node::EndObject(_) => depth.saturating_sub(1),
+        _ => depth,
+    }
+}
+
+/// How many nodes the value has that these begin with.
+#[tactic(auto, using(crate::proofs::NodeStreams::here))]
+pub(crate) fn value_len(nodes: &[Node]) -> usize
+    ensures { result ≡ span 0 (map node_of nodes.now) }
+{
+    let mut depth = 0;
+    let mut at = 0;
+    while at < nodes.len() {
+        depth = depth_behind(nodes[at], depth);
+        at += 1;
+        if depth == 0 {
+            return at;
+        }
+    }
+    at
+}
