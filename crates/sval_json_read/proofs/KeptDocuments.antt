@@ -1,5 +1,5 @@
 -- What is kept of a document can be cut from its bytes, and makes its calls.
-use Rattle.std.specs.Prelude.{◌≡◌, ℕ, zero, suc, ◌+◌, ◌-◌, ◌<◌, ◌≤◌, true, List, [], ◌∷◌, map, length, drop, get_or, IsUtf8, IsCharBoundary}
+use Rattle.std.specs.Prelude.{◌≡◌, ℕ, zero, suc, ◌+◌, ◌-◌, ◌<◌, ◌≤◌, true, List, [], ◌∷◌, map, length, drop, get_or, refl, IsUtf8, IsCharBoundary}
 use Rattle.std.specs.List.{between, list_all, AllByRecursion}
 use Rattle.std.proofs.Common.{sym, subst, ◌∙◌, arith, inl, inr, length-drop, length-take-le, get_or-drop}
 use Rattle.std.proofs.lemmas.Bool.{cases_lt, and_parts}
@@ -9,20 +9,20 @@ use Rattle.sval_json.specs.Digits.{is_number_byte, is_json_number}
 use Rattle.sval_json.proofs.NumberGrammar.{number_bytes, tested_number}
 use Rattle.sval_json_read.specs.declared.node.Node.{Node}
 use Rattle.sval_json_read.specs.declared.node.Node.TheVariants as node
-use Rattle.sval_json_read.specs.Nodes.{token_in, tokens_in, streamed}
+use Rattle.sval_json_read.specs.Nodes.{token_in, tokens_in}
 use Rattle.sval_json_read.specs.Documents.{IsDocument}
 use Rattle.sval_json_read.specs.RawStrings.{IsProperToken, AreProperTokens}
 use Rattle.sval_json_read.specs.SeenNodes.{node_of, StandsIn, IsCutFrom, AreKeptOf}
 use Rattle.sval_json_read.specs.ReadErrors.{IsRead}
-use Rattle.sval_core.specs.Spells.{Spells}
-use Rattle.sval_json_read.specs.Trees.{tree_of}
+use Rattle.sval_json.specs.Grammar.{Denotes}
+use Rattle.sval_json_read.specs.Calls.{document_calls}
 use Rattle.sval_json_read.specs.Tokens.{Placed}
 use Rattle.sval_json_read.specs.KeptDocuments.{IsKeptDocument}
 use Rattle.sval_json_read.specs.SeenValues.{value_in}
 use Rattle.sval_json_read.specs.ValueNodes.{IsOfValue, alone, AreOfValue}
 use Rattle.sval_json_read.proofs.SeenValues.{value-seen}
+use Rattle.sval_json_read.proofs.Documents.{document-calls}
 use Rattle.sval_json_read.proofs.Boundaries.{no_number_byte}
-use Rattle.sval_json_read.proofs.KeptNodes.{streamed-calls, streamed-spells}
 use Rattle.sval_json_read.proofs.RawStrings.{document-tokens}
 
 number_byte_low : (byte : ℕ) → is_number_byte byte ≡ true → byte < 128
@@ -89,14 +89,9 @@ kept-document bytes nodes u s d = record { kept = document-kept bytes nodes u s 
 pub root-nodes : (bytes : List ℕ) (nodes : List Node) → IsKeptDocument bytes nodes → AreOfValue bytes nodes
 root-nodes bytes nodes k = record { kept = k.kept; value = k.document.value; is_of = root-is k.document }
 
-pub root-spells : (bytes : List ℕ) (nodes : List Node) → IsKeptDocument bytes nodes → Spells (streamed bytes (map node_of nodes)) (tree_of (value_in (tokens_in bytes (map node_of nodes))))
-root-spells bytes nodes k =
-    subst (λ value. Spells (streamed bytes (map node_of nodes)) (tree_of value)) (sym (value-seen (root-is k.document))) (streamed-spells bytes (map node_of nodes) k.document)
+-- which is the one that the bytes denote
+pub document-denotes : (bytes : List ℕ) (tokens : List Placed) → IsDocument bytes tokens → Denotes bytes (value_in tokens)
+document-denotes bytes tokens d = subst (Denotes bytes) (sym (value-seen (root-is d))) d.denotes
 
-pub document-read : (bytes : List ℕ) (nodes : List Node) → IsDocument bytes (tokens_in bytes (map node_of nodes)) → IsRead bytes (streamed bytes (map node_of nodes))
-document-read bytes nodes d = record {
-  tokens = tokens_in bytes (map node_of nodes);
-  document = d;
-  same = streamed-calls bytes (map node_of nodes);
-  spells = streamed-spells bytes (map node_of nodes) d;
-}
+pub document-read : (bytes : List ℕ) (tokens : List Placed) → IsDocument bytes tokens → IsRead bytes (document_calls tokens)
+document-read bytes tokens d = record { tokens = tokens; document = d; same = refl; spells = document-calls bytes tokens d }

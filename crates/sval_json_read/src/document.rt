@@ -1,10 +1,11 @@
 //! Documents: texts that were read.
 
-ghost use Rattle.std.specs.Prelude.{IfOk, IfErr, IsUtf8, map};
+ghost use Rattle.std.specs.Prelude.{◌≡◌, IfOk, IfErr, IsUtf8, map};
 ghost use Rattle.std.specs.List.{AllByRecursion};
-ghost use Rattle.sval_core.specs.Spells.{Spells};
 ghost use Rattle.sval_core.specs.Values.{makes};
-ghost use Rattle.sval_json_read.specs.Trees.{tree_of};
+ghost use Rattle.sval_json.specs.Grammar.{Denotes};
+ghost use Rattle.sval_json_read.specs.Calls.{document_calls};
+ghost use Rattle.sval_json_read.specs.SeenValues.{value_in};
 ghost use Rattle.sval_json_read.specs.Documents.{IsDocument};
 ghost use Rattle.sval_json_read.specs.Nodes.{tokens_in};
 ghost use Rattle.sval_json_read.specs.SeenNodes.{node_of, StandsIn};
@@ -55,9 +56,9 @@ impl fmt::Display for ReadError {
 
 impl Error for ReadError {}
 
-/// A text that was read, seen as its calls.
+/// A text that was read, seen as its tokens.
 ///
-/// It is a value, which makes these calls, lends its texts from the bytes and never refuses. It takes no memory for
+/// It is a value, which makes their calls, lends its texts from the bytes and never refuses. It takes no memory for
 /// that.
 #[derive(Drop)]
 pub struct JsonDoc<'a> {
@@ -67,14 +68,14 @@ pub struct JsonDoc<'a> {
 
 impl<'a> Model for JsonDoc<'a> {
     ghost use Rattle.std.specs.Prelude.{List, map};
-    ghost use Rattle.sval_label.specs.Calls.{Call};
-    ghost use Rattle.sval_json_read.specs.Nodes.{streamed};
     ghost use Rattle.sval_json_read.specs.KeptDocuments.{IsKeptDocument};
+    ghost use Rattle.sval_json_read.specs.Nodes.{tokens_in};
     ghost use Rattle.sval_json_read.specs.SeenNodes.{node_of};
+    ghost use Rattle.sval_json_read.specs.Tokens.{Placed};
 
-    ghost Value = { List Call };
+    ghost Value = { List Placed };
 
-    ghost view = { λ doc. streamed doc.text.now (map node_of doc.nodes.items) };
+    ghost view = { λ doc. tokens_in doc.text.now (map node_of doc.nodes.items) };
 
     ghost invariant = { λ doc. IsKeptDocument doc.text.now doc.nodes.items };
 }
@@ -94,7 +95,8 @@ impl<'a> JsonDoc<'a> {
     /// denote no value. [`ReadError::NoMemory`] may come in its place and in that of a document, but only where some
     /// first bytes hold a whole number or string, a bracket or brace, or the first letter of a word.
     pub fn read(alloc: Global, bytes: &'a [u8]) -> Result<Self, ReadError>
-        ensures ok { IfOk result (λ doc. IsRead bytes.now doc) }
+        ensures ok { IfOk result (λ doc. IsRead bytes.now (document_calls doc)) }
+        ensures value { IfOk result (λ doc. Denotes bytes.now (value_in doc)) }
         ensures err { IfErr result (IsReadError bytes.now) }
     {
         match from_utf8(bytes) {
@@ -105,7 +107,7 @@ impl<'a> JsonDoc<'a> {
 
     /// The value that the text denotes.
     pub fn root(&self) -> JsonRef<'_>
-        ensures { Spells self.now (tree_of result) }
+        ensures { result ≡ value_in self.now }
     {
         JsonRef::new(self.text, self.nodes.as_slice())
     }
@@ -118,7 +120,8 @@ impl<'a> JsonDoc<'a> {
 
 /// Reads a text whole, where nothing but its UTF-8 is known.
 fn read_text(alloc: Global, text: &str) -> Result<JsonDoc<'_>, ReadError>
-    ensures ok { IfOk result (λ doc. IsRead text.now doc) }
+    ensures ok { IfOk result (λ doc. IsRead text.now (document_calls doc)) }
+    ensures value { IfOk result (λ doc. Denotes text.now (value_in doc)) }
     ensures err { IfErr result (IsReadError text.now) }
 {
     match read_nodes(alloc, text.as_bytes()) {
@@ -151,7 +154,7 @@ fn read_nodes(alloc: Global, bytes: &[u8]) -> Result<Vec<Node>, ReadError>
 }
 
 impl<'v, 'a> Value<'v, Lent<'v>> for JsonDoc<'a> {
-    ghost emission = { makes };
+    ghost emission = { λ doc. makes (document_calls doc) };
 
     fn stream<S: Stream<Lent<'v>>>(&'v self, stream: &mut S) -> StreamResult {
         stream_nodes(self.text, self.nodes.as_slice(), stream)
@@ -159,7 +162,7 @@ impl<'v, 'a> Value<'v, Lent<'v>> for JsonDoc<'a> {
 }
 
 impl<'a> ValueRef<Lent<'a>> for JsonDoc<'a> {
-    ghost ref_emission = { makes };
+    ghost ref_emission = { λ doc. makes (document_calls doc) };
 
     fn stream_ref<S: Stream<Lent<'a>>>(&self, stream: &mut S) -> StreamResult {
         stream_nodes(self.text, self.nodes.as_slice(), stream)

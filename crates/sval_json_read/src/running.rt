@@ -4,6 +4,7 @@ ghost use Rattle.std.specs.Prelude.{◌≡◌, ◌<◌, ◌^◌, ℕ, List, leng
 ghost use Rattle.sval_program.specs.Inputs.{OnShort};
 ghost use Rattle.sval_program.specs.Jobs.{ServesBytes, ServesInput, Serves};
 ghost use Rattle.sval_program.specs.Runs.{AreQuiet, Ends};
+ghost use Rattle.sval_json_read.specs.Calls.{document_calls};
 ghost use Rattle.sval_json_read.specs.Forms.{OnAsked};
 ghost use Rattle.sval_json_read.specs.ReadErrors.{IsRead};
 ghost use Rattle.sval_json_read.specs.Reports.{Reports};
@@ -22,8 +23,8 @@ use sval_program::{Failure, Source, print_captured, read_input};
 
 /// Writes the JSON of a document.
 fn write_json<K: Sink>(doc: &JsonDoc<'_>, out: &mut K) -> Result<(), SinkError>
-    requires { (input : List ℕ) × IsRead input doc.now }
-    ensures { (input : List ℕ) → IsRead input doc.now
+    requires { (input : List ℕ) × IsRead input (document_calls doc.now) }
+    ensures { (input : List ℕ) → IsRead input (document_calls doc.now)
         → WritesDueText K.told input Form.Json result out.old out.new }
 {
     match stream_to_io_write(out, doc) {
@@ -40,8 +41,8 @@ fn write_json<K: Sink>(doc: &JsonDoc<'_>, out: &mut K) -> Result<(), SinkError>
 
 /// Captures a document, and prints the canonical script of what it captured.
 fn print_script<K: Sink>(alloc: Global, doc: &JsonDoc<'_>, out: &mut K) -> Result<(), SinkError>
-    requires { (input : List ℕ) × IsRead input doc.now × (length input < 2 ^ 64) }
-    ensures { (input : List ℕ) → IsRead input doc.now → length input < 2 ^ 64
+    requires { (input : List ℕ) × IsRead input (document_calls doc.now) × (length input < 2 ^ 64) }
+    ensures { (input : List ℕ) → IsRead input (document_calls doc.now) → length input < 2 ^ 64
         → WritesDueText K.told input Form.Calls result out.old out.new }
 {
     print_captured(alloc, doc.node_count(), doc, out)
@@ -54,8 +55,8 @@ fn write_document<K: Sink>(
     doc: &JsonDoc<'_>,
     out: &mut K,
 ) -> Result<(), SinkError>
-    requires { (input : List ℕ) × IsRead input doc.now × (length input < 2 ^ 64) }
-    ensures { (input : List ℕ) → IsRead input doc.now → length input < 2 ^ 64
+    requires { (input : List ℕ) × IsRead input (document_calls doc.now) × (length input < 2 ^ 64) }
+    ensures { (input : List ℕ) → IsRead input (document_calls doc.now) → length input < 2 ^ 64
         → WritesDueText K.told input form result out.old out.new }
 {
     match form {

@@ -3,7 +3,7 @@ use Rattle.std.specs.List.{AllByRecursion}
 use Rattle.sval_json_read.specs.Documents.{IsDocument}
 use Rattle.sval_json_read.specs.Nodes.{tokens_in}
 use Rattle.sval_json_read.specs.SeenNodes.{node_of, StandsIn}
-use Rattle.sval_json_read.proofs.KeptDocuments.{kept-document, document-read}
+use Rattle.sval_json_read.proofs.KeptDocuments.{kept-document, document-read, document-denotes}
 use Rattle.sval_json_read.proofs.document.read_text.Goals as goal
 
 pub invariant_of-result : goal.invariant_of-result
@@ -13,5 +13,8 @@ invariant_of-result c =
 
 pub returns-in-Ok-clause-ok : goal.returns-in-Ok-clause-ok
 returns-in-Ok-clause-ok c =
-    document-read c.args.text.now c.in-Ok.nodes.items
-    (subst (λ bytes. IsDocument bytes (tokens_in bytes (map node_of c.in-Ok.nodes.items))) c.as_bytes.ensures.value c.in-Ok.ensures.ok)
+    document-read c.args.text.now _ (subst (λ bytes. IsDocument bytes (tokens_in bytes (map node_of c.in-Ok.nodes.items))) c.as_bytes.ensures.value c.in-Ok.ensures.ok)
+
+pub returns-in-Ok-clause-value : goal.returns-in-Ok-clause-value
+returns-in-Ok-clause-value c =
+    document-denotes c.args.text.now _ (subst (λ bytes. IsDocument bytes (tokens_in bytes (map node_of c.in-Ok.nodes.items))) c.as_bytes.ensures.value c.in-Ok.ensures.ok)
