@@ -1,6 +1,7 @@
 -- What values of this crate emit that others hold.
 use Rattle.sval_core.specs.Law.{Emission}
-use Rattle.sval.specs.Fields.{[], ◌∷◌, a_struct, field, unit_variant, value_variant, struct_variant, bool_emission, u16_emission, i64_emission, text_emission, string_emission, option_emission, vec_emission}
+use Rattle.std.specs.Prelude.{[], ◌∷◌}
+use Rattle.sval.specs.Fields.{a_struct, field, unit_variant, value_variant, struct_variant, bool_emission, u16_emission, i64_emission, text_emission, string_emission, option_emission, vec_emission}
 use Rattle.records.specs.declared.level.Level.{Level}
 use Rattle.records.specs.declared.level.Level.TheVariants as level
 use Rattle.records.specs.declared.order.Item.{Item}

@@ -1,6 +1,7 @@
 //! An event of a log.
 
-ghost use Rattle.sval.specs.Fields.{[], ◌∷◌, a_struct, field, string_emission, option_emission, u64_emission, vec_emission};
+ghost use Rattle.std.specs.Prelude.{[], ◌∷◌};
+ghost use Rattle.sval.specs.Fields.{a_struct, field, string_emission, option_emission, u64_emission, vec_emission};
 ghost use Rattle.records.specs.Records.{level_emission};
 
 use crate::Level;

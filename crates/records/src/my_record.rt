@@ -1,6 +1,7 @@
 //! The first example of sval's own README.
 
-ghost use Rattle.sval.specs.Fields.{[], ◌∷◌, a_struct, field, i32_emission, bool_emission, text_emission};
+ghost use Rattle.std.specs.Prelude.{[], ◌∷◌};
+ghost use Rattle.sval.specs.Fields.{a_struct, field, i32_emission, bool_emission, text_emission};
 
 use sval::{Lent, Result, Stream, Value, fields, stream_struct};
 
