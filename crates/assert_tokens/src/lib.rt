@@ -34,6 +34,11 @@ pub fn tokens_match(alloc: Global, point: &Point, expected: &[Token<'_>]) -> Res
     let mut buffer = TokenBuf::new(alloc);
     match buffer.value(point) {
         Ok(()) => Ok(buffer.matches(expected)),
-        Err(_) => Err(NoMemory),
+        Err(_) => match buffer.no_memory() {
+            Some(cause) => Err(cause),
+            None => unreachable!(
+                "a point never refuses, and the buffer takes every call for which there is memory"
+            ),
+        },
     }
 }

@@ -2,6 +2,7 @@
 
 ghost use Rattle.std.specs.Prelude.{◌≡◌, ◌==◌, [], length, IfOk, IfErr, OnOk, OnErr, IsOkUnless};
 ghost use Rattle.sval_json.specs.Sinks.{WritesAll};
+ghost use Rattle.sval_buffer.specs.Capture.{IsNoAlloc};
 ghost use Rattle.event_log.specs.Events.{HasJson, IsCause};
 ghost use Rattle.event_log.specs.Logs.{empty_log, AreLines, lines_of, Keeps};
 
@@ -10,7 +11,7 @@ use crate::lines::write_lines;
 use circular_buffer::HeapCircularBuffer;
 use std::alloc::{AllocError, Global};
 use std::marker::Model;
-use sval_buffer::{AnyValue, CallStore, Error, NamedCalls};
+use sval_buffer::{AnyValue, CallStore, Error, ErrorKind, NamedCalls};
 use sval_core::{Lent, Value};
 use sval_json::{Sink, SinkError};
 
@@ -39,6 +40,17 @@ impl<'o, N: CallStore + 'o> Model for AnyEventLog<'o, N> {
     ghost view = { λ log. record { events = log.ring.items; capacity = log.ring.capacity } };
 
     ghost invariant = { λ log. AreLines log.ring.items };
+}
+
+/// What is told where a value that has a JSON isn't captured, which is for want of memory alone.
+fn want_of(error: &Error) -> RecordError
+    requires { IsNoAlloc error.now }
+    ensures { result ≡ RecordError.NoMemory }
+{
+    match error.kind() {
+        ErrorKind::NoAlloc { .. } => RecordError::NoMemory,
+        _ => unreachable!("a value that has a JSON is captured, unless memory is wanting"),
+    }
 }
 
 impl<'o, N: CallStore + 'o> AnyEventLog<'o, N> {
@@ -75,7 +87,7 @@ impl<'o, N: CallStore + 'o> AnyEventLog<'o, N> {
                 self.ring.push_back(captured);
                 Ok(())
             }
-            Err(_) => Err(RecordError::NoMemory),
+            Err(error) => Err(want_of(&error)),
         }
     }
 

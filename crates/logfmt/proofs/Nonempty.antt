@@ -53,6 +53,11 @@ filled_key (byte ∷ text) is = refl
 
 -- ---- want of memory
 
+-- a sink in memory declines for want of memory alone
+pub only_wants : (why : SinkError) (piece : List ℕ) (before after : Taken) → WritesFront why (taken_told before) piece (taken_told after) → why ≡ sink.NoMemory
+only_wants sink.Failed piece before after front = let rose = front.cause in absurd (omega arith)
+only_wants sink.NoMemory piece before after front = refl
+
 -- a sink in memory that took no whole piece had no memory
 pub stops_writing : (due : Step) (why : SinkError) (piece : List ℕ) (before after : Taken) (old new : Writing) (result : Result (Unit {0}) Error) (refusal : Error)
     → WritesFront why (taken_told before) piece (taken_told after) → HasText due → old.wants ≡ before.wants → new.wants ≡ after.wants

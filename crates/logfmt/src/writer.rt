@@ -1,6 +1,7 @@
 //! The writer: a stream that writes a line of pairs to memory.
 
-ghost use Rattle.std.specs.Prelude.{◌≡◌, ◌<◌, Ok, Err, string_bytes, length};
+ghost use Rattle.std.specs.Prelude.{◌≡◌, ◌<◌, Ok, Err, IfOk, IfErr, string_bytes, length};
+ghost use Rattle.std.specs.Str.{IsUtf8};
 ghost use Rattle.sval_label.specs.Grouped.{text_call, grouped_call};
 ghost use Rattle.sval_label.specs.Made.{lent_call};
 ghost use Rattle.sval_core.specs.Law.{Answers};
@@ -15,7 +16,7 @@ use itoa::Buffer;
 use std::alloc::Global;
 use std::marker::Model;
 use sval_core::{Call, Error, Fragment, GroupedCall, Head, Label, Lent, Result, Slot, Stream};
-use sval_json::{VecSink, escape, format_int, write_all};
+use sval_json::{SinkError, VecSink, escape, format_int, write_all};
 
 /// What comes next.
 #[derive(Clone, Copy)]
@@ -63,6 +64,28 @@ fn is_key(text: &[u8]) -> bool
     !text.is_empty() && text.iter().all(fits)
 }
 
+/// What is told where the text in memory declines, which it does for want of memory alone.
+fn want_of(why: SinkError) -> LogfmtError
+    requires { why ≡ SinkError.NoMemory }
+    ensures { result ≡ LogfmtError.NoMemory }
+{
+    match why {
+        SinkError::NoMemory => LogfmtError::NoMemory,
+        SinkError::Failed => unreachable!("a text in memory declines for want of memory alone"),
+    }
+}
+
+/// The text that the bytes of a line are. Texts and labels, and what stands between them, give no bytes that are none.
+fn line_of(bytes: Vec<u8>) -> Result<String, LogfmtError>
+    ensures line { IfOk result (λ line. string_bytes line ≡ bytes.items) }
+    ensures not_text { IfErr result (λ why. (why ≡ LogfmtError.NoMemory) × ¬ (IsUtf8 bytes.items)) }
+{
+    match String::from_utf8(bytes) {
+        Ok(line) => Ok(line),
+        Err(_) => Err(LogfmtError::NoMemory),
+    }
+}
+
 impl LogfmtWriter {
     /// One that has taken no call, and no memory yet.
     pub(crate) fn new(alloc: Global) -> Self
@@ -80,9 +103,8 @@ impl LogfmtWriter {
         ensures line { Gives string_bytes result (whole self.begun.due self.begun.text) }
         ensures memory { result ≡ Err error.NoMemory → 0 < length self.begun.text }
     {
-        match (self.due, String::from_utf8(self.text.into_vec())) {
-            (Due::Nothing, Ok(line)) => Ok(line),
-            (Due::Nothing, Err(_)) => Err(LogfmtError::NoMemory),
+        match self.due {
+            Due::Nothing => line_of(self.text.into_vec()),
             _ => Err(LogfmtError::Unfinished),
         }
     }
@@ -119,7 +141,7 @@ impl LogfmtWriter {
     {
         match write_all(&mut self.text, bytes) {
             Ok(()) => self.wait_for(due),
-            Err(_) => self.refuse(LogfmtError::NoMemory),
+            Err(why) => self.refuse(want_of(why)),
         }
     }
 
@@ -134,7 +156,7 @@ impl LogfmtWriter {
         }
         match escape::write_escaped(&mut self.text, text.as_bytes()) {
             Ok(()) => self.wait_for(Due::Text),
-            Err(_) => self.refuse(LogfmtError::NoMemory),
+            Err(why) => self.refuse(want_of(why)),
         }
     }
 

@@ -1,5 +1,6 @@
 pub mod Seen
 pub mod Rendered
+pub mod Wrote
 pub mod Shown
 pub mod Emissions
 pub mod Structs

@@ -8,14 +8,15 @@ ghost use Rattle.sval.specs.Rendered.{Renders};
 use crate::render::{Render, RenderError};
 use itoa::{Buffer, Integer};
 
-/// Appends a text.
+/// Appends a text. An empty one takes no memory.
 pub(crate) fn append(out: &mut String, text: &str) -> Result<(), RenderError>
     ensures { Renders (Some text.now) false result (string_bytes out.old) (string_bytes out.new) }
 {
-    match out.push_str(text) {
-        Ok(()) => Ok(()),
-        Err(_) => Err(RenderError::NoMemory),
+    if text.is_empty() {
+        return Ok(());
     }
+    out.push_str(text)?;
+    Ok(())
 }
 
 /// Appends the digits of a whole number.
@@ -145,10 +146,8 @@ impl Render for char {
     ghost unprintable = { λ _. false };
 
     fn render(&self, out: &mut String) -> Result<(), RenderError> {
-        match out.push(*self) {
-            Ok(()) => Ok(()),
-            Err(_) => Err(RenderError::NoMemory),
-        }
+        let mut bytes = [0u8; 4];
+        append(out, self.encode_utf8(&mut bytes))
     }
 }
 

@@ -1,9 +1,10 @@
 //! What prints itself as a text.
 
-ghost use Rattle.std.specs.Prelude.{ℕ, List, Bool, Option};
+ghost use Rattle.std.specs.Prelude.{◌≡◌, ℕ, List, Bool, Option};
 ghost use Rattle.std.specs.String.{string_bytes};
 ghost use Rattle.sval.specs.Rendered.{Renders};
 
+use std::alloc::AllocError;
 use std::error::Error;
 use std::fmt;
 
@@ -32,6 +33,16 @@ impl fmt::Display for RenderError {
 
 impl Error for RenderError {}
 
+impl From<AllocError> for RenderError {
+    ghost use Rattle.sval.specs.declared.render.RenderError.TheVariants.{NoMemory};
+
+    ghost from_gives = { λ _ error. error ≡ NoMemory };
+
+    fn from(_cause: AllocError) -> RenderError {
+        RenderError::NoMemory
+    }
+}
+
 /// What prints itself as a text: the bound in place of std's `Display`, whose errors don't tell a value that can't be
 /// printed from memory that is wanting.
 ///
@@ -54,8 +65,8 @@ pub trait Render {
     ///
     /// # Errors
     ///
-    /// [`RenderError::Format`] only where it is a value that can't be printed; [`RenderError::NoMemory`]. After either
-    /// a first part of what it prints may have been appended.
+    /// [`RenderError::Format`] only where it is a value that can't be printed; [`RenderError::NoMemory`], and never
+    /// where it prints nothing. After either a first part of what it prints may have been appended.
     fn render(&self, out: &mut String) -> Result<(), RenderError>
         ensures { Renders (printed self.now) (unprintable self.now) result
             (string_bytes out.old) (string_bytes out.new) };

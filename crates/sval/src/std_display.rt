@@ -1,12 +1,14 @@
 //! What prints itself by std's formatting.
 
-ghost use Rattle.std.specs.Prelude.{IfOk};
+ghost use Rattle.std.specs.Prelude.{◌≡◌, IfOk, IfErr};
 ghost use Rattle.std.specs.String.{string_bytes};
 ghost use Rattle.sval.specs.Shown.{IsPrinted};
+ghost use Rattle.sval.specs.Rendered.{PrintsSome};
+ghost use Rattle.sval.specs.declared.render.RenderError.TheVariants.{NoMemory};
 
 use crate::prints::append;
 use crate::render::{Render, RenderError};
-use std::alloc::Global;
+use std::alloc::{AllocError, Global};
 use std::fmt;
 use std::fmt::Write;
 
@@ -20,42 +22,45 @@ pub struct StdDisplay<V> {
     pub value: V,
 }
 
-/// A text that is written, and whether memory was wanting for it.
+/// A text that is written, and why a part of it wasn't, if one wasn't.
 #[derive(Drop)]
 struct Written {
     text: String,
-    wants_memory: bool,
+    want: Option<AllocError>,
 }
 
 impl fmt::Write for Written {
-    ghost use Rattle.std.specs.Prelude.{◌≡◌, ◌++◌};
-    ghost use Rattle.std.specs.String.{string_bytes};
+    ghost use Rattle.sval.specs.Wrote.{Wrote};
 
-    ghost write_str_gives = { λ old text new. string_bytes new.text ≡ string_bytes old.text ++ text };
+    ghost write_str_gives = { Wrote };
 
+    /// Never fails, so that an error of formatting is one of the value's own.
     fn write_str(&mut self, text: &str) -> fmt::Result {
-        match self.text.push_str(text) {
-            Ok(()) => Ok(()),
-            Err(_) => {
-                self.wants_memory = true;
-                Err(fmt::Error)
+        if !text.is_empty() {
+            if let Err(cause) = self.text.push_str(text) {
+                self.want = Some(cause);
             }
         }
+        Ok(())
     }
 }
 
-/// The text that a value prints.
+/// The text that a value prints. Memory is wanting only for a value that prints something.
+#[tactic(auto, using(crate::proofs::Rendered::printed_whole, crate::proofs::Rendered::wanting_prints))]
 fn printed<V: fmt::Display>(alloc: Global, value: &V) -> Result<String, RenderError>
-    ensures { IfOk result (λ text. IsPrinted (V.output value.now) (string_bytes text)) }
+    ensures ok { IfOk result (λ text. IsPrinted (V.output value.now) (string_bytes text)) }
+    ensures no_memory { IfErr result (λ error. error ≡ NoMemory → PrintsSome (V.output value.now)) }
 {
     let mut written = Written {
         text: String::new(alloc),
-        wants_memory: false,
+        want: None,
     };
-    match written.write(value) {
-        Ok(()) if !written.wants_memory => Ok(written.text),
-        Err(_) if !written.wants_memory => Err(RenderError::Format),
-        _ => Err(RenderError::NoMemory),
+    if written.write(value).is_err() {
+        return Err(RenderError::Format);
+    }
+    match written.want {
+        None => Ok(written.text),
+        Some(cause) => Err(RenderError::from(cause)),
     }
 }
 

@@ -79,7 +79,8 @@ pub fn stream_struct<'v, L: Lending, N: Named, F: Fields<'v, L>, S: Stream<L>>(
 
 /// Begins an enum of this name.
 fn begin_enum<L: Lending, N: Named, S: Stream<L>>(stream: &mut S, name: N) -> Result
-    ensures { Answers S.law result (S.standing stream.old) (EnumBegin (type_name (N.text name))) (S.standing stream.new) }
+    ensures { Answers S.law result (S.standing stream.old)
+        (EnumBegin (type_name (N.text name))) (S.standing stream.new) }
 {
     stream.enum_begin(None, Some(&identifier(name)), None)
 }

@@ -3,10 +3,10 @@ use Rattle.std.specs.Prelude.{◌≡◌, ℕ, zero, suc, ◌+◌, ◌-◌, ◌^�
 use Rattle.std.proofs.Common.{sym, ap, ◌∙◌, subst, arith, length-append}
 use Rattle.std.proofs.lemmas.List.{map-append, length-map}
 use Rattle.sval_label.specs.Calls.{Call}
-use Rattle.sval_buffer.specs.Forest.{Node, Container, Forest, empty_forest, add, begun, with_flag, close_newest, Becomes}
+use Rattle.sval_buffer.specs.Forest.{Node, Nodes, none, Container, Open, Forest, HoldsNoPart, empty_forest, add, begun, with_flag, close_newest, Becomes}
 use Rattle.sval_buffer.specs.Flat as flat
 use Rattle.sval_buffer.specs.Flat.{flat_part, flat_node}
-use Rattle.sval_buffer.specs.FlatForest.{FlatForest}
+use Rattle.sval_buffer.specs.FlatForest.{FlatForest, open_places}
 use Rattle.sval_buffer.specs.Holders.{holders_node}
 use Rattle.sval_buffer.specs.Nested.{outer_of}
 use Rattle.sval_buffer.specs.SeenNames.{call_at, Extends}
@@ -14,7 +14,7 @@ use Rattle.sval_buffer.specs.declared.part.Part.{Part}
 use Rattle.sval_buffer.specs.declared.part.PartKind.{PartKind}
 use Rattle.sval_buffer.specs.declared.part.PartKind.TheVariants as kind
 use Rattle.sval_buffer.specs.SeenParts.{SeenPart, stored, stored_part, flat_kind, seen_part, seen_parts, with_holds, with_length, IsKept, AllKept, PartsTell, told}
-use Rattle.sval_buffer.proofs.Steps.{Is, is_nothing, is_added, is_begun, is_flagged, is_closed, closes, place_within, place_fits, map-set, get-map, newest_is}
+use Rattle.sval_buffer.proofs.Steps.{Is, nothing, tells_it, is_nothing, is_added, is_begun, is_flagged, is_closed, closes, place_within, place_fits, map-set, get-map, newest_is}
 
 -- what is known of an open buffer that is this forest
 pub record Holds (calls : List Call) (parts : List Part) (places : List ℕ) (within : Bool) (f : Forest) : Type 0 where
@@ -192,3 +192,22 @@ outer_again {h = h} calls parts outer held = outer ∙ ap (λ xs. outer_of xs h)
 
 pub seen_length : (calls : List Call) (parts : List Part) → length (seen_parts calls parts) ≡ length parts
 seen_length calls parts = length-map parts (seen_part calls)
+
+-- ---- a buffer without a part
+
+no_flat : (nodes : Nodes) (spine : List Open) → nodes ≡ none → spine ≡ [] → flat.flat_row nodes ++ flat.flat_spine spine ≡ []
+no_flat nodes spine e k = rw (e, k) refl
+
+no_places : (nodes : Nodes) (spine : List Open) → spine ≡ [] → open_places nodes spine ≡ []
+no_places nodes spine k = rw k refl
+
+-- a forest without a part is kept by no part
+pub no_part_kept : {calls : List Call} {parts : List Part} {places : List ℕ} {within : Bool} {f : Forest} → Holds calls parts places within f → HoldsNoPart f → parts ≡ []
+no_part_kept {calls} {parts} {f = f} h bare =
+    let e : map stored (seen_parts calls parts) ≡ [] = (tells_it h.is).parts_are ∙ no_flat f.nodes f.spine bare.no_nodes bare.no_spine in
+    let n : length (map stored (seen_parts calls parts)) ≡ 0 = ap (λ xs. length xs) e in
+    nothing parts (omega (arith, n, length-map (seen_parts calls parts) stored, length-map parts (seen_part calls)))
+
+-- and by no place of a container without an end
+pub no_place_kept : {calls : List Call} {parts : List Part} {places : List ℕ} {within : Bool} {f : Forest} → Holds calls parts places within f → HoldsNoPart f → places ≡ []
+no_place_kept {f = f} h bare = (tells_it h.is).places_are ∙ no_places f.nodes f.spine bare.no_spine

@@ -14,6 +14,7 @@ pub mod SeenNames
 pub mod SeenParts
 pub mod SeenBuffers
 pub mod CapturedValues
+pub mod MadeCalls
 pub mod ErrorTexts
 pub mod Nested
 pub mod Collected

@@ -1,11 +1,11 @@
 //! Captured values that take no more calls.
 
-ghost use Rattle.std.specs.Prelude.{◌≡◌, false, map, IfOk, IfErr};
+ghost use Rattle.std.specs.Prelude.{◌≡◌, false, map, IsOk, IfOk, IfErr};
 ghost use Rattle.sval_core.specs.Trees.{Tree};
 ghost use Rattle.sval_core.specs.Spells.{Spells};
 ghost use Rattle.sval_core.specs.Law.{computed};
 ghost use Rattle.sval_core.specs.Values.{makes};
-ghost use Rattle.sval_buffer.specs.Forest.{replayed};
+ghost use Rattle.sval_buffer.specs.Forest.{HoldsNoPart, replayed};
 ghost use Rattle.sval_buffer.specs.FlatForest.{forest_in};
 ghost use Rattle.sval_buffer.specs.Capture.{IsNoAlloc};
 ghost use Rattle.sval_buffer.specs.Owned.{owned};
@@ -95,14 +95,16 @@ impl<'sval, N: CallStore> AnyValue<'sval, N> {
 
     /// A copy, which makes the same calls.
     ///
-    /// [`ErrorKind::NoAlloc`](crate::ErrorKind::NoAlloc) comes where memory was wanting.
+    /// [`ErrorKind::NoAlloc`](crate::ErrorKind::NoAlloc) comes where memory was wanting, and never where the value
+    /// holds no part.
     pub fn try_clone(&self) -> Result<Self, Error>
         ensures ok { IfOk result (λ copy. copy ≡ self.now) }
         ensures err { IfErr result IsNoAlloc }
+        ensures no_part_needs_none { HoldsNoPart (forest_in self.now) → IsOk result }
     {
         match self.parts.try_clone() {
             Ok(parts) => Ok(AnyValue::new(parts)),
-            Err(_) => Err(no_memory()),
+            Err(cause) => Err(no_memory(cause)),
         }
     }
 
@@ -110,7 +112,7 @@ impl<'sval, N: CallStore> AnyValue<'sval, N> {
     /// one. So it makes the same calls, each with a computed fragment in place of a borrowed one.
     ///
     /// [`ErrorKind::NoAlloc`](crate::ErrorKind::NoAlloc) comes where memory was wanting, and then the value is handed
-    /// back as it was.
+    /// back as it was. It never comes where the value holds no part.
     #[tactic(auto, using(crate::proofs::OwnedForest::replay_computed))]
     pub fn into_owned<'o>(self) -> Result<AnyValue<'o, N>, Refused<Self>>
         ensures ok { IfOk result (λ value. forest_in value ≡ owned (forest_in self.entry)) }
@@ -118,12 +120,13 @@ impl<'sval, N: CallStore> AnyValue<'sval, N> {
             IfOk result (λ value. replayed (forest_in value) ≡ map computed calls) }
         ensures no_alloc { IfErr result (λ refused. IsNoAlloc refused.error) }
         ensures handed_back { IfErr result (λ refused. refused.value ≡ self.entry) }
+        ensures no_part_needs_none { HoldsNoPart (forest_in self.entry) → IsOk result }
     {
         match self.parts.into_owned() {
             Ok(parts) => Ok(AnyValue::new(parts)),
-            Err(parts) => Err(Refused {
-                value: AnyValue::new(parts),
-                error: no_memory(),
+            Err(refused) => Err(Refused {
+                value: AnyValue::new(refused.value),
+                error: refused.error,
             }),
         }
     }

@@ -1,18 +1,18 @@
 //! Binaries that come in fragments.
 
-ghost use Rattle.std.specs.Prelude.{◌≡◌, true, false, [], Some, None, IsOk, OnOk, IfOk, IfErr, option_map, if◌then◌else◌};
+ghost use Rattle.std.specs.Prelude.{◌≡◌, true, false, [], Some, None, IsOk, OnOk, IfOk, IfErr, option_map, is_ok, if◌then◌else◌};
 ghost use Rattle.std.specs.Bool.{OnTrue};
-ghost use Rattle.sval_buffer.specs.Pushes.{pushed};
+ghost use Rattle.sval_buffer.specs.Pushes.{BorrowsNothing, pushed};
 ghost use Rattle.sval_buffer.specs.Forest.{no_bytes, held_binary_calls};
 ghost use Rattle.sval_buffer.specs.Capture.{IsNoAlloc};
 ghost use Rattle.sval_core.specs.Values.{makes};
 
-use crate::error::{Error, ErrorKind, Word};
+use crate::error::{Error, ErrorKind, Word, no_alloc};
 use crate::fragment_buf::FragmentBuf;
 use std::alloc::Global;
 use std::fmt;
 use std::marker::Model;
-use sval_core::{Fragment, Lent, Result, Stream, Value};
+use sval_core::{Fragment, Lent, NoMemory, Result, Stream, Value};
 use sval_ref::ValueRef;
 
 /// A binary that comes in fragments.
@@ -81,7 +81,7 @@ impl<'sval> BinaryBuf<'sval> {
 
     /// The same bytes, borrowed exactly where these are.
     ///
-    /// [`ErrorKind::NoAlloc`] comes where memory was wanting, and never where these bytes are borrowed, which takes none.
+    /// [`ErrorKind::NoAlloc`] comes where memory was wanting, and never where these bytes are borrowed or empty.
     ///
     /// ```
     /// let again = binary.try_clone()?;
@@ -91,12 +91,11 @@ impl<'sval> BinaryBuf<'sval> {
         ensures same { IfOk result (λ binary. binary ≡ self.now) }
         ensures err { IfErr result (λ error. IsNoAlloc error) }
         ensures borrowed_needs_none { OnTrue self.now.borrowed (IsOk result) }
+        ensures empty_needs_none { self.now.bytes ≡ [] → IsOk result }
     {
         match self.fragments.try_clone() {
             Ok(fragments) => Ok(BinaryBuf { fragments }),
-            Err(_) => Err(Error::new(ErrorKind::NoAlloc {
-                method: Word::Binary,
-            })),
+            Err(cause) => Err(Error::new(no_alloc(NoMemory::from(cause), Word::Binary))),
         }
     }
 
@@ -115,25 +114,45 @@ impl<'sval> BinaryBuf<'sval> {
         ensures err { IfErr result (λ error. IsNoAlloc error × (self.new ≡ self.old)) }
         ensures first { self.old.bytes ≡ [] → IsOk result }
     {
-        self.fragments.push(fragment).map_err(|_| {
-            Error::new(ErrorKind::NoAlloc {
-                method: Word::Binary,
-            })
-        })
+        match self.push(fragment) {
+            Ok(()) => Ok(()),
+            Err(cause) => Err(Error::new(no_alloc(cause, Word::Binary))),
+        }
     }
 
     /// Appends a copy of a fragment.
     ///
-    /// [`ErrorKind::NoAlloc`] comes where memory was wanting, and then the binary stays as it was.
+    /// [`ErrorKind::NoAlloc`] comes where memory was wanting, and then the binary stays as it was. It comes only where
+    /// the fragment isn't empty, or where bytes are copied that were borrowed.
     pub fn push_fragment_computed(&mut self, fragment: &[u8]) -> std::result::Result<(), Error>
         ensures ok { OnOk result (self.new ≡ pushed self.old (record { borrowed = false; bytes = fragment.now })) }
         ensures err { IfErr result (λ error. IsNoAlloc error × (self.new ≡ self.old)) }
+        ensures nothing_needs_none { fragment.now ≡ [] → BorrowsNothing self.old → IsOk result }
     {
-        self.fragments.push_computed(fragment).map_err(|_| {
-            Error::new(ErrorKind::NoAlloc {
-                method: Word::Binary,
-            })
-        })
+        match self.push_computed(fragment) {
+            Ok(()) => Ok(()),
+            Err(cause) => Err(Error::new(no_alloc(cause, Word::Binary))),
+        }
+    }
+
+    /// Appends a fragment, which is kept by reference where nothing stands before it. Want of memory changes nothing.
+    pub(crate) fn push(&mut self, fragment: &'sval [u8]) -> std::result::Result<(), NoMemory>
+        ensures pushes { let after = pushed self.old (record { borrowed = true; bytes = fragment.now }) in
+            self.new ≡ (if is_ok result then after else self.old) }
+        ensures first { self.old.bytes ≡ [] → IsOk result }
+    {
+        self.fragments.push(fragment)?;
+        Ok(())
+    }
+
+    /// Appends a copy of a fragment. Want of memory changes nothing.
+    pub(crate) fn push_computed(&mut self, fragment: &[u8]) -> std::result::Result<(), NoMemory>
+        ensures pushes { let after = pushed self.old (record { borrowed = false; bytes = fragment.now }) in
+            self.new ≡ (if is_ok result then after else self.old) }
+        ensures nothing_needs_none { fragment.now ≡ [] → BorrowsNothing self.old → IsOk result }
+    {
+        self.fragments.push_computed(fragment)?;
+        Ok(())
     }
 
     /// The binary, where it is borrowed.

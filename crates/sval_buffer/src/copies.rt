@@ -1,20 +1,25 @@
 //! Copies of the parts of a captured value.
 
-ghost use Rattle.std.specs.Prelude.{◌≡◌, true, IfOk, map};
+ghost use Rattle.std.specs.Prelude.{◌≡◌, [], IsOk, IfOk, map};
 ghost use Rattle.sval_buffer.specs.Owned.{owned_bytes, owned_kind, owned_part};
 
 use crate::binary_buf::BinaryBuf;
 use crate::part::{Part, PartKind};
 use crate::text_buf::TextBuf;
-use std::alloc::{AllocError, Global};
+use std::alloc::Global;
+use sval_core::NoMemory;
 
 /// Copies of parts, which borrow what the parts borrow.
 pub(crate) fn copied_parts<'sval>(
     alloc: Global,
     parts: &[Part<'sval>],
-) -> Result<Vec<Part<'sval>>, AllocError>
-    ensures { IfOk result (λ copies. copies.items ≡ parts.now) }
+) -> Result<Vec<Part<'sval>>, NoMemory>
+    ensures copies { IfOk result (λ copies. copies.items ≡ parts.now) }
+    ensures no_part_needs_none { parts.now ≡ [] → IsOk result }
 {
+    if parts.is_empty() {
+        return Ok(Vec::new(alloc));
+    }
     let mut copies = Vec::with_capacity(alloc, parts.len())?;
     for part in parts {
         copies.push(part.copied(alloc)?)?;
@@ -23,12 +28,13 @@ pub(crate) fn copied_parts<'sval>(
 }
 
 /// Copies of parts, which borrow nothing.
-pub(crate) fn owned_parts<'o>(
-    alloc: Global,
-    parts: &[Part<'_>],
-) -> Result<Vec<Part<'o>>, AllocError>
-    ensures { IfOk result (λ copies. copies.items ≡ map owned_part parts.now) }
+pub(crate) fn owned_parts<'o>(alloc: Global, parts: &[Part<'_>]) -> Result<Vec<Part<'o>>, NoMemory>
+    ensures copies { IfOk result (λ copies. copies.items ≡ map owned_part parts.now) }
+    ensures no_part_needs_none { parts.now ≡ [] → IsOk result }
 {
+    if parts.is_empty() {
+        return Ok(Vec::new(alloc));
+    }
     let mut copies = Vec::with_capacity(alloc, parts.len())?;
     for part in parts {
         copies.push(part.owned(alloc)?)?;
@@ -38,7 +44,7 @@ pub(crate) fn owned_parts<'o>(
 
 impl<'sval> Part<'sval> {
     /// A copy, which borrows what this part borrows.
-    fn copied(&self, alloc: Global) -> Result<Part<'sval>, AllocError>
+    fn copied(&self, alloc: Global) -> Result<Part<'sval>, NoMemory>
         ensures { IfOk result (λ copy. copy ≡ self.now) }
     {
         match self.kind.copied(alloc) {
@@ -51,7 +57,7 @@ impl<'sval> Part<'sval> {
     }
 
     /// A copy, which borrows nothing.
-    fn owned<'o>(&self, alloc: Global) -> Result<Part<'o>, AllocError>
+    fn owned<'o>(&self, alloc: Global) -> Result<Part<'o>, NoMemory>
         ensures { IfOk result (λ copy. copy ≡ owned_part self.now) }
     {
         match self.kind.owned(alloc) {
@@ -66,7 +72,7 @@ impl<'sval> Part<'sval> {
 
 impl<'sval> PartKind<'sval> {
     /// A copy, which borrows what this part borrows.
-    fn copied(&self, alloc: Global) -> Result<PartKind<'sval>, AllocError>
+    fn copied(&self, alloc: Global) -> Result<PartKind<'sval>, NoMemory>
         ensures { IfOk result (λ copy. copy ≡ self.now) }
     {
         match self {
@@ -80,7 +86,7 @@ impl<'sval> PartKind<'sval> {
     }
 
     /// A copy, which borrows nothing.
-    fn owned<'o>(&self, alloc: Global) -> Result<PartKind<'o>, AllocError>
+    fn owned<'o>(&self, alloc: Global) -> Result<PartKind<'o>, NoMemory>
         ensures { IfOk result (λ copy. copy ≡ owned_kind self.now) }
     {
         match self {
@@ -101,68 +107,42 @@ impl<'sval> PartKind<'sval> {
 }
 
 /// A copy of a text, which is borrowed where the text is.
-fn copied_text<'sval>(alloc: Global, text: &TextBuf<'sval>) -> Result<TextBuf<'sval>, AllocError>
+fn copied_text<'sval>(alloc: Global, text: &TextBuf<'sval>) -> Result<TextBuf<'sval>, NoMemory>
     ensures { IfOk result (λ copy. copy ≡ text.now) }
 {
     match text.as_borrowed_str() {
-        Some(borrowed) => borrowed_text(alloc, borrowed),
+        Some(borrowed) => Ok(TextBuf::from_text(alloc, borrowed)),
         None => owned_text(alloc, text),
     }
 }
 
-/// A text that is borrowed.
-fn borrowed_text(alloc: Global, text: &str) -> Result<TextBuf<'_>, AllocError>
-    ensures { IfOk result (λ copy. copy ≡ record { borrowed = true; bytes = text.now }) }
-{
-    let mut copy = TextBuf::new(alloc);
-    match copy.push_fragment(text) {
-        Ok(()) => Ok(copy),
-        Err(_) => Err(AllocError),
-    }
-}
-
 /// A copy of a text, which is not borrowed.
-fn owned_text<'o>(alloc: Global, text: &TextBuf<'_>) -> Result<TextBuf<'o>, AllocError>
+fn owned_text<'o>(alloc: Global, text: &TextBuf<'_>) -> Result<TextBuf<'o>, NoMemory>
     ensures { IfOk result (λ copy. copy ≡ owned_bytes text.now) }
 {
     let mut copy = TextBuf::new(alloc);
-    match copy.push_fragment_computed(text.as_str()) {
-        Ok(()) => Ok(copy),
-        Err(_) => Err(AllocError),
-    }
+    copy.push_computed(text.as_str())?;
+    Ok(copy)
 }
 
 /// A copy of a binary, which is borrowed where the binary is.
 fn copied_binary<'sval>(
     alloc: Global,
     bytes: &BinaryBuf<'sval>,
-) -> Result<BinaryBuf<'sval>, AllocError>
+) -> Result<BinaryBuf<'sval>, NoMemory>
     ensures { IfOk result (λ copy. copy ≡ bytes.now) }
 {
     match bytes.as_borrowed_slice() {
-        Some(borrowed) => borrowed_binary(alloc, borrowed),
+        Some(borrowed) => Ok(BinaryBuf::from_bytes(alloc, borrowed)),
         None => owned_binary(alloc, bytes),
     }
 }
 
-/// A binary that is borrowed.
-fn borrowed_binary(alloc: Global, bytes: &[u8]) -> Result<BinaryBuf<'_>, AllocError>
-    ensures { IfOk result (λ copy. copy ≡ record { borrowed = true; bytes = bytes.now }) }
-{
-    let mut copy = BinaryBuf::new(alloc);
-    match copy.push_fragment(bytes) {
-        Ok(()) => Ok(copy),
-        Err(_) => Err(AllocError),
-    }
-}
-
 /// A copy of a binary, which is not borrowed.
-fn owned_binary<'o>(alloc: Global, bytes: &BinaryBuf<'_>) -> Result<BinaryBuf<'o>, AllocError>
+fn owned_binary<'o>(alloc: Global, bytes: &BinaryBuf<'_>) -> Result<BinaryBuf<'o>, NoMemory>
     ensures { IfOk result (λ copy. copy ≡ owned_bytes bytes.now) }
 {
     let mut copy = BinaryBuf::new(alloc);
-    match copy.push_fragment_computed(bytes.as_slice()) {
-        Ok(()) => Ok(copy),
-        Err(_) => Err(AllocError),
-    }
+    copy.push_computed(bytes.as_slice())?;
+    Ok(copy)
 }

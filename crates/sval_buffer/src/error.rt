@@ -1,9 +1,11 @@
 //! Why a buffer refused something.
 
 ghost use Rattle.std.specs.Prelude.{◌≡◌};
+ghost use Rattle.sval_buffer.specs.declared.error.ErrorKind.TheVariants as kinds;
 
 use std::fmt;
 use std::marker::Model;
+use sval_core::NoMemory;
 
 /// A word of an [`ErrorKind`].
 #[derive(Clone, Copy, Debug, PartialEq, Eq)]
@@ -77,6 +79,13 @@ pub enum ErrorKind {
         /// What was buffered.
         method: Word,
     },
+}
+
+/// Says that the allocator refused memory for what was buffered. No other function makes this kind of error.
+pub(crate) fn no_alloc(_cause: NoMemory, method: Word) -> ErrorKind
+    ensures { result ≡ kinds.NoAlloc method }
+{
+    ErrorKind::NoAlloc { method }
 }
 
 /// Why a buffer refused something.

@@ -3,8 +3,10 @@
 ghost use Rattle.std.specs.Prelude.{◌≡◌, true, false, [], IsOk, OnOk, OnErr, IfOk, IfErr, ◌++◌, is_ok, if◌then◌else◌};
 ghost use Rattle.std.specs.Bool.{OnTrue};
 ghost use Rattle.std.specs.Str.{IsUtf8};
+ghost use Rattle.sval.specs.Rendered.{PrintsSome};
 ghost use Rattle.sval.specs.Shown.{SomePrinted};
-ghost use Rattle.sval_buffer.specs.Pushes.{pushed};
+ghost use Rattle.sval.specs.declared.render.RenderError.TheVariants.{NoMemory};
+ghost use Rattle.sval_buffer.specs.Pushes.{BorrowsNothing, pushed};
 ghost use Rattle.sval_buffer.specs.Forest.{no_bytes};
 ghost use Rattle.sval_buffer.specs.Displays.{IsRenderCause};
 ghost use Rattle.sval_buffer.specs.SeenParts.{fragment_bytes};
@@ -70,14 +72,15 @@ impl<'sval> FragmentBuf<'sval> {
         }
     }
 
-    /// The same bytes, borrowed exactly where these are. Borrowed ones take no memory.
+    /// The same bytes, borrowed exactly where these are. Borrowed ones take no memory, and neither do no bytes.
     pub(crate) fn try_clone(&self) -> Result<Self, AllocError>
         ensures same { IfOk result (λ fragments. fragments ≡ self.now) }
         ensures borrowed_needs_none { OnTrue self.now.borrowed (IsOk result) }
+        ensures empty_needs_none { self.now.bytes ≡ [] → IsOk result }
     {
         let held = match &self.held {
             Held::Borrowed(bytes) => Held::Borrowed(*bytes),
-            Held::Owned(bytes) => Held::Owned(Vec::from_slice(self.alloc, bytes.as_slice())?),
+            Held::Owned(bytes) => Held::Owned(copied(self.alloc, bytes.as_slice())?),
         };
         Ok(FragmentBuf {
             held,
@@ -108,11 +111,12 @@ impl<'sval> FragmentBuf<'sval> {
     /// Appends a copy of a fragment to a copy of the bytes, or to the bytes where they are one. Want of memory changes
     /// nothing.
     pub(crate) fn push_computed(&mut self, fragment: &[u8]) -> Result<(), AllocError>
-        ensures { let after = pushed self.old (record { borrowed = false; bytes = fragment.now }) in
+        ensures pushes { let after = pushed self.old (record { borrowed = false; bytes = fragment.now }) in
             self.new ≡ (if is_ok result then after else self.old) }
+        ensures nothing_needs_none { fragment.now ≡ [] → BorrowsNothing self.old → IsOk result }
     {
         match &mut self.held {
-            Held::Owned(bytes) => bytes.extend_from_slice(fragment),
+            Held::Owned(bytes) => extended(bytes, fragment),
             Held::Borrowed(bytes) => match joined(self.alloc, bytes, fragment) {
                 Ok(copy) => {
                     self.held = Held::Owned(copy);
@@ -130,6 +134,8 @@ impl<'sval> FragmentBuf<'sval> {
         ensures ok { OnOk result (SomePrinted (D.printed value.now) (λ text.
             self.new ≡ pushed self.old (record { borrowed = false; bytes = text }))) }
         ensures err { IfErr result (IsRenderCause (D.unprintable value.now)) }
+        ensures no_memory { IfErr result (λ error. error ≡ NoMemory
+            → BorrowsNothing self.old → PrintsSome (D.printed value.now)) }
         ensures keeps { OnErr result (self.new ≡ self.old) }
         ensures utf8 { IsUtf8 self.new.bytes }
     {
@@ -166,10 +172,36 @@ impl<'sval> FragmentBuf<'sval> {
     }
 }
 
-/// A copy of two binaries, one after the other.
-fn joined(alloc: Global, first: &[u8], second: &[u8]) -> Result<Vec<u8>, AllocError>
-    ensures { IfOk result (λ bytes. bytes.items ≡ first.now ++ second.now) }
+/// A copy of a binary. An empty one takes no memory.
+fn copied(alloc: Global, bytes: &[u8]) -> Result<Vec<u8>, AllocError>
+    ensures copy { IfOk result (λ copy. copy.items ≡ bytes.now) }
+    ensures empty_needs_none { bytes.now ≡ [] → IsOk result }
 {
+    if bytes.is_empty() {
+        return Ok(Vec::new(alloc));
+    }
+    Vec::from_slice(alloc, bytes)
+}
+
+/// Appends a fragment. An empty one takes no memory.
+fn extended(bytes: &mut Vec<u8>, fragment: &[u8]) -> Result<(), AllocError>
+    ensures appends { bytes.new.items ≡ (if is_ok result then bytes.old.items ++ fragment.now else bytes.old.items) }
+    ensures empty_needs_none { fragment.now ≡ [] → IsOk result }
+{
+    if fragment.is_empty() {
+        return Ok(());
+    }
+    bytes.extend_from_slice(fragment)
+}
+
+/// A copy of two binaries, one after the other. Empty ones take no memory.
+fn joined(alloc: Global, first: &[u8], second: &[u8]) -> Result<Vec<u8>, AllocError>
+    ensures joined { IfOk result (λ bytes. bytes.items ≡ first.now ++ second.now) }
+    ensures empty_needs_none { first.now ≡ [] → second.now ≡ [] → IsOk result }
+{
+    if first.is_empty() && second.is_empty() {
+        return Ok(Vec::new(alloc));
+    }
     let mut bytes = Vec::with_capacity(alloc, first.len().saturating_add(second.len()))?;
     bytes.extend_from_slice(first)?;
     bytes.extend_from_slice(second)?;
@@ -182,9 +214,11 @@ fn with_display<D: Render>(alloc: Global, text: &[u8], value: &D) -> Result<Vec<
     ensures ok { IfOk result (λ bytes. SomePrinted (D.printed value.now) (λ printed.
         bytes.items ≡ text.now ++ printed)) }
     ensures err { IfErr result (IsRenderCause (D.unprintable value.now)) }
+    ensures no_memory { IfErr result (λ error. error ≡ NoMemory
+        → text.now ≡ [] → PrintsSome (D.printed value.now)) }
     ensures utf8 { IfOk result (λ bytes. IsUtf8 bytes.items) }
 {
-    let mut bytes = Vec::from_slice(alloc, text).map_err(|_| RenderError::NoMemory)?;
+    let mut bytes = copied(alloc, text)?;
     append_display(&mut bytes, value)?;
     Ok(bytes)
 }
@@ -195,6 +229,7 @@ fn append_display<D: Render>(bytes: &mut Vec<u8>, value: &D) -> Result<(), Rende
     ensures ok { OnOk result (SomePrinted (D.printed value.now) (λ printed.
         bytes.new.items ≡ bytes.old.items ++ printed)) }
     ensures err { IfErr result (IsRenderCause (D.unprintable value.now)) }
+    ensures no_memory { IfErr result (λ error. error ≡ NoMemory → PrintsSome (D.printed value.now)) }
     ensures keeps { OnErr result (bytes.new.items ≡ bytes.old.items) }
     ensures utf8 { IsUtf8 bytes.new.items }
 {

@@ -77,10 +77,7 @@ pub(crate) fn keep(
         IfOk result (λ call. kept_call (string_bytes texts.new) call ≡ made) }
 {
     let label = match name.label {
-        Some(label) => match keep_label(texts, label) {
-            Ok(label) => Some(label),
-            Err(_) => return Err(NoMemory),
-        },
+        Some(label) => Some(keep_label(texts, label)?),
         None => None,
     };
     Ok(NamedCall {
@@ -105,13 +102,11 @@ fn keep_label(texts: &mut String, label: &Label<'_>) -> std::result::Result<Kept
         }),
         None => {
             let start = texts.len();
-            match texts.push_str(label.as_str()) {
-                Ok(()) => Ok(KeptLabel {
-                    text: KeptText::Stored(start, texts.len()),
-                    tag,
-                }),
-                Err(_) => Err(NoMemory),
-            }
+            texts.push_str(label.as_str())?;
+            Ok(KeptLabel {
+                text: KeptText::Stored(start, texts.len()),
+                tag,
+            })
         }
     }
 }

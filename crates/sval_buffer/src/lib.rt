@@ -28,6 +28,7 @@ mod parts;
 mod recent;
 mod refusals;
 mod refused;
+mod singles;
 mod streamed;
 mod text_buf;
 mod value_buf;

@@ -279,17 +279,11 @@ impl NamedCalls {
             OnOk result (self.new ≡ self.old ++ (call ∷ [])) }
         ensures err { OnErr result (self.new ≡ self.old) }
     {
-        if self.calls.reserve(1).is_err() {
-            return Err(NoMemory);
-        }
-        match keep(&mut self.texts, kind, name) {
-            Ok(call) => {
-                let at = self.calls.len();
-                self.calls.push_reserved(call);
-                Ok(at)
-            }
-            Err(_) => Err(NoMemory),
-        }
+        self.calls.reserve(1)?;
+        let call = keep(&mut self.texts, kind, name)?;
+        let at = self.calls.len();
+        self.calls.push_reserved(call);
+        Ok(at)
     }
 }
 

@@ -13,7 +13,7 @@ ghost use Rattle.sval_buffer.specs.declared.part.Medium.TheVariants as media;
 ghost use Rattle.sval_buffer.specs.SeenParts.{seen_part, FragmentPushes, fragment_bytes, with_holds, flat_kind, holds_of, single_call, begin_call, no_fragments_yet, IsKept};
 
 use crate::binary_buf::BinaryBuf;
-use crate::error::{ErrorKind, Word};
+use crate::error::{ErrorKind, Word, no_alloc};
 use crate::holder::Holder;
 use crate::kept_int::KeptInt;
 use crate::named::{CallStore, make};
@@ -168,9 +168,10 @@ impl<'sval> Part<'sval> {
         ensures kept { (calls : ℕ) → IsKept calls self.old.kind → IsKept calls self.new.kind }
     {
         match &mut self.kind {
-            PartKind::Text(text) => push_into_text(text, fragment).map_err(|_| ErrorKind::NoAlloc {
-                method: Word::Text,
-            }),
+            PartKind::Text(text) => match push_into_text(text, fragment) {
+                Ok(()) => Ok(()),
+                Err(cause) => Err(no_alloc(cause, Word::Text)),
+            },
             _ => Err(ErrorKind::OutsideContainer { method: Word::Text }),
         }
     }
@@ -185,11 +186,10 @@ impl<'sval> Part<'sval> {
         ensures kept { (calls : ℕ) → IsKept calls self.old.kind → IsKept calls self.new.kind }
     {
         match &mut self.kind {
-            PartKind::Binary(bytes) => push_into_binary(bytes, fragment).map_err(|_| {
-                ErrorKind::NoAlloc {
-                    method: Word::Binary,
-                }
-            }),
+            PartKind::Binary(bytes) => match push_into_binary(bytes, fragment) {
+                Ok(()) => Ok(()),
+                Err(cause) => Err(no_alloc(cause, Word::Binary)),
+            },
             _ => Err(ErrorKind::OutsideContainer {
                 method: Word::Binary,
             }),
@@ -279,11 +279,10 @@ fn push_into_text<'sval>(
         text.new ≡ (if is_ok result then after else text.old) }
     ensures may_fail { OnErr result (IsTrue (push_may_grow (fragment_bytes fragment.entry).borrowed (Some text.old))) }
 {
-    let pushed = match fragment {
-        Fragment::Borrowed(fragment) => text.push_fragment(fragment),
-        Fragment::Computed(fragment) => text.push_fragment_computed(fragment),
-    };
-    pushed.map_err(|_| NoMemory)
+    match fragment {
+        Fragment::Borrowed(fragment) => text.push(fragment),
+        Fragment::Computed(fragment) => text.push_computed(fragment),
+    }
 }
 
 /// Pushes a fragment into a binary.
@@ -295,9 +294,8 @@ fn push_into_binary<'sval>(
         bytes.new ≡ (if is_ok result then after else bytes.old) }
     ensures may_fail { OnErr result (IsTrue (push_may_grow (fragment_bytes fragment.entry).borrowed (Some bytes.old))) }
 {
-    let pushed = match fragment {
-        Fragment::Borrowed(fragment) => bytes.push_fragment(fragment),
-        Fragment::Computed(fragment) => bytes.push_fragment_computed(fragment),
-    };
-    pushed.map_err(|_| NoMemory)
+    match fragment {
+        Fragment::Borrowed(fragment) => bytes.push(fragment),
+        Fragment::Computed(fragment) => bytes.push_computed(fragment),
+    }
 }

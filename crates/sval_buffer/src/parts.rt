@@ -1,33 +1,32 @@
 //! The parts of a captured value, in a flat list.
 
-ghost use Rattle.std.specs.Prelude.{◌≡◌, ◌-◌, true, false, [], not, length, slice_get, IfOk, IfErr, if◌then◌else◌};
+ghost use Rattle.std.specs.Prelude.{◌≡◌, ◌-◌, true, false, [], not, length, slice_get, IsOk, IfOk, IfErr, if◌then◌else◌};
 ghost use Rattle.sval_label.specs.Calls as calls;
 ghost use Rattle.sval_label.specs.Made.{lent_call};
-ghost use Rattle.sval_label.specs.Grouped.{int_call};
 ghost use Rattle.sval_label.specs.SeenTags.{seen_ref_tag};
 ghost use Rattle.sval_label.specs.SeenName.{seen_name};
 ghost use Rattle.sval_core.specs.Law.{Emits};
 ghost use Rattle.sval_core.specs.Values.{makes};
 ghost use Rattle.sval_buffer.specs.Forest as forest;
-ghost use Rattle.sval_buffer.specs.Forest.{Becomes, add, with_flag, begun, push_into_text, push_into_binary, close_newest, text_may_grow, binary_may_grow, may_grow, empty_forest};
+ghost use Rattle.sval_buffer.specs.Forest.{Becomes, HoldsNoPart, add, with_flag, begun, push_into_text, push_into_binary, close_newest, text_may_grow, binary_may_grow, may_grow, empty_forest};
 ghost use Rattle.sval_buffer.specs.FlatForest.{forest_in};
-ghost use Rattle.sval_buffer.specs.Capture.{CapturesBy};
+ghost use Rattle.sval_buffer.specs.Capture.{CapturesBy, IsNoAlloc};
 ghost use Rattle.sval_buffer.specs.Owned.{owned};
 ghost use Rattle.sval_buffer.specs.SeenNames.{named_call, IsBegin, HasName};
 ghost use Rattle.sval_buffer.specs.SeenParts.{single_call, begin_call, no_fragments, fragment_bytes};
 
 use crate::binary_buf::BinaryBuf;
 use crate::copies::{copied_parts, owned_parts};
-use crate::error::{ErrorKind, Word};
+use crate::error::{ErrorKind, Word, no_alloc};
 use crate::holder::Holder;
-use crate::kept_int::KeptInt;
 use crate::named::{CallStore, NamedKind};
 use crate::one_pass::replay_parts;
 use crate::part::{Begin, Keeping, Medium, Part, PartKind, Single};
+use crate::refused::{Refused, no_memory};
 use crate::text_buf::TextBuf;
-use std::alloc::{AllocError, Global};
+use std::alloc::Global;
 use std::marker::Model;
-use sval_core::{Call, Fragment, GroupedCall, Int, Lent, Name, Stream, Tag};
+use sval_core::{Call, Fragment, GroupedCall, Lent, Name, NoMemory, Stream, Tag};
 
 /// The parts of a captured value. `forest_in` reads the forest that they are.
 #[derive(Drop)]
@@ -104,7 +103,7 @@ impl<'sval, N: CallStore> Parts<'sval, N> {
 
     /// Adds a call that is complete by itself and has no name.
     #[inline(always)]
-    fn single(&mut self, single: Single) -> Result<(), ErrorKind>
+    pub(crate) fn single(&mut self, single: Single) -> Result<(), ErrorKind>
         ensures { let node = forest.Single (single_call single) in
             CapturesBy (λ _. true) (λ f. Becomes (add node f)) self.old result self.new }
     {
@@ -112,44 +111,11 @@ impl<'sval, N: CallStore> Parts<'sval, N> {
             kind: PartKind::Single(single),
             holder: self.newest(),
         };
-        if self.parts.push(part).is_err() {
-            return Err(ErrorKind::NoAlloc {
-                method: single.word(),
-            });
+        match self.parts.push(part) {
+            Ok(()) => {}
+            Err(failed) => return Err(no_alloc(NoMemory::from(failed), single.word())),
         }
         Ok(())
-    }
-
-    /// Adds the call of no value.
-    pub(crate) fn null(&mut self) -> Result<(), ErrorKind>
-        ensures { let node = forest.Single calls.Null in
-            CapturesBy (λ _. true) (λ f. Becomes (add node f)) self.old result self.new }
-    {
-        self.single(Single::Null)
-    }
-
-    /// Adds a truth value.
-    pub(crate) fn truth(&mut self, value: bool) -> Result<(), ErrorKind>
-        ensures { let node = forest.Single (calls.Truth value) in
-            CapturesBy (λ _. true) (λ f. Becomes (add node f)) self.old result self.new }
-    {
-        self.single(Single::Bool(value))
-    }
-
-    /// Adds a whole number.
-    pub(crate) fn int(&mut self, value: Int) -> Result<(), ErrorKind>
-        ensures { let node = forest.Single (int_call value) in
-            CapturesBy (λ _. true) (λ f. Becomes (add node f)) self.old result self.new }
-    {
-        self.single(Single::Int(KeptInt::new(value)))
-    }
-
-    /// Adds a tag.
-    pub(crate) fn tag(&mut self, name: Name<'_>) -> Result<(), ErrorKind>
-        ensures { let node = forest.Single (calls.Standalone (seen_name name.entry)) in
-            CapturesBy (λ _. true) (λ f. Becomes (add node f)) self.old result self.new }
-    {
-        self.single_named(NamedKind::Tag, name)
     }
 
     /// Adds a hint, but within a text or a binary.
@@ -170,14 +136,14 @@ impl<'sval, N: CallStore> Parts<'sval, N> {
     }
 
     /// Adds a tag or a hint. There is memory for its part before its name is kept.
-    fn single_named(&mut self, kind: NamedKind, name: Name<'_>) -> Result<(), ErrorKind>
+    pub(crate) fn single_named(&mut self, kind: NamedKind, name: Name<'_>) -> Result<(), ErrorKind>
         requires name { HasName kind (seen_name name) }
         ensures { let node = forest.Single (named_call kind (seen_name name.entry)) in
             CapturesBy (λ _. true) (λ f. Becomes (add node f)) self.old result self.new }
     {
         let holder = self.newest();
-        if self.parts.reserve(1).is_err() {
-            return Err(ErrorKind::NoAlloc { method: Word::Text });
+        if let Err(cause) = self.parts.reserve(1) {
+            return Err(no_alloc(NoMemory::from(cause), Word::Text));
         }
         match self.named.push(kind, name) {
             Ok(at) => {
@@ -187,7 +153,7 @@ impl<'sval, N: CallStore> Parts<'sval, N> {
                 });
                 Ok(())
             }
-            Err(_) => Err(ErrorKind::NoAlloc { method: Word::Text }),
+            Err(cause) => Err(no_alloc(cause, Word::Text)),
         }
     }
 
@@ -206,13 +172,13 @@ impl<'sval, N: CallStore> Parts<'sval, N> {
             kind: medium.empty(keeping, alloc),
             holder: self.newest(),
         };
-        if self.parts.push(part).is_err() {
-            return Err(ErrorKind::NoAlloc {
-                method: medium.word(),
-            });
+        match self.parts.push(part) {
+            Ok(()) => {
+                self.in_fragments = true;
+                Ok(())
+            }
+            Err(failed) => Err(no_alloc(NoMemory::from(failed), medium.word())),
         }
-        self.in_fragments = true;
-        Ok(())
     }
 
     /// Ends a text or a binary.
@@ -261,13 +227,16 @@ impl<'sval, N: CallStore> Parts<'sval, N> {
             holder: self.newest(),
         };
         let place = self.parts.len();
-        if self.places.reserve(1).is_err() || self.parts.push(part).is_err() {
-            return Err(ErrorKind::NoAlloc {
-                method: Word::Sequence,
-            });
+        if let Err(cause) = self.places.reserve(1) {
+            return Err(no_alloc(NoMemory::from(cause), Word::Sequence));
         }
-        self.places.push_reserved(place);
-        Ok(())
+        match self.parts.push(part) {
+            Ok(()) => {
+                self.places.push_reserved(place);
+                Ok(())
+            }
+            Err(failed) => Err(no_alloc(NoMemory::from(failed), Word::Sequence)),
+        }
     }
 
     /// Begins a container with a name. There is memory for its part and its place before its name is kept.
@@ -279,10 +248,11 @@ impl<'sval, N: CallStore> Parts<'sval, N> {
     {
         let place = self.parts.len();
         let holder = self.newest();
-        if self.places.reserve(1).is_err() || self.parts.reserve(1).is_err() {
-            return Err(ErrorKind::NoAlloc {
-                method: Word::Sequence,
-            });
+        if let Err(cause) = self.places.reserve(1) {
+            return Err(no_alloc(NoMemory::from(cause), Word::Sequence));
+        }
+        if let Err(cause) = self.parts.reserve(1) {
+            return Err(no_alloc(NoMemory::from(cause), Word::Sequence));
         }
         match self.named.push(kind, name) {
             Ok(at) => {
@@ -293,9 +263,7 @@ impl<'sval, N: CallStore> Parts<'sval, N> {
                 self.places.push_reserved(place);
                 Ok(())
             }
-            Err(_) => Err(ErrorKind::NoAlloc {
-                method: Word::Sequence,
-            }),
+            Err(cause) => Err(no_alloc(cause, Word::Sequence)),
         }
     }
 
@@ -311,10 +279,19 @@ impl<'sval, N: CallStore> Parts<'sval, N> {
     }
 
     /// A copy, which borrows what these parts borrow.
-    pub(crate) fn try_clone(&self) -> Result<Self, AllocError>
-        ensures { IfOk result (λ copy. copy ≡ self.now) }
+    pub(crate) fn try_clone(&self) -> Result<Self, NoMemory>
+        ensures copy { IfOk result (λ copy. copy ≡ self.now) }
+        ensures no_part_needs_none { HoldsNoPart (forest_in self.now) → IsOk result }
     {
         let alloc = *self.parts.allocator();
+        if self.parts.is_empty() && self.places.is_empty() {
+            return Ok(Parts {
+                parts: Vec::new(alloc),
+                named: N::empty(alloc),
+                places: Vec::new(alloc),
+                in_fragments: self.in_fragments,
+            });
+        }
         let parts = copied_parts(alloc, self.parts.as_slice())?;
         let named = self.named.try_clone(alloc)?;
         let places = Vec::from_slice(alloc, self.places.as_slice())?;
@@ -327,9 +304,10 @@ impl<'sval, N: CallStore> Parts<'sval, N> {
     }
 
     /// The parts with no text or binary borrowed. Without memory for that they are handed back as they are.
-    pub(crate) fn into_owned<'o>(self) -> Result<Parts<'o, N>, Self>
+    pub(crate) fn into_owned<'o>(self) -> Result<Parts<'o, N>, Refused<Self>>
         ensures ok { IfOk result (λ parts. forest_in parts ≡ owned (forest_in self.entry)) }
-        ensures err { IfErr result (λ parts. parts ≡ self.entry) }
+        ensures err { IfErr result (λ refused. (refused.value ≡ self.entry) × IsNoAlloc refused.error) }
+        ensures no_part_needs_none { HoldsNoPart (forest_in self.entry) → IsOk result }
     {
         self.named.show_names_alone();
         match owned_parts(*self.parts.allocator(), self.parts.as_slice()) {
@@ -339,7 +317,10 @@ impl<'sval, N: CallStore> Parts<'sval, N> {
                 places: self.places,
                 in_fragments: self.in_fragments,
             }),
-            Err(_) => Err(self),
+            Err(cause) => Err(Refused {
+                value: self,
+                error: no_memory(cause),
+            }),
         }
     }
 

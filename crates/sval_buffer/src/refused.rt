@@ -3,7 +3,8 @@
 ghost use Rattle.std.specs.Prelude.{◌≡◌};
 ghost use Rattle.sval_buffer.specs.Capture.{IsNoAlloc};
 
-use crate::error::{Error, ErrorKind, Word};
+use crate::error::{Error, Word, no_alloc};
+use sval_core::NoMemory;
 
 /// A value that a call took and hands back, and why.
 #[derive(Debug, Drop)]
@@ -23,10 +24,8 @@ impl<T: Drop> From<Refused<T>> for Error {
 }
 
 /// Says that there was no memory for the parts of a value.
-pub(crate) fn no_memory() -> Error
+pub(crate) fn no_memory(cause: NoMemory) -> Error
     ensures { IsNoAlloc result }
 {
-    Error::new(ErrorKind::NoAlloc {
-        method: Word::Sequence,
-    })
+    Error::new(no_alloc(cause, Word::Sequence))
 }

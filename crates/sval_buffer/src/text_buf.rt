@@ -1,23 +1,25 @@
 //! Texts that come in fragments.
 
-ghost use Rattle.std.specs.Prelude.{◌≡◌, Bool, true, false, [], Some, None, IsOk, OnOk, OnErr, IfOk, IfErr, option_map, if◌then◌else◌};
+ghost use Rattle.std.specs.Prelude.{◌≡◌, Bool, true, false, [], Some, None, IsOk, OnOk, OnErr, IfOk, IfErr, option_map, is_ok, if◌then◌else◌};
 ghost use Rattle.std.specs.Bool.{OnTrue};
+ghost use Rattle.sval.specs.Rendered.{PrintsSome};
 ghost use Rattle.sval.specs.Shown.{SomePrinted};
+ghost use Rattle.sval.specs.declared.render.RenderError.TheVariants as render;
 ghost use Rattle.sval_buffer.specs.Displays.{IsRenderCause, IsDisplayCause};
-ghost use Rattle.sval_buffer.specs.Pushes.{pushed};
+ghost use Rattle.sval_buffer.specs.Pushes.{BorrowsNothing, pushed};
 ghost use Rattle.std.specs.Str.{IsUtf8};
 ghost use Rattle.sval_buffer.specs.Forest.{no_bytes, held_text_calls};
 ghost use Rattle.sval_buffer.specs.Capture.{IsNoAlloc};
 ghost use Rattle.sval_core.specs.Law.{Emits};
 ghost use Rattle.sval_core.specs.Values.{makes};
 
-use crate::error::{Error, ErrorKind, Word};
+use crate::error::{Error, ErrorKind, Word, no_alloc};
 use crate::fragment_buf::FragmentBuf;
 use std::alloc::Global;
 use std::fmt;
 use std::marker::Model;
 use sval::{Render, RenderError};
-use sval_core::{Fragment, Lending, Lent, Result, Stream, Value};
+use sval_core::{Fragment, Lending, Lent, NoMemory, Result, Stream, Value};
 use sval_ref::ValueRef;
 
 /// A text that comes in fragments.
@@ -85,7 +87,7 @@ impl<'sval> TextBuf<'sval> {
     /// What a value prints, owned: it counts as computed also where it is empty.
     ///
     /// [`ErrorKind::InvalidValue`] with [`Word::FormattingFailed`] comes only for a value that can't be printed, and
-    /// [`ErrorKind::NoAlloc`] where memory was wanting.
+    /// [`ErrorKind::NoAlloc`] where memory was wanting, and only for a value that prints something.
     ///
     /// ```
     /// let text = TextBuf::collect_display(alloc, &true)?;
@@ -95,6 +97,7 @@ impl<'sval> TextBuf<'sval> {
         ensures ok { IfOk result (λ text. SomePrinted (D.printed value.now) (λ printed.
             text ≡ record { borrowed = false; bytes = printed })) }
         ensures err { IfErr result (IsDisplayCause (D.unprintable value.now)) }
+        ensures no_alloc { IfErr result (λ error. IsNoAlloc error → PrintsSome (D.printed value.now)) }
     {
         let mut text = TextBuf::new(alloc);
         text.push_display(value)?;
@@ -103,7 +106,7 @@ impl<'sval> TextBuf<'sval> {
 
     /// The same text, borrowed exactly where this one is.
     ///
-    /// [`ErrorKind::NoAlloc`] comes where memory was wanting, and never where this text is borrowed, which takes none.
+    /// [`ErrorKind::NoAlloc`] comes where memory was wanting, and never where this text is borrowed or empty.
     ///
     /// ```
     /// let again = text.try_clone()?;
@@ -113,10 +116,11 @@ impl<'sval> TextBuf<'sval> {
         ensures same { IfOk result (λ text. text ≡ self.now) }
         ensures err { IfErr result (λ error. IsNoAlloc error) }
         ensures borrowed_needs_none { OnTrue self.now.borrowed (IsOk result) }
+        ensures empty_needs_none { self.now.bytes ≡ [] → IsOk result }
     {
         match self.fragments.try_clone() {
             Ok(fragments) => Ok(TextBuf { fragments }),
-            Err(_) => Err(Error::new(ErrorKind::NoAlloc { method: Word::Text })),
+            Err(cause) => Err(Error::new(no_alloc(NoMemory::from(cause), Word::Text))),
         }
     }
 
@@ -135,21 +139,45 @@ impl<'sval> TextBuf<'sval> {
         ensures err { IfErr result (λ error. IsNoAlloc error × (self.new ≡ self.old)) }
         ensures first { self.old.bytes ≡ [] → IsOk result }
     {
-        self.fragments
-            .push(fragment.as_bytes())
-            .map_err(|_| Error::new(ErrorKind::NoAlloc { method: Word::Text }))
+        match self.push(fragment) {
+            Ok(()) => Ok(()),
+            Err(cause) => Err(Error::new(no_alloc(cause, Word::Text))),
+        }
     }
 
     /// Appends a copy of a fragment.
     ///
-    /// [`ErrorKind::NoAlloc`] comes where memory was wanting, and then the text stays as it was.
+    /// [`ErrorKind::NoAlloc`] comes where memory was wanting, and then the text stays as it was. It comes only where
+    /// the fragment isn't empty, or where bytes are copied that were borrowed.
     pub fn push_fragment_computed(&mut self, fragment: &str) -> std::result::Result<(), Error>
         ensures ok { OnOk result (self.new ≡ pushed self.old (record { borrowed = false; bytes = fragment.now })) }
         ensures err { IfErr result (λ error. IsNoAlloc error × (self.new ≡ self.old)) }
+        ensures nothing_needs_none { fragment.now ≡ [] → BorrowsNothing self.old → IsOk result }
     {
-        self.fragments
-            .push_computed(fragment.as_bytes())
-            .map_err(|_| Error::new(ErrorKind::NoAlloc { method: Word::Text }))
+        match self.push_computed(fragment) {
+            Ok(()) => Ok(()),
+            Err(cause) => Err(Error::new(no_alloc(cause, Word::Text))),
+        }
+    }
+
+    /// Appends a fragment, which is kept by reference where nothing stands before it. Want of memory changes nothing.
+    pub(crate) fn push(&mut self, fragment: &'sval str) -> std::result::Result<(), NoMemory>
+        ensures pushes { let after = pushed self.old (record { borrowed = true; bytes = fragment.now }) in
+            self.new ≡ (if is_ok result then after else self.old) }
+        ensures first { self.old.bytes ≡ [] → IsOk result }
+    {
+        self.fragments.push(fragment.as_bytes())?;
+        Ok(())
+    }
+
+    /// Appends a copy of a fragment. Want of memory changes nothing.
+    pub(crate) fn push_computed(&mut self, fragment: &str) -> std::result::Result<(), NoMemory>
+        ensures pushes { let after = pushed self.old (record { borrowed = false; bytes = fragment.now }) in
+            self.new ≡ (if is_ok result then after else self.old) }
+        ensures nothing_needs_none { fragment.now ≡ [] → BorrowsNothing self.old → IsOk result }
+    {
+        self.fragments.push_computed(fragment.as_bytes())?;
+        Ok(())
     }
 
     /// Appends a copy of a text, as [`TextBuf::push_fragment_computed`] does, for callers that write a text piece by piece.
@@ -165,7 +193,8 @@ impl<'sval> TextBuf<'sval> {
     /// Appends what a value prints. It is printed straight into the text, which is copied first where it is borrowed.
     ///
     /// [`ErrorKind::InvalidValue`] with [`Word::FormattingFailed`] comes only for a value that can't be printed, and
-    /// [`ErrorKind::NoAlloc`] where memory was wanting. After both the text is as it was.
+    /// [`ErrorKind::NoAlloc`] where memory was wanting. After both the text is as it was. Memory is taken only where
+    /// the value prints something, or where bytes are copied that were borrowed.
     ///
     /// ```
     /// let mut text = TextBuf::from_text(alloc, "n = ");
@@ -176,6 +205,8 @@ impl<'sval> TextBuf<'sval> {
         ensures ok { OnOk result (SomePrinted (D.printed value.now) (λ printed.
             self.new ≡ pushed self.old (record { borrowed = false; bytes = printed }))) }
         ensures err { IfErr result (IsDisplayCause (D.unprintable value.now)) }
+        ensures no_alloc { IfErr result (λ error. IsNoAlloc error
+            → BorrowsNothing self.old → PrintsSome (D.printed value.now)) }
         ensures keeps { OnErr result (self.new ≡ self.old) }
     {
         match self.fragments.push_display(value) {
@@ -270,7 +301,8 @@ fn text(bytes: &[u8]) -> &str
 
 /// The error of a value that wasn't printed.
 fn not_displayed(error: RenderError) -> Error
-    ensures { (unprintable : Bool) → IsRenderCause unprintable error → IsDisplayCause unprintable result }
+    ensures cause { (unprintable : Bool) → IsRenderCause unprintable error → IsDisplayCause unprintable result }
+    ensures no_alloc { IsNoAlloc result → error ≡ render.NoMemory }
 {
     Error::new(match error {
         RenderError::Format => ErrorKind::InvalidValue {

@@ -1,11 +1,12 @@
 //! Captured values.
 
-ghost use Rattle.std.specs.Prelude.{◌≡◌, ◌≤◌, false, Some, map, IfOk, IfErr};
+ghost use Rattle.std.specs.Prelude.{◌≡◌, ◌≤◌, false, Some, map, IsOk, IfOk, IfErr};
 ghost use Rattle.sval_label.specs.Made.{lent_call};
 ghost use Rattle.sval_core.specs.Trees.{Tree};
 ghost use Rattle.sval_core.specs.Spells.{Spells};
 ghost use Rattle.sval_core.specs.Law.{Answers, Emits, computed};
 ghost use Rattle.sval_buffer.specs.Forest as forest;
+ghost use Rattle.sval_buffer.specs.Forest.{HoldsNoPart};
 ghost use Rattle.sval_buffer.specs.Capture.{Capture, IsNoAlloc, no_calls, wants_after, capture_law};
 ghost use Rattle.sval_buffer.specs.Owned.{owned, owning_law};
 ghost use Rattle.sval_buffer.specs.FlatForest.{forest_in};
@@ -135,14 +136,15 @@ impl<'sval, N: CallStore> AnyValueBuf<'sval, N> {
 
     /// A value that makes the calls of this buffer: a copy of its parts.
     ///
-    /// [`ErrorKind::NoAlloc`] comes where memory was wanting.
+    /// [`ErrorKind::NoAlloc`] comes where memory was wanting, and never where the buffer holds no part.
     pub fn to_value(&self) -> Result<AnyValue<'sval, N>, Error>
         ensures ok { IfOk result (λ value. forest_in value ≡ (capture_of self.now).forest) }
         ensures err { IfErr result IsNoAlloc }
+        ensures no_part_needs_none { HoldsNoPart (capture_of self.now).forest → IsOk result }
     {
         match self.parts.try_clone() {
             Ok(parts) => Ok(AnyValue::new(parts)),
-            Err(_) => Err(no_memory()),
+            Err(cause) => Err(no_memory(cause)),
         }
     }
 
@@ -157,7 +159,7 @@ impl<'sval, N: CallStore> AnyValueBuf<'sval, N> {
     /// one. So its replay makes the same calls, each with a computed fragment in place of a borrowed one.
     ///
     /// Containers without an end stay so, and so does the last refusal. [`ErrorKind::NoAlloc`] comes where memory was
-    /// wanting, and then the buffer is handed back as it was.
+    /// wanting, and then the buffer is handed back as it was. It never comes where the buffer holds no part.
     ///
     /// ```
     /// let owned = ValueBuf::collect(alloc, &value)?.into_owned()?;
@@ -171,6 +173,7 @@ impl<'sval, N: CallStore> AnyValueBuf<'sval, N> {
             IfOk result (λ buffer. forest.replayed (capture_of buffer).forest ≡ map computed calls) }
         ensures no_alloc { IfErr result (λ refused. IsNoAlloc refused.error) }
         ensures handed_back { IfErr result (λ refused. capture_of refused.value ≡ capture_of self.entry) }
+        ensures no_part_needs_none { HoldsNoPart (capture_of self.entry).forest → IsOk result }
     {
         match self.parts.into_owned() {
             Ok(parts) => Ok(AnyValueBuf {
@@ -179,14 +182,14 @@ impl<'sval, N: CallStore> AnyValueBuf<'sval, N> {
                 wants: self.wants,
                 alloc: self.alloc,
             }),
-            Err(parts) => Err(Refused {
+            Err(refused) => Err(Refused {
                 value: AnyValueBuf {
-                    parts,
+                    parts: refused.value,
                     refusal: self.refusal,
                     wants: self.wants,
                     alloc: self.alloc,
                 },
-                error: no_memory(),
+                error: refused.error,
             }),
         }
     }

@@ -8,7 +8,7 @@ ghost use Rattle.sval_cbor.specs.Streamed.{check_error, stop_error};
 use crate::error::{CborError, Refusal, Stop};
 use crate::writer::{Place, Writer};
 use std::alloc::Global;
-use sval_buffer::ValueBuf;
+use sval_buffer::{ErrorKind, ValueBuf};
 use sval_check::{CheckError, check};
 use sval_core::{Lent, Value};
 use sval_json::{CountSink, Sink, SinkError};
@@ -105,7 +105,10 @@ pub(crate) fn write_checked<'v, K: Sink, V: Value<'v, Lent<'v>>>(
 {
     match ValueBuf::collect(alloc, v) {
         Ok(buffer) => write_value(out, &buffer),
-        Err(_) => Err(CborError::NoMemory),
+        Err(error) => match error.kind() {
+            ErrorKind::NoAlloc { .. } => Err(CborError::NoMemory),
+            _ => unreachable!("a value that spells a tree is captured"),
+        },
     }
 }
 

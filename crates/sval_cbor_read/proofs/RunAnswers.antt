@@ -119,6 +119,7 @@ told_line (Err failure.NoMemory) known = refl
 told_line (Err (failure.Write sink.Failed)) known = refl
 told_line (Err (failure.Write sink.NoMemory)) known = refl
 
-pub reports : {words : List (List ℕ)} {input : Supply} {status : ℕ} {old new : Told} → runs.Reports read_terms words input status old new → runs.is_status read_terms status ≡ true → Reports status old new
+pub reports : {I K : Type 0} {source : I → Supply} {told : K → Told} {words : List (List ℕ)} {before after : I} {out_old out_new : K} {old new : Told} {status : ℕ}
+    → runs.Reports read_terms source told words before after out_old out_new old new status → runs.is_status read_terms status ≡ true → Reports status old new
 reports {old = old} {new = new} r known =
     subst (λ line. TellsLine old line new) (told_line r.ended (subst (λ status. runs.is_status read_terms status ≡ true) r.is known) ∙ ap report (sym r.is)) r.tells

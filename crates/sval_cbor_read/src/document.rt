@@ -12,7 +12,7 @@ use std::alloc::Global;
 use std::error::Error;
 use std::fmt;
 use std::marker::Model;
-use sval_core::{Lent, Result as StreamResult, Stream, Value};
+use sval_core::{Lent, NoMemory, Result as StreamResult, Stream, Value};
 use sval_ref::ValueRef;
 
 /// Why bytes can't be read.
@@ -39,6 +39,17 @@ impl fmt::Display for CborReadError {
 }
 
 impl Error for CborReadError {}
+
+impl From<NoMemory> for CborReadError {
+    ghost use Rattle.std.specs.Prelude.{◌≡◌};
+    ghost use Rattle.sval_cbor_read.specs.declared.document.CborReadError.TheVariants as reading;
+
+    ghost from_gives = { λ _ error. error ≡ reading.NoMemory };
+
+    fn from(_cause: NoMemory) -> CborReadError {
+        CborReadError::NoMemory
+    }
+}
 
 /// An item that was read, seen as its calls.
 ///
@@ -105,7 +116,7 @@ fn read_nodes(alloc: Global, bytes: &[u8]) -> Result<Vec<Node>, CborReadError>
         match reader.step(bytes) {
             Ok(true) => {},
             Ok(false) => return Err(CborReadError::Bad),
-            Err(_) => return Err(CborReadError::NoMemory),
+            Err(cause) => return Err(CborReadError::from(cause)),
         }
     }
     if reader.at < bytes.len() {

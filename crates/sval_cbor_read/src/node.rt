@@ -1,9 +1,11 @@
 //! What is kept of the bytes.
 
-ghost use Rattle.std.specs.Prelude.{◌≡◌, IfSome};
+ghost use Rattle.std.specs.Prelude.{◌≡◌, ◌≤◌, ◌^◌, IfOk, OnErr};
 ghost use Rattle.sval_cbor_read.specs.SeenNodes.{node_at, node_of};
 
+use std::alloc::AllocError;
 use std::mem::size_of;
+use sval_core::NoMemory;
 
 /// Where an item stands.
 #[derive(Clone, Copy)]
@@ -52,15 +54,16 @@ pub(crate) struct Node {
 const _: () = prove!(size_of::<Node>() == 8);
 
 impl Node {
-    /// A node at a place of the bytes, or none where that has more than 48 bits.
+    /// A node at a place of the bytes. It has no room for a place of 2^48 or more, which is answered as want of memory.
     #[inline(always)]
-    pub(crate) fn new(kind: Kind, place: Place, at: usize) -> Option<Node>
-        ensures { IfSome result (λ node. node ≡ node_of kind place at) }
+    pub(crate) fn new(kind: Kind, place: Place, at: usize) -> Result<Node, NoMemory>
+        ensures ok { IfOk result (λ node. node ≡ node_of kind place at) }
+        ensures too_far { OnErr result (2 ^ 48 ≤ at) }
     {
         if at >= 1 << 48 {
-            return None;
+            return Err(NoMemory::from(AllocError));
         }
-        Some(Node {
+        Ok(Node {
             low: (at % (1 << 32)) as u32,
             high: (at / (1 << 32)) as u16,
             kind,

@@ -48,10 +48,8 @@ pub(crate) struct Reader {
 fn grown(mut nodes: Vec<Node>, node: Node) -> Result<Vec<Node>, NoMemory>
     ensures { IfOk result (λ all. all.items ≡ nodes.items ++ (node ∷ [])) }
 {
-    match nodes.push(node) {
-        Ok(()) => Ok(nodes),
-        Err(_) => Err(NoMemory),
-    }
+    nodes.push(node)?;
+    Ok(nodes)
 }
 
 impl Reader {
@@ -95,10 +93,7 @@ impl Reader {
             let _none = replace(&mut self.nodes, grown(full, node)?);
             return Ok(());
         }
-        match self.nodes.push(node) {
-            Ok(()) => Ok(()),
-            Err(_) => Err(NoMemory),
-        }
+        Ok(self.nodes.push(node)?)
     }
 
     /// Keeps a node.
@@ -113,9 +108,7 @@ impl Reader {
     ) -> Result<(), NoMemory>
         ensures { IfOk result (λ done. Adds self.old (node_of kind place from) next expected self.new) }
     {
-        let Some(node) = Node::new(kind, place, from) else {
-            return Err(NoMemory);
-        };
+        let node = Node::new(kind, place, from)?;
         self.push(node)?;
         self.at = next;
         self.expected = expected;

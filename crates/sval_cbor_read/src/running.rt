@@ -4,6 +4,7 @@ ghost use Rattle.std.specs.Prelude.{◌≡◌, ◌<◌, ◌^◌, ℕ, List, leng
 ghost use Rattle.sval_program.specs.Inputs.{OnShort};
 ghost use Rattle.sval_program.specs.Jobs.{ServesBytes, ServesInput, Serves};
 ghost use Rattle.sval_program.specs.Runs.{AreQuiet, Ends};
+ghost use Rattle.sval_program.specs.Runs as runs;
 ghost use Rattle.sval_cbor_read.specs.Forms.{OnAsked};
 ghost use Rattle.sval_cbor_read.specs.ReadErrors.{IsRead};
 ghost use Rattle.sval_cbor_read.specs.Reports.{Reports};
@@ -110,7 +111,7 @@ pub(crate) fn serve<I: Source, K: Sink>(
 /// [`CborDoc::read`]. With `json` the JSON of the value that the item is is written, without white space: byte strings
 /// as arrays of numbers, keys that are numbers, truth values or null as texts. With `calls` the canonical script of the
 /// document's calls is written, after it was captured. Where the status isn't 0, one line is written to `diag` that says
-/// why; what `diag` answers changes nothing.
+/// why. What `diag` answers changes neither the status nor what is left of the input and the output.
 ///
 /// | status | comes |
 /// |---|---|
@@ -144,6 +145,10 @@ pub fn run_cbor_read<I: Source, K: Sink, D: Sink>(
     diag: &mut D,
 ) -> u8
     ensures ends { Ends read_terms I.told K.told (map string_bytes words.now) input.old input.new
+        out.old out.new result }
+
+    // Nothing but its line depends on what the third device answers.
+    ensures apart { runs.Reports read_terms I.told K.told (map string_bytes words.now) input.old input.new
         out.old out.new (D.told diag.old) (D.told diag.new) result }
 
     // Each status comes only where it is so.

@@ -38,9 +38,7 @@ fn with_inner(mut outer: Vec<Frame>, inner: Option<Frame>) -> Result<Vec<Frame>,
 {
     match inner {
         None => outer.clear(),
-        Some(frame) => if outer.push(frame).is_err() {
-            return Err(NoMemory);
-        },
+        Some(frame) => outer.push(frame)?,
     }
     Ok(outer)
 }

@@ -5,6 +5,7 @@ pub mod Refused
 pub mod SoFar
 pub mod Runs
 pub mod OneAnswer
+pub mod AnswersDue
 pub mod ManyAnswers
 pub mod Told
 pub mod ListsSoFar

@@ -63,3 +63,7 @@ IsDue e (Err (error.BadCall at)) = IsFirstBad e.calls at
 IsDue e (Err error.Refused) = OnlyRefuses e
 IsDue e (Err error.Unfinished) = IsUnfinished e
 IsDue e (Err error.NoMemory) = ⊥
+
+-- a value has one answer that is due
+abbrev pub OneAnswer : Type 0
+OneAnswer = (e : Emission) → (due : CheckAnswer) × IsDue e due × ((other : CheckAnswer) → IsDue e other → due ≡ other)

@@ -3,9 +3,10 @@
 ghost use Rattle.std.specs.Prelude.{◌≡◌, ◌==◌, [], ◌∷◌, ◌++◌, length, is_ok, if◌then◌else◌};
 ghost use Rattle.std.specs.List.{slice_get};
 
-use std::alloc::{AllocError, Global};
+use std::alloc::Global;
 use std::fmt;
 use std::marker::Model;
+use sval_core::NoMemory;
 
 /// Where the trees of a list end, as [`check_all`](crate::check_all) gives it, seen as a list of numbers.
 ///
@@ -42,7 +43,7 @@ impl Ends {
     }
 
     /// Puts one more after the others, unless memory is wanting.
-    pub(crate) fn push(&mut self, number: u64) -> Result<(), AllocError>
+    pub(crate) fn push(&mut self, number: u64) -> Result<(), NoMemory>
         ensures { self.new ≡ (if is_ok result then self.old ++ (number ∷ []) else self.old) }
     {
         self.numbers.push(number)?;

@@ -1,5 +1,6 @@
 //! The laws of checking, each as a clause that is proved.
 
+ghost use Rattle.sval_check.specs.Checks.{OneAnswer};
 ghost use Rattle.sval_check.specs.ManyChecks.{OneListAnswer};
 ghost use Rattle.sval_check.specs.CheckedLaws.{AcceptsTheViable, AcceptedIsAppended, AllArePassedOn, RefusedIsLeft};
 ghost use Rattle.std.specs.Prelude.{◌≡◌};
@@ -11,6 +12,11 @@ ghost use Rattle.sval_check.specs.TokenBufs.{KeepsAll, TakesAll};
 use crate::measured::Measured;
 use crate::token::{Token, TokenName};
 use sval_core::Stream;
+
+/// What holds of all values that are checked for one tree: the four answers exclude each other, and one of them is due.
+pub fn check_laws()
+    ensures one_answer { OneAnswer }
+{}
 
 /// What holds of all values that are checked for many trees in a row.
 pub fn list_check_laws()

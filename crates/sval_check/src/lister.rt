@@ -72,8 +72,8 @@ impl<L: Measured> Stream<L> for Lister {
     {
         Stream::<L>::take(&mut self.checker, call)?;
         if self.checker.machine.is_whole() {
-            if self.ends.push(self.checker.taken).is_err() {
-                self.checker.why = Some(Refusal::NoMemory);
+            if let Err(cause) = self.ends.push(self.checker.taken) {
+                self.checker.why = Some(Refusal::from(cause));
                 return Err(Error::new());
             }
             self.checker.machine.clear();

@@ -26,7 +26,7 @@ use std::alloc::Global;
 use std::error::Error;
 use std::fmt;
 use std::marker::Model;
-use sval_core::{AnyCall, Fragment, GroupedCall, Head, Name, Slot};
+use sval_core::{AnyCall, Fragment, GroupedCall, Head, Name, NoMemory, Slot};
 
 /// Why a [`Machine`] doesn't go on with a call.
 #[derive(Clone, Copy, Debug, PartialEq, Eq)]
@@ -52,6 +52,17 @@ impl fmt::Display for Refusal {
 }
 
 impl Error for Refusal {}
+
+impl From<NoMemory> for Refusal {
+    ghost use Rattle.std.specs.Prelude.{◌≡◌};
+    ghost use Rattle.sval_check.specs.declared.machine.Refusal.TheVariants as refusal;
+
+    ghost from_gives = { λ _ why. why ≡ refusal.NoMemory };
+
+    fn from(_cause: NoMemory) -> Refusal {
+        Refusal::NoMemory
+    }
+}
 
 /// What is still to be done for a call that [`Machine::ready`] made ready: by [`Machine::finish`] where the call is taken,
 /// by [`Machine::undo`] where it isn't.
@@ -238,7 +249,7 @@ impl Machine {
         if !self.has_room(call.form()) {
             return Err(Refusal::NotViable);
         }
-        self.frames.push(call).map_err(|_| Refusal::NoMemory)?;
+        self.frames.push(call)?;
         Ok(Due::Opened)
     }
 
@@ -256,9 +267,7 @@ impl Machine {
         if !self.has_room(Form::Variant) {
             return Err(Refusal::NotViable);
         }
-        self.frames
-            .push_named(value, name, size)
-            .map_err(|_| Refusal::NoMemory)?;
+        self.frames.push_named(value, name, size)?;
         Ok(Due::Opened)
     }
 
@@ -350,7 +359,7 @@ impl Machine {
             return Err(Refusal::NotViable);
         }
         let left = self.frames.part_rest(slot).ok_or(Refusal::NotViable)?;
-        self.frames.push_part(slot).map_err(|_| Refusal::NoMemory)?;
+        self.frames.push_part(slot)?;
         Ok(Due::Advanced(left))
     }
 

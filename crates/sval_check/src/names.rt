@@ -46,11 +46,8 @@ impl Names {
         requires { named_size named ≡ length text.now }
         ensures { Keeps self.old self.new (named_frame text.now named left) result }
     {
-        if self.begun.reserve(1).is_err()
-            || self.texts.extend_from_slice(text.as_bytes()).is_err()
-        {
-            return Err(NoMemory);
-        }
+        self.begun.reserve(1)?;
+        self.texts.extend_from_slice(text.as_bytes())?;
         self.begun.push_reserved(named);
         Ok(Frame::Named(left))
     }

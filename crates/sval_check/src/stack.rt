@@ -200,9 +200,7 @@ impl Stack {
     pub(crate) fn push(&mut self, begin: Begin) -> Result<(), NoMemory>
         ensures { self.new ≡ (if is_ok result then begun_frame begin ∷ self.old else self.old) }
     {
-        if self.frames.reserve(1).is_err() {
-            return Err(NoMemory);
-        }
+        self.frames.reserve(1)?;
         self.frames.push_reserved(begin.frame());
         Ok(())
     }
@@ -218,9 +216,7 @@ impl Stack {
         ensures { let opened = value_frame value (plain_name (seen_name name.entry)) left in
             self.new ≡ (if is_ok result then opened ∷ self.old else self.old) }
     {
-        if self.frames.reserve(1).is_err() {
-            return Err(NoMemory);
-        }
+        self.frames.reserve(1)?;
         let frame = self.names.keep_value(value, name, left)?;
         self.frames.push_reserved(frame);
         Ok(())
@@ -232,9 +228,7 @@ impl Stack {
         ensures { let part = InPart (plain_slot (seen_slot slot.entry)) in
             self.new ≡ (if is_ok result then part ∷ self.old else self.old) }
     {
-        if self.frames.reserve(1).is_err() {
-            return Err(NoMemory);
-        }
+        self.frames.reserve(1)?;
         let part = self.names.keep_slot(slot)?;
         self.frames.push_reserved(part);
         Ok(())

@@ -1,6 +1,6 @@
 //! Streams whose calls are kept.
 
-ghost use Rattle.std.specs.Prelude.{◌≡◌, ◌↔◌, ◌<◌, IsTrue, List, []};
+ghost use Rattle.std.specs.Prelude.{◌≡◌, ◌↔◌, ◌<◌, IsTrue, IsSome, List, []};
 ghost use Rattle.sval_label.specs.Calls as calls;
 ghost use Rattle.sval_label.specs.Made.{lent_call};
 ghost use Rattle.sval_core.specs.Law.{Answers};
@@ -44,6 +44,8 @@ pub struct TokenBuf<'sval> {
     tokens: Vec<Token<'sval>>,
     /// How often memory was wanting.
     wants: u64,
+    /// The last want of memory, if there was one.
+    lacked: Option<NoMemory>,
     alloc: Global,
 }
 
@@ -55,6 +57,10 @@ impl<'sval> Model for TokenBuf<'sval> {
     ghost use Rattle.sval_check.specs.Tokens.{token_calls};
 
     ghost view = { λ buffer. record { calls = token_calls buffer.tokens.items; wants = buffer.wants } };
+
+    ghost use Rattle.std.specs.Prelude.{◌↔◌, ◌<◌, IsSome};
+
+    ghost invariant = { λ buffer. IsSome buffer.lacked ↔ (0 < buffer.wants) };
 }
 
 impl<'sval> TokenBuf<'sval> {
@@ -65,6 +71,7 @@ impl<'sval> TokenBuf<'sval> {
         TokenBuf {
             tokens: Vec::new(alloc),
             wants: 0,
+            lacked: None,
             alloc,
         }
     }
@@ -92,6 +99,13 @@ impl<'sval> TokenBuf<'sval> {
         self.wants > 0
     }
 
+    /// The last want of memory, if memory was wanting for a call since the buffer was new.
+    pub fn no_memory(&self) -> Option<NoMemory>
+        ensures { IsSome result ↔ (0 < self.now.wants) }
+    {
+        self.lacked
+    }
+
     /// Forgets all calls.
     pub fn clear(&mut self)
         ensures { self.new ≡ record self.old { calls = [] } }
@@ -103,9 +117,7 @@ impl<'sval> TokenBuf<'sval> {
     fn keep(&mut self, call: Call<'sval, '_>) -> Result<(), NoMemory>
         ensures { KeepsCall self.old (lent_call call.entry) result self.new }
     {
-        if self.tokens.reserve(1).is_err() {
-            return Err(NoMemory);
-        }
+        self.tokens.reserve(1)?;
         let token = token_of(self.alloc, call)?;
         self.tokens.push_reserved(token);
         Ok(())
@@ -125,8 +137,9 @@ impl<'sval> Stream<Lent<'sval>> for TokenBuf<'sval> {
     {
         match self.keep(call) {
             Ok(()) => Ok(()),
-            Err(_) => {
+            Err(cause) => {
                 self.wants = self.wants.saturating_add(1);
+                self.lacked = Some(cause);
                 Err(Error::new())
             }
         }

@@ -160,18 +160,12 @@ fn label_copy(alloc: Global, label: Option<&Label<'_>>) -> Result<Option<Label<'
 fn text_copy(alloc: Global, text: &str) -> Result<TokenText, NoMemory>
     ensures { IfOk result (λ copy. copy ≡ text.now) }
 {
-    match String::from_str(alloc, text) {
-        Ok(copy) => Ok(TokenText::new(copy)),
-        Err(_) => Err(NoMemory),
-    }
+    Ok(TokenText::new(String::from_str(alloc, text)?))
 }
 
 /// A copy of a part of a binary.
 fn bytes_copy(alloc: Global, bytes: &[u8]) -> Result<TokenBytes, NoMemory>
     ensures { IfOk result (λ copy. copy ≡ bytes.now) }
 {
-    match Vec::from_slice(alloc, bytes) {
-        Ok(copy) => Ok(TokenBytes::new(copy)),
-        Err(_) => Err(NoMemory),
-    }
+    Ok(TokenBytes::new(Vec::from_slice(alloc, bytes)?))
 }

@@ -210,7 +210,8 @@ pub trait Stream<L: Lending> {
     /// stream.whole_text("a text", Some(6))?;
     /// ```
     fn whole_text(&mut self, text: L::Text, size: Option<usize>) -> Result
-        ensures { Emits law result (standing self.old) (makes (whole_text_calls size (L.text text))) (standing self.new) }
+        ensures { Emits law result (standing self.old)
+            (makes (whole_text_calls size (L.text text))) (standing self.new) }
     {
         self.take(AnyCall::TextBegin(size))?;
         self.take(AnyCall::TextFragment(text))?;
@@ -222,7 +223,8 @@ pub trait Stream<L: Lending> {
     ///
     /// An implementation may write it anew, where it does less for the five together.
     fn whole_text_key(&mut self, text: L::Text, size: Option<usize>) -> Result
-        ensures { Emits law result (standing self.old) (makes (whole_key_calls size (L.text text))) (standing self.new) }
+        ensures { Emits law result (standing self.old)
+            (makes (whole_key_calls size (L.text text))) (standing self.new) }
     {
         self.take(AnyCall::MapKeyBegin)?;
         self.take(AnyCall::TextBegin(size))?;

@@ -1,11 +1,11 @@
 -- What a buffer says of a key's call that it refuses, the text that a key's calls begin with, and that reading it stops only where there is one.
 use Rattle.std.specs.Prelude.{◌≡◌, ℕ, ◌≤◌, Bool, true, false, not, List, [], ◌∷◌, ◌++◌, fold, Option, Some, None, is_some, Result, Ok, Err, refl}
-use Rattle.std.proofs.Common.{inl, inr, sym, ap, subst, ◌∙◌}
+use Rattle.std.proofs.Common.{arith, inl, inr, sym, ap, subst, ◌∙◌}
 use Rattle.std.proofs.lemmas.List.{append_assoc, append-nil}
 use Rattle.sval_label.specs.declared.error.NoMemory.{NoMemory}
 use Rattle.sval_label.specs.declared.error.Error.{Error}
 use Rattle.sval_label.specs.Calls.{Call, TagHint, TextBegin, TextFragment, TextEnd, BinaryFragment, BinaryEnd, EnumEnd, TaggedEnd, End, PartEnd}
-use Rattle.sval_core.specs.Law.{Standing, Takes, Refuses, Answers, Streams, StoppedIn, Stops, computed, one_more}
+use Rattle.sval_core.specs.Law.{Standing, Takes, HasCause, Rose, Refuses, Answers, Streams, StoppedIn, Stops, computed, one_more}
 use Rattle.sval_core.specs.Values.{makes}
 use Rattle.sval_core.proofs.Folds.{streams_folds}
 use Rattle.sval_core.specs.Spells.{plain}
@@ -135,6 +135,25 @@ label_wanted calls place text wants new p t s =
     ap is_some (sym (ap (λ (x : Place). label_after x text calls) p ∙ ap (λ (x : List ℕ). label_after Before x calls) t ∙ from_start calls))
     ∙ has_text (read_standing (record { place = place; text = text }) wants) new place text calls s.stopped
 
+-- calls of which one was refused wanted memory
+never_stopped : (calls : List Call) (key : KeyRead) (old new : Standing KeyRead) → old.faults ≡ 0 → new.faults ≡ 0 → old.wants ≡ 0 → new.wants ≡ 0
+    → StoppedIn read_law old new key calls false → ⊥
+never_stopped [] key old new f g v w s = absurd (cc s.0)
+never_stopped (call ∷ calls) key old new f g v w (inl s) = by_cause s.0
+  where
+    never : (before now : ℕ) → before ≡ 0 → now ≡ 0 → Rose before now → ⊥
+    never before now e still up = let first : one_more 0 ≤ now = subst (λ n. one_more n ≤ now) e up in omega (arith, first, still)
+
+    by_cause : HasCause read_law key call old new → ⊥
+    by_cause (inl taken) = taken tt
+    by_cause (inr (inl rose)) = never old.faults new.faults f g rose
+    by_cause (inr (inr rose)) = never old.wants new.wants v w rose
+never_stopped (call ∷ calls) key old new f g v w (inr s) = never_stopped calls (read key call) old new f g v w s.1
+
+pub want_is_kept : (calls : List Call) (key : KeyRead) (wants : ℕ) (new : Standing KeyRead) → wants ≡ 0 → new.faults ≡ 0 → new.wants ≡ 0
+    → Stops read_law (read_standing key wants) (makes calls) new → ⊥
+want_is_kept calls key wants new v g w s = never_stopped calls key (read_standing key wants) new refl g v w s.stopped
+
 -- what is refused where a fragment leads inside the text is refused inside it
 was_inside : (place : Place) (text bytes : List ℕ) → (with_fragment place text bytes).place ≡ Inside → place ≡ Inside
 was_inside Inside text bytes e = refl
@@ -149,7 +168,7 @@ fragment_read old new wants now borrowed bytes call (Ok done) is c up =
     record { accepted = tt; view = c.0 ∙ ap (λ (c : Call). read old c) (sym is); faults = refl; wants = c.1 }
 fragment_read old new wants now borrowed bytes call (Err refusal) is c up =
     record {
-      cause = inr (inr (subst (λ n. one_more wants ≤ n) (sym c.1) (least (one_more wants))));
+      cause = inr (inr c.1);
       left = was_inside old.place old.text bytes c.0;
       faults = least 0;
       wants = up;

@@ -16,6 +16,7 @@ mod Sieving
 mod SieveSteps
 mod FilterSteps
 mod PruneSteps
+mod PruneWants
 mod Verdicts
 mod LeftTexts
 mod ScriptAnswers

@@ -1,15 +1,20 @@
 -- What pruning a value answers.
-use Rattle.std.specs.Prelude.{◌≡◌, ◌⊎◌, ℕ, false, List, Result, Ok, Err, IfErr}
+use Rattle.std.specs.Prelude.{◌≡◌, ◌⊎◌, ⊤, ℕ, false, List, Option, Some, None, Result, Ok, Err, IfErr}
 use Rattle.sval_core.specs.Trees.{Tree}
 use Rattle.sval_core.specs.Spells.{Spells}
-use Rattle.sval_core.specs.Law.{Emission, Law, Standing, Streams}
+use Rattle.sval_core.specs.Law.{Emission, Law, Standing, Streams, Stops}
 use Rattle.sval_core.specs.Values.{makes}
 use Rattle.sval_label.specs.Calls.{Call}
 use Rattle.sval_check.specs.Checks.{CheckAnswer, IsOneValue, IsFirstBad, OnlyRefuses, IsUnfinished, NeedsMemory}
 use Rattle.sval_check.specs.declared.error.CheckError.TheVariants as checked
+use Rattle.sval_check.specs.declared.checked.Why.{Why}
+use Rattle.sval_check.specs.declared.checked.Why.TheVariants as filter
+use Rattle.sval_buffer.specs.Capture.{IsNoAlloc}
 use Rattle.sval_buffer.specs.Forest.{Forest, replayed}
+use Rattle.sval_buffer.specs.declared.error.ErrorKind.{ErrorKind}
 use Rattle.sval_filter.specs.Paths.{Path, Rule}
 use Rattle.sval_filter.specs.Pruned.{pruned}
+use Rattle.sval_filter.specs.Filtering.{fresh, all_due}
 use Rattle.sval_filter.specs.declared.pruning.PruneError.{PruneError}
 use Rattle.sval_filter.specs.declared.pruning.PruneError.TheVariants.{NotATree, Refused, NoMemory}
 
@@ -50,3 +55,27 @@ IsDueToPrune (Err checked.NoMemory) result = result ≡ Err NoMemory
 abbrev pub PassesPruned : {V : Type 0} → Law V → Standing V → Emission → Rule → List Path → Standing V → Type 0
 PassesPruned law old e rule paths new =
     (tree : Tree) → Spells e.calls tree → (e.refuses ≡ false) × ((taken : List Call) × Streams law old (makes taken) new × Spells taken (pruned rule paths tree))
+
+-- ---- where the want came from
+
+-- a buffer refused a call, for want of memory
+abbrev pub IsNoAllocIn : Option ErrorKind → Type 0
+IsNoAllocIn (Some why) = IsNoAlloc why
+IsNoAllocIn None = ⊥
+
+-- a filter lacked memory, or the buffer in it did, by the last refusals of both
+abbrev pub IsWanting : Option Why → Option ErrorKind → Type 0
+IsWanting (Some filter.NoMemory) refusal = ⊤
+IsWanting (Some filter.Inner) refusal = IsNoAllocIn refusal
+IsWanting _ refusal = ⊥
+
+-- by its last refusal a filter lacked memory, or the stream in it stopped in these calls
+abbrev pub HasStopped : {V : Type 0} → Law V → Option Why → Standing V → List Call → Standing V → Type 0
+HasStopped law (Some filter.NoMemory) old calls new = ⊤
+HasStopped law (Some filter.Inner) old calls new = Stops law old (makes calls) new
+HasStopped law _ old calls new = ⊥
+
+-- the same of the calls that are due of a value that doesn't refuse, where its calls spell a tree
+abbrev pub StopsPruned : {V : Type 0} → Law V → Standing V → Emission → Rule → List Path → Option Why → Standing V → Type 0
+StopsPruned law old e rule paths why new =
+    (tree : Tree) → e.refuses ≡ false → Spells e.calls tree → HasStopped law why old (all_due rule paths fresh e.calls) new

@@ -1,8 +1,9 @@
 -- The text that a key's calls begin with, read call by call.
-use Rattle.std.specs.Prelude.{◌≡◌, ℕ, ⊤, List, [], ◌++◌, Option, Some, None, Result, Ok, Err}
+use Rattle.std.specs.Prelude.{◌≡◌, ℕ, ◌-◌, ◌^◌, ⊤, List, [], ◌++◌, Option, Some, None, Result, Ok, Err}
 use Rattle.sval_label.specs.Calls.{Call}
 use Rattle.sval_label.specs.declared.error.Error.{Error}
-use Rattle.sval_core.specs.Law.{Law, Standing, one_more}
+use Rattle.sval_label.specs.declared.error.NoMemory.{NoMemory}
+use Rattle.sval_core.specs.Law.{Law, Standing, Rose}
 use Rattle.sval_filter.specs.declared.key_text.Place.{Place}
 use Rattle.sval_filter.specs.declared.key_text.Place.TheVariants.{Before, Inside, After, NoText}
 
@@ -48,6 +49,11 @@ text_by place text = None
 abbrev pub read_law : Law KeyRead
 read_law = record { accepts = λ key call. ⊤; after = read; stopped = λ key call left. key.place ≡ Inside }
 
+-- how often memory was wanting, by the last want that is kept: the count stands at its type's end from the first want on
+abbrev pub wants_by : Option NoMemory → ℕ
+wants_by None = 0
+wants_by (Some cause) = 2 ^ 64 - 1
+
 -- where it stands that has read this, and wanted memory so often
 abbrev pub read_standing : KeyRead → ℕ → Standing KeyRead
 read_standing key wants = record { view = key; faults = 0; wants = wants }
@@ -55,4 +61,4 @@ read_standing key wants = record { view = key; faults = 0; wants = wants }
 -- what copying a fragment says, which is to lead here: it did, or memory was wanting inside the text
 abbrev pub Copies : KeyRead → ℕ → Result (Unit {0}) Error → KeyRead → ℕ → Type 0
 Copies due wants (Ok done) new now = (new ≡ due) × (now ≡ wants)
-Copies due wants (Err refusal) new now = (due.place ≡ Inside) × (now ≡ one_more wants)
+Copies due wants (Err refusal) new now = (due.place ≡ Inside) × Rose wants now

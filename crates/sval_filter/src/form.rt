@@ -70,10 +70,7 @@ pub(crate) fn paths_of(alloc: Global, words: &[String]) -> Result<Paths, NoMemor
 {
     let mut paths = Paths::new(alloc);
     for word in words {
-        match paths.push_word(word.as_str()) {
-            Ok(()) => {}
-            Err(_) => return Err(NoMemory),
-        }
+        paths.push_labels(word.as_str())?;
     }
     Ok(paths)
 }

@@ -11,6 +11,7 @@ ghost use Rattle.sval_filter.specs.SeenKeys.{text_by};
 
 use crate::key_text::KeyText;
 use crate::readable::Readable;
+use std::alloc::AllocError;
 use sval_buffer::ValueBuf;
 use sval_core::{AnyCall, Fragment, GroupedCall, NoMemory, Stream};
 use sval_ref::ValueRef;
@@ -82,7 +83,7 @@ pub(crate) fn hold<L: Readable>(
     match held.take(as_computed::<L>(&call).call()) {
         Ok(()) => Ok(()),
         Err(_) if is_end(&call) => Ok(()),
-        Err(_) => Err(NoMemory),
+        Err(_) => Err(NoMemory::from(AllocError)),
     }
 }
 
@@ -95,6 +96,9 @@ pub(crate) fn read_text(held: &ValueBuf<'static>, text: &mut KeyText) -> Result<
     text.clear();
     match held.stream_ref(text) {
         Ok(()) => Ok(()),
-        Err(_) => Err(NoMemory),
+        Err(_) => match text.want {
+            Some(cause) => Err(cause),
+            None => unreachable!("a key is read unless memory is wanting"),
+        },
     }
 }

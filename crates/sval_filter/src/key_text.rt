@@ -1,12 +1,12 @@
 //! The text that a key is.
 
-ghost use Rattle.std.specs.Prelude.{◌≡◌, ◌≤◌, ℕ, List, string_bytes, option_map};
+ghost use Rattle.std.specs.Prelude.{◌≡◌, ◌≤◌, ℕ, List, None, string_bytes, option_map};
 ghost use Rattle.sval_label.specs.Made.{lent_call};
 ghost use Rattle.sval_core.specs.Law.{Answers};
-ghost use Rattle.sval_filter.specs.SeenKeys.{KeyRead, nothing_read, passed_by, with_begin, with_fragment, text_by, Copies, read_law, read_standing};
+ghost use Rattle.sval_filter.specs.SeenKeys.{KeyRead, nothing_read, passed_by, with_begin, with_fragment, text_by, wants_by, Copies, read_law, read_standing};
 
 use std::alloc::Global;
-use sval_core::{Call, Error, Fragment, GroupedCall, Lent, Stream};
+use sval_core::{Call, Error, Fragment, GroupedCall, Lent, NoMemory, Stream};
 
 /// Where the calls of a key have led.
 #[derive(Clone, Copy)]
@@ -52,7 +52,8 @@ impl Place {
 pub(crate) struct KeyText {
     pub(crate) place: Place,
     pub(crate) text: String,
-    pub(crate) wants: u64,
+    /// The want of memory for a fragment, if one wasn't copied since all calls were forgotten.
+    pub(crate) want: Option<NoMemory>,
 }
 
 impl KeyText {
@@ -64,7 +65,7 @@ impl KeyText {
         KeyText {
             place: Place::Before,
             text: String::new(alloc),
-            wants: 0,
+            want: None,
         }
     }
 
@@ -72,9 +73,11 @@ impl KeyText {
     pub(crate) fn clear(&mut self)
         ensures place { self.new.place ≡ nothing_read.place }
         ensures text { string_bytes self.new.text ≡ nothing_read.text }
+        ensures want { self.new.want ≡ None }
     {
         self.place = Place::Before;
         self.text.clear();
+        self.want = None;
     }
 
     /// The text, if the key is one.
@@ -90,15 +93,15 @@ impl KeyText {
     /// Copies a fragment, inside the text.
     fn fragment(&mut self, fragment: &str) -> sval_core::Result
         ensures copies { Copies
-            (with_fragment self.old.place (string_bytes self.old.text) fragment.now) self.old.wants result
-            (record { place = self.new.place; text = string_bytes self.new.text }) self.new.wants }
-        ensures never_falls { self.old.wants ≤ self.new.wants }
+            (with_fragment self.old.place (string_bytes self.old.text) fragment.now) (wants_by self.old.want) result
+            (record { place = self.new.place; text = string_bytes self.new.text }) (wants_by self.new.want) }
+        ensures never_falls { wants_by self.old.want ≤ wants_by self.new.want }
     {
         match self.place {
             Place::Inside => match self.text.push_str(fragment) {
                 Ok(()) => Ok(()),
-                Err(_) => {
-                    self.wants = self.wants.saturating_add(1);
+                Err(cause) => {
+                    self.want = Some(NoMemory::from(cause));
                     Err(Error::new())
                 }
             },
@@ -115,12 +118,12 @@ impl<'b> Stream<Lent<'b>> for KeyText {
 
     ghost law = { read_law };
 
-    ghost standing = { λ key. read_standing (record { place = key.place; text = string_bytes key.text }) key.wants };
+    ghost standing = { λ key. read_standing (record { place = key.place; text = string_bytes key.text }) (wants_by key.want) };
 
     fn take(&mut self, call: Call<'b, '_>) -> sval_core::Result
         ensures { Answers read_law result
-            (read_standing (record { place = self.old.place; text = string_bytes self.old.text }) self.old.wants) (lent_call call.entry)
-            (read_standing (record { place = self.new.place; text = string_bytes self.new.text }) self.new.wants) }
+            (read_standing (record { place = self.old.place; text = string_bytes self.old.text }) (wants_by self.old.want)) (lent_call call.entry)
+            (read_standing (record { place = self.new.place; text = string_bytes self.new.text }) (wants_by self.new.want)) }
     {
         match call.grouped() {
             GroupedCall::TagHint(_) => Ok(()),

@@ -7,8 +7,8 @@ ghost use Rattle.sval_filter.specs.SeenLayers.{seen_fate, seen_mode, is_left_out
 
 use crate::paths::Rule;
 use crate::tails::Tails;
-use std::alloc::{AllocError, Global};
-use sval_core::Slot;
+use std::alloc::Global;
+use sval_core::{NoMemory, Slot};
 
 /// What becomes of a part.
 #[derive(Drop)]
@@ -41,7 +41,7 @@ pub(crate) struct Layer<'p> {
 
 impl<'p> Fate<'p> {
     /// The same once more. It copies no rest of a path.
-    pub(crate) fn share(&self) -> Result<Self, AllocError>
+    pub(crate) fn share(&self) -> Result<Self, NoMemory>
         ensures { IfOk result (λ shared. seen_fate shared ≡ seen_fate self.now) }
     {
         match self {
@@ -64,7 +64,7 @@ impl<'p> Fate<'p> {
 
 impl<'p> Mode<'p> {
     /// The same once more. It copies no rest of a path.
-    pub(crate) fn share(&self) -> Result<Self, AllocError>
+    pub(crate) fn share(&self) -> Result<Self, NoMemory>
         ensures { IfOk result (λ shared. seen_mode shared ≡ seen_mode self.now) }
     {
         match self {
@@ -97,7 +97,7 @@ impl<'p> Mode<'p> {
 impl<'p> Fate<'p> {
     /// What becomes of the entry of a key with this label, in a map of which this becomes. It takes memory only for a
     /// label.
-    fn of_entry(&self, alloc: Global, rule: Rule, label: Option<&str>) -> Result<Self, AllocError>
+    fn of_entry(&self, alloc: Global, rule: Rule, label: Option<&str>) -> Result<Self, NoMemory>
         ensures fate { let label = option_map (λ text. text.now) label.entry in
             IfOk result (λ fate. seen_fate fate ≡ fate_in rule (seen_fate self.now) label) }
         ensures want { OnErr result (is_some label.entry ≡ true) }
@@ -120,7 +120,7 @@ impl<'p> Mode<'p> {
         alloc: Global,
         rule: Rule,
         label: Option<&str>,
-    ) -> Result<Fate<'p>, AllocError>
+    ) -> Result<Fate<'p>, NoMemory>
         ensures fate { let label = option_map (λ text. text.now) label.entry in
             IfOk result (λ fate. seen_fate fate ≡ entry_by rule (seen_mode self.now) label) }
         ensures want { OnErr result (is_some label.entry ≡ true) }
@@ -146,7 +146,7 @@ impl<'p> Layer<'p> {
         alloc: Global,
         rule: Rule,
         slot: Slot<'_>,
-    ) -> Result<Mode<'p>, AllocError>
+    ) -> Result<Mode<'p>, NoMemory>
         ensures { let part = seen_slot slot.entry in
             IfOk result (λ mode. seen_mode mode ≡ mode_of_part rule (seen_mode self.now.mode) (seen_fate self.now.entry) part) }
     {

@@ -99,10 +99,7 @@ impl<'p> Layers<'p> {
             mode,
             entry: Fate::Stays,
         };
-        match self.layers.push(layer) {
-            Ok(()) => Ok(()),
-            Err(_) => Err(NoMemory),
-        }
+        Ok(self.layers.push(layer)?)
     }
 
     /// Closes the innermost layer.

@@ -5,10 +5,11 @@ ghost use Rattle.sval_filter.specs.Paths.{labels_of, is_bad_word};
 ghost use Rattle.sval_filter.specs.SeenPaths.{labels_in, paths_in};
 ghost use Rattle.sval_filter.specs.PathErrors.{Adds, AddsLabel, AddsWord};
 
-use std::alloc::{AllocError, Global};
+use std::alloc::Global;
 use std::error::Error;
 use std::fmt;
 use std::marker::Model;
+use sval_core::NoMemory;
 
 /// What becomes of the fields and entries that paths name.
 #[derive(Clone, Copy, Debug, PartialEq, Eq)]
@@ -46,6 +47,16 @@ impl fmt::Display for PathError {
 }
 
 impl Error for PathError {}
+
+impl From<NoMemory> for PathError {
+    ghost use Rattle.sval_filter.specs.declared.paths.PathError.TheVariants.{NoMemory};
+
+    ghost from_gives = { λ _ error. error ≡ NoMemory };
+
+    fn from(_cause: NoMemory) -> PathError {
+        PathError::NoMemory
+    }
+}
 
 /// Paths of labels, each of at least one, seen as a list of paths. A label is its text.
 ///
@@ -96,10 +107,9 @@ impl Paths {
         ensures { Adds self.old (label.now ∷ []) result self.new }
     {
         let mut path = Vec::new(self.alloc);
-        match push_label(self.alloc, &mut path, label) {
-            Ok(()) => self.push(path),
-            Err(_) => Err(PathError::NoMemory),
-        }
+        push_label(self.alloc, &mut path, label)?;
+        self.push(path)?;
+        Ok(())
     }
 
     /// Adds a label to the last path.
@@ -116,7 +126,7 @@ impl Paths {
         };
         match push_label(self.alloc, path, label) {
             Ok(()) => Ok(()),
-            Err(_) => Err(PathError::NoMemory),
+            Err(cause) => Err(PathError::from(cause)),
         }
     }
 
@@ -137,10 +147,16 @@ impl Paths {
         if is_bad_word(word) {
             return Err(PathError::BadWord);
         }
-        match labels_of(self.alloc, word) {
-            Ok(path) => self.push(path),
-            Err(_) => Err(PathError::NoMemory),
-        }
+        self.push_labels(word)?;
+        Ok(())
+    }
+
+    /// Adds the path of the labels between the dots of a word, none of which is empty.
+    pub(crate) fn push_labels(&mut self, word: &str) -> Result<(), NoMemory>
+        ensures { self.new ≡ (if is_ok result then self.old ++ (labels_of word.now ∷ []) else self.old) }
+    {
+        let path = labels_of(self.alloc, word)?;
+        self.push(path)
     }
 
     /// The paths in the order in which they were begun, each as its labels.
@@ -151,13 +167,11 @@ impl Paths {
     }
 
     /// Adds a path.
-    fn push(&mut self, path: Vec<String>) -> Result<(), PathError>
-        ensures { Adds self.old (labels_in path.items) result self.new }
+    fn push(&mut self, path: Vec<String>) -> Result<(), NoMemory>
+        ensures { self.new ≡ (if is_ok result then self.old ++ (labels_in path.items ∷ []) else self.old) }
     {
-        match self.paths.push(path) {
-            Ok(()) => Ok(()),
-            Err(_) => Err(PathError::NoMemory),
-        }
+        self.paths.push(path)?;
+        Ok(())
     }
 }
 
@@ -169,7 +183,7 @@ pub(crate) fn is_bad_word(word: &str) -> bool
 }
 
 /// The pieces of a word between dots.
-fn labels_of(alloc: Global, word: &str) -> Result<Vec<String>, AllocError>
+fn labels_of(alloc: Global, word: &str) -> Result<Vec<String>, NoMemory>
     ensures { IfOk result (λ path. labels_in path.items ≡ labels_of word.now) }
 {
     let mut path = Vec::new(alloc);
@@ -180,7 +194,7 @@ fn labels_of(alloc: Global, word: &str) -> Result<Vec<String>, AllocError>
 }
 
 /// Adds a label to a path.
-fn push_label(alloc: Global, path: &mut Vec<String>, label: &str) -> Result<(), AllocError>
+fn push_label(alloc: Global, path: &mut Vec<String>, label: &str) -> Result<(), NoMemory>
     ensures { let old = labels_in path.old.items in
         labels_in path.new.items ≡ (if is_ok result then old ++ (label.now ∷ []) else old) }
 {

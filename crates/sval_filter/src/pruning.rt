@@ -1,9 +1,9 @@
 //! Values with what a rule and paths leave of them.
 
-ghost use Rattle.std.specs.Prelude.{IfOk, IfErr};
+ghost use Rattle.std.specs.Prelude.{◌≡◌, IfOk, IfErr};
 ghost use Rattle.sval_check.specs.Checks.{CheckAnswer, IsDue, IsOneValue};
 ghost use Rattle.sval_buffer.specs.FlatForest.{forest_in};
-ghost use Rattle.sval_filter.specs.Pruning.{IsPruned, PassesPruned, IsPruneCause, IsDueToPrune, IsWant};
+ghost use Rattle.sval_filter.specs.Pruning.{IsPruned, PassesPruned, StopsPruned, IsPruneCause, IsDueToPrune, IsWant, IsWanting, IsNoAllocIn};
 
 use crate::filter::Filter;
 use crate::paths::{Paths, Rule};
@@ -11,8 +11,8 @@ use crate::readable::Readable;
 use std::alloc::Global;
 use std::error::Error;
 use std::fmt;
-use sval_buffer::{AnyValue, AnyValueBuf, CallStore};
-use sval_check::{CheckError, check};
+use sval_buffer::{AnyValue, AnyValueBuf, CallStore, ErrorKind};
+use sval_check::{CheckError, Why, check};
 use sval_core::{Lent, NoMemory, Stream, Value};
 
 /// Why a value wasn't pruned.
@@ -42,6 +42,16 @@ impl fmt::Display for PruneError {
 }
 
 impl Error for PruneError {}
+
+impl From<NoMemory> for PruneError {
+    ghost use Rattle.sval_filter.specs.declared.pruning.PruneError.TheVariants.{NoMemory};
+
+    ghost from_gives = { λ _ error. error ≡ NoMemory };
+
+    fn from(_cause: NoMemory) -> PruneError {
+        PruneError::NoMemory
+    }
+}
 
 /// A copy of a value with what a rule and paths leave of it.
 ///
@@ -98,24 +108,56 @@ pub(crate) fn prune_tree<'sval, N: CallStore + 'sval, V: Value<'sval, Lent<'sval
     let buffer: AnyValueBuf<'sval, N> = AnyValueBuf::new(alloc);
     match pass_value(alloc, v, rule, paths, buffer) {
         Ok(buffer) => Ok(buffer.into_value()),
-        Err(_) => Err(PruneError::NoMemory),
+        Err((why, buffer)) => Err(want_of(why, buffer.into_err())),
     }
 }
 
-/// Passes a value on to a stream through a filter, and gives the stream back.
+/// Passes a value on to a stream through a filter, and gives the stream back, with the filter's last refusal where it
+/// stopped.
 fn pass_value<'v, L: Readable, S: Stream<L> + Drop, V: Value<'v, L>>(
     alloc: Global,
     v: &'v V,
     rule: Rule,
     paths: &Paths,
     stream: S,
-) -> Result<S, NoMemory>
-    ensures { let e = V.emission v.now in
+) -> Result<S, (Option<Why>, S)>
+    ensures ok { let e = V.emission v.now in
         IfOk result (λ after. PassesPruned S.law (S.standing stream) e rule paths.now (S.standing after)) }
+    ensures err { let e = V.emission v.now in
+        IfErr result (λ left. StopsPruned S.law (S.standing stream) e rule paths.now left.0 (S.standing left.1)) }
 {
     let mut filter = Filter::new(alloc, rule, paths, stream);
     match v.stream(&mut filter) {
         Ok(()) => Ok(filter.into_inner()),
-        Err(_) => Err(NoMemory),
+        Err(_) => {
+            let why = filter.why();
+            Err((why, filter.into_inner()))
+        }
+    }
+}
+
+/// The want of memory that a filter over a buffer met, by the last refusals of both.
+fn want_of(why: Option<Why>, refusal: Option<sval_buffer::Error>) -> PruneError
+    requires { IsWanting why refusal }
+    ensures { IsWant result }
+{
+    match why {
+        Some(Why::NoMemory) => PruneError::NoMemory,
+        Some(Why::Inner) => want_of_buffer(refusal),
+        _ => unreachable!("the calls are one whole value"),
+    }
+}
+
+/// The want of memory that a buffer met, by its last refusal.
+fn want_of_buffer(refusal: Option<sval_buffer::Error>) -> PruneError
+    requires { IsNoAllocIn refusal }
+    ensures { IsWant result }
+{
+    let Some(error) = refusal else {
+        unreachable!("the buffer refused a call");
+    };
+    match error.kind() {
+        ErrorKind::NoAlloc { .. } => PruneError::NoMemory,
+        _ => unreachable!("what is left of a value is captured"),
     }
 }

@@ -1,6 +1,6 @@
 //! The whole program, over any words and devices.
 
-ghost use Rattle.std.specs.Prelude.{◌≡◌, ◌⊎◌, ◌<◌, ◌≤◌, ◌↔◌, ℕ, List, true, None, Some, Ok, Err, IfOk, map, string_bytes};
+ghost use Rattle.std.specs.Prelude.{◌≡◌, ◌⊎◌, ◌<◌, ◌≤◌, ◌↔◌, ℕ, List, true, None, Some, Ok, Err, IfOk, IfErr, map, string_bytes};
 ghost use Rattle.sval_core.specs.Law.{Rose};
 ghost use Rattle.sval_core.specs.Spells.{Spells};
 ghost use Rattle.sval_core.specs.Trees.{Tree};
@@ -14,7 +14,7 @@ ghost use Rattle.sval_program.specs.Inputs.{OnShort, OnLong, IsSpent, IsTooLong,
 ghost use Rattle.sval_program.specs.Outputs.{Grows, IsOwnWant};
 ghost use Rattle.sval_script.specs.Lines.{lines, Good};
 ghost use Rattle.sval_filter.specs.Forms.{form_of, OnAsked};
-ghost use Rattle.sval_filter.specs.Pruning.{IsPruned};
+ghost use Rattle.sval_filter.specs.Pruning.{IsPruned, IsWant};
 ghost use Rattle.sval_filter.specs.Reports.{Reports};
 ghost use Rattle.sval_filter.specs.Serves.{WritesText, WritesUpToRefusal, MayLeave, WritesLeft, WritesScript, ServesInput, Serves, failure_of_check};
 ghost use Rattle.sval_filter.specs.Statuses.{is_status, is_unwritten, is_read, IsStatusDue};
@@ -22,11 +22,10 @@ ghost use Rattle.sval_filter.specs.Verdict.{Unfinished, IsVerdict, HasBadLine, H
 
 use crate::failure::{Failure, Fault, Refusal, conclude};
 use crate::form::{Form, named_form, paths_of};
-use crate::pruning::prune_tree;
+use crate::pruning::{PruneError, prune_tree};
 use std::alloc::Global;
 use sval_buffer::Value;
 use sval_check::{CheckError, check};
-use sval_core::NoMemory;
 use sval_json::{ErrorKind, Sink, SinkError, stream_to_io_write};
 use sval_program::status::{
     BAD_CALL, BAD_LINE, DONE, INVALID_KEY, INVALID_NUMBER, NO_MEMORY, READ, TOO_LONG, UNFINISHED,
@@ -49,15 +48,13 @@ fn found(error: CheckError) -> Failure
 }
 
 /// What a form leaves of the value that a script's calls spell.
-fn left_of<'v>(alloc: Global, form: &Form<'_>, script: &'v Script) -> Result<Value<'v>, NoMemory>
+fn left_of<'v>(alloc: Global, form: &Form<'_>, script: &'v Script) -> Result<Value<'v>, PruneError>
     requires { IsOneValue (makes script.now) }
-    ensures { IfOk result (λ left. IsPruned (makes script.now) form.now.0 form.now.1 (forest_in left)) }
+    ensures ok { IfOk result (λ left. IsPruned (makes script.now) form.now.0 form.now.1 (forest_in left)) }
+    ensures err { IfErr result IsWant }
 {
     let paths = paths_of(alloc, form.words)?;
-    match prune_tree(alloc, script, form.rule, &paths) {
-        Ok(left) => Ok(left),
-        Err(_) => Err(NoMemory),
-    }
+    prune_tree(alloc, script, form.rule, &paths)
 }
 
 /// Writes the JSON of a captured value.
@@ -90,7 +87,8 @@ fn write_value<K: Sink>(
 {
     match left_of(alloc, form, script) {
         Ok(left) => write_json(&left, out),
-        Err(_) => Err(Failure::Write(SinkError::NoMemory)),
+        Err(PruneError::NoMemory) => Err(Failure::Write(SinkError::NoMemory)),
+        Err(_) => unreachable!("the calls are one whole value"),
     }
 }
 

@@ -24,7 +24,7 @@ use crate::paths::{Paths, Rule};
 use crate::readable::Readable;
 use std::alloc::Global;
 use sval_buffer::ValueBuf;
-use sval_core::{AnyCall, GroupedCall, Head, Lending, Slot, Stream};
+use sval_core::{AnyCall, GroupedCall, Head, Lending, NoMemory, Slot, Stream};
 
 /// Why a sieve doesn't take a call.
 #[derive(Clone, Copy)]
@@ -33,6 +33,16 @@ pub(crate) enum Hindrance {
     NoMemory,
     /// The inner stream refused a call that was due.
     Inside,
+}
+
+impl From<NoMemory> for Hindrance {
+    ghost use Rattle.sval_filter.specs.declared.sieve.Hindrance.TheVariants.{NoMemory};
+
+    ghost from_gives = { λ _ hindrance. hindrance ≡ NoMemory };
+
+    fn from(_cause: NoMemory) -> Hindrance {
+        Hindrance::NoMemory
+    }
 }
 
 /// Passes on the calls that are due of those that it takes, which have to go on with each other.
@@ -125,7 +135,7 @@ fn settle<L: Readable, S: Stream<L>>(
     }
     match hold::<L>(&mut sieve.held, call) {
         Ok(()) => Ok(()),
-        Err(_) => Err(Hindrance::NoMemory),
+        Err(cause) => Err(Hindrance::from(cause)),
     }
 }
 
@@ -178,9 +188,7 @@ fn open<'p, L: Readable, S: Stream<L>>(
 {
     let holds = sieve.layers.innermost().mode.is_holding();
     let passes = mode.passes();
-    if sieve.layers.push(mode).is_err() {
-        return Err(Hindrance::NoMemory);
-    }
+    sieve.layers.push(mode)?;
     match settle(sieve, holds, passes, call, relayed) {
         Ok(()) => Ok(()),
         Err(why) => {
@@ -205,7 +213,7 @@ fn begin<L: Readable, S: Stream<L>>(
 {
     match sieve.layers.innermost().mode.share() {
         Ok(mode) => open(sieve, mode, call, relayed),
-        Err(_) => Err(Hindrance::NoMemory),
+        Err(cause) => Err(Hindrance::from(cause)),
     }
 }
 
@@ -245,7 +253,7 @@ fn begin_part<L: Readable, S: Stream<L>>(
             let (call, relayed) = twice(call);
             open(sieve, mode, call, relayed)
         }
-        Err(_) => Err(Hindrance::NoMemory),
+        Err(cause) => Err(Hindrance::from(cause)),
     }
 }
 
@@ -303,13 +311,9 @@ fn end_key<L: Readable, S: Stream<L>>(
         (record { layers = with_entry fate (below old.kept.layers); held = empty_forest })
         (is_some (held_label old.kept.held)) result (sieve_view S.standing sieve.new) }
 {
-    if read_text(&sieve.held, &mut sieve.text).is_err() {
-        return Err(Hindrance::NoMemory);
-    }
+    read_text(&sieve.held, &mut sieve.text)?;
     let (alloc, rule) = (sieve.alloc, sieve.rule);
-    let Ok(fate) = sieve.layers.around().entry(alloc, rule, sieve.text.text()) else {
-        return Err(Hindrance::NoMemory);
-    };
+    let fate = sieve.layers.around().entry(alloc, rule, sieve.text.text())?;
     match pass_key(&mut sieve.inner, &sieve.held, &fate, call) {
         Ok(()) => {
             sieve.layers.close(fate);

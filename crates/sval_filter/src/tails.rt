@@ -8,9 +8,9 @@ ghost use Rattle.sval_filter.specs.SeenLayers.{seen_tails, seen_fate};
 
 use crate::layer::Fate;
 use crate::paths::Rule;
-use std::alloc::{AllocError, Global};
+use std::alloc::Global;
 use std::rc::Rc;
-use sval_core::Label;
+use sval_core::{Label, NoMemory};
 
 /// Rests of paths.
 #[derive(Drop)]
@@ -35,7 +35,7 @@ fn tail_of<'p>(path: &'p [String], label: &str) -> Option<&'p [String]>
 
 impl<'p> Tails<'p> {
     /// These rests.
-    fn of(alloc: Global, rests: Vec<&'p [String]>) -> Result<Self, AllocError>
+    fn of(alloc: Global, rests: Vec<&'p [String]>) -> Result<Self, NoMemory>
         ensures { IfOk result (λ made. seen_tails made ≡ rests_in rests.entry.items) }
     {
         if rests.is_empty() {
@@ -45,7 +45,7 @@ impl<'p> Tails<'p> {
     }
 
     /// The same rests once more. It copies none of them.
-    pub(crate) fn share(&self) -> Result<Self, AllocError>
+    pub(crate) fn share(&self) -> Result<Self, NoMemory>
         ensures { IfOk result (λ shared. seen_tails shared ≡ seen_tails self.now) }
     {
         match self {
@@ -115,7 +115,7 @@ impl<'p> Tails<'p> {
     }
 
     /// What is behind a label of those that begin with it.
-    fn rests(&self, alloc: Global, label: &str) -> Result<Vec<&'p [String]>, AllocError>
+    fn rests(&self, alloc: Global, label: &str) -> Result<Vec<&'p [String]>, NoMemory>
         ensures { IfOk result (λ rests. rests_in rests.items ≡ tails label.now (seen_tails self.now)) }
     {
         let mut rests = Vec::new(alloc);
@@ -134,7 +134,7 @@ impl<'p> Tails<'p> {
         alloc: Global,
         rule: Rule,
         label: &str,
-    ) -> Result<Fate<'p>, AllocError>
+    ) -> Result<Fate<'p>, NoMemory>
         ensures { IfOk result (λ fate. seen_fate fate ≡ fate_of rule (seen_tails self.now) (Some label.now)) }
     {
         if self.has_end(label) {
@@ -156,7 +156,7 @@ impl<'p> Tails<'p> {
         alloc: Global,
         rule: Rule,
         label: &Label<'_>,
-    ) -> Result<Fate<'p>, AllocError>
+    ) -> Result<Fate<'p>, NoMemory>
         ensures { IfOk result (λ fate. seen_fate fate ≡ fate_of rule (seen_tails self.now) (Some label.now.text)) }
     {
         self.fate_of(alloc, rule, label.as_str())

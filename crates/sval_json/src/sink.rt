@@ -5,7 +5,7 @@ ghost use Rattle.sval_core.specs.Law.{one_more};
 ghost use Rattle.sval_json.specs.Sinks.{Told, Writes, Flushes, WritesAll, IsFull};
 ghost use Rattle.sval_json.specs.Taken.{Taken, taken_told};
 
-use std::alloc::Global;
+use std::alloc::{AllocError, Global};
 use std::error::Error;
 use std::fmt;
 use std::marker::Model;
@@ -34,6 +34,16 @@ impl fmt::Display for SinkError {
 }
 
 impl Error for SinkError {}
+
+impl From<AllocError> for SinkError {
+    ghost use Rattle.sval_json.specs.declared.sink.SinkError.TheVariants as sink_error;
+
+    ghost from_gives = { λ _ why. why ≡ sink_error.NoMemory };
+
+    fn from(_cause: AllocError) -> SinkError {
+        SinkError::NoMemory
+    }
+}
 
 /// A place that bytes are written to, piece by piece.
 ///
@@ -159,9 +169,9 @@ impl Sink for VecSink {
     {
         match self.bytes.extend_from_slice(piece) {
             Ok(()) => Ok(piece.len()),
-            Err(_) => {
+            Err(cause) => {
                 self.wants = self.wants.saturating_add(1);
-                Err(SinkError::NoMemory)
+                Err(SinkError::from(cause))
             }
         }
     }

@@ -195,7 +195,8 @@ impl<'k, K: Sink> Writer<'k, K> {
     /// Writes the word `null`.
     #[inline(always)]
     fn write_null(&mut self) -> Result
-        ensures { Does (value_written (codes "null")) result (writer_view K.told self.old) (writer_view K.told self.new) }
+        ensures { Does (value_written (codes "null")) result
+            (writer_view K.told self.old) (writer_view K.told self.new) }
     {
         self.empty = false;
         self.write_mark(b"null")

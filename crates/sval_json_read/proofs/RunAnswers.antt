@@ -125,13 +125,14 @@ unfolding named
 fails_at _ e (no_utf8 cause) = absurd (omega (arith, e))
 fails_at _ e (no_json bad) = bad
 
-pub reports : {words : List (List ℕ)} {input : Supply} {status : ℕ} {old new : Told} → runs.Reports read_terms words input status old new → runs.is_status read_terms status ≡ true → Reports words input status old new
-reports {words} {input} {status} {old} {new} r known = record {
+pub reports : {I K : Type 0} {source : I → Supply} {told : K → Told} {words : List (List ℕ)} {before after : I} {out_old out_new : K} {old new : Told} {status : ℕ}
+    → runs.Reports read_terms source told words before after out_old out_new old new status → runs.is_status read_terms status ≡ true → Reports words (source before) status old new
+reports {source = source} {words = words} {before = before} {old = old} {new = new} {status = status} r known = record {
   at = named r.ended;
   bad_json = λ e.
       let (why, is) = the_fault r.ended (ap is_fault (sym r.is ∙ e)) in
       let of_why : status_of_fault why ≡ BAD_JSON = ap status_of (sym is) ∙ sym r.is ∙ e in
-      subst (λ ended. OnNamed words input (FailsAtByte (named ended))) (sym is)
-      (on_both (form_named words) input.left (runs.HasFault read_terms why) (FailsAtByte (named (Err (failure.Fault why)))) (λ bytes asked f. fails_at why of_why f.1) (r.found why is));
+      subst (λ ended. OnNamed words (source before) (FailsAtByte (named ended))) (sym is)
+      (on_both (form_named words) (source before).left (runs.HasFault read_terms why) (FailsAtByte (named (Err (failure.Fault why)))) (λ bytes asked f. fails_at why of_why f.1) (r.found why is));
   tells = subst (λ line. TellsLine old line new) (told_line r.ended (subst (λ status. runs.is_status read_terms status ≡ true) r.is known) ∙ ap (λ status. report status (named r.ended)) (sym r.is)) r.tells;
 }

@@ -20,7 +20,7 @@ use std::alloc::Global;
 use std::error::Error;
 use std::fmt;
 use std::marker::Model;
-use sval_core::{Lent, Result as StreamResult, Stream, Value};
+use sval_core::{Lent, NoMemory, Result as StreamResult, Stream, Value};
 use sval_ref::ValueRef;
 
 /// Why bytes can't be read.
@@ -30,7 +30,7 @@ pub enum ReadError {
     NotUtf8,
     /// They denote no value: no text that denotes one begins with more of them than the first `at`.
     BadJson { at: u64 },
-    /// There was no memory for what is kept of them, or a number or string in them has 4 GiB or more.
+    /// There was no memory for what is kept of them, or a number or string in them is 4 GiB or longer.
     NoMemory,
 }
 
@@ -55,6 +55,17 @@ impl fmt::Display for ReadError {
 }
 
 impl Error for ReadError {}
+
+impl From<NoMemory> for ReadError {
+    ghost use Rattle.std.specs.Prelude.{◌≡◌};
+    ghost use Rattle.sval_json_read.specs.declared.document.ReadError.TheVariants as reading;
+
+    ghost from_gives = { λ _ error. error ≡ reading.NoMemory };
+
+    fn from(_cause: NoMemory) -> ReadError {
+        ReadError::NoMemory
+    }
+}
 
 /// A text that was read, seen as its tokens.
 ///
@@ -143,13 +154,13 @@ fn read_nodes(alloc: Global, bytes: &[u8]) -> Result<Vec<Node>, ReadError>
         match reader.step(bytes, at) {
             Ok(true) => at += 1 + reader.plain_run(bytes, at + 1),
             Ok(false) => return Err(ReadError::BadJson { at: at as u64 }),
-            Err(_) => return Err(ReadError::NoMemory),
+            Err(cause) => return Err(ReadError::from(cause)),
         }
     }
     match reader.finish(bytes) {
         Ok(true) => Ok(reader.nodes),
         Ok(false) => Err(ReadError::BadJson { at: at as u64 }),
-        Err(_) => Err(ReadError::NoMemory),
+        Err(cause) => Err(ReadError::from(cause)),
     }
 }
 

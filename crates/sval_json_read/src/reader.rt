@@ -64,13 +64,9 @@ impl Reader {
     fn add(&mut self, node: Node, expected: Expected) -> Result<(), NoMemory>
         ensures { IfOk result (λ done. Adds self.old node expected self.new) }
     {
-        match self.nodes.push(node) {
-            Ok(()) => {
-                self.expected = expected;
-                Ok(())
-            },
-            Err(_) => Err(NoMemory),
-        }
+        self.nodes.push(node)?;
+        self.expected = expected;
+        Ok(())
     }
 
     /// The place of a value directly in what is open.

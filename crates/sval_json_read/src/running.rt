@@ -4,6 +4,7 @@ ghost use Rattle.std.specs.Prelude.{◌≡◌, ◌<◌, ◌^◌, ℕ, List, leng
 ghost use Rattle.sval_program.specs.Inputs.{OnShort};
 ghost use Rattle.sval_program.specs.Jobs.{ServesBytes, ServesInput, Serves};
 ghost use Rattle.sval_program.specs.Runs.{AreQuiet, Ends};
+ghost use Rattle.sval_program.specs.Runs as runs;
 ghost use Rattle.sval_json_read.specs.Calls.{document_calls};
 ghost use Rattle.sval_json_read.specs.Forms.{OnAsked};
 ghost use Rattle.sval_json_read.specs.ReadErrors.{IsRead};
@@ -110,7 +111,8 @@ pub(crate) fn serve<I: Source, K: Sink>(
 /// 16,777,216 bytes and one more to see that there are too many, and as a text of JSON (RFC 8259). With `json` the JSON
 /// of the value that it denotes is written, without white space; it denotes the same value, with `0` for each number
 /// `-0`. With `calls` the canonical script of the value's calls is written, after it was captured. Where the status
-/// isn't 0, one line is written to `diag` that says why; what `diag` answers changes nothing.
+/// isn't 0, one line is written to `diag` that says why. What `diag` answers changes neither the status nor what is left
+/// of the input and the output.
 ///
 /// | status | comes |
 /// |---|---|
@@ -143,6 +145,10 @@ pub fn run_read<I: Source, K: Sink, D: Sink>(
     diag: &mut D,
 ) -> u8
     ensures ends { Ends read_terms I.told K.told (map string_bytes words.now) input.old input.new
+        out.old out.new result }
+
+    // Nothing but its line depends on what the third device answers.
+    ensures apart { runs.Reports read_terms I.told K.told (map string_bytes words.now) input.old input.new
         out.old out.new (D.told diag.old) (D.told diag.new) result }
 
     // Each status comes only where it is so.

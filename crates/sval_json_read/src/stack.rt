@@ -51,10 +51,7 @@ impl Stack {
     pub(crate) fn push(&mut self, container: Opened) -> Result<(), NoMemory>
         ensures { self.new ≡ (if is_ok result then opened_of container ∷ self.old else self.old) }
     {
-        match self.opened.push(container) {
-            Ok(()) => Ok(()),
-            Err(_) => Err(NoMemory),
-        }
+        Ok(self.opened.push(container)?)
     }
 
     /// Closes the innermost container, if there is one.

@@ -1,11 +1,11 @@
 -- When tags, labels and indexes are equal, how they are ordered, and what they feed a hasher.
-use Rattle.std.specs.Prelude.{◌≡◌, ℤ, Bool}
+use Rattle.std.specs.Prelude.{◌≡◌, Bool}
 use Rattle.std.specs.Bool.{Decides}
 use Rattle.std.specs.Str.{bytes_eq}
 use Rattle.std.specs.Cmp.{IsEquivalence, IsTotalOrder}
 use Rattle.std.specs.declared.cmp.Ordering.{Ordering}
 use Rattle.std.specs.Ordering.{int_cmp, int_eq, eq_by_cmp}
-use Rattle.std.specs.Hash.{HashWrites, Alike, str}
+use Rattle.std.specs.Hash.{HashWrites, Alike, str, i128}
 use Rattle.sval_label.specs.Calls.{Tag, Label, Index}
 
 -- two tags by their texts
@@ -28,6 +28,10 @@ index_cmp a b = int_cmp a.number b.number
 abbrev pub label_writes : Label → HashWrites
 label_writes label = str label.text
 
+-- an index feeds its number alone
+abbrev pub index_writes : Index → HashWrites
+index_writes index = i128 index.number
+
 -- ---- the laws, as facts
 
 -- tags are equal exactly where their texts are, which is an equivalence
@@ -41,10 +45,10 @@ pub record LabelsByTexts : Type 0 where
   pub equivalence : IsEquivalence same_label
   pub hashed : Alike same_label label_writes
 
--- whichever way a number is fed to a hasher, equal indexes are hashed alike
+-- equal indexes are ordered as equals and hashed alike, whatever their tags
 pub record IndexesByNumbers : Type 0 where
   pub decides : (a b : Index) → Decides (same_index a b) (a.number ≡ b.number)
   pub equivalence : IsEquivalence same_index
   pub order : IsTotalOrder index_cmp
   pub agree : (a b : Index) → same_index a b ≡ eq_by_cmp index_cmp a b
-  pub hashed : (writes : ℤ → HashWrites) → Alike same_index (λ index. writes index.number)
+  pub hashed : Alike same_index index_writes

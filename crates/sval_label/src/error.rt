@@ -2,6 +2,7 @@
 
 ghost use Rattle.std.specs.Prelude.{◌≡◌};
 
+use std::alloc::{AllocError, AllocFailed};
 use std::fmt;
 
 /// A refusal, which says nothing of its cause.
@@ -44,8 +45,27 @@ pub fn refusal<T>() -> Result<T>
 }
 
 /// Memory was wanting, in a call that can fail in no other way.
+///
+/// It is made only [`From`] an answer of std's allocator, since its field is private. `checks/memory` lists the few
+/// functions that write such an answer themselves.
 #[derive(Clone, Copy, Debug, PartialEq, Eq)]
-pub struct NoMemory;
+pub struct NoMemory {
+    cause: AllocError,
+}
+
+impl From<AllocError> for NoMemory {
+    fn from(cause: AllocError) -> NoMemory {
+        NoMemory { cause }
+    }
+}
+
+impl<T: Drop> From<AllocFailed<T>> for NoMemory {
+    fn from(failed: AllocFailed<T>) -> NoMemory {
+        NoMemory {
+            cause: AllocError::from(failed),
+        }
+    }
+}
 
 impl fmt::Display for NoMemory {
     ghost use Rattle.std.specs.Prelude.{Some, codes};

@@ -152,10 +152,7 @@ impl<'computed> Label<'computed> {
 fn owned(alloc: Global, text: &str) -> Result<String, NoMemory>
     ensures { IfOk result (λ copy. string_bytes copy ≡ text.now) }
 {
-    match String::from_str(alloc, text) {
-        Ok(copy) => Ok(copy),
-        Err(_) => Err(NoMemory),
-    }
+    Ok(String::from_str(alloc, text)?)
 }
 
 impl<'computed> PartialEq for Label<'computed> {

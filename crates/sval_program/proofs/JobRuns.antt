@@ -1,11 +1,10 @@
 -- From what serving the words says to what each status says.
-use Rattle.std.specs.Prelude.{◌≡◌, ◌⊎◌, ◌↔◌, ℕ, ◌==◌, ◌<◌, ◌≤◌, Bool, true, false, not, ◌||◌, List, ◌∷◌, Option, Some, None, Result, Ok, Err, IfSome, OnOk, refl}
+use Rattle.std.specs.Prelude.{◌≡◌, ◌↔◌, ℕ, ◌==◌, ◌<◌, Bool, true, false, ◌||◌, List, ◌∷◌, Option, Some, None, Result, Ok, Err, IfSome, OnOk, refl}
 use Rattle.std.proofs.Common.{sym, ap, subst, ◌∙◌, arith, inl, inr}
 use Rattle.sval_core.specs.Law.{Rose}
-use Rattle.sval_json.specs.Sinks.{Told, IsSteady, NoCountFell, Declines, PassesOn}
+use Rattle.sval_json.specs.Sinks.{Told}
 use Rattle.sval_json.specs.declared.sink.SinkError.{SinkError}
 use Rattle.sval_json.specs.declared.sink.SinkError.TheVariants as sink
-use Rattle.sval_json.proofs.Appending.{all_is_front, steady_counts}
 use Rattle.sval_program.specs.declared.failure.Fault.{Fault}
 use Rattle.sval_program.specs.declared.failure.Fault.TheVariants as fault
 use Rattle.sval_program.specs.declared.failure.Failure.{Failure}
@@ -14,16 +13,14 @@ use Rattle.sval_program.specs.declared.input_error.InputError.{InputError}
 use Rattle.sval_program.specs.declared.input_error.InputError.TheVariants as input
 use Rattle.sval_program.specs.declared.status.TheConstants.{DONE, USAGE, WRITE, READ, NO_MEMORY, TOO_LONG}
 use Rattle.sval_program.specs.Failures.{status_of_fault, status_of_failure, status_of, is_fault, is_read}
-use Rattle.sval_program.specs.Inputs.{ReadsWhole, OnShort, OnLong, OnBoth, IsSpent, IsTooLong, TakesAll, TakesOneMore, StaysShort, IsUnread}
-use Rattle.sval_program.specs.Jobs.{Terms, may_write, WritesAllDue, FindsFault, ServesBytes, IsServed, ServesInput, ServesForm}
-use Rattle.sval_program.specs.Outputs.{Grows, IsOwnWant}
-use Rattle.sval_program.specs.Runs.{is_status, is_unwritten, TakesDue, TakesFault, IsStatusDue, MayLeave, HasFault, AreQuiet, TakesAllOrLess}
+use Rattle.sval_program.specs.Inputs.{ReadsWhole, OnShort, OnBoth, IsSpent, IsTooLong, TakesAll, TakesOneMore, IsUnread}
+use Rattle.sval_program.specs.Jobs.{Terms, WritesAllDue, ServesBytes, IsServed, ServesInput, ServesForm}
+use Rattle.sval_program.specs.Outputs.{IsOwnWant}
+use Rattle.sval_program.specs.Runs.{is_status, TakesDue, TakesFault, IsStatusDue, AreQuiet, TakesAllOrLess}
 use Rattle.sval_program.specs.Sources.{Supply}
 use Rattle.sval_program.specs.Statuses.{is_among}
-use Rattle.sval_program.proofs.Growing.{counts_stay, grows_by_nothing, grows_by_front, passed_on, held_back}
-use Rattle.sval_program.proofs.ReadParts.{read_nothing, read_all}
 
-abbrev Ended : Type 0
+abbrev pub Ended : Type 0
 Ended = Result (Unit {0}) Failure
 
 -- a program and the devices of a run of it
@@ -39,10 +36,10 @@ pub record Case (Form I K : Type 0) : Type 1 where
 abbrev pub Ran : {Form I K : Type 0} → Case Form I K → Option Form → Result (Unit {0}) Failure → Type 0
 Ran k form result = ServesForm k.terms k.source k.sink form result k.before k.after k.old k.new
 
-abbrev Served : {Form I K : Type 0} → Case Form I K → Form → Result (Unit {0}) Failure → Type 0
+abbrev pub Served : {Form I K : Type 0} → Case Form I K → Form → Result (Unit {0}) Failure → Type 0
 Served k asked result = IsServed k.terms k.source k.sink asked result k.before k.after k.old k.new
 
-abbrev Unread : {Form I K : Type 0} → Case Form I K → InputError → Type 0
+abbrev pub Unread : {Form I K : Type 0} → Case Form I K → InputError → Type 0
 Unread k why = IsUnread k.source why k.before k.after k.old k.new
 
 -- a fact where the words are a form, and the source told what it had
@@ -63,12 +60,12 @@ served terms source told before after old new {input = input} asked (Err (Write 
 -- ---- a fact on what was asked for
 
 -- one that holds of each input that the source may have told
-on_input : {Form : Type 0} (asked : Form) (left : Option (List ℕ)) (P : List ℕ → Form → Type 0) → ((input : List ℕ) → left ≡ Some input → P input asked) → OnBoth (Some asked) left P
+pub on_input : {Form : Type 0} (asked : Form) (left : Option (List ℕ)) (P : List ℕ → Form → Type 0) → ((input : List ℕ) → left ≡ Some input → P input asked) → OnBoth (Some asked) left P
 on_input asked None P f = tt
 on_input asked (Some input) P f = f input refl
 
 -- one that holds of the input that was served
-on_served : {Form I K : Type 0} (k : Case Form I K) (asked : Form) {r : Ended} (P : List ℕ → Form → Type 0) (s : Served k asked r) → P s.input asked → OnInput k (Some asked) P
+pub on_served : {Form I K : Type 0} (k : Case Form I K) (asked : Form) {r : Ended} (P : List ℕ → Form → Type 0) (s : Served k asked r) → P s.input asked → OnInput k (Some asked) P
 on_served k asked P s p = on_input asked (k.source k.before).left P (λ input told.
     let all : TakesAll input s.input (k.source k.after).left = subst (λ left. IfSome left (λ all. TakesAll all s.input (k.source k.after).left)) told s.reads.taken in
     subst (λ input. P input asked) all.all p)
@@ -82,7 +79,7 @@ on_both (Some asked) (Some input) P Q f h = f input asked h
 -- ---- how it ended
 
 -- a fact on each way to end
-by_end : {Form I K : Type 0} (k : Case Form I K) (P : Option Form → Ended → Type 0)
+pub by_end : {Form I K : Type 0} (k : Case Form I K) (P : Option Form → Ended → Type 0)
     → (k.after ≡ k.before → k.new ≡ k.old → P None (Err Usage))
     → ((asked : Form) → Served k asked (Ok tt) → P (Some asked) (Ok tt))
     → ((asked : Form) (why : InputError) → Unread k why → P (Some asked) (Err (Input why)))
@@ -113,16 +110,16 @@ fault_status fault.NotInteger = refl
 fault_status fault.BadCbor = refl
 
 -- a fault's status is none of the others
-no_fault : (why : Fault) (status : ℕ) → is_fault status ≡ false → status_of_fault why ≡ status → ⊥
+pub no_fault : (why : Fault) (status : ℕ) → is_fault status ≡ false → status_of_fault why ≡ status → ⊥
 no_fault why status other e = let never : true ≡ false = sym (fault_status why) ∙ ap is_fault e ∙ other in cc never
 
-unread_status : (why : InputError) → (is_fault (status_of_failure (Input why)) ≡ true → ⊥) × (is_read (status_of_failure (Input why)) ≡ true → ⊥) × (status_of_failure (Input why) ≡ DONE → ⊥) × (status_of_failure (Input why) ≡ USAGE → ⊥)
+pub unread_status : (why : InputError) → (is_fault (status_of_failure (Input why)) ≡ true → ⊥) × (is_read (status_of_failure (Input why)) ≡ true → ⊥) × (status_of_failure (Input why) ≡ DONE → ⊥) × (status_of_failure (Input why) ≡ USAGE → ⊥)
     × (status_of_failure (Input why) ≡ WRITE → ⊥)
 unread_status input.ReadFault = (λ e. cc e, λ e. cc e, λ e. omega (arith, e), λ e. omega (arith, e), λ e. omega (arith, e))
 unread_status input.TooLong = (λ e. cc e, λ e. cc e, λ e. omega (arith, e), λ e. omega (arith, e), λ e. omega (arith, e))
 unread_status input.NoMemory = (λ e. cc e, λ e. cc e, λ e. omega (arith, e), λ e. omega (arith, e), λ e. omega (arith, e))
 
-stopped_status : (why : SinkError) → (is_fault (status_of_failure (Write why)) ≡ true → ⊥) × (is_read (status_of_failure (Write why)) ≡ true → ⊥) × (status_of_failure (Write why) ≡ DONE → ⊥) × (status_of_failure (Write why) ≡ USAGE → ⊥)
+pub stopped_status : (why : SinkError) → (is_fault (status_of_failure (Write why)) ≡ true → ⊥) × (is_read (status_of_failure (Write why)) ≡ true → ⊥) × (status_of_failure (Write why) ≡ DONE → ⊥) × (status_of_failure (Write why) ≡ USAGE → ⊥)
     × (status_of_failure (Write why) ≡ READ → ⊥) × (status_of_failure (Write why) ≡ TOO_LONG → ⊥)
 stopped_status sink.Failed = (λ e. cc e, λ e. cc e, λ e. omega (arith, e), λ e. omega (arith, e), λ e. omega (arith, e), λ e. omega (arith, e))
 stopped_status sink.NoMemory = (λ e. cc e, λ e. cc e, λ e. omega (arith, e), λ e. omega (arith, e), λ e. omega (arith, e), λ e. omega (arith, e))
@@ -245,7 +242,7 @@ own_want {Form} k = by_end k (λ form r. status_of r ≡ NO_MEMORY → IsOwnWant
     want asked sink.Failed s e = absurd (omega (arith, e))
     want asked sink.NoMemory s e = s.serves.stops.cause
 
-spent_served : {Form I K : Type 0} (k : Case Form I K) (asked : Form) {r : Ended} → Served k asked r → OnInput k (Some asked) (IsSpent (k.source k.after))
+pub spent_served : {Form I K : Type 0} (k : Case Form I K) (asked : Form) {r : Ended} → Served k asked r → OnInput k (Some asked) (IsSpent (k.source k.after))
 spent_served k asked s = on_input asked (k.source k.before).left (IsSpent (k.source k.after)) (λ input told.
     let all : TakesAll input s.input (k.source k.after).left = subst (λ left. IfSome left (λ all. TakesAll all s.input (k.source k.after).left)) told s.reads.taken in
     all.left)
@@ -318,185 +315,6 @@ comes k form r ran quiet = by_end k (λ form r. OnInput k form (OnShort (IsStatu
     (λ asked why s. due_stopped k asked why s quiet.out)
     form r ran
 
--- ---- what is left of the sink
-
--- the fault of a status before which nothing is written
-unwritten_fault : {Form : Type 0} (terms : Terms Form) (why : Fault) → is_unwritten terms (status_of_fault why) ≡ true → may_write terms (Some why) ≡ false
-unwritten_fault terms why e = neither (DONE == status_of_fault why) (WRITE == status_of_fault why) (NO_MEMORY == status_of_fault why) (is_among (status_of_fault why) terms.written) e
-  where
-    neither : (a b c d : Bool) → not (a || (b || (c || d))) ≡ true → d ≡ false
-    neither a b c false e = refl
-    neither true b c true e = sym e
-    neither false true c true e = sym e
-    neither false false true true e = sym e
-    neither false false false true e = sym e
-
-pub untouched : {Form I K : Type 0} (k : Case Form I K) (form : Option Form) (r : Ended) → Ran k form r → is_unwritten k.terms (status_of r) ≡ true → k.new ≡ k.old
-untouched k = by_end k (λ form r. is_unwritten k.terms (status_of r) ≡ true → k.new ≡ k.old)
-    (λ input out e. out)
-    (λ asked s e. absurd (cc e))
-    (λ asked why u e. u.out)
-    (λ asked why s e. s.serves.untouched (unwritten_fault k.terms why e))
-    (λ asked s e. s.serves)
-    (λ asked why s. written why)
-  where
-    written : (why : SinkError) → is_unwritten k.terms (status_of_failure (Write why)) ≡ true → k.new ≡ k.old
-    written sink.Failed e = absurd (cc e)
-    written sink.NoMemory e = absurd (cc e)
-
-left_by_fault : {Form I K : Type 0} (k : Case Form I K) (asked : Form) (input : List ℕ) (why : Fault) → FindsFault k.terms k.sink asked input why k.old k.new → MayLeave k.terms k.sink k.old k.new input asked
-left_by_fault k asked input why s = either (may_write k.terms (Some why)) refl
-  where
-    either : (b : Bool) → may_write k.terms (Some why) ≡ b → MayLeave k.terms k.sink k.old k.new input asked
-    either true e = inr (record { found = Some why; bytes = s.all.bytes; due = s.all.due; may = e; front = all_is_front s.all.bytes s.all.writes.appends })
-    either false e = inl (s.untouched e)
-
-pub leaves : {Form I K : Type 0} (k : Case Form I K) (form : Option Form) (r : Ended) → Ran k form r → OnInput k form (OnShort (MayLeave k.terms k.sink k.old k.new))
-leaves k = by_end k (λ form r. OnInput k form (OnShort (MayLeave k.terms k.sink k.old k.new)))
-    (λ input out. tt)
-    (λ asked s. on_served k asked (OnShort (MayLeave k.terms k.sink k.old k.new)) s (λ short.
-    inr (record { found = None; bytes = s.serves.bytes; due = s.serves.due; may = refl; front = all_is_front s.serves.bytes s.serves.writes.appends })))
-    (λ asked why u. on_input asked (k.source k.before).left (OnShort (MayLeave k.terms k.sink k.old k.new)) (λ input told short. inl u.out))
-    (λ asked why s. on_served k asked (OnShort (MayLeave k.terms k.sink k.old k.new)) s (λ short. left_by_fault k asked s.input why s.serves))
-    (λ asked s. on_served k asked (OnShort (MayLeave k.terms k.sink k.old k.new)) s (λ short. inl s.serves))
-    (λ asked why s. on_served k asked (OnShort (MayLeave k.terms k.sink k.old k.new)) s (λ short.
-    inr (record { found = s.serves.found; bytes = s.serves.bytes; due = s.serves.due; may = s.serves.may; front = s.serves.stops.begins })))
-
-grows_same : {Form I K : Type 0} (k : Case Form I K) → k.new ≡ k.old → Grows (k.sink k.old) (k.sink k.new)
-grows_same k same = subst (λ out. Grows (k.sink k.old) (k.sink out)) (sym same) (grows_by_nothing (k.sink k.old))
-
-pub grows : {Form I K : Type 0} (k : Case Form I K) (form : Option Form) (r : Ended) → Ran k form r → Grows (k.sink k.old) (k.sink k.new)
-grows k = by_end k (λ form r. Grows (k.sink k.old) (k.sink k.new))
-    (λ input out. grows_same k out)
-    (λ asked s. (_, s.serves.writes.appends))
-    (λ asked why u. grows_same k u.out)
-    (λ asked why s. (_, s.serves.all.writes.appends))
-    (λ asked s. grows_same k s.serves)
-    (λ asked why s. grows_by_front s.serves.stops.begins)
-
--- ---- an input that is too long, and one that was read whole
-
-long_served : {Form I K : Type 0} (k : Case Form I K) (asked : Form) {r : Ended} (P : Type 0) → Served k asked r → OnInput k (Some asked) (OnLong P)
-long_served k asked P s = on_served k asked (OnLong P) s (λ long. absurd (omega (arith, long, s.reads.short)))
-
-abbrev IsLongStatus : ℕ → Type 0
-IsLongStatus status = (status ≡ TOO_LONG) ⊎ (status ≡ NO_MEMORY)
-
-long_unread : {Form I K : Type 0} (k : Case Form I K) (asked : Form) (why : InputError) → Unread k why → (Rose (k.source k.before).faults (k.source k.after).faults → ⊥)
-    → OnInput k (Some asked) (OnLong (IsLongStatus (status_of (Err (Input why)))))
-long_unread k asked input.ReadFault u quiet = absurd (quiet (u.stops.fault refl))
-long_unread k asked input.TooLong u quiet = on_input asked (k.source k.before).left (OnLong (IsLongStatus TOO_LONG)) (λ input told long. inl refl)
-long_unread k asked input.NoMemory u quiet = on_input asked (k.source k.before).left (OnLong (IsLongStatus NO_MEMORY)) (λ input told long. inr refl)
-
-pub long_comes : {Form I K : Type 0} (k : Case Form I K) (form : Option Form) (r : Ended) → Ran k form r → (Rose (k.source k.before).faults (k.source k.after).faults → ⊥)
-    → OnInput k form (OnLong ((status_of r ≡ TOO_LONG) ⊎ (status_of r ≡ NO_MEMORY)))
-long_comes k form r ran quiet = by_end k (λ form r. OnInput k form (OnLong (IsLongStatus (status_of r))))
-    (λ input out. tt)
-    (λ asked s. long_served k asked (IsLongStatus (status_of (Ok tt))) s)
-    (λ asked why u. long_unread k asked why u quiet)
-    (λ asked why s. long_served k asked (IsLongStatus (status_of (Err (Found why)))) s)
-    (λ asked s. long_served k asked (IsLongStatus (status_of (Err NoMemory))) s)
-    (λ asked why s. long_served k asked (IsLongStatus (status_of (Err (Write why)))) s)
-    form r ran
-
-pub leaves_long : {Form I K : Type 0} (k : Case Form I K) (form : Option Form) (r : Ended) → Ran k form r → OnInput k form (OnLong (k.new ≡ k.old))
-leaves_long k = by_end k (λ form r. OnInput k form (OnLong (k.new ≡ k.old)))
-    (λ input out. tt)
-    (λ asked s. long_served k asked (k.new ≡ k.old) s)
-    (λ asked why u. on_input asked (k.source k.before).left (OnLong (k.new ≡ k.old)) (λ input told long. u.out))
-    (λ asked why s. long_served k asked (k.new ≡ k.old) s)
-    (λ asked s. long_served k asked (k.new ≡ k.old) s)
-    (λ asked why s. long_served k asked (k.new ≡ k.old) s)
-
--- ---- what is left of the source
-
-pub nothing_read : {Form I K : Type 0} (k : Case Form I K) (form : Option Form) (r : Ended) → Ran k form r → status_of r ≡ USAGE → k.after ≡ k.before
-nothing_read k = by_end k (λ form r. status_of r ≡ USAGE → k.after ≡ k.before)
-    (λ input out e. input)
-    (λ asked s e. absurd (omega (arith, e)))
-    (λ asked why u e. absurd ((unread_status why).3 e))
-    (λ asked why s e. absurd (no_fault why USAGE refl e))
-    (λ asked s e. absurd (omega (arith, e)))
-    (λ asked why s e. absurd ((stopped_status why).3 e))
-
-pub nothing_written : {Form I K : Type 0} (k : Case Form I K) (form : Option Form) (r : Ended) → Ran k form r → status_of r ≡ USAGE → k.new ≡ k.old
-nothing_written k = by_end k (λ form r. status_of r ≡ USAGE → k.new ≡ k.old)
-    (λ input out e. out)
-    (λ asked s e. absurd (omega (arith, e)))
-    (λ asked why u e. absurd ((unread_status why).3 e))
-    (λ asked why s e. absurd (no_fault why USAGE refl e))
-    (λ asked s e. absurd (omega (arith, e)))
-    (λ asked why s e. absurd ((stopped_status why).3 e))
-
-pub spent : {Form I K : Type 0} (k : Case Form I K) (form : Option Form) (r : Ended) → Ran k form r → is_read (status_of r) ≡ true → OnInput k form (IsSpent (k.source k.after))
-spent k = by_end k (λ form r. is_read (status_of r) ≡ true → OnInput k form (IsSpent (k.source k.after)))
-    (λ input out e. tt)
-    (λ asked s e. spent_served k asked s)
-    (λ asked why u e. absurd ((unread_status why).1 e))
-    (λ asked why s e. spent_served k asked s)
-    (λ asked s e. spent_served k asked s)
-    (λ asked why s e. spent_served k asked s)
-
-short_same : {Form I K : Type 0} (k : Case Form I K) → k.after ≡ k.before → StaysShort (k.source k.before) (k.source k.after)
-short_same k same = subst (λ after. StaysShort (k.source k.before) (k.source after)) (sym same) (read_nothing (k.source k.before).left)
-
--- no more than the limit was taken, unless the input is too long
-pub stays_short : {Form I K : Type 0} (k : Case Form I K) (form : Option Form) (r : Ended) → Ran k form r → (status_of r ≡ TOO_LONG → ⊥) → StaysShort (k.source k.before) (k.source k.after)
-stays_short k = by_end k (λ form r. (status_of r ≡ TOO_LONG → ⊥) → StaysShort (k.source k.before) (k.source k.after))
-    (λ input out no. short_same k input)
-    (λ asked s no. read_all s.reads)
-    (λ asked why u no. u.stops.short (λ e. no (ap (λ w. status_of_failure (Input w)) e)))
-    (λ asked why s no. read_all s.reads)
-    (λ asked s no. read_all s.reads)
-    (λ asked why s no. read_all s.reads)
-
--- ---- the counts
-
-abbrev Steady : {Form I K : Type 0} → Case Form I K → Type 0
-Steady k = ((k.source k.after).faults ≡ (k.source k.before).faults) × IsSteady (k.sink k.old) (k.sink k.new)
-
-pub steady : {Form I K : Type 0} (k : Case Form I K) (form : Option Form) (r : Ended) → Ran k form r → is_read (status_of r) ≡ true → ((k.source k.after).faults ≡ (k.source k.before).faults) × IsSteady (k.sink k.old) (k.sink k.new)
-steady k = by_end k (λ form r. is_read (status_of r) ≡ true → Steady k)
-    (λ input out e. absurd (cc e))
-    (λ asked s e. (s.reads.faults, s.serves.writes.steady))
-    (λ asked why u e. absurd ((unread_status why).1 e))
-    (λ asked why s e. (s.reads.faults, s.serves.all.writes.steady))
-    (λ asked s e. absurd (cc e))
-    (λ asked why s e. absurd ((stopped_status why).1 e))
-
-abbrev Counts : {Form I K : Type 0} → Case Form I K → Type 0
-Counts k = ((k.source k.before).faults ≤ (k.source k.after).faults) × NoCountFell (k.sink k.old) (k.sink k.new)
-
-count_stays : {n m : ℕ} → m ≡ n → n ≤ m
-count_stays e = omega (arith, e)
-
-counts_same : {Form I K : Type 0} (k : Case Form I K) → k.new ≡ k.old → NoCountFell (k.sink k.old) (k.sink k.new)
-counts_same k same = subst (λ out. NoCountFell (k.sink k.old) (k.sink out)) (sym same) (counts_stay (k.sink k.old))
-
-pub counts : {Form I K : Type 0} (k : Case Form I K) (form : Option Form) (r : Ended) → Ran k form r → ((k.source k.before).faults ≤ (k.source k.after).faults) × NoCountFell (k.sink k.old) (k.sink k.new)
-counts k = by_end k (λ form r. Counts k)
-    (λ input out. (count_stays (ap (λ source. (k.source source).faults) input), counts_same k out))
-    (λ asked s. (count_stays s.reads.faults, steady_counts s.serves.writes.steady))
-    (λ asked why u. (u.stops.faults, counts_same k u.out))
-    (λ asked why s. (count_stays s.reads.faults, steady_counts s.serves.all.writes.steady))
-    (λ asked s. (count_stays s.reads.faults, counts_same k s.serves))
-    (λ asked why s. (count_stays s.reads.faults, s.serves.stops.counts))
-
--- ---- what is told
-
-pub has_fault : {Form I K : Type 0} (k : Case Form I K) (form : Option Form) (r : Ended) → Ran k form r → (why : Fault) → r ≡ Err (Found why) → OnInput k form (HasFault k.terms why)
-has_fault k form r ran why = by_end k (λ form r. r ≡ Err (Found why) → OnInput k form (HasFault k.terms why))
-    (λ input out e. absurd (cc e))
-    (λ asked s e. absurd (cc e))
-    (λ asked other u e. absurd (cc e))
-    (λ asked other s e. on_served k asked (HasFault k.terms why) s (s.serves.all.bytes, subst (λ found. k.terms.Due asked s.input (Some found) s.serves.all.bytes) (same other e) s.serves.all.due))
-    (λ asked s e. absurd (cc e))
-    (λ asked other s e. absurd (cc e))
-    form r ran
-  where
-    same : (other : Fault) → ◌≡◌ {A = Ended} (Err (Found other)) (Err (Found why)) → other ≡ why
-    same other e = cc e
-
 -- ---- words that are no form
 
 pub usage : {Form I K : Type 0} (k : Case Form I K) (form : Option Form) (r : Ended) → Ran k form r → (status_of r ≡ USAGE) ↔ (form ≡ None)
@@ -513,24 +331,3 @@ usage k = by_end k (λ form r. (status_of r ≡ USAGE) ↔ (form ≡ None))
 
     neither : {A : Type 0} {F : Type 0} {x : F} → (A → ⊥) → A ↔ (Some x ≡ None)
     neither never = both (λ a. absurd (never a)) (λ e. absurd (cc e))
-
--- ---- the flush
-
--- where the sink fails to pass on what was written, a first part of it was taken, for all that is known
-pub stops_at_flush : {Form I K : Type 0} (terms : Terms Form) (source : I → Supply) (told : K → Told) (before after : I) (old mid new : K) (form : Option Form) (why : SinkError)
-    → ServesForm terms source told form (Ok tt) before after old mid → Declines why (told mid) (told new) → ServesForm terms source told form (Err (Write why)) before after old new
-stops_at_flush terms source told before after old mid new None why s d = let never = s.usage in absurd (cc never)
-stops_at_flush terms source told before after old mid new (Some asked) why s d = record {
-  input = s.input;
-  reads = s.reads;
-  serves = record { found = None; bytes = s.serves.bytes; due = s.serves.due; may = refl; stops = held_back told old mid new why s.serves.writes d };
-}
-
-pub passes_on : {Form I K : Type 0} (terms : Terms Form) (source : I → Supply) (told : K → Told) (before after : I) (old mid new : K) (form : Option Form)
-    → ServesForm terms source told form (Ok tt) before after old mid → PassesOn (told mid) (told new) → ServesForm terms source told form (Ok tt) before after old new
-passes_on terms source told before after old mid new None s p = let never = s.usage in absurd (cc never)
-passes_on terms source told before after old mid new (Some asked) s p = record {
-  input = s.input;
-  reads = s.reads;
-  serves = record { bytes = s.serves.bytes; due = s.serves.due; writes = passed_on s.serves.writes p };
-}

@@ -5,4 +5,6 @@ pub mod PrintedTrees
 pub mod FoundCalls
 mod CapturedMemory
 pub mod JobRuns
+pub mod JobLeaves
+pub mod JobEnds
 pub mod ToldRuns

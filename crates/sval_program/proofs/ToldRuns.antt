@@ -1,25 +1,74 @@
 -- What a run says of its devices, as a fact on what they tell.
-use Rattle.std.specs.Prelude.{◌≡◌, ℕ, List}
+use Rattle.std.specs.Prelude.{◌≡◌, ℕ, List, Option, Some, None, Result, Ok, Err}
 use Rattle.std.proofs.Common.{ap, inl, inr}
 use Rattle.sval_json.specs.Sinks.{Told}
+use Rattle.sval_json.specs.declared.sink.SinkError.{SinkError}
+use Rattle.sval_json.specs.declared.sink.SinkError.TheVariants as cause
+use Rattle.sval_program.specs.declared.failure.Failure.{Failure}
+use Rattle.sval_program.specs.declared.failure.Failure.TheVariants.{Usage, Input, Fault as Found, NoMemory, Write}
 use Rattle.sval_program.specs.Inputs.{OnShort, OnLong}
-use Rattle.sval_program.specs.Jobs.{Terms}
-use Rattle.sval_program.specs.Outputs.{IsOwnWant}
-use Rattle.sval_program.specs.Runs.{Ends, ToldEnds, MayLeave}
+use Rattle.sval_program.specs.Jobs.{Terms, ServesBytes, ServesInput, ServesForm, Works}
+use Rattle.sval_program.specs.Outputs.{IsOwnWant, IsStopCause}
+use Rattle.sval_program.specs.Runs.{Ends, Reports, ToldEnds, MayLeave}
 use Rattle.sval_program.specs.Sources.{Supply}
 use Rattle.sval_program.proofs.JobRuns.{on_both}
 
-own_want : {K : Type 0} (sink : K → Told) (old new : K) → IsOwnWant sink old new → IsOwnWant (λ (told : Told). told) (sink old) (sink new)
+-- a device that is what it tells
+abbrev as_told : {T : Type 0} → T → T
+as_told told = told
+
+own_want : {K : Type 0} (sink : K → Told) (old new : K) → IsOwnWant sink old new → IsOwnWant as_told (sink old) (sink new)
 own_want sink old new (inl same) = inl (ap sink same)
 own_want sink old new (inr rose) = inr rose
 
-may_leave : {Form K : Type 0} (terms : Terms Form) (sink : K → Told) (old new : K) (input : List ℕ) (asked : Form) → MayLeave terms sink old new input asked → MayLeave terms (λ (told : Told). told) (sink old) (sink new) input asked
+may_leave : {Form K : Type 0} (terms : Terms Form) (sink : K → Told) (old new : K) (input : List ℕ) (asked : Form) → MayLeave terms sink old new input asked → MayLeave terms as_told (sink old) (sink new) input asked
 may_leave terms sink old new input asked (inl same) = inl (ap sink same)
 may_leave terms sink old new input asked (inr front) = inr front
 
-pub told_ends : {Form I K : Type 0} {terms : Terms Form} {source : I → Supply} {sink : K → Told} {words : List (List ℕ)} {before after : I} {old new : K} {diag_old diag_new : Told} {status : ℕ} → Ends terms source sink words before after old new diag_old diag_new status
-    → ToldEnds terms words (source before) (source after) (sink old) (sink new) diag_old diag_new status
-told_ends {terms = terms} {source = source} {sink = sink} {words = words} {before = before} {old = old} {new = new} e = record {
+-- ---- the work
+
+stop_cause : {K : Type 0} (sink : K → Told) (old new : K) (why : SinkError) → IsStopCause why sink old new → IsStopCause why as_told (sink old) (sink new)
+stop_cause sink old new cause.Failed h = h
+stop_cause sink old new cause.NoMemory h = own_want sink old new h
+
+told_bytes : {Form K : Type 0} (terms : Terms Form) (sink : K → Told) (asked : Form) (input : List ℕ) (ended : Result (Unit {0}) Failure) (old new : K)
+    → ServesBytes terms sink asked input ended old new → ServesBytes terms as_told asked input ended (sink old) (sink new)
+told_bytes terms sink asked input (Ok done) old new s = s
+told_bytes terms sink asked input (Err Usage) old new s = s
+told_bytes terms sink asked input (Err (Input why)) old new s = s
+told_bytes terms sink asked input (Err (Found why)) old new s = record { all = s.all; known = s.known; untouched = λ e. ap sink (s.untouched e) }
+told_bytes terms sink asked input (Err NoMemory) old new s = ap sink s
+told_bytes terms sink asked input (Err (Write why)) old new s = record {
+  found = s.found;
+  bytes = s.bytes;
+  due = s.due;
+  may = s.may;
+  stops = record { cause = stop_cause sink old new why s.stops.cause; begins = s.stops.begins; counts = s.stops.counts };
+}
+
+told_input : {Form I K : Type 0} (terms : Terms Form) (source : I → Supply) (sink : K → Told) (asked : Form) (ended : Result (Unit {0}) Failure) (before after : I) (old new : K)
+    → ServesInput terms source sink asked ended before after old new → ServesInput terms as_told as_told asked ended (source before) (source after) (sink old) (sink new)
+told_input terms source sink asked (Ok done) before after old new s = record { input = s.input; reads = s.reads; serves = told_bytes terms sink asked s.input (Ok done) old new s.serves }
+told_input terms source sink asked (Err Usage) before after old new s = record { input = s.input; reads = s.reads; serves = told_bytes terms sink asked s.input (Err Usage) old new s.serves }
+told_input terms source sink asked (Err (Input why)) before after old new u = record { stops = u.stops; out = ap sink u.out }
+told_input terms source sink asked (Err (Found why)) before after old new s = record { input = s.input; reads = s.reads; serves = told_bytes terms sink asked s.input (Err (Found why)) old new s.serves }
+told_input terms source sink asked (Err NoMemory) before after old new s = record { input = s.input; reads = s.reads; serves = told_bytes terms sink asked s.input (Err NoMemory) old new s.serves }
+told_input terms source sink asked (Err (Write why)) before after old new s = record { input = s.input; reads = s.reads; serves = told_bytes terms sink asked s.input (Err (Write why)) old new s.serves }
+
+told_form : {Form I K : Type 0} (terms : Terms Form) (source : I → Supply) (sink : K → Told) (form : Option Form) (ended : Result (Unit {0}) Failure) (before after : I) (old new : K)
+    → ServesForm terms source sink form ended before after old new → ServesForm terms as_told as_told form ended (source before) (source after) (sink old) (sink new)
+told_form terms source sink None ended before after old new n = record { usage = n.usage; input = ap source n.input; out = ap sink n.out }
+told_form terms source sink (Some asked) ended before after old new s = told_input terms source sink asked ended before after old new s
+
+told_works : {Form I K : Type 0} (terms : Terms Form) (source : I → Supply) (sink : K → Told) (words : List (List ℕ)) (ended : Result (Unit {0}) Failure) (before after : I) (old new : K)
+    → Works terms source sink words ended before after old new → Works terms as_told as_told words ended (source before) (source after) (sink old) (sink new)
+told_works terms source sink words ended before after old new w = record { serves = told_form terms source sink (terms.form_named words) ended before after old new w.serves; flushed = w.flushed }
+
+-- ---- the run
+
+told_run : {Form I K : Type 0} {terms : Terms Form} {source : I → Supply} {sink : K → Told} {words : List (List ℕ)} {before after : I} {old new : K} {status : ℕ} → Ends terms source sink words before after old new status
+    → Ends terms as_told as_told words (source before) (source after) (sink old) (sink new) status
+told_run {terms = terms} {source = source} {sink = sink} {words = words} {before = before} {old = old} {new = new} e = record {
   known = e.known;
   usage = e.usage;
   done = e.done;
@@ -34,7 +83,7 @@ told_ends {terms = terms} {source = source} {sink = sink} {words = words} {befor
   comes = λ quiet. e.comes (record { input = quiet.input; out = quiet.out });
   long_comes = e.long_comes;
   untouched = λ is. ap sink (e.untouched is);
-  leaves = on_both (terms.form_named words) (source before).left (OnShort (MayLeave terms sink old new)) (OnShort (MayLeave terms (λ (told : Told). told) (sink old) (sink new))) (λ input asked left short. may_leave terms sink old new input asked (left short)) e.leaves;
+  leaves = on_both (terms.form_named words) (source before).left (OnShort (MayLeave terms sink old new)) (OnShort (MayLeave terms as_told (sink old) (sink new))) (λ input asked left short. may_leave terms sink old new input asked (left short)) e.leaves;
   leaves_long = on_both (terms.form_named words) (source before).left (OnLong (new ≡ old)) (OnLong (sink new ≡ sink old)) (λ input asked left long. ap sink (left long)) e.leaves_long;
   grows = e.grows;
   nothing_read = λ is. ap source (e.nothing_read is);
@@ -43,5 +92,11 @@ told_ends {terms = terms} {source = source} {sink = sink} {words = words} {befor
   short = e.short;
   steady = e.steady;
   counts = e.counts;
-  reports = e.reports;
+}
+
+pub told_ends : {Form I K : Type 0} {terms : Terms Form} {source : I → Supply} {sink : K → Told} {words : List (List ℕ)} {before after : I} {old new : K} {diag_old diag_new : Told} {status : ℕ} → Ends terms source sink words before after old new status
+    → Reports terms source sink words before after old new diag_old diag_new status → ToldEnds terms words (source before) (source after) (sink old) (sink new) diag_old diag_new status
+told_ends {terms = terms} {source = source} {sink = sink} {words = words} {before = before} {after = after} {old = old} {new = new} e r = record {
+  ends = told_run e;
+  reports = record { ended = r.ended; works = told_works terms source sink words r.ended before after old new r.works; is = r.is; found = r.found; tells = r.tells };
 }

@@ -1,6 +1,6 @@
 -- What a program does: its words, what is due of an input, and what serving it makes of the devices.
-use Rattle.std.specs.Prelude.{◌≡◌, ℕ, Bool, true, false, List, Option, Some, None, Result, Ok, Err}
-use Rattle.sval_json.specs.Sinks.{Told, WritesWhole}
+use Rattle.std.specs.Prelude.{◌≡◌, ℕ, Bool, true, false, List, Option, Some, None, Result, Ok, Err, OnOk}
+use Rattle.sval_json.specs.Sinks.{Told, HoldsNothing, WritesWhole}
 use Rattle.sval_json.specs.declared.sink.SinkError.{SinkError}
 use Rattle.sval_program.specs.declared.failure.Fault.{Fault}
 use Rattle.sval_program.specs.declared.failure.Failure.{Failure}
@@ -81,6 +81,11 @@ abbrev pub ServesForm : {Form I K : Type 0} → Terms Form → (I → Supply) �
 ServesForm terms source told None result before after old new = IsNoForm result before after old new
 ServesForm terms source told (Some asked) result before after old new = ServesInput terms source told asked result before after old new
 
--- the form that the words are was served, if they are one; it wasn't flushed
+-- the form that the words are was served, if they are one
 abbrev pub Serves : {Form I K : Type 0} → Terms Form → (I → Supply) → (K → Told) → List (List ℕ) → Result (Unit {0}) Failure → I → I → K → K → Type 0
 Serves terms source told words result before after old new = ServesForm terms source told (terms.form_named words) result before after old new
+
+-- the words were served, and where that went well what was written was passed on
+pub record Works {Form I K : Type 0} (terms : Terms Form) (source : I → Supply) (told : K → Told) (words : List (List ℕ)) (result : Result (Unit {0}) Failure) (before after : I) (old new : K) : Type 0 where
+  pub serves : Serves terms source told words result before after old new
+  pub flushed : OnOk result (HoldsNothing (told new))

@@ -8,7 +8,7 @@ use Rattle.sval_program.specs.declared.failure.Failure.TheVariants as failure
 use Rattle.sval_program.specs.declared.status.TheConstants.{DONE, USAGE, WRITE, READ, NO_MEMORY, TOO_LONG}
 use Rattle.sval_program.specs.Failures.{status_of_fault, status_of_found, status_of, line_of, is_fault, is_read}
 use Rattle.sval_program.specs.Inputs.{OnBoth, OnShort, OnLong, IsSpent, IsTooLong, StaysShort, StaysBelow}
-use Rattle.sval_program.specs.Jobs.{Terms, may_write}
+use Rattle.sval_program.specs.Jobs.{Terms, may_write, Works}
 use Rattle.sval_program.specs.Outputs.{Grows, IsOwnWant}
 use Rattle.sval_program.specs.Reports.{TellsLine}
 use Rattle.sval_program.specs.Sources.{Supply}
@@ -69,13 +69,6 @@ MayLeave terms told old new input asked = (new ≡ old) ⊎ TakesFront terms (to
 abbrev pub HasFault : {Form : Type 0} → Terms Form → Fault → List ℕ → Form → Type 0
 HasFault terms why input asked = (bytes : List ℕ) × terms.Due asked input (Some why) bytes
 
--- the line was told for how it ended, which has this status; a fault in it is one of the input
-pub record Reports {Form : Type 0} (terms : Terms Form) (words : List (List ℕ)) (input : Supply) (status : ℕ) (old new : Told) : Type 0 where
-  pub ended : Result (Unit {0}) Failure
-  pub is : status ≡ status_of ended
-  pub found : (why : Fault) → ended ≡ Err (failure.Fault why) → OnNamed terms words input (HasFault terms why)
-  pub tells : TellsLine old (line_of terms.usage ended) new
-
 -- no fault was counted
 pub record AreQuiet {I K : Type 0} (source : I → Supply) (sink : K → Told) (before after : I) (old new : K) : Type 0 where
   pub input : Rose (source before).faults (source after).faults → ⊥
@@ -87,8 +80,8 @@ TakesAllOrLess old new input asked = (new.left ≡ Some []) ⊎ StaysBelow old n
 
 -- ---- a run
 
--- what is so of a run: of its words, its source, its sink, what the third device told, and its status
-pub record Ends {Form I K : Type 0} (terms : Terms Form) (source : I → Supply) (sink : K → Told) (words : List (List ℕ)) (before after : I) (old new : K) (diag_old diag_new : Told) (status : ℕ) : Type 0 where
+-- what is so of a run but for its line: of its words, its source, its sink and its status. The third device is no part of it
+pub record Ends {Form I K : Type 0} (terms : Terms Form) (source : I → Supply) (sink : K → Told) (words : List (List ℕ)) (before after : I) (old new : K) (status : ℕ) : Type 0 where
   pub known : is_status terms status ≡ true
   -- each status comes only where it is so
   pub usage : (status ≡ USAGE) ↔ (terms.form_named words ≡ None)
@@ -118,9 +111,19 @@ pub record Ends {Form I K : Type 0} (terms : Terms Form) (source : I → Supply)
   -- the counts
   pub steady : is_read status ≡ true → ((source after).faults ≡ (source before).faults) × IsSteady (sink old) (sink new)
   pub counts : ((source before).faults ≤ (source after).faults) × NoCountFell (sink old) (sink new)
-  -- what the third device is told
-  pub reports : Reports terms words (source before) status diag_old diag_new
+
+-- what the third device is told: the line for how the work ended, which the status is that of. The work is one of the source and the sink alone,
+-- so whatever this device answers, the status and what is left of the two others are what work without it may give
+pub record Reports {Form I K : Type 0} (terms : Terms Form) (source : I → Supply) (sink : K → Told) (words : List (List ℕ)) (before after : I) (old new : K) (diag_old diag_new : Told) (status : ℕ) : Type 0 where
+  pub ended : Result (Unit {0}) Failure
+  pub works : Works terms source sink words ended before after old new
+  pub is : status ≡ status_of ended
+  -- a fault in the line is one of the input
+  pub found : (why : Fault) → ended ≡ Err (failure.Fault why) → OnNamed terms words (source before) (HasFault terms why)
+  -- the one fact that names the device
+  pub tells : TellsLine diag_old (line_of terms.usage ended) diag_new
 
 -- the same of what the source and the sink tell alone
-abbrev pub ToldEnds : {Form : Type 0} → Terms Form → List (List ℕ) → Supply → Supply → Told → Told → Told → Told → ℕ → Type 0
-ToldEnds terms words in_old in_new out_old out_new diag_old diag_new status = Ends terms (λ (told : Supply). told) (λ (told : Told). told) words in_old in_new out_old out_new diag_old diag_new status
+pub record ToldEnds {Form : Type 0} (terms : Terms Form) (words : List (List ℕ)) (in_old in_new : Supply) (out_old out_new diag_old diag_new : Told) (status : ℕ) : Type 0 where
+  pub ends : Ends terms (λ (told : Supply). told) (λ (told : Told). told) words in_old in_new out_old out_new status
+  pub reports : Reports terms (λ (told : Supply). told) (λ (told : Told). told) words in_old in_new out_old out_new diag_old diag_new status

@@ -1,11 +1,10 @@
 //! Programs that read an input whole and write what is due of it: a program says what, and its run is the same for all.
 
-ghost use Rattle.std.specs.Prelude.{◌≡◌, ◌↔◌, true, None, map, string_bytes, OnOk};
-ghost use Rattle.sval_json.specs.Sinks.{HoldsNothing};
+ghost use Rattle.std.specs.Prelude.{◌≡◌, ◌↔◌, true, None, map, string_bytes};
 ghost use Rattle.sval_program.specs.Failures.{status_of, line_of, line_of_failure};
-ghost use Rattle.sval_program.specs.Jobs.{Serves};
+ghost use Rattle.sval_program.specs.Jobs.{Serves, Works};
 ghost use Rattle.sval_program.specs.Reports.{TellsLine};
-ghost use Rattle.sval_program.specs.Runs.{Ends};
+ghost use Rattle.sval_program.specs.Runs.{Ends, Reports};
 
 use crate::failure::Failure;
 use crate::line::{Line, tell};
@@ -46,16 +45,25 @@ pub trait Job {
             input.old input.new out.old out.new };
 }
 
-/// Serves the words, and passes on what was written.
-fn pass_on<J: Job, I: Source, K: Sink>(
+/// Does all of a program's work but telling why it failed, and answers how it ended. The third device has no part in
+/// it.
+///
+/// [`run`] tells that device how it ended, and answers the status. So nothing that the device answers changes the status,
+/// or what is left of the source and the sink.
+///
+/// # Errors
+///
+/// Each [`Failure`] comes only where its status may come, as `Ends` says.
+pub fn work<J: Job, I: Source, K: Sink>(
     alloc: Global,
     words: &[String],
     input: &mut I,
     out: &mut K,
 ) -> Result<(), Failure>
-    ensures serves { Serves J.terms I.told K.told (map string_bytes words.now) result
+    ensures works { Works J.terms I.told K.told (map string_bytes words.now) result
         input.old input.new out.old out.new }
-    ensures flushed { OnOk result (HoldsNothing (K.told out.new)) }
+    ensures ends { Ends J.terms I.told K.told (map string_bytes words.now) input.old input.new
+        out.old out.new (status_of result) }
 {
     J::serve(alloc, words, input, out)?;
     Ok(out.flush()?)
@@ -92,7 +100,8 @@ fn conclude<J: Job, D: Sink>(ended: Result<(), Failure>, diag: &mut D) -> u8
 /// Runs a program on its words, its devices and an allocator, and answers its status.
 ///
 /// The input is read to its end, at most 16,777,216 bytes and one more to see that there are too many. Where the status
-/// isn't 0, one line is written to `diag` that says why; what `diag` answers changes nothing.
+/// isn't 0, one line is written to `diag` that says why. What `diag` answers changes neither the status nor what is left
+/// of the input and the output: all three are as [`work`] may give them, which has no `diag`.
 pub fn run<J: Job, I: Source, K: Sink, D: Sink>(
     alloc: Global,
     words: &[String],
@@ -100,10 +109,12 @@ pub fn run<J: Job, I: Source, K: Sink, D: Sink>(
     out: &mut K,
     diag: &mut D,
 ) -> u8
-    ensures { Ends J.terms I.told K.told (map string_bytes words.now) input.old input.new
+    ensures ends { Ends J.terms I.told K.told (map string_bytes words.now) input.old input.new
+        out.old out.new result }
+    ensures reports { Reports J.terms I.told K.told (map string_bytes words.now) input.old input.new
         out.old out.new (D.told diag.old) (D.told diag.new) result }
 {
-    let ended = pass_on::<J, I, K>(alloc, words, input, out);
+    let ended = work::<J, I, K>(alloc, words, input, out);
     conclude::<J, D>(ended, diag)
 }
 

@@ -13,6 +13,7 @@ pub mod job;
 pub mod laws;
 mod line;
 pub mod lines;
+mod patient;
 mod process;
 mod program;
 mod reading;

@@ -7,6 +7,7 @@ ghost use Rattle.sval_program.specs.Reports.{TellsLine, out_of_memory};
 
 use crate::line::tell;
 use crate::lines;
+use crate::patient::Patient;
 use crate::real_source::RealSource;
 use crate::source::Source;
 use crate::status::{NO_MEMORY, USAGE};
@@ -67,7 +68,8 @@ pub trait Program {
 ///
 /// The output is held back in a buffer of 65,536 bytes until it is full. What is left of it at the end is passed on
 /// there, where a failure isn't told. Memory for that buffer is asked for only where the words are a form; where it is
-/// wanting the status is 10, and nothing is read.
+/// wanting the status is 10, and nothing is read. A call of any of the three that is interrupted is made again, and has
+/// failed where that happened 1,000 times in a row.
 pub fn run_streams<P: Program, R: Read + Drop, W: Write + Drop, D: Write + Drop>(
     alloc: Global,
     words: &[String],
@@ -90,11 +92,11 @@ pub fn run_streams<P: Program, R: Read + Drop, W: Write + Drop, D: Write + Drop>
             &mut diag,
         );
     }
-    run_buffered::<P, RealSource<R>, W, RealSink<D>>(
+    run_buffered::<P, RealSource<R>, Patient<W>, RealSink<D>>(
         alloc,
         words,
         &mut input,
-        BufWriter::with_capacity(alloc, BUFFER, stdout),
+        BufWriter::with_capacity(alloc, BUFFER, Patient::new(stdout)),
         &mut diag,
     )
 }

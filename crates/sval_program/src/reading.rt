@@ -43,8 +43,9 @@ fn read_part<I: Source>(
 ///
 /// [`InputError::ReadFault`] comes only where the source failed, and wherever its count of faults moved.
 /// [`InputError::TooLong`] comes only where there were more bytes, of which one more was taken.
-/// [`InputError::NoMemory`] comes where there was no memory to read into, before anything is read; where there was none
-/// for the script, the reader says so at its end. After a fault at most 16,777,216 bytes were taken.
+/// [`InputError::NoMemory`] comes where there was no memory to read into, and leaves the source as it was, since nothing
+/// is read before; where there was none for the script, the reader says so at its end. After a fault at most 16,777,216
+/// bytes were taken.
 pub fn read_script<I: Source>(alloc: Global, input: &mut I) -> Result<ScriptReader, InputError>
     ensures ok { IfOk result (λ reader. HasRead (I.told input.old) reader (I.told input.new)) }
     ensures err { IfErr result (λ why. StopsReading why (I.told input.old) (I.told input.new)) }
@@ -90,7 +91,9 @@ fn make_room(bytes: &mut Vec<u8>, filled: usize) -> Result<(), AllocError>
 ///
 /// # Errors
 ///
-/// Those of [`read_script`], for the same causes. After want of memory fewer than 16,777,216 bytes were taken.
+/// [`InputError::ReadFault`] and [`InputError::TooLong`] for the same causes as at [`read_script`].
+/// [`InputError::NoMemory`] comes where there was no memory for what is read, and only where fewer than 16,777,216 bytes
+/// were taken: an input that was read to the limit is not told as want of memory.
 pub fn read_input<I: Source>(alloc: Global, input: &mut I) -> Result<Vec<u8>, InputError>
     ensures ok { IfOk result (λ bytes. ReadsWhole (I.told input.old) bytes.items (I.told input.new)) }
     ensures err { IfErr result (λ why. StopsReading why (I.told input.old) (I.told input.new)) }

@@ -12,7 +12,7 @@ use std::io::Read;
 use std::marker::Model;
 
 /// How often in a row a call is made that is interrupted each time.
-const TRIES: u32 = 1000;
+pub(crate) const TRIES: u32 = 1000;
 
 /// A source over one of std's readers. It doesn't tell what it has left, and each error of the reader is one fault.
 ///

@@ -12,6 +12,7 @@ pub mod ServeAnswers
 pub mod RunAnswers
 pub mod MadeScripts
 pub mod MadeAnswers
+pub mod MadeWants
 pub mod MadeStreams
 mod examples
 pub mod ToldWants

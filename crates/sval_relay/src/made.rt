@@ -18,7 +18,7 @@ use std::error::Error;
 use std::fmt;
 use sval_core::{Label, Lending, Stream, tags};
 use sval_json::{Sink, SinkError, VecSink, write_all};
-use sval_script::Printer;
+use sval_script::{PrintError, Printer};
 
 /// Why the line of a made script wasn't written, or not whole.
 #[derive(Clone, Copy, Debug, PartialEq, Eq)]
@@ -115,8 +115,10 @@ fn print_records(alloc: Global, count: u32) -> Result<Vec<u8>, MadeError>
     let mut printer = Printer::new(VecSink::new(alloc));
     match records(&mut printer, "n", count) {
         Ok(()) => Ok(printer.into_inner().into_vec()),
-        // All its tags have names, so that only memory can be wanting.
-        Err(_) => Err(MadeError::NoMemory),
+        Err(_) => match printer.why() {
+            Some(PrintError::NoMemory) => Err(MadeError::NoMemory),
+            _ => unreachable!("all its tags have names, and memory has no faults"),
+        },
     }
 }
 

@@ -85,7 +85,8 @@ impl Machine {
         if !self.has_room(call.form()) {
             return Err(Refusal::NotViable);
         }
-        self.frames.push(call).map_err(|_| Refusal::NoMemory)
+        self.frames.push(call)?;
+        Ok(())
     }
 
     /// Takes so many bytes of a text or binary.
@@ -205,7 +206,8 @@ impl Machine {
         }
         let left = self.frames.part_rest(slot).ok_or(Refusal::NotViable)?;
         self.frames.advance(left);
-        self.frames.push_part(slot).map_err(|_| Refusal::NoMemory)
+        self.frames.push_part(slot)?;
+        Ok(())
     }
 
     /// Takes the end of a container's part.

@@ -1,6 +1,6 @@
 //! Words, numbers and strings.
 
-ghost use Rattle.std.specs.Prelude.{◌≡◌, ◌+◌, ◌<◌, ◌≤◌, [], IfOk, IfErr, Some, length, take, drop, get_or, map, true, false};
+ghost use Rattle.std.specs.Prelude.{◌≡◌, ◌+◌, ◌<◌, ◌≤◌, ◌^◌, [], IfOk, IfErr, OnErr, Some, length, take, drop, get_or, map, true, false};
 ghost use Rattle.std.specs.List.{between};
 ghost use Rattle.sval_json.specs.Digits.{is_number_byte};
 ghost use Rattle.sval_json_read.specs.Reader as machine;
@@ -14,6 +14,7 @@ use crate::node::{Node, Place};
 use crate::number::{Phase, is_of_numbers, may_end, next_phase};
 use crate::string::{Within, next_within};
 use crate::word::Word;
+use std::alloc::AllocError;
 use sval_core::NoMemory;
 use sval_json::escape::first_escape;
 
@@ -40,14 +41,16 @@ impl Reader {
         }
     }
 
-    /// How many bytes were read of a number or string.
+    /// How many bytes were read of a number or string. A node has no room for a length of 4 GiB or more, which is
+    /// answered as want of memory.
     fn length(&self, at: usize) -> Result<u32, NoMemory>
         requires { self.now.from ≤ at }
-        ensures { IfOk result (λ length. self.now.from + length ≡ at) }
+        ensures ok { IfOk result (λ length. self.now.from + length ≡ at) }
+        ensures too_long { OnErr result (self.now.from + 2 ^ 32 ≤ at) }
     {
         match u32::try_from(at - self.from) {
             Ok(length) => Ok(length),
-            Err(_) => Err(NoMemory),
+            Err(_) => Err(NoMemory::from(AllocError)),
         }
     }
 

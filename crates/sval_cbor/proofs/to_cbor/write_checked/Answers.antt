@@ -13,8 +13,8 @@ returns-in-Ok-clause-streams g c =
     checked_streams e c.requires (written (replayed held)) c.write_value.result (g.K.Sink.told c.args.out.now) (g.K.Sink.told c.write_value.new.out)
     (λ tree spells. captured_is_written e.calls tree held spells c.in-Ok.ensures.ok.taken) c.write_value.ensures.due
 
-pub returns-in-Err-clause-streams : goal.returns-in-Err-clause-streams
-returns-in-Err-clause-streams g c =
+pub returns-in-NoAlloc-clause-streams : goal.returns-in-NoAlloc-clause-streams
+returns-in-NoAlloc-clause-streams g c =
     uncaptured_streams (g.V.Value.emission c.args.v.now) (g.K.Sink.told c.args.out.now) c.requires.value
 
 pub returns-in-Ok-clause-want : goal.returns-in-Ok-clause-want

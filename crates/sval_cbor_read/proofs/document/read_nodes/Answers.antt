@@ -25,7 +25,7 @@ returns-in-Ok-false-clause-err c =
     on.goes c.args.bytes.now c.loop-reader.invariant.reached
 
 pub returns-in-Err-clause-err : goal.returns-in-Err-clause-err
-returns-in-Err-clause-err c = makes_some c.args.bytes.now (spot_of c.args.bytes.now c.loop-reader.reader) c.loop-reader.invariant.reached c.in-Err.ensures.no_memory
+returns-in-Err-clause-err c = rw c.from.ensures (makes_some c.args.bytes.now (spot_of c.args.bytes.now c.loop-reader.reader) c.loop-reader.invariant.reached c.in-Err.ensures.no_memory)
 
 pub returns-then-reader-bytes-clause-err : goal.returns-then-reader-bytes-clause-err
 returns-then-reader-bytes-clause-err c = more_is_bad c.args.bytes.now c.loop-reader.reader c.loop-reader-test.ensures c.loop-reader.invariant.reached c.if-reader-bytes.true

@@ -1,5 +1,6 @@
 use Rattle.std.proofs.Common.{◌≡◌, ℕ, ◌≤◌, length, take, Some, List, sym, ap, subst, ◌∙◌, arith, take_all}
 use Rattle.sval_json_read.specs.Documents.{IsBadJson}
+use Rattle.sval_json_read.specs.ReadErrors.{IsReadError}
 use Rattle.sval_json_read.specs.SeenReader.{state_of}
 use Rattle.sval_json_read.specs.Reader.{start, after}
 use Rattle.sval_json_read.specs.declared.reader.Reader.{Reader}
@@ -54,14 +55,14 @@ returns-in-Ok-false-finish-clause-err c =
     (rw c.in-Ok-false-finish.field-0-test at c.in-Ok-false-finish.ensures.ends))
 
 pub returns-in-Err-clause-err : goal.returns-in-Err-clause-err
-returns-in-Err-clause-err c = (
-  c.requires,
-  kept_at c.args.bytes.now c.loop-at.at (state_of c.args.bytes.now c.loop-at.at c.loop-at.reader) c.loop-at-test.true c.loop-at.invariant.reached c.in-Err.ensures.no_memory,
-)
+returns-in-Err-clause-err c =
+    subst (IsReadError c.args.bytes.now) (sym c.from.ensures)
+    (c.requires, kept_at c.args.bytes.now c.loop-at.at (state_of c.args.bytes.now c.loop-at.at c.loop-at.reader) c.loop-at-test.true c.loop-at.invariant.reached c.in-Err.ensures.no_memory)
 
 pub returns-in-Err-finish-clause-err : goal.returns-in-Err-finish-clause-err
-returns-in-Err-finish-clause-err c = (
-  c.requires,
-  kept_end c.args.bytes.now (state_of c.args.bytes.now (length c.args.bytes.now) c.loop-at.reader)
-      (all_taken c.args.bytes.now c.loop-at.at c.loop-at.reader c.loop-at-test.false c.loop-at.invariant.within c.loop-at.invariant.reached) c.in-Err-finish.ensures.no_memory,
-)
+returns-in-Err-finish-clause-err c =
+    subst (IsReadError c.args.bytes.now) (sym c.from-in-Err-finish.ensures) (
+      c.requires,
+      kept_end c.args.bytes.now (state_of c.args.bytes.now (length c.args.bytes.now) c.loop-at.reader)
+          (all_taken c.args.bytes.now c.loop-at.at c.loop-at.reader c.loop-at-test.false c.loop-at.invariant.within c.loop-at.invariant.reached) c.in-Err-finish.ensures.no_memory,
+    )

@@ -10,26 +10,26 @@ use Rattle.sval_json_read.proofs.RunAnswers as answers
 use Rattle.sval_json_read.proofs.running.run_read.Goals as goal
 
 pub returns-clause-done : goal.returns-clause-done
-returns-clause-done g c = λ e. answers.done (form_of c.args.words.now) (g.I.Source.told c.args.input.now).left (g.K.Sink.told c.args.out.now) (g.K.Sink.told c.run.new.out) (c.run.ensures.done e)
+returns-clause-done g c = λ e. answers.done (form_of c.args.words.now) (g.I.Source.told c.args.input.now).left (g.K.Sink.told c.args.out.now) (g.K.Sink.told c.run.new.out) (c.run.ensures.ends.done e)
 
 pub returns-clause-not_utf8 : goal.returns-clause-not_utf8
 returns-clause-not_utf8 g c = λ e.
     on_both (form_of c.args.words.now) (g.I.Source.told c.args.input.now).left (runs.TakesFault read_terms c.run.result (g.K.Sink.told c.args.out.now) (g.K.Sink.told c.run.new.out)) IsNoUtf8 (λ input asked t. answers.is_no_utf8 t.why (sym e ∙ t.is) t.takes.due)
-    (c.run.ensures.finds (ap is_fault e))
+    (c.run.ensures.ends.finds (ap is_fault e))
 
 pub returns-clause-bad_json : goal.returns-clause-bad_json
 returns-clause-bad_json g c = λ e.
     on_both (form_of c.args.words.now) (g.I.Source.told c.args.input.now).left (runs.TakesFault read_terms c.run.result (g.K.Sink.told c.args.out.now) (g.K.Sink.told c.run.new.out)) HasBadJson (λ input asked t. answers.has_bad_json t.why (sym e ∙ t.is) t.takes.due)
-    (c.run.ensures.finds (ap is_fault e))
+    (c.run.ensures.ends.finds (ap is_fault e))
 
 pub returns-clause-comes : goal.returns-clause-comes
 returns-clause-comes g c = λ quiet.
-    on_both (form_of c.args.words.now) (g.I.Source.told c.args.input.now).left (OnShort (runs.IsStatusDue read_terms c.run.result)) (OnShort (IsStatusDue c.run.result)) (λ input asked due short. answers.status_due (due short)) (c.run.ensures.comes quiet)
+    on_both (form_of c.args.words.now) (g.I.Source.told c.args.input.now).left (OnShort (runs.IsStatusDue read_terms c.run.result)) (OnShort (IsStatusDue c.run.result)) (λ input asked due short. answers.status_due (due short)) (c.run.ensures.ends.comes quiet)
 
 pub returns-clause-leaves : goal.returns-clause-leaves
 returns-clause-leaves g c =
     on_both (form_of c.args.words.now) (g.I.Source.told c.args.input.now).left (OnShort (runs.MayLeave read_terms g.K.Sink.told c.args.out.now c.run.new.out)) (OnShort (MayLeave (g.K.Sink.told c.args.out.now) (g.K.Sink.told c.run.new.out)))
-    (λ input asked left short. answers.may_leave g.K.Sink.told c.args.out.now c.run.new.out input asked (left short)) c.run.ensures.leaves
+    (λ input asked left short. answers.may_leave g.K.Sink.told c.args.out.now c.run.new.out input asked (left short)) c.run.ensures.ends.leaves
 
 pub returns-clause-reports : goal.returns-clause-reports
-returns-clause-reports g c = answers.reports c.run.ensures.reports c.run.ensures.known
+returns-clause-reports g c = answers.reports c.run.ensures.reports c.run.ensures.ends.known

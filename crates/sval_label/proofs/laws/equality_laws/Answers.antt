@@ -1,6 +1,6 @@
 use Rattle.std.specs.Prelude.{refl}
 use Rattle.std.specs.Str.{bytes_eq}
-use Rattle.std.specs.Hash.{str, same_Alike, on_Alike}
+use Rattle.std.specs.Hash.{str, i128, same_Alike, on_Alike}
 use Rattle.std.specs.Ordering.{int_eq}
 use Rattle.std.proofs.lemmas.Slice.Eq.{bytes_eq-Decides}
 use Rattle.std.proofs.lemmas.Bool.Decides.{Decides-int_eq}
@@ -24,5 +24,5 @@ returns-clause-indexes_by_numbers c = record {
   equivalence = on_equiv (λ (index : Index). index.number) int_eq_equiv;
   order = on_total (λ (index : Index). index.number) int_cmp_total;
   agree = λ a b. refl;
-  hashed = λ writes. on_Alike (λ (index : Index). index.number) (same_Alike {E = int_eq} writes Decides-int_eq);
+  hashed = on_Alike (λ (index : Index). index.number) (same_Alike {E = int_eq} i128 Decides-int_eq);
 }

@@ -11,6 +11,10 @@ returns-in_err-check_event-clause-comes g c = λ has.
     let e = err_from_is_err_and c.from_residual.result c.from_residual.ensures.1 in
     rw (e.1, e.2) (only_no_memory (g.V.Value.emission c.args.event.now) c.in_err-check_event.field-0.0 has c.in_err-check_event.ensures.cause)
 
+-- an event that has a JSON is captured, unless memory is wanting
+pub want_of-requires : goal.want_of-requires
+want_of-requires g c = let has = c.in_ok-check_event.ensures.ok in c.in-Err.ensures.complete has.tree has.willing has.spells
+
 -- the event that is kept has a line
 pub invariant_of-self : goal.invariant_of-self
 invariant_of-self g c =

@@ -1,4 +1,4 @@
-use Rattle.std.specs.Prelude.{◌≡◌, ◌<◌, length, ℕ, List}
+use Rattle.std.specs.Prelude.{◌≡◌, ◌<◌, length, ℕ, List, Some}
 use Rattle.std.specs.Borrow.{Bor}
 use Rattle.std.proofs.Common.{rules, sym, ap, subst, ◌∙◌, arith, length-append}
 use Rattle.sval_label.specs.Grouped.{text_call}
@@ -19,7 +19,7 @@ returns-in-Err c =
     let same : step_at (text_call {T = Bor (List ℕ)} (λ text. text.now) c.args.part) due.Text before ≡ adds before (escaped text) due.Text =
     elim c.match-part.branch [ in-Borrowed w ↦ search rules | in-Borrowed-2 w ↦ search rules ] in
     subst (λ (step : Step). Does step c.refuse.result c.args.self.now c.refuse.new.self) (sym same)
-    (stops_writing (adds before (escaped text) due.Text) c.in-Err.field-0 (escaped c.as_bytes.result.now) c.self.inside.text c.write_escaped.new.sink
+    (stops_writing (adds before (escaped text) due.Text) c.in-Err.why (escaped c.as_bytes.result.now) c.self.inside.text c.write_escaped.new.sink
     c.args.self.now c.refuse.new.self c.refuse.result (record {}) c.in-Err.ensures has
     (sym (ap (λ (w : Writing). w.wants) c.self.view_is)) (ap (λ (w : Writing). w.wants) c.refuse.ensures.refused)
-    (ap (λ (w : Writing). w.why) c.refuse.ensures.refused) c.refuse.ensures.answer)
+    (ap (λ (w : Writing). w.why) c.refuse.ensures.refused ∙ ap Some c.want_of.ensures) c.refuse.ensures.answer)

@@ -1,4 +1,4 @@
-use Rattle.std.proofs.Common.{◌≡◌, ℕ, List, [], ◌∷◌, length, refl, ap, sym, true}
+use Rattle.std.proofs.Common.{◌≡◌, ℕ, List, [], ◌∷◌, length, refl, ap, sym, true, is_ok}
 use Rattle.sval_label.specs.Calls.{Call}
 use Rattle.sval_buffer.specs.Forest.{Becomes}
 use Rattle.sval_buffer.specs.Flat.{flat_part, flat_node}
@@ -25,20 +25,20 @@ kept : (n : ℕ) (m : Medium) (k : Keeping) → IsKept n (no_fragments_yet m k)
 kept n medium.Text k = tt
 kept n medium.Binary k = tt
 
-pub invariant_of-self-2 : goal.invariant_of-self-2
-invariant_of-self-2 g c =
+pub invariant_of-self : goal.invariant_of-self
+invariant_of-self g c =
     let h : Holds (g.N.CallStore.calls c.self.inside.named) c.self.inside.parts.items c.self.inside.places.items c.self.inside.in_fragments (forest_in c.args.self.now) = holds_it _ c.self.invariant (ap forest_in c.self.view_is) in
     let calls = g.N.CallStore.calls c.self.inside.named in
-    let e = was_pushed c.push.result _ _ c.push.ensures.items c.if-is_err.ensures.negation in
+    let e = was_pushed c.push.result _ _ c.push.ensures.items (ap is_ok c.in-Ok.is) in
     let p : Part = record { kind = no_fragments_yet c.args.medium c.args.keeping; holder = c.newest.result } in
     let now = holds_flagged (holds_added h p (no_fragments c.args.medium c.args.keeping) (one calls c.args.medium c.args.keeping) (own c.args.medium c.args.keeping) (newest_again c.newest.ensures c.self.view_is) (kept (length calls) c.args.medium c.args.keeping)) true in
     rw (e, c.empty.ensures) (tell now)
 
-pub returns : goal.returns
-returns g c =
+pub returns-in-Ok : goal.returns-in-Ok
+returns-in-Ok g c =
     let h : Holds (g.N.CallStore.calls c.self.inside.named) c.self.inside.parts.items c.self.inside.places.items c.self.inside.in_fragments (forest_in c.args.self.now) = holds_it _ c.self.invariant (ap forest_in c.self.view_is) in
     let calls = g.N.CallStore.calls c.self.inside.named in
-    let e = was_pushed c.push.result _ _ c.push.ensures.items c.if-is_err.ensures.negation in
+    let e = was_pushed c.push.result _ _ c.push.ensures.items (ap is_ok c.in-Ok.is) in
     let p : Part = record { kind = no_fragments_yet c.args.medium c.args.keeping; holder = c.newest.result } in
     let now = holds_flagged (holds_added h p (no_fragments c.args.medium c.args.keeping) (one calls c.args.medium c.args.keeping) (own c.args.medium c.args.keeping) (newest_again c.newest.ensures c.self.view_is) (kept (length calls) c.args.medium c.args.keeping)) true in
     ap Becomes (sym (rw (e, c.empty.ensures) now.is.view))

@@ -10,7 +10,7 @@ pub invariant_of-self-in-Ok : goal.invariant_of-self-in-Ok
 invariant_of-self-in-Ok g c =
     let h : Holds (g.N.CallStore.calls c.self.inside.named) c.self.inside.parts.items c.self.inside.places.items c.self.inside.in_fragments (forest_in c.args.self.now) = holds_it _ c.self.invariant (ap forest_in c.self.view_is) in
     let now = holds_container h c.in-Ok.ensures.extends c.in-Ok.ensures.kept (newest_again c.newest-holder.ensures c.self.view_is) (c.len-place.ensures ∙ c.self.inside.parts.ok.0) in
-    let e : c.push_reserved.new.self.items ≡ c.self.inside.parts.items ++ (named_container c.in-Ok.at c.newest-holder.result ∷ []) = c.push_reserved.ensures.items ∙ ap (λ (ps : List Part). ps ++ (named_container c.in-Ok.at c.newest-holder.result ∷ [])) c.reserve-else-is_err.ensures.items in
+    let e : c.push_reserved.new.self.items ≡ c.self.inside.parts.items ++ (named_container c.in-Ok.at c.newest-holder.result ∷ []) = c.push_reserved.ensures.items ∙ ap (λ (ps : List Part). ps ++ (named_container c.in-Ok.at c.newest-holder.result ∷ [])) c.reserve-2.ensures.items in
     let p : c.push_reserved-in-Ok.new.self.items ≡ c.self.inside.places.items ++ (c.len-place.result ∷ []) = c.push_reserved-in-Ok.ensures.items ∙ ap (λ (qs : List ℕ). qs ++ (c.len-place.result ∷ [])) c.reserve.ensures.items in
     rw (e, p) (tell now)
 
@@ -18,6 +18,6 @@ pub returns-in-Ok : goal.returns-in-Ok
 returns-in-Ok g c =
     let h : Holds (g.N.CallStore.calls c.self.inside.named) c.self.inside.parts.items c.self.inside.places.items c.self.inside.in_fragments (forest_in c.args.self.now) = holds_it _ c.self.invariant (ap forest_in c.self.view_is) in
     let now = holds_container h c.in-Ok.ensures.extends c.in-Ok.ensures.kept (newest_again c.newest-holder.ensures c.self.view_is) (c.len-place.ensures ∙ c.self.inside.parts.ok.0) in
-    let e : c.push_reserved.new.self.items ≡ c.self.inside.parts.items ++ (named_container c.in-Ok.at c.newest-holder.result ∷ []) = c.push_reserved.ensures.items ∙ ap (λ (ps : List Part). ps ++ (named_container c.in-Ok.at c.newest-holder.result ∷ [])) c.reserve-else-is_err.ensures.items in
+    let e : c.push_reserved.new.self.items ≡ c.self.inside.parts.items ++ (named_container c.in-Ok.at c.newest-holder.result ∷ []) = c.push_reserved.ensures.items ∙ ap (λ (ps : List Part). ps ++ (named_container c.in-Ok.at c.newest-holder.result ∷ [])) c.reserve-2.ensures.items in
     let p : c.push_reserved-in-Ok.new.self.items ≡ c.self.inside.places.items ++ (c.len-place.result ∷ []) = c.push_reserved-in-Ok.ensures.items ∙ ap (λ (qs : List ℕ). qs ++ (c.len-place.result ∷ [])) c.reserve.ensures.items in
     ap Becomes (sym (rw (e, p) now.is.view))
