@@ -14,6 +14,7 @@ const PRINTED: &str = "text_begin -\ntext_fragment_computed =3432\ntext_end\n";
 fn makes_printed_texts(rt: HostRuntime) -> Result<(), Fail> {
     let alloc = rt.alloc();
     makes(&rt, alloc, &Display::new(alloc, 42u8)?, PRINTED);
+    makes(&rt, alloc, &Display::new_borrowed(alloc, &42u8)?, PRINTED);
     let by_std = Display::new(alloc, StdDisplay { value: 42u8 })?;
     makes(&rt, alloc, &by_std, PRINTED);
     Ok(())

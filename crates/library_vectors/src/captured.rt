@@ -1,11 +1,12 @@
 //! What captured values make again, as the lines of a script.
 
-use crate::shown::{has_printed, makes, new_printer};
+use crate::shown::{has_printed, makes, new_printer, writes};
 use std::alloc::Global;
 use std::process::Abort;
 use std::test::Fail;
 use sval::{BinarySlice, MapSlice, Stream};
 use sval_buffer::{Value, ValueBuf, stream_to_value};
+use sval_check::check;
 use sval_core::Lent;
 use sval_ref::stream_ref;
 
@@ -58,6 +59,43 @@ fn makes_values_again(rt: HostRuntime) {
         &MapSlice::new(&no_pairs),
         "map_begin 0\nmap_end\n",
     );
+    let no_items: &[i32] = &[];
+    captures(&rt, alloc, &no_items, "seq_begin 0\nseq_end\n");
+    let none: Option<i32> = None;
+    captures(
+        &rt,
+        alloc,
+        &none,
+        "tag RUST_OPTION_NONE =4e6f6e65:VALUE_IDENT 0:VALUE_OFFSET\n",
+    );
+}
+
+#[test]
+fn captures_what_was_captured(rt: HostRuntime) -> Result<(), Fail> {
+    let alloc = rt.alloc();
+    let some = Some(42i32);
+    assert!(rt; check(alloc, &some).is_ok());
+    let buffer: ValueBuf<'_> = ValueBuf::collect(alloc, &some)?;
+    makes_again(&rt, alloc, &buffer, SOME);
+    let value: Value<'_> = buffer.to_value()?;
+    captures(&rt, alloc, &value, SOME);
+    Ok(())
+}
+
+/// Three sequences of sequences of numbers, of which the first is empty.
+const NUMBERS: &str = "[[],[[1,2,3],[4]],[[5,6],[7,8,9]]]";
+
+#[test]
+fn captures_sequences_in_sequences(rt: HostRuntime) -> Result<(), Fail> {
+    let alloc = rt.alloc();
+    let second = vec![in alloc; vec![in alloc; 1i32, 2, 3]?, vec![in alloc; 4]?]?;
+    let third = vec![in alloc; vec![in alloc; 5i32, 6]?, vec![in alloc; 7, 8, 9]?]?;
+    let numbers = vec![in alloc; Vec::new(alloc), second, third]?;
+    let buffer: ValueBuf<'_> = ValueBuf::collect(alloc, &numbers)?;
+    writes(&rt, alloc, &buffer, NUMBERS);
+    let again: ValueBuf<'_> = ValueBuf::collect(alloc, &buffer)?;
+    writes(&rt, alloc, &again, NUMBERS);
+    Ok(())
 }
 
 #[test]
@@ -67,6 +105,10 @@ fn hands_out_values(rt: HostRuntime) -> Result<(), Fail> {
     buffer.i32(42)?;
     let number: Value<'_> = buffer.to_value()?;
     makes(&rt, alloc, &number, "i32 42\n");
+    buffer.clear();
+    buffer.bool(true)?;
+    let truth: Value<'_> = buffer.to_value()?;
+    makes(&rt, alloc, &truth, "bool true\n");
     buffer.clear();
     let nothing: Value<'_> = buffer.into_value();
     makes(&rt, alloc, &nothing, "null\n");

@@ -1,13 +1,17 @@
-//! Tests of the library as a user calls it: what labels keep, what adapters and lowerings make, what readers answer,
-//! where values of a list end, what tokens keep, and what is captured and made again.
+//! Tests of the library as a user calls it: what labels keep, what adapters, functions and lowerings make, what readers
+//! answer, where values of a list end, what tokens keep, and what is collected, captured and made again.
 #![tactic(auto)]
 
 #[cfg(test)]
 mod adapters;
 #[cfg(test)]
+mod buffers;
+#[cfg(test)]
 mod captured;
 #[cfg(test)]
 mod examples;
+#[cfg(test)]
+mod functions;
 #[cfg(test)]
 mod labels;
 #[cfg(test)]
@@ -22,6 +26,8 @@ mod read;
 mod rendered;
 #[cfg(test)]
 mod shown;
+#[cfg(test)]
+mod targets;
 #[cfg(test)]
 mod tokens;
 #[cfg(test)]

@@ -6,18 +6,36 @@ use std::test::Fail;
 use sval::Stream;
 use sval_buffer::{Value, ValueBuf, stream_to_value_owned};
 
+/// A text that is the buffer's own.
+const TEXT: &str = "text_begin 3\ntext_fragment_computed =616263\ntext_end\n";
+
 #[test]
 fn owns_texts(rt: HostRuntime) -> Result<(), Fail> {
     let alloc = rt.alloc();
     let text = String::from_str(alloc, "abc")?;
     let owned: ValueBuf<'_> = stream_to_value_owned(alloc, &text)?;
     assert!(rt; owned.is_complete());
-    makes_again(
-        &rt,
-        alloc,
-        &owned,
-        "text_begin 3\ntext_fragment_computed =616263\ntext_end\n",
-    );
+    makes_again(&rt, alloc, &owned, TEXT);
+    let owned: ValueBuf<'_> = ValueBuf::collect_owned(alloc, &text)?;
+    makes_again(&rt, alloc, &owned, TEXT);
+    let captured: ValueBuf<'_> = ValueBuf::collect(alloc, &text)?;
+    match captured.into_owned() {
+        Ok(owned) => makes_again(&rt, alloc, &owned, TEXT),
+        Err(_) => assert!(rt; false),
+    }
+    Ok(())
+}
+
+#[test]
+fn owns_options(rt: HostRuntime) -> Result<(), Fail> {
+    let alloc = rt.alloc();
+    let some = Some(42i32);
+    let value: Value<'_> = Value::collect_owned(alloc, &some)?;
+    makes(&rt, alloc, &value, SOME);
+    let buffer: ValueBuf<'_> = ValueBuf::collect_owned(alloc, &some)?;
+    makes_again(&rt, alloc, &buffer, SOME);
+    let buffer: ValueBuf<'_> = stream_to_value_owned(alloc, &some)?;
+    makes_again(&rt, alloc, &buffer, SOME);
     Ok(())
 }
 

@@ -8,7 +8,7 @@ use sval::{BinaryArray, BinarySlice, Display, MapSlice, Render, StdDisplay};
 
 /// A value that can't be printed.
 #[derive(Drop)]
-struct Unprintable;
+pub(crate) struct Unprintable;
 
 impl fmt::Display for Unprintable {
     fn fmt<W: fmt::Write>(&self, _f: &mut fmt::Formatter<W>) -> fmt::Result {
@@ -36,6 +36,26 @@ fn appends_what_values_print(rt: HostRuntime) -> Result<(), Fail> {
     assert_eq!(rt;
         text.as_str(),
         ":trueé0-170141183460469231731687303715884105728a bc742"
+    );
+    Ok(())
+}
+
+#[test]
+fn appends_each_type_of_numbers(rt: HostRuntime) -> Result<(), Fail> {
+    let mut text = String::new(rt.alloc());
+    append(&rt, &mut text, &u8::MAX);
+    append(&rt, &mut text, &1u16);
+    append(&rt, &mut text, &2u32);
+    append(&rt, &mut text, &3u64);
+    append(&rt, &mut text, &u128::MAX);
+    append(&rt, &mut text, &i8::MIN);
+    append(&rt, &mut text, &-1i16);
+    append(&rt, &mut text, &-2i32);
+    append(&rt, &mut text, &-3i64);
+    append(&rt, &mut text, &4i128);
+    assert_eq!(rt;
+        text.as_str(),
+        "255123340282366920938463463374607431768211455-128-1-2-34"
     );
     Ok(())
 }

@@ -1,7 +1,7 @@
 //! The JSON of values of std and of adapters.
 
 use crate::shown::writes;
-use std::collections::BTreeMap;
+use std::collections::{BTreeMap, BTreeSet, LinkedList, VecDeque};
 use std::test::Fail;
 use sval::{BinarySlice, Null};
 
@@ -49,4 +49,119 @@ fn writes_maps_in_the_order_of_their_keys(rt: HostRuntime) -> Result<(), Fail> {
     map.insert(-1, true)?;
     writes(&rt, rt.alloc(), &map, "{\"-1\":true,\"2\":false}");
     Ok(())
+}
+
+#[test]
+fn writes_collections_of_std(rt: HostRuntime) -> Result<(), Fail> {
+    let alloc = rt.alloc();
+    let mut queue = VecDeque::new(alloc);
+    queue.push_back(2u8)?;
+    queue.push_front(1u8)?;
+    writes(&rt, alloc, &queue, "[1,2]");
+    let mut list = LinkedList::new(alloc);
+    list.push_back("a")?;
+    list.push_back("b")?;
+    writes(&rt, alloc, &list, "[\"a\",\"b\"]");
+    let mut set = BTreeSet::new(alloc);
+    set.insert(2i16)?;
+    set.insert(-1)?;
+    writes(&rt, alloc, &set, "[-1,2]");
+    writes(&rt, alloc, &Box::new(alloc, 'c')?, "\"c\"");
+    Ok(())
+}
+
+#[test]
+fn writes_tuples_of_up_to_eight(rt: HostRuntime) {
+    let alloc = rt.alloc();
+    writes(&rt, alloc, &(), "null");
+    writes(&rt, alloc, &("a",), "[\"a\"]");
+    writes(&rt, alloc, &(1u8, 2i8), "[1,2]");
+    writes(&rt, alloc, &(1u8, 2u8, 3u8, true), "[1,2,3,true]");
+    writes(&rt, alloc, &(1u8, 2u8, 3u8, 4u8, true), "[1,2,3,4,true]");
+    writes(
+        &rt,
+        alloc,
+        &(1u8, 2u8, 3u8, 4u8, 5u8, true),
+        "[1,2,3,4,5,true]",
+    );
+    writes(
+        &rt,
+        alloc,
+        &(1u8, 2u8, 3u8, 4u8, 5u8, 6u8, true),
+        "[1,2,3,4,5,6,true]",
+    );
+    writes(
+        &rt,
+        alloc,
+        &(1u8, 2u8, 3u8, 4u8, 5u8, 6u8, 7u8, true),
+        "[1,2,3,4,5,6,7,true]",
+    );
+}
+
+#[test]
+fn writes_tuples_of_up_to_twelve(rt: HostRuntime) {
+    let alloc = rt.alloc();
+    writes(
+        &rt,
+        alloc,
+        &(1u8, 2u8, 3u8, 4u8, 5u8, 6u8, 7u8, 8u8, true),
+        "[1,2,3,4,5,6,7,8,true]",
+    );
+    writes(
+        &rt,
+        alloc,
+        &(1u8, 2u8, 3u8, 4u8, 5u8, 6u8, 7u8, 8u8, 9u8, true),
+        "[1,2,3,4,5,6,7,8,9,true]",
+    );
+    writes(
+        &rt,
+        alloc,
+        &(1u8, 2u8, 3u8, 4u8, 5u8, 6u8, 7u8, 8u8, 9u8, 10u8, true),
+        "[1,2,3,4,5,6,7,8,9,10,true]",
+    );
+    writes(
+        &rt,
+        alloc,
+        &(
+            1u8, 2u8, 3u8, 4u8, 5u8, 6u8, 7u8, 8u8, 9u8, 10u8, 11u8, true,
+        ),
+        "[1,2,3,4,5,6,7,8,9,10,11,true]",
+    );
+}
+
+#[test]
+fn writes_tuples_of_up_to_sixteen(rt: HostRuntime) {
+    let alloc = rt.alloc();
+    writes(
+        &rt,
+        alloc,
+        &(
+            1u8, 2u8, 3u8, 4u8, 5u8, 6u8, 7u8, 8u8, 9u8, 10u8, 11u8, 12u8, true,
+        ),
+        "[1,2,3,4,5,6,7,8,9,10,11,12,true]",
+    );
+    writes(
+        &rt,
+        alloc,
+        &(
+            1u8, 2u8, 3u8, 4u8, 5u8, 6u8, 7u8, 8u8, 9u8, 10u8, 11u8, 12u8, 13u8, true,
+        ),
+        "[1,2,3,4,5,6,7,8,9,10,11,12,13,true]",
+    );
+    writes(
+        &rt,
+        alloc,
+        &(
+            1u8, 2u8, 3u8, 4u8, 5u8, 6u8, 7u8, 8u8, 9u8, 10u8, 11u8, 12u8, 13u8, 14u8, true,
+        ),
+        "[1,2,3,4,5,6,7,8,9,10,11,12,13,14,true]",
+    );
+    writes(
+        &rt,
+        alloc,
+        &(
+            1u8, 2u8, 3u8, 4u8, 5u8, 6u8, 7u8, 8u8, 9u8, 10u8, 11u8, 12u8, 13u8, 14u8, 15u8, true,
+        ),
+        "[1,2,3,4,5,6,7,8,9,10,11,12,13,14,15,true]",
+    );
 }

@@ -180,8 +180,49 @@ fn lends_what_it_joins(rt: HostRuntime) -> Result<(), Fail> {
 
     let mut binary = BinaryBuf::from_bytes(rt.alloc(), b"abc");
     binary.push_fragment_computed(b"def")?;
+    let again = script_of(rt.alloc(), &binary)?;
+    let want = "binary_begin 6\nbinary_fragment =616263646566\nbinary_end\n";
+    shows(&rt, again.as_str(), want);
     let lent = lent_script_of(rt.alloc(), &binary)?;
     let want = "binary_begin 6\nbinary_fragment_computed =616263646566\nbinary_end\n";
     shows(&rt, lent.as_str(), want);
+    Ok(())
+}
+
+/// Fragments that are pushed, with spaces between them, and the calls that a text of them makes and lends.
+const PUSHED: [(&'static str, &'static str, &'static str); 3] = [
+    (
+        "123",
+        "text_begin 3\ntext_fragment =313233\ntext_end\n",
+        "text_begin 3\ntext_fragment =313233\ntext_end\n",
+    ),
+    (
+        "123 () data",
+        "text_begin 9\ntext_fragment =313233282964617461\ntext_end\n",
+        "text_begin 9\ntext_fragment_computed =313233282964617461\ntext_end\n",
+    ),
+    (
+        "a ",
+        "text_begin 1\ntext_fragment =61\ntext_end\n",
+        "text_begin 1\ntext_fragment_computed =61\ntext_end\n",
+    ),
+];
+
+/// A fragment alone is lent as it came; one behind a text makes it a copy.
+#[test]
+fn lends_what_it_borrows(rt: HostRuntime) -> Result<(), Fail> {
+    let alloc = rt.alloc();
+    for (fragments, own, lent) in PUSHED {
+        let mut text = TextBuf::new(alloc);
+        for fragment in fragments.split(' ') {
+            text.push_fragment(fragment)?;
+        }
+        shows(&rt, script_of(alloc, &text)?.as_str(), own);
+        shows(&rt, lent_script_of(alloc, &text)?.as_str(), lent);
+    }
+    let mut binary = BinaryBuf::new(alloc);
+    binary.push_fragment(b"abc")?;
+    let want = "binary_begin 3\nbinary_fragment =616263\nbinary_end\n";
+    shows(&rt, lent_script_of(alloc, &binary)?.as_str(), want);
     Ok(())
 }

@@ -5,7 +5,7 @@ use std::alloc::Global;
 use std::process::Abort;
 use std::test::Fail;
 use sval_buffer::ValueBuf;
-use sval_core::{Call, Index, Label, Name, Stream, tags};
+use sval_core::{Call, Index, Label, Name, Stream, Tag, tags};
 
 /// Captures these calls in a buffer that held others, and compares what it makes again with them, as `Debug` lists them.
 fn makes_again<'c>(
@@ -87,4 +87,76 @@ fn forgets_names(rt: HostRuntime) -> Result<(), Fail> {
     ];
     makes_again(&rt, rt.alloc(), &[], &calls)?;
     makes_again(&rt, rt.alloc(), &calls, &later)
+}
+
+/// A tag of its own.
+const TEST: Tag = Tag { text: "test" };
+
+/// A name with that tag.
+fn own_name<'c>(label: &'c Label<'c>, index: &'c Index) -> Name<'c> {
+    Name {
+        tag: Some(&TEST),
+        label: Some(label),
+        index: Some(index),
+    }
+}
+
+/// Hints around and inside a sequence, and an enum that holds a tag.
+#[test]
+fn makes_own_tags_again(rt: HostRuntime) -> Result<(), Fail> {
+    let (label, index) = (Label::new("A"), Index::new(1));
+    let own = own_name(&label, &index);
+    let calls = [
+        Call::TagHint(&TEST),
+        Call::SeqBegin(Some(2)),
+        Call::TagHint(&TEST),
+        Call::SeqValueBegin,
+        Call::Bool(false),
+        Call::SeqValueEnd,
+        Call::SeqValueBegin,
+        Call::Bool(true),
+        Call::SeqValueEnd,
+        Call::SeqEnd,
+        Call::TagHint(&TEST),
+        Call::EnumBegin(own),
+        Call::Tag(own),
+        Call::EnumEnd(own),
+    ];
+    makes_again(&rt, rt.alloc(), &[], &calls)
+}
+
+/// A record, a tuple and a record tuple of two fields, with a tag of their own and on their first fields.
+#[test]
+fn makes_own_tags_of_fields_again(rt: HostRuntime) -> Result<(), Fail> {
+    let (a, b) = (Label::new("a"), Label::new("b"));
+    let (zero, one) = (Index::new(0), Index::new(1));
+    let own = own_name(&a, &one);
+    let tag = Some(&TEST);
+    let calls = [
+        Call::RecordBegin(own, Some(2)),
+        Call::RecordValueBegin(tag, &a),
+        Call::Bool(false),
+        Call::RecordValueEnd(tag, &a),
+        Call::RecordValueBegin(None, &b),
+        Call::Bool(true),
+        Call::RecordValueEnd(None, &b),
+        Call::RecordEnd(own),
+        Call::TupleBegin(own, Some(2)),
+        Call::TupleValueBegin(tag, &zero),
+        Call::Bool(false),
+        Call::TupleValueEnd(tag, &zero),
+        Call::TupleValueBegin(None, &one),
+        Call::Bool(true),
+        Call::TupleValueEnd(None, &one),
+        Call::TupleEnd(own),
+        Call::RecordTupleBegin(own, Some(2)),
+        Call::RecordTupleValueBegin(tag, &a, &zero),
+        Call::Bool(false),
+        Call::RecordTupleValueEnd(tag, &a, &zero),
+        Call::RecordTupleValueBegin(None, &b, &one),
+        Call::Bool(true),
+        Call::RecordTupleValueEnd(None, &b, &one),
+        Call::RecordTupleEnd(own),
+    ];
+    makes_again(&rt, rt.alloc(), &[], &calls)
 }

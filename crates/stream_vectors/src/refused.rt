@@ -6,7 +6,7 @@ use crate::cases::shows;
 use std::alloc::{AllocError, Global};
 use std::process::Abort;
 use std::test::Fail;
-use sval_buffer::{BinaryBuf, TextBuf, ValueBuf};
+use sval_buffer::{BinaryBuf, TextBuf, Value as Captured, ValueBuf};
 use sval_check::{CheckError, check};
 use sval_core::{Lent, Stream, Value};
 use sval_json::{Error, stream_to_json_str, stream_to_string, stream_to_vec};
@@ -48,11 +48,15 @@ fn is_unwritten<'v, V: Value<'v, Lent<'v>>>(
     Ok(())
 }
 
+/// A map with a sequence as its key.
+const SEQ_AS_KEY: &'static [u8] = b"map_begin -\nmap_key_begin\nseq_begin -\nseq_end\nmap_key_end\n\
+    map_value_begin\nnull\nmap_value_end\nmap_end\n";
+
 #[test]
 fn tells_why_there_is_no_json(rt: HostRuntime) -> Result<(), Fail> {
     let want = "Generic: an error occurred serializing a value to JSON";
     is_unwritten(&rt, rt.alloc(), &Refusing {}, want)?;
-    let seq_as_key = Script::read(rt.alloc(), b"map_begin -\nmap_key_begin\nseq_begin -\n")?;
+    let seq_as_key = Script::read(rt.alloc(), SEQ_AS_KEY)?;
     let want = "InvalidKey: attempt to serialize a non-string key";
     is_unwritten(&rt, rt.alloc(), &seq_as_key, want)?;
     Ok(())
@@ -76,6 +80,10 @@ fn tells_that_a_value_refused(rt: HostRuntime) -> Result<(), Fail> {
     let refusing = Refusing {};
     let captured: Result<ValueBuf<'_>, sval_buffer::Error> = ValueBuf::collect(alloc, &refusing);
     shows(&rt, why_uncollected(alloc, captured)?.as_str(), want);
+    let captured: Result<Captured<'_>, sval_buffer::Error> = Captured::collect(alloc, &refusing);
+    shows(&rt, why_uncollected(alloc, captured)?.as_str(), want);
+    let owned: Result<Captured<'_>, sval_buffer::Error> = Captured::collect_owned(alloc, &refusing);
+    shows(&rt, why_uncollected(alloc, owned)?.as_str(), want);
     let text = why_uncollected(alloc, TextBuf::collect(alloc, &refusing))?;
     shows(&rt, text.as_str(), want);
     let binary = why_uncollected(alloc, BinaryBuf::collect(alloc, &refusing))?;

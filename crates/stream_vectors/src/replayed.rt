@@ -190,6 +190,46 @@ tagged_begin RUST_UNIT =6b696e64 -
 tagged_end RUST_UNIT =6b696e64 -
 complete: true, lent alike: true
 
+seq_begin 2
+seq_value_begin
+bool false
+seq_value_end
+seq_value_begin
+bool true
+seq_value_end
+seq_end
+--
+the same
+complete: true, lent alike: true
+
+map_begin 2
+map_key_begin
+i32 0
+map_key_end
+map_value_begin
+bool false
+map_value_end
+map_key_begin
+i32 1
+map_key_end
+map_value_begin
+bool true
+map_value_end
+map_end
+--
+the same
+complete: true, lent alike: true
+
+enum_begin - =456e756d -
+enum_end - =456e756d -
+record_begin - =5265636f7264 - 0
+record_end - =5265636f7264 -
+tuple_begin - =5475706c65 - 0
+tuple_end - =5475706c65 -
+--
+the same
+complete: true, lent alike: true
+
 binary_begin -
 tag_hint NUMBER
 binary_fragment =6162
@@ -291,16 +331,30 @@ fn makes_calls_again(rt: HostRuntime) -> Result<(), Fail> {
     agree(&rt, rt.alloc(), Look::Captured, NAMES)
 }
 
-/// A sequence of one item.
-const SEQ: &'static str = "seq_begin -\nseq_value_begin\nnull\nseq_value_end\nseq_end\n";
+/// Values, each of which is captured of what was captured: a sequence, a number, a record tuple, a tuple and an enum.
+const VALUES: [&'static str; 5] = [
+    "seq_begin -\nseq_value_begin\nnull\nseq_value_end\nseq_end\n",
+    "i32 42\n",
+    "record_tuple_begin - - - 2\n\
+     record_tuple_value_begin - =61 0\ni32 42\nrecord_tuple_value_end - =61 0\n\
+     record_tuple_value_begin - =62 1\nbool true\nrecord_tuple_value_end - =62 1\n\
+     record_tuple_end - - -\n",
+    "tuple_begin - - - 2\n\
+     tuple_value_begin - 0\ni32 42\ntuple_value_end - 0\n\
+     tuple_value_begin - 1\nbool true\ntuple_value_end - 1\n\
+     tuple_end - - -\n",
+    "enum_begin - =45 -\ntag - =41 0\nenum_end - =45 -\n",
+];
 
 #[test]
 fn collects_values(rt: HostRuntime) -> Result<(), Fail> {
-    let script = Script::read(rt.alloc(), SEQ.as_bytes())?;
-    let buffer = captured(rt.alloc(), &script);
-    let again: ValueBuf<'_> = ValueBuf::collect(rt.alloc(), &buffer)?;
-    assert!(rt; again.is_complete());
-    shows(&rt, script_of(rt.alloc(), &again)?.as_str(), SEQ);
+    for lines in VALUES {
+        let script = Script::read(rt.alloc(), lines.as_bytes())?;
+        let buffer = captured(rt.alloc(), &script);
+        let again: ValueBuf<'_> = ValueBuf::collect(rt.alloc(), &buffer)?;
+        assert!(rt; again.is_complete());
+        shows(&rt, script_of(rt.alloc(), &again)?.as_str(), lines);
+    }
     Ok(())
 }
 

@@ -4,6 +4,7 @@ use crate::cases::shows;
 use crate::written::told;
 use std::alloc::Global;
 use std::test::Fail;
+use sval_json::escape::first_escape;
 use sval_json::{
     CountSink, FaultySink, FixedSink, JsonStr, JsonString, TrickleSink, VecSink,
     stream_to_fmt_write, stream_to_io_write, stream_to_json_str, stream_to_string, stream_to_vec,
@@ -44,8 +45,9 @@ fn takes_one_byte_a_call_and_counts(rt: HostRuntime) -> Result<(), Fail> {
 fn fitted(alloc: Global, buffer: &mut [u8]) -> Result<String, Fail> {
     let mut sink = FixedSink::new(buffer);
     let answer = stream_to_io_write(&mut sink, &JsonStr::new(FIELD));
-    let seen = told(alloc, sink.as_slice(), answer)?;
-    Ok(format!(in alloc; "{seen} {}", sink.room())?)
+    let room = sink.room();
+    let seen = told(alloc, sink.into_slice(), answer)?;
+    Ok(format!(in alloc; "{seen} {room}")?)
 }
 
 #[test]
@@ -94,5 +96,41 @@ fn writes_the_same_to_sinks(rt: HostRuntime) -> Result<(), Fail> {
     let seen = told(rt.alloc(), short.as_slice(), answer)?;
     let want = "Generic: an error occurred serializing a value to JSON, after `{\"field_0\"`";
     shows(&rt, seen.as_str(), want);
+    Ok(())
+}
+
+/// Texts, and the place of the first byte of each that is escaped, or the length where none is. The lengths are those at
+/// which bytes are looked through in wider steps.
+const ESCAPES: &'static str = r#"0:
+0:"
+1:a\
+2:ab
+3:abc"
+3:é?\
+7:abcdefg\
+8:abcdefgh
+15:abcdefghijklmno"
+16:abcdefghijklmnop
+30:abcdefghijklmnopqrstuvwxyzabcd"
+31:abcdefghijklmnopqrstuvwxyzabcde
+32:abcdefghijklmnopqrstuvwxyzabcdef\
+33:abcdefghijklmnopqrstuvwxyzabcdefg
+63:abcdefghijklmnopqrstuvwxyzabcdefabcdefghijklmnopqrstuvwxyzabcde"\
+64:abcdefghijklmnopqrstuvwxyzabcdefabcdefghijklmnopqrstuvwxyzabcdef
+66:abcdefghijklmnopqrstuvwxyzabcdefabcdefghijklmnopqrstuvwxyzabcdefgh""#;
+
+#[test]
+fn finds_the_first_byte_to_escape(rt: HostRuntime) -> Result<(), Fail> {
+    for row in ESCAPES.lines() {
+        let (place, text) = row.split_once(':').ok_or("a row has no colon")?;
+        assert_eq!(rt;
+            first_escape(text.as_bytes()),
+            place.parse::<usize>()?,
+            "{text}"
+        );
+    }
+    for (bytes, place) in [(b"ab\n".as_slice(), 2), (b"\x1f", 0), (b"\x7f ", 2)] {
+        assert_eq!(rt; first_escape(bytes), place);
+    }
     Ok(())
 }

@@ -223,6 +223,108 @@ $ sval_cbor =
 $ sval_cbor =ff
 ~ 17
 
+< record_begin - - - 3
+<| record_value_begin - =|600 33|
+< text_begin -
+<| text_fragment =|600 33|
+<| text_fragment_computed =|600 33|
+< text_end
+<| record_value_end - =|600 33|
+< record_value_begin - =34
+< tagged_begin NUMBER - -
+< text_begin 300
+<| text_fragment =|600 33|
+< text_end
+< tagged_end NUMBER - -
+< record_value_end - =34
+< record_value_begin - =35
+< enum_begin - - -
+<| tagged_begin - =|600 33| -
+< null
+<| tagged_end - =|600 33| -
+< enum_end - - -
+< record_value_end - =35
+< record_end - - -
+$ sval_cbor
+! attempt to write a number that is no whole number of 128 bits
+~ 15
+
+< record_begin - - - 2
+<| record_value_begin - =|600 33|
+< text_begin -
+<| text_fragment =|600 33|
+<| text_fragment_computed =|600 33|
+< text_end
+<| record_value_end - =|600 33|
+< record_value_begin - =35
+< enum_begin - - -
+<| tagged_begin - =|600 33| -
+< null
+<| tagged_end - =|600 33| -
+< enum_end - - -
+< record_value_end - =35
+< record_end - - -
+$ sval_cbor
+>x bf79012c
+>* 300 33
+>x 790258
+>* 600 33
+>x 6135bf79012c
+>* 300 33
+>x f6ffff
+~ 0
+
+< record_begin - - - 3
+<| record_value_begin - =|140000 33|
+< text_begin -
+<| text_fragment =|140000 33|
+<| text_fragment_computed =|140000 33|
+< text_end
+<| record_value_end - =|140000 33|
+< record_value_begin - =34
+< tagged_begin NUMBER - -
+< text_begin 70000
+<| text_fragment =|140000 33|
+< text_end
+< tagged_end NUMBER - -
+< record_value_end - =34
+< record_value_begin - =35
+< enum_begin - - -
+<| tagged_begin - =|140000 33| -
+< null
+<| tagged_end - =|140000 33| -
+< enum_end - - -
+< record_value_end - =35
+< record_end - - -
+$ sval_cbor
+! attempt to write a number that is no whole number of 128 bits
+~ 15
+
+< record_begin - - - 2
+<| record_value_begin - =|140000 33|
+< text_begin -
+<| text_fragment =|140000 33|
+<| text_fragment_computed =|140000 33|
+< text_end
+<| record_value_end - =|140000 33|
+< record_value_begin - =35
+< enum_begin - - -
+<| tagged_begin - =|140000 33| -
+< null
+<| tagged_end - =|140000 33| -
+< enum_end - - -
+< record_value_end - =35
+< record_end - - -
+$ sval_cbor
+>x bf7a00011170
+>* 70000 33
+>x 7a000222e0
+>* 140000 33
+>x 6135bf7a00011170
+>* 70000 33
+>x f6ffff
+~ 0
+
 $ sval_cbor
 ! the input is longer than 16777216 bytes
 * 11"#;

@@ -175,6 +175,110 @@ $ sval_cbor_read json
 >. [1,2]
 = 0
 
+<x a179012c
+<* 300 33
+<x 8379012c
+<* 300 33
+<x c259012c
+<* 299 00
+<x 0759012c
+<* 300 33
+$ sval_cbor_read calls
+> map_begin -
+> map_key_begin
+> text_begin 300
+>| text_fragment =|600 33|
+> text_end
+> map_key_end
+> map_value_begin
+> seq_begin -
+> seq_value_begin
+> text_begin 300
+>| text_fragment =|600 33|
+> text_end
+> seq_value_end
+> seq_value_begin
+> u128 7
+> seq_value_end
+> seq_value_begin
+> binary_begin 300
+>| binary_fragment =|600 33|
+> binary_end
+> seq_value_end
+> seq_end
+> map_value_end
+> map_end
+~ 0
+
+<x a179012c
+<* 300 33
+<x 8279012c
+<* 300 33
+<x c259012c
+<* 299 00
+<x 07
+$ sval_cbor_read json
+>|. {"|300 33|":["|300 33|",7]}
+~ 0
+
+<x c259012c
+<* 300 33
+$ sval_cbor_read json
+! not one CBOR item of this profile
+~ 16
+
+<x a17a00011170
+<* 70000 33
+<x 837a00011170
+<* 70000 33
+<x c25a00011170
+<* 69999 00
+<x 075a00011170
+<* 70000 33
+$ sval_cbor_read calls
+> map_begin -
+> map_key_begin
+> text_begin 70000
+>| text_fragment =|140000 33|
+> text_end
+> map_key_end
+> map_value_begin
+> seq_begin -
+> seq_value_begin
+> text_begin 70000
+>| text_fragment =|140000 33|
+> text_end
+> seq_value_end
+> seq_value_begin
+> u128 7
+> seq_value_end
+> seq_value_begin
+> binary_begin 70000
+>| binary_fragment =|140000 33|
+> binary_end
+> seq_value_end
+> seq_end
+> map_value_end
+> map_end
+~ 0
+
+<x a17a00011170
+<* 70000 33
+<x 827a00011170
+<* 70000 33
+<x c25a00011170
+<* 69999 00
+<x 07
+$ sval_cbor_read json
+>|. {"|70000 33|":["|70000 33|",7]}
+~ 0
+
+<x c25a00011170
+<* 70000 33
+$ sval_cbor_read json
+! not one CBOR item of this profile
+~ 16
+
 $ sval_cbor_read json
 ! the input is longer than 16777216 bytes
 * 11

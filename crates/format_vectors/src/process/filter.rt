@@ -231,6 +231,68 @@ $ sval_filter keep a
 >. -1
 = 0
 
+< record_begin - - - 3
+<| record_value_begin - =|600 33|
+< text_begin -
+<| text_fragment =|600 33|
+<| text_fragment_computed =|600 33|
+< text_end
+<| record_value_end - =|600 33|
+< record_value_begin - =34
+< tagged_begin NUMBER - -
+< text_begin 300
+<| text_fragment =|600 33|
+< text_end
+< tagged_end NUMBER - -
+< record_value_end - =34
+< record_value_begin - =35
+< enum_begin - - -
+<| tagged_begin - =|600 33| -
+< null
+<| tagged_end - =|600 33| -
+< enum_end - - -
+< record_value_end - =35
+< record_end - - -
+$ sval_filter drop
+$* 300 33
+>|. {"4":|300 33|,"5":{"|300 33|":null}}
+~ 0
+$ sval_filter keep 6
+$* 300 33
+>|. {"|300 33|":"|300 33||300 33|"}
+~ 0
+
+< record_begin - - - 3
+<| record_value_begin - =|140000 33|
+< text_begin -
+<| text_fragment =|140000 33|
+<| text_fragment_computed =|140000 33|
+< text_end
+<| record_value_end - =|140000 33|
+< record_value_begin - =34
+< tagged_begin NUMBER - -
+< text_begin 70000
+<| text_fragment =|140000 33|
+< text_end
+< tagged_end NUMBER - -
+< record_value_end - =34
+< record_value_begin - =35
+< enum_begin - - -
+<| tagged_begin - =|140000 33| -
+< null
+<| tagged_end - =|140000 33| -
+< enum_end - - -
+< record_value_end - =35
+< record_end - - -
+$ sval_filter drop
+$* 70000 33
+>|. {"4":|70000 33|,"5":{"|70000 33|":null}}
+~ 0
+$ sval_filter keep 6
+$* 70000 33
+>|. {"|70000 33|":"|70000 33||70000 33|"}
+~ 0
+
 $ sval_filter drop a.c b
 ! the input is longer than 16777216 bytes
 * 11"#;

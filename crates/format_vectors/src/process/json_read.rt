@@ -172,6 +172,66 @@ $ sval_json_read calls
 > seq_end
 ~ 0
 
+<|. {"|300 33|":["|300 33|\n",|300 33|]}
+$ sval_json_read json
+>|. {"|300 33|":["|300 33|\n",|300 33|]}
+~ 0
+$ sval_json_read calls
+> map_begin -
+> map_key_begin
+> text_begin 300
+>| text_fragment =|600 33|
+> text_end
+> map_key_end
+> map_value_begin
+> seq_begin -
+> seq_value_begin
+> text_begin 301
+>| text_fragment =|600 33|0a
+> text_end
+> seq_value_end
+> seq_value_begin
+> tagged_begin NUMBER - -
+> text_begin 300
+>| text_fragment =|600 33|
+> text_end
+> tagged_end NUMBER - -
+> seq_value_end
+> seq_end
+> map_value_end
+> map_end
+~ 0
+
+<|. {"|70000 33|":["|70000 33|\n",|70000 33|]}
+$ sval_json_read json
+>|. {"|70000 33|":["|70000 33|\n",|70000 33|]}
+~ 0
+$ sval_json_read calls
+> map_begin -
+> map_key_begin
+> text_begin 70000
+>| text_fragment =|140000 33|
+> text_end
+> map_key_end
+> map_value_begin
+> seq_begin -
+> seq_value_begin
+> text_begin 70001
+>| text_fragment =|140000 33|0a
+> text_end
+> seq_value_end
+> seq_value_begin
+> tagged_begin NUMBER - -
+> text_begin 70000
+>| text_fragment =|140000 33|
+> text_end
+> tagged_end NUMBER - -
+> seq_value_end
+> seq_end
+> map_value_end
+> map_end
+~ 0
+
 $ sval_json_read json
 ! the input is longer than 16777216 bytes
 * 11"#;

@@ -100,3 +100,39 @@ fn variants_are_their_names(rt: HostRuntime) -> std::result::Result<(), Fail> {
     shows(&rt, stream_to_string(alloc, &Level::Debug), "\"Debug\"");
     Ok(())
 }
+
+/// A variant without fields, one with a value, and one with fields.
+const VARIANTS: [&str; 3] = [
+    "enum_begin - =5061796d656e74:VALUE_IDENT -\n\
+     tag - =4f70656e:VALUE_IDENT 0:VALUE_OFFSET\n\
+     enum_end - =5061796d656e74:VALUE_IDENT -\n",
+    "enum_begin - =5061796d656e74:VALUE_IDENT -\n\
+     tagged_begin - =5472616e73666572:VALUE_IDENT 1:VALUE_OFFSET\n\
+     text_begin 1\ntext_fragment =72\ntext_end\n\
+     tagged_end - =5472616e73666572:VALUE_IDENT 1:VALUE_OFFSET\n\
+     enum_end - =5061796d656e74:VALUE_IDENT -\n",
+    "enum_begin - =5061796d656e74:VALUE_IDENT -\n\
+     record_tuple_begin - =43617264:VALUE_IDENT 2:VALUE_OFFSET 2\n\
+     record_tuple_value_begin - =646967697473:VALUE_IDENT 0:VALUE_OFFSET\n\
+     u16 7\n\
+     record_tuple_value_end - =646967697473:VALUE_IDENT 0:VALUE_OFFSET\n\
+     record_tuple_value_begin - =63686172676564:VALUE_IDENT 1:VALUE_OFFSET\n\
+     bool false\n\
+     record_tuple_value_end - =63686172676564:VALUE_IDENT 1:VALUE_OFFSET\n\
+     record_tuple_end - =43617264:VALUE_IDENT 2:VALUE_OFFSET\n\
+     enum_end - =5061796d656e74:VALUE_IDENT -\n",
+];
+
+#[test]
+fn variants_stand_in_their_enum(rt: HostRuntime) -> std::result::Result<(), Fail> {
+    let alloc = rt.alloc();
+    makes(&rt, alloc, &Payment::Open, VARIANTS[0]);
+    let transfer = Payment::Transfer(String::from_str(alloc, "r")?);
+    makes(&rt, alloc, &transfer, VARIANTS[1]);
+    let card = Payment::Card {
+        digits: 7,
+        charged: false,
+    };
+    makes(&rt, alloc, &card, VARIANTS[2]);
+    Ok(())
+}
