@@ -71,11 +71,13 @@ fn try_streams<R: io::Read + Drop>(
 }
 
 /// The room of the output and how it fails, the room of the third device, and what is answered, written and told.
-const OUTPUTS: [(usize, io::ErrorKind, usize, &'static str); 4] = [
+const OUTPUTS: [(usize, io::ErrorKind, usize, &'static str); 6] = [
     (0, io::ErrorKind::BrokenPipe, 100, "8 |write fault\n"),
     (0, io::ErrorKind::StorageFull, 3, "8 |wri"),
     (3, io::ErrorKind::StorageFull, 0, "8 [tr|"),
     (5, io::ErrorKind::BrokenPipe, 0, "8 [true|"),
+    (0, io::ErrorKind::Interrupted, 100, "8 |write fault\n"),
+    (3, io::ErrorKind::Interrupted, 0, "8 [tr|"),
 ];
 
 /// An output that is closed, or full after some bytes, and a third device that takes nothing or little; and an input
