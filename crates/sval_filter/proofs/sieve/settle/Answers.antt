@@ -12,4 +12,4 @@ pub returns-in-Ok : goal.returns-in-Ok
 returns-in-Ok g c = settles_held g.S.Stream.law (sieve_view g.S.Stream.standing c.args.sieve.now) (call_of g.L.Lending.text g.L.Lending.bytes c.args.call) (call_of g.L.Lending.text g.L.Lending.bytes c.args.relayed) c.args.holds c.args.passes (capture_of c.hold.new.held).forest (search rules) c.in-Ok.ensures
 
 pub returns-in-Err : goal.returns-in-Err
-returns-in-Err g c = settles_wanting g.S.Stream.law (sieve_view g.S.Stream.standing c.args.sieve.now) (call_of g.L.Lending.text g.L.Lending.bytes c.args.call) (call_of g.L.Lending.text g.L.Lending.bytes c.args.relayed) c.args.holds c.args.passes (capture_of c.hold.new.held).forest (search rules) c.in-Err.ensures
+returns-in-Err g c = rw c.from.ensures (settles_wanting g.S.Stream.law (sieve_view g.S.Stream.standing c.args.sieve.now) (call_of g.L.Lending.text g.L.Lending.bytes c.args.call) (call_of g.L.Lending.text g.L.Lending.bytes c.args.relayed) c.args.holds c.args.passes (capture_of c.hold.new.held).forest (search rules) c.in-Err.ensures)
