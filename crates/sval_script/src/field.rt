@@ -14,7 +14,7 @@ use crate::bytes::Bytes;
 use crate::number::{integer, natural};
 use crate::short::colon;
 use crate::tag::TagField;
-use std::alloc::AllocError;
+use std::alloc::{AllocError, AllocFailed};
 
 /// Why a line wasn't read.
 #[derive(Clone, Copy)]
@@ -23,6 +23,14 @@ pub(crate) enum LineError {
     Bad,
     /// There was no memory for what it says, or it has a text or a binary of 4 GiB or more.
     NoMemory,
+}
+
+impl<T: Drop> From<AllocFailed<T>> for LineError {
+    ghost from_gives = { λ _ r. r ≡ NoMemory };
+
+    fn from(_e: AllocFailed<T>) -> LineError {
+        LineError::NoMemory
+    }
 }
 
 impl From<AllocError> for LineError {

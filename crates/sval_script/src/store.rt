@@ -42,7 +42,8 @@ impl Store {
         ensures numbers { OnOk result (self.new.numbers.items ≡ self.old.numbers.items ++ (number ∷ [])) }
         ensures no_memory { ¬ (result ≡ Err LineError.Bad) }
     {
-        self.numbers.push(number).map_err(|_| LineError::NoMemory)
+        self.numbers.push(number)?;
+        Ok(())
     }
 
     /// Puts two numbers behind the others.
