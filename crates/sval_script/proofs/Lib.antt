@@ -26,6 +26,7 @@ pub mod FieldTexts
 pub mod RoomBytes
 pub mod ScriptLines
 pub mod ScriptPieces
+pub mod BadLines
 pub mod ScriptSlices
 pub mod ScriptStreams
 pub mod ScriptTexts

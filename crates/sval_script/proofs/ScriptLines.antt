@@ -17,7 +17,7 @@ after_one calls n call (Good more) = ap Good (sym (append_assoc calls (call ∷ 
 after_one calls n call (Bad m) = refl
 
 -- the line that bytes begin with is the first of their parts
-first_part : (rest : List ℕ) → MatchOption (cut_line rest) (cut_at 10 rest ≡ rest ∷ []) (λ line. (cut_at 10 rest ≡ line.0 ∷ cut_at 10 line.1) × (length line.1 < length rest))
+pub first_part : (rest : List ℕ) → MatchOption (cut_line rest) (cut_at 10 rest ≡ rest ∷ []) (λ line. (cut_at 10 rest ≡ line.0 ∷ cut_at 10 line.1) × (length line.1 < length rest))
 first_part [] = refl
 first_part (byte ∷ rest) = by_feed (byte == 10) (cut_line rest) refl (first_part rest)
   where

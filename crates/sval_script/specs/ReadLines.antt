@@ -1,10 +1,10 @@
 -- The lines of a script that were read, and the one that is begun.
-use Rattle.std.specs.Prelude.{◌≡◌, ⊤, ℕ, List, [], ◌∷◌, ◌++◌, None}
+use Rattle.std.specs.Prelude.{◌≡◌, ⊤, ℕ, ◌+◌, List, [], ◌∷◌, ◌++◌, length, Some, None}
 use Rattle.sval_label.specs.Calls.{Call}
 use Rattle.sval_script.specs.Lines.{Lines, Bad}
 use Rattle.sval_script.specs.Fields.{cut_line}
 use Rattle.sval_script.specs.LineCalls.{Stored, stored, calls_with, HoldsLines}
-use Rattle.sval_script.specs.Readings.{lines_after}
+use Rattle.sval_script.specs.Readings.{lines_after, HasBadLineAt, IsStoppedAt}
 use Rattle.sval_script.specs.declared.line.Line.{Line}
 use Rattle.sval_script.specs.declared.script.ScriptError.{ScriptError}
 use Rattle.sval_script.specs.declared.script.ScriptError.TheVariants.{BadLine}
@@ -33,6 +33,10 @@ pub record ReadsOn (old : List Line) (before : Stored) (bytes : List ℕ) (new :
 abbrev pub IsFirstBad : List Call → List ℕ → ScriptError → Type 0
 IsFirstBad calls bytes why = (n : ℕ) (more : List ℕ) → why ≡ BadLine n → lines_after calls (bytes ++ more) ≡ Bad n
 
+-- where the bytes have a bad line, this names it, or says that memory was wanting first
+abbrev pub NamesBadLine : List Call → List ℕ → ScriptError → Type 0
+NamesBadLine calls bytes why = (place : ℕ) → HasBadLineAt bytes place → IsStoppedAt (length calls + place + 1) (Some why)
+
 -- the lines are held, and that which is begun has no line feed
 pub record IsRead (read : ReadLines) : Type 0 where
   pub holds : Holds read.lines.items (stored read.store)
@@ -49,7 +53,8 @@ pub record EndsIn (old : ReadLines) (whole behind : List ℕ) (new : ReadLines) 
   pub ends : EndsLine behind
   pub goes_on : (more : List ℕ) → lines_after (calls_of new.lines.items (stored new.store)) (behind ++ more) ≡ lines_with old (whole ++ more)
 
--- a piece was read behind what was read before it
+-- a piece was read behind what was read before it, and no line that ended is bad
 pub record ReadsPiece (old : ReadLines) (piece : List ℕ) (new : ReadLines) : Type 0 where
   pub is_read : IsRead new
+  pub good : (place : ℕ) → ¬ HasBadLineAt (old.begun.items ++ piece) place
   pub goes_on : (more : List ℕ) → lines_with new more ≡ lines_with old (piece ++ more)

@@ -1,5 +1,5 @@
 -- What reading a script answers.
-use Rattle.std.specs.Prelude.{◌≡◌, ◌⊎◌, ℕ, ◌+◌, List, ◌++◌, length, Option, Some, None, Result, Ok, Err}
+use Rattle.std.specs.Prelude.{◌≡◌, ◌⊎◌, ℕ, ◌+◌, ◌<◌, List, [], ◌++◌, length, get_or, Option, Some, None, IsSome, Result, Ok, Err}
 use Rattle.sval_label.specs.Calls.{Call}
 use Rattle.sval_script.specs.Lines.{Lines, Good, Bad, line_of, lines_from, cut_at}
 use Rattle.sval_script.specs.declared.script.ScriptError.{ScriptError}
@@ -40,3 +40,20 @@ answer_with reading more = answer_unless reading.stopped (lines_after reading.ca
 abbrev pub TakesPiece : Reading → List ℕ → Reading → Type 0
 TakesPiece old piece new =
     ((more : List ℕ) → answer_with new more ≡ answer_with old (piece ++ more)) ⊎ ((more : List ℕ) → answer_with new more ≡ Err NoMemory)
+
+-- ---- bad lines
+
+-- a line feed ends the line at this place, counted from 0, and that line is the first that spells no call
+pub record HasBadLineAt (bytes : List ℕ) (place : ℕ) : Type 0 where
+  pub ended : place + 1 < length (cut_at 10 bytes)
+  pub bad : line_of (get_or (cut_at 10 bytes) place []) ≡ None
+  pub good : (k : ℕ) → k < place → IsSome (line_of (get_or (cut_at 10 bytes) k []))
+
+-- it stopped, either at the bad line with this number, or since memory was wanting first
+pub record IsStoppedAt (n : ℕ) (stopped : Option ScriptError) : Type 0 where
+  pub cause : (stopped ≡ Some (BadLine n)) ⊎ (stopped ≡ Some NoMemory)
+
+-- where the piece ends a bad line, a reader that had not stopped stops at it; its number counts the lines of the script from 1
+abbrev pub StopsAtBadLine : Reading → List ℕ → Reading → Type 0
+StopsAtBadLine old piece new =
+    (place : ℕ) → old.stopped ≡ None → HasBadLineAt (old.begun ++ piece) place → IsStoppedAt (length old.calls + place + 1) new.stopped

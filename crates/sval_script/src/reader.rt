@@ -1,10 +1,11 @@
 //! Scripts that come in pieces.
 
-ghost use Rattle.std.specs.Prelude.{◌≡◌, [], ℕ, List, ◌++◌, ◌<◌, ◌^◌, length, IsSome, OnOk, IfOk, IfErr};
+ghost use Rattle.std.specs.Prelude.{◌≡◌, [], ℕ, List, ◌++◌, ◌<◌, ◌^◌, length, IsSome, IfSome, IsOk, OnOk, IfOk, IfErr};
 ghost use Rattle.sval_script.specs.Lines.{lines};
 ghost use Rattle.sval_script.specs.LineCalls.{stored};
-ghost use Rattle.sval_script.specs.Readings.{answer_to, answer_with, TakesPiece};
+ghost use Rattle.sval_script.specs.Readings.{answer_to, answer_with, TakesPiece, StopsAtBadLine};
 ghost use Rattle.sval_script.specs.ReadLines.{calls_of, lines_with, Holds, EndsLine, ReadsOn, IsFirstBad, IsRead, EndsIn, ReadsPiece};
+ghost use Rattle.sval_script.specs.ReadLines.{NamesBadLine};
 
 use crate::field::LineError;
 use crate::line::{Line, read_line};
@@ -82,7 +83,7 @@ impl ReadLines {
         Ok(behind)
     }
 
-    /// Reads the next piece.
+    /// Reads the bytes of the next piece.
     fn take(&mut self, piece: &[u8]) -> Result<(), ScriptError>
         requires { IsRead self.old }
         ensures taken { OnOk result (ReadsPiece self.old piece.now self.new) }
@@ -98,6 +99,23 @@ impl ReadLines {
         read_lines(&mut self.lines, &mut self.store, behind)?;
         self.begun.extend_from_slice(begun)?;
         Ok(())
+    }
+
+    /// Reads the next piece, which may have no byte, and names the first bad line that it ends.
+    fn take_piece(&mut self, piece: &[u8]) -> Result<(), ScriptError>
+        requires { IsRead self.old }
+        ensures taken { OnOk result (ReadsPiece self.old piece.now self.new) }
+        ensures bad { IfErr result (IsFirstBad (calls_of self.old.lines.items (stored self.old.store))
+            (self.old.begun.items ++ piece.now)) }
+        ensures names { IfErr result (NamesBadLine (calls_of self.old.lines.items (stored self.old.store))
+            (self.old.begun.items ++ piece.now)) }
+        ensures ok { piece.now ≡ [] → IsOk result }
+        ensures nothing { piece.now ≡ [] → self.new ≡ self.old }
+    {
+        if piece.is_empty() {
+            return Ok(());
+        }
+        self.take(piece)
     }
 }
 
@@ -150,22 +168,23 @@ impl ScriptReader {
 
     /// Takes the next piece, which may end within a line. What is wrong with the script, [`finish`](Self::finish) says.
     ///
-    /// Where a line is found to be bad, or memory is wanting, the reader stops. It then stays as it is, whatever pieces
-    /// come, so no later piece changes what [`finish`](Self::finish) answers.
+    /// The reader stops at the first bad line, with the piece that ends it, or where memory is wanting. It then stays as it
+    /// is, whatever pieces come, so no later piece changes what [`finish`](Self::finish) answers.
     pub fn push(&mut self, piece: &[u8])
         ensures takes { TakesPiece self.old piece.now self.new }
         ensures nothing { piece.now ≡ [] → self.new ≡ self.old }
         ensures stays { IsSome self.old.stopped → self.new ≡ self.old }
+        ensures bad_line { StopsAtBadLine self.old piece.now self.new }
     {
-        if piece.is_empty() || self.stopped.is_some() {
+        if self.stopped.is_some() {
             return;
         }
-        if let Err(why) = self.read.take(piece) {
+        if let Err(why) = self.read.take_piece(piece) {
             self.stopped = Some(why);
         }
     }
 
-    /// The script that all pieces are, one after another.
+    /// The script that all pieces are, one after another. A reader that has stopped answers why it did.
     ///
     /// # Errors
     ///
@@ -174,6 +193,7 @@ impl ScriptReader {
     /// or more.
     pub fn finish(self) -> Result<Script, ScriptError>
         ensures answer { result ≡ answer_with self [] }
+        ensures stopped { IfSome self.stopped (λ why. result ≡ Err why) }
         ensures few { IfOk result (λ script. length script < 2 ^ 64) }
     {
         if let Some(why) = self.stopped {

@@ -4,6 +4,7 @@ use Rattle.std.proofs.lemmas.Result.{err_from_is_err_and}
 use Rattle.sval_script.specs.LineCalls.{stored}
 use Rattle.sval_script.specs.ReadLines.{calls_of}
 use Rattle.sval_script.proofs.ScriptPieces.{bad-more, begun-on, pieces-on, bad-behind}
+use Rattle.sval_script.proofs.BadLines.{none_ended, good_piece}
 use Rattle.sval_script.proofs.WholeLines.{up_to_feed, without_feed, behind_last, begun-more}
 use Rattle.sval_script.proofs.reader.ReadLines.take.Goals as goal
 
@@ -11,11 +12,10 @@ pub returns-in_default-clause-taken : goal.returns-in_default-clause-taken
 returns-in_default-clause-taken c =
     let begun = c.args.self.now.begun.items in
     let piece = c.args.piece.now in
+    let none = begun-more begun piece c.requires.begun (without_feed piece c.in_default.ensures) in
     record {
-      is_read = record {
-        holds = c.requires.holds;
-        begun = rw c.in_ok-extend_from_slice.ensures.items (begun-more begun piece c.requires.begun (without_feed piece c.in_default.ensures));
-      };
+      is_read = record { holds = c.requires.holds; begun = rw c.in_ok-extend_from_slice.ensures.items none };
+      good = λ place. none_ended (begun ++ piece) place none;
       goes_on = λ more. rw c.in_ok-extend_from_slice.ensures.items (begun-on (calls_of c.args.self.now.lines.items (stored c.args.self.now.store)) begun piece more);
     }
 
@@ -50,8 +50,10 @@ returns-clause-taken c =
     ap (λ bytes. bytes ++ rest) c.split_at.ensures.front ∙ take-append-drop (c.in-Some.feed + 1) c.args.piece.now in
     let begun : c.extend_from_slice-2.new.self.items ≡ rest =
     c.in_ok-extend_from_slice-2.ensures.items ∙ ap (λ bytes. bytes ++ c.split_at.result.1.now) c.in_ok-behind.ensures.ended.begun ∙ c.split_at.ensures.back in
+    let none = behind_last c.args.piece.now c.in-Some.feed c.in-Some.ensures in
     record {
-      is_read = record { holds = c.in_ok-read_lines.ensures.read.holds; begun = rw begun (behind_last c.args.piece.now c.in-Some.feed c.in-Some.ensures) };
+      is_read = record { holds = c.in_ok-read_lines.ensures.read.holds; begun = rw begun none };
+      good = good_piece c.args.self.now c.end_line.new.self c.split_at.result.0.now c.in_ok-behind.behind.now rest c.args.piece.now c.read_lines.new.lines.items (stored c.read_lines.new.store) c.in_ok-behind.ensures.ended c.in_ok-read_lines.ensures.read same none;
       goes_on = λ more.
           rw begun
           (pieces-on c.args.self.now c.end_line.new.self c.split_at.result.0.now c.in_ok-behind.behind.now rest c.args.piece.now more c.read_lines.new.lines.items (stored c.read_lines.new.store) c.in_ok-behind.ensures.ended c.in_ok-read_lines.ensures.read same);
