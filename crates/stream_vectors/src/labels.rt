@@ -101,22 +101,27 @@ fn own_name<'c>(label: &'c Label<'c>, index: &'c Index) -> Name<'c> {
     }
 }
 
-/// Hints around and inside a sequence, and an enum that holds a tag.
+/// Hints before a sequence, and inside it.
+#[test]
+fn makes_own_hints_again(rt: HostRuntime) -> Result<(), Fail> {
+    let calls = [
+        Call::TagHint(&TEST),
+        Call::SeqBegin(Some(1)),
+        Call::TagHint(&TEST),
+        Call::SeqValueBegin,
+        Call::Bool(false),
+        Call::SeqValueEnd,
+        Call::SeqEnd,
+    ];
+    makes_again(&rt, rt.alloc(), &[], &calls)
+}
+
+/// A hint before an enum that holds a tag.
 #[test]
 fn makes_own_tags_again(rt: HostRuntime) -> Result<(), Fail> {
     let (label, index) = (Label::new("A"), Index::new(1));
     let own = own_name(&label, &index);
     let calls = [
-        Call::TagHint(&TEST),
-        Call::SeqBegin(Some(2)),
-        Call::TagHint(&TEST),
-        Call::SeqValueBegin,
-        Call::Bool(false),
-        Call::SeqValueEnd,
-        Call::SeqValueBegin,
-        Call::Bool(true),
-        Call::SeqValueEnd,
-        Call::SeqEnd,
         Call::TagHint(&TEST),
         Call::EnumBegin(own),
         Call::Tag(own),
@@ -125,37 +130,52 @@ fn makes_own_tags_again(rt: HostRuntime) -> Result<(), Fail> {
     makes_again(&rt, rt.alloc(), &[], &calls)
 }
 
-/// A record, a tuple and a record tuple of two fields, with a tag of their own and on their first fields.
+/// A record of two fields, with a tag of its own and on its first field.
 #[test]
 fn makes_own_tags_of_fields_again(rt: HostRuntime) -> Result<(), Fail> {
-    let (a, b) = (Label::new("a"), Label::new("b"));
-    let (zero, one) = (Index::new(0), Index::new(1));
+    let (a, b, one) = (Label::new("a"), Label::new("b"), Index::new(1));
     let own = own_name(&a, &one);
-    let tag = Some(&TEST);
     let calls = [
         Call::RecordBegin(own, Some(2)),
-        Call::RecordValueBegin(tag, &a),
+        Call::RecordValueBegin(Some(&TEST), &a),
         Call::Bool(false),
-        Call::RecordValueEnd(tag, &a),
+        Call::RecordValueEnd(Some(&TEST), &a),
         Call::RecordValueBegin(None, &b),
         Call::Bool(true),
         Call::RecordValueEnd(None, &b),
         Call::RecordEnd(own),
+    ];
+    makes_again(&rt, rt.alloc(), &[], &calls)
+}
+
+/// A tuple of two items, with a tag of its own and on its first item.
+#[test]
+fn makes_own_tags_of_items_again(rt: HostRuntime) -> Result<(), Fail> {
+    let (a, zero, one) = (Label::new("a"), Index::new(0), Index::new(1));
+    let own = own_name(&a, &one);
+    let calls = [
         Call::TupleBegin(own, Some(2)),
-        Call::TupleValueBegin(tag, &zero),
+        Call::TupleValueBegin(Some(&TEST), &zero),
         Call::Bool(false),
-        Call::TupleValueEnd(tag, &zero),
+        Call::TupleValueEnd(Some(&TEST), &zero),
         Call::TupleValueBegin(None, &one),
         Call::Bool(true),
         Call::TupleValueEnd(None, &one),
         Call::TupleEnd(own),
-        Call::RecordTupleBegin(own, Some(2)),
-        Call::RecordTupleValueBegin(tag, &a, &zero),
+    ];
+    makes_again(&rt, rt.alloc(), &[], &calls)
+}
+
+/// A record tuple of one field, with a tag of its own and on its field.
+#[test]
+fn makes_own_tags_of_numbered_fields_again(rt: HostRuntime) -> Result<(), Fail> {
+    let (a, zero) = (Label::new("a"), Index::new(0));
+    let own = own_name(&a, &zero);
+    let calls = [
+        Call::RecordTupleBegin(own, Some(1)),
+        Call::RecordTupleValueBegin(Some(&TEST), &a, &zero),
         Call::Bool(false),
-        Call::RecordTupleValueEnd(tag, &a, &zero),
-        Call::RecordTupleValueBegin(None, &b, &one),
-        Call::Bool(true),
-        Call::RecordTupleValueEnd(None, &b, &one),
+        Call::RecordTupleValueEnd(Some(&TEST), &a, &zero),
         Call::RecordTupleEnd(own),
     ];
     makes_again(&rt, rt.alloc(), &[], &calls)
