@@ -82,7 +82,7 @@ fn captures_what_was_captured(rt: HostRuntime) -> Result<(), Fail> {
     Ok(())
 }
 
-/// Three sequences of sequences of numbers, of which the first is empty.
+/// Three sequences of sequences of numbers. The first is empty.
 const NUMBERS: &str = "[[],[[1,2,3],[4]],[[5,6],[7,8,9]]]";
 
 #[test]

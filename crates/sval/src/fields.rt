@@ -68,7 +68,7 @@ pub trait Fields<'v, L: Lending>: Copy {
         ensures { Emits S.law result
             (S.standing stream.old) (fields_emission (listed self)) (S.standing stream.new) };
 
-    /// Streams the fields of a record tuple, of which the first has this place.
+    /// Streams the fields of a record tuple. The first has the index `number`.
     fn stream_placed<S: Stream<L>>(self, stream: &mut S, first: usize) -> Result
         requires { first + length (listed self) < 2 ^ 64 }
         ensures { Emits S.law result
@@ -183,7 +183,8 @@ fn stream_place<'v, L: Lending, N: Named, T: Value<'v, L>, S: Stream<L>>(
     value: &'v T,
 ) -> Result
     ensures { Emits S.law result (S.standing stream.old)
-        (part_emission (FieldPlace None (ident (N.text name)) (offset number)) (T.emission value.now)) (S.standing stream.new) }
+        (part_emission (FieldPlace None (ident (N.text name)) (offset number)) (T.emission value.now))
+        (S.standing stream.new) }
 {
     begin_place(stream, name, number)?;
     value.stream(stream)?;

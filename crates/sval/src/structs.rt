@@ -226,7 +226,8 @@ fn stream_variant_fields<'v, L: Lending, N: Named, F: Fields<'v, L>, S: Stream<L
 ) -> Result
     requires { length (F.listed fields) < 2 ^ 64 }
     ensures { Emits S.law result (S.standing stream.old)
-        (container_emission (RecordTuple (variant_name (N.text variant) number)) (length (F.listed fields)) (placed_emission 0 (F.listed fields)))
+        (container_emission (RecordTuple (variant_name (N.text variant) number))
+        (length (F.listed fields)) (placed_emission 0 (F.listed fields)))
         (S.standing stream.new) }
 {
     begin_variant(stream, variant, number, fields.count())?;

@@ -1,9 +1,10 @@
 -- The text that a key's calls begin with, read call by call.
-use Rattle.std.specs.Prelude.{◌≡◌, ℕ, ◌-◌, ◌^◌, ⊤, List, [], ◌++◌, Option, Some, None, Result, Ok, Err}
+use Rattle.std.specs.Prelude.{◌≡◌, ℕ, ◌-◌, ◌^◌, ⊤, List, [], ◌++◌, Option, Some, None, Result, Ok, Err, string_bytes}
 use Rattle.sval_label.specs.Calls.{Call}
 use Rattle.sval_label.specs.declared.error.Error.{Error}
 use Rattle.sval_label.specs.declared.error.NoMemory.{NoMemory}
 use Rattle.sval_core.specs.Law.{Law, Standing, Rose}
+use Rattle.sval_filter.specs.declared.key_text.KeyText.{KeyText}
 use Rattle.sval_filter.specs.declared.key_text.Place.{Place}
 use Rattle.sval_filter.specs.declared.key_text.Place.TheVariants.{Before, Inside, After, NoText}
 
@@ -57,6 +58,10 @@ wants_by (Some cause) = 2 ^ 64 - 1
 -- where it stands that has read this, and wanted memory so often
 abbrev pub read_standing : KeyRead → ℕ → Standing KeyRead
 read_standing key wants = record { view = key; faults = 0; wants = wants }
+
+-- where the reader of a key stands
+abbrev pub key_standing : KeyText → Standing KeyRead
+key_standing key = read_standing (record { place = key.place; text = string_bytes key.text }) (wants_by key.want)
 
 -- what copying a fragment says, which is to lead here: it did, or memory was wanting inside the text
 abbrev pub Copies : KeyRead → ℕ → Result (Unit {0}) Error → KeyRead → ℕ → Type 0

@@ -3,7 +3,7 @@
 ghost use Rattle.std.specs.Prelude.{◌≡◌, ◌≤◌, ℕ, List, None, string_bytes, option_map};
 ghost use Rattle.sval_label.specs.Made.{lent_call};
 ghost use Rattle.sval_core.specs.Law.{Answers};
-ghost use Rattle.sval_filter.specs.SeenKeys.{KeyRead, nothing_read, passed_by, with_begin, with_fragment, text_by, wants_by, Copies, read_law, read_standing};
+ghost use Rattle.sval_filter.specs.SeenKeys.{KeyRead, nothing_read, passed_by, with_begin, with_fragment, text_by, wants_by, Copies, read_law, key_standing};
 
 use std::alloc::Global;
 use sval_core::{Call, Error, Fragment, GroupedCall, Lent, NoMemory, Stream};
@@ -118,12 +118,11 @@ impl<'b> Stream<Lent<'b>> for KeyText {
 
     ghost law = { read_law };
 
-    ghost standing = { λ key. read_standing (record { place = key.place; text = string_bytes key.text }) (wants_by key.want) };
+    ghost standing = { key_standing };
 
     fn take(&mut self, call: Call<'b, '_>) -> sval_core::Result
         ensures { Answers read_law result
-            (read_standing (record { place = self.old.place; text = string_bytes self.old.text }) (wants_by self.old.want)) (lent_call call.entry)
-            (read_standing (record { place = self.new.place; text = string_bytes self.new.text }) (wants_by self.new.want)) }
+            (key_standing self.old) (lent_call call.entry) (key_standing self.new) }
     {
         match call.grouped() {
             GroupedCall::TagHint(_) => Ok(()),

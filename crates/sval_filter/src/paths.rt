@@ -151,7 +151,7 @@ impl Paths {
         Ok(())
     }
 
-    /// Adds the path of the labels between the dots of a word, none of which is empty.
+    /// Adds the path of the labels between the dots of a word. No label in `word` is empty.
     pub(crate) fn push_labels(&mut self, word: &str) -> Result<(), NoMemory>
         ensures { self.new ≡ (if is_ok result then self.old ++ (labels_of word.now ∷ []) else self.old) }
     {

@@ -89,7 +89,7 @@ fn add(alloc: Global, bytes: &mut Vec<u8>, mark: &str, text: &str) -> Result<(),
     Ok(())
 }
 
-/// Adds so many bytes that are all the same.
+/// Adds a run, told as a count and a byte in hex: the byte `count` times.
 fn add_run(bytes: &mut Vec<u8>, run: &str) -> Result<(), Fail> {
     let (count, byte) = run.split_once(' ').ok_or("a count without a byte")?;
     let byte = u8::from_str_radix(byte, 16)?;
