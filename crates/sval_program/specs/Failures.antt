@@ -1,6 +1,8 @@
 -- The status and the line of each failure.
 use Rattle.std.specs.Prelude.{ℕ, Bool, not, List, [], ◌∷◌, Option, Some, None, Result, Ok, Err}
 use Rattle.sval_json.specs.declared.sink.SinkError.TheVariants as sink
+use Rattle.sval_script.specs.declared.script.ScriptError.{ScriptError}
+use Rattle.sval_script.specs.declared.script.ScriptError.TheVariants as reading
 use Rattle.sval_program.specs.declared.status.TheConstants.{DONE, USAGE, BAD_LINE, BAD_CALL, UNFINISHED, INVALID_KEY, INVALID_NUMBER, WRITE, READ, NO_MEMORY, TOO_LONG, NOT_UTF8, BAD_JSON, RAW, NOT_INTEGER, BAD_CBOR}
 use Rattle.sval_program.specs.declared.failure.Fault.{Fault}
 use Rattle.sval_program.specs.declared.failure.Fault.TheVariants as fault
@@ -29,6 +31,11 @@ status_of_fault why = (row_of_fault why).0
 abbrev pub status_of_found : Option Fault → ℕ
 status_of_found None = DONE
 status_of_found (Some why) = status_of_fault why
+
+-- the failure where a script wasn't read
+abbrev pub failure_of_script : ScriptError → Failure
+failure_of_script (reading.BadLine number) = failure.Fault (fault.BadLine number)
+failure_of_script reading.NoMemory = failure.NoMemory
 
 -- a failure's status
 abbrev pub status_of_failure : Failure → ℕ

@@ -7,6 +7,7 @@ use crate::input_error::InputError;
 use crate::line::Line;
 use crate::{lines, status};
 use sval_json::SinkError;
+use sval_script::ScriptError;
 
 /// Why nothing more is due of an input.
 #[derive(Clone, Copy)]
@@ -105,6 +106,19 @@ impl From<InputError> for Failure {
 
     fn from(error: InputError) -> Failure {
         Failure::Input(error)
+    }
+}
+
+impl From<ScriptError> for Failure {
+    ghost use Rattle.sval_program.specs.Failures.{failure_of_script};
+
+    ghost from_gives = { λ error failure. failure ≡ failure_of_script error };
+
+    fn from(error: ScriptError) -> Failure {
+        match error {
+            ScriptError::BadLine { line } => Failure::Fault(Fault::BadLine { line }),
+            ScriptError::NoMemory => Failure::NoMemory,
+        }
     }
 }
 
