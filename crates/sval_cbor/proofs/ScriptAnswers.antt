@@ -1,109 +1,116 @@
 -- From what reading, checking and writing a script answered to what serving it says.
-use Rattle.std.specs.Prelude.{◌≡◌, ◌⊎◌, ℕ, ◌<◌, false, true, List, [], length, Some, Result, Ok, Err, refl}
-use Rattle.std.proofs.Common.{sym, ap, ◌∙◌, subst, inl, inr}
+use Rattle.std.specs.Prelude.{◌≡◌, ◌⊎◌, ℕ, ◌<◌, true, false, List, [], length, Some, None, Result, Ok, Err, refl}
+use Rattle.std.proofs.Common.{sym, ◌∙◌, subst, inl, inr}
 use Rattle.sval_label.specs.Calls.{Call}
-use Rattle.sval_core.specs.Spells.{Spells}
-use Rattle.sval_core.specs.Trees.{Tree}
 use Rattle.sval_core.specs.Values.{makes}
-use Rattle.sval_check.specs.Checks.{IsFirstBad, OnlyRefuses, IsUnfinished}
+use Rattle.sval_buffer.specs.Forest.{Forest, Holds, forest, replayed}
+use Rattle.sval_check.specs.Checks.{IsFirstBad, IsUnfinished}
 use Rattle.sval_check.specs.declared.error.CheckError.{CheckError}
 use Rattle.sval_check.specs.declared.error.CheckError.TheVariants as check
-use Rattle.sval_json.specs.Json.{Json}
-use Rattle.sval_json.specs.Sinks.{Told, NoCountFell, PassesOn, Declines}
-use Rattle.sval_json.specs.declared.sink.SinkError.{SinkError}
+use Rattle.sval_json.specs.Sinks.{Told}
 use Rattle.sval_json.specs.declared.sink.SinkError.TheVariants as sink
+use Rattle.sval_json.proofs.Appending.{writes_nothing}
 use Rattle.sval_script.specs.Lines.{Lines, Good, Bad, lines}
 use Rattle.sval_script.specs.Readings.{Reading, answer_to, answer_with}
 use Rattle.sval_script.specs.declared.script.ScriptError.{ScriptError}
 use Rattle.sval_script.specs.declared.script.ScriptError.TheVariants as reading
-use Rattle.sval_program.specs.Inputs.{ReadsWhole, HasRead}
-use Rattle.sval_program.specs.Outputs.{IsStopCause}
+use Rattle.sval_program.specs.declared.failure.Fault.{Fault}
+use Rattle.sval_program.specs.declared.failure.Fault.TheVariants as fault
+use Rattle.sval_program.specs.declared.failure.Failure.{Failure}
+use Rattle.sval_program.specs.declared.failure.Failure.TheVariants as failure
+use Rattle.sval_program.specs.Failures.{status_of_fault, failure_of_script}
+use Rattle.sval_program.specs.Inputs.{HasRead}
+use Rattle.sval_program.specs.Jobs.{FindsFault, ServesBytes}
 use Rattle.sval_program.specs.Sources.{Supply}
-use Rattle.sval_program.proofs.Growing.{held_back, passed_on}
+use Rattle.sval_program.specs.Statuses.{is_among}
 use Rattle.sval_cbor.specs.declared.error.CborError.{CborError}
 use Rattle.sval_cbor.specs.declared.error.CborError.TheVariants as error
-use Rattle.sval_cbor.specs.declared.failure.Failure.{Failure}
-use Rattle.sval_cbor.specs.declared.failure.Failure.TheVariants as failure
-use Rattle.sval_cbor.specs.declared.failure.Fault.TheVariants as fault
-use Rattle.sval_cbor.specs.declared.error.Refusal.TheVariants as refusal
-use Rattle.sval_cbor.specs.Cbor.{cbor}
-use Rattle.sval_cbor.specs.Packs.{PackRefusal, BadKey, BadNumber, RawJson, NotInteger, map_ok, pack_of}
-use Rattle.sval_cbor.specs.Statuses.{failure_of_script}
-use Rattle.sval_cbor.specs.Streamed.{CborAnswer, IsChecked, IsRefusedAs, HasCbor, IsOfValue, IsWant, BeginsSpelled, StreamsCbor}
+use Rattle.sval_cbor.specs.Packs.{PackRefusal, BadKey, BadNumber, RawJson, NotInteger}
+use Rattle.sval_cbor.specs.Serves.{Due, of_value, of_bad_line, of_bad_call, of_unfinished, of_bad_key, of_bad_number, of_raw, of_no_integer, cbor_terms, failure_of_check, failure_of_cbor}
+use Rattle.sval_cbor.specs.Streamed.{IsChecked, IsOfValue, AnswersBytes, AnswersDue, refusal_error}
 use Rattle.sval_cbor.specs.Verdict.{Whole, IsVerdict}
-use Rattle.sval_cbor.specs.Serves.{WritesWholeBytes, PassesOnBytes, StopsWithinBytes, FailsOn, ServesScript, ServesInput, failure_of_check, failure_of_cbor}
+use Rattle.sval_cbor.specs.Writing.{written}
+use Rattle.sval_cbor.proofs.Captured.{captured_is_written}
 
--- ---- the verdict on a script whose calls are whole
+-- nothing is written before a fault
+faulty : {K : Type 0} (told : K → Told) (script : List ℕ) (why : Fault) (old new : K) → Due tt script (Some why) [] → is_among (status_of_fault why) cbor_terms.faults ≡ true → new ≡ old
+    → ServesBytes cbor_terms told tt script (Err (failure.Fault why)) old new
+faulty told script why old new due known same =
+    subst (λ out. FindsFault cbor_terms told tt script why old out) (sym same) (record { all = record { bytes = []; due = due; writes = writes_nothing (told old) }; known = known; untouched = λ e. refl })
+
+-- ---- what writing answered
+
+module _ {K : Type 0} (told : K → Told) (script : List ℕ) (old new : K) where
+  -- an error has one failure
+  fails_so : (why failed : Failure) → Some why ≡ Some failed → ServesBytes cbor_terms told tt script (Err why) old new → ServesBytes cbor_terms told tt script (Err failed) old new
+  fails_so why failed is f = let same : why ≡ failed = cc is in subst (λ (w : Failure). ServesBytes cbor_terms told tt script (Err w) old new) same f
+
+  pub writes_whole : (due : Result (List ℕ) PackRefusal) → IsVerdict (Whole due) script → AnswersDue (Ok tt) (told old) due (told new) → ServesBytes cbor_terms told tt script (Ok tt) old new
+  writes_whole (Ok bytes) verdict writes = record { bytes = bytes; due = of_value verdict; writes = writes }
+  writes_whole (Err why) verdict (never, same) = absurd (cc never)
+
+  -- the value doesn't pack
+  refused_fails : (refusal : PackRefusal) (failed : Failure) → failure_of_cbor (refusal_error refusal) ≡ Some failed → IsVerdict (Whole (Err refusal)) script → (IsOfValue (Err (refusal_error refusal)) → new ≡ old)
+      → ServesBytes cbor_terms told tt script (Err failed) old new
+  refused_fails BadKey failed is verdict left = fails_so (failure.Fault fault.InvalidKey) failed is (faulty told script fault.InvalidKey old new (of_bad_key verdict) refl (left tt))
+  refused_fails BadNumber failed is verdict left = fails_so (failure.Fault fault.InvalidNumber) failed is (faulty told script fault.InvalidNumber old new (of_bad_number verdict) refl (left tt))
+  refused_fails RawJson failed is verdict left = fails_so (failure.Fault fault.Raw) failed is (faulty told script fault.Raw old new (of_raw verdict) refl (left tt))
+  refused_fails NotInteger failed is verdict left = fails_so (failure.Fault fault.NotInteger) failed is (faulty told script fault.NotInteger old new (of_no_integer verdict) refl (left tt))
+
+  -- the sink declined
+  declined_fails : (bytes : List ℕ) (why : CborError) (failed : Failure) → failure_of_cbor why ≡ Some failed → IsVerdict (Whole (Ok bytes)) script → AnswersBytes (Err why) (told old) bytes (told new)
+      → ServesBytes cbor_terms told tt script (Err failed) old new
+  declined_fails bytes error.Write failed is verdict w =
+      fails_so (failure.Write sink.Failed) failed is (record { found = None; bytes = bytes; due = of_value verdict; may = refl; stops = record { cause = w.cause; begins = w.front; counts = w.counts } })
+  declined_fails bytes error.NoMemory failed is verdict w =
+      fails_so (failure.Write sink.NoMemory) failed is (record { found = None; bytes = bytes; due = of_value verdict; may = refl; stops = record { cause = inr w.cause; begins = w.front; counts = w.counts } })
+  declined_fails bytes error.NotATree failed is verdict w = absurd w
+  declined_fails bytes error.Refused failed is verdict w = absurd w
+  declined_fails bytes error.Key failed is verdict w = absurd w
+  declined_fails bytes error.Number failed is verdict w = absurd w
+  declined_fails bytes error.Raw failed is verdict w = absurd w
+  declined_fails bytes error.NotInteger failed is verdict w = absurd w
+
+  pub write_fails : (due : Result (List ℕ) PackRefusal) (why : CborError) (failed : Failure) → failure_of_cbor why ≡ Some failed → IsVerdict (Whole due) script → AnswersDue (Err why) (told old) due (told new)
+      → (IsOfValue (Err why) → new ≡ old) → ServesBytes cbor_terms told tt script (Err failed) old new
+  write_fails (Ok bytes) why failed is verdict answers left = declined_fails bytes why failed is verdict answers
+  write_fails (Err refusal) why failed is verdict (e, same) left =
+      let of_refusal : why ≡ refusal_error refusal = cc e in
+      refused_fails refusal failed (subst (λ (w : CborError). failure_of_cbor w ≡ Some failed) of_refusal is) verdict (subst (λ (w : CborError). IsOfValue (Err w) → new ≡ old) of_refusal left)
+
+-- an error of writing is none of the check
+not_of_check : (refusal : PackRefusal) → (refusal_error refusal ≡ error.NotATree → ⊥) × (refusal_error refusal ≡ error.Refused → ⊥)
+not_of_check BadKey = (λ e. cc e, λ e. cc e)
+not_of_check BadNumber = (λ e. cc e, λ e. cc e)
+not_of_check RawJson = (λ e. cc e, λ e. cc e)
+not_of_check NotInteger = (λ e. cc e, λ e. cc e)
+
+pub of_writing : (due : Result (List ℕ) PackRefusal) (why : CborError) (old new : Told) → AnswersDue (Err why) old due new → (why ≡ error.NotATree → ⊥) × (why ≡ error.Refused → ⊥)
+of_writing (Ok bytes) why old new answers = (λ is. subst (λ (w : CborError). AnswersBytes (Err w) old bytes new) is answers, λ is. subst (λ (w : CborError). AnswersBytes (Err w) old bytes new) is answers)
+of_writing (Err refusal) why old new (e, same) =
+    let of_refusal : why ≡ refusal_error refusal = cc e in (λ is. (not_of_check refusal).0 (sym of_refusal ∙ is), λ is. (not_of_check refusal).1 (sym of_refusal ∙ is))
+
+-- ---- a script whose calls are good
 
 module _ (script : List ℕ) (calls : List Call) (good : lines script ≡ Good calls) where
-  pub whole_verdict : (due : Result (List ℕ) PackRefusal) (tree : Tree) → Spells calls tree → due ≡ map_ok cbor (pack_of tree) → IsVerdict (Whole due) script
-  whole_verdict due tree s is = record { calls = calls; good = good; is = record { tree = tree; spells = s; is = is } }
+  -- what is captured of them is written as the verdict
+  pub captured_verdict : IsChecked (makes calls) → (held : Forest) → forest calls ≡ Holds held → IsVerdict (Whole (written (replayed held))) script
+  captured_verdict checked held taken =
+      let (tree, spells) = checked.value.spells in record { calls = calls; good = good; is = record { tree = tree; spells = spells; is = captured_is_written calls tree held spells taken } }
 
-  packed_verdict : (tree : Tree) (json : Json) → Spells calls tree → pack_of tree ≡ Ok json → IsVerdict (Whole (Ok (cbor json))) script
-  packed_verdict tree json s packs = whole_verdict (Ok (cbor json)) tree s (ap (map_ok cbor) (sym packs))
-
-  refused_verdict : (why : PackRefusal) → IsRefusedAs (makes calls) why → IsVerdict (Whole (Err why)) script
-  refused_verdict why r = let (tree, s) = r.value.spells in whole_verdict (Err why) tree s (ap (map_ok cbor) (sym (r.packs tree s)))
-
-  -- ---- what checking found
-
-  fails_so : {K : Type 0} (told : K → Told) (out : K) (why failed : Failure) → Some why ≡ Some failed → FailsOn told script why out out → FailsOn told script failed out out
-  fails_so told out why failed is f = let same : why ≡ failed = cc is in subst (λ (w : Failure). FailsOn told script w out out) same f
-
+  -- what checking found
   pub check_fails : {K : Type 0} (told : K → Told) (out : K) (why : CheckError) (failed : Failure) → failure_of_check why ≡ Some failed
       → ((at : ℕ) → ◌≡◌ {A = Result (Unit {0}) CheckError} (Err why) (Err (check.BadCall at)) → IsFirstBad calls at)
       → (◌≡◌ {A = Result (Unit {0}) CheckError} (Err why) (Err check.Unfinished) → IsUnfinished (makes calls))
-      → FailsOn told script failed out out
-  check_fails told out (check.BadCall n) failed is bad unfinished = fails_so told out (failure.Script (fault.BadCall n)) failed is (record { is = record { calls = calls; good = good; is = bad n refl }; out = refl })
+      → ServesBytes cbor_terms told tt script (Err failed) out out
+  check_fails told out (check.BadCall n) failed is bad unfinished =
+      fails_so told script out out (failure.Fault (fault.BadCall n)) failed is (faulty told script (fault.BadCall n) out out (of_bad_call {line = n} (record { calls = calls; good = good; is = bad n refl })) refl refl)
   check_fails told out check.Unfinished failed is bad unfinished =
       let u = unfinished refl in
-      fails_so told out (failure.Script fault.Unfinished) failed is (record { is = record { calls = calls; good = good; is = record { viable = u.viable; no_tree = u.no_tree } }; out = refl })
-  check_fails told out check.NoMemory failed is bad unfinished = fails_so told out (failure.Write sink.NoMemory) failed is (inr (refl, refl))
+      fails_so told script out out (failure.Fault (fault.Unfinished false)) failed is
+      (faulty told script (fault.Unfinished false) out out (of_unfinished (record { calls = calls; good = good; is = record { viable = u.viable; no_tree = u.no_tree } })) refl refl)
+  check_fails told out check.NoMemory failed is bad unfinished = fails_so told script out out failure.NoMemory failed is refl
   check_fails told out check.Refused failed is bad unfinished = cc is
-
-  -- ---- what writing answered
-
-  module _ {K : Type 0} (told : K → Told) (old new : K) where
-    pub writes_whole : StreamsCbor (makes calls) (Ok tt) (told old) (told new) → WritesWholeBytes script (told old) (told new)
-    writes_whole s =
-        let (tree, spells) = s.value.spells in
-        let w = s.written tree spells in
-        record { bytes = cbor w.json; is = packed_verdict tree w.json spells w.packs; writes = record { appends = w.appends; steady = s.steady } }
-
-    -- a first part of the bytes was taken
-    stops_within : (why : SinkError) → HasCbor (makes calls) → IsStopCause why told old new → BeginsSpelled calls (told old) (told new) → NoCountFell (told old) (told new) → StopsWithinBytes told script why old new
-    stops_within why has cause begins counts =
-        let (tree, spells) = has.value.spells in
-        let (json, packs) = has.packs tree spells in
-        record { bytes = cbor json; is = packed_verdict tree json spells packs; stops = record { cause = cause; begins = begins tree json spells packs; counts = counts } }
-
-    by_want : IsWant told (makes calls) old new → BeginsSpelled calls (told old) (told new) → NoCountFell (told old) (told new) → FailsOn told script (failure.Write sink.NoMemory) old new
-    by_want (inl same) begins counts = inr (refl, same)
-    by_want (inr (rose, has)) begins counts = inl (stops_within sink.NoMemory has (inr rose) begins counts)
-
-    failed_so : (why failed : Failure) → Some why ≡ Some failed → FailsOn told script why old new → FailsOn told script failed old new
-    failed_so why failed is f = let same : why ≡ failed = cc is in subst (λ (w : Failure). FailsOn told script w old new) same f
-
-    pub write_fails : (why : CborError) (failed : Failure) → failure_of_cbor why ≡ Some failed → StreamsCbor (makes calls) (Err why) (told old) (told new) → (IsOfValue (Err why) → new ≡ old)
-        → (◌≡◌ {A = CborAnswer} (Err why) (Err error.NoMemory) → IsWant told (makes calls) old new) → FailsOn told script failed old new
-    write_fails error.Key failed is s left want = failed_so (failure.Script (fault.Value refusal.Key)) failed is (record { is = refused_verdict BadKey (s.only_where tt); out = left tt })
-    write_fails error.Number failed is s left want = failed_so (failure.Script (fault.Value refusal.Number)) failed is (record { is = refused_verdict BadNumber (s.only_where tt); out = left tt })
-    write_fails error.Raw failed is s left want = failed_so (failure.Script (fault.Value refusal.Raw)) failed is (record { is = refused_verdict RawJson (s.only_where tt); out = left tt })
-    write_fails error.NotInteger failed is s left want = failed_so (failure.Script (fault.Value refusal.NotInteger)) failed is (record { is = refused_verdict NotInteger (s.only_where tt); out = left tt })
-    write_fails error.Write failed is s left want = failed_so (failure.Write sink.Failed) failed is (inl (stops_within sink.Failed (s.write_value refl) (s.write refl) s.prefix s.counts))
-    write_fails error.NoMemory failed is s left want = failed_so (failure.Write sink.NoMemory) failed is (by_want (want refl) s.prefix s.counts)
-    write_fails error.NotATree failed is s left want = cc is
-    write_fails error.Refused failed is s left want = cc is
-
--- ---- a value that was checked is a tree, and doesn't refuse
-
-pub is_tree : (calls : List Call) (why : CborError) (old new : Told) → IsChecked (makes calls) → StreamsCbor (makes calls) (Err why) old new → why ≡ error.NotATree → ⊥
-is_tree calls why old new checked s is = checked.surely ((subst (λ (w : CborError). StreamsCbor (makes calls) (Err w) old new) is s).only_where tt)
-
-pub is_willing : (calls : List Call) (why : CborError) (old new : Told) → IsChecked (makes calls) → StreamsCbor (makes calls) (Err why) old new → why ≡ error.Refused → ⊥
-is_willing calls why old new checked s is =
-    let refuses : OnlyRefuses (makes calls) = (subst (λ (w : CborError). StreamsCbor (makes calls) (Err w) old new) is s).only_where tt in
-    let both : false ≡ true = sym checked.value.willing ∙ refuses.refuses in cc both
 
 -- ---- what a reader answered
 
@@ -130,23 +137,6 @@ module _ {reader : Reading} {old new : Supply} (h : HasRead old reader new) wher
       bad l (inr (is, some)) = cc is
 
   -- where it has no script the sink is as it was
-  pub read_fails : {K : Type 0} (told : K → Told) (out : K) (why : ScriptError) → ◌≡◌ {A = Result (List Call) ScriptError} (Err why) (answer_with reader []) → FailsOn told h.script (failure_of_script why) out out
-  read_fails told out (reading.BadLine n) e = record { is = bad_line n e; out = refl }
-  read_fails told out reading.NoMemory e = inr (refl, refl)
-
--- ---- an input that was read and served
-
-pub served : {I K : Type 0} (source : I → Supply) (told : K → Told) (before after : I) (old new : K) {input : List ℕ} (result : Result (Unit {0}) Failure) → ReadsWhole (source before) input (source after)
-    → ServesScript told input result old new → ServesInput source told result before after old new
-served source told before after old new {input = input} (Ok done) reads serves = record { input = input; reads = reads; serves = serves }
-served source told before after old new (Err failure.Usage) reads serves = absurd serves
-served source told before after old new (Err (failure.Input why)) reads serves = absurd serves
-served source told before after old new {input = input} (Err (failure.Script why)) reads serves = record { input = input; reads = reads; serves = serves }
-served source told before after old new {input = input} (Err (failure.Write why)) reads serves = record { input = input; reads = reads; serves = serves }
-
--- what flushing answered after the bytes were written
-pub bytes_held : {K : Type 0} (told : K → Told) (script : List ℕ) (old mid new : K) (why : SinkError) → WritesWholeBytes script (told old) (told mid) → Declines why (told mid) (told new) → FailsOn told script (failure.Write why) old new
-bytes_held told script old mid new why w d = inl (record { bytes = w.bytes; is = w.is; stops = held_back told old mid new why w.writes d })
-
-pub bytes_passed_on : {script : List ℕ} {old mid new : Told} → WritesWholeBytes script old mid → PassesOn mid new → PassesOnBytes script old new
-bytes_passed_on w p = record { bytes = w.bytes; is = w.is; writes = passed_on w.writes p; flushed = p.flushed }
+  pub read_fails : {K : Type 0} (told : K → Told) (out : K) (why : ScriptError) → ◌≡◌ {A = Result (List Call) ScriptError} (Err why) (answer_with reader []) → ServesBytes cbor_terms told tt h.script (Err (failure_of_script why)) out out
+  read_fails told out (reading.BadLine n) e = faulty told h.script (fault.BadLine n) out out (of_bad_line (bad_line n e)) refl refl
+  read_fails told out reading.NoMemory e = refl

@@ -13,4 +13,3 @@ pub mod Verdict
 pub mod Statuses
 pub mod Reports
 pub mod Serves
-pub mod Ends

@@ -5,7 +5,6 @@
 #![tactic(auto)]
 
 mod error;
-mod failure;
 mod head;
 mod integer;
 pub mod laws;

@@ -1,43 +1,35 @@
-//! The whole program, for a process.
+//! The program, as a job.
 
-ghost use Rattle.std.specs.Prelude.{refl};
-ghost use Rattle.sval_cbor.specs.Ends.{CborEnds};
-ghost use Rattle.sval_cbor.specs.Forms.{form_named};
-ghost use Rattle.sval_cbor.specs.Statuses.{is_status};
+ghost use Rattle.sval_cbor.specs.Serves.{cbor_terms};
 
-use crate::running::{named_form, run_cbor};
+use crate::running::{named_form, serve};
 use std::alloc::Global;
 use sval_json::Sink;
-use sval_program::{Program, Source};
+use sval_program::{Failure, Job, Line, Source};
 
-/// The program, as [`run_process`](sval_program::run_process) and [`run_streams`](sval_program::run_streams) run it: what
-/// it does is [`run_cbor`], and its `Ends` are the clauses of `run_cbor` on what the source and the sink tell.
+/// The program, as [`run_process`](sval_program::run_process) and [`run_streams`](sval_program::run_streams) run it:
+/// [`run_cbor`](crate::run_cbor) says more of its runs.
 pub struct WriteCbor;
 
-impl Program for WriteCbor {
+impl Job for WriteCbor {
     ghost Form = { Unit {0} };
 
-    ghost form_named = { form_named };
+    ghost terms = { cbor_terms };
 
-    ghost is_status = { is_status };
-
-    ghost Ends = { CborEnds };
-
-    ghost has_usage = { refl };
-
-    ghost has_no_memory = { refl };
+    fn usage() -> Line {
+        Line::text("usage: sval_cbor\n")
+    }
 
     fn takes(words: &[String]) -> bool {
         named_form(words).is_some()
     }
 
-    fn run<I: Source, K: Sink, D: Sink>(
+    fn serve<I: Source, K: Sink>(
         alloc: Global,
         words: &[String],
         input: &mut I,
         out: &mut K,
-        diag: &mut D,
-    ) -> u8 {
-        run_cbor(alloc, words, input, out, diag)
+    ) -> Result<(), Failure> {
+        serve(alloc, words, input, out)
     }
 }

@@ -1,32 +1,33 @@
 //! The whole program, over any words and devices.
 
-ghost use Rattle.std.specs.Prelude.{◌≡◌, ◌⊎◌, ◌<◌, ◌≤◌, ◌↔◌, ℕ, List, true, None, Some, Ok, Err, map, string_bytes};
-ghost use Rattle.sval_core.specs.Law.{Rose};
+ghost use Rattle.std.specs.Prelude.{◌≡◌, ℕ, List, false, Some, Err, map, string_bytes};
 ghost use Rattle.sval_core.specs.Values.{makes};
-ghost use Rattle.sval_json.specs.Sinks.{HoldsNothing, IsSteady, NoCountFell};
-ghost use Rattle.sval_program.specs.Inputs.{OnShort, OnLong, IsSpent, IsTooLong, StaysShort};
-ghost use Rattle.sval_program.specs.Outputs.{Grows, IsOwnWant};
+ghost use Rattle.sval_program.specs.Inputs.{OnShort};
+ghost use Rattle.sval_program.specs.Jobs.{ServesBytes, ServesInput, Serves};
+ghost use Rattle.sval_program.specs.Runs.{AreQuiet, Ends};
+ghost use Rattle.sval_program.specs.Runs as runs;
 ghost use Rattle.sval_script.specs.Lines.{lines, Good};
 ghost use Rattle.sval_cbor.specs.Forms.{form_of, OnAsked};
 ghost use Rattle.sval_cbor.specs.Packs.{BadKey, BadNumber, RawJson, NotInteger};
 ghost use Rattle.sval_cbor.specs.Reports.{Reports};
-ghost use Rattle.sval_cbor.specs.Serves.{WritesBytes, WritesValue, MayLeave, WritesScript, ServesInput, Serves, failure_of_check, failure_of_cbor};
-ghost use Rattle.sval_cbor.specs.Statuses.{is_status, is_unwritten, is_read, IsStatusDue};
+ghost use Rattle.sval_cbor.specs.Serves.{cbor_terms, WritesBytes, WritesValue, MayLeave, failure_of_check, failure_of_cbor};
+ghost use Rattle.sval_cbor.specs.Statuses.{IsStatusDue};
 ghost use Rattle.sval_cbor.specs.Streamed.{IsChecked};
-ghost use Rattle.sval_cbor.specs.Verdict.{Unfinished, Whole, HasVerdict, HasBadLine, HasBadCall, OnVerdict};
+ghost use Rattle.sval_cbor.specs.Verdict.{Unfinished, Whole, IsVerdict, HasVerdict, HasBadLine, HasBadCall, OnVerdict};
+ghost use Rattle.sval_cbor.specs.Writing.{written};
 
-use crate::error::{CborError, Refusal};
-use crate::failure::{Failure, Fault, conclude};
+use crate::error::CborError;
+use crate::program::WriteCbor;
 use crate::status::{NOT_INTEGER, RAW};
-use crate::to_cbor::write_checked;
+use crate::to_cbor::write_value;
 use std::alloc::Global;
+use sval_buffer::{ErrorKind, ValueBuf};
 use sval_check::{CheckError, check};
+use sval_core::{Lent, Value};
 use sval_json::{Sink, SinkError};
-use sval_program::status::{
-    BAD_CALL, BAD_LINE, DONE, INVALID_KEY, INVALID_NUMBER, NO_MEMORY, READ, TOO_LONG, UNFINISHED,
-    USAGE, WRITE,
-};
-use sval_program::{Source, read_script};
+use sval_program::job::run;
+use sval_program::status::{BAD_CALL, BAD_LINE, DONE, INVALID_KEY, INVALID_NUMBER, UNFINISHED};
+use sval_program::{Failure, Fault, Source, read_script};
 use sval_script::Script;
 
 /// What checking the calls of a script found, which never refuses.
@@ -35,24 +36,24 @@ fn found(error: CheckError) -> Failure
     ensures { failure_of_check error ≡ Some result }
 {
     match error {
-        CheckError::BadCall { at } => Failure::Script(Fault::BadCall { line: at }),
-        CheckError::Unfinished => Failure::Script(Fault::Unfinished),
-        CheckError::NoMemory => Failure::Write(SinkError::NoMemory),
+        CheckError::BadCall { at } => Failure::Fault(Fault::BadCall { line: at }),
+        CheckError::Unfinished => Failure::Fault(Fault::Unfinished { many: false }),
+        CheckError::NoMemory => Failure::NoMemory,
         CheckError::Refused => unreachable!("a script doesn't refuse"),
     }
 }
 
-/// Why a value that was checked wasn't written.
+/// Why a value that was captured wasn't written.
 fn unwritten(error: CborError) -> Failure
     requires unlike_no_tree { error ≡ CborError.NotATree → ⊥ }
     requires unlike_refused { error ≡ CborError.Refused → ⊥ }
     ensures { failure_of_cbor error ≡ Some result }
 {
     match error {
-        CborError::Key => Failure::Script(Fault::Value(Refusal::Key)),
-        CborError::Number => Failure::Script(Fault::Value(Refusal::Number)),
-        CborError::Raw => Failure::Script(Fault::Value(Refusal::Raw)),
-        CborError::NotInteger => Failure::Script(Fault::Value(Refusal::NotInteger)),
+        CborError::Key => Failure::Fault(Fault::InvalidKey),
+        CborError::Number => Failure::Fault(Fault::InvalidNumber),
+        CborError::Raw => Failure::Fault(Fault::Raw),
+        CborError::NotInteger => Failure::Fault(Fault::NotInteger),
         CborError::Write => Failure::Write(SinkError::Failed),
         CborError::NoMemory => Failure::Write(SinkError::NoMemory),
         CborError::NotATree => unreachable!("the calls are one whole value"),
@@ -60,37 +61,51 @@ fn unwritten(error: CborError) -> Failure
     }
 }
 
-/// Writes a script whose calls are one whole value.
-fn write_value<K: Sink>(alloc: Global, script: &Script, out: &mut K) -> Result<(), Failure>
-    requires { IsChecked (makes script.now) }
-    ensures { (bytes : List ℕ) → lines bytes ≡ Good script.now
-        → WritesScript K.told bytes result out.old out.new }
+/// Writes a value whose texts and binaries come whole, and that doesn't refuse.
+fn write_captured<'v, K: Sink, V: Value<'v, Lent<'v>>>(out: &mut K, v: &'v V) -> Result<(), Failure>
+    requires { (V.emission v.now).refuses ≡ false }
+    ensures { (script : List ℕ) → IsVerdict (Whole (written (V.emission v.now).calls)) script
+        → ServesBytes cbor_terms K.told tt script result out.old out.new }
 {
-    match write_checked(alloc, out, script) {
+    match write_value(out, v) {
         Ok(()) => Ok(()),
         Err(error) => Err(unwritten(error)),
+    }
+}
+
+/// Captures a script whose calls are one whole value, and writes what was captured.
+fn write_tree<K: Sink>(alloc: Global, script: &Script, out: &mut K) -> Result<(), Failure>
+    requires { IsChecked (makes script.now) }
+    ensures { (bytes : List ℕ) → lines bytes ≡ Good script.now
+        → ServesBytes cbor_terms K.told tt bytes result out.old out.new }
+{
+    match ValueBuf::collect(alloc, script) {
+        Ok(buffer) => write_captured(out, &buffer),
+        Err(error) => match error.kind() {
+            ErrorKind::NoAlloc { .. } => Err(Failure::NoMemory),
+            _ => unreachable!("a value that spells a tree is captured"),
+        },
     }
 }
 
 /// Checks a script, and writes the value that its calls spell. The clause holds of all bytes whose lines are its calls.
 fn write_script<K: Sink>(alloc: Global, script: &Script, out: &mut K) -> Result<(), Failure>
     ensures { (bytes : List ℕ) → lines bytes ≡ Good script.now
-        → WritesScript K.told bytes result out.old out.new }
+        → ServesBytes cbor_terms K.told tt bytes result out.old out.new }
 {
     match check(alloc, script) {
-        Ok(()) => write_value(alloc, script, out),
+        Ok(()) => write_tree(alloc, script, out),
         Err(error) => Err(found(error)),
     }
 }
 
 /// Reads the input whole, and serves the script that it is.
 fn serve_input<I: Source, K: Sink>(alloc: Global, input: &mut I, out: &mut K) -> Result<(), Failure>
-    ensures { ServesInput I.told K.told result input.old input.new out.old out.new }
+    ensures { ServesInput cbor_terms I.told K.told tt result input.old input.new out.old out.new }
 {
     let reader = read_script(alloc, input)?;
     let script = reader.finish()?;
-    write_script(alloc, &script, out)?;
-    Ok(out.flush()?)
+    write_script(alloc, &script, out)
 }
 
 /// What the program's words ask for, if they are a form: the only one is no words.
@@ -103,16 +118,17 @@ pub(crate) fn named_form(words: &[String]) -> Option<()>
     }
 }
 
-/// Serves a form.
-fn serve<I: Source, K: Sink>(
+/// Serves the form that the words are, if they are one.
+pub(crate) fn serve<I: Source, K: Sink>(
     alloc: Global,
-    form: Option<()>,
+    words: &[String],
     input: &mut I,
     out: &mut K,
 ) -> Result<(), Failure>
-    ensures { Serves I.told K.told form result input.old input.new out.old out.new }
+    ensures { Serves cbor_terms I.told K.told (map string_bytes words.now) result
+        input.old input.new out.old out.new }
 {
-    match form {
+    match named_form(words) {
         None => Err(Failure::Usage),
         Some(()) => serve_input(alloc, input, out),
     }
@@ -124,7 +140,7 @@ fn serve<I: Source, K: Sink>(
 /// The words are those after the program's name: there are none. The input is a script of calls, and is read to its end,
 /// at most 16,777,216 bytes and one more to see that there are too many. The value that its calls spell is written as
 /// [`stream_to_cbor`](crate::stream_to_cbor) writes it. Where the status isn't 0, one line is written to `diag` that says
-/// why; what `diag` answers changes nothing.
+/// why. What `diag` answers changes neither the status nor what is left of the input and the output.
 ///
 /// | status | comes |
 /// |---|---|
@@ -161,15 +177,18 @@ pub fn run_cbor<I: Source, K: Sink, D: Sink>(
     out: &mut K,
     diag: &mut D,
 ) -> u8
-    ensures known { is_status result ≡ true }
+    ensures ends { Ends cbor_terms I.told K.told (map string_bytes words.now) input.old input.new
+        out.old out.new result }
+
+    // Nothing but its line depends on what the third device answers.
+    ensures apart { runs.Reports cbor_terms I.told K.told (map string_bytes words.now) input.old input.new
+        out.old out.new (D.told diag.old) (D.told diag.new) result }
 
     // Each status comes only where it is so.
-    ensures usage { (result ≡ USAGE) ↔ (form_of words.now ≡ None) }
     ensures done { result ≡ DONE
         → OnAsked words.now (I.told input.old) (WritesBytes (K.told out.old) (K.told out.new)) }
     ensures writes { result ≡ DONE
         → OnAsked words.now (I.told input.old) (WritesValue (K.told out.old) (K.told out.new)) }
-    ensures flushed { result ≡ DONE → HoldsNothing (K.told out.new) }
     ensures bad_line { result ≡ BAD_LINE → OnAsked words.now (I.told input.old) HasBadLine }
     ensures bad_call { result ≡ BAD_CALL → OnAsked words.now (I.told input.old) HasBadCall }
     ensures unfinished { result ≡ UNFINISHED → OnAsked words.now (I.told input.old) (HasVerdict Unfinished) }
@@ -181,43 +200,18 @@ pub fn run_cbor<I: Source, K: Sink, D: Sink>(
         → OnAsked words.now (I.told input.old) (HasVerdict (Whole (Err RawJson))) }
     ensures not_integer { result ≡ NOT_INTEGER
         → OnAsked words.now (I.told input.old) (HasVerdict (Whole (Err NotInteger))) }
-    ensures write { result ≡ WRITE → Rose (K.told out.old).faults (K.told out.new).faults }
-    ensures read { result ≡ READ → Rose (I.told input.old).faults (I.told input.new).faults }
-    ensures own_want { result ≡ NO_MEMORY → IsOwnWant K.told out.old out.new }
-    ensures long { result ≡ TOO_LONG → IsTooLong (I.told input.old) (I.told input.new) }
-
-    // A fault of the source that was counted means READ.
-    ensures read_comes { (I.told input.old).faults < (I.told input.new).faults → result ≡ READ }
 
     // Where the devices don't fail, the status is the one that is due, or memory was wanting.
-    ensures comes { ¬ Rose (I.told input.old).faults (I.told input.new).faults
-        → ¬ Rose (K.told out.old).faults (K.told out.new).faults
+    ensures comes { AreQuiet I.told K.told input.old input.new out.old out.new
         → OnAsked words.now (I.told input.old) (OnShort (OnVerdict (IsStatusDue result))) }
-    ensures long_comes { ¬ Rose (I.told input.old).faults (I.told input.new).faults
-        → OnAsked words.now (I.told input.old) (OnLong ((result ≡ TOO_LONG) ⊎ (result ≡ NO_MEMORY))) }
 
     // What is left of the sink.
-    ensures untouched { is_unwritten result ≡ true → out.new ≡ out.old }
     ensures leaves { OnAsked words.now (I.told input.old)
         (OnShort (OnVerdict (MayLeave (K.told out.old) (K.told out.new)))) }
-    ensures leaves_long { OnAsked words.now (I.told input.old) (OnLong (out.new ≡ out.old)) }
-    ensures grows { Grows (K.told out.old) (K.told out.new) }
-
-    // What is left of the source.
-    ensures nothing_read { result ≡ USAGE → input.new ≡ input.old }
-    ensures spent { is_read result ≡ true → OnAsked words.now (I.told input.old) (IsSpent (I.told input.new)) }
-    ensures short { ¬ (result ≡ TOO_LONG) → StaysShort (I.told input.old) (I.told input.new) }
-
-    // The counts.
-    ensures steady { is_read result ≡ true → ((I.told input.new).faults ≡ (I.told input.old).faults)
-        × IsSteady (K.told out.old) (K.told out.new) }
-    ensures counts { ((I.told input.old).faults ≤ (I.told input.new).faults)
-        × NoCountFell (K.told out.old) (K.told out.new) }
 
     // What the third device is told.
     ensures reports { Reports (map string_bytes words.now) (I.told input.old) result
         (D.told diag.old) (D.told diag.new) }
 {
-    let served = serve(alloc, named_form(words), input, out);
-    conclude(served, diag)
+    run::<WriteCbor, I, K, D>(alloc, words, input, out, diag)
 }

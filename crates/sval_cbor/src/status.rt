@@ -1,7 +1,3 @@
-//! The statuses that the program has beside those of [`sval_program::status`].
+//! The statuses that the program has beside those of every program.
 
-/// The value has a text that says it is JSON.
-pub const RAW: u8 = 14;
-
-/// A number that comes as text isn't whole, or has more than 128 bits.
-pub const NOT_INTEGER: u8 = 15;
+pub use sval_program::status::{NOT_INTEGER, RAW};

@@ -93,7 +93,7 @@ fn stop_error(why: Stop) -> CborError
 }
 
 /// Streams a value whose calls are one whole value.
-pub(crate) fn write_checked<'v, K: Sink, V: Value<'v, Lent<'v>>>(
+fn write_checked<'v, K: Sink, V: Value<'v, Lent<'v>>>(
     alloc: Global,
     out: &mut K,
     v: &'v V,
@@ -113,7 +113,10 @@ pub(crate) fn write_checked<'v, K: Sink, V: Value<'v, Lent<'v>>>(
 }
 
 /// Writes a value whose texts and binaries come whole, unless a step of the writer refuses one of its calls.
-fn write_value<'v, K: Sink, V: Value<'v, Lent<'v>>>(out: &mut K, v: &'v V) -> Result<(), CborError>
+pub(crate) fn write_value<'v, K: Sink, V: Value<'v, Lent<'v>>>(
+    out: &mut K,
+    v: &'v V,
+) -> Result<(), CborError>
     requires { (V.emission v.now).refuses ≡ false }
     ensures due { AnswersDue result (K.told out.old) (written (V.emission v.now).calls) (K.told out.new) }
     ensures left { IsOfValue result → out.new ≡ out.old }

@@ -1,94 +1,65 @@
-use Rattle.std.proofs.Common.{sym, ap, subst, ◌∙◌}
-use Rattle.std.specs.Prelude.{ℕ, List}
+use Rattle.std.proofs.Common.{ap}
+use Rattle.std.specs.Prelude.{None, Err}
+use Rattle.sval_program.specs.declared.status.TheConstants.{BAD_LINE, BAD_CALL, UNFINISHED, INVALID_KEY, INVALID_NUMBER, RAW, NOT_INTEGER}
+use Rattle.sval_program.specs.Failures.{is_fault}
 use Rattle.sval_program.specs.Inputs.{OnShort}
-use Rattle.sval_program.specs.Reports.{TellsLine}
-use Rattle.sval_cbor.specs.Reports.{report}
-use Rattle.sval_cbor.specs.Forms.{form_of, OnAsked}
-use Rattle.sval_cbor.specs.Statuses.{is_read, IsStatusDue}
-use Rattle.sval_cbor.specs.Verdict.{OnVerdict}
-use Rattle.sval_cbor.proofs.RunAnswers.{Case, Ran, line_in}
+use Rattle.sval_program.specs.Runs as runs
+use Rattle.sval_program.proofs.JobRuns.{on_both}
+use Rattle.sval_cbor.specs.Forms.{form_of}
+use Rattle.sval_cbor.specs.Packs.{BadKey, BadNumber, RawJson, NotInteger}
+use Rattle.sval_cbor.specs.Serves.{cbor_terms, WritesBytes, WritesValue, MayLeave}
+use Rattle.sval_cbor.specs.Statuses.{IsStatusDue}
+use Rattle.sval_cbor.specs.Verdict.{Unfinished, Whole, HasVerdict, HasBadLine, HasBadCall, OnVerdict}
 use Rattle.sval_cbor.proofs.RunAnswers as answers
-use Rattle.sval_cbor.proofs.running.run_cbor.Given as given
 use Rattle.sval_cbor.proofs.running.run_cbor.Goals as goal
-use Rattle.sval_cbor.proofs.running.run_cbor.Goals.{After-conclude}
-
--- the devices of this run
-abbrev case_of : (g : given.Over) → After-conclude g → Case g.row.I.Denot g.row.K.Denot
-case_of g c = record {
-  source = g.I.Source.told;
-  sink = g.K.Sink.told;
-  before = c.args.input.now;
-  after = c.serve-served.new.input;
-  old = c.args.out.now;
-  new = c.serve-served.new.out;
-}
-
--- it served the form that the words are
-ran : (g : given.Over) (c : After-conclude g) → Ran (case_of g c) (form_of c.args.words.now) c.serve-served.result
-ran g c = subst (λ form. Ran (case_of g c) form c.serve-served.result) c.named_form.ensures c.serve-served.ensures
 
 pub returns-clause-done : goal.returns-clause-done
-returns-clause-done g c = λ e. answers.done (case_of g c) (form_of c.args.words.now) c.serve-served.result (ran g c) (sym c.conclude.ensures.status ∙ e)
+returns-clause-done g c = λ e.
+    on_both (form_of c.args.words.now) (g.I.Source.told c.args.input.now).left (runs.TakesDue cbor_terms None (g.K.Sink.told c.args.out.now) (g.K.Sink.told c.run.new.out)) (WritesBytes (g.K.Sink.told c.args.out.now) (g.K.Sink.told c.run.new.out)) (λ script asked t. answers.writes_bytes t)
+    (c.run.ensures.ends.done e)
 
 pub returns-clause-writes : goal.returns-clause-writes
-returns-clause-writes g c = λ e. answers.writes (case_of g c) (form_of c.args.words.now) c.serve-served.result (ran g c) (sym c.conclude.ensures.status ∙ e)
+returns-clause-writes g c = λ e.
+    let old = g.K.Sink.told c.args.out.now in
+    let new = g.K.Sink.told c.run.new.out in
+    on_both (form_of c.args.words.now) (g.I.Source.told c.args.input.now).left (runs.TakesDue cbor_terms None old new) (WritesValue old new) (λ script asked t. answers.writes_value old new script asked (answers.writes_bytes t)) (c.run.ensures.ends.done e)
 
 pub returns-clause-bad_line : goal.returns-clause-bad_line
-returns-clause-bad_line g c = λ e. answers.bad_line (case_of g c) (form_of c.args.words.now) c.serve-served.result (ran g c) (sym c.conclude.ensures.status ∙ e)
+returns-clause-bad_line g c = λ e.
+    answers.of_fault (form_of c.args.words.now) (g.I.Source.told c.args.input.now).left (g.K.Sink.told c.args.out.now) (g.K.Sink.told c.run.new.out) BAD_LINE HasBadLine (λ script asked line is. (line, is)) e (c.run.ensures.ends.finds (ap is_fault e))
 
 pub returns-clause-bad_call : goal.returns-clause-bad_call
-returns-clause-bad_call g c = λ e. answers.bad_call (case_of g c) (form_of c.args.words.now) c.serve-served.result (ran g c) (sym c.conclude.ensures.status ∙ e)
+returns-clause-bad_call g c = λ e.
+    answers.of_fault (form_of c.args.words.now) (g.I.Source.told c.args.input.now).left (g.K.Sink.told c.args.out.now) (g.K.Sink.told c.run.new.out) BAD_CALL HasBadCall (λ script asked line is. (line, is)) e (c.run.ensures.ends.finds (ap is_fault e))
 
 pub returns-clause-unfinished : goal.returns-clause-unfinished
-returns-clause-unfinished g c = λ e. answers.unfinished (case_of g c) (form_of c.args.words.now) c.serve-served.result (ran g c) (sym c.conclude.ensures.status ∙ e)
+returns-clause-unfinished g c = λ e.
+    answers.of_fault (form_of c.args.words.now) (g.I.Source.told c.args.input.now).left (g.K.Sink.told c.args.out.now) (g.K.Sink.told c.run.new.out) UNFINISHED (HasVerdict Unfinished) (λ script asked line is. is) e (c.run.ensures.ends.finds (ap is_fault e))
 
 pub returns-clause-invalid_key : goal.returns-clause-invalid_key
-returns-clause-invalid_key g c = λ e. answers.invalid_key (case_of g c) (form_of c.args.words.now) c.serve-served.result (ran g c) (sym c.conclude.ensures.status ∙ e)
+returns-clause-invalid_key g c = λ e.
+    answers.of_fault (form_of c.args.words.now) (g.I.Source.told c.args.input.now).left (g.K.Sink.told c.args.out.now) (g.K.Sink.told c.run.new.out) INVALID_KEY (HasVerdict (Whole (Err BadKey))) (λ script asked line is. is) e (c.run.ensures.ends.finds (ap is_fault e))
 
 pub returns-clause-invalid_number : goal.returns-clause-invalid_number
-returns-clause-invalid_number g c = λ e. answers.invalid_number (case_of g c) (form_of c.args.words.now) c.serve-served.result (ran g c) (sym c.conclude.ensures.status ∙ e)
+returns-clause-invalid_number g c = λ e.
+    answers.of_fault (form_of c.args.words.now) (g.I.Source.told c.args.input.now).left (g.K.Sink.told c.args.out.now) (g.K.Sink.told c.run.new.out) INVALID_NUMBER (HasVerdict (Whole (Err BadNumber))) (λ script asked line is. is) e (c.run.ensures.ends.finds (ap is_fault e))
 
 pub returns-clause-raw : goal.returns-clause-raw
-returns-clause-raw g c = λ e. answers.raw (case_of g c) (form_of c.args.words.now) c.serve-served.result (ran g c) (sym c.conclude.ensures.status ∙ e)
+returns-clause-raw g c = λ e.
+    answers.of_fault (form_of c.args.words.now) (g.I.Source.told c.args.input.now).left (g.K.Sink.told c.args.out.now) (g.K.Sink.told c.run.new.out) RAW (HasVerdict (Whole (Err RawJson))) (λ script asked line is. is) e (c.run.ensures.ends.finds (ap is_fault e))
 
 pub returns-clause-not_integer : goal.returns-clause-not_integer
-returns-clause-not_integer g c = λ e. answers.not_integer (case_of g c) (form_of c.args.words.now) c.serve-served.result (ran g c) (sym c.conclude.ensures.status ∙ e)
-
-pub returns-clause-leaves : goal.returns-clause-leaves
-returns-clause-leaves g c = answers.leaves (case_of g c) (form_of c.args.words.now) c.serve-served.result (ran g c)
-
-pub returns-clause-grows : goal.returns-clause-grows
-returns-clause-grows g c = answers.grows (case_of g c) (form_of c.args.words.now) c.serve-served.result (ran g c)
+returns-clause-not_integer g c = λ e.
+    answers.of_fault (form_of c.args.words.now) (g.I.Source.told c.args.input.now).left (g.K.Sink.told c.args.out.now) (g.K.Sink.told c.run.new.out) NOT_INTEGER (HasVerdict (Whole (Err NotInteger))) (λ script asked line is. is) e (c.run.ensures.ends.finds (ap is_fault e))
 
 pub returns-clause-comes : goal.returns-clause-comes
-returns-clause-comes g c = λ quiet_read quiet_write.
-    subst (λ status. OnAsked c.args.words.now (g.I.Source.told c.args.input.now) (OnShort (OnVerdict (IsStatusDue status)))) (sym c.conclude.ensures.status)
-    (answers.comes (case_of g c) (form_of c.args.words.now) c.serve-served.result (ran g c) quiet_read quiet_write)
+returns-clause-comes g c = λ quiet.
+    on_both (form_of c.args.words.now) (g.I.Source.told c.args.input.now).left (OnShort (runs.IsStatusDue cbor_terms c.run.result)) (OnShort (OnVerdict (IsStatusDue c.run.result))) (λ script asked due short. answers.status_due (due short)) (c.run.ensures.ends.comes quiet)
+
+pub returns-clause-leaves : goal.returns-clause-leaves
+returns-clause-leaves g c =
+    on_both (form_of c.args.words.now) (g.I.Source.told c.args.input.now).left (OnShort (runs.MayLeave cbor_terms g.K.Sink.told c.args.out.now c.run.new.out)) (OnShort (OnVerdict (MayLeave (g.K.Sink.told c.args.out.now) (g.K.Sink.told c.run.new.out))))
+    (λ script asked left short. answers.may_leave g.K.Sink.told c.args.out.now c.run.new.out script asked (left short)) c.run.ensures.ends.leaves
 
 pub returns-clause-reports : goal.returns-clause-reports
-returns-clause-reports g c =
-    let told = g.D.Sink.told in
-    let r = c.serve-served.result in
-    record {
-      line = line_in r;
-      bad_line = λ e. answers.names_bad_line (case_of g c) (form_of c.args.words.now) r (ran g c) (sym c.conclude.ensures.status ∙ e);
-      bad_call = λ e. answers.names_bad_call (case_of g c) (form_of c.args.words.now) r (ran g c) (sym c.conclude.ensures.status ∙ e);
-      tells =
-          subst (λ (status : ℕ). TellsLine (told c.args.diag.now) (report status (line_in r)) (told c.conclude.new.diag)) (sym c.conclude.ensures.status)
-          (subst (λ (line : List ℕ). TellsLine (told c.args.diag.now) line (told c.conclude.new.diag)) (answers.line_is r) c.conclude.ensures.tells);
-    }
-
-pub returns-clause-write : goal.returns-clause-write
-returns-clause-write g c = λ e. answers.write (case_of g c) (form_of c.args.words.now) c.serve-served.result (ran g c) (sym c.conclude.ensures.status ∙ e)
-
-pub returns-clause-own_want : goal.returns-clause-own_want
-returns-clause-own_want g c = λ e. answers.own_want (case_of g c) (form_of c.args.words.now) c.serve-served.result (ran g c) (sym c.conclude.ensures.status ∙ e)
-
-pub returns-clause-spent : goal.returns-clause-spent
-returns-clause-spent g c = λ e. answers.spent (case_of g c) (form_of c.args.words.now) c.serve-served.result (ran g c) (ap is_read (sym c.conclude.ensures.status) ∙ e)
-
-pub returns-clause-steady : goal.returns-clause-steady
-returns-clause-steady g c = λ e. answers.steady (case_of g c) (form_of c.args.words.now) c.serve-served.result (ran g c) (ap is_read (sym c.conclude.ensures.status) ∙ e)
-
-pub returns-clause-short : goal.returns-clause-short
-returns-clause-short g c = λ no. answers.stays_short (case_of g c) (form_of c.args.words.now) c.serve-served.result (ran g c) (λ e. no (c.conclude.ensures.status ∙ e))
+returns-clause-reports g c = answers.reports c.run.ensures.reports

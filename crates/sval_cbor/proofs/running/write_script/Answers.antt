@@ -3,8 +3,8 @@ use Rattle.sval_cbor.proofs.Answered.{checked}
 use Rattle.sval_cbor.proofs.ScriptAnswers.{check_fails}
 use Rattle.sval_cbor.proofs.running.write_script.Goals as goal
 
-pub write_value-requires : goal.write_value-requires
-write_value-requires g c = checked (makes c.args.script.now) c.in-Ok.ensures.ok c.in-Ok.ensures.comes
+pub write_tree-requires : goal.write_tree-requires
+write_tree-requires g c = checked (makes c.args.script.now) c.in-Ok.ensures.ok c.in-Ok.ensures.comes
 
 pub returns-in-Err : goal.returns-in-Err
 returns-in-Err g c = λ bytes good.
