@@ -21,7 +21,6 @@ mod Verdicts
 mod LeftTexts
 mod ScriptAnswers
 mod RunAnswers
-mod RunCounts
 mod WordSteps
 mod examples
 mod TakenCalls

@@ -17,8 +17,6 @@ pub mod ErrorTexts
 pub mod Words
 pub mod Forms
 pub mod Verdict
-pub mod Refused
 pub mod Statuses
 pub mod Reports
 pub mod Serves
-pub mod Ends

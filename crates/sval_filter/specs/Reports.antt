@@ -1,14 +1,9 @@
 -- What the third device is told.
-use Rattle.std.specs.Prelude.{◌≡◌, ℕ, false, List, [], ◌∷◌, ◌++◌, Result, Ok, Err, codes}
+use Rattle.std.specs.Prelude.{◌≡◌, ℕ, false, List, [], ◌∷◌, ◌++◌, codes}
 use Rattle.sval_json.specs.Sinks.{Told}
 use Rattle.sval_program.specs.declared.status.TheConstants.{USAGE, BAD_LINE, BAD_CALL}
 use Rattle.sval_program.specs.Reports.{TellsLine, script_reports, device_reports, report_among}
 use Rattle.sval_program.specs.Sources.{Supply}
-use Rattle.sval_filter.specs.declared.failure.Failure.{Failure}
-use Rattle.sval_filter.specs.declared.failure.Failure.TheVariants as failure
-use Rattle.sval_filter.specs.declared.failure.Fault.{Fault}
-use Rattle.sval_filter.specs.declared.failure.Fault.TheVariants as fault
-use Rattle.sval_filter.specs.Statuses.{status_of_fault, status_of_failure}
 use Rattle.sval_filter.specs.Forms.{OnNamed}
 use Rattle.sval_filter.specs.Verdict.{BadLine, BadCall, IsVerdict}
 
@@ -19,30 +14,6 @@ reports number = ((USAGE, codes "usage: sval_filter drop|keep PATH...\n") ∷ []
 -- the status's line; none for the other statuses
 abbrev pub report : ℕ → ℕ → List ℕ
 report status number = report_among status (reports number)
-
--- the line of the script that a fault names, if it names one
-abbrev pub line_named : Fault → ℕ
-line_named (fault.BadLine n) = n
-line_named (fault.BadCall n) = n
-line_named fault.Unfinished = 0
-
--- a fault's line
-abbrev pub report_of_fault : Fault → List ℕ
-report_of_fault why = report (status_of_fault why) (line_named why)
-
--- the line of the script that a failure names, if it names one
-abbrev pub line_of : Failure → ℕ
-line_of (failure.Script why) = line_named why
-line_of _ = 0
-
--- a failure's line
-abbrev pub report_of : Failure → List ℕ
-report_of why = report (status_of_failure why) (line_of why)
-
--- the line that is told: a failure's, and none where there is no failure
-abbrev pub line_of_result : Result (Unit {0}) Failure → List ℕ
-line_of_result (Ok done) = []
-line_of_result (Err why) = report_of why
 
 -- the status's line was told, which for the statuses 3 and 4 names the line that the verdict names
 pub record Reports (words : List (List ℕ)) (input : Supply) (status : ℕ) (old new : Told) : Type 0 where

@@ -7,7 +7,6 @@
 //! them.
 #![tactic(auto)]
 
-mod failure;
 mod filter;
 mod form;
 mod held;

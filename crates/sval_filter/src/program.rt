@@ -1,46 +1,38 @@
-//! The whole program, for a process.
+//! The program, as a job.
 
-ghost use Rattle.std.specs.Prelude.{refl};
-ghost use Rattle.sval_filter.specs.Ends.{FilterEnds};
-ghost use Rattle.sval_filter.specs.Statuses.{is_status};
-ghost use Rattle.sval_filter.specs.Words.{rule_and_paths};
+ghost use Rattle.sval_filter.specs.Serves.{filter_terms};
 
 use crate::form::named_form;
-use crate::running::run_filter;
+use crate::running::serve;
 use std::alloc::Global;
 use sval_json::Sink;
-use sval_program::{Program, Source};
+use sval_program::{Failure, Job, Line, Source};
 
-/// The program, as [`run_process`](sval_program::run_process) and [`run_streams`](sval_program::run_streams) run it: what
-/// it does is [`run_filter`], and its `Ends` are the clauses of `run_filter` on what the source and the sink tell.
+/// The program, as [`run_process`](sval_program::run_process) and [`run_streams`](sval_program::run_streams) run it:
+/// [`run_filter`](crate::run_filter) says more of its runs.
 pub struct FilterFields;
 
-impl Program for FilterFields {
+impl Job for FilterFields {
     ghost use Rattle.sval_filter.specs.Forms.{Asked};
 
     ghost Form = { Asked };
 
-    ghost form_named = { rule_and_paths };
+    ghost terms = { filter_terms };
 
-    ghost is_status = { is_status };
-
-    ghost Ends = { FilterEnds };
-
-    ghost has_usage = { refl };
-
-    ghost has_no_memory = { refl };
+    fn usage() -> Line {
+        Line::text("usage: sval_filter drop|keep PATH...\n")
+    }
 
     fn takes(words: &[String]) -> bool {
         named_form(words).is_some()
     }
 
-    fn run<I: Source, K: Sink, D: Sink>(
+    fn serve<I: Source, K: Sink>(
         alloc: Global,
         words: &[String],
         input: &mut I,
         out: &mut K,
-        diag: &mut D,
-    ) -> u8 {
-        run_filter(alloc, words, input, out, diag)
+    ) -> Result<(), Failure> {
+        serve(alloc, words, input, out)
     }
 }

@@ -1,37 +1,32 @@
 //! The whole program, over any words and devices.
 
-ghost use Rattle.std.specs.Prelude.{◌≡◌, ◌⊎◌, ◌<◌, ◌≤◌, ◌↔◌, ℕ, List, true, None, Some, Ok, Err, IfOk, IfErr, map, string_bytes};
-ghost use Rattle.sval_core.specs.Law.{Rose};
-ghost use Rattle.sval_core.specs.Spells.{Spells};
-ghost use Rattle.sval_core.specs.Trees.{Tree};
+ghost use Rattle.std.specs.Prelude.{◌≡◌, ℕ, List, Some, IfOk, IfErr, map, string_bytes};
 ghost use Rattle.sval_core.specs.Values.{makes};
 ghost use Rattle.sval_buffer.specs.FlatForest.{forest_in};
-ghost use Rattle.sval_buffer.specs.Forest.{replayed};
 ghost use Rattle.sval_check.specs.Checks.{IsOneValue};
 ghost use Rattle.sval_json.specs.Number.{InvalidKey, InvalidNumber};
-ghost use Rattle.sval_json.specs.Sinks.{HoldsNothing, IsSteady, NoCountFell};
-ghost use Rattle.sval_program.specs.Inputs.{OnShort, OnLong, IsSpent, IsTooLong, StaysShort};
-ghost use Rattle.sval_program.specs.Outputs.{Grows, IsOwnWant};
+ghost use Rattle.sval_program.specs.Inputs.{OnShort};
+ghost use Rattle.sval_program.specs.Jobs.{ServesBytes, ServesInput, Serves};
+ghost use Rattle.sval_program.specs.Runs.{AreQuiet, Ends};
+ghost use Rattle.sval_program.specs.Runs as runs;
 ghost use Rattle.sval_script.specs.Lines.{lines, Good};
-ghost use Rattle.sval_filter.specs.Forms.{form_of, OnAsked};
+ghost use Rattle.sval_filter.specs.Forms.{Asked, OnAsked};
 ghost use Rattle.sval_filter.specs.Pruning.{IsPruned, IsWant};
 ghost use Rattle.sval_filter.specs.Reports.{Reports};
-ghost use Rattle.sval_filter.specs.Serves.{WritesText, WritesUpToRefusal, MayLeave, WritesLeft, WritesScript, ServesInput, Serves, failure_of_check};
-ghost use Rattle.sval_filter.specs.Statuses.{is_status, is_unwritten, is_read, IsStatusDue};
+ghost use Rattle.sval_filter.specs.Serves.{filter_terms, IsLeftOf, WritesText, WritesUpToRefusal, MayLeave, failure_of_check};
+ghost use Rattle.sval_filter.specs.Statuses.{IsStatusDue};
 ghost use Rattle.sval_filter.specs.Verdict.{Unfinished, IsVerdict, HasBadLine, HasBadCall, OnVerdict};
 
-use crate::failure::{Failure, Fault, Refusal, conclude};
 use crate::form::{Form, named_form, paths_of};
+use crate::program::FilterFields;
 use crate::pruning::{PruneError, prune_tree};
 use std::alloc::Global;
 use sval_buffer::Value;
 use sval_check::{CheckError, check};
 use sval_json::{ErrorKind, Sink, SinkError, stream_to_io_write};
-use sval_program::status::{
-    BAD_CALL, BAD_LINE, DONE, INVALID_KEY, INVALID_NUMBER, NO_MEMORY, READ, TOO_LONG, UNFINISHED,
-    USAGE, WRITE,
-};
-use sval_program::{Source, read_script};
+use sval_program::job::run;
+use sval_program::status::{BAD_CALL, BAD_LINE, DONE, INVALID_KEY, INVALID_NUMBER, UNFINISHED};
+use sval_program::{Failure, Fault, Source, read_script};
 use sval_script::Script;
 
 /// What checking the calls of a script found, which never refuses.
@@ -40,9 +35,9 @@ fn found(error: CheckError) -> Failure
     ensures { failure_of_check error ≡ Some result }
 {
     match error {
-        CheckError::BadCall { at } => Failure::Script(Fault::BadCall { line: at }),
-        CheckError::Unfinished => Failure::Script(Fault::Unfinished),
-        CheckError::NoMemory => Failure::Write(SinkError::NoMemory),
+        CheckError::BadCall { at } => Failure::Fault(Fault::BadCall { line: at }),
+        CheckError::Unfinished => Failure::Fault(Fault::Unfinished { many: false }),
+        CheckError::NoMemory => Failure::NoMemory,
         CheckError::Refused => unreachable!("a script doesn't refuse"),
     }
 }
@@ -57,18 +52,18 @@ fn left_of<'v>(alloc: Global, form: &Form<'_>, script: &'v Script) -> Result<Val
     prune_tree(alloc, script, form.rule, &paths)
 }
 
-/// Writes the JSON of a captured value.
+/// Writes the JSON of what is left of a script's value.
 fn write_json<K: Sink>(left: &Value<'_>, out: &mut K) -> Result<(), Failure>
-    ensures { (tree : Tree) → Spells (replayed (forest_in left.now)) tree
-        → WritesLeft K.told tree result out.old out.new }
+    ensures { (bytes : List ℕ) (asked : Asked) → IsLeftOf (forest_in left.now) bytes asked
+        → ServesBytes filter_terms K.told asked bytes result out.old out.new }
 {
     match stream_to_io_write(out, left) {
         Ok(()) => Ok(()),
         Err(error) => match error.kind() {
             ErrorKind::IO => Err(Failure::Write(SinkError::Failed)),
             ErrorKind::NoMemory => Err(Failure::Write(SinkError::NoMemory)),
-            ErrorKind::InvalidKey => Err(Failure::Refused(Refusal::Key)),
-            ErrorKind::InvalidNumber => Err(Failure::Refused(Refusal::Number)),
+            ErrorKind::InvalidKey => Err(Failure::Fault(Fault::InvalidKey)),
+            ErrorKind::InvalidNumber => Err(Failure::Fault(Fault::InvalidNumber)),
             ErrorKind::Generic => unreachable!("a captured value doesn't refuse"),
         },
     }
@@ -83,11 +78,11 @@ fn write_value<K: Sink>(
 ) -> Result<(), Failure>
     requires { IsOneValue (makes script.now) }
     ensures { (bytes : List ℕ) → lines bytes ≡ Good script.now
-        → WritesScript K.told bytes form.now result out.old out.new }
+        → ServesBytes filter_terms K.told form.now bytes result out.old out.new }
 {
     match left_of(alloc, form, script) {
         Ok(left) => write_json(&left, out),
-        Err(PruneError::NoMemory) => Err(Failure::Write(SinkError::NoMemory)),
+        Err(PruneError::NoMemory) => Err(Failure::NoMemory),
         Err(_) => unreachable!("the calls are one whole value"),
     }
 }
@@ -101,7 +96,7 @@ fn write_script<K: Sink>(
     out: &mut K,
 ) -> Result<(), Failure>
     ensures { (bytes : List ℕ) → lines bytes ≡ Good script.now
-        → WritesScript K.told bytes form.now result out.old out.new }
+        → ServesBytes filter_terms K.told form.now bytes result out.old out.new }
 {
     match check(alloc, script) {
         Ok(()) => write_value(alloc, form, script, out),
@@ -116,22 +111,23 @@ fn serve_input<I: Source, K: Sink>(
     input: &mut I,
     out: &mut K,
 ) -> Result<(), Failure>
-    ensures { ServesInput I.told K.told form.now result input.old input.new out.old out.new }
+    ensures { ServesInput filter_terms I.told K.told form.now result
+        input.old input.new out.old out.new }
 {
     let reader = read_script(alloc, input)?;
     let script = reader.finish()?;
-    write_script(alloc, form, &script, out)?;
-    Ok(out.flush()?)
+    write_script(alloc, form, &script, out)
 }
 
 /// Serves the form that the words are, if they are one.
-fn serve<I: Source, K: Sink>(
+pub(crate) fn serve<I: Source, K: Sink>(
     alloc: Global,
     words: &[String],
     input: &mut I,
     out: &mut K,
 ) -> Result<(), Failure>
-    ensures { Serves I.told K.told (form_of words.now) result input.old input.new out.old out.new }
+    ensures { Serves filter_terms I.told K.told (map string_bytes words.now) result
+        input.old input.new out.old out.new }
 {
     match named_form(words) {
         None => Err(Failure::Usage),
@@ -182,13 +178,16 @@ pub fn run_filter<I: Source, K: Sink, D: Sink>(
     out: &mut K,
     diag: &mut D,
 ) -> u8
-    ensures known { is_status result ≡ true }
+    ensures ends { Ends filter_terms I.told K.told (map string_bytes words.now) input.old input.new
+        out.old out.new result }
+
+    // Nothing but its line depends on what the third device answers.
+    ensures apart { runs.Reports filter_terms I.told K.told (map string_bytes words.now) input.old input.new
+        out.old out.new (D.told diag.old) (D.told diag.new) result }
 
     // Each status comes only where it is so.
-    ensures usage { (result ≡ USAGE) ↔ (form_of words.now ≡ None) }
     ensures done { result ≡ DONE
         → OnAsked words.now (I.told input.old) (WritesText (K.told out.old) (K.told out.new)) }
-    ensures flushed { result ≡ DONE → HoldsNothing (K.told out.new) }
     ensures bad_line { result ≡ BAD_LINE → OnAsked words.now (I.told input.old) HasBadLine }
     ensures bad_call { result ≡ BAD_CALL → OnAsked words.now (I.told input.old) HasBadCall }
     ensures unfinished { result ≡ UNFINISHED → OnAsked words.now (I.told input.old) (IsVerdict Unfinished) }
@@ -196,43 +195,18 @@ pub fn run_filter<I: Source, K: Sink, D: Sink>(
         → OnAsked words.now (I.told input.old) (WritesUpToRefusal InvalidKey (K.told out.old) (K.told out.new)) }
     ensures invalid_number { result ≡ INVALID_NUMBER
         → OnAsked words.now (I.told input.old) (WritesUpToRefusal InvalidNumber (K.told out.old) (K.told out.new)) }
-    ensures write { result ≡ WRITE → Rose (K.told out.old).faults (K.told out.new).faults }
-    ensures read { result ≡ READ → Rose (I.told input.old).faults (I.told input.new).faults }
-    ensures own_want { result ≡ NO_MEMORY → IsOwnWant K.told out.old out.new }
-    ensures long { result ≡ TOO_LONG → IsTooLong (I.told input.old) (I.told input.new) }
-
-    // A fault of the source that was counted means READ.
-    ensures read_comes { (I.told input.old).faults < (I.told input.new).faults → result ≡ READ }
 
     // Where the devices don't fail, the status is the one that is due, or memory was wanting.
-    ensures comes { ¬ Rose (I.told input.old).faults (I.told input.new).faults
-        → ¬ Rose (K.told out.old).faults (K.told out.new).faults
+    ensures comes { AreQuiet I.told K.told input.old input.new out.old out.new
         → OnAsked words.now (I.told input.old) (OnShort (OnVerdict (IsStatusDue result))) }
-    ensures long_comes { ¬ Rose (I.told input.old).faults (I.told input.new).faults
-        → OnAsked words.now (I.told input.old) (OnLong ((result ≡ TOO_LONG) ⊎ (result ≡ NO_MEMORY))) }
 
     // What is left of the sink.
-    ensures untouched { is_unwritten result ≡ true → out.new ≡ out.old }
     ensures leaves { OnAsked words.now (I.told input.old)
         (OnShort (OnVerdict (MayLeave (K.told out.old) (K.told out.new)))) }
-    ensures leaves_long { OnAsked words.now (I.told input.old) (OnLong (out.new ≡ out.old)) }
-    ensures grows { Grows (K.told out.old) (K.told out.new) }
-
-    // What is left of the source.
-    ensures nothing_read { result ≡ USAGE → input.new ≡ input.old }
-    ensures spent { is_read result ≡ true → OnAsked words.now (I.told input.old) (IsSpent (I.told input.new)) }
-    ensures short { ¬ (result ≡ TOO_LONG) → StaysShort (I.told input.old) (I.told input.new) }
-
-    // The counts.
-    ensures steady { is_read result ≡ true → ((I.told input.new).faults ≡ (I.told input.old).faults)
-        × IsSteady (K.told out.old) (K.told out.new) }
-    ensures counts { ((I.told input.old).faults ≤ (I.told input.new).faults)
-        × NoCountFell (K.told out.old) (K.told out.new) }
 
     // What the third device is told.
     ensures reports { Reports (map string_bytes words.now) (I.told input.old) result
         (D.told diag.old) (D.told diag.new) }
 {
-    let served = serve(alloc, words, input, out);
-    conclude(served, diag)
+    run::<FilterFields, I, K, D>(alloc, words, input, out, diag)
 }
