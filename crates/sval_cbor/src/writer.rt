@@ -1,6 +1,5 @@
 //! The writer: a stream that writes CBOR to a sink.
 
-mod marks;
 mod names;
 mod parts;
 mod texts;

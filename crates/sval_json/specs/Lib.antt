@@ -7,6 +7,7 @@ pub mod Shape
 pub mod Mended
 pub mod Actions
 pub mod Steps
+pub mod Marks
 pub mod SeenWriter
 pub mod JsonTexts
 pub mod SameTexts

@@ -14,6 +14,7 @@ mod faulty;
 mod fixed;
 mod json_str;
 pub mod laws;
+pub mod marks;
 mod number;
 mod passed;
 mod real;

@@ -1,39 +1,22 @@
 //! Names: of enums and tagged values, and by themselves.
 
-ghost use Rattle.std.specs.Prelude.{◌≡◌, [], ◌∷◌, ◌++◌, true, false, if◌then◌else◌, Err, None, Some, is_some, option_map};
-ghost use Rattle.std.specs.Fmt.{signed_decimal};
+ghost use Rattle.std.specs.Prelude.{◌≡◌, [], ◌∷◌, ◌++◌, true, false, if◌then◌else◌, Err, None, Some};
 ghost use Rattle.sval_label.specs.Calls.{EnumEnd, TaggedBegin, Standalone};
 ghost use Rattle.sval_label.specs.SeenName.{name_of};
 ghost use Rattle.sval_json.specs.Shape.{handle_of, own, number_or_null};
 ghost use Rattle.sval_cbor.specs.Packs.{on_ok, RawJson};
 ghost use Rattle.sval_cbor.specs.Cbor.{string};
 ghost use Rattle.sval_cbor.specs.Writing.{Elsewhere, Begun, writes, opening, after_handle, enum_end, step};
-ghost use Rattle.sval_cbor.specs.SeenWriter.{seen_option_index, seen_handle, seen_place};
+ghost use Rattle.sval_json.specs.Marks.{seen_option_index, seen_handle};
+ghost use Rattle.sval_cbor.specs.SeenWriter.{seen_place};
 ghost use Rattle.sval_cbor.specs.WriterLaw.{Does, json_bytes, writer_state, writer_target, writer_view};
 
 use crate::error::Refusal;
-use crate::writer::marks::{TextKind, is_none, text_kind};
 use crate::writer::{BREAK, MAP, Place, Writer};
 use itoa::Buffer;
 use sval_core::{Index, Int, Label, Result, Tag};
 use sval_json::Sink;
-
-/// The number of an index that stands for a name, where it fits.
-fn number_of(index: Option<&Index>) -> Option<i64>
-    ensures { option_map signed_decimal result ≡ handle_of None (seen_option_index index.entry) }
-{
-    match index {
-        Some(index) => index.to_i64(),
-        None => None,
-    }
-}
-
-/// Whether something stands for a name in front of a value.
-fn has_handle(label: Option<&Label>, index: Option<&Index>) -> bool
-    ensures { result ≡ is_some (seen_handle label.entry index.entry) }
-{
-    label.is_some() || number_of(index).is_some()
-}
+use sval_json::marks::{TextKind, has_handle, is_none, number_of, text_kind};
 
 /// Where the writer stands after a value of this name.
 pub(crate) fn place_after(label: Option<&Label>, index: Option<&Index>) -> Place

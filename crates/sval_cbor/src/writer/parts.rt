@@ -3,7 +3,7 @@
 ghost use Rattle.std.specs.Prelude.{◌++◌, [], ◌∷◌};
 ghost use Rattle.sval_label.specs.Grouped.{seen_head, seen_slot};
 ghost use Rattle.sval_cbor.specs.Packs.{on_ok};
-ghost use Rattle.sval_cbor.specs.SeenWriter.{seen_handle};
+ghost use Rattle.sval_json.specs.Marks.{seen_handle};
 ghost use Rattle.sval_cbor.specs.Writing.{Elsewhere, writes, unless_key, opening, after_handle};
 ghost use Rattle.sval_cbor.specs.Writing.{container_begins, container_ends, part_begins, part_ends};
 ghost use Rattle.sval_cbor.specs.WriterLaw.{Does, writer_state, writer_target, writer_view};

@@ -1,7 +1,6 @@
 //! Names, before a variant's value and by themselves.
 
-ghost use Rattle.std.specs.Prelude.{◌≡◌, ◌++◌, true, None, Some, is_some, option_map, codes};
-ghost use Rattle.std.specs.Fmt.{signed_decimal};
+ghost use Rattle.std.specs.Prelude.{◌≡◌, ◌++◌, true, None, Some, codes};
 ghost use Rattle.sval_label.specs.Calls.{EnumEnd};
 ghost use Rattle.sval_label.specs.SeenName.{name_of};
 ghost use Rattle.sval_json.specs.Actions.{write, when, ◌then◌, ◌sets◌, set_named, set_empty};
@@ -9,33 +8,16 @@ ghost use Rattle.sval_json.specs.Escape.{escaped};
 ghost use Rattle.sval_json.specs.Shape.{handle_of, is_none_tag};
 ghost use Rattle.sval_json.specs.Steps.{refuse_in_key, opens_handle, name_step, closes};
 ghost use Rattle.sval_json.specs.Steps.{label_step, own_step, standalone_step, step};
-ghost use Rattle.sval_json.specs.SeenWriter.{seen_option_index, seen_handle};
+ghost use Rattle.sval_json.specs.Marks.{seen_option_index, seen_handle};
 ghost use Rattle.sval_json.specs.WriterLaw.{Does, writer_view};
 
+use crate::marks::{has_handle, is_none, number_of};
 use crate::sink::Sink;
 use crate::style::Variants;
 use crate::writer::Writer;
-use crate::writer::marks::is_none;
 use crate::writer::short::Quoted;
 use itoa::Buffer;
 use sval_core::{Index, Label, Result, Tag};
-
-/// The number of an index that stands for a name, where it fits.
-fn number_of(index: Option<&Index>) -> Option<i64>
-    ensures { option_map signed_decimal result ≡ handle_of None (seen_option_index index.entry) }
-{
-    match index {
-        Some(index) => index.to_i64(),
-        None => None,
-    }
-}
-
-/// Whether something stands for a name in front of a value.
-pub(crate) fn has_handle(label: Option<&Label>, index: Option<&Index>) -> bool
-    ensures { result ≡ is_some (seen_handle label.entry index.entry) }
-{
-    label.is_some() || number_of(index).is_some()
-}
 
 impl<'k, K: Sink> Writer<'k, K> {
     /// Opens an object with an escaped text between others, or refuses where a key is due.

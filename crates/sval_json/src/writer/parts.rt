@@ -6,12 +6,12 @@ ghost use Rattle.sval_label.specs.Grouped.{seen_head, seen_slot};
 ghost use Rattle.sval_json.specs.Actions.{write, ◌then◌, ◌sets◌, set_named};
 ghost use Rattle.sval_json.specs.Steps.{container_begins, container_ends, part_begins, part_ends};
 ghost use Rattle.sval_json.specs.Steps.{opens, closes, name_step, item_begins, field_begins};
-ghost use Rattle.sval_json.specs.SeenWriter.{seen_handle};
+ghost use Rattle.sval_json.specs.Marks.{seen_handle};
 ghost use Rattle.sval_json.specs.WriterLaw.{Does, writer_view};
 
+use crate::marks::has_handle;
 use crate::sink::Sink;
 use crate::writer::Writer;
-use crate::writer::names::has_handle;
 use crate::writer::short::Quoted;
 use sval_core::{Head, Index, Label, Result, Slot};
 

@@ -7,7 +7,7 @@ ghost use Rattle.sval_json.specs.SeenWriter.{quoted_text};
 ghost use Rattle.sval_json.specs.Steps.{label_text};
 
 use crate::escape::is_all_plain;
-use crate::writer::marks::is_ident;
+use crate::marks::is_ident;
 use arrayvec::ArrayString;
 use sval_core::Label;
 

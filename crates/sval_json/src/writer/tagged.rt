@@ -3,15 +3,14 @@
 ghost use Rattle.std.specs.Prelude.{option_map};
 ghost use Rattle.sval_label.specs.Calls.{TaggedBegin, TaggedEnd};
 ghost use Rattle.sval_label.specs.SeenName.{name_of};
-ghost use Rattle.sval_json.specs.SeenWriter.{seen_kind};
+ghost use Rattle.sval_json.specs.Marks.{seen_kind};
 ghost use Rattle.sval_json.specs.Steps.{step, refuses_key, begins_tagged, ends_tagged, number_is_over, number_ends};
 ghost use Rattle.sval_json.specs.WriterLaw.{Does, IsOnlySet, writer_view};
 
 use crate::error::Refusal;
+use crate::marks::{TextKind, has_handle, text_kind};
 use crate::number::NumberMachine;
 use crate::sink::Sink;
-use crate::writer::marks::{TextKind, text_kind};
-use crate::writer::names::has_handle;
 use crate::writer::{Handler, Writer};
 use sval_core::{Index, Label, Result, Tag};
 

@@ -1,6 +1,6 @@
 use Rattle.std.specs.Prelude.{[]}
 use Rattle.sval_cbor.specs.WriterLaw.{writer_state}
-use Rattle.sval_cbor.specs.SeenWriter.{seen_handle}
+use Rattle.sval_json.specs.Marks.{seen_handle}
 use Rattle.sval_cbor.specs.Writing.{State, Elsewhere, Begun, opening}
 use Rattle.sval_cbor.proofs.Doing.{opened_changes, opened_stopped_changes, stops_as}
 use Rattle.sval_cbor.proofs.writer.Writer.begin_enum.Goals as goal

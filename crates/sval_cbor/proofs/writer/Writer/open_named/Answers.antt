@@ -1,5 +1,5 @@
 use Rattle.sval_cbor.specs.WriterLaw.{writer_state}
-use Rattle.sval_cbor.specs.SeenWriter.{seen_handle}
+use Rattle.sval_json.specs.Marks.{seen_handle}
 use Rattle.sval_cbor.specs.Writing.{State, Elsewhere, opening}
 use Rattle.sval_cbor.proofs.Doing.{opened_then, opened_stopped, stops_as}
 use Rattle.sval_cbor.proofs.writer.Writer.open_named.Goals as goal

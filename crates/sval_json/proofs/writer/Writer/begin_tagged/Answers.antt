@@ -3,7 +3,7 @@ use Rattle.sval_label.specs.SeenName.{name_of}
 use Rattle.sval_core.specs.Trees.{TextKind}
 use Rattle.sval_json.specs.declared.style.Variants.{Variants}
 use Rattle.sval_json.specs.Actions.{set_empty, ◌then◌, ◌sets◌}
-use Rattle.sval_json.specs.SeenWriter.{seen_kind}
+use Rattle.sval_json.specs.Marks.{seen_kind}
 use Rattle.sval_json.specs.Shape.{handle}
 use Rattle.sval_json.specs.Steps.{refuses_key, name_step, begins_tagged}
 use Rattle.sval_json.specs.WriterLaw.{WriterView, Does, HasDone, IsStopped, writer_view}
