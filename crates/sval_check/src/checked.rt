@@ -11,10 +11,9 @@ ghost use Rattle.sval_core.specs.Trees.{Tree};
 ghost use Rattle.sval_check.specs.Checked.{CheckedView, Passes, StandsFor, checked_law, checked_standing, inner_of, last_why, own_wants, seen, state_of, wants_after};
 
 use crate::machine::{Machine, Refusal};
-use crate::measured::Measured;
 use std::alloc::Global;
 use std::fmt;
-use sval_core::{AnyCall, Error, Stream};
+use sval_core::{AnyCall, Error, Lending, Stream};
 
 /// Why a [`Checked`] refused a call.
 #[derive(Clone, Copy, Debug, PartialEq, Eq)]
@@ -157,7 +156,7 @@ fn twice<T: Copy>(value: T) -> (T, T)
 }
 
 /// Passes a call on where it can be completed and memory isn't wanting for it, or says why it isn't taken.
-fn pass<L: Measured, S: Stream<L>>(
+fn pass<L: Lending, S: Stream<L>>(
     checked: &mut Checked<S>,
     call: AnyCall<'_, L::Text, L::Bytes>,
 ) -> Result<(), Why>
@@ -178,7 +177,7 @@ fn pass<L: Measured, S: Stream<L>>(
     }
 }
 
-impl<L: Measured, S: Stream<L>> Stream<L> for Checked<S> {
+impl<L: Lending, S: Stream<L>> Stream<L> for Checked<S> {
     ghost View = { CheckedView S.View };
 
     ghost law = { checked_law S.law };

@@ -8,9 +8,8 @@ ghost use Rattle.sval_check.specs.Checking.{Checking, checking, checking_law, ch
 
 use crate::error::CheckError;
 use crate::machine::{Machine, Refusal};
-use crate::measured::Measured;
 use std::alloc::Global;
-use sval_core::{AnyCall, Error, Stream};
+use sval_core::{AnyCall, Error, Lending, Stream};
 
 /// Takes the calls that can be completed to a value.
 ///
@@ -56,7 +55,7 @@ impl Checker {
 
     /// Counts a call and goes on with it, or says why it doesn't go on.
     #[inline(always)]
-    fn step<L: Measured>(&mut self, call: AnyCall<'_, L::Text, L::Bytes>) -> Result<(), Refusal>
+    fn step<L: Lending>(&mut self, call: AnyCall<'_, L::Text, L::Bytes>) -> Result<(), Refusal>
         ensures { Steps (checking self.old) (call_of L.text L.bytes call.entry) (checking self.new) result }
     {
         self.taken = self.taken.saturating_add(1);
@@ -64,7 +63,7 @@ impl Checker {
     }
 }
 
-impl<L: Measured> Stream<L> for Checker {
+impl<L: Lending> Stream<L> for Checker {
     ghost View = { Checking };
 
     ghost law = { checking_law };

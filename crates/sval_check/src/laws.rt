@@ -9,9 +9,8 @@ ghost use Rattle.sval_core.specs.Spells.{bare_name};
 ghost use Rattle.sval_check.specs.Tokens.{token_name, token_call, compared};
 ghost use Rattle.sval_check.specs.TokenBufs.{KeepsAll, TakesAll};
 
-use crate::measured::Measured;
 use crate::token::{Token, TokenName};
-use sval_core::Stream;
+use sval_core::{Lending, Stream};
 
 /// What holds of all values that are checked for one tree: the four answers exclude each other, and one of them is due.
 pub fn check_laws()
@@ -24,7 +23,7 @@ pub fn list_check_laws()
 {}
 
 /// What holds of a [`Checked`](crate::Checked) over every stream, for the lists of calls that it stands for.
-pub fn checked_laws<L: Measured, S: Stream<L>>()
+pub fn checked_laws<L: Lending, S: Stream<L>>()
     ensures accepts_the_viable { AcceptsTheViable S.law }
     ensures accepted_is_appended { AcceptedIsAppended S.law }
     ensures all_are_passed_on { AllArePassedOn S.law }

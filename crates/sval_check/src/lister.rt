@@ -11,9 +11,8 @@ use crate::checker::Checker;
 use crate::ends::Ends;
 use crate::error::CheckError;
 use crate::machine::Refusal;
-use crate::measured::Measured;
 use std::alloc::Global;
-use sval_core::{AnyCall, Error, Stream};
+use sval_core::{AnyCall, Error, Lending, Stream};
 
 /// Takes the calls that can be completed to a list of values, and keeps where each value ends.
 ///
@@ -58,7 +57,7 @@ impl Lister {
     }
 }
 
-impl<L: Measured> Stream<L> for Lister {
+impl<L: Lending> Stream<L> for Lister {
     ghost View = { Listed };
 
     ghost law = { listing_law };

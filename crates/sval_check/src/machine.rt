@@ -20,13 +20,12 @@ mod step;
 
 use crate::frame::{Begin, Content, Form};
 use crate::kept::NamedValue;
-use crate::measured::Measured;
 use crate::stack::Stack;
 use std::alloc::Global;
 use std::error::Error;
 use std::fmt;
 use std::marker::Model;
-use sval_core::{AnyCall, Fragment, GroupedCall, Head, Name, NoMemory, Slot};
+use sval_core::{AnyCall, Fragment, GroupedCall, Head, Lending, Name, NoMemory, Slot};
 
 /// Why a [`Machine`] doesn't go on with a call.
 #[derive(Clone, Copy, Debug, PartialEq, Eq)]
@@ -148,7 +147,7 @@ impl Machine {
     /// - [`Refusal::NotViable`] comes exactly where no value goes on with the call.
     /// - [`Refusal::NoMemory`] comes only where one does, and memory was wanting for what the call begins.
     #[inline(always)]
-    pub fn ready<L: Measured>(
+    pub fn ready<L: Lending>(
         &mut self,
         call: AnyCall<'_, L::Text, L::Bytes>,
     ) -> Result<Due, Refusal>

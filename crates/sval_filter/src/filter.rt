@@ -14,11 +14,10 @@ ghost use Rattle.sval_filter.specs.FilterLaw.{Ruled, wants_after, is_stopped, ru
 ghost use Rattle.sval_filter.specs.SeenFilters.{ruled_of, rule_in, paths_of, state_in, kept_in, stream_in, why_in, wants_in, why_by, Filters};
 
 use crate::paths::{Paths, Rule};
-use crate::readable::Readable;
 use crate::sieve::{Hindrance, Sieve, step, twice};
 use std::alloc::Global;
 use sval_check::{Machine, Why};
-use sval_core::{AnyCall, Error, Stream};
+use sval_core::{AnyCall, Error, Lending, Stream};
 
 /// A stream that passes on the calls of what a rule and paths leave of a value.
 ///
@@ -128,7 +127,7 @@ impl<'p, S> Filter<'p, S> {
 
 /// Passes the calls on that are due at a call, where it can be completed and memory isn't wanting for it, or says why it
 /// isn't taken.
-fn pass<L: Readable, S: Stream<L>>(
+fn pass<L: Lending, S: Stream<L>>(
     filter: &mut Filter<'_, S>,
     call: AnyCall<'_, L::Text, L::Bytes>,
 ) -> Result<(), Why>
@@ -161,7 +160,7 @@ impl Hindrance {
     }
 }
 
-impl<'p, L: Readable, S: Stream<L>> Stream<L> for Filter<'p, S> {
+impl<'p, L: Lending, S: Stream<L>> Stream<L> for Filter<'p, S> {
     ghost View = { Ruled S.View };
 
     ghost law = { ruled_law S.law };

@@ -10,14 +10,13 @@ ghost use Rattle.sval_filter.specs.Held.{is_end, Holds};
 ghost use Rattle.sval_filter.specs.SeenKeys.{text_by};
 
 use crate::key_text::KeyText;
-use crate::readable::Readable;
 use std::alloc::AllocError;
 use sval_buffer::ValueBuf;
-use sval_core::{AnyCall, Fragment, GroupedCall, NoMemory, Stream};
+use sval_core::{AnyCall, Fragment, GroupedCall, Lending, NoMemory, Stream};
 use sval_ref::ValueRef;
 
 /// The call with its fragment as a computed one.
-fn as_computed<'c, L: Readable>(
+fn as_computed<'c, L: Lending>(
     call: &'c GroupedCall<'c, L::Text, L::Bytes>,
 ) -> GroupedCall<'c, &'static str, &'static [u8]>
     ensures { (text : _) (bytes : _)
@@ -72,7 +71,7 @@ fn is_end<T, B>(call: &GroupedCall<'_, T, B>) -> bool
 }
 
 /// Holds a call of a key. An end takes no memory, and so is held wherever it closes something.
-pub(crate) fn hold<L: Readable>(
+pub(crate) fn hold<L: Lending>(
     held: &mut ValueBuf<'static>,
     call: AnyCall<'_, L::Text, L::Bytes>,
 ) -> Result<(), NoMemory>

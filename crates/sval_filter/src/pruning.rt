@@ -7,13 +7,12 @@ ghost use Rattle.sval_filter.specs.Pruning.{IsPruned, PassesPruned, StopsPruned,
 
 use crate::filter::Filter;
 use crate::paths::{Paths, Rule};
-use crate::readable::Readable;
 use std::alloc::Global;
 use std::error::Error;
 use std::fmt;
 use sval_buffer::{AnyValue, AnyValueBuf, CallStore, ErrorKind};
 use sval_check::{CheckError, Why, check};
-use sval_core::{Lent, NoMemory, Stream, Value};
+use sval_core::{Lending, Lent, NoMemory, Stream, Value};
 
 /// Why a value wasn't pruned.
 #[derive(Clone, Copy, Debug, PartialEq, Eq)]
@@ -114,7 +113,7 @@ pub(crate) fn prune_tree<'sval, N: CallStore + 'sval, V: Value<'sval, Lent<'sval
 
 /// Passes a value on to a stream through a filter, and gives the stream back, with the filter's last refusal where it
 /// stopped.
-fn pass_value<'v, L: Readable, S: Stream<L> + Drop, V: Value<'v, L>>(
+fn pass_value<'v, L: Lending, S: Stream<L> + Drop, V: Value<'v, L>>(
     alloc: Global,
     v: &'v V,
     rule: Rule,

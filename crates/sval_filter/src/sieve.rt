@@ -21,7 +21,6 @@ use crate::key_text::KeyText;
 use crate::layer::{Fate, Mode};
 use crate::layers::Layers;
 use crate::paths::{Paths, Rule};
-use crate::readable::Readable;
 use std::alloc::Global;
 use sval_buffer::ValueBuf;
 use sval_core::{AnyCall, GroupedCall, Head, Lending, NoMemory, Slot, Stream};
@@ -119,7 +118,7 @@ fn stream_key<L: Lending, S: Stream<L>>(
 }
 
 /// Holds a call of a key, or passes another one on in its place, if that is to be.
-fn settle<L: Readable, S: Stream<L>>(
+fn settle<L: Lending, S: Stream<L>>(
     sieve: &mut Sieve<'_, S>,
     holds: bool,
     passes: bool,
@@ -140,7 +139,7 @@ fn settle<L: Readable, S: Stream<L>>(
 }
 
 /// A call that begins and ends nothing.
-fn single<L: Readable, S: Stream<L>>(
+fn single<L: Lending, S: Stream<L>>(
     sieve: &mut Sieve<'_, S>,
     call: AnyCall<'_, L::Text, L::Bytes>,
 ) -> Result<(), Hindrance>
@@ -158,7 +157,7 @@ fn single<L: Readable, S: Stream<L>>(
 }
 
 /// A hint.
-fn hint<L: Readable, S: Stream<L>>(
+fn hint<L: Lending, S: Stream<L>>(
     sieve: &mut Sieve<'_, S>,
     call: AnyCall<'_, L::Text, L::Bytes>,
 ) -> Result<(), Hindrance>
@@ -176,7 +175,7 @@ fn hint<L: Readable, S: Stream<L>>(
 }
 
 /// Opens a layer in which calls are treated so, for a call in whose place another one is passed on.
-fn open<'p, L: Readable, S: Stream<L>>(
+fn open<'p, L: Lending, S: Stream<L>>(
     sieve: &mut Sieve<'p, S>,
     mode: Mode<'p>,
     call: AnyCall<'_, L::Text, L::Bytes>,
@@ -199,7 +198,7 @@ fn open<'p, L: Readable, S: Stream<L>>(
 }
 
 /// The begin of a value, in whose place another one is passed on.
-fn begin<L: Readable, S: Stream<L>>(
+fn begin<L: Lending, S: Stream<L>>(
     sieve: &mut Sieve<'_, S>,
     call: AnyCall<'_, L::Text, L::Bytes>,
     relayed: AnyCall<'_, L::Text, L::Bytes>,
@@ -218,7 +217,7 @@ fn begin<L: Readable, S: Stream<L>>(
 }
 
 /// The begin of a value, which is passed on as it is.
-fn begin_same<L: Readable, S: Stream<L>>(
+fn begin_same<L: Lending, S: Stream<L>>(
     sieve: &mut Sieve<'_, S>,
     call: AnyCall<'_, L::Text, L::Bytes>,
 ) -> Result<(), Hindrance>
@@ -234,7 +233,7 @@ fn begin_same<L: Readable, S: Stream<L>>(
 }
 
 /// The begin of a part.
-fn begin_part<L: Readable, S: Stream<L>>(
+fn begin_part<L: Lending, S: Stream<L>>(
     sieve: &mut Sieve<'_, S>,
     slot: Slot<'_>,
     call: AnyCall<'_, L::Text, L::Bytes>,
@@ -258,7 +257,7 @@ fn begin_part<L: Readable, S: Stream<L>>(
 }
 
 /// The end of a value.
-fn end<L: Readable, S: Stream<L>>(
+fn end<L: Lending, S: Stream<L>>(
     sieve: &mut Sieve<'_, S>,
     call: AnyCall<'_, L::Text, L::Bytes>,
 ) -> Result<(), Hindrance>
@@ -279,7 +278,7 @@ fn end<L: Readable, S: Stream<L>>(
 }
 
 /// The end of a part that is no key, or is in another key.
-fn end_part<L: Readable, S: Stream<L>>(
+fn end_part<L: Lending, S: Stream<L>>(
     sieve: &mut Sieve<'_, S>,
     call: AnyCall<'_, L::Text, L::Bytes>,
 ) -> Result<(), Hindrance>
@@ -300,7 +299,7 @@ fn end_part<L: Readable, S: Stream<L>>(
 }
 
 /// The end of a key that is in no other key.
-fn end_key<L: Readable, S: Stream<L>>(
+fn end_key<L: Lending, S: Stream<L>>(
     sieve: &mut Sieve<'_, S>,
     call: AnyCall<'_, L::Text, L::Bytes>,
 ) -> Result<(), Hindrance>
@@ -339,7 +338,7 @@ fn size_of(head: Head<'_>, size: Option<usize>) -> Option<usize>
 }
 
 /// Takes a call, of which those that are due are passed on.
-pub(crate) fn step<L: Readable, S: Stream<L>>(
+pub(crate) fn step<L: Lending, S: Stream<L>>(
     sieve: &mut Sieve<'_, S>,
     call: AnyCall<'_, L::Text, L::Bytes>,
 ) -> Result<(), Hindrance>

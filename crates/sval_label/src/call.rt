@@ -13,7 +13,7 @@ use std::marker::PhantomData;
 ///
 /// A stream is generic in what is lent to it, so that a forwarder needs to name no lifetime.
 pub trait Lending {
-    ghost use Rattle.std.specs.Prelude.{ℕ, List};
+    ghost use Rattle.std.specs.Prelude.{◌≡◌, ℕ, List, length};
 
     /// A borrowed text.
     type Text: Copy;
@@ -26,6 +26,22 @@ pub trait Lending {
 
     /// What borrowed bytes are.
     ghost bytes: { Self.Bytes → List ℕ };
+
+    /// A borrowed text as a `str`, for as long as it is lent.
+    fn as_str<'a>(lent: &'a Self::Text) -> &'a str
+        ensures { result.now ≡ Self.text lent.now };
+
+    /// Borrowed bytes as a slice, for as long as they are lent.
+    fn as_bytes<'a>(lent: &'a Self::Bytes) -> &'a [u8]
+        ensures { result.now ≡ Self.bytes lent.now };
+
+    /// The number of bytes of a borrowed text.
+    fn text_len(lent: Self::Text) -> usize
+        ensures { result ≡ length (Self.text lent) };
+
+    /// The number of borrowed bytes.
+    fn bytes_len(lent: Self::Bytes) -> usize
+        ensures { result ≡ length (Self.bytes lent) };
 }
 
 /// Texts and bytes that live for `'sval`.
@@ -41,6 +57,22 @@ impl<'sval> Lending for Lent<'sval> {
     ghost text = { λ text. text.now };
 
     ghost bytes = { λ bytes. bytes.now };
+
+    fn as_str<'a>(lent: &'a &'sval str) -> &'a str {
+        *lent
+    }
+
+    fn as_bytes<'a>(lent: &'a &'sval [u8]) -> &'a [u8] {
+        *lent
+    }
+
+    fn text_len(lent: &'sval str) -> usize {
+        lent.len()
+    }
+
+    fn bytes_len(lent: &'sval [u8]) -> usize {
+        lent.len()
+    }
 }
 
 /// A call as plain data, for any type `T` of borrowed texts and any type `B` of borrowed bytes. Most code says [`Call`].

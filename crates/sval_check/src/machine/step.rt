@@ -19,15 +19,14 @@ ghost use Rattle.sval_check.specs.Dues.{StepsTo, named_end};
 use crate::frame::{Begin, Content, Form};
 use crate::kept::NamedValue;
 use crate::machine::{Machine, Refusal};
-use crate::measured::Measured;
-use sval_core::{AnyCall, Fragment, GroupedCall, Head, Name, Slot, Tag};
+use sval_core::{AnyCall, Fragment, GroupedCall, Head, Lending, Name, Slot, Tag};
 
 impl Machine {
     /// Goes on with a call, or says why it doesn't: [`Machine::ready`] and [`Machine::finish`] at once.
     ///
     /// A refused call may leave a part counted that didn't come.
     #[inline(always)]
-    pub(crate) fn step<L: Measured>(
+    pub(crate) fn step<L: Lending>(
         &mut self,
         call: AnyCall<'_, L::Text, L::Bytes>,
     ) -> Result<(), Refusal>
