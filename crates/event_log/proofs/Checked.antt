@@ -2,15 +2,15 @@
 use Rattle.std.specs.Prelude.{◌≡◌, ◌⊎◌, ℕ, true, false, Ok, Err, refl}
 use Rattle.std.proofs.Common.{sym, ◌∙◌, arith, inl, inr}
 use Rattle.sval_core.specs.Law.{Emission}
+use Rattle.sval_io.specs.Counted.{counted_told}
+use Rattle.sval_io.specs.Sinks.{Told}
 use Rattle.sval_check.specs.Checks.{IsOneValue, NeedsMemory, CheckAnswer}
 use Rattle.sval_check.specs.declared.error.CheckError.{CheckError}
 use Rattle.sval_check.specs.declared.error.CheckError.TheVariants as check
 use Rattle.sval_json.specs.declared.error.ErrorKind.{ErrorKind}
 use Rattle.sval_json.specs.declared.error.ErrorKind.TheVariants as kind
 use Rattle.sval_json.specs.declared.style.Variants.TheVariants.{Inside}
-use Rattle.sval_json.specs.Counted.{counted_told}
 use Rattle.sval_json.specs.Number.{InvalidKey, InvalidNumber}
-use Rattle.sval_json.specs.Sinks.{Told}
 use Rattle.sval_json.specs.Written.{WritesSpelledTree, StreamsJson}
 use Rattle.event_log.specs.Events.{unfit, HasJson, HasNoJson, IsCause}
 

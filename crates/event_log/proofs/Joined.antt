@@ -3,9 +3,9 @@ use Rattle.std.specs.Prelude.{◌≡◌, ℕ, ◌+◌, ◌<◌, ◌≤◌, List,
 use Rattle.std.proofs.Common.{sym, ap, ◌∙◌, subst, append_assoc, append-nil}
 use Rattle.std.proofs.lemmas.Grind.{flat_map-append}
 use Rattle.std.proofs.lemmas.List.{take_more, take-append-drop, take_all}
-use Rattle.sval_json.specs.declared.sink.SinkError.{SinkError}
-use Rattle.sval_json.specs.Sinks.{Told, WritesWhole, WritesFront, WritesAll}
-use Rattle.sval_json.proofs.Appending.{writes_nothing, writes_both, stops_after}
+use Rattle.sval_io.specs.declared.sink.SinkError.{SinkError}
+use Rattle.sval_io.specs.Sinks.{Told, WritesWhole, WritesFront, WritesAll}
+use Rattle.sval_io.proofs.Appending.{writes_nothing, writes_both, stops_after}
 use Rattle.sval_buffer.specs.FlatForest.{FlatForest}
 use Rattle.event_log.specs.Logs.{line_of, lines_of}
 

@@ -8,7 +8,8 @@ use std::error::Error;
 use std::fmt;
 use sval_check::{CheckError, check};
 use sval_core::{Lent, Value};
-use sval_json::{CountSink, stream_to_io_write};
+use sval_io::CountSink;
+use sval_json::stream_to_io_write;
 
 /// Why an event wasn't recorded.
 #[derive(Clone, Copy, Debug, PartialEq, Eq)]

@@ -1,11 +1,12 @@
 //! The lines of events.
 
-ghost use Rattle.sval_json.specs.Sinks.{WritesAll};
+ghost use Rattle.sval_io.specs.Sinks.{WritesAll};
 ghost use Rattle.sval_json.specs.Steps.{written};
 ghost use Rattle.event_log.specs.Logs.{HasLine, AreLines, event_calls, line_of, lines_of};
 
 use sval_buffer::Value;
-use sval_json::{ErrorKind, Sink, SinkError, stream_to_io_write, write_all};
+use sval_io::{Sink, SinkError, write_all};
+use sval_json::{ErrorKind, stream_to_io_write};
 
 /// Writes the JSON of an event.
 fn write_json<K: Sink>(sink: &mut K, event: &Value<'_>) -> Result<(), SinkError>

@@ -1,7 +1,7 @@
 //! The log.
 
 ghost use Rattle.std.specs.Prelude.{◌≡◌, ◌==◌, [], length, IfOk, IfErr, OnOk, OnErr, IsOkUnless};
-ghost use Rattle.sval_json.specs.Sinks.{WritesAll};
+ghost use Rattle.sval_io.specs.Sinks.{WritesAll};
 ghost use Rattle.sval_buffer.specs.Capture.{IsNoAlloc};
 ghost use Rattle.event_log.specs.Events.{HasJson, IsCause};
 ghost use Rattle.event_log.specs.Logs.{empty_log, AreLines, lines_of, Keeps};
@@ -13,7 +13,7 @@ use std::alloc::{AllocError, Global};
 use std::marker::Model;
 use sval_buffer::{AnyValue, CallStore, Error, ErrorKind, NamedCalls};
 use sval_core::{Lent, Value};
-use sval_json::{Sink, SinkError};
+use sval_io::{Sink, SinkError};
 
 /// The latest events, as many as its capacity. Each is captured when it comes, by copies of its texts, so that the log
 /// borrows nothing.
@@ -117,7 +117,7 @@ impl<'o> EventLog<'o> {
     /// Writes a line for each event, the oldest first: its JSON, which is the text of the tree that the event's calls
     /// spelled, and a line feed. The log stays as it is. It doesn't flush the sink.
     ///
-    /// It answers as [`write_all`](sval_json::write_all) of all the lines does, and takes no memory itself.
+    /// It answers as [`write_all`](sval_io::write_all) of all the lines does, and takes no memory itself.
     ///
     /// # Errors
     ///

@@ -3,7 +3,8 @@
 use std::alloc::Global;
 use std::process::Abort;
 use sval_core::{Lent, Value};
-use sval_json::{VecSink, stream_to_string};
+use sval_io::VecSink;
+use sval_json::stream_to_string;
 use sval_script::Printer;
 
 /// Asserts that a text was made, and that it is this one.

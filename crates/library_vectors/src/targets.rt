@@ -3,9 +3,9 @@
 use crate::shown::shows;
 use records::MyRecord;
 use std::test::Fail;
+use sval_io::{FixedSink, VecSink};
 use sval_json::{
-    FixedSink, VecSink, stream_to_fmt_write, stream_to_io_write, stream_to_json_str,
-    stream_to_string, stream_to_vec,
+    stream_to_fmt_write, stream_to_io_write, stream_to_json_str, stream_to_string, stream_to_vec,
 };
 
 const VALUE: MyRecord<'static> = MyRecord {

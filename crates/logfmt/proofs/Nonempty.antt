@@ -5,11 +5,11 @@ use Rattle.std.specs.List.{list_all}
 use Rattle.std.proofs.Common.{zero, suc, sym, subst, arith, length-append}
 use Rattle.sval_label.specs.declared.error.Error.{Error}
 use Rattle.sval_core.specs.Law.{Rose}
-use Rattle.sval_json.specs.declared.sink.SinkError.{SinkError}
-use Rattle.sval_json.specs.declared.sink.SinkError.TheVariants as sink
+use Rattle.sval_io.specs.declared.sink.SinkError.{SinkError}
+use Rattle.sval_io.specs.declared.sink.SinkError.TheVariants as sink
+use Rattle.sval_io.specs.Sinks.{WritesFront}
+use Rattle.sval_io.specs.Taken.{Taken, taken_told}
 use Rattle.sval_json.specs.Escape.{short_escape, low_byte, escape_text, escape, escaped}
-use Rattle.sval_json.specs.Sinks.{WritesFront}
-use Rattle.sval_json.specs.Taken.{Taken, taken_told}
 use Rattle.logfmt.specs.declared.LogfmtError.TheVariants as error
 use Rattle.logfmt.specs.Pairs.{is_key_byte, is_key}
 use Rattle.logfmt.specs.Steps.{Step}

@@ -16,7 +16,8 @@ use itoa::Buffer;
 use std::alloc::Global;
 use std::marker::Model;
 use sval_core::{Call, Error, Fragment, GroupedCall, Head, Label, Lent, Result, Slot, Stream};
-use sval_json::{SinkError, VecSink, escape, format_int, write_all};
+use sval_io::{SinkError, VecSink, write_all};
+use sval_json::escape;
 
 /// What comes next.
 #[derive(Clone, Copy)]
@@ -198,7 +199,7 @@ impl LogfmtWriter {
             (Due::Value, GroupedCall::Bool(false)) => self.write(b"false", Due::ValueEnd),
             (Due::Value, GroupedCall::Int(number)) => {
                 let mut buffer = Buffer::new();
-                self.write(format_int(&mut buffer, number).as_bytes(), Due::ValueEnd)
+                self.write(number.format(&mut buffer).as_bytes(), Due::ValueEnd)
             }
             (Due::Value, GroupedCall::TextBegin(_)) => self.write(b"\"", Due::Text),
             (Due::Text, GroupedCall::TextFragment(part)) => self.write_part(part),

@@ -5,7 +5,8 @@ ghost use Rattle.readings.specs.Written.{readings_json};
 
 use crate::Readings;
 use std::alloc::Global;
-use sval_json::{Error, ErrorKind, VecSink, stream_to_io_write};
+use sval_io::VecSink;
+use sval_json::{Error, ErrorKind, stream_to_io_write};
 
 /// The JSON of readings, unless memory was wanting.
 pub fn to_json(alloc: Global, readings: &Readings) -> Result<Vec<u8>, Error>

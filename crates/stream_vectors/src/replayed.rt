@@ -5,7 +5,7 @@ use std::alloc::Global;
 use std::test::Fail;
 use sval_buffer::ValueBuf;
 use sval_core::{Lent, Value};
-use sval_json::VecSink;
+use sval_io::VecSink;
 use sval_ref::{ValueRef, stream_ref};
 use sval_script::{Printer, Script};
 

@@ -4,10 +4,11 @@ use crate::cases::shows;
 use crate::written::told;
 use std::alloc::Global;
 use std::test::Fail;
+use sval_io::{CountSink, FaultySink, FixedSink, TrickleSink, VecSink};
 use sval_json::escape::first_escape;
 use sval_json::{
-    CountSink, FaultySink, FixedSink, JsonStr, JsonString, TrickleSink, VecSink,
-    stream_to_fmt_write, stream_to_io_write, stream_to_json_str, stream_to_string, stream_to_vec,
+    JsonStr, JsonString, stream_to_fmt_write, stream_to_io_write, stream_to_json_str,
+    stream_to_string, stream_to_vec,
 };
 
 #[test]

@@ -4,7 +4,8 @@ use crate::cases::{Look, agree};
 use std::alloc::Global;
 use std::test::Fail;
 use sval_buffer::ValueBuf;
-use sval_json::{Error, Variants, VecSink, stream_to_io_write_with};
+use sval_io::VecSink;
+use sval_json::{Error, Variants, stream_to_io_write_with};
 
 /// What a sink took, and why not all.
 pub(crate) fn told(alloc: Global, taken: &[u8], answer: Result<(), Error>) -> Result<String, Fail> {

@@ -4,15 +4,15 @@ use Rattle.std.proofs.Common.{sym, ap, ◌∙◌, subst, inl, inr, arith}
 use Rattle.sval_core.specs.Law.{Emission, Rose}
 use Rattle.sval_core.specs.Spells.{Spells}
 use Rattle.sval_core.specs.Trees.{Tree}
+use Rattle.sval_io.specs.Sinks.{Told, NoCountFell, Appends, AppendsFront, AppendsPart, LacksRoom, WritesWhole, WritesFront}
+use Rattle.sval_io.specs.Counted.{counted_told}
+use Rattle.sval_io.specs.declared.sink.SinkError.TheVariants as sink
+use Rattle.sval_io.proofs.Appending.{appends_nothing, steady_alone, steady_counts}
 use Rattle.sval_check.specs.Checks.{CheckAnswer, IsOneValue, OnlyRefuses}
 use Rattle.sval_check.specs.Checks as checks
 use Rattle.sval_check.specs.declared.error.CheckError.{CheckError}
 use Rattle.sval_check.specs.declared.error.CheckError.TheVariants as check
 use Rattle.sval_json.specs.Json.{Json}
-use Rattle.sval_json.specs.Sinks.{Told, NoCountFell, Appends, AppendsFront, AppendsPart, LacksRoom, WritesWhole, WritesFront}
-use Rattle.sval_json.specs.Counted.{counted_told}
-use Rattle.sval_json.specs.declared.sink.SinkError.TheVariants as sink
-use Rattle.sval_json.proofs.Appending.{appends_nothing, steady_alone, steady_counts}
 use Rattle.sval_cbor.specs.declared.error.CborError.{CborError}
 use Rattle.sval_cbor.specs.declared.error.CborError.TheVariants as error
 use Rattle.sval_cbor.specs.declared.error.Stop.{Stop}

@@ -3,8 +3,8 @@ use Rattle.std.specs.Prelude.{◌≡◌, ℕ, ◌≤◌, List, [], ◌++◌, Opt
 use Rattle.std.proofs.Common.{sym, ap, ◌∙◌, subst, append-nil}
 use Rattle.std.proofs.lemmas.List.{length-append}
 use Rattle.sval_label.specs.declared.error.Error.{Error}
-use Rattle.sval_json.specs.Sinks.{Told, appended, less_room, WritesWhole}
-use Rattle.sval_json.proofs.Appending.{appended-appended, appended-nothing, less_room-zero, less_room-less_room, room_for_nothing, room_for_both, writes_nothing, stops_after}
+use Rattle.sval_io.specs.Sinks.{Told, appended, less_room, WritesWhole}
+use Rattle.sval_io.proofs.Appending.{appended-appended, appended-nothing, less_room-zero, less_room-less_room, room_for_nothing, room_for_both, writes_nothing, stops_after}
 use Rattle.sval_cbor.specs.declared.error.Stop.{Stop}
 use Rattle.sval_cbor.specs.declared.error.Stop.TheVariants.{Step, Sink}
 use Rattle.sval_cbor.specs.Packs.{PackRefusal, on_ok}

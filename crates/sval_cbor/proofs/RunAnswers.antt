@@ -1,23 +1,23 @@
 -- What the facts on a run say of a script.
 use Rattle.std.specs.Prelude.{◌≡◌, ℕ, ◌==◌, true, false, List, Option, Some, None, Result, Ok, Err, refl, if◌then◌else◌}
 use Rattle.std.proofs.Common.{sym, ap, subst, ◌∙◌, arith, inl, inr}
-use Rattle.sval_json.specs.Sinks.{Told, Appends, AppendsFront}
-use Rattle.sval_json.specs.declared.sink.SinkError.{SinkError}
-use Rattle.sval_json.specs.declared.sink.SinkError.TheVariants as sink
-use Rattle.sval_json.proofs.Appending.{appends_nothing}
+use Rattle.sval_io.specs.Sinks.{Told, Appends, AppendsFront}
+use Rattle.sval_io.specs.declared.sink.SinkError.{SinkError}
+use Rattle.sval_io.specs.declared.sink.SinkError.TheVariants as sink
+use Rattle.sval_io.proofs.Appending.{appends_nothing}
+use Rattle.sval_io.specs.declared.input_error.InputError.{InputError}
+use Rattle.sval_io.specs.declared.input_error.InputError.TheVariants as input
+use Rattle.sval_io.specs.Sources.{Supply}
 use Rattle.sval_program.specs.declared.failure.Fault.{Fault}
 use Rattle.sval_program.specs.declared.failure.Fault.TheVariants as fault
 use Rattle.sval_program.specs.declared.failure.Failure.{Failure}
 use Rattle.sval_program.specs.declared.failure.Failure.TheVariants as failure
-use Rattle.sval_program.specs.declared.input_error.InputError.{InputError}
-use Rattle.sval_program.specs.declared.input_error.InputError.TheVariants as input
 use Rattle.sval_program.specs.declared.status.TheConstants.{BAD_LINE, BAD_CALL, UNFINISHED, INVALID_KEY, INVALID_NUMBER, RAW}
 use Rattle.sval_program.specs.Failures.{row_of_fault, status_of_fault, status_of_found, status_of, line_of, is_fault}
 use Rattle.sval_program.specs.Inputs.{OnBoth}
 use Rattle.sval_program.specs.Jobs.{may_write, ServesForm}
 use Rattle.sval_program.specs.Reports.{TellsLine}
 use Rattle.sval_program.specs.Runs as runs
-use Rattle.sval_program.specs.Sources.{Supply}
 use Rattle.sval_program.proofs.JobRuns.{Case, on_both, by_end, the_fault}
 use Rattle.sval_cbor.specs.Cbor.{cbor}
 use Rattle.sval_cbor.specs.Forms.{form_named, OnNamed}

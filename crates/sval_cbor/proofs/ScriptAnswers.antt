@@ -3,13 +3,14 @@ use Rattle.std.specs.Prelude.{◌≡◌, ◌⊎◌, ℕ, ◌<◌, true, false, L
 use Rattle.std.proofs.Common.{sym, ◌∙◌, subst, inl, inr}
 use Rattle.sval_label.specs.Calls.{Call}
 use Rattle.sval_core.specs.Values.{makes}
+use Rattle.sval_io.specs.Sinks.{Told}
+use Rattle.sval_io.specs.declared.sink.SinkError.TheVariants as sink
+use Rattle.sval_io.proofs.Appending.{writes_nothing}
+use Rattle.sval_io.specs.Sources.{Supply}
 use Rattle.sval_buffer.specs.Forest.{Forest, Holds, forest, replayed}
 use Rattle.sval_check.specs.Checks.{IsFirstBad, IsUnfinished}
 use Rattle.sval_check.specs.declared.error.CheckError.{CheckError}
 use Rattle.sval_check.specs.declared.error.CheckError.TheVariants as check
-use Rattle.sval_json.specs.Sinks.{Told}
-use Rattle.sval_json.specs.declared.sink.SinkError.TheVariants as sink
-use Rattle.sval_json.proofs.Appending.{writes_nothing}
 use Rattle.sval_script.specs.Lines.{Lines, Good, Bad, lines}
 use Rattle.sval_script.specs.Readings.{Reading, answer_to, answer_with}
 use Rattle.sval_script.specs.declared.script.ScriptError.{ScriptError}
@@ -21,7 +22,6 @@ use Rattle.sval_program.specs.declared.failure.Failure.TheVariants as failure
 use Rattle.sval_program.specs.Failures.{status_of_fault, failure_of_script}
 use Rattle.sval_program.specs.Inputs.{HasRead}
 use Rattle.sval_program.specs.Jobs.{FindsFault, ServesBytes}
-use Rattle.sval_program.specs.Sources.{Supply}
 use Rattle.sval_program.specs.Statuses.{is_among}
 use Rattle.sval_cbor.specs.declared.error.CborError.{CborError}
 use Rattle.sval_cbor.specs.declared.error.CborError.TheVariants as error

@@ -3,10 +3,10 @@ use Rattle.std.specs.Prelude.{◌≡◌, ℕ, Bool, true, false, List, [], ◌�
 use Rattle.std.proofs.Common.{sym, ap, ◌∙◌, subst, inl, inr, arith, append-nil}
 use Rattle.sval_label.specs.Calls.{Call}
 use Rattle.sval_core.specs.Law.{Standing, Emission, Ran, Streams, StoppedIn, Stops}
-use Rattle.sval_json.specs.Sinks.{Told, IsCounted, HasRoom, WritesWhole, WritesFront}
-use Rattle.sval_json.specs.declared.sink.SinkError.{SinkError}
-use Rattle.sval_json.specs.declared.sink.SinkError.TheVariants.{Failed, NoMemory}
-use Rattle.sval_json.proofs.Appending.{counted_since, counts_since, writes_nothing, stops_after}
+use Rattle.sval_io.specs.Sinks.{Told, IsCounted, HasRoom, WritesWhole, WritesFront}
+use Rattle.sval_io.specs.declared.sink.SinkError.{SinkError}
+use Rattle.sval_io.specs.declared.sink.SinkError.TheVariants.{Failed, NoMemory}
+use Rattle.sval_io.proofs.Appending.{counted_since, counts_since, writes_nothing, stops_after}
 use Rattle.sval_cbor.specs.declared.error.Stop.{Stop}
 use Rattle.sval_cbor.specs.declared.error.Stop.TheVariants as stop
 use Rattle.sval_cbor.specs.declared.writer.Writer.{Writer}

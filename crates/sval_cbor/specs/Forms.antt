@@ -1,7 +1,7 @@
 -- The program's words: there are none.
 use Rattle.std.specs.Prelude.{ℕ, List, [], ◌∷◌, map, string_bytes, String, Option, Some, None}
+use Rattle.sval_io.specs.Sources.{Supply}
 use Rattle.sval_program.specs.Inputs.{OnBoth}
-use Rattle.sval_program.specs.Sources.{Supply}
 
 -- no words ask for the CBOR of a script
 abbrev pub form_named : List (List ℕ) → Option (Unit {0})

@@ -1,9 +1,9 @@
 -- What the third device is told.
 use Rattle.std.specs.Prelude.{◌≡◌, ℕ, false, List, [], ◌∷◌, ◌++◌, codes}
-use Rattle.sval_json.specs.Sinks.{Told}
+use Rattle.sval_io.specs.Sinks.{Told}
+use Rattle.sval_io.specs.Sources.{Supply}
 use Rattle.sval_program.specs.declared.status.TheConstants.{USAGE, BAD_LINE, BAD_CALL, RAW, NOT_INTEGER}
 use Rattle.sval_program.specs.Reports.{TellsLine, raw, not_integer, script_reports, device_reports, report_among}
-use Rattle.sval_program.specs.Sources.{Supply}
 use Rattle.sval_cbor.specs.Forms.{OnNamed}
 use Rattle.sval_cbor.specs.Verdict.{BadLine, BadCall, HasVerdict}
 

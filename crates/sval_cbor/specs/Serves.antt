@@ -3,8 +3,8 @@ use Rattle.std.specs.Prelude.{◌≡◌, ℕ, false, List, [], ◌∷◌, Option
 use Rattle.sval_label.specs.Calls.{Call}
 use Rattle.sval_core.specs.Spells.{Spells}
 use Rattle.sval_core.specs.Trees.{Tree}
-use Rattle.sval_json.specs.Sinks.{Told, Appends, AppendsFront}
-use Rattle.sval_json.specs.declared.sink.SinkError.TheVariants as sink
+use Rattle.sval_io.specs.Sinks.{Told, Appends, AppendsFront}
+use Rattle.sval_io.specs.declared.sink.SinkError.TheVariants as sink
 use Rattle.sval_script.specs.Lines.{Good, lines}
 use Rattle.sval_program.specs.declared.failure.Fault.{Fault}
 use Rattle.sval_program.specs.declared.failure.Fault.TheVariants as fault

@@ -2,9 +2,9 @@
 use Rattle.std.specs.Prelude.{◌≡◌, ℕ, Bool, List, [], Option, Some, None, Result, Ok, Err, length}
 use Rattle.sval_label.specs.declared.error.Error.{Error}
 use Rattle.sval_core.specs.Law.{Law, Standing}
+use Rattle.sval_io.specs.Sinks.{Told, appended, less_room, HasRoom, WritesFront}
 use Rattle.sval_json.specs.Json.{Json}
 use Rattle.sval_json.specs.Shape.{bare_text}
-use Rattle.sval_json.specs.Sinks.{Told, appended, less_room, HasRoom, WritesFront}
 use Rattle.sval_cbor.specs.declared.error.Stop.{Stop}
 use Rattle.sval_cbor.specs.declared.error.Stop.TheVariants.{Step, Sink}
 use Rattle.sval_cbor.specs.declared.writer.Writer.{Writer}

@@ -2,7 +2,7 @@
 
 use std::error::Error;
 use std::fmt;
-use sval_json::SinkError;
+use sval_io::SinkError;
 
 /// Why a value wasn't written as CBOR, or not whole, by [`stream_to_cbor`](crate::stream_to_cbor).
 #[derive(Clone, Copy, Debug, PartialEq, Eq)]

@@ -1,12 +1,12 @@
 //! Heads, and what is written behind them.
 
 ghost use Rattle.std.specs.Prelude.{◌≡◌, ◌<◌, ◌≤◌, ◌++◌, length};
-ghost use Rattle.sval_json.specs.Sinks.{WritesAll};
+ghost use Rattle.sval_io.specs.Sinks.{WritesAll};
 ghost use Rattle.sval_cbor.specs.Cbor.{head_bytes, without_zero_bytes, string, bignum, integer};
 ghost use Rattle.sval_cbor.specs.SeenWriter.{seen_integer};
 
 use crate::integer::Integer;
-use sval_json::{Sink, SinkError, write_all};
+use sval_io::{Sink, SinkError, write_all};
 
 /// The major type of texts.
 const TEXT: u8 = 3;

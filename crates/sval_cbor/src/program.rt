@@ -4,8 +4,8 @@ ghost use Rattle.sval_cbor.specs.Serves.{cbor_terms};
 
 use crate::running::{named_form, serve};
 use std::alloc::Global;
-use sval_json::Sink;
-use sval_program::{Failure, Job, Line, Source};
+use sval_io::{Sink, Source};
+use sval_program::{Failure, Job, Line};
 
 /// The program, as [`run_process`](sval_program::run_process) and [`run_streams`](sval_program::run_streams) run it:
 /// [`run_cbor`](crate::run_cbor) says more of its runs.

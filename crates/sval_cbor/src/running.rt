@@ -24,10 +24,10 @@ use std::alloc::Global;
 use sval_buffer::{ErrorKind, ValueBuf};
 use sval_check::{CheckError, check};
 use sval_core::{Lent, Value};
-use sval_json::{Sink, SinkError};
+use sval_io::{Sink, SinkError, Source};
 use sval_program::job::run;
 use sval_program::status::{BAD_CALL, BAD_LINE, DONE, INVALID_KEY, INVALID_NUMBER, UNFINISHED};
-use sval_program::{Failure, Fault, Source, read_script};
+use sval_program::{Failure, Fault, read_script};
 use sval_script::Script;
 
 /// What checking the calls of a script found, which never refuses.

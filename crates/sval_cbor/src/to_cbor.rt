@@ -11,7 +11,7 @@ use std::alloc::Global;
 use sval_buffer::{ErrorKind, ValueBuf};
 use sval_check::{CheckError, check};
 use sval_core::{Lent, Value};
-use sval_json::{CountSink, Sink, SinkError};
+use sval_io::{CountSink, Sink, SinkError};
 
 /// Streams a value to a sink as CBOR (RFC 8949).
 ///

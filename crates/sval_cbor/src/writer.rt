@@ -20,7 +20,7 @@ use crate::head::{write_integer, write_text};
 use crate::integer::Integer;
 use itoa::Buffer;
 use sval_core::{Call, Error, Fragment, GroupedCall, Int, Lent, Result, Stream};
-use sval_json::{Sink, format_int, write_all};
+use sval_io::{Sink, write_all};
 
 /// What ends an array or a map (RFC 8949, section 3.2.1).
 const BREAK: &[u8] = b"\xff";
@@ -129,7 +129,7 @@ impl<'k, K: Sink> Writer<'k, K> {
     {
         if self.in_key {
             let mut buffer = Buffer::new();
-            return self.write_text(format_int(&mut buffer, int).as_bytes());
+            return self.write_text(int.format(&mut buffer).as_bytes());
         }
         self.write_integer(Integer::of(int))
     }

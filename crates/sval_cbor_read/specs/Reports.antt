@@ -1,6 +1,6 @@
 -- What the third device is told.
 use Rattle.std.specs.Prelude.{ℕ, List, [], ◌∷◌, ◌++◌, codes}
-use Rattle.sval_json.specs.Sinks.{Told}
+use Rattle.sval_io.specs.Sinks.{Told}
 use Rattle.sval_program.specs.declared.status.TheConstants.{USAGE, INVALID_KEY, BAD_CBOR}
 use Rattle.sval_program.specs.Reports.{TellsLine, device_reports, invalid_key, bad_cbor, report_among}
 

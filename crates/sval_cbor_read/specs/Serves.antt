@@ -2,12 +2,12 @@
 use Rattle.std.specs.Prelude.{◌≡◌, ◌<◌, ◌^◌, ℕ, List, [], ◌∷◌, length, Option, Some, None, Ok, Err, codes}
 use Rattle.sval_core.specs.Real.{AreBytes}
 use Rattle.sval_core.specs.Trees.{Tree, calls_of}
+use Rattle.sval_io.specs.Sinks.{Told, Appends, AppendsFront}
 use Rattle.sval_json.specs.Grammar.{JsonValue}
 use Rattle.sval_json.specs.Json.{Json, compact}
 use Rattle.sval_json.specs.Laws.{IsTheValueOf}
 use Rattle.sval_json.specs.Number.{InvalidKey}
 use Rattle.sval_json.specs.Shape.{json_of}
-use Rattle.sval_json.specs.Sinks.{Told, Appends, AppendsFront}
 use Rattle.sval_json.specs.Steps.{written_in}
 use Rattle.sval_json.specs.declared.style.Variants.TheVariants.{Inside}
 use Rattle.sval_script.specs.Canon.{canon}

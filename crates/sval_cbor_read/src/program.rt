@@ -6,8 +6,8 @@ use crate::document::CborReadError;
 use crate::form::named_form;
 use crate::running::serve;
 use std::alloc::Global;
-use sval_json::Sink;
-use sval_program::{Failure, Fault, Job, Line, Source};
+use sval_io::{Sink, Source};
+use sval_program::{Failure, Fault, Job, Line};
 
 impl From<CborReadError> for Failure {
     ghost use Rattle.std.specs.Prelude.{◌≡◌};

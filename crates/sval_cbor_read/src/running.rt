@@ -16,10 +16,11 @@ use crate::form::{Form, named_form};
 use crate::program::ReadCbor;
 use crate::status::BAD_CBOR;
 use std::alloc::Global;
-use sval_json::{ErrorKind, Sink, SinkError, stream_to_io_write};
+use sval_io::{Sink, SinkError, Source, read_input};
+use sval_json::{ErrorKind, stream_to_io_write};
 use sval_program::job::run;
 use sval_program::status::{DONE, INVALID_KEY};
-use sval_program::{Failure, Fault, Source, print_captured, read_input};
+use sval_program::{Failure, Fault, print_captured};
 
 /// Writes the JSON of a document.
 fn write_json<K: Sink>(doc: &CborDoc<'_>, out: &mut K) -> Result<(), Failure>

@@ -3,16 +3,16 @@ use Rattle.std.specs.Prelude.{◌≡◌, ℕ, true, List, Option, Some, None, Re
 use Rattle.std.proofs.Common.{sym, ap, subst, ◌∙◌}
 use Rattle.sval_core.specs.Trees.{Tree, calls_of}
 use Rattle.sval_core.proofs.Spellings.{calls_of-spells}
+use Rattle.sval_io.specs.Sinks.{Told, IsSteady, NoCountFell}
+use Rattle.sval_io.specs.declared.sink.SinkError.{SinkError}
 use Rattle.sval_buffer.specs.Forest.{Forest, replayed}
 use Rattle.sval_json.specs.Actions.{Outcome}
 use Rattle.sval_json.specs.Json.{Json, compact}
 use Rattle.sval_json.specs.Laws.{IsWrittenAs}
 use Rattle.sval_json.specs.Number.{Refusal, InvalidKey, InvalidNumber}
 use Rattle.sval_json.specs.Shape.{json_of}
-use Rattle.sval_json.specs.Sinks.{Told, IsSteady, NoCountFell}
 use Rattle.sval_json.specs.Steps.{written_in}
 use Rattle.sval_json.specs.Written.{IsBegunIn, IsRefusedIn, WritesSpelledTree}
-use Rattle.sval_json.specs.declared.sink.SinkError.{SinkError}
 use Rattle.sval_json.specs.declared.style.Variants.TheVariants.{Inside}
 use Rattle.sval_json.proofs.WritingPlain.{spelling_written}
 use Rattle.sval_json.proofs.WrittenOnce.{written_once}

@@ -3,11 +3,12 @@ use Rattle.std.specs.Prelude.{◌≡◌, ◌⊎◌, ℕ, ◌<◌, true, false, L
 use Rattle.std.proofs.Common.{◌∙◌, subst, inl, inr}
 use Rattle.sval_label.specs.Calls.{Call}
 use Rattle.sval_core.specs.Values.{makes}
+use Rattle.sval_io.specs.Sinks.{Told}
+use Rattle.sval_io.proofs.Appending.{writes_nothing}
+use Rattle.sval_io.specs.Sources.{Supply}
 use Rattle.sval_check.specs.Checks.{IsFirstBad, IsUnfinished}
 use Rattle.sval_check.specs.declared.error.CheckError.{CheckError}
 use Rattle.sval_check.specs.declared.error.CheckError.TheVariants as check
-use Rattle.sval_json.specs.Sinks.{Told}
-use Rattle.sval_json.proofs.Appending.{writes_nothing}
 use Rattle.sval_script.specs.Lines.{Lines, Good, Bad, lines}
 use Rattle.sval_script.specs.Readings.{Reading, answer_to, answer_with}
 use Rattle.sval_script.specs.declared.script.ScriptError.{ScriptError}
@@ -19,7 +20,6 @@ use Rattle.sval_program.specs.declared.failure.Failure.TheVariants as failure
 use Rattle.sval_program.specs.Failures.{status_of_fault, failure_of_script}
 use Rattle.sval_program.specs.Inputs.{HasRead}
 use Rattle.sval_program.specs.Jobs.{ServesBytes}
-use Rattle.sval_program.specs.Sources.{Supply}
 use Rattle.sval_program.specs.Statuses.{is_among}
 use Rattle.sval_filter.specs.Forms.{Asked}
 use Rattle.sval_filter.specs.Serves.{Due, is_bad_line, is_bad_call, is_unfinished, filter_terms, failure_of_check}

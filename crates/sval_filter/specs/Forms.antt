@@ -1,7 +1,7 @@
 -- What the program's words ask for, and a fact on that and on the input.
 use Rattle.std.specs.Prelude.{ℕ, List, map, string_bytes, String, Option}
+use Rattle.sval_io.specs.Sources.{Supply}
 use Rattle.sval_program.specs.Inputs.{OnBoth}
-use Rattle.sval_program.specs.Sources.{Supply}
 use Rattle.sval_filter.specs.Paths.{Path, Rule, labels_of}
 use Rattle.sval_filter.specs.Words.{rule_and_paths}
 

@@ -2,11 +2,11 @@
 use Rattle.std.specs.Prelude.{◌≡◌, ℕ, false, List, [], ◌∷◌, Option, Some, None, codes}
 use Rattle.sval_label.specs.Calls.{Call}
 use Rattle.sval_core.specs.Values.{makes}
+use Rattle.sval_io.specs.Sinks.{Told, Appends, AppendsFront}
 use Rattle.sval_buffer.specs.Forest.{Forest}
 use Rattle.sval_check.specs.declared.error.CheckError.{CheckError}
 use Rattle.sval_check.specs.declared.error.CheckError.TheVariants as check
 use Rattle.sval_json.specs.Number.{Refusal, InvalidKey, InvalidNumber}
-use Rattle.sval_json.specs.Sinks.{Told, Appends, AppendsFront}
 use Rattle.sval_program.specs.declared.failure.Fault.{Fault}
 use Rattle.sval_program.specs.declared.failure.Fault.TheVariants as fault
 use Rattle.sval_program.specs.declared.failure.Failure.{Failure}

@@ -5,8 +5,8 @@ ghost use Rattle.sval_filter.specs.Serves.{filter_terms};
 use crate::form::named_form;
 use crate::running::serve;
 use std::alloc::Global;
-use sval_json::Sink;
-use sval_program::{Failure, Job, Line, Source};
+use sval_io::{Sink, Source};
+use sval_program::{Failure, Job, Line};
 
 /// The program, as [`run_process`](sval_program::run_process) and [`run_streams`](sval_program::run_streams) run it:
 /// [`run_filter`](crate::run_filter) says more of its runs.

@@ -23,10 +23,11 @@ use crate::pruning::{PruneError, prune_tree};
 use std::alloc::Global;
 use sval_buffer::Value;
 use sval_check::{CheckError, check};
-use sval_json::{ErrorKind, Sink, SinkError, stream_to_io_write};
+use sval_io::{Sink, SinkError, Source};
+use sval_json::{ErrorKind, stream_to_io_write};
 use sval_program::job::run;
 use sval_program::status::{BAD_CALL, BAD_LINE, DONE, INVALID_KEY, INVALID_NUMBER, UNFINISHED};
-use sval_program::{Failure, Fault, Source, read_script};
+use sval_program::{Failure, Fault, read_script};
 use sval_script::Script;
 
 /// What checking the calls of a script found, which never refuses.

@@ -2,14 +2,14 @@
 use Rattle.std.specs.Prelude.{◌≡◌, ℕ, ◌≤◌, List, [], ◌++◌, Option, Some, None, IfSome, length, refl}
 use Rattle.std.proofs.Common.{sym, ap, ◌∙◌, subst, append-nil}
 use Rattle.std.proofs.lemmas.List.{length-append}
+use Rattle.sval_io.specs.Sinks.{Told, appended, less_room, HasRoom, WritesWhole}
+use Rattle.sval_io.proofs.Appending.{appended-appended, appended-nothing, less_room-zero, less_room-less_room, room_for_nothing, room_for_both, writes_both, stops_after}
 use Rattle.sval_json.specs.declared.error.Stop.{Stop}
 use Rattle.sval_json.specs.declared.error.Stop.TheVariants.{Step, Sink}
 use Rattle.sval_json.specs.Number.{Refusal}
 use Rattle.sval_json.specs.ErrorKinds.{seen_refusal}
 use Rattle.sval_json.specs.Actions.{Outcome, Action, nothing, continue, ◌then◌}
-use Rattle.sval_json.specs.Sinks.{Told, appended, less_room, HasRoom, WritesWhole}
 use Rattle.sval_json.specs.WriterLaw.{Target, WriterView, with_bytes, after_action, HasDone, IsLeftBy, IsStopped}
-use Rattle.sval_json.proofs.Appending.{appended-appended, appended-nothing, less_room-zero, less_room-less_room, room_for_nothing, room_for_both, writes_both, stops_after}
 
 -- ---- the sink
 

@@ -8,10 +8,10 @@ use Rattle.std.proofs.lemmas.List.{take-append-drop, take_all, take_rest, drop_m
 use Rattle.std.proofs.lemmas.List.Sums.{list_all-from_AllPass}
 use Rattle.std.proofs.lemmas.List.Elements.{All-append}
 use Rattle.std.proofs.Math.Seq.{take-add}
+use Rattle.sval_io.specs.declared.sink.SinkError.{SinkError}
+use Rattle.sval_io.specs.Sinks.{Told, WritesWhole, WritesFront, WritesAll}
+use Rattle.sval_io.proofs.Appending.{writes_nothing, writes_both, stops_after}
 use Rattle.sval_json.specs.Escape.{escape, escaped, is_escaped, is_plain}
-use Rattle.sval_json.specs.declared.sink.SinkError.{SinkError}
-use Rattle.sval_json.specs.Sinks.{Told, WritesWhole, WritesFront, WritesAll}
-use Rattle.sval_json.proofs.Appending.{writes_nothing, writes_both, stops_after}
 use Rattle.sval_json.proofs.Texts.{escaped-append}
 
 escape-plain : (byte : ℕ) → is_plain byte ≡ true → escape byte ≡ byte ∷ []

@@ -2,13 +2,13 @@
 use Rattle.std.specs.Prelude.{◌≡◌, None, Some, Err, refl}
 use Rattle.std.proofs.Common.{sym, ap, ◌∙◌, inl, inr, arith}
 use Rattle.sval_core.specs.Law.{Emission, Rose}
+use Rattle.sval_io.specs.Taken.{Taken, taken_told}
 use Rattle.sval_json.specs.declared.style.Variants.{Variants}
 use Rattle.sval_json.specs.Number.{Refusal, InvalidKey, InvalidNumber}
 use Rattle.sval_json.specs.declared.error.ErrorKind.{ErrorKind}
 use Rattle.sval_json.specs.declared.error.ErrorKind.TheVariants.{Generic, IO}
 use Rattle.sval_json.specs.declared.error.ErrorKind.TheVariants as kind
 use Rattle.sval_json.specs.ErrorKinds.{refusal_kind}
-use Rattle.sval_json.specs.Taken.{Taken, taken_told}
 use Rattle.sval_json.specs.Steps.{written_in}
 use Rattle.sval_json.specs.Written.{StreamsJson, RefusesItself}
 use Rattle.sval_json.specs.Given.{ComesInMemory, GivesJson}

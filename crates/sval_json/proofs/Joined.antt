@@ -7,18 +7,18 @@ use Rattle.sval_label.specs.Calls.{Call, Slot}
 use Rattle.sval_label.specs.declared.error.Error.{Error}
 use Rattle.sval_core.specs.Law.{Standing, Rose, Ran, StoppedIn, Emits}
 use Rattle.sval_core.specs.Values.{makes, whole_text_calls, whole_key_calls}
+use Rattle.sval_io.specs.declared.sink.SinkError.{SinkError}
+use Rattle.sval_io.specs.declared.sink.SinkError.TheVariants.{Failed, NoMemory}
+use Rattle.sval_io.specs.Sinks.{Told, IsSteady, IsCounted, NoCountFell, IsFull, less_room, HasRoom, Appends, AppendsPart, WritesFront}
+use Rattle.sval_io.proofs.Appending.{appended-appended, less_room-less_room, counted_since, counts_since}
 use Rattle.sval_json.specs.declared.error.Stop.{Stop}
 use Rattle.sval_json.specs.declared.error.Stop.TheVariants.{Step, Sink}
-use Rattle.sval_json.specs.declared.sink.SinkError.{SinkError}
-use Rattle.sval_json.specs.declared.sink.SinkError.TheVariants.{Failed, NoMemory}
 use Rattle.sval_json.specs.declared.style.Variants.{Variants}
 use Rattle.sval_json.specs.declared.writer.Writer.{Writer}
 use Rattle.sval_json.specs.Actions.{State, Outcome, escapes, write}
 use Rattle.sval_json.specs.Escape.{escaped}
 use Rattle.sval_json.specs.Steps.{step}
-use Rattle.sval_json.specs.Sinks.{Told, IsSteady, IsCounted, NoCountFell, IsFull, less_room, HasRoom, Appends, AppendsPart, WritesFront}
 use Rattle.sval_json.specs.WriterLaw.{WriterView, with_bytes, after_action, MayDo, IsLeftBy, IsStopped, Does, step_law, writer_view, writer_standing}
-use Rattle.sval_json.proofs.Appending.{appended-appended, less_room-less_room, counted_since, counts_since}
 use Rattle.sval_json.proofs.Doing.{with_bytes-nothing, with_bytes-append}
 
 -- from this state on none of the calls is refused, they write these bytes, and lead to the last state

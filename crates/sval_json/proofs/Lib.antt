@@ -22,8 +22,6 @@ pub mod MeansOne
 pub mod CompactText
 pub mod NumberTexts
 pub mod Meaning
-pub mod Appending
-pub mod Pieces
 mod EscapeLanes
 pub mod EscapedPieces
 pub mod Doing
@@ -34,6 +32,5 @@ pub mod ToFmt
 pub mod Room
 pub mod JsonTexts
 pub mod Told
-pub mod FaultyWrites
 mod examples
 mod Joined

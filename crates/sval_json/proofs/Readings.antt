@@ -1,13 +1,13 @@
 -- A piece of a number that is read byte by byte.
 use Rattle.std.specs.Prelude.{◌≡◌, ℕ, ◌≤◌, Bool, true, List, [], ◌∷◌, ◌++◌, codes, if◌then◌else◌, take, drop, Result, Ok, Err, length, refl}
 use Rattle.std.proofs.Common.{sym, ap, ◌∙◌, append-nil}
+use Rattle.sval_io.specs.declared.sink.SinkError.{SinkError}
+use Rattle.sval_io.specs.Sinks.{Told, WritesWhole, WritesAll}
+use Rattle.sval_io.proofs.Appending.{writes_both, stops_after}
 use Rattle.sval_json.specs.declared.number.Phase as program
 use Rattle.sval_json.specs.declared.number.Phase.TheVariants as phase
 use Rattle.sval_json.specs.declared.number.NumberMachine.{NumberMachine}
 use Rattle.sval_json.specs.Number.{Phase, Word, Machine, Reading, moves, take_byte, take_bytes}
-use Rattle.sval_json.specs.declared.sink.SinkError.{SinkError}
-use Rattle.sval_json.specs.Sinks.{Told, WritesWhole, WritesAll}
-use Rattle.sval_json.proofs.Appending.{writes_both, stops_after}
 use Rattle.sval_json.specs.SeenNumber.{seen_phase, seen_machine, is_running, is_leading, after_front}
 
 -- what the machine does with the bytes is what it does with the rest, after these that it wrote

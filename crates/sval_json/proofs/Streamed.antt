@@ -5,8 +5,10 @@ use Rattle.sval_label.specs.Calls.{Call}
 use Rattle.sval_core.specs.Trees.{Tree}
 use Rattle.sval_core.specs.Real.{IsReal}
 use Rattle.sval_core.specs.Law.{Standing, Emission, Ran, Streams, StoppedIn, Stops, Rose}
+use Rattle.sval_io.specs.declared.sink.SinkError.TheVariants.{Failed, NoMemory}
+use Rattle.sval_io.specs.Sinks.{Told, IsSteady, NoCountFell, IsQuiet, Appends, AppendsFront, AppendsPart}
+use Rattle.sval_io.proofs.Appending.{all_is_front, steady_counts}
 use Rattle.sval_json.specs.declared.style.Variants.{Variants}
-use Rattle.sval_json.specs.declared.sink.SinkError.TheVariants.{Failed, NoMemory}
 use Rattle.sval_json.specs.declared.error.ErrorKind.{ErrorKind}
 use Rattle.sval_json.specs.declared.error.ErrorKind.TheVariants.{Generic, IO}
 use Rattle.sval_json.specs.declared.error.ErrorKind.TheVariants as kind
@@ -15,7 +17,6 @@ use Rattle.sval_json.specs.declared.error.Stop.TheVariants.{Step, Sink}
 use Rattle.sval_json.specs.ErrorKinds.{seen_refusal, refusal_kind, error_kind}
 use Rattle.sval_json.specs.Json.{Json}
 use Rattle.sval_json.specs.Shape.{json_in}
-use Rattle.sval_json.specs.Sinks.{Told, IsSteady, NoCountFell, IsQuiet, Appends, AppendsFront, AppendsPart}
 use Rattle.sval_json.specs.Actions.{start, nothing}
 use Rattle.sval_json.specs.Number.{Refusal, InvalidKey, InvalidNumber}
 use Rattle.sval_json.specs.Steps.{step, steps, written_in}
@@ -28,7 +29,6 @@ use Rattle.sval_json.specs.Passed.{ArePassed}
 use Rattle.sval_json.proofs.Passing.{passed_real}
 use Rattle.sval_json.proofs.WritingPlain.{spelling_written}
 use Rattle.sval_json.proofs.Meaning.{text_means}
-use Rattle.sval_json.proofs.Appending.{all_is_front, steady_counts}
 use Rattle.sval_json.proofs.Doing.{nothing_done, done_then, stopped_first, stopped_later}
 
 -- ---- from view to view

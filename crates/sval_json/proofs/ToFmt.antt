@@ -2,11 +2,11 @@
 use Rattle.std.specs.Prelude.{◌≡◌, ◌⊎◌, Ok, Err, refl}
 use Rattle.std.proofs.Common.{ap, inl, inr}
 use Rattle.sval_core.specs.Law.{Emission}
+use Rattle.sval_io.specs.Sinks.{Told}
 use Rattle.sval_json.specs.declared.style.Variants.{Variants}
 use Rattle.sval_json.specs.declared.error.ErrorKind.{ErrorKind}
 use Rattle.sval_json.specs.declared.error.ErrorKind.TheVariants.{Generic, IO}
 use Rattle.sval_json.specs.declared.error.ErrorKind.TheVariants as kind
-use Rattle.sval_json.specs.Sinks.{Told}
 use Rattle.sval_json.specs.Written.{EndsRefused, StreamsJson}
 use Rattle.sval_json.specs.ErrorKinds.{without_io}
 use Rattle.sval_json.specs.ToFmt.{IsFaulty, StreamsToFmt}

@@ -4,10 +4,10 @@ use Rattle.std.proofs.Common.{ap, sym, ◌∙◌}
 use Rattle.sval_label.specs.Calls.{Call}
 use Rattle.sval_core.specs.Spells.{Spells}
 use Rattle.sval_core.specs.Trees.{Tree}
+use Rattle.sval_io.specs.Sinks.{Told}
 use Rattle.sval_json.specs.Json.{Json, compact}
 use Rattle.sval_json.specs.Number.{Refusal}
 use Rattle.sval_json.specs.Shape.{json_in}
-use Rattle.sval_json.specs.Sinks.{Told}
 use Rattle.sval_json.specs.Written.{WritesTreeIn, RefusesSpelledTree}
 use Rattle.sval_json.specs.declared.style.Variants.{Variants}
 

@@ -1,7 +1,7 @@
 -- Of which kind an error is, and what it says.
 use Rattle.std.specs.Prelude.{ℕ, List, Option, Some, None, codes}
-use Rattle.sval_json.specs.declared.sink.SinkError.{SinkError}
-use Rattle.sval_json.specs.declared.sink.SinkError.TheVariants.{Failed, NoMemory}
+use Rattle.sval_io.specs.declared.sink.SinkError.{SinkError}
+use Rattle.sval_io.specs.declared.sink.SinkError.TheVariants.{Failed, NoMemory}
 use Rattle.sval_json.specs.declared.error.ErrorKind.{ErrorKind}
 use Rattle.sval_json.specs.declared.error.ErrorKind.TheVariants as kind
 use Rattle.sval_json.specs.declared.error.Refusal as code
@@ -43,8 +43,3 @@ error_text kind.IO = codes "failed to write JSON"
 error_text kind.InvalidKey = codes "attempt to serialize a non-string key"
 error_text kind.InvalidNumber = codes "attempt to serialize an invalid number"
 error_text kind.NoMemory = codes "cannot allocate for JSON"
-
--- what a sink's error says
-abbrev pub sink_error_text : SinkError → List ℕ
-sink_error_text Failed = codes "write fault"
-sink_error_text NoMemory = codes "out of memory"

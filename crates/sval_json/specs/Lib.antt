@@ -15,13 +15,6 @@ pub mod Grammar
 pub mod Means
 pub mod Promises
 pub mod Fronts
-pub mod Sinks
-pub mod Taken
-pub mod Filled
-pub mod Counted
-pub mod FaultPlans
-pub mod Faulty
-pub mod OverWriter
 pub mod WriterLaw
 pub mod ErrorKinds
 pub mod Written

@@ -3,9 +3,9 @@ use Rattle.std.specs.Prelude.{◌≡◌, ◌≤◌, false, length, Result, Ok}
 use Rattle.sval_core.specs.Law.{Emission}
 use Rattle.sval_core.specs.Spells.{Spells}
 use Rattle.sval_core.specs.Trees.{Tree}
+use Rattle.sval_io.specs.Filled.{Filled, room_of, filled_told}
 use Rattle.sval_json.specs.declared.style.Variants.{Variants}
 use Rattle.sval_json.specs.declared.error.ErrorKind.{ErrorKind}
-use Rattle.sval_json.specs.Filled.{Filled, room_of, filled_told}
 use Rattle.sval_json.specs.Json.{Json, compact}
 use Rattle.sval_json.specs.Shape.{json_in}
 use Rattle.sval_json.specs.Written.{StreamsJson}

@@ -1,5 +1,7 @@
 -- What the number machine of the program is seen as.
 use Rattle.std.specs.Prelude.{◌≡◌, Bool, true, false, List, [], ◌∷◌, ◌++◌, ℕ, codes, Option, Some, None, Result, Ok, Err}
+use Rattle.sval_io.specs.declared.sink.SinkError.{SinkError}
+use Rattle.sval_io.specs.Sinks.{Told, WritesWhole, WritesFront}
 use Rattle.sval_json.specs.declared.number.Phase as program
 use Rattle.sval_json.specs.declared.number.Phase.TheVariants as phase
 use Rattle.sval_json.specs.declared.number.NumberMachine.{NumberMachine}
@@ -7,8 +9,6 @@ use Rattle.sval_json.specs.declared.number.Reading as read
 use Rattle.sval_json.specs.declared.number.Lead.{Lead}
 use Rattle.sval_json.specs.declared.number.Lead.TheVariants as lead
 use Rattle.sval_json.specs.Number.{Phase, Start, Signed, Zero, Whole, Point, Fraction, Exponent, ExponentSign, ExponentDigits, Word, Machine, Reading, moves, stops, take_byte}
-use Rattle.sval_json.specs.declared.sink.SinkError.{SinkError}
-use Rattle.sval_json.specs.Sinks.{Told, WritesWhole, WritesFront}
 
 -- the phase of the definitions that a phase of the program is
 abbrev pub seen_phase : program.Phase → Phase

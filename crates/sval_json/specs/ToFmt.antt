@@ -1,11 +1,11 @@
 -- What streaming a value to JSON answers where a fault of the sink is no kind of its own.
 use Rattle.std.specs.Prelude.{◌≡◌, ◌⊎◌, Result, Err}
 use Rattle.sval_core.specs.Law.{Emission, Rose}
+use Rattle.sval_io.specs.Sinks.{Told}
 use Rattle.sval_json.specs.declared.style.Variants.{Variants}
 use Rattle.sval_json.specs.declared.error.ErrorKind.{ErrorKind}
 use Rattle.sval_json.specs.declared.error.ErrorKind.TheVariants as kind
 use Rattle.sval_json.specs.ErrorKinds.{without_io}
-use Rattle.sval_json.specs.Sinks.{Told}
 use Rattle.sval_json.specs.Written.{EndsRefused, IsTooLongFor, StreamsJson}
 
 -- the same in an answer

@@ -3,6 +3,7 @@ use Rattle.std.specs.Prelude.{◌≡◌, ℕ, List, Option, Some, None, Result, 
 use Rattle.std.specs.Borrow.{MutBor}
 use Rattle.sval_label.specs.declared.error.Error.{Error}
 use Rattle.sval_core.specs.Law.{Law, Standing}
+use Rattle.sval_io.specs.Sinks.{Told, appended, less_room, HasRoom, WritesWhole, WritesFront}
 use Rattle.sval_json.specs.declared.error.Stop.{Stop}
 use Rattle.sval_json.specs.declared.error.Stop.TheVariants.{Step, Sink}
 use Rattle.sval_json.specs.declared.style.Variants.{Variants}
@@ -13,7 +14,6 @@ use Rattle.sval_json.specs.Steps.{step}
 use Rattle.sval_json.specs.Number.{Refusal}
 use Rattle.sval_json.specs.Passed.{IsPassed}
 use Rattle.sval_json.specs.ErrorKinds.{seen_refusal}
-use Rattle.sval_json.specs.Sinks.{Told, appended, less_room, HasRoom, WritesWhole, WritesFront}
 
 -- the sink that a writer writes to: which one, what it tells but for what it holds back, and what stopped the writer, if something did
 pub record Target : Type 0 where

@@ -3,9 +3,9 @@
 ghost use Rattle.std.specs.Prelude.{◌≡◌};
 ghost use Rattle.sval_json.specs.ErrorKinds.{error_kind, without_io};
 
-use crate::sink::SinkError;
 use std::fmt;
 use std::marker::Model;
+use sval_io::SinkError;
 
 /// The kinds of [`Error`].
 #[derive(Clone, Copy, Debug, PartialEq, Eq)]

@@ -4,11 +4,11 @@ ghost use Rattle.std.specs.Prelude.{◌≡◌, ℕ, ◌<◌, ◌≤◌, ◌++◌
 ghost use Rattle.std.specs.Char.{digit_char};
 ghost use Rattle.std.specs.List.{AllPass};
 ghost use Rattle.std.specs.Simd.Lanes.{mask_l};
+ghost use Rattle.sval_io.specs.Sinks.{WritesAll};
 ghost use Rattle.sval_json.specs.Escape.{escape, escaped, is_escaped, is_plain, low_byte, short_escape};
-ghost use Rattle.sval_json.specs.Sinks.{WritesAll};
 
-use crate::sink::{Sink, SinkError, write_all, write_in_place};
 use std::simd::prelude::*;
+use sval_io::{Sink, SinkError, write_all, write_in_place};
 
 /// Whether a byte doesn't stand as it is between quotes.
 fn needs_escape(byte: u8) -> bool

@@ -5,39 +5,29 @@
 //! memory. An [`Error`] tells its cause by [`ErrorKind`].
 #![tactic(auto)]
 
-mod count;
 mod digits;
 mod error;
 pub mod escape;
-mod fault_plan;
-mod faulty;
-mod fixed;
 mod json_str;
 pub mod laws;
 pub mod marks;
 mod number;
 mod passed;
-mod real;
-mod sink;
 mod style;
 pub mod tags;
 mod to_fmt;
 mod to_io;
 mod to_memory;
-mod trickle;
 mod writer;
 
-pub use count::CountSink;
 pub use digits::format_int;
 pub use error::{Error, ErrorKind};
-pub use fault_plan::FaultPlan;
-pub use faulty::FaultySink;
-pub use fixed::FixedSink;
 pub use json_str::{JsonStr, JsonString};
-pub use real::RealSink;
-pub use sink::{Sink, SinkError, VecSink, write_all};
 pub use style::Variants;
+pub use sval_io::{
+    CountSink, FaultPlan, FaultySink, FixedSink, RealSink, Sink, SinkError, TrickleSink, VecSink,
+    write_all,
+};
 pub use to_fmt::stream_to_fmt_write;
 pub use to_io::{stream_to_io_write, stream_to_io_write_with};
 pub use to_memory::{stream_to_json_str, stream_to_string, stream_to_vec};
-pub use trickle::TrickleSink;

@@ -1,12 +1,12 @@
 //! A number whose text comes in pieces, written in its normal form as far as it has come.
 
 ghost use Rattle.std.specs.Prelude.{◌≡◌, ◌++◌, codes, false, true, option_map, IfSome};
+ghost use Rattle.sval_io.specs.Sinks.{WritesAll};
 ghost use Rattle.sval_json.specs.Number.{Start, sign, take_bytes, at_end};
 ghost use Rattle.sval_json.specs.SeenNumber.{seen_phase, seen_machine, seen_reading, after_front};
 ghost use Rattle.sval_json.specs.SeenNumber.{is_leading, IsLead, is_running, IsStep, ReadsAll};
-ghost use Rattle.sval_json.specs.Sinks.{WritesAll};
 
-use crate::sink::{Sink, SinkError, write_all};
+use sval_io::{Sink, SinkError, write_all};
 
 /// How far a number has come.
 #[derive(Clone, Copy)]

@@ -4,9 +4,9 @@ ghost use Rattle.sval_json.specs.declared.style.Variants.TheVariants.{Inside};
 ghost use Rattle.sval_json.specs.ToFmt.{StreamsToFmt};
 
 use crate::error::Error;
-use crate::sink::Sink;
 use crate::to_io::stream_to_io_write;
 use sval_core::{Lent, Value};
+use sval_io::Sink;
 
 /// Streams a value to a sink as JSON, as [`stream_to_io_write`] does, but that a failure of the sink is of no kind of
 /// its own.

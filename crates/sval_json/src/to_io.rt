@@ -4,10 +4,10 @@ ghost use Rattle.sval_json.specs.declared.style.Variants.TheVariants.{Inside};
 ghost use Rattle.sval_json.specs.Written.{StreamsJson};
 
 use crate::error::{Error, ErrorKind};
-use crate::sink::Sink;
 use crate::style::Variants;
 use crate::writer::{Handler, Writer};
 use sval_core::{Lent, Value};
+use sval_io::Sink;
 
 /// Streams a value to a sink as JSON, without white space.
 ///

@@ -6,10 +6,10 @@ ghost use Rattle.sval_json.specs.Given.{GivesJson, by_bytes};
 
 use crate::error::Error;
 use crate::json_str::JsonString;
-use crate::sink::VecSink;
 use crate::to_io::stream_to_io_write;
 use std::alloc::Global;
 use sval_core::{Lent, Value};
+use sval_io::VecSink;
 
 /// The JSON of a value, as bytes: those that [`stream_to_io_write`] writes for it.
 ///

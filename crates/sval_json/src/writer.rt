@@ -13,25 +13,24 @@ ghost use Rattle.sval_label.specs.Grouped.{grouped_call, int_number};
 ghost use Rattle.sval_label.specs.Made.{lent_call};
 ghost use Rattle.sval_core.specs.Law.{Answers, Emits};
 ghost use Rattle.sval_core.specs.Values.{makes, whole_text_calls, whole_key_calls};
+ghost use Rattle.sval_io.specs.Sinks.{IsFull};
 ghost use Rattle.sval_json.specs.ErrorKinds.{seen_refusal};
 ghost use Rattle.sval_json.specs.Escape.{escaped};
 ghost use Rattle.sval_json.specs.Actions.{write, refuse, escapes};
 ghost use Rattle.sval_json.specs.SeenWriter.{quoted_text, seen_handler};
-ghost use Rattle.sval_json.specs.Sinks.{IsFull};
 ghost use Rattle.sval_json.specs.Steps.{value_written, refuse_in_key, opens, closes};
 ghost use Rattle.sval_json.specs.WriterLaw.{WriterView, Does, step_law, writer_law, writer_view, writer_standing};
 
-use crate::digits::format_int;
 use crate::error::{Refusal, Stop};
 use crate::escape::write_escaped;
 use crate::number::NumberMachine;
 use crate::passed::{call_is_real, end_is_real, text_is_real};
-use crate::sink::{Sink, SinkError, write_all, write_in_place};
 use crate::style::Variants;
 use crate::writer::short::{Quoted, push_between, push_plain};
 use arrayvec::ArrayString;
 use itoa::Buffer;
 use sval_core::{Call, Error, Fragment, GroupedCall, Int, Lent, Result, Stream};
+use sval_io::{Sink, SinkError, write_all, write_in_place};
 
 /// What happens to the fragments of a text.
 #[derive(Clone, Copy)]
@@ -208,7 +207,7 @@ impl<'k, K: Sink> Writer<'k, K> {
             (writer_view K.told self.old) (writer_view K.told self.new) }
     {
         let mut buffer = Buffer::new();
-        self.write_value(format_int(&mut buffer, number).as_bytes())
+        self.write_value(number.format(&mut buffer).as_bytes())
     }
 
     /// Opens what other values may stand in.

@@ -1,22 +1,22 @@
 -- What the facts on a run say of JSON.
 use Rattle.std.specs.Prelude.{◌≡◌, ℕ, true, List, [], Option, Some, None, Result, Ok, Err, refl}
 use Rattle.std.proofs.Common.{sym, ap, subst, ◌∙◌, arith, inl, inr}
-use Rattle.sval_json.specs.Sinks.{Told, AppendsFront}
-use Rattle.sval_json.specs.declared.sink.SinkError.{SinkError}
-use Rattle.sval_json.specs.declared.sink.SinkError.TheVariants as sink
-use Rattle.sval_json.proofs.Appending.{writes_nothing}
+use Rattle.sval_io.specs.Sinks.{Told, AppendsFront}
+use Rattle.sval_io.specs.declared.sink.SinkError.{SinkError}
+use Rattle.sval_io.specs.declared.sink.SinkError.TheVariants as sink
+use Rattle.sval_io.proofs.Appending.{writes_nothing}
+use Rattle.sval_io.specs.declared.input_error.InputError.TheVariants as input
+use Rattle.sval_io.specs.Sources.{Supply}
 use Rattle.sval_program.specs.declared.failure.Fault.{Fault}
 use Rattle.sval_program.specs.declared.failure.Fault.TheVariants as fault
 use Rattle.sval_program.specs.declared.failure.Failure.{Failure}
 use Rattle.sval_program.specs.declared.failure.Failure.TheVariants as failure
 use Rattle.sval_program.specs.declared.status.TheConstants.{NOT_UTF8, BAD_JSON}
-use Rattle.sval_program.specs.declared.input_error.InputError.TheVariants as input
 use Rattle.sval_program.specs.Failures.{is_fault, status_of_fault, status_of_found, status_of, line_of}
 use Rattle.sval_program.specs.Inputs.{OnBoth}
 use Rattle.sval_program.specs.Jobs.{may_write, ServesBytes, WritesAllDue}
 use Rattle.sval_program.specs.Reports.{TellsLine}
 use Rattle.sval_program.specs.Runs as runs
-use Rattle.sval_program.specs.Sources.{Supply}
 use Rattle.sval_program.proofs.Growing.{front_of_nothing}
 use Rattle.sval_program.proofs.JobRuns.{on_both, the_fault}
 use Rattle.sval_json_read.specs.declared.document.ReadError.{ReadError}

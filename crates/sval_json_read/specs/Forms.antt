@@ -1,7 +1,7 @@
 -- The words that name what is written of a document.
 use Rattle.std.specs.Prelude.{ℕ, List, [], ◌∷◌, codes, bytes_eq, map, string_bytes, String, Option, Some, None, if◌then◌else◌}
+use Rattle.sval_io.specs.Sources.{Supply}
 use Rattle.sval_program.specs.Inputs.{OnBoth}
-use Rattle.sval_program.specs.Sources.{Supply}
 use Rattle.sval_json_read.specs.declared.form.Form.{Form}
 use Rattle.sval_json_read.specs.declared.form.Form.TheVariants.{Json, Calls}
 

@@ -1,9 +1,9 @@
 -- What the third device is told.
 use Rattle.std.specs.Prelude.{◌≡◌, ℕ, List, [], ◌∷◌, ◌++◌, codes}
-use Rattle.sval_json.specs.Sinks.{Told}
+use Rattle.sval_io.specs.Sinks.{Told}
+use Rattle.sval_io.specs.Sources.{Supply}
 use Rattle.sval_program.specs.declared.status.TheConstants.{USAGE, NOT_UTF8, BAD_JSON}
 use Rattle.sval_program.specs.Reports.{TellsLine, device_reports, report_among, not_utf8, bad_json}
-use Rattle.sval_program.specs.Sources.{Supply}
 use Rattle.sval_json_read.specs.Documents.{IsBadJson}
 use Rattle.sval_json_read.specs.Forms.{OnNamed}
 

@@ -1,12 +1,12 @@
 -- What is due of an input, and what writing it makes of the sink.
 use Rattle.std.specs.Prelude.{◌≡◌, ℕ, List, [], ◌∷◌, Option, Some, None, Result, Ok, IsUtf8, codes}
 use Rattle.sval_core.specs.Trees.{calls_of}
+use Rattle.sval_io.specs.Sinks.{Told, Appends, AppendsFront}
+use Rattle.sval_io.specs.declared.sink.SinkError.{SinkError}
 use Rattle.sval_json.specs.Grammar.{JsonValue, Denotes}
 use Rattle.sval_json.specs.Json.{Json, compact}
 use Rattle.sval_json.specs.Laws.{IsTheValueOf}
 use Rattle.sval_json.specs.Shape.{json_of}
-use Rattle.sval_json.specs.Sinks.{Told, Appends, AppendsFront}
-use Rattle.sval_json.specs.declared.sink.SinkError.{SinkError}
 use Rattle.sval_script.specs.Canon.{canon}
 use Rattle.sval_script.specs.Lines.{Good, lines}
 use Rattle.sval_program.specs.declared.failure.Fault.{Fault}

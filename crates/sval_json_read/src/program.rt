@@ -6,8 +6,8 @@ use crate::document::ReadError;
 use crate::form::named_form;
 use crate::running::serve;
 use std::alloc::Global;
-use sval_json::Sink;
-use sval_program::{Failure, Fault, Job, Line, Source};
+use sval_io::{Sink, Source};
+use sval_program::{Failure, Fault, Job, Line};
 
 impl From<ReadError> for Failure {
     ghost use Rattle.std.specs.Prelude.{◌≡◌};

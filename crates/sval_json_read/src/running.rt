@@ -17,10 +17,11 @@ use crate::form::{Form, named_form};
 use crate::program::ReadJson;
 use crate::status::{BAD_JSON, NOT_UTF8};
 use std::alloc::Global;
-use sval_json::{ErrorKind, Sink, SinkError, stream_to_io_write};
+use sval_io::{Sink, SinkError, Source, read_input};
+use sval_json::{ErrorKind, stream_to_io_write};
 use sval_program::job::run;
 use sval_program::status::DONE;
-use sval_program::{Failure, Source, print_captured, read_input};
+use sval_program::{Failure, print_captured};
 
 /// Writes the JSON of a document.
 fn write_json<K: Sink>(doc: &JsonDoc<'_>, out: &mut K) -> Result<(), SinkError>

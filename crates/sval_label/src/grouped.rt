@@ -1,14 +1,16 @@
 //! The calls in groups.
 
 ghost use Rattle.std.specs.Prelude.{◌≡◌, ⊤, ℕ, List};
+ghost use Rattle.std.specs.Fmt.{signed_decimal};
 ghost use Rattle.sval_label.specs.Made.{call_of};
-ghost use Rattle.sval_label.specs.Grouped.{grouped_call};
+ghost use Rattle.sval_label.specs.Grouped.{grouped_call, int_number};
 
 use crate::call::AnyCall;
 use crate::index::Index;
 use crate::label::Label;
 use crate::name::Name;
 use crate::tag::Tag;
+use itoa::Buffer;
 use std::alloc::AllocError;
 
 /// A whole number of any type.
@@ -34,6 +36,31 @@ pub enum Int {
     I64(i64),
     /// Of 128 bits with its sign.
     I128(i128),
+}
+
+impl Int {
+    /// The digits of a number in decimal, with `-` in front of one below 0. They stand in the buffer.
+    ///
+    /// ```
+    /// let mut buffer = Buffer::new();
+    /// assert_eq!(rt; Int::I8(-7).format(&mut buffer), "-7");
+    /// ```
+    pub fn format(self, buffer: &mut Buffer) -> &str
+        ensures { result.now ≡ signed_decimal (int_number self) }
+    {
+        match self {
+            Int::U8(number) => buffer.format(number),
+            Int::U16(number) => buffer.format(number),
+            Int::U32(number) => buffer.format(number),
+            Int::U64(number) => buffer.format(number),
+            Int::U128(number) => buffer.format(number),
+            Int::I8(number) => buffer.format(number),
+            Int::I16(number) => buffer.format(number),
+            Int::I32(number) => buffer.format(number),
+            Int::I64(number) => buffer.format(number),
+            Int::I128(number) => buffer.format(number),
+        }
+    }
 }
 
 /// A part of a text or of a binary.

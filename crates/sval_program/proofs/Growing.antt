@@ -1,10 +1,10 @@
 -- What is left of a sink that is as it was, and of one that grew.
 use Rattle.std.specs.Prelude.{◌≡◌, ℕ, List, [], ◌++◌}
 use Rattle.std.proofs.Common.{◌∙◌, arith, inr}
-use Rattle.sval_json.specs.declared.sink.SinkError.{SinkError}
-use Rattle.sval_json.specs.declared.sink.SinkError.TheVariants.{Failed, NoMemory}
-use Rattle.sval_json.specs.Sinks.{Told, NoCountFell, IsCounted, LacksRoom, Appends, AppendsFront, WritesWhole, PassesOn, Declines}
-use Rattle.sval_json.proofs.Appending.{appends_nothing, all_is_front, lacks_both, steady_alone, steady_both, steady_counts, counts_since, counted_since}
+use Rattle.sval_io.specs.declared.sink.SinkError.{SinkError}
+use Rattle.sval_io.specs.declared.sink.SinkError.TheVariants.{Failed, NoMemory}
+use Rattle.sval_io.specs.Sinks.{Told, NoCountFell, IsCounted, LacksRoom, Appends, AppendsFront, WritesWhole, PassesOn, Declines}
+use Rattle.sval_io.proofs.Appending.{appends_nothing, all_is_front, lacks_both, steady_alone, steady_both, steady_counts, counts_since, counted_since}
 use Rattle.sval_program.specs.Outputs.{Grows, IsStopCause, StopsWithin}
 
 -- ---- one that is as it was

@@ -1,13 +1,13 @@
 -- From what serving the words says to what is so of the whole run.
 use Rattle.std.specs.Prelude.{ℕ, List, Option, Some, None, Result, Ok, Err, refl}
-use Rattle.sval_json.specs.Sinks.{Told, Declines, PassesOn}
-use Rattle.sval_json.specs.declared.sink.SinkError.{SinkError}
+use Rattle.sval_io.specs.Sinks.{Told, Declines, PassesOn}
+use Rattle.sval_io.specs.declared.sink.SinkError.{SinkError}
+use Rattle.sval_io.specs.Sources.{Supply}
 use Rattle.sval_program.specs.declared.failure.Failure.{Failure}
 use Rattle.sval_program.specs.declared.failure.Failure.TheVariants.{Write}
 use Rattle.sval_program.specs.Failures.{status_of}
 use Rattle.sval_program.specs.Jobs.{Terms, Serves, ServesForm, Works}
 use Rattle.sval_program.specs.Runs.{Ends}
-use Rattle.sval_program.specs.Sources.{Supply}
 use Rattle.sval_program.proofs.Growing.{passed_on, held_back}
 use Rattle.sval_program.proofs.JobRuns.{Case, Ran}
 use Rattle.sval_program.proofs.JobRuns as answers

@@ -2,23 +2,24 @@
 use Rattle.std.specs.Prelude.{◌≡◌, ◌⊎◌, ℕ, ◌==◌, ◌≤◌, Bool, true, false, not, ◌||◌, List, Option, Some, None, Ok, Err, refl}
 use Rattle.std.proofs.Common.{sym, ap, subst, arith, inl, inr}
 use Rattle.sval_core.specs.Law.{Rose}
-use Rattle.sval_json.specs.Sinks.{IsSteady, NoCountFell}
-use Rattle.sval_json.specs.declared.sink.SinkError.{SinkError}
-use Rattle.sval_json.specs.declared.sink.SinkError.TheVariants as sink
-use Rattle.sval_json.proofs.Appending.{all_is_front, steady_counts}
+use Rattle.sval_io.specs.Sinks.{IsSteady, NoCountFell}
+use Rattle.sval_io.specs.declared.sink.SinkError.{SinkError}
+use Rattle.sval_io.specs.declared.sink.SinkError.TheVariants as sink
+use Rattle.sval_io.proofs.Appending.{all_is_front, steady_counts}
+use Rattle.sval_io.specs.declared.input_error.InputError.{InputError}
+use Rattle.sval_io.specs.declared.input_error.InputError.TheVariants as input
+use Rattle.sval_io.specs.WholeInputs.{StaysShort}
+use Rattle.sval_io.proofs.ReadParts.{read_nothing, read_all}
 use Rattle.sval_program.specs.declared.failure.Fault.{Fault}
 use Rattle.sval_program.specs.declared.failure.Failure.TheVariants.{Input, Fault as Found, NoMemory, Write}
-use Rattle.sval_program.specs.declared.input_error.InputError.{InputError}
-use Rattle.sval_program.specs.declared.input_error.InputError.TheVariants as input
 use Rattle.sval_program.specs.declared.status.TheConstants.{DONE, USAGE, WRITE, NO_MEMORY, TOO_LONG}
 use Rattle.sval_program.specs.Failures.{status_of_fault, status_of_failure, status_of, is_read}
-use Rattle.sval_program.specs.Inputs.{OnShort, OnLong, IsSpent, StaysShort}
+use Rattle.sval_program.specs.Inputs.{OnShort, OnLong, IsSpent}
 use Rattle.sval_program.specs.Jobs.{Terms, may_write, FindsFault}
 use Rattle.sval_program.specs.Outputs.{Grows}
 use Rattle.sval_program.specs.Runs.{is_unwritten, MayLeave, HasFault}
 use Rattle.sval_program.specs.Statuses.{is_among}
 use Rattle.sval_program.proofs.Growing.{counts_stay, grows_by_nothing, grows_by_front}
-use Rattle.sval_program.proofs.ReadParts.{read_nothing, read_all}
 use Rattle.sval_program.proofs.JobRuns.{Case, Ended, Ran, Served, Unread, OnInput, on_input, on_served, by_end, no_fault, unread_status, stopped_status, spent_served}
 
 -- ---- what is left of the sink

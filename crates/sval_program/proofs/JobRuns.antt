@@ -2,22 +2,23 @@
 use Rattle.std.specs.Prelude.{◌≡◌, ◌↔◌, ℕ, ◌==◌, ◌<◌, Bool, true, false, ◌||◌, List, ◌∷◌, Option, Some, None, Result, Ok, Err, IfSome, OnOk, refl}
 use Rattle.std.proofs.Common.{sym, ap, subst, ◌∙◌, arith, inl, inr}
 use Rattle.sval_core.specs.Law.{Rose}
-use Rattle.sval_json.specs.Sinks.{Told}
-use Rattle.sval_json.specs.declared.sink.SinkError.{SinkError}
-use Rattle.sval_json.specs.declared.sink.SinkError.TheVariants as sink
+use Rattle.sval_io.specs.Sinks.{Told}
+use Rattle.sval_io.specs.declared.sink.SinkError.{SinkError}
+use Rattle.sval_io.specs.declared.sink.SinkError.TheVariants as sink
+use Rattle.sval_io.specs.declared.input_error.InputError.{InputError}
+use Rattle.sval_io.specs.declared.input_error.InputError.TheVariants as input
+use Rattle.sval_io.specs.WholeInputs.{ReadsWhole, IsTooLong, TakesAll, TakesOneMore}
+use Rattle.sval_io.specs.Sources.{Supply}
 use Rattle.sval_program.specs.declared.failure.Fault.{Fault}
 use Rattle.sval_program.specs.declared.failure.Fault.TheVariants as fault
 use Rattle.sval_program.specs.declared.failure.Failure.{Failure}
 use Rattle.sval_program.specs.declared.failure.Failure.TheVariants.{Usage, Input, Fault as Found, NoMemory, Write}
-use Rattle.sval_program.specs.declared.input_error.InputError.{InputError}
-use Rattle.sval_program.specs.declared.input_error.InputError.TheVariants as input
 use Rattle.sval_program.specs.declared.status.TheConstants.{DONE, USAGE, WRITE, READ, NO_MEMORY, TOO_LONG}
 use Rattle.sval_program.specs.Failures.{status_of_fault, status_of_failure, status_of, is_fault, is_read}
-use Rattle.sval_program.specs.Inputs.{ReadsWhole, OnShort, OnBoth, IsSpent, IsTooLong, TakesAll, TakesOneMore, IsUnread}
+use Rattle.sval_program.specs.Inputs.{OnShort, OnBoth, IsSpent, IsUnread}
 use Rattle.sval_program.specs.Jobs.{Terms, WritesAllDue, ServesBytes, IsServed, ServesInput, ServesForm}
 use Rattle.sval_program.specs.Outputs.{IsOwnWant}
 use Rattle.sval_program.specs.Runs.{is_status, TakesDue, TakesFault, IsStatusDue, AreQuiet, TakesAllOrLess}
-use Rattle.sval_program.specs.Sources.{Supply}
 use Rattle.sval_program.specs.Statuses.{is_among}
 
 abbrev pub Ended : Type 0

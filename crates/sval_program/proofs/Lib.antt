@@ -1,4 +1,4 @@
-pub mod ReadParts
+pub mod ReadScripts
 pub mod Growing
 pub mod Telling
 pub mod PrintedTrees

@@ -7,12 +7,12 @@ use Rattle.sval_core.specs.Real.{IsPrintable}
 use Rattle.sval_core.specs.Spells.{Spells}
 use Rattle.sval_core.specs.Trees.{Tree}
 use Rattle.sval_core.specs.Law.{Emission}
+use Rattle.sval_io.specs.Sinks.{Told, LacksRoom, Appends, AppendsFront, AppendsPart, WritesWhole}
+use Rattle.sval_io.proofs.Appending.{front_after, part_after, appends_nothing}
 use Rattle.sval_buffer.specs.Capture.{Capture}
 use Rattle.sval_buffer.specs.CapturedValues.{IsCaptured, KeepsTree}
 use Rattle.sval_buffer.specs.Forest.{replayed}
 use Rattle.sval_buffer.proofs.ExactReplay.{replay_exact}
-use Rattle.sval_json.specs.Sinks.{Told, LacksRoom, Appends, AppendsFront, AppendsPart, WritesWhole}
-use Rattle.sval_json.proofs.Appending.{front_after, part_after, appends_nothing}
 use Rattle.sval_script.specs.Canon.{canon}
 use Rattle.sval_script.specs.Printed.{canonical_calls, printed}
 use Rattle.sval_script.specs.Printing.{HasKnownTags}

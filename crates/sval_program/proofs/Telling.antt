@@ -1,11 +1,11 @@
 -- What the third device is told: a line in its pieces, and then passed on.
 use Rattle.std.specs.Prelude.{◌≡◌, ℕ, List, [], ◌++◌, Result, Ok, Err}
 use Rattle.std.proofs.Common.{sym, ap, subst, ◌∙◌, append-nil, append_assoc, arith}
-use Rattle.sval_json.specs.declared.sink.SinkError.{SinkError}
-use Rattle.sval_json.specs.declared.sink.SinkError.TheVariants.{Failed, NoMemory}
 use Rattle.sval_core.specs.Law.{Rose}
-use Rattle.sval_json.specs.Sinks.{Told, IsSteady, IsQuiet, IsCounted, WritesWhole, WritesFront, WritesAll, Flushes}
-use Rattle.sval_json.proofs.Appending.{appends_nothing, all_is_front, steady_counts, counts_since, writes_nothing, writes_both, stops_after}
+use Rattle.sval_io.specs.declared.sink.SinkError.{SinkError}
+use Rattle.sval_io.specs.declared.sink.SinkError.TheVariants.{Failed, NoMemory}
+use Rattle.sval_io.specs.Sinks.{Told, IsSteady, IsQuiet, IsCounted, WritesWhole, WritesFront, WritesAll, Flushes}
+use Rattle.sval_io.proofs.Appending.{appends_nothing, all_is_front, steady_counts, counts_since, writes_nothing, writes_both, stops_after}
 use Rattle.sval_program.specs.Reports.{TellsLine}
 use Rattle.sval_program.proofs.Growing.{counts_stay, front_of_nothing, appends_kept}
 

@@ -1,16 +1,16 @@
 -- What a run says of its devices, as a fact on what they tell.
 use Rattle.std.specs.Prelude.{◌≡◌, ℕ, List, Option, Some, None, Result, Ok, Err}
 use Rattle.std.proofs.Common.{ap, inl, inr}
-use Rattle.sval_json.specs.Sinks.{Told}
-use Rattle.sval_json.specs.declared.sink.SinkError.{SinkError}
-use Rattle.sval_json.specs.declared.sink.SinkError.TheVariants as cause
+use Rattle.sval_io.specs.Sinks.{Told}
+use Rattle.sval_io.specs.declared.sink.SinkError.{SinkError}
+use Rattle.sval_io.specs.declared.sink.SinkError.TheVariants as cause
+use Rattle.sval_io.specs.Sources.{Supply}
 use Rattle.sval_program.specs.declared.failure.Failure.{Failure}
 use Rattle.sval_program.specs.declared.failure.Failure.TheVariants.{Usage, Input, Fault as Found, NoMemory, Write}
 use Rattle.sval_program.specs.Inputs.{OnShort, OnLong}
 use Rattle.sval_program.specs.Jobs.{Terms, ServesBytes, ServesInput, ServesForm, Works}
 use Rattle.sval_program.specs.Outputs.{IsOwnWant, IsStopCause}
 use Rattle.sval_program.specs.Runs.{Ends, Reports, ToldEnds, MayLeave}
-use Rattle.sval_program.specs.Sources.{Supply}
 use Rattle.sval_program.proofs.JobRuns.{on_both}
 
 -- a device that is what it tells

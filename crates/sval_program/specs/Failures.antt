@@ -1,6 +1,6 @@
 -- The status and the line of each failure.
 use Rattle.std.specs.Prelude.{ℕ, Bool, not, List, [], ◌∷◌, Option, Some, None, Result, Ok, Err}
-use Rattle.sval_json.specs.declared.sink.SinkError.TheVariants as sink
+use Rattle.sval_io.specs.declared.sink.SinkError.TheVariants as sink
 use Rattle.sval_script.specs.declared.script.ScriptError.{ScriptError}
 use Rattle.sval_script.specs.declared.script.ScriptError.TheVariants as reading
 use Rattle.sval_program.specs.declared.status.TheConstants.{DONE, USAGE, BAD_LINE, BAD_CALL, UNFINISHED, INVALID_KEY, INVALID_NUMBER, WRITE, READ, NO_MEMORY, TOO_LONG, NOT_UTF8, BAD_JSON, RAW, NOT_INTEGER, BAD_CBOR}

@@ -1,14 +1,15 @@
 -- What a program does: its words, what is due of an input, and what serving it makes of the devices.
 use Rattle.std.specs.Prelude.{◌≡◌, ℕ, Bool, true, false, List, Option, Some, None, Result, Ok, Err, OnOk}
-use Rattle.sval_json.specs.Sinks.{Told, HoldsNothing, WritesWhole}
-use Rattle.sval_json.specs.declared.sink.SinkError.{SinkError}
+use Rattle.sval_io.specs.Sinks.{Told, HoldsNothing, WritesWhole}
+use Rattle.sval_io.specs.declared.sink.SinkError.{SinkError}
+use Rattle.sval_io.specs.WholeInputs.{ReadsWhole}
+use Rattle.sval_io.specs.Sources.{Supply}
 use Rattle.sval_program.specs.declared.failure.Fault.{Fault}
 use Rattle.sval_program.specs.declared.failure.Failure.{Failure}
 use Rattle.sval_program.specs.declared.failure.Failure.TheVariants as failure
 use Rattle.sval_program.specs.Failures.{status_of_fault}
-use Rattle.sval_program.specs.Inputs.{ReadsWhole, IsUnread}
+use Rattle.sval_program.specs.Inputs.{IsUnread}
 use Rattle.sval_program.specs.Outputs.{StopsWithin}
-use Rattle.sval_program.specs.Sources.{Supply}
 use Rattle.sval_program.specs.Statuses.{is_among}
 
 -- what a program does

@@ -1,12 +1,8 @@
-pub mod Sources
-pub mod FaultySources
-pub mod OverReader
 pub mod Inputs
 pub mod Outputs
 pub mod Laws
 pub mod Statuses
 pub mod Reports
-pub mod ErrorTexts
 pub mod Failures
 pub mod Jobs
 pub mod Runs

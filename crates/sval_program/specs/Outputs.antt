@@ -1,9 +1,9 @@
 -- What a program leaves of its sink, whatever it writes.
 use Rattle.std.specs.Prelude.{◌≡◌, ◌⊎◌, ℕ, List, Result, Ok, Err}
 use Rattle.sval_core.specs.Law.{Rose}
-use Rattle.sval_json.specs.Sinks.{Told, NoCountFell, LacksRoom, Appends, AppendsFront, AppendsPart, WritesWhole}
-use Rattle.sval_json.specs.declared.sink.SinkError.{SinkError}
-use Rattle.sval_json.specs.declared.sink.SinkError.TheVariants as sink
+use Rattle.sval_io.specs.Sinks.{Told, NoCountFell, LacksRoom, Appends, AppendsFront, AppendsPart, WritesWhole}
+use Rattle.sval_io.specs.declared.sink.SinkError.{SinkError}
+use Rattle.sval_io.specs.declared.sink.SinkError.TheVariants as sink
 
 -- what was taken before stays, and something may follow it
 abbrev pub Grows : Told → Told → Type 0

@@ -1,6 +1,6 @@
 -- What the third device is told.
 use Rattle.std.specs.Prelude.{ℕ, ◌<◌, ◌==◌, Bool, true, false, List, [], ◌∷◌, ◌++◌, length, Option, Some, None, codes, decimal, if◌then◌else◌}
-use Rattle.sval_json.specs.Sinks.{Told, IsQuiet, NoCountFell, HoldsNothing, Appends, AppendsFront}
+use Rattle.sval_io.specs.Sinks.{Told, IsQuiet, NoCountFell, HoldsNothing, Appends, AppendsFront}
 use Rattle.sval_program.specs.declared.status.TheConstants.{BAD_LINE, BAD_CALL, UNFINISHED, INVALID_KEY, INVALID_NUMBER, WRITE, READ, NO_MEMORY, TOO_LONG}
 
 -- a number in a line, if there is one

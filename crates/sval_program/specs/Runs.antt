@@ -1,17 +1,18 @@
 -- What a run says: when each status comes, what is left of the devices, and which line was told.
 use Rattle.std.specs.Prelude.{◌≡◌, ◌⊎◌, ◌↔◌, ℕ, ◌<◌, ◌≤◌, Bool, true, not, List, [], ◌∷◌, Option, None, Some, Result, Err}
 use Rattle.sval_core.specs.Law.{Rose}
-use Rattle.sval_json.specs.Sinks.{Told, HoldsNothing, IsSteady, NoCountFell, Appends, AppendsFront}
+use Rattle.sval_io.specs.Sinks.{Told, HoldsNothing, IsSteady, NoCountFell, Appends, AppendsFront}
+use Rattle.sval_io.specs.WholeInputs.{IsTooLong, StaysShort, StaysBelow}
+use Rattle.sval_io.specs.Sources.{Supply}
 use Rattle.sval_program.specs.declared.failure.Fault.{Fault}
 use Rattle.sval_program.specs.declared.failure.Failure.{Failure}
 use Rattle.sval_program.specs.declared.failure.Failure.TheVariants as failure
 use Rattle.sval_program.specs.declared.status.TheConstants.{DONE, USAGE, WRITE, READ, NO_MEMORY, TOO_LONG}
 use Rattle.sval_program.specs.Failures.{status_of_fault, status_of_found, status_of, line_of, is_fault, is_read}
-use Rattle.sval_program.specs.Inputs.{OnBoth, OnShort, OnLong, IsSpent, IsTooLong, StaysShort, StaysBelow}
+use Rattle.sval_program.specs.Inputs.{OnBoth, OnShort, OnLong, IsSpent}
 use Rattle.sval_program.specs.Jobs.{Terms, may_write, Works}
 use Rattle.sval_program.specs.Outputs.{Grows, IsOwnWant}
 use Rattle.sval_program.specs.Reports.{TellsLine}
-use Rattle.sval_program.specs.Sources.{Supply}
 use Rattle.sval_program.specs.Statuses.{is_among}
 
 -- ---- the statuses

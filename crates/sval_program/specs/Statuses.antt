@@ -1,9 +1,9 @@
 -- Statuses of programs.
 use Rattle.std.specs.Prelude.{ℕ, ◌==◌, Bool, List}
 use Rattle.std.specs.List.{list_any}
+use Rattle.sval_io.specs.declared.input_error.InputError.{InputError}
+use Rattle.sval_io.specs.declared.input_error.InputError.TheVariants as input
 use Rattle.sval_program.specs.declared.status.TheConstants.{READ, NO_MEMORY, TOO_LONG}
-use Rattle.sval_program.specs.declared.input_error.InputError.{InputError}
-use Rattle.sval_program.specs.declared.input_error.InputError.TheVariants as input
 
 -- the status is one of these
 abbrev pub is_among : ℕ → List ℕ → Bool

@@ -10,7 +10,7 @@ ghost use Rattle.sval_script.specs.Canon.{canon};
 use std::alloc::Global;
 use sval_buffer::{ErrorKind, ValueBuf};
 use sval_core::{Lent, Value};
-use sval_json::{Sink, SinkError};
+use sval_io::{Sink, SinkError};
 use sval_script::{PrintError, print_canon};
 
 /// Captures a value whose calls spell a tree that scripts can spell, with room for this many parts from the start, and

@@ -3,10 +3,9 @@
 ghost use Rattle.std.specs.Prelude.{◌≡◌};
 ghost use Rattle.sval_program.specs.Failures.{status_of_fault, row_of_fault, status_of_failure};
 
-use crate::input_error::InputError;
 use crate::line::Line;
 use crate::{lines, status};
-use sval_json::SinkError;
+use sval_io::{InputError, SinkError};
 use sval_script::ScriptError;
 
 /// Why nothing more is due of an input.
@@ -139,7 +138,7 @@ impl Failure {
     {
         match self {
             Failure::Usage => status::USAGE,
-            Failure::Input(error) => error.status(),
+            Failure::Input(error) => status::of_input(error),
             Failure::Fault(fault) => fault.status(),
             Failure::NoMemory => status::NO_MEMORY,
             Failure::Write(SinkError::Failed) => status::WRITE,

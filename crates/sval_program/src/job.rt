@@ -10,10 +10,9 @@ use crate::failure::Failure;
 use crate::line::{Line, tell};
 use crate::lines;
 use crate::program::Program;
-use crate::source::Source;
 use crate::status::DONE;
 use std::alloc::Global;
-use sval_json::{Sink, SinkError};
+use sval_io::{Sink, SinkError, Source};
 
 /// A program that reads an input whole and writes what is due of it.
 pub trait Job {
@@ -75,7 +74,7 @@ fn line<J: Job>(failure: Failure) -> Line
 {
     match failure {
         Failure::Usage => J::usage(),
-        Failure::Input(error) => error.line(),
+        Failure::Input(error) => lines::of_input(error),
         Failure::Fault(fault) => fault.line(),
         Failure::NoMemory => lines::out_of_memory(),
         Failure::Write(SinkError::Failed) => lines::write_fault(),

@@ -7,28 +7,22 @@
 
 mod captured;
 mod failure;
-mod faulty_source;
-mod input_error;
 pub mod job;
 pub mod laws;
 mod line;
 pub mod lines;
-mod patient;
 mod process;
 mod program;
 mod reading;
-mod real_source;
-mod source;
 pub mod status;
 
 pub use captured::print_captured;
 pub use failure::{Failure, Fault};
-pub use faulty_source::FaultySource;
-pub use input_error::InputError;
 pub use job::Job;
 pub use line::{Line, tell};
 pub use process::{run_process, status_without_words};
 pub use program::{Program, run_streams};
-pub use reading::{read_input, read_script};
-pub use real_source::RealSource;
-pub use source::{MemSource, Source, SourceError};
+pub use reading::read_script;
+pub use sval_io::{
+    FaultySource, InputError, MemSource, RealSource, Source, SourceError, read_input,
+};

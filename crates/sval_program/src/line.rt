@@ -1,12 +1,12 @@
 //! Lines for the third device.
 
 ghost use Rattle.std.specs.Prelude.{◌≡◌, ◌++◌, decimal};
-ghost use Rattle.sval_json.specs.Sinks.{WritesAll};
+ghost use Rattle.sval_io.specs.Sinks.{WritesAll};
 ghost use Rattle.sval_program.specs.Reports.{TellsLine, shown};
 
 use itoa::Buffer;
 use std::marker::Model;
-use sval_json::{Sink, SinkError, write_all};
+use sval_io::{Sink, SinkError, write_all};
 
 /// A line that says why a program failed, seen as its bytes. It may have a number in it, as that of a line.
 ///

@@ -2,8 +2,11 @@
 
 ghost use Rattle.std.specs.Prelude.{◌≡◌};
 ghost use Rattle.sval_program.specs.Reports as reports;
+ghost use Rattle.sval_program.specs.Reports.{device_reports, report_among};
+ghost use Rattle.sval_program.specs.Statuses.{status_of_input};
 
 use crate::line::Line;
+use sval_io::InputError;
 
 /// A line of the script, counted from 1, is no call.
 pub fn bad_line(line: u64) -> Line
@@ -105,4 +108,15 @@ pub fn bad_cbor() -> Line
     ensures { result ≡ reports.bad_cbor }
 {
     Line::text("not one CBOR item of this profile\n")
+}
+
+/// The line where an input wasn't read.
+pub fn of_input(error: InputError) -> Line
+    ensures { result ≡ report_among (status_of_input error) device_reports }
+{
+    match error {
+        InputError::ReadFault => read_fault(),
+        InputError::TooLong => too_long(),
+        InputError::NoMemory => out_of_memory(),
+    }
 }

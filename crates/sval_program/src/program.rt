@@ -2,19 +2,16 @@
 
 ghost use Rattle.std.specs.Prelude.{◌≡◌, ◌↔◌, true, None, map, string_bytes, OnOk, OnErr};
 ghost use Rattle.std.specs.Option.{is_some};
-ghost use Rattle.sval_json.specs.Sinks.{Told};
+ghost use Rattle.sval_io.specs.Sinks.{Told};
 ghost use Rattle.sval_program.specs.Reports.{TellsLine, out_of_memory};
 
 use crate::line::tell;
 use crate::lines;
-use crate::patient::Patient;
-use crate::real_source::RealSource;
-use crate::source::Source;
 use crate::status::{NO_MEMORY, USAGE};
 use std::alloc::Global;
 use std::io;
 use std::io::{BufWriter, Read, Write};
-use sval_json::{RealSink, Sink};
+use sval_io::{Patient, RealSink, RealSource, Sink, Source};
 
 /// How many bytes of output are held back at most.
 const BUFFER: usize = 1 << 16;
@@ -22,9 +19,9 @@ const BUFFER: usize = 1 << 16;
 /// A program: its words, and what is so of its runs over any devices.
 pub trait Program {
     ghost use Rattle.std.specs.Prelude.{ℕ, Bool, List, Option};
+    ghost use Rattle.sval_io.specs.Sources.{Supply};
+    ghost use Rattle.sval_io.specs.Sinks.{Told};
     ghost use Rattle.sval_program.specs.declared.status.TheConstants.{USAGE, NO_MEMORY};
-    ghost use Rattle.sval_program.specs.Sources.{Supply};
-    ghost use Rattle.sval_json.specs.Sinks.{Told};
 
     /// What its words may ask for.
     ghost Form: { Type 0 };

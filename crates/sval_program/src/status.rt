@@ -1,5 +1,10 @@
 //! The statuses that programs end with. A program that has further ones gives them other numbers.
 
+ghost use Rattle.std.specs.Prelude.{◌≡◌};
+ghost use Rattle.sval_program.specs.Statuses.{status_of_input};
+
+use sval_io::InputError;
+
 /// What is due was written.
 pub const DONE: u8 = 0;
 
@@ -50,3 +55,14 @@ pub const NOT_INTEGER: u8 = 15;
 
 /// The input is not one item of CBOR, in the profile that is read.
 pub const BAD_CBOR: u8 = 16;
+
+/// The status where an input wasn't read.
+pub fn of_input(error: InputError) -> u8
+    ensures { result ≡ status_of_input error }
+{
+    match error {
+        InputError::ReadFault => READ,
+        InputError::TooLong => TOO_LONG,
+        InputError::NoMemory => NO_MEMORY,
+    }
+}

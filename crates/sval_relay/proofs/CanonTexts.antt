@@ -2,9 +2,9 @@
 use Rattle.std.specs.Prelude.{◌≡◌, true, refl}
 use Rattle.sval_core.specs.Real.{IsPrintable}
 use Rattle.sval_core.specs.Trees.{Tree}
-use Rattle.sval_json.specs.Sinks.{Told, WritesWhole}
-use Rattle.sval_json.specs.declared.sink.SinkError.{SinkError}
-use Rattle.sval_json.specs.declared.sink.SinkError.TheVariants as sink
+use Rattle.sval_io.specs.Sinks.{Told, WritesWhole}
+use Rattle.sval_io.specs.declared.sink.SinkError.{SinkError}
+use Rattle.sval_io.specs.declared.sink.SinkError.TheVariants as sink
 use Rattle.sval_program.specs.Outputs.{StopsWriting}
 use Rattle.sval_script.specs.Canon.{canon}
 use Rattle.sval_script.proofs.CanonicalScripts.{canon-reads_back}

@@ -9,7 +9,7 @@ use Rattle.sval_core.specs.Many.{EndAfter}
 use Rattle.sval_core.specs.Real.{IsPrintable}
 use Rattle.sval_core.specs.Spells.{Spells}
 use Rattle.sval_core.specs.Trees.{Tree}
-use Rattle.sval_json.specs.Sinks.{Told}
+use Rattle.sval_io.specs.Sinks.{Told}
 use Rattle.sval_relay.specs.Verdict.{Asked}
 use Rattle.sval_relay.specs.WrittenTrees.{WritesTexts, AreTrees}
 use Rattle.sval_relay.proofs.ListTexts.{IsWrittenTo, none_written, one_written, all_written}

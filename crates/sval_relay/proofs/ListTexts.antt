@@ -3,12 +3,12 @@ use Rattle.std.specs.Prelude.{◌≡◌, ℕ, Bool, true, false, List, [], ◌�
 use Rattle.std.proofs.Common.{sym, ap, ◌∙◌, subst, append_assoc, append-nil, inl, inr}
 use Rattle.sval_core.specs.Law.{Rose}
 use Rattle.sval_core.specs.Trees.{Tree}
-use Rattle.sval_json.specs.declared.sink.SinkError.{SinkError}
-use Rattle.sval_json.specs.declared.sink.SinkError.TheVariants as sink
+use Rattle.sval_io.specs.declared.sink.SinkError.{SinkError}
+use Rattle.sval_io.specs.declared.sink.SinkError.TheVariants as sink
+use Rattle.sval_io.specs.Sinks.{Told, IsSteady, IsCounted, LacksRoom, Appends, AppendsFront, WritesWhole, WritesFront}
+use Rattle.sval_io.proofs.Appending.{lacks_both, appends_nothing, appends_both, front_after, steady_alone, steady_both, counts_since, counted_since}
 use Rattle.sval_json.specs.Number.{Refusal, InvalidKey, InvalidNumber}
 use Rattle.sval_json.specs.Shape.{on_ok, map_ok}
-use Rattle.sval_json.specs.Sinks.{Told, IsSteady, IsCounted, LacksRoom, Appends, AppendsFront, WritesWhole, WritesFront}
-use Rattle.sval_json.proofs.Appending.{lacks_both, appends_nothing, appends_both, front_after, steady_alone, steady_both, counts_since, counted_since}
 use Rattle.sval_relay.specs.declared.relaying.RelayError.{RelayError}
 use Rattle.sval_relay.specs.declared.relaying.RelayError.TheVariants as answer
 use Rattle.sval_relay.specs.Verdict.{Asked, tree_text, tree_written, tree_due, due_of, with_text, texts, left}

@@ -4,12 +4,12 @@ use Rattle.std.proofs.Common.{ap, ◌∙◌, sym, inl, inr}
 use Rattle.sval_label.specs.Calls.{Call}
 use Rattle.sval_core.specs.Law.{Streams}
 use Rattle.sval_core.specs.Values.{makes}
+use Rattle.sval_io.specs.declared.sink.SinkError.{SinkError}
+use Rattle.sval_io.specs.declared.sink.SinkError.TheVariants.{Failed, NoMemory}
+use Rattle.sval_io.specs.Sinks.{Told, WritesWhole, WritesFront}
+use Rattle.sval_io.specs.Taken.{Taken, taken_told}
+use Rattle.sval_io.proofs.Appending.{all_is_front, steady_counts}
 use Rattle.sval_json.specs.Json.{compact}
-use Rattle.sval_json.specs.declared.sink.SinkError.{SinkError}
-use Rattle.sval_json.specs.declared.sink.SinkError.TheVariants.{Failed, NoMemory}
-use Rattle.sval_json.specs.Sinks.{Told, WritesWhole, WritesFront}
-use Rattle.sval_json.specs.Taken.{Taken, taken_told}
-use Rattle.sval_json.proofs.Appending.{all_is_front, steady_counts}
 use Rattle.sval_script.specs.declared.printer.Printer.{Printer}
 use Rattle.sval_script.specs.Lines.{lines}
 use Rattle.sval_script.specs.Printed.{printed}

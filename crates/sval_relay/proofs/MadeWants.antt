@@ -6,8 +6,8 @@ use Rattle.sval_label.specs.Calls.{Call, End, Seq}
 use Rattle.sval_core.specs.Law.{Standing, Stops, StoppedIn, Rose, one_more}
 use Rattle.sval_core.specs.Values.{makes}
 use Rattle.sval_core.specs.ValueCalls.{item_calls}
-use Rattle.sval_json.specs.Sinks.{Told}
-use Rattle.sval_json.specs.Taken.{Taken, taken_told}
+use Rattle.sval_io.specs.Sinks.{Told}
+use Rattle.sval_io.specs.Taken.{Taken, taken_told}
 use Rattle.sval_script.specs.declared.print_error.PrintError.{PrintError}
 use Rattle.sval_script.specs.declared.print_error.PrintError.TheVariants as error
 use Rattle.sval_script.specs.declared.printer.Printer.{Printer}

@@ -5,15 +5,16 @@ use Rattle.std.proofs.lemmas.List.{length-append}
 use Rattle.sval_label.specs.Calls.{Call}
 use Rattle.sval_core.specs.Law.{Emission, Rose}
 use Rattle.sval_core.specs.Trees.{Tree}
+use Rattle.sval_io.specs.declared.sink.SinkError.{SinkError}
+use Rattle.sval_io.specs.declared.sink.SinkError.TheVariants as sink
+use Rattle.sval_io.specs.Sinks.{Told, IsSteady, NoCountFell, LacksRoom, AppendsFront, IsCounted, PassesOn, Declines}
+use Rattle.sval_io.proofs.Appending.{all_is_front, steady_both, steady_counts, counts_since, counted_since}
+use Rattle.sval_io.specs.Sources.{Supply}
 use Rattle.sval_check.specs.declared.error.CheckError.{CheckError}
 use Rattle.sval_check.specs.declared.error.CheckError.TheVariants as checking
 use Rattle.sval_check.specs.Checks.{IsFirstBad, IsUnfinished}
 use Rattle.sval_check.specs.ManyChecks.{IsFirstBadOfList, IsUnfinishedList}
-use Rattle.sval_json.specs.declared.sink.SinkError.{SinkError}
-use Rattle.sval_json.specs.declared.sink.SinkError.TheVariants as sink
 use Rattle.sval_json.specs.Number.{Refusal, InvalidKey, InvalidNumber}
-use Rattle.sval_json.specs.Sinks.{Told, IsSteady, NoCountFell, LacksRoom, AppendsFront, IsCounted, PassesOn, Declines}
-use Rattle.sval_json.proofs.Appending.{all_is_front, steady_both, steady_counts, counts_since, counted_since}
 use Rattle.sval_script.specs.declared.script.ScriptError.{ScriptError}
 use Rattle.sval_script.specs.declared.script.ScriptError.TheVariants as reading
 use Rattle.sval_script.specs.Lines.{Lines, Good, Bad, lines}
@@ -22,7 +23,6 @@ use Rattle.sval_relay.specs.declared.way.Way.{Way}
 use Rattle.sval_relay.specs.declared.way.Task.{Task}
 use Rattle.sval_relay.specs.declared.relaying.RelayError.{RelayError}
 use Rattle.sval_relay.specs.declared.relaying.RelayError.TheVariants as answer
-use Rattle.sval_program.specs.Sources.{Supply}
 use Rattle.sval_program.specs.Inputs.{HasRead}
 use Rattle.sval_program.specs.Outputs.{Grows}
 use Rattle.sval_relay.specs.Verdict.{Verdict, BadLine, BadCall, Unfinished, Key, Number, Text, asked_in, ending, texts, left, text_verdict, one_in, all_in, SpellTrees, IsVerdict, OnVerdict}

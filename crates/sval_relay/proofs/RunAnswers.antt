@@ -2,22 +2,24 @@
 use Rattle.std.specs.Prelude.{◌≡◌, ℕ, ◌≤◌, ◌⊎◌, List, Option, Some, None, Result, Ok, Err, IfSome, refl}
 use Rattle.std.proofs.Common.{sym, ap, subst, arith, inl, inr}
 use Rattle.sval_core.specs.Law.{Rose}
-use Rattle.sval_json.specs.Sinks.{Told, HoldsNothing}
+use Rattle.sval_io.specs.Sinks.{Told, HoldsNothing}
+use Rattle.sval_io.specs.declared.input_error.InputError.{InputError}
+use Rattle.sval_io.specs.declared.input_error.InputError.TheVariants.{ReadFault, TooLong}
+use Rattle.sval_io.specs.declared.input_error.InputError.TheVariants as reading
+use Rattle.sval_io.specs.Sources.{Supply}
+use Rattle.sval_io.specs.WholeInputs.{TakesAll, TakesOneMore, StaysShort}
+use Rattle.sval_io.proofs.ReadParts.{read_nothing, read_all}
 use Rattle.sval_program.specs.declared.status.TheConstants.{BAD_LINE, BAD_CALL, READ, NO_MEMORY, TOO_LONG}
 use Rattle.sval_relay.specs.declared.way.Task.{Task}
 use Rattle.sval_relay.specs.declared.way.Form.{Form}
 use Rattle.sval_relay.specs.declared.way.Form.TheVariants.{Serve, Made}
-use Rattle.sval_program.specs.declared.input_error.InputError.{InputError}
-use Rattle.sval_program.specs.declared.input_error.InputError.TheVariants.{ReadFault, TooLong}
-use Rattle.sval_program.specs.declared.input_error.InputError.TheVariants as reading
 use Rattle.sval_relay.specs.declared.relaying.RelayError.{RelayError}
 use Rattle.sval_relay.specs.declared.relaying.RelayError.TheVariants as answer
 use Rattle.sval_relay.specs.declared.made.MadeError.{MadeError}
 use Rattle.sval_relay.specs.declared.made.MadeError.TheVariants as made
 use Rattle.sval_relay.specs.declared.failure.Failure.{Failure}
 use Rattle.sval_relay.specs.declared.failure.Failure.TheVariants.{Usage, Input, Relay}
-use Rattle.sval_program.specs.Sources.{Supply}
-use Rattle.sval_program.specs.Inputs.{OnShort, OnBoth, TakesAll, TakesOneMore, IsUnread, StaysShort}
+use Rattle.sval_program.specs.Inputs.{OnShort, OnBoth, IsUnread}
 use Rattle.sval_relay.specs.Ways.{task_in}
 use Rattle.sval_relay.specs.Verdict.{Verdict, BadLine, BadCall, Unfinished, Key, Number, Text, HasBadLine, HasBadCall, OnVerdict}
 use Rattle.sval_program.specs.Outputs.{Grows}
@@ -25,7 +27,6 @@ use Rattle.sval_relay.specs.Relays.{MayLeave, IsAnswerTo}
 use Rattle.sval_relay.specs.Statuses.{IsStatusOf, IsStatusDue, status_of_relayed, status_of}
 use Rattle.sval_relay.specs.Made.{TellsMade}
 use Rattle.sval_relay.specs.Serves.{IsServed, Serves}
-use Rattle.sval_program.proofs.ReadParts.{read_nothing, read_all}
 use Rattle.sval_program.proofs.Growing.{grows_by_nothing, grows_by_front}
 use Rattle.sval_relay.proofs.Writing.{may_stay}
 

@@ -1,17 +1,17 @@
 -- From what reading, serving and flushing answered to what serving a form says.
 use Rattle.std.specs.Prelude.{ℕ, ◌<◌, ◌^◌, List, length, Result, Ok, Err, refl}
 use Rattle.std.proofs.Common.{arith, inr}
-use Rattle.sval_json.specs.declared.sink.SinkError.{SinkError}
-use Rattle.sval_json.specs.declared.sink.SinkError.TheVariants as sink
-use Rattle.sval_json.specs.Sinks.{Told, PassesOn, Declines, IsCounted}
-use Rattle.sval_json.proofs.Appending.{all_is_front, steady_both, steady_counts, counts_since, counted_since}
+use Rattle.sval_io.specs.declared.sink.SinkError.{SinkError}
+use Rattle.sval_io.specs.declared.sink.SinkError.TheVariants as sink
+use Rattle.sval_io.specs.Sinks.{Told, PassesOn, Declines, IsCounted}
+use Rattle.sval_io.proofs.Appending.{all_is_front, steady_both, steady_counts, counts_since, counted_since}
+use Rattle.sval_io.specs.Sources.{Supply}
+use Rattle.sval_io.specs.WholeInputs.{ReadsWhole}
 use Rattle.sval_relay.specs.declared.way.Task.{Task}
 use Rattle.sval_relay.specs.declared.relaying.RelayError.{RelayError}
 use Rattle.sval_relay.specs.declared.made.MadeError.{MadeError}
 use Rattle.sval_relay.specs.declared.made.MadeError.TheVariants as made
 use Rattle.sval_relay.specs.declared.failure.Failure.TheVariants.{Relay}
-use Rattle.sval_program.specs.Sources.{Supply}
-use Rattle.sval_program.specs.Inputs.{ReadsWhole}
 use Rattle.sval_relay.specs.Relays.{of_sink, Relays}
 use Rattle.sval_relay.specs.Made.{TellsMade}
 use Rattle.sval_relay.specs.Serves.{failure_of_made, IsServed, ServesMade}

@@ -8,8 +8,8 @@ use Rattle.sval_core.specs.Real.{IsPrintable}
 use Rattle.sval_core.specs.Spells.{Spells}
 use Rattle.sval_core.specs.Trees.{Tree}
 use Rattle.sval_core.specs.Values.{makes}
+use Rattle.sval_io.specs.Sinks.{Told}
 use Rattle.sval_check.specs.ManyChecks.{as_kept, AreValues}
-use Rattle.sval_json.specs.Sinks.{Told}
 use Rattle.sval_script.specs.Lines.{lines, Good}
 use Rattle.sval_script.proofs.PrintableTrees.{script_tree, script_trees}
 use Rattle.sval_relay.specs.declared.way.Way.{Way}

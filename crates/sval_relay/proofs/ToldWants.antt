@@ -1,7 +1,7 @@
 -- What a run says of its devices, said of what they tell.
 use Rattle.std.proofs.Common.{ap, inl, inr, ◌≡◌, Bool, true, false}
 use Rattle.std.specs.Prelude.{Option, Some, None}
-use Rattle.sval_json.specs.Sinks.{Told}
+use Rattle.sval_io.specs.Sinks.{Told}
 use Rattle.sval_program.specs.Outputs.{IsOwnWant}
 use Rattle.sval_relay.specs.declared.way.Form.{Form}
 use Rattle.sval_relay.specs.declared.way.Form.TheVariants.{Serve, Made}

@@ -7,6 +7,8 @@ use Rattle.sval_core.specs.Real.{IsReal}
 use Rattle.sval_core.specs.Spells.{Spells}
 use Rattle.sval_core.specs.Trees.{Tree, IsGood, calls_of}
 use Rattle.sval_core.proofs.Spellings.{calls_of-spells}
+use Rattle.sval_io.specs.Sinks.{Told, IsSteady, LacksRoom, Appends, AppendsFront}
+use Rattle.sval_io.proofs.Appending.{steady_alone}
 use Rattle.sval_json.specs.declared.style.Variants.{Variants}
 use Rattle.sval_json.specs.Json.{Json, compact}
 use Rattle.sval_json.specs.Number.{Refusal}
@@ -14,9 +16,7 @@ use Rattle.sval_json.specs.Shape.{json_in, map_ok}
 use Rattle.sval_json.specs.Actions.{Outcome}
 use Rattle.sval_json.specs.Steps.{written_in}
 use Rattle.sval_json.specs.Laws.{IsWrittenAs}
-use Rattle.sval_json.specs.Sinks.{Told, IsSteady, LacksRoom, Appends, AppendsFront}
 use Rattle.sval_json.specs.Written.{IsBegunIn, IsRefusedIn, IsTooLongFor, RefusesSpelledTree, WritesSpelledTree, WritesSpelledValue}
-use Rattle.sval_json.proofs.Appending.{steady_alone}
 use Rattle.sval_json.proofs.WrittenOnce.{written_once}
 use Rattle.sval_json.proofs.WritingPlain.{spelling_written}
 use Rattle.sval_relay.specs.declared.way.Task.{Task}

@@ -1,11 +1,12 @@
 -- What a run says of its words, of what its devices told before and after it, and of its status.
 use Rattle.std.specs.Prelude.{◌≡◌, ◌⊎◌, ℕ, ◌<◌, ◌≤◌, true, List}
 use Rattle.sval_core.specs.Law.{Rose}
-use Rattle.sval_json.specs.Sinks.{Told, HoldsNothing, IsSteady, NoCountFell}
+use Rattle.sval_io.specs.Sinks.{Told, HoldsNothing, IsSteady, NoCountFell}
+use Rattle.sval_io.specs.WholeInputs.{IsTooLong, StaysShort}
+use Rattle.sval_io.specs.Sources.{Supply}
 use Rattle.sval_program.specs.declared.status.TheConstants.{DONE, USAGE, BAD_LINE, BAD_CALL, UNFINISHED, INVALID_KEY, INVALID_NUMBER, WRITE, READ, NO_MEMORY, TOO_LONG}
-use Rattle.sval_program.specs.Inputs.{OnShort, OnLong, IsSpent, IsTooLong, StaysShort}
+use Rattle.sval_program.specs.Inputs.{OnShort, OnLong, IsSpent}
 use Rattle.sval_program.specs.Outputs.{Grows}
-use Rattle.sval_program.specs.Sources.{Supply}
 use Rattle.sval_relay.specs.Relays.{WritesText, WritesValue, WritesUpTo, MayLeave}
 use Rattle.sval_relay.specs.Runs.{IsWantOf, WritesMadeLine, BeginsMadeLine}
 use Rattle.sval_relay.specs.Statuses.{is_of_made, is_unwritten, is_read, IsStatusDue}

@@ -5,9 +5,9 @@ use Rattle.sval_label.specs.Calls.{Call, Label, Int, U64, TextBegin, TextFragmen
 use Rattle.sval_core.specs.Law.{Rose}
 use Rattle.sval_core.specs.Names.{ident_tag, no_name}
 use Rattle.sval_core.specs.ValueCalls.{part_calls, container_calls, item_calls}
-use Rattle.sval_json.specs.declared.sink.SinkError.{SinkError}
-use Rattle.sval_json.specs.declared.sink.SinkError.TheVariants as sink
-use Rattle.sval_json.specs.Sinks.{Told, IsSteady, NoCountFell, LacksRoom, Appends, AppendsFront}
+use Rattle.sval_io.specs.declared.sink.SinkError.{SinkError}
+use Rattle.sval_io.specs.declared.sink.SinkError.TheVariants as sink
+use Rattle.sval_io.specs.Sinks.{Told, IsSteady, NoCountFell, LacksRoom, Appends, AppendsFront}
 use Rattle.sval_script.specs.Printed.{printed}
 use Rattle.sval_relay.specs.declared.way.Way.TheVariants.{Buffered}
 use Rattle.sval_relay.specs.declared.made.MadeError.{MadeError}

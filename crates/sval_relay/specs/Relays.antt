@@ -3,12 +3,12 @@ use Rattle.std.specs.Prelude.{◌≡◌, ℕ, ◌⊎◌, ◌++◌, Bool, true, f
 use Rattle.sval_label.specs.Calls.{Call}
 use Rattle.sval_core.specs.Law.{Rose}
 use Rattle.sval_core.specs.Trees.{Tree, calls_of}
+use Rattle.sval_io.specs.declared.sink.SinkError.{SinkError}
+use Rattle.sval_io.specs.declared.sink.SinkError.TheVariants as sink
+use Rattle.sval_io.specs.Sinks.{Told, IsSteady, NoCountFell, LacksRoom, Appends, AppendsFront}
 use Rattle.sval_check.specs.declared.error.CheckError.{CheckError}
 use Rattle.sval_check.specs.declared.error.CheckError.TheVariants as checking
-use Rattle.sval_json.specs.declared.sink.SinkError.{SinkError}
-use Rattle.sval_json.specs.declared.sink.SinkError.TheVariants as sink
 use Rattle.sval_json.specs.declared.style.Variants.{Variants}
-use Rattle.sval_json.specs.Sinks.{Told, IsSteady, NoCountFell, LacksRoom, Appends, AppendsFront}
 use Rattle.sval_json.specs.Json.{Json, compact}
 use Rattle.sval_json.specs.Shape.{json_in}
 use Rattle.sval_json.specs.Grammar.{JsonValue}

@@ -1,12 +1,12 @@
 -- What the third device is told.
 use Rattle.std.specs.Prelude.{◌≡◌, ℕ, Bool, List, [], ◌∷◌, ◌++◌, Result, Ok, Err, codes}
-use Rattle.sval_json.specs.Sinks.{Told}
+use Rattle.sval_io.specs.Sinks.{Told}
+use Rattle.sval_io.specs.Sources.{Supply}
 use Rattle.sval_program.specs.declared.status.TheConstants.{USAGE, BAD_LINE, BAD_CALL}
 use Rattle.sval_relay.specs.declared.relaying.RelayError.TheVariants as answer
 use Rattle.sval_relay.specs.declared.failure.Failure.{Failure}
 use Rattle.sval_relay.specs.declared.failure.Failure.TheVariants as failure
 use Rattle.sval_program.specs.Reports.{TellsLine, script_reports, device_reports, report_among}
-use Rattle.sval_program.specs.Sources.{Supply}
 use Rattle.sval_relay.specs.Ways.{OnNamed, form_named, takes_many}
 use Rattle.sval_relay.specs.Verdict.{BadLine, BadCall, IsVerdict}
 use Rattle.sval_relay.specs.Statuses.{status_of_failure}

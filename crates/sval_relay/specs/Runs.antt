@@ -1,6 +1,6 @@
 -- What the program leaves of its sink, by the form that its words are.
 use Rattle.std.specs.Prelude.{ℕ, List, String, Option, Some}
-use Rattle.sval_json.specs.Sinks.{Told, Appends, AppendsFront}
+use Rattle.sval_io.specs.Sinks.{Told, Appends, AppendsFront}
 use Rattle.sval_relay.specs.declared.way.Form.{Form}
 use Rattle.sval_relay.specs.declared.way.Form.TheVariants.{Serve}
 use Rattle.sval_relay.specs.Ways.{form_of}

@@ -1,6 +1,8 @@
 -- What serving a form says of the devices, by how it ended.
 use Rattle.std.specs.Prelude.{◌≡◌, List, Option, Some, None, Result, Ok, Err, ℕ}
-use Rattle.sval_json.specs.Sinks.{Told, HoldsNothing}
+use Rattle.sval_io.specs.Sinks.{Told, HoldsNothing}
+use Rattle.sval_io.specs.Sources.{Supply}
+use Rattle.sval_io.specs.WholeInputs.{ReadsWhole}
 use Rattle.sval_relay.specs.declared.way.Task.{Task}
 use Rattle.sval_relay.specs.declared.way.Form.{Form}
 use Rattle.sval_relay.specs.declared.way.Form.TheVariants.{Serve, Made}
@@ -10,8 +12,7 @@ use Rattle.sval_relay.specs.declared.made.MadeError.{MadeError}
 use Rattle.sval_relay.specs.declared.made.MadeError.TheVariants as made
 use Rattle.sval_relay.specs.declared.failure.Failure.{Failure}
 use Rattle.sval_relay.specs.declared.failure.Failure.TheVariants.{Usage, Input, Relay}
-use Rattle.sval_program.specs.Sources.{Supply}
-use Rattle.sval_program.specs.Inputs.{ReadsWhole, IsUnread}
+use Rattle.sval_program.specs.Inputs.{IsUnread}
 use Rattle.sval_relay.specs.Relays.{Relays}
 use Rattle.sval_relay.specs.Made.{TellsMade}
 

@@ -1,5 +1,6 @@
 -- The ways to serve a script, and the words that name them.
 use Rattle.std.specs.Prelude.{ℕ, nat_le, Bool, true, false, List, [], ◌∷◌, codes, bytes_eq, map, string_bytes, String, Option, Some, None, option_map, option_and_then, if◌then◌else◌, ⊤}
+use Rattle.sval_io.specs.Sources.{Supply}
 use Rattle.sval_script.specs.Lines.{keep, natural}
 use Rattle.sval_relay.specs.declared.way.Way.{Way}
 use Rattle.sval_relay.specs.declared.way.Way.TheVariants.{Direct, Buffered, Calls, DirectBeside, BufferedBeside}
@@ -7,7 +8,6 @@ use Rattle.sval_relay.specs.declared.way.Task.{Task}
 use Rattle.sval_relay.specs.declared.way.Form.{Form}
 use Rattle.sval_relay.specs.declared.way.Form.TheVariants.{Serve, Made}
 use Rattle.sval_program.specs.Inputs.{OnBoth}
-use Rattle.sval_program.specs.Sources.{Supply}
 
 -- whether it captures the value before it writes
 abbrev pub is_captured : Way → Bool

@@ -6,7 +6,7 @@ use Rattle.sval_core.specs.Law.{Rose}
 use Rattle.sval_core.specs.Many.{SpellsAll, AreEnds}
 use Rattle.sval_core.specs.Real.{IsPrintable}
 use Rattle.sval_core.specs.Trees.{Tree}
-use Rattle.sval_json.specs.Sinks.{Told, IsSteady, NoCountFell, LacksRoom, Appends, AppendsFront}
+use Rattle.sval_io.specs.Sinks.{Told, IsSteady, NoCountFell, LacksRoom, Appends, AppendsFront}
 use Rattle.sval_json.specs.Number.{Refusal, InvalidKey, InvalidNumber}
 use Rattle.sval_script.specs.Lines.{lines, Good}
 use Rattle.sval_relay.specs.declared.way.Way.{Way}

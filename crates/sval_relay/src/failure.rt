@@ -8,8 +8,8 @@ ghost use Rattle.sval_relay.specs.Statuses.{status_of, status_of_failure};
 
 use crate::made::MadeError;
 use crate::relaying::RelayError;
-use sval_json::{Sink, SinkError};
-use sval_program::{InputError, Line, lines, status, tell};
+use sval_io::{InputError, Sink, SinkError};
+use sval_program::{Line, lines, status, tell};
 use sval_script::ScriptError;
 
 /// Why the program failed: each failure has a status and a line.
@@ -83,7 +83,7 @@ impl Failure {
     {
         match self {
             Failure::Usage => status::USAGE,
-            Failure::Input(error) => error.status(),
+            Failure::Input(error) => status::of_input(*error),
             Failure::Relay(RelayError::BadLine { .. }) => status::BAD_LINE,
             Failure::Relay(RelayError::BadCall { .. }) => status::BAD_CALL,
             Failure::Relay(RelayError::Unfinished) => status::UNFINISHED,
@@ -102,7 +102,7 @@ impl Failure {
             Failure::Usage => Line::text(
                 "usage: sval_relay direct [beside] [lines]|buffered [beside] [lines]|calls [lines]|made N\n",
             ),
-            Failure::Input(error) => error.line(),
+            Failure::Input(error) => lines::of_input(*error),
             Failure::Relay(RelayError::BadLine { line }) => lines::bad_line(*line),
             Failure::Relay(RelayError::BadCall { line }) => lines::bad_call(*line),
             Failure::Relay(RelayError::Unfinished) => lines::unfinished(many),

@@ -21,5 +21,6 @@ pub use made::{MadeError, relay_made};
 pub use relaying::{RelayError, relay, relay_lines};
 pub use running::run;
 pub use streams::{Relay, relay_streams};
-pub use sval_program::{FaultySource, MemSource, RealSource, Source, SourceError, status};
+pub use sval_io::{FaultySource, MemSource, RealSource, Source, SourceError};
+pub use sval_program::status;
 pub use way::Way;

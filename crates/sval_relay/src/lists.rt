@@ -12,7 +12,7 @@ use crate::trees::write_tree;
 use crate::way::Way;
 use std::alloc::Global;
 use sval_check::Ends;
-use sval_json::{Sink, write_all};
+use sval_io::{Sink, write_all};
 use sval_script::ScriptSlice;
 
 /// What stands behind each value in the way: a line feed behind JSON, and nothing behind a canonical script.

@@ -6,7 +6,7 @@ ghost use Rattle.sval_label.specs.Calls.{Int, U64, TextBegin, TextFragment, Text
 ghost use Rattle.sval_core.specs.Law.{Emits};
 ghost use Rattle.sval_core.specs.Values.{makes};
 ghost use Rattle.sval_core.specs.ValueCalls.{item_calls, part_calls};
-ghost use Rattle.sval_json.specs.Sinks.{WritesAll};
+ghost use Rattle.sval_io.specs.Sinks.{WritesAll};
 ghost use Rattle.sval_relay.specs.Verdict.{Text, one_in, IsVerdict};
 ghost use Rattle.sval_relay.specs.Made.{id_calls, name_calls, record_calls, made_calls, made_script, sizes_line, IsMadeLine, LacksRoomForLine, TellsMade};
 
@@ -17,7 +17,7 @@ use std::alloc::Global;
 use std::error::Error;
 use std::fmt;
 use sval_core::{Label, Lending, Stream, tags};
-use sval_json::{Sink, SinkError, VecSink, write_all};
+use sval_io::{Sink, SinkError, VecSink, write_all};
 use sval_script::{PrintError, Printer};
 
 /// Why the line of a made script wasn't written, or not whole.

@@ -13,7 +13,7 @@ use std::alloc::Global;
 use std::error::Error;
 use std::fmt;
 use sval_check::{CheckError, check, check_all};
-use sval_json::{Sink, SinkError};
+use sval_io::{Sink, SinkError};
 use sval_script::{Script, ScriptError};
 
 /// Why a script wasn't served, or not whole.

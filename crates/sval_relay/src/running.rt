@@ -2,8 +2,9 @@
 
 ghost use Rattle.std.specs.Prelude.{◌≡◌, ◌⊎◌, ◌<◌, ◌≤◌, ◌↔◌, true, None, map, string_bytes};
 ghost use Rattle.sval_core.specs.Law.{Rose};
-ghost use Rattle.sval_json.specs.Sinks.{HoldsNothing, IsSteady, NoCountFell};
-ghost use Rattle.sval_program.specs.Inputs.{OnShort, OnLong, IsSpent, IsTooLong, StaysShort};
+ghost use Rattle.sval_io.specs.Sinks.{HoldsNothing, IsSteady, NoCountFell};
+ghost use Rattle.sval_io.specs.WholeInputs.{IsTooLong, StaysShort};
+ghost use Rattle.sval_program.specs.Inputs.{OnShort, OnLong, IsSpent};
 ghost use Rattle.sval_relay.specs.Ways.{form_of, takes_many, OnAsked, OnMade};
 ghost use Rattle.sval_relay.specs.Verdict.{Unfinished, Key, Number, IsVerdict, HasBadLine, HasBadCall, OnVerdict};
 ghost use Rattle.sval_program.specs.Outputs.{Grows};
@@ -18,12 +19,12 @@ use crate::made::relay_made;
 use crate::relaying::serve_script;
 use crate::way::{Form, Task, named_form};
 use std::alloc::Global;
-use sval_json::Sink;
+use sval_io::{Sink, Source};
+use sval_program::read_script;
 use sval_program::status::{
     BAD_CALL, BAD_LINE, DONE, INVALID_KEY, INVALID_NUMBER, NO_MEMORY, READ, TOO_LONG, UNFINISHED,
     USAGE, WRITE,
 };
-use sval_program::{Source, read_script};
 
 /// Reads the input whole, and serves the script that it is.
 fn serve_input<I: Source, K: Sink>(

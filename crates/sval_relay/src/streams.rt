@@ -9,9 +9,9 @@ use crate::running::run;
 use crate::way::named_form;
 use std::alloc::Global;
 use std::io::{Read, Write};
-use sval_json::Sink;
+use sval_io::{Sink, Source};
 use sval_program::status::USAGE;
-use sval_program::{Program, Source, run_streams};
+use sval_program::{Program, run_streams};
 
 /// The program, as [`run_process`](sval_program::run_process) runs it: what it does is [`run`], and its `Ends` are the
 /// clauses of `run` on what the source and the sink tell.

@@ -15,7 +15,8 @@ use crate::way::Way;
 use std::alloc::Global;
 use sval_buffer::ValueBuf;
 use sval_core::{Lent, Value};
-use sval_json::{ErrorKind, Sink, Variants, stream_to_io_write_with};
+use sval_io::Sink;
+use sval_json::{ErrorKind, Variants, stream_to_io_write_with};
 use sval_program::print_captured;
 use sval_script::ScriptSlice;
 

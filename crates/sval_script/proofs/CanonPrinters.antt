@@ -5,7 +5,7 @@ use Rattle.std.specs.List.{cons_option}
 use Rattle.std.proofs.Common.{inl, inr, ap}
 use Rattle.sval_label.specs.Calls.{Call}
 use Rattle.sval_core.specs.Law.{Standing, Emission, Rose, HasCause, Refuses, Ran, Streams, StoppedIn, Stops, Through, inner_standing, through}
-use Rattle.sval_json.specs.Sinks.{Told}
+use Rattle.sval_io.specs.Sinks.{Told}
 use Rattle.sval_script.specs.declared.print_error.PrintError.{PrintError}
 use Rattle.sval_script.specs.declared.print_error.PrintError.TheVariants as error
 use Rattle.sval_script.specs.declared.canon.CanonPrinter.{CanonPrinter}

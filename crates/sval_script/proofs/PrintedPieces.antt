@@ -10,9 +10,9 @@ use Rattle.sval_label.specs.Calls.{Seq, Map, Record, Tuple, RecordTuple}
 use Rattle.sval_label.specs.declared.grouped.Head as made
 use Rattle.sval_label.specs.declared.grouped.Head.TheVariants as made_head
 use Rattle.sval_label.specs.Grouped.{seen_head}
-use Rattle.sval_json.specs.declared.sink.SinkError.{SinkError}
-use Rattle.sval_json.specs.Sinks.{Told, WritesWhole, WritesFront, WritesAll}
-use Rattle.sval_json.proofs.Appending.{writes_nothing, writes_both, stops_after}
+use Rattle.sval_io.specs.declared.sink.SinkError.{SinkError}
+use Rattle.sval_io.specs.Sinks.{Told, WritesWhole, WritesFront, WritesAll}
+use Rattle.sval_io.proofs.Appending.{writes_nothing, writes_both, stops_after}
 use Rattle.sval_script.specs.Printed.{size_field, hint_text, name_fields, words_of, line}
 use Rattle.sval_script.specs.Printing.{spaced, word_of, fields_of, whole_line}
 

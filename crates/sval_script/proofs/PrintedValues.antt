@@ -4,10 +4,10 @@ use Rattle.std.specs.Option.{unwrap_or}
 use Rattle.std.proofs.Common.{sym, ap, ◌∙◌, subst, inl, inr, append_assoc, append-nil}
 use Rattle.sval_label.specs.Calls.{Call}
 use Rattle.sval_core.specs.Law.{Standing, Emission, Ran, Streams, StoppedIn, Stops}
-use Rattle.sval_json.specs.declared.sink.SinkError.{SinkError}
-use Rattle.sval_json.specs.declared.sink.SinkError.TheVariants.{Failed, NoMemory}
-use Rattle.sval_json.specs.Sinks.{Told, WritesWhole, WritesFront}
-use Rattle.sval_json.proofs.Appending.{all_is_front, steady_counts, writes_nothing, writes_both, stops_after}
+use Rattle.sval_io.specs.declared.sink.SinkError.{SinkError}
+use Rattle.sval_io.specs.declared.sink.SinkError.TheVariants.{Failed, NoMemory}
+use Rattle.sval_io.specs.Sinks.{Told, WritesWhole, WritesFront}
+use Rattle.sval_io.proofs.Appending.{all_is_front, steady_counts, writes_nothing, writes_both, stops_after}
 use Rattle.sval_script.specs.declared.print_error.PrintError.{PrintError}
 use Rattle.sval_script.specs.declared.print_error.PrintError.TheVariants as error
 use Rattle.sval_script.specs.Printed.{printed}

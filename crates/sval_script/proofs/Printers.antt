@@ -6,10 +6,10 @@ use Rattle.std.proofs.Common.{arith, inl, inr, sym, ap, ◌∙◌}
 use Rattle.std.proofs.lemmas.List.{length-append}
 use Rattle.sval_label.specs.Calls.{Call}
 use Rattle.sval_core.specs.Law.{Standing, Takes, HasCause, Refuses, Ran}
-use Rattle.sval_json.specs.declared.sink.SinkError.{SinkError}
-use Rattle.sval_json.specs.declared.sink.SinkError.TheVariants.{Failed, NoMemory}
-use Rattle.sval_json.specs.Sinks.{Told, NoCountFell, IsCounted, appended, less_room, WritesWhole, WritesFront}
-use Rattle.sval_json.proofs.Appending.{appended-appended, appended-nothing, less_room-zero, less_room-less_room}
+use Rattle.sval_io.specs.declared.sink.SinkError.{SinkError}
+use Rattle.sval_io.specs.declared.sink.SinkError.TheVariants.{Failed, NoMemory}
+use Rattle.sval_io.specs.Sinks.{Told, NoCountFell, IsCounted, appended, less_room, WritesWhole, WritesFront}
+use Rattle.sval_io.proofs.Appending.{appended-appended, appended-nothing, less_room-zero, less_room-less_room}
 use Rattle.sval_script.specs.declared.print_error.PrintError.{PrintError}
 use Rattle.sval_script.specs.declared.print_error.PrintError.TheVariants as error
 use Rattle.sval_script.specs.Printed.{printed}

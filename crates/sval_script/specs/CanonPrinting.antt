@@ -3,7 +3,7 @@ use Rattle.std.specs.Prelude.{◌≡◌, Option, Some, None, IfSome}
 use Rattle.std.specs.Borrow.{MutBor}
 use Rattle.sval_label.specs.Calls.{Call}
 use Rattle.sval_core.specs.Law.{Law, Standing, Through}
-use Rattle.sval_json.specs.Sinks.{Told}
+use Rattle.sval_io.specs.Sinks.{Told}
 use Rattle.sval_script.specs.declared.print_error.PrintError.{PrintError}
 use Rattle.sval_script.specs.declared.canon.CanonPrinter.{CanonPrinter}
 use Rattle.sval_script.specs.Printed.{canonical_call}

@@ -3,7 +3,7 @@ use Rattle.std.specs.Prelude.{◌≡◌, true, false, List, ◌∷◌, ◌++◌,
 use Rattle.std.specs.List.{AllByRecursion}
 use Rattle.sval_label.specs.Calls.{Call}
 use Rattle.sval_core.specs.Law.{Emission, Rose}
-use Rattle.sval_json.specs.Sinks.{Told, IsSteady, IsQuiet, NoCountFell, Appends, AppendsFront, AppendsPart, LacksRoom}
+use Rattle.sval_io.specs.Sinks.{Told, IsSteady, IsQuiet, NoCountFell, Appends, AppendsFront, AppendsPart, LacksRoom}
 use Rattle.sval_script.specs.declared.print_error.PrintError.{PrintError}
 use Rattle.sval_script.specs.declared.print_error.PrintError.TheVariants as error
 use Rattle.sval_script.specs.Printed.{printed}

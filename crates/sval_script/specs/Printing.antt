@@ -5,9 +5,9 @@ use Rattle.sval_label.specs.Calls.{Call}
 use Rattle.sval_label.specs.Calls.{Standalone, TagHint, EnumBegin, EnumEnd, TaggedBegin, TaggedEnd, Begin, End, PartBegin, PartEnd}
 use Rattle.sval_core.specs.Law.{Law, Standing}
 use Rattle.sval_core.specs.Real.{head_name, HasScriptTags, SlotHasScriptTags}
-use Rattle.sval_json.specs.declared.sink.SinkError.{SinkError}
-use Rattle.sval_json.specs.declared.sink.SinkError.TheVariants.{Failed, NoMemory}
-use Rattle.sval_json.specs.Sinks.{Told, appended, less_room, HasRoom, WritesWhole, WritesFront, WritesAll}
+use Rattle.sval_io.specs.declared.sink.SinkError.{SinkError}
+use Rattle.sval_io.specs.declared.sink.SinkError.TheVariants.{Failed, NoMemory}
+use Rattle.sval_io.specs.Sinks.{Told, appended, less_room, HasRoom, WritesWhole, WritesFront, WritesAll}
 use Rattle.sval_script.specs.declared.print_error.PrintError.{PrintError}
 use Rattle.sval_script.specs.declared.print_error.PrintError.TheVariants as error
 use Rattle.sval_script.specs.declared.printer.Printer.{Printer}

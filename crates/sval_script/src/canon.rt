@@ -13,7 +13,7 @@ ghost use Rattle.sval_script.specs.PrintedValues.{PrintsValue};
 use crate::print_error::PrintError;
 use crate::printer::print_call;
 use sval_core::{Call, Error, Fragment, GroupedCall, Lent, Stream};
-use sval_json::Sink;
+use sval_io::Sink;
 use sval_ref::ValueRef;
 
 /// Prints the canonical calls of those that it takes, each as its line.

@@ -5,7 +5,7 @@ ghost use Rattle.sval_script.specs.Printing.{print_error_of};
 
 use std::error::Error;
 use std::fmt;
-use sval_json::SinkError;
+use sval_io::SinkError;
 
 /// Why calls weren't printed, or not whole.
 #[derive(Clone, Copy, Debug, PartialEq, Eq)]

@@ -9,7 +9,7 @@ ghost use Rattle.std.specs.Prelude.{◌≡◌, None};
 ghost use Rattle.sval_label.specs.Made.{lent_call};
 ghost use Rattle.sval_label.specs.Grouped.{grouped_call};
 ghost use Rattle.sval_core.specs.Law.{Answers};
-ghost use Rattle.sval_json.specs.Sinks.{WritesAll};
+ghost use Rattle.sval_io.specs.Sinks.{WritesAll};
 ghost use Rattle.sval_script.specs.Printing.{Printing, PrintsLine, last_error, printer_law, printer_standing, sink_of, whole_line};
 
 use crate::print_error::PrintError;
@@ -17,7 +17,7 @@ use crate::printer::fields::write_fields;
 use crate::printer::known::knows_tags;
 use crate::printer::words::word;
 use sval_core::{Call, Error, GroupedCall, Lent, Stream};
-use sval_json::{Sink, SinkError, write_all};
+use sval_io::{Sink, SinkError, write_all};
 
 /// A stream that writes each call as its line of a script, with a line feed.
 ///

@@ -6,7 +6,8 @@ use std::process::Abort;
 use std::test::Fail;
 use sval_buffer::ValueBuf;
 use sval_core::Value;
-use sval_json::{VecSink, stream_to_io_write};
+use sval_io::VecSink;
+use sval_json::stream_to_io_write;
 use sval_ref::ValueRef;
 use sval_script::{Printer, Script};
 

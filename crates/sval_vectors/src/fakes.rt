@@ -8,7 +8,7 @@ ghost use Rattle.sval_label.specs.Made.{lent_call};
 use std::alloc::Global;
 use std::fmt::Write;
 use sval_core::{Call, Lent, Stream, refusal};
-use sval_json::{Sink, SinkError, VecSink};
+use sval_io::{Sink, SinkError, VecSink};
 
 /// Writes each call down in a line, and refuses one where memory is wanting.
 #[derive(Drop)]

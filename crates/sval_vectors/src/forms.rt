@@ -1,7 +1,7 @@
 //! The forms of the program's words, and a run of one over any devices.
 
 use std::alloc::{AllocError, Global};
-use sval_json::Sink;
+use sval_io::Sink;
 use sval_relay::{Source, run};
 
 /// Each form that reads a script, its words with a space between two.

@@ -8,7 +8,7 @@ ghost use Rattle.sval_core.specs.Values.{makes};
 use std::io::Cursor;
 use std::test::Fail;
 use sval_core::{Index, Label, Lending, Stream, Tag, Value, tags};
-use sval_json::{RealSink, VecSink};
+use sval_io::{RealSink, VecSink};
 use sval_ref::ValueRef;
 use sval_script::{PrintError, Printer, Script, print_canon};
 

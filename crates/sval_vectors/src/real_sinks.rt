@@ -6,7 +6,7 @@ use std::io;
 use std::io::{Cursor, Write};
 use std::test::Fail;
 use sval_core::Null;
-use sval_json::{RealSink, Sink, SinkError};
+use sval_io::{RealSink, Sink, SinkError};
 
 /// A writer whose first calls fail, or take nothing where no kind of error is given.
 #[derive(Drop)]

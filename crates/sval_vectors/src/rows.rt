@@ -30,7 +30,7 @@ use std::process::Abort;
 use std::test::Fail;
 use sval_check::{Checked, check};
 use sval_core::Value;
-use sval_json::{FaultySink, VecSink};
+use sval_io::{FaultySink, VecSink};
 use sval_relay::{MemSource, relay_streams};
 use sval_script::{Printer, Script, print_canon};
 

@@ -9,7 +9,8 @@ use std::alloc::{AllocError, Global};
 use std::test::Fail;
 use sval_check::{CheckError, check};
 use sval_core::{Lent, Stream, Value, refusal};
-use sval_json::{FixedSink, Sink, SinkError, VecSink, stream_to_io_write, write_all};
+use sval_io::{FixedSink, Sink, SinkError, VecSink, write_all};
+use sval_json::stream_to_io_write;
 use sval_relay::MemSource;
 use sval_script::Script;
 

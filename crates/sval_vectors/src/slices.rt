@@ -2,7 +2,7 @@
 
 use std::test::Fail;
 use sval_core::Value;
-use sval_json::VecSink;
+use sval_io::VecSink;
 use sval_script::{Printer, Script};
 
 /// Two values between others, with texts and numbers that stand beside their lines.

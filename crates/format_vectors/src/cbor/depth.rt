@@ -6,7 +6,8 @@ use std::process::Abort;
 use std::test::Fail;
 use sval_cbor::stream_to_cbor;
 use sval_cbor_read::CborDoc;
-use sval_json::{VecSink, stream_to_string};
+use sval_io::VecSink;
+use sval_json::stream_to_string;
 
 /// The bytes of levels in hex, as [`nested`] has them.
 fn bytes_of(alloc: Global, levels: &str) -> Result<Vec<u8>, Fail> {

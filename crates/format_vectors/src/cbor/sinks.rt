@@ -2,7 +2,7 @@
 
 use std::test::Fail;
 use sval_cbor::{CborError, stream_to_cbor};
-use sval_json::{FaultySink, FixedSink};
+use sval_io::{FaultySink, FixedSink};
 use sval_script::Script;
 
 /// The text `abc`.

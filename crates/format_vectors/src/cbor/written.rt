@@ -4,7 +4,7 @@ use crate::cases::{Case, try_cases};
 use std::alloc::Global;
 use std::test::Fail;
 use sval_cbor::stream_to_cbor;
-use sval_json::VecSink;
+use sval_io::VecSink;
 use sval_script::Script;
 
 /// A script, and the bytes that are written of it in hex, or why none are.

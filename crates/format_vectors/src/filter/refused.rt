@@ -3,7 +3,7 @@
 use std::test::Fail;
 use sval_core::Stream;
 use sval_filter::{Filter, Paths, Rule, Why};
-use sval_json::VecSink;
+use sval_io::VecSink;
 use sval_script::Printer;
 
 #[test]

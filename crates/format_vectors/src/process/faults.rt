@@ -8,8 +8,8 @@ use std::alloc::Global;
 use std::process::Abort;
 use std::str::from_utf8;
 use std::test::Fail;
-use sval_json::RealSink;
-use sval_program::{FaultySource, MemSource, Program, Source};
+use sval_io::{FaultySource, MemSource, RealSink, Source};
+use sval_program::Program;
 
 /// What is told of an output that fails.
 const WRITE_FAULT: &'static [u8] = b"write fault\n";

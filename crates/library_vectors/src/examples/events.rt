@@ -7,7 +7,7 @@ use std::collections::BTreeMap;
 use std::io::Write;
 use std::process::Abort;
 use std::test::Fail;
-use sval_json::{RealSink, Sink, VecSink};
+use sval_io::{RealSink, Sink, VecSink};
 
 /// An event: a level and a message.
 fn event<'a>(

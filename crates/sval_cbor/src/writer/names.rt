@@ -15,7 +15,7 @@ use crate::error::Refusal;
 use crate::writer::{BREAK, MAP, Place, Writer};
 use itoa::Buffer;
 use sval_core::{Index, Int, Label, Result, Tag};
-use sval_json::Sink;
+use sval_io::Sink;
 use sval_json::marks::{TextKind, has_handle, is_none, number_of, text_kind};
 
 /// Where the writer stands after a value of this name.

@@ -12,7 +12,7 @@ use crate::error::Refusal;
 use crate::writer::names::place_after;
 use crate::writer::{ARRAY, BREAK, MAP, Place, Writer};
 use sval_core::{Head, Index, Label, Result, Slot};
-use sval_json::Sink;
+use sval_io::Sink;
 
 impl<'k, K: Sink> Writer<'k, K> {
     /// Opens a container without a name, which can't stand in a key.

@@ -17,7 +17,7 @@ use crate::integer::Integer;
 use crate::number::{NormalForm, normal, whole};
 use crate::writer::{Place, Writer};
 use sval_core::{Error, Result};
-use sval_json::Sink;
+use sval_io::Sink;
 
 /// The sign that stands in front of a number.
 fn sign(negative: bool) -> &'static [u8]

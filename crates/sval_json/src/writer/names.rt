@@ -12,12 +12,12 @@ ghost use Rattle.sval_json.specs.Marks.{seen_option_index, seen_handle};
 ghost use Rattle.sval_json.specs.WriterLaw.{Does, writer_view};
 
 use crate::marks::{has_handle, is_none, number_of};
-use crate::sink::Sink;
 use crate::style::Variants;
 use crate::writer::Writer;
 use crate::writer::short::Quoted;
 use itoa::Buffer;
 use sval_core::{Index, Label, Result, Tag};
+use sval_io::Sink;
 
 impl<'k, K: Sink> Writer<'k, K> {
     /// Opens an object with an escaped text between others, or refuses where a key is due.

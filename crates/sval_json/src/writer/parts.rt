@@ -10,10 +10,10 @@ ghost use Rattle.sval_json.specs.Marks.{seen_handle};
 ghost use Rattle.sval_json.specs.WriterLaw.{Does, writer_view};
 
 use crate::marks::has_handle;
-use crate::sink::Sink;
 use crate::writer::Writer;
 use crate::writer::short::Quoted;
 use sval_core::{Head, Index, Label, Result, Slot};
+use sval_io::Sink;
 
 impl<'k, K: Sink> Writer<'k, K> {
     /// Opens a container under its name, where that is due.

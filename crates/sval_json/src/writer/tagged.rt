@@ -10,9 +10,9 @@ ghost use Rattle.sval_json.specs.WriterLaw.{Does, IsOnlySet, writer_view};
 use crate::error::Refusal;
 use crate::marks::{TextKind, has_handle, text_kind};
 use crate::number::NumberMachine;
-use crate::sink::Sink;
 use crate::writer::{Handler, Writer};
 use sval_core::{Index, Label, Result, Tag};
+use sval_io::Sink;
 
 impl<'k, K: Sink> Writer<'k, K> {
     /// Refuses the JSON of a value in a key.

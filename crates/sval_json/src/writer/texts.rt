@@ -12,11 +12,11 @@ ghost use Rattle.sval_json.specs.WriterLaw.{Does, writer_view};
 
 use crate::error::{Refusal, Stop};
 use crate::number::NumberMachine;
-use crate::sink::Sink;
 use crate::writer::short::Quoted;
 use crate::writer::{Handler, Writer};
 use itoa::Buffer;
 use sval_core::{Error, Result};
+use sval_io::Sink;
 
 impl<'k, K: Sink> Writer<'k, K> {
     /// Writes the quote of a text, where texts bring theirs.

@@ -4,11 +4,11 @@ ghost use Rattle.std.specs.Prelude.{◌≡◌, ◌≤◌, ◌*◌, length};
 ghost use Rattle.std.specs.Fmt.{signed_decimal};
 ghost use Rattle.hex.specs.Hex.{encode_lower};
 ghost use Rattle.sval_label.specs.SeenIndex.{seen_index};
-ghost use Rattle.sval_json.specs.Sinks.{WritesAll};
+ghost use Rattle.sval_io.specs.Sinks.{WritesAll};
 
 use itoa::Buffer;
 use sval_core::Index;
-use sval_json::{Sink, SinkError, write_all};
+use sval_io::{Sink, SinkError, write_all};
 
 /// How many bytes become digits at once.
 const PIECE: usize = 32;

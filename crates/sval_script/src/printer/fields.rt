@@ -7,14 +7,14 @@ ghost use Rattle.sval_label.specs.Grouped.{grouped_call, int_number, seen_head, 
 ghost use Rattle.sval_label.specs.SeenName.{seen_option_tag, seen_name};
 ghost use Rattle.sval_label.specs.SeenIndex.{seen_index};
 ghost use Rattle.sval_label.specs.Texts.{truth_text};
-ghost use Rattle.sval_json.specs.Sinks.{WritesAll};
+ghost use Rattle.sval_io.specs.Sinks.{WritesAll};
 ghost use Rattle.sval_script.specs.Printed as line;
 ghost use Rattle.sval_script.specs.Printing.{WritesFields, fields_of};
 
 use crate::printer::digits::{format_index, write_hex};
 use itoa::Buffer;
 use sval_core::{Fragment, GroupedCall, Head, Index, Int, Label, Name, Slot, Tag};
-use sval_json::{Sink, SinkError, format_int, write_all};
+use sval_io::{Sink, SinkError, write_all};
 
 /// Writes a field.
 fn write_field<K: Sink>(sink: &mut K, field: &[u8]) -> Result<(), SinkError>
@@ -187,7 +187,7 @@ fn int_field<K: Sink>(sink: &mut K, number: Int) -> Result<(), SinkError>
     ensures { WritesFields result (K.told sink.old) (signed_decimal (int_number number) ∷ []) (K.told sink.new) }
 {
     let mut buffer = Buffer::new();
-    write_field(sink, format_int(&mut buffer, number).as_bytes())
+    write_field(sink, number.format(&mut buffer).as_bytes())
 }
 
 /// Writes the fields of a call's line.

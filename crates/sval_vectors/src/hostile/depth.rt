@@ -5,7 +5,8 @@ use std::test::Fail;
 use sval_buffer::ValueBuf;
 use sval_check::{Checked, check};
 use sval_core::Value;
-use sval_json::{CountSink, VecSink, stream_to_io_write};
+use sval_io::{CountSink, VecSink};
+use sval_json::stream_to_io_write;
 use sval_script::{Printer, Script, print_canon};
 
 /// The canonical script of 500,000 sequences, each but the last around another, and a null in that.

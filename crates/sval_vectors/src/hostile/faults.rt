@@ -8,7 +8,7 @@ use crate::forms::{EACH_WAY, run_over};
 use std::alloc::Global;
 use std::process::Abort;
 use std::test::Fail;
-use sval_json::{FaultySink, VecSink};
+use sval_io::{FaultySink, VecSink};
 use sval_relay::{FaultySource, MemSource};
 
 /// What is told of an output that fails.

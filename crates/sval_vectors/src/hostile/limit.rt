@@ -3,7 +3,7 @@
 use crate::forms::run_over;
 use std::alloc::{AllocError, Global};
 use std::test::Fail;
-use sval_json::VecSink;
+use sval_io::VecSink;
 use sval_relay::{FaultySource, MemSource, Source, Way, relay};
 
 /// These many letters 3 between what stands before and behind them.

@@ -1,7 +1,7 @@
 //! What is told of scripts that are made.
 
 use std::test::Fail;
-use sval_json::{FaultySink, VecSink};
+use sval_io::{FaultySink, VecSink};
 use sval_relay::{MadeError, Way, relay, relay_made};
 
 /// The script of one record.

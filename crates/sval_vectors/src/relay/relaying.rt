@@ -3,7 +3,7 @@
 use std::alloc::Global;
 use std::process::Abort;
 use std::test::Fail;
-use sval_json::{FaultySink, VecSink};
+use sval_io::{FaultySink, VecSink};
 use sval_relay::{Way, relay, relay_lines};
 
 /// The ways that write JSON.

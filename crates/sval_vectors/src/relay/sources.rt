@@ -4,7 +4,7 @@ use crate::forms::{INSIDE, run_over};
 use std::alloc::Global;
 use std::fmt::Write;
 use std::test::Fail;
-use sval_json::VecSink;
+use sval_io::VecSink;
 use sval_relay::{FaultySource, MemSource, Source};
 
 /// What a source answers to so many reads into a buffer, and the first bytes of the buffer behind each.

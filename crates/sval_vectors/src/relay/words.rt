@@ -4,7 +4,7 @@ use crate::pictures::plain_text;
 use std::alloc::{AllocError, Global};
 use std::process::Abort;
 use std::test::Fail;
-use sval_json::{FaultySink, VecSink};
+use sval_io::{FaultySink, VecSink};
 use sval_relay::{MemSource, Source, run};
 
 /// Words, each behind a bar; none stand in the first row.

@@ -1,5 +1,5 @@
 use Rattle.std.specs.Prelude.{take}
-use Rattle.sval_json.specs.Sinks.{WritesWhole}
+use Rattle.sval_io.specs.Sinks.{WritesWhole}
 use Rattle.event_log.specs.Logs.{lines_of}
 use Rattle.event_log.proofs.lines.write_lines.Given as goal
 

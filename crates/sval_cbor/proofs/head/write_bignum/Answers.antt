@@ -1,5 +1,5 @@
 use Rattle.std.proofs.Common.{◌≡◌, ◌≤◌, List, ℕ, length, ap, ◌∙◌, arith, rules, subst}
-use Rattle.sval_json.specs.Sinks.{WritesAll}
+use Rattle.sval_io.specs.Sinks.{WritesAll}
 use Rattle.sval_cbor.specs.Cbor.{short_bytes, without_zero_bytes}
 use Rattle.sval_cbor.proofs.Bignums.{bignum_taken}
 use Rattle.sval_cbor.proofs.head.write_bignum.Goals as goal

@@ -1,5 +1,5 @@
 use Rattle.std.proofs.Common.{ℕ, ◌+◌, ◌++◌, length, length-append, sym, subst}
-use Rattle.sval_json.specs.Sinks.{WritesAll}
+use Rattle.sval_io.specs.Sinks.{WritesAll}
 use Rattle.sval_json.proofs.Readings.{then_writes}
 use Rattle.sval_cbor.specs.Cbor.{head_bytes}
 use Rattle.sval_cbor.proofs.head.write_joined.Goals as goal

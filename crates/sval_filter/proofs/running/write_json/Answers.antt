@@ -1,6 +1,6 @@
 use Rattle.std.proofs.Common.{rules, inr}
+use Rattle.sval_io.specs.declared.sink.SinkError.TheVariants.{Failed, NoMemory}
 use Rattle.sval_json.specs.Number.{InvalidKey, InvalidNumber}
-use Rattle.sval_json.specs.declared.sink.SinkError.TheVariants.{Failed, NoMemory}
 use Rattle.sval_buffer.specs.FlatForest.{forest_in}
 use Rattle.sval_filter.specs.Pruned.{pruned}
 use Rattle.sval_filter.proofs.LeftTexts.{writes_text, writes_to_refusal, stops_within}

@@ -1,7 +1,8 @@
 use Rattle.std.proofs.Common.{rules, refl, arith, ◌≡◌, ◌≤◌, ◌<◌, ◌∙◌, length}
 use Rattle.std.proofs.lemmas.List.{length-take-le}
 use Rattle.std.proofs.lemmas.Result.{err_from_is_err_and}
-use Rattle.sval_program.proofs.ReadParts.{reads-none, reads-more, reads-all, read_long, read_short, read_nothing, below_nothing}
+use Rattle.sval_io.proofs.ReadParts.{read_long, read_short, read_nothing, below_nothing}
+use Rattle.sval_program.proofs.ReadScripts.{reads-none, reads-more, reads-all}
 use Rattle.sval_program.proofs.reading.read_script.Goals as goal
 
 pub loop-taken-init : goal.loop-taken-init

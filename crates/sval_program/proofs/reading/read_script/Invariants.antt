@@ -1,5 +1,5 @@
 use Rattle.std.proofs.Common.{◌-◌, ◌≡◌, ◌≤◌, ◌^◌, vec_len}
-use Rattle.sval_program.proofs.ReadParts.{IsReading}
+use Rattle.sval_program.proofs.ReadScripts.{IsReading}
 use Rattle.sval_program.proofs.reading.read_script.Given as goal
 
 abbrev pub invariant-loop-taken : goal.invariant-loop-taken

@@ -1,5 +1,5 @@
 use Rattle.std.proofs.Common.{ap, ◌∙◌, length}
-use Rattle.sval_json.specs.Taken.{Taken}
+use Rattle.sval_io.specs.Taken.{Taken}
 use Rattle.sval_relay.proofs.MadeAnswers.{served_whole}
 use Rattle.sval_relay.proofs.made.json_length.Goals as goal
 

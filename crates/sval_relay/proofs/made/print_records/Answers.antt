@@ -1,5 +1,5 @@
 use Rattle.std.proofs.Common.{ap, rules, ◌∙◌}
-use Rattle.sval_json.specs.Taken.{Taken}
+use Rattle.sval_io.specs.Taken.{Taken}
 use Rattle.sval_relay.specs.Made.{made_calls}
 use Rattle.sval_relay.proofs.MadeAnswers.{printed_whole}
 use Rattle.sval_relay.proofs.MadeWants.{made_stop_is_want}

@@ -8,6 +8,6 @@ use Rattle.logfmt.proofs.writer.LogfmtWriter.step.Goals as goal
 pub write-requires-in-Value-Int : goal.write-requires-in-Value-Int
 write-requires-in-Value-Int c =
     let number = int_number c.in-Value-Int.number in
-    let digits : c.format_int.result.now ≡ signed_decimal number = c.format_int.ensures in
-    let bytes : c.as_bytes.result.now ≡ c.format_int.result.now = c.as_bytes.ensures.value in
+    let digits : c.format.result.now ≡ signed_decimal number = c.format.ensures in
+    let bytes : c.as_bytes.result.now ≡ c.format.result.now = c.as_bytes.ensures.value in
     omega (arith, ap length bytes, ap length digits, signed_some number)

@@ -1,0 +1,4 @@
+pub mod Appending
+pub mod Pieces
+pub mod FaultyWrites
+pub mod ReadParts

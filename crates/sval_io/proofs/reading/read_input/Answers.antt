@@ -1,0 +1,69 @@
+use Rattle.std.proofs.Common.{rules, arith, ◌≡◌, ◌≤◌, ◌+◌, ◌-◌, ◌∙◌, take, drop, length, IfSome, refl, subst, sym, ap}
+use Rattle.std.proofs.lemmas.List.{length-take-le, length-drop, take_all}
+use Rattle.std.proofs.lemmas.Result.{err_from_is_err_and}
+use Rattle.sval_io.specs.WholeInputs.{TakesAll}
+use Rattle.sval_io.proofs.ReadParts.{IsPartlyRead, read_on, read_whole, read_long, read_short, filled_on}
+use Rattle.sval_io.proofs.reading.read_input.Goals as goal
+
+pub loop-filled-preserved : goal.loop-filled-preserved
+loop-filled-preserved g c =
+    let room = c.in_ok-make_room.ensures in
+    let part = c.in_ok-count.ensures in
+    let held : length c.loop-filled.bytes.items ≡ c.loop-filled.bytes.len = search rules in
+    let longer : length c.make_room.new.bytes.items ≡ c.make_room.new.bytes.len = search rules in
+    let size : length (take c.loop-filled.filled c.loop-filled.bytes.items) ≡ c.loop-filled.filled =
+    length-take-le c.loop-filled.filled c.loop-filled.bytes.items (omega (arith, c.loop-filled.invariant.filled, held)) in
+    let kept : take c.loop-filled.filled c.deref_mut.result.now ≡ take c.loop-filled.filled c.loop-filled.bytes.items = ap (take c.loop-filled.filled) c.deref_mut.ensures.value ∙ room.kept in
+    let all : length c.deref_mut.result.now ≡ c.make_room.new.bytes.len = ap length c.deref_mut.ensures.value ∙ longer in
+    let within : c.loop-filled.filled + c.in_ok-count.count ≤ c.make_room.new.bytes.len =
+    omega (arith, part.within, c.read.auto.buffer, all, length-drop c.loop-filled.filled c.deref_mut.result.now, length-take-le (length c.deref_mut.result.now - c.loop-filled.filled) (drop c.loop-filled.filled c.deref_mut.result.now) (omega (arith, length-drop c.loop-filled.filled c.deref_mut.result.now)), room.room, longer) in
+    let items = filled_on (take c.loop-filled.filled c.loop-filled.bytes.items) c.deref_mut.result.now c.read.new.buffer _ _ c.loop-filled.filled c.in_ok-count.count c.make_room.new.bytes.len kept size part.within within in
+    record {
+      read = subst (IsPartlyRead _ _) (sym items) (read_on _ _ _ (take c.loop-filled.filled c.loop-filled.bytes.items) c.read.new.buffer c.in_ok-count.count c.loop-filled.invariant.read part);
+      filled = omega (arith, within);
+      short = omega (arith, room.short, longer);
+      faults = part.faults ∙ c.loop-filled.invariant.faults;
+    }
+
+pub returns-in_err-read-clause-err : goal.returns-in_err-read-clause-err
+returns-in_err-read-clause-err g c =
+    let p = err_from_is_err_and c.from_residual-in_err-read.result c.from_residual-in_err-read.ensures.1 in
+    let no = c.in_err-read.ensures in
+    let held : length c.loop-filled.bytes.items ≡ c.loop-filled.bytes.len = search rules in
+    let size : length (take c.loop-filled.filled c.loop-filled.bytes.items) ≡ c.loop-filled.filled =
+    length-take-le c.loop-filled.filled c.loop-filled.bytes.items (omega (arith, c.loop-filled.invariant.filled, held)) in
+    rw (p.1, p.2) record {
+      fault = λ e. rw (← c.loop-filled.invariant.faults) no.cause;
+      moved = λ m. refl;
+      long = λ e. cc e;
+      short = λ n. read_short _ _ _ (take c.loop-filled.filled c.loop-filled.bytes.items) c.loop-filled.invariant.read (omega (arith, size, c.loop-filled.invariant.filled, c.loop-filled.invariant.short)) no.left;
+      want = λ e. cc e;
+      faults = omega (arith, c.loop-filled.invariant.faults, no.faults);
+    }
+
+pub returns-in-0-clause-ok : goal.returns-in-0-clause-ok
+returns-in-0-clause-ok g c =
+    let held : length c.loop-filled.bytes.items ≡ c.loop-filled.bytes.len = search rules in
+    let all : take c.loop-filled.filled c.loop-filled.bytes.items ≡ c.loop-filled.bytes.items =
+    take_all c.loop-filled.filled c.loop-filled.bytes.items (omega (arith, held, c.loop-filled.invariant.short, c.loop-filled-test.false)) in
+    record {
+      taken = subst (λ bytes. IfSome (g.I.Source.told c.args.input.now).left (λ whole. TakesAll whole bytes (g.I.Source.told c.read-2.new.self).left)) all
+          (read_whole _ _ _ (take c.loop-filled.filled c.loop-filled.bytes.items) c.read-2.new.buffer c.in_ok-read.field-0 c.loop-filled.invariant.read c.in_ok-read.ensures c.in-0.is (omega (arith, c.read-2.auto.buffer)));
+      short = omega (arith, held, c.loop-filled.invariant.short);
+      faults = c.in_ok-read.ensures.faults ∙ c.loop-filled.invariant.faults;
+    }
+
+pub returns-in_default-clause-err : goal.returns-in_default-clause-err
+returns-in_default-clause-err g c =
+    let held : length c.loop-filled.bytes.items ≡ c.loop-filled.bytes.len = search rules in
+    let full : length (take c.loop-filled.filled c.loop-filled.bytes.items) ≡ 16777216 =
+    length-take-le c.loop-filled.filled c.loop-filled.bytes.items (omega (arith, c.loop-filled.invariant.filled, held)) ∙ omega (arith, c.loop-filled.invariant.filled, c.loop-filled.invariant.short, c.loop-filled-test.false) in
+    let one : c.in_ok-read.field-0 ≡ 1 = search rules in
+    record {
+      fault = λ e. cc e;
+      moved = λ m. absurd (omega (arith, m, c.in_ok-read.ensures.faults, c.loop-filled.invariant.faults));
+      long = λ e. read_long _ _ _ (take c.loop-filled.filled c.loop-filled.bytes.items) c.read-2.new.buffer c.in_ok-read.field-0 c.loop-filled.invariant.read full c.in_ok-read.ensures one;
+      short = λ n. absurd (n refl);
+      want = λ e. cc e;
+      faults = omega (arith, c.in_ok-read.ensures.faults, c.loop-filled.invariant.faults);
+    }

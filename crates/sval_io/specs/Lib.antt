@@ -1,0 +1,12 @@
+pub mod Sinks
+pub mod Taken
+pub mod Filled
+pub mod Counted
+pub mod FaultPlans
+pub mod Faulty
+pub mod OverWriter
+pub mod Sources
+pub mod FaultySources
+pub mod OverReader
+pub mod WholeInputs
+pub mod ErrorTexts

@@ -1,0 +1,36 @@
+//! What programs write to and read from.
+//!
+//! A [`Sink`] takes bytes, and a [`Source`] gives them. Both count their faults, and tell what they took and have left
+//! where they know it. [`VecSink`] and [`MemSource`] stand in memory, a [`FixedSink`] over a buffer, [`RealSink`] and
+//! [`RealSource`] over std's writers and readers. [`write_all`] writes a piece whole, and [`read_input`] reads a source
+//! to its end. For tests, a [`FaultySink`] and a [`FaultySource`] fail where a [`FaultPlan`] says so, and a
+//! [`TrickleSink`] takes one byte a call.
+#![tactic(auto)]
+
+mod count;
+mod fault_plan;
+mod faulty;
+mod faulty_source;
+mod fixed;
+mod input_error;
+mod patient;
+mod reading;
+mod real;
+mod real_source;
+mod sink;
+mod source;
+mod trickle;
+
+pub use count::CountSink;
+pub use fault_plan::FaultPlan;
+pub use faulty::FaultySink;
+pub use faulty_source::FaultySource;
+pub use fixed::FixedSink;
+pub use input_error::InputError;
+pub use patient::Patient;
+pub use reading::{INPUT_LIMIT, read_input};
+pub use real::RealSink;
+pub use real_source::RealSource;
+pub use sink::{Sink, SinkError, VecSink, write_all, write_in_place};
+pub use source::{MemSource, Source, SourceError};
+pub use trickle::TrickleSink;
