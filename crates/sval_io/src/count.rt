@@ -10,8 +10,8 @@ use std::marker::Model;
 ///
 /// ```
 /// let mut sink = CountSink::new();
-/// stream_to_io_write(&mut sink, &value)?;
-/// let bytes = sink.count();
+/// write_all(&mut sink, b"null")?;
+/// assert_eq!(rt; sink.count(), 4);
 /// ```
 #[derive(Drop)]
 pub struct CountSink {

@@ -11,13 +11,13 @@ use std::marker::Model;
 /// A sink over a buffer: it takes what fits, and tells its room. It takes no memory.
 ///
 /// It fails exactly where its buffer is full and the piece isn't empty. Where a value doesn't refuse, its calls spell a
-/// tree that has a JSON, and the text of that has room, [`stream_to_io_write`](crate::stream_to_io_write) answers `Ok`.
+/// tree that has a JSON, and the text of that has room, `stream_to_io_write` of `sval_json` answers `Ok`.
 ///
 /// ```
 /// let mut buffer = [0; 64];
 /// let mut sink = FixedSink::new(&mut buffer);
-/// stream_to_io_write(&mut sink, &value)?;
-/// let json = sink.as_slice();
+/// write_all(&mut sink, b"null")?;
+/// assert_eq!(rt; sink.as_slice(), b"null".as_slice());
 /// ```
 #[derive(Drop)]
 pub struct FixedSink<'a> {
@@ -65,9 +65,8 @@ impl<'a> FixedSink<'a> {
     /// ```
     /// let mut buffer = [0; 64];
     /// let mut sink = FixedSink::new(&mut buffer);
-    /// stream_to_io_write(&mut sink, &value)?;
-    /// let json = sink.into_slice();
-    /// assert_eq!(rt; json, b"[-7,\"a\"]".as_slice());
+    /// write_all(&mut sink, b"null")?;
+    /// assert_eq!(rt; sink.into_slice(), b"null".as_slice());
     /// ```
     pub fn into_slice(self) -> &'a [u8]
         ensures { result.now ≡ self.entry.bytes }

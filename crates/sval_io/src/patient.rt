@@ -8,9 +8,10 @@ ghost use Rattle.std.specs.IoError.{error_kind};
 use crate::real::TRIES;
 use std::io;
 use std::io::{ErrorKind, Write};
+use std::marker::Model;
 
-/// A writer over another one: a call that is interrupted is made again, and fails where that happened 1,000 times in a
-/// row.
+/// A writer over another one, and seen as that one: a call that is interrupted is made again, and fails where that
+/// happened 1,000 times in a row.
 ///
 /// It never answers that it was interrupted. std's `BufWriter` makes such a call again without end.
 #[derive(Drop)]
@@ -18,10 +19,16 @@ pub struct Patient<W> {
     writer: W,
 }
 
+impl<W> Model for Patient<W> {
+    ghost Value = { W };
+
+    ghost view = { λ patient. patient.writer };
+}
+
 impl<W> Patient<W> {
     /// A patient writer over this one.
     pub fn new(writer: W) -> Self
-        ensures { result.writer ≡ writer }
+        ensures { result ≡ writer }
     {
         Patient { writer }
     }
@@ -35,11 +42,11 @@ fn gave_up() -> io::Error
 }
 
 impl<W: Write> Write for Patient<W> {
-    ghost contents = { λ patient. W.contents patient.writer };
+    ghost contents = { W.contents };
 
     fn write(&mut self, piece: &[u8]) -> io::Result<usize>
         ensures bound { WritesAtMost result piece.now }
-        ensures bytes { WriteAppends (W.contents self.old.writer) (W.contents self.new.writer) result piece.now }
+        ensures bytes { WriteAppends (W.contents self.old) (W.contents self.new) result piece.now }
         ensures gives_up { IfErr result (λ error. error_kind error ≢ ErrorKind.Interrupted) }
     {
         for _ in 0..TRIES {
@@ -56,7 +63,7 @@ impl<W: Write> Write for Patient<W> {
     }
 
     fn flush(&mut self) -> io::Result<()>
-        ensures bytes { Keeps (W.contents self.old.writer) (W.contents self.new.writer) }
+        ensures bytes { Keeps (W.contents self.old) (W.contents self.new) }
         ensures gives_up { IfErr result (λ error. error_kind error ≢ ErrorKind.Interrupted) }
     {
         for _ in 0..TRIES {

@@ -120,8 +120,8 @@ fn write_rest<K: Sink>(sink: &mut K, piece: &[u8]) -> Result<(), SinkError>
 ///
 /// ```
 /// let mut sink = VecSink::new(alloc);
-/// stream_to_io_write(&mut sink, &value)?;
-/// let json = sink.as_slice();
+/// write_all(&mut sink, b"null")?;
+/// assert_eq!(rt; sink.as_slice(), b"null".as_slice());
 /// ```
 #[derive(Drop)]
 pub struct VecSink {

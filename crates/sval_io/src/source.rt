@@ -1,4 +1,4 @@
-//! Where a script is read from.
+//! What bytes are read from.
 
 ghost use Rattle.std.specs.Prelude.{◌≡◌, ℕ, List, Ok, IfOk, min, drop, length};
 ghost use Rattle.sval_io.specs.Sources.{Supply, ReadsInto, in_memory};
