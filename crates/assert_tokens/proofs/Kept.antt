@@ -6,7 +6,7 @@ use Rattle.sval_core.specs.Law.{Emission, Ran, Standing, StoppedIn}
 use Rattle.sval_check.specs.Tokens.{all_compared}
 use Rattle.sval_check.specs.TokenBufs.{TakenCalls, nothing_taken, token_law}
 use Rattle.sval_check.proofs.Tokens.{keeps_all}
-use Rattle.assert_tokens.specs.Matches.{Makes}
+use Rattle.assert_tokens.specs.Matches.{MakesTokens}
 
 all_kept : (old new : TakenCalls) (calls : List Call) → old ≡ nothing_taken → Ran token_law old.calls calls new.calls → new.calls ≡ calls
 all_kept old new calls start ran = keeps_all old.calls calls new.calls ran ∙ rw start refl
@@ -20,6 +20,6 @@ never_stops old new view (call ∷ calls) f w g x (inl (inr (inr rose), left)) =
 never_stops old new view (call ∷ calls) f w g x (inr (taken, s)) = never_stops old new (view ++ (call ∷ [])) calls f w g x s
 
 pub matches_made : (e : Emission) (expected : List Call) (old new : TakenCalls) (same : Bool) → old ≡ nothing_taken → Ran token_law old.calls e.calls new.calls
-    → (IsTrue same ↔ (all_compared new.calls ≡ all_compared expected)) → (IsTrue same ↔ Makes e expected)
+    → (IsTrue same ↔ (all_compared new.calls ≡ all_compared expected)) → (IsTrue same ↔ MakesTokens e expected)
 matches_made e expected old new same start ran matches =
     subst (λ calls. IsTrue same ↔ (all_compared calls ≡ all_compared expected)) (all_kept old new e.calls start ran) matches

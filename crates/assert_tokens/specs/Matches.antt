@@ -5,5 +5,5 @@ use Rattle.sval_core.specs.Law.{Emission}
 use Rattle.sval_check.specs.Tokens.{all_compared}
 
 -- its calls are these, as far as tokens are compared
-abbrev pub Makes : Emission → List Call → Type 0
-Makes e calls = all_compared e.calls ≡ all_compared calls
+abbrev pub MakesTokens : Emission → List Call → Type 0
+MakesTokens e calls = all_compared e.calls ≡ all_compared calls

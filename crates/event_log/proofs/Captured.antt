@@ -18,8 +18,8 @@ use Rattle.sval_buffer.specs.FlatForest.{FlatForest, forest_in}
 use Rattle.sval_buffer.specs.CapturedValues.{IsTakenOwned, KeepsTree}
 use Rattle.event_log.specs.declared.checking.RecordError.{RecordError}
 use Rattle.event_log.specs.declared.checking.RecordError.TheVariants as error
-use Rattle.event_log.specs.Events.{HasJson, IsCause}
-use Rattle.event_log.specs.Logs.{Log, event_calls, line_of, IsLine, HasLine, AreLines, Keeps}
+use Rattle.event_log.specs.Events.{HasJson, IsRecordCause}
+use Rattle.event_log.specs.Logs.{Log, event_calls, line_of, IsLine, HasLine, AreLines, KeepsEvent}
 
 -- what the writer makes of calls that spell a tree
 pub written_as : (calls : List Call) (tree : Tree) (shape : Result Json Refusal) → Spells calls tree → json_of tree ≡ shape → IsWrittenAs shape (written calls)
@@ -41,7 +41,7 @@ module _ (e : Emission) (event : FlatForest) (has : HasJson e) (keeps : KeepsTre
   pub has_line : HasLine event
   has_line = let again = (keeps has.tree has.spells).spells in same_line (event_calls event) event has.tree has.json again again has.shape
 
-  pub kept : {old new : Log} → IsTakenOwned e (forest_in event) → new.events ≡ keep_last old.capacity (old.events ++ event ∷ []) → new.capacity ≡ old.capacity → Keeps e old new
+  pub kept : {old new : Log} → IsTakenOwned e (forest_in event) → new.events ≡ keep_last old.capacity (old.events ++ event ∷ []) → new.capacity ≡ old.capacity → KeepsEvent e old new
   kept captured events capacity = record {
     event = event;
     captured = captured;
@@ -64,7 +64,7 @@ second_lines xs ys all is lines = lines_behind xs ys (subst AreLines (sym is) li
 -- ---- errors
 
 -- an event that has a JSON is recorded, unless memory is wanting
-pub only_no_memory : (e : Emission) (why : RecordError) → HasJson e → IsCause why e → why ≡ error.NoMemory
+pub only_no_memory : (e : Emission) (why : RecordError) → HasJson e → IsRecordCause why e → why ≡ error.NoMemory
 only_no_memory e error.NotOneValue has cause = absurd (cause (record { willing = has.willing; spells = (has.tree, has.spells) }))
 only_no_memory e error.NoJson has cause =
     let apart : None ≡ Some cause.why = sym (written_as e.calls has.tree (Ok has.json) has.spells has.shape).1 ∙ written_as e.calls cause.tree (Err cause.why) cause.spells cause.shape in cc apart

@@ -12,7 +12,7 @@ use Rattle.sval_json.specs.declared.error.ErrorKind.TheVariants as kind
 use Rattle.sval_json.specs.declared.style.Variants.TheVariants.{Inside}
 use Rattle.sval_json.specs.Number.{InvalidKey, InvalidNumber}
 use Rattle.sval_json.specs.Written.{WritesSpelledTree, StreamsJson}
-use Rattle.event_log.specs.Events.{unfit, HasJson, HasNoJson, IsCause}
+use Rattle.event_log.specs.Events.{unfit, HasJson, HasNoJson, IsRecordCause}
 
 pub has_json : {e : Emission} {old new : Told} → IsOneValue e → WritesSpelledTree Inside e.calls old new → HasJson e
 has_json one writes =
@@ -41,7 +41,7 @@ has_no_json before after kind.InvalidNumber one streams = record {
 
 -- why a value that didn't pass the check is no event
 pub check_cause : (e : Emission) (found : CheckError) → (IsOneValue e → (◌≡◌ {A = CheckAnswer} (Err found) (Ok tt)) ⊎ (◌≡◌ {A = CheckAnswer} (Err found) (Err check.NoMemory)))
-    → (◌≡◌ {A = CheckAnswer} (Err found) (Err check.NoMemory) → NeedsMemory e.calls) → IsCause (unfit found) e
+    → (◌≡◌ {A = CheckAnswer} (Err found) (Err check.NoMemory) → NeedsMemory e.calls) → IsRecordCause (unfit found) e
 check_cause e check.NoMemory comes needs = inl (needs refl)
 check_cause e (check.BadCall at) comes needs = λ one. elim (comes one) [ inl is ↦ cc | inr is ↦ cc ]
 check_cause e check.Refused comes needs = λ one. elim (comes one) [ inl is ↦ cc | inr is ↦ cc ]

@@ -34,7 +34,7 @@ unfit check.NoMemory = error.NoMemory
 unfit _ = error.NotOneValue
 
 -- why an event isn't recorded; memory is wanting for checking its calls, or for keeping an event that has a JSON
-abbrev pub IsCause : RecordError → Emission → Type 0
-IsCause error.NotOneValue e = IsOneValue e → ⊥
-IsCause error.NoJson e = HasNoJson e
-IsCause error.NoMemory e = NeedsMemory e.calls ⊎ HasJson e
+abbrev pub IsRecordCause : RecordError → Emission → Type 0
+IsRecordCause error.NotOneValue e = IsOneValue e → ⊥
+IsRecordCause error.NoJson e = HasNoJson e
+IsRecordCause error.NoMemory e = NeedsMemory e.calls ⊎ HasJson e

@@ -53,7 +53,7 @@ AreLines events = All HasLine events
 
 -- The event stands captured behind those before, the first of which is gone where the log was full. It holds copies of all
 -- texts, and its line is that of the calls that the event itself made.
-pub record Keeps (e : Emission) (old new : Log) : Type 0 where
+pub record KeepsEvent (e : Emission) (old new : Log) : Type 0 where
   pub event : FlatForest
   pub captured : IsTakenOwned e (forest_in event)
   pub line : IsLine e.calls (line_of event)

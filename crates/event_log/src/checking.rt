@@ -1,7 +1,7 @@
 //! Whether a value may be an event.
 
 ghost use Rattle.std.specs.Prelude.{◌≡◌, OnOk, IfErr};
-ghost use Rattle.event_log.specs.Events.{unfit, HasJson, IsCause};
+ghost use Rattle.event_log.specs.Events.{unfit, HasJson, IsRecordCause};
 
 use std::alloc::Global;
 use std::error::Error;
@@ -24,9 +24,9 @@ pub enum RecordError {
 
 impl fmt::Display for RecordError {
     ghost use Rattle.std.specs.Prelude.{Some};
-    ghost use Rattle.event_log.specs.ErrorTexts.{error_text};
+    ghost use Rattle.event_log.specs.ErrorTexts.{record_error_text};
 
-    ghost output = { λ error. Some (error_text error) };
+    ghost output = { λ error. Some (record_error_text error) };
 
     fn fmt<W: fmt::Write>(&self, f: &mut fmt::Formatter<W>) -> fmt::Result {
         f.write_str(match self {
@@ -55,7 +55,7 @@ pub(crate) fn check_event<'v, V: Value<'v, Lent<'v>>>(
     event: &'v V,
 ) -> Result<(), RecordError>
     ensures ok { OnOk result (HasJson (V.emission event.now)) }
-    ensures cause { IfErr result (λ why. IsCause why (V.emission event.now)) }
+    ensures cause { IfErr result (λ why. IsRecordCause why (V.emission event.now)) }
 {
     match check(alloc, event) {
         Ok(()) => {}

@@ -3,8 +3,8 @@
 ghost use Rattle.std.specs.Prelude.{◌≡◌, ◌==◌, [], length, IfOk, IfErr, OnOk, OnErr, IsOkUnless};
 ghost use Rattle.sval_io.specs.Sinks.{WritesAll};
 ghost use Rattle.sval_buffer.specs.Capture.{IsNoAlloc};
-ghost use Rattle.event_log.specs.Events.{HasJson, IsCause};
-ghost use Rattle.event_log.specs.Logs.{empty_log, AreLines, lines_of, Keeps};
+ghost use Rattle.event_log.specs.Events.{HasJson, IsRecordCause};
+ghost use Rattle.event_log.specs.Logs.{empty_log, AreLines, lines_of, KeepsEvent};
 
 use crate::checking::{RecordError, check_event};
 use crate::lines::write_lines;
@@ -75,8 +75,8 @@ impl<'o, N: CallStore + 'o> AnyEventLog<'o, N> {
     pub fn record<'v, V: Value<'v, Lent<'v>>>(&mut self, event: &'v V) -> Result<(), RecordError>
     where
         N: 'v,
-        ensures kept { OnOk result (Keeps (V.emission event.now) self.old self.new) }
-        ensures cause { IfErr result (λ why. IsCause why (V.emission event.now)) }
+        ensures kept { OnOk result (KeepsEvent (V.emission event.now) self.old self.new) }
+        ensures cause { IfErr result (λ why. IsRecordCause why (V.emission event.now)) }
         ensures comes { HasJson (V.emission event.now) → IsOkUnless result RecordError.NoMemory }
         ensures same { OnErr result (self.new ≡ self.old) }
     {

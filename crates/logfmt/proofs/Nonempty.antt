@@ -12,8 +12,8 @@ use Rattle.sval_io.specs.Taken.{Taken, taken_told}
 use Rattle.sval_json.specs.Escape.{short_escape, low_byte, escape_text, escape, escaped}
 use Rattle.logfmt.specs.declared.LogfmtError.TheVariants as error
 use Rattle.logfmt.specs.Pairs.{is_key_byte, is_key}
-use Rattle.logfmt.specs.Steps.{Step}
-use Rattle.logfmt.specs.Writing.{Writing, HasText, LacksMemory, IsStoppedBy, Does}
+use Rattle.logfmt.specs.Steps.{LogfmtStep}
+use Rattle.logfmt.specs.Writing.{Writing, LeavesText, LacksTextMemory, IsStoppedFor, DoesStep}
 
 if_some : (b : Bool) (xs ys : List ℕ) → 0 < length xs → 0 < length ys → 0 < length (if b then xs else ys)
 if_some true xs ys first second = first
@@ -59,15 +59,15 @@ only_wants sink.Failed piece before after front = let rose = front.cause in absu
 only_wants sink.NoMemory piece before after front = refl
 
 -- a sink in memory that took no whole piece had no memory
-pub stops_writing : (due : Step) (why : SinkError) (piece : List ℕ) (before after : Taken) (old new : Writing) (result : Result (Unit {0}) Error) (refusal : Error)
-    → WritesFront why (taken_told before) piece (taken_told after) → HasText due → old.wants ≡ before.wants → new.wants ≡ after.wants
-    → new.why ≡ Some error.NoMemory → result ≡ Err refusal → Does due result old new
+pub stops_writing : (due : LogfmtStep) (why : SinkError) (piece : List ℕ) (before after : Taken) (old new : Writing) (result : Result (Unit {0}) Error) (refusal : Error)
+    → WritesFront why (taken_told before) piece (taken_told after) → LeavesText due → old.wants ≡ before.wants → new.wants ≡ after.wants
+    → new.why ≡ Some error.NoMemory → result ≡ Err refusal → DoesStep due result old new
 stops_writing due sink.Failed piece before after old new result refusal front text was now want is = let rose = front.cause in absurd (omega arith)
 stops_writing due sink.NoMemory piece before after old new result refusal front text was now want is =
-    let lacks : LacksMemory due old new = record {
+    let lacks : LacksTextMemory due old new = record {
       text = text;
       rose = subst (λ n. Rose old.wants n) (sym now) (subst (λ n. Rose n after.wants) (sym was) front.cause);
       wants = subst (λ n. old.wants ≤ n) (sym now) (subst (λ n. n ≤ after.wants) (sym was) front.counts.wants);
     } in
-    let stop : IsStoppedBy new.why due old new = subst (λ w. IsStoppedBy w due old new) (sym want) lacks in
-    subst (λ r. Does due r old new) (sym is) stop
+    let stop : IsStoppedFor new.why due old new = subst (λ w. IsStoppedFor w due old new) (sym want) lacks in
+    subst (λ r. DoesStep due r old new) (sym is) stop

@@ -14,9 +14,9 @@ use Rattle.logfmt.specs.declared.LogfmtError.{LogfmtError}
 use Rattle.logfmt.specs.declared.LogfmtError.TheVariants.{NotFlat}
 use Rattle.logfmt.specs.declared.writer.Due.{Due}
 use Rattle.logfmt.specs.declared.writer.Due.TheVariants as due
-use Rattle.logfmt.specs.Pairs.{and_then, a_key, leaf, and_pairs, pairs, line, line_of}
-use Rattle.logfmt.specs.Steps.{Begun, Step, space_after, step, steps}
-use Rattle.logfmt.specs.Writing.{nothing_written, ended, written}
+use Rattle.logfmt.specs.Pairs.{and_then, a_key, leaf, and_pairs, field_pairs, line, record_line}
+use Rattle.logfmt.specs.Steps.{Begun, LogfmtStep, space_after, logfmt_step, logfmt_steps}
+use Rattle.logfmt.specs.Writing.{nothing_written, ended_line, written_line}
 
 abbrev at : Due → List ℕ → Begun
 at due text = record { due = due; text = text }
@@ -34,8 +34,8 @@ then_then (Err why) f g = refl
 -- ---- what leaves no trace in a tree
 
 abbrev SameStep : Option Call → Call → Begun → Type 0
-SameStep None call begun = step call begun ≡ Ok begun
-SameStep (Some other) call begun = step other begun ≡ step call begun
+SameStep None call begun = logfmt_step call begun ≡ Ok begun
+SameStep (Some other) call begun = logfmt_step other begun ≡ logfmt_step call begun
 
 same_step : (call : Call) (begun : Begun) → SameStep (plain_call call) call begun
 same_step (Call.TagHint _) begun = refl
@@ -63,27 +63,27 @@ same_step (Call.PartEnd (Slot.Place tag index)) begun = refl
 same_step (Call.PartEnd (Slot.FieldPlace tag label index)) begun = refl
 same_step _ begun = refl
 
-plain_one : (other : Option Call) (call : Call) (plainly calls : List Call) (begun : Begun) → SameStep other call begun → ((b : Begun) → steps plainly b ≡ steps calls b)
-    → steps (cons_option other plainly) begun ≡ steps (call ∷ calls) begun
-plain_one None call plainly calls begun same rest = rest begun ∙ sym (ap (λ s. and_then s (steps calls)) same)
-plain_one (Some other) call plainly calls begun same rest = ap (λ s. and_then s (steps plainly)) same ∙ then_same (step call begun) (steps plainly) (steps calls) rest
+plain_one : (other : Option Call) (call : Call) (plainly calls : List Call) (begun : Begun) → SameStep other call begun → ((b : Begun) → logfmt_steps plainly b ≡ logfmt_steps calls b)
+    → logfmt_steps (cons_option other plainly) begun ≡ logfmt_steps (call ∷ calls) begun
+plain_one None call plainly calls begun same rest = rest begun ∙ sym (ap (λ s. and_then s (logfmt_steps calls)) same)
+plain_one (Some other) call plainly calls begun same rest = ap (λ s. and_then s (logfmt_steps plainly)) same ∙ then_same (logfmt_step call begun) (logfmt_steps plainly) (logfmt_steps calls) rest
 
-steps_plain : (calls : List Call) (begun : Begun) → steps (plain calls) begun ≡ steps calls begun
+steps_plain : (calls : List Call) (begun : Begun) → logfmt_steps (plain calls) begun ≡ logfmt_steps calls begun
 steps_plain [] begun = refl
 steps_plain (call ∷ calls) begun = plain_one (plain_call call) call (plain calls) calls begun (same_step call begun) (steps_plain calls)
 
 -- ---- texts
 
-texts_escaped : (pieces : List (List ℕ)) (rest : List Call) (t : List ℕ) → steps (map (Call.TextFragment false) pieces ++ rest) (at due.Text t) ≡ steps rest (at due.Text (t ++ escaped (concat pieces)))
-texts_escaped [] rest t = ap (λ x. steps rest (at due.Text x)) (sym (append-nil t))
+texts_escaped : (pieces : List (List ℕ)) (rest : List Call) (t : List ℕ) → logfmt_steps (map (Call.TextFragment false) pieces ++ rest) (at due.Text t) ≡ logfmt_steps rest (at due.Text (t ++ escaped (concat pieces)))
+texts_escaped [] rest t = ap (λ x. logfmt_steps rest (at due.Text x)) (sym (append-nil t))
 texts_escaped (p ∷ pieces) rest t =
     texts_escaped pieces rest (t ++ escaped p)
-    ∙ ap (λ x. steps rest (at due.Text x)) (append_assoc t (escaped p) (escaped (concat pieces)) ∙ ap (λ x. t ++ x) (sym (escaped-append p (concat pieces))))
+    ∙ ap (λ x. logfmt_steps rest (at due.Text x)) (append_assoc t (escaped p) (escaped (concat pieces)) ∙ ap (λ x. t ++ x) (sym (escaped-append p (concat pieces))))
 
 quoted : (t q x : List ℕ) → ((t ++ q) ++ x) ++ q ≡ t ++ (q ++ (x ++ q))
 quoted t q x = append_assoc (t ++ q) x q ∙ append_assoc t q (x ++ q)
 
-begin_in_value : (head : Head) (size : Option ℕ) (t : List ℕ) → step (Call.Begin head size) (at due.Value t) ≡ Err NotFlat
+begin_in_value : (head : Head) (size : Option ℕ) (t : List ℕ) → logfmt_step (Call.Begin head size) (at due.Value t) ≡ Err NotFlat
 begin_in_value Head.Seq size t = refl
 begin_in_value Head.Map size t = refl
 begin_in_value (Head.Record name) size t = refl
@@ -91,20 +91,20 @@ begin_in_value (Head.Tuple name) size t = refl
 begin_in_value (Head.RecordTuple name) size t = refl
 
 -- a leaf is written, or refused at its first call
-leaf_written : (tree : Tree) (calls rest : List Call) (t : List ℕ) → Says tree calls rest → steps calls (at due.Value t) ≡ and_then (leaf tree) (λ text. steps rest (at due.ValueEnd (t ++ text)))
-leaf_written tree.Null calls rest t s = ap (λ c. steps c (at due.Value t)) s
-leaf_written (tree.Truth b) calls rest t s = ap (λ c. steps c (at due.Value t)) s
-leaf_written (tree.Int type number) calls rest t s = ap (λ c. steps c (at due.Value t)) s
+leaf_written : (tree : Tree) (calls rest : List Call) (t : List ℕ) → Says tree calls rest → logfmt_steps calls (at due.Value t) ≡ and_then (leaf tree) (λ text. logfmt_steps rest (at due.ValueEnd (t ++ text)))
+leaf_written tree.Null calls rest t s = ap (λ c. logfmt_steps c (at due.Value t)) s
+leaf_written (tree.Truth b) calls rest t s = ap (λ c. logfmt_steps c (at due.Value t)) s
+leaf_written (tree.Int type number) calls rest t s = ap (λ c. logfmt_steps c (at due.Value t)) s
 leaf_written (tree.Text text) calls rest t s =
-    ap (λ c. steps c (at due.Value t)) s.4
+    ap (λ c. logfmt_steps c (at due.Value t)) s.4
     ∙ texts_escaped s.1 (Call.TextEnd ∷ rest) (t ++ codes "\"")
-    ∙ ap (λ x. steps rest (at due.ValueEnd x)) (quoted t (codes "\"") (escaped (concat s.1)) ∙ ap (λ x. t ++ in_quotes (escaped x)) s.3)
-leaf_written (tree.Binary bytes) calls rest t s = ap (λ c. steps c (at due.Value t)) s.4
-leaf_written (tree.Standalone name) calls rest t s = ap (λ c. steps c (at due.Value t)) s
-leaf_written (tree.Tagged name inner) calls rest t s = ap (λ c. steps c (at due.Value t)) s.1
-leaf_written (tree.EmptyEnum name) calls rest t s = ap (λ c. steps c (at due.Value t)) s
-leaf_written (tree.Enum name inner) calls rest t s = ap (λ c. steps c (at due.Value t)) s.1
-leaf_written (tree.Container head parts) calls rest t s = ap (λ c. steps c (at due.Value t)) s.3 ∙ ap (λ is. and_then is (steps s.1)) (begin_in_value head s.0 t)
+    ∙ ap (λ x. logfmt_steps rest (at due.ValueEnd x)) (quoted t (codes "\"") (escaped (concat s.1)) ∙ ap (λ x. t ++ in_quotes (escaped x)) s.3)
+leaf_written (tree.Binary bytes) calls rest t s = ap (λ c. logfmt_steps c (at due.Value t)) s.4
+leaf_written (tree.Standalone name) calls rest t s = ap (λ c. logfmt_steps c (at due.Value t)) s
+leaf_written (tree.Tagged name inner) calls rest t s = ap (λ c. logfmt_steps c (at due.Value t)) s.1
+leaf_written (tree.EmptyEnum name) calls rest t s = ap (λ c. logfmt_steps c (at due.Value t)) s
+leaf_written (tree.Enum name inner) calls rest t s = ap (λ c. logfmt_steps c (at due.Value t)) s.1
+leaf_written (tree.Container head parts) calls rest t s = ap (λ c. logfmt_steps c (at due.Value t)) s.3 ∙ ap (λ is. and_then is (logfmt_steps s.1)) (begin_in_value head s.0 t)
 
 -- ---- pairs
 
@@ -134,7 +134,7 @@ unfolding more
 pair_more [] key text all = ap (λ x. (key ++ codes "=" ++ text) ++ x) (after_pair key text all)
 pair_more (b ∷ t) key text all = regroup (b ∷ t) (codes " ") key (codes "=") text (flat_map (λ next. codes " " ++ next) all)
 
-entry : (key value : Result (List ℕ) LogfmtError) (others : Result (List (List ℕ)) LogfmtError) (f : List (List ℕ) → Step) →
+entry : (key value : Result (List ℕ) LogfmtError) (others : Result (List (List ℕ)) LogfmtError) (f : List (List ℕ) → LogfmtStep) →
     and_then (and_pairs (and_then key (λ k. and_then value (λ w. Ok (k ++ codes "=" ++ w)))) others) f
     ≡ and_then key (λ k. and_then value (λ w. and_then others (λ all. f ((k ++ codes "=" ++ w) ∷ all))))
 entry (Ok k) (Ok w) (Ok all) f = refl
@@ -145,29 +145,29 @@ entry (Err why) value others f = refl
 -- the value of a key, and what comes after it
 value_written : (value : Tree) (parts : Parts) (tag : Option Tag) (label : Label) (inner after rest : List Call) (t key : List ℕ)
     → Says value inner (Call.PartEnd (Slot.Field tag label) ∷ after)
-    → ((now : List ℕ) → steps after (at due.Pair now) ≡ and_then (pairs parts) (λ all. steps rest (at due.Pair (now ++ more now all))))
-    → steps inner (at due.Value (t ++ (space_after t ++ key ++ codes "=")))
-    ≡ and_then (leaf value) (λ text. and_then (pairs parts) (λ all. steps rest (at due.Pair (t ++ more t ((key ++ codes "=" ++ text) ∷ all)))))
+    → ((now : List ℕ) → logfmt_steps after (at due.Pair now) ≡ and_then (field_pairs parts) (λ all. logfmt_steps rest (at due.Pair (now ++ more now all))))
+    → logfmt_steps inner (at due.Value (t ++ (space_after t ++ key ++ codes "=")))
+    ≡ and_then (leaf value) (λ text. and_then (field_pairs parts) (λ all. logfmt_steps rest (at due.Pair (t ++ more t ((key ++ codes "=" ++ text) ∷ all)))))
 value_written value parts tag label inner after rest t key says others =
     leaf_written value inner (Call.PartEnd (Slot.Field tag label) ∷ after) (t ++ (space_after t ++ key ++ codes "=")) says
     ∙ then_same (leaf value) _ _ (λ text.
     others ((t ++ (space_after t ++ key ++ codes "=")) ++ text)
-    ∙ then_same (pairs parts) _ _ (λ all. ap (λ x. steps rest (at due.Pair x)) (pair_more t key text all)))
+    ∙ then_same (field_pairs parts) _ _ (λ all. ap (λ x. logfmt_steps rest (at due.Pair x)) (pair_more t key text all)))
 
 parts_written : (parts : Parts) (kind : Kind) (calls rest : List Call) (t : List ℕ) → AreInOrder kind parts → SayParts parts calls rest
-    → steps calls (at due.Pair t) ≡ and_then (pairs parts) (λ all. steps rest (at due.Pair (t ++ more t all)))
-parts_written none kind calls rest t o s = ap (λ c. steps c (at due.Pair t)) s ∙ ap (λ x. steps rest (at due.Pair x)) (sym (nothing_more t))
+    → logfmt_steps calls (at due.Pair t) ≡ and_then (field_pairs parts) (λ all. logfmt_steps rest (at due.Pair (t ++ more t all)))
+parts_written none kind calls rest t o s = ap (λ c. logfmt_steps c (at due.Pair t)) s ∙ ap (λ x. logfmt_steps rest (at due.Pair x)) (sym (nothing_more t))
 parts_written (part (Slot.Field tag label) value parts) kind calls rest t o s =
-    ap (λ c. steps c (at due.Pair t)) s.2
-    ∙ then_then (a_key label.text) (λ key. Ok (at due.Value (t ++ (space_after t ++ key ++ codes "=")))) (steps s.0)
-    ∙ then_same (a_key label.text) (λ key. steps s.0 (at due.Value (t ++ (space_after t ++ key ++ codes "=")))) _
+    ap (λ c. logfmt_steps c (at due.Pair t)) s.2
+    ∙ then_then (a_key label.text) (λ key. Ok (at due.Value (t ++ (space_after t ++ key ++ codes "=")))) (logfmt_steps s.0)
+    ∙ then_same (a_key label.text) (λ key. logfmt_steps s.0 (at due.Value (t ++ (space_after t ++ key ++ codes "=")))) _
     (λ key. value_written value parts tag (bare_label label) s.0 s.1 rest t key s.3 (λ now. parts_written parts (next_kind kind) s.1 rest now o.1 s.4))
-    ∙ sym (entry (a_key label.text) (leaf value) (pairs parts) (λ all. steps rest (at due.Pair (t ++ more t all))))
-parts_written (part Slot.Item value parts) kind calls rest t o s = ap (λ c. steps c (at due.Pair t)) s.2
-parts_written (part Slot.Key value parts) kind calls rest t o s = ap (λ c. steps c (at due.Pair t)) s.2
-parts_written (part Slot.Value value parts) kind calls rest t o s = ap (λ c. steps c (at due.Pair t)) s.2
-parts_written (part (Slot.Place tag index) value parts) kind calls rest t o s = ap (λ c. steps c (at due.Pair t)) s.2
-parts_written (part (Slot.FieldPlace tag label index) value parts) kind calls rest t o s = ap (λ c. steps c (at due.Pair t)) s.2
+    ∙ sym (entry (a_key label.text) (leaf value) (field_pairs parts) (λ all. logfmt_steps rest (at due.Pair (t ++ more t all))))
+parts_written (part Slot.Item value parts) kind calls rest t o s = ap (λ c. logfmt_steps c (at due.Pair t)) s.2
+parts_written (part Slot.Key value parts) kind calls rest t o s = ap (λ c. logfmt_steps c (at due.Pair t)) s.2
+parts_written (part Slot.Value value parts) kind calls rest t o s = ap (λ c. logfmt_steps c (at due.Pair t)) s.2
+parts_written (part (Slot.Place tag index) value parts) kind calls rest t o s = ap (λ c. logfmt_steps c (at due.Pair t)) s.2
+parts_written (part (Slot.FieldPlace tag label index) value parts) kind calls rest t o s = ap (λ c. logfmt_steps c (at due.Pair t)) s.2
 
 -- ---- a value
 
@@ -175,32 +175,32 @@ abbrev start : Begun
 start = nothing_written.begun
 
 finished : (parts : Parts) (kind : Kind) (name : Name) (inner : List Call) → AreInOrder kind parts → SayParts parts inner (Call.End (Head.Record name) ∷ [])
-    → and_then (steps inner (at due.Pair [])) (ended false) ≡ and_then (pairs parts) (λ all. Ok (line all))
+    → and_then (logfmt_steps inner (at due.Pair [])) (ended_line false) ≡ and_then (field_pairs parts) (λ all. Ok (line all))
 unfolding more
 finished parts kind name inner o s =
-    ap (λ is. and_then is (ended false)) (parts_written parts kind inner (Call.End (Head.Record name) ∷ []) [] o s)
-    ∙ then_then (pairs parts) (λ all. Ok (at due.Nothing (line all))) (ended false)
+    ap (λ is. and_then is (ended_line false)) (parts_written parts kind inner (Call.End (Head.Record name) ∷ []) [] o s)
+    ∙ then_then (field_pairs parts) (λ all. Ok (at due.Nothing (line all))) (ended_line false)
 
-tree_written : (t : Tree) (calls : List Call) → IsGood t → Says t calls [] → and_then (steps calls start) (ended false) ≡ line_of t
-tree_written tree.Null calls good s = ap (λ c. and_then (steps c start) (ended false)) s
-tree_written (tree.Truth b) calls good s = ap (λ c. and_then (steps c start) (ended false)) s
-tree_written (tree.Int type number) calls good s = ap (λ c. and_then (steps c start) (ended false)) s
-tree_written (tree.Text text) calls good s = ap (λ c. and_then (steps c start) (ended false)) s.4
-tree_written (tree.Binary bytes) calls good s = ap (λ c. and_then (steps c start) (ended false)) s.4
-tree_written (tree.Standalone name) calls good s = ap (λ c. and_then (steps c start) (ended false)) s
-tree_written (tree.Tagged name inner) calls good s = ap (λ c. and_then (steps c start) (ended false)) s.1
-tree_written (tree.EmptyEnum name) calls good s = ap (λ c. and_then (steps c start) (ended false)) s
-tree_written (tree.Enum name inner) calls good s = ap (λ c. and_then (steps c start) (ended false)) s.1
-tree_written (tree.Container Head.Seq parts) calls good s = ap (λ c. and_then (steps c start) (ended false)) s.3
-tree_written (tree.Container Head.Map parts) calls good s = ap (λ c. and_then (steps c start) (ended false)) s.3
+tree_written : (t : Tree) (calls : List Call) → IsGood t → Says t calls [] → and_then (logfmt_steps calls start) (ended_line false) ≡ record_line t
+tree_written tree.Null calls good s = ap (λ c. and_then (logfmt_steps c start) (ended_line false)) s
+tree_written (tree.Truth b) calls good s = ap (λ c. and_then (logfmt_steps c start) (ended_line false)) s
+tree_written (tree.Int type number) calls good s = ap (λ c. and_then (logfmt_steps c start) (ended_line false)) s
+tree_written (tree.Text text) calls good s = ap (λ c. and_then (logfmt_steps c start) (ended_line false)) s.4
+tree_written (tree.Binary bytes) calls good s = ap (λ c. and_then (logfmt_steps c start) (ended_line false)) s.4
+tree_written (tree.Standalone name) calls good s = ap (λ c. and_then (logfmt_steps c start) (ended_line false)) s
+tree_written (tree.Tagged name inner) calls good s = ap (λ c. and_then (logfmt_steps c start) (ended_line false)) s.1
+tree_written (tree.EmptyEnum name) calls good s = ap (λ c. and_then (logfmt_steps c start) (ended_line false)) s
+tree_written (tree.Enum name inner) calls good s = ap (λ c. and_then (logfmt_steps c start) (ended_line false)) s.1
+tree_written (tree.Container Head.Seq parts) calls good s = ap (λ c. and_then (logfmt_steps c start) (ended_line false)) s.3
+tree_written (tree.Container Head.Map parts) calls good s = ap (λ c. and_then (logfmt_steps c start) (ended_line false)) s.3
 tree_written (tree.Container (Head.Record name) parts) calls good s =
-    ap (λ c. and_then (steps c start) (ended false)) s.3 ∙ finished parts tree.Field (bare_name name) s.1 good.1 s.4
-tree_written (tree.Container (Head.Tuple name) parts) calls good s = ap (λ c. and_then (steps c start) (ended false)) s.3
-tree_written (tree.Container (Head.RecordTuple name) parts) calls good s = ap (λ c. and_then (steps c start) (ended false)) s.3
+    ap (λ c. and_then (logfmt_steps c start) (ended_line false)) s.3 ∙ finished parts tree.Field (bare_name name) s.1 good.1 s.4
+tree_written (tree.Container (Head.Tuple name) parts) calls good s = ap (λ c. and_then (logfmt_steps c start) (ended_line false)) s.3
+tree_written (tree.Container (Head.RecordTuple name) parts) calls good s = ap (λ c. and_then (logfmt_steps c start) (ended_line false)) s.3
 
 -- the line of a value that tells a tree
-pub told_line : (e : Emission) (t : Tree) → Tells e t → written e ≡ line_of t
+pub told_line : (e : Emission) (t : Tree) → Tells e t → written_line e ≡ record_line t
 told_line e t tells =
-    ap (λ refuses. and_then (steps e.calls start) (ended refuses)) tells.willing
-    ∙ ap (λ is. and_then is (ended false)) (sym (steps_plain e.calls start))
+    ap (λ refuses. and_then (logfmt_steps e.calls start) (ended_line refuses)) tells.willing
+    ∙ ap (λ is. and_then is (ended_line false)) (sym (steps_plain e.calls start))
     ∙ tree_written t (plain e.calls) tells.spells.0 tells.spells.1

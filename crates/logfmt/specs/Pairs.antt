@@ -41,20 +41,20 @@ pair label value = and_then (a_key label) (λ key. and_then (leaf value) (λ tex
 
 -- this pair in front of those
 abbrev pub and_pairs : Result (List ℕ) LogfmtError → Result (List (List ℕ)) LogfmtError → Result (List (List ℕ)) LogfmtError
-and_pairs first rest = and_then first (λ pair. and_then rest (λ pairs. Ok (pair ∷ pairs)))
+and_pairs first rest = and_then first (λ pair. and_then rest (λ others. Ok (pair ∷ others)))
 
 -- the pairs of a record's fields
-abbrev pub pairs : Parts → Result (List (List ℕ)) LogfmtError
-pairs none = Ok []
-pairs (part (Slot.Field tag label) value parts) = and_pairs (pair label.text value) (pairs parts)
-pairs (part _ _ _) = Err NotFlat
+abbrev pub field_pairs : Parts → Result (List (List ℕ)) LogfmtError
+field_pairs none = Ok []
+field_pairs (part (Slot.Field tag label) value parts) = and_pairs (pair label.text value) (field_pairs parts)
+field_pairs (part _ _ _) = Err NotFlat
 
 -- one space between each two
 abbrev pub line : List (List ℕ) → List ℕ
 line [] = []
-line (pair ∷ pairs) = pair ++ flat_map (λ next. codes " " ++ next) pairs
+line (pair ∷ field_pairs) = pair ++ flat_map (λ next. codes " " ++ next) field_pairs
 
 -- the line of a record of leaves
-abbrev pub line_of : Tree → Result (List ℕ) LogfmtError
-line_of (Container (Head.Record name) parts) = and_then (pairs parts) (λ all. Ok (line all))
-line_of _ = Err NotFlat
+abbrev pub record_line : Tree → Result (List ℕ) LogfmtError
+record_line (Container (Head.Record name) parts) = and_then (field_pairs parts) (λ all. Ok (line all))
+record_line _ = Err NotFlat

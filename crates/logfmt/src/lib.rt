@@ -16,8 +16,8 @@ ghost use Rattle.std.specs.Prelude.{◌≡◌, Err, string_bytes};
 ghost use Rattle.sval_core.specs.Trees.{Tree};
 ghost use Rattle.sval_core.specs.ValueTrees.{Tells};
 ghost use Rattle.logfmt.specs.declared.LogfmtError.TheVariants as error;
-ghost use Rattle.logfmt.specs.Pairs.{line_of};
-ghost use Rattle.logfmt.specs.Writing.{Gives, WritesText, nothing_written, written};
+ghost use Rattle.logfmt.specs.Pairs.{record_line};
+ghost use Rattle.logfmt.specs.Writing.{GivesText, StepsWriteText, nothing_written, written_line};
 
 mod writer;
 
@@ -44,9 +44,9 @@ pub enum LogfmtError {
 
 impl fmt::Display for LogfmtError {
     ghost use Rattle.std.specs.Prelude.{Some};
-    ghost use Rattle.logfmt.specs.ErrorTexts.{error_text};
+    ghost use Rattle.logfmt.specs.ErrorTexts.{logfmt_error_text};
 
-    ghost output = { λ error. Some (error_text error) };
+    ghost output = { λ error. Some (logfmt_error_text error) };
 
     fn fmt<W: fmt::Write>(&self, f: &mut fmt::Formatter<W>) -> fmt::Result {
         f.write_str(match self {
@@ -85,9 +85,10 @@ pub fn to_logfmt<'v, V: Value<'v, Lent<'v>>>(
     alloc: Global,
     value: &'v V,
 ) -> Result<String, LogfmtError>
-    ensures tree { (tree : Tree) → Tells (V.emission value.now) tree → Gives string_bytes result (line_of tree) }
-    ensures calls { Gives string_bytes result (written (V.emission value.now)) }
-    ensures memory { result ≡ Err error.NoMemory → WritesText (V.emission value.now).calls nothing_written.begun }
+    ensures tree { (tree : Tree) → Tells (V.emission value.now) tree → GivesText string_bytes result
+        (record_line tree) }
+    ensures calls { GivesText string_bytes result (written_line (V.emission value.now)) }
+    ensures memory { result ≡ Err error.NoMemory → StepsWriteText (V.emission value.now).calls nothing_written.begun }
 {
     let mut writer = LogfmtWriter::new(alloc);
     match value.stream(&mut writer) {

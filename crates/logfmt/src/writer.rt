@@ -8,8 +8,8 @@ ghost use Rattle.sval_core.specs.Law.{Answers};
 ghost use Rattle.logfmt.specs.declared.LogfmtError.TheVariants as error;
 ghost use Rattle.logfmt.specs.declared.writer.Due.TheVariants as due;
 ghost use Rattle.logfmt.specs.Pairs.{is_key};
-ghost use Rattle.logfmt.specs.Steps.{adds, label_step, space_after, step_at, step};
-ghost use Rattle.logfmt.specs.Writing.{Writing, Does, Gives, waiting, refused, nothing_written, cause_of, whole, writing_law, writing_standing};
+ghost use Rattle.logfmt.specs.Steps.{adds_text, key_step, space_after, step_at, logfmt_step};
+ghost use Rattle.logfmt.specs.Writing.{Writing, DoesStep, GivesText, waiting, refused_for, nothing_written, cause_of, whole, writing_law, writing_standing};
 
 use crate::LogfmtError;
 use itoa::Buffer;
@@ -101,7 +101,7 @@ impl LogfmtWriter {
 
     /// The whole line.
     pub(crate) fn into_line(self) -> Result<String, LogfmtError>
-        ensures line { Gives string_bytes result (whole self.begun.due self.begun.text) }
+        ensures line { GivesText string_bytes result (whole self.begun.due self.begun.text) }
         ensures memory { result ≡ Err error.NoMemory → 0 < length self.begun.text }
     {
         match self.due {
@@ -119,7 +119,7 @@ impl LogfmtWriter {
 
     /// Refuses a call.
     fn refuse(&mut self, why: LogfmtError) -> Result
-        ensures refused { self.new ≡ refused why self.old }
+        ensures refused { self.new ≡ refused_for why self.old }
         ensures answer { result ≡ Err (record {}) }
     {
         self.why = Some(why);
@@ -138,7 +138,7 @@ impl LogfmtWriter {
     /// Writes these bytes, of which there is one at least, and then this is due.
     fn write(&mut self, bytes: &[u8], due: Due) -> Result
         requires { 0 < length bytes.now }
-        ensures { Does (adds self.old.begun.text bytes.now due) result self.old self.new }
+        ensures { DoesStep (adds_text self.old.begun.text bytes.now due) result self.old self.new }
     {
         match write_all(&mut self.text, bytes) {
             Ok(()) => self.wait_for(due),
@@ -149,7 +149,7 @@ impl LogfmtWriter {
     /// Writes a part of a text, and then more of it is due.
     fn write_part(&mut self, part: Fragment<&str, &str>) -> Result
         ensures { let said = text_call (λ text. text.now) part.entry in
-            Does (step_at said due.Text self.old.begun.text) result self.old self.new }
+            DoesStep (step_at said due.Text self.old.begun.text) result self.old self.new }
     {
         let (Fragment::Borrowed(text) | Fragment::Computed(text)) = part;
         if text.is_empty() {
@@ -163,7 +163,8 @@ impl LogfmtWriter {
 
     /// Writes a space, unless nothing stands before it.
     fn write_space(&mut self) -> Result
-        ensures { Does (adds self.old.begun.text (space_after self.old.begun.text) due.Pair) result self.old self.new }
+        ensures { DoesStep (adds_text self.old.begun.text (space_after self.old.begun.text) due.Pair) result
+            self.old self.new }
     {
         match self.text.as_slice() {
             [] => self.wait_for(Due::Pair),
@@ -173,7 +174,7 @@ impl LogfmtWriter {
 
     /// Writes a label as a key, and what stands around it.
     fn write_key(&mut self, label: &Label) -> Result
-        ensures { Does (label_step label.now.text self.old.begun.text) result self.old self.new }
+        ensures { DoesStep (key_step label.now.text self.old.begun.text) result self.old self.new }
     {
         let key = label.as_str().as_bytes();
         if !is_key(key) {
@@ -187,7 +188,7 @@ impl LogfmtWriter {
     /// Writes what is due of a call.
     fn step(&mut self, call: GroupedCall<'_, &str, &[u8]>) -> Result
         ensures { let said = grouped_call (λ text. text.now) (λ bytes. bytes.now) call.entry in
-            Does (step said self.old.begun) result self.old self.new }
+            DoesStep (logfmt_step said self.old.begun) result self.old self.new }
     {
         match (self.due, call) {
             (due, GroupedCall::TagHint(_)) => self.wait_for(due),

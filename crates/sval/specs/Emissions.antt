@@ -13,8 +13,8 @@ abbrev pub slice_emission : BinarySlice → Emission
 slice_emission binary = binary_emission (slice_bytes binary)
 
 -- the same under the tag of what has a size that its type fixes
-abbrev pub array_emission : {n : ℕ} → BinaryArray n → Emission
-array_emission binary = binary_array_emission (array_bytes binary)
+abbrev pub byte_array_emission : {n : ℕ} → BinaryArray n → Emission
+byte_array_emission binary = binary_array_emission (array_bytes binary)
 
 -- the text that is shown, whose size isn't given
 abbrev pub display_emission : {V : Type 0} → Display V → Emission

@@ -7,9 +7,9 @@ use Rattle.sval_core.specs.ValueTrees.{Tells, binary_array_tree}
 use Rattle.sval.specs.declared.binary_slice.BinarySlice.{BinarySlice}
 use Rattle.sval.specs.declared.binary_array.BinaryArray.{BinaryArray}
 use Rattle.sval.specs.declared.shown.Display.{Display}
-use Rattle.sval.specs.Emissions.{slice_emission, array_emission, display_emission}
+use Rattle.sval.specs.Emissions.{slice_emission, byte_array_emission, display_emission}
 use Rattle.sval.specs.Seen.{slice_bytes, array_bytes, shown_text}
-use Rattle.sval.specs.Shown.{shown_calls, number_calls}
+use Rattle.sval.specs.Shown.{shown_calls, number_text_calls}
 
 -- a `BinarySlice` is a binary
 abbrev pub BinarySlicesTell : Type 0
@@ -17,7 +17,7 @@ BinarySlicesTell = (binary : BinarySlice) → Tells (slice_emission binary) (Bin
 
 -- a `BinaryArray` is a binary under the tag of what has a size that its type fixes
 abbrev pub BinaryArraysTell : Type 0
-BinaryArraysTell = (n : ℕ) (binary : BinaryArray n) → Tells (array_emission binary) (binary_array_tree (array_bytes binary))
+BinaryArraysTell = (n : ℕ) (binary : BinaryArray n) → Tells (byte_array_emission binary) (binary_array_tree (array_bytes binary))
 
 -- a `Display` is the text that its value prints
 abbrev pub DisplaysTell : Type 0 → Type 0
@@ -29,4 +29,4 @@ ShownTextsTell = (text : List ℕ) → Tells (makes (shown_calls text)) (Text te
 
 -- what `stream_number` makes of a printed text is that text under the tag of numbers
 abbrev pub ShownNumbersTell : Type 0
-ShownNumbersTell = (text : List ℕ) → Tells (makes (number_calls text)) (Tagged (tag_alone number_tag) (Text text))
+ShownNumbersTell = (text : List ℕ) → Tells (makes (number_text_calls text)) (Tagged (tag_alone number_tag) (Text text))

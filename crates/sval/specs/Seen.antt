@@ -15,8 +15,8 @@ abbrev pub array_bytes : {n : ℕ} → BinaryArray n → List ℕ
 array_bytes binary = binary.bytes.now
 
 -- the pairs of a map
-abbrev pub pairs : {K V : Type 0} → MapSlice K V → List (K × V)
-pairs map = map.map.now
+abbrev pub map_pairs : {K V : Type 0} → MapSlice K V → List (K × V)
+map_pairs map = map.map.now
 
 -- the value whose text is shown
 abbrev pub shown_value : {V : Type 0} → Display V → V

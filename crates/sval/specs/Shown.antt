@@ -17,8 +17,8 @@ abbrev pub shown_calls : List ℕ → List Call
 shown_calls text = Call.TextBegin None ∷ Call.TextFragment false text ∷ Call.TextEnd ∷ []
 
 -- a text that is a number
-abbrev pub number_calls : List ℕ → List Call
-number_calls text = Call.TaggedBegin (tag_alone number_tag) ∷ (shown_calls text ++ Call.TaggedEnd (tag_alone number_tag) ∷ [])
+abbrev pub number_text_calls : List ℕ → List Call
+number_text_calls text = Call.TaggedBegin (tag_alone number_tag) ∷ (shown_calls text ++ Call.TaggedEnd (tag_alone number_tag) ∷ [])
 
 -- the text is what the value prints, where that is told
 abbrev pub IsPrinted : Option (List ℕ) → List ℕ → Type 0

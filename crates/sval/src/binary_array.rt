@@ -58,9 +58,9 @@ fn constant_size() -> &'static Tag
 }
 
 impl<'v, 'a, const N: usize> Value<'v, Lent<'v>> for BinaryArray<'a, N> {
-    ghost use Rattle.sval.specs.Emissions.{array_emission};
+    ghost use Rattle.sval.specs.Emissions.{byte_array_emission};
 
-    ghost emission = { array_emission };
+    ghost emission = { byte_array_emission };
 
     fn stream<S: Stream<Lent<'v>>>(&'v self, stream: &mut S) -> Result {
         stream.tagged_begin(Some(constant_size()), None, None)?;

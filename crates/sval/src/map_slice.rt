@@ -4,7 +4,7 @@ ghost use Rattle.std.specs.Prelude.{◌≡◌};
 ghost use Rattle.sval_core.specs.Law.{Emits};
 ghost use Rattle.sval_label.specs.Calls.{Slot};
 ghost use Rattle.sval_core.specs.Values.{part_emission, entry_emission, map_emission};
-ghost use Rattle.sval.specs.Seen.{pairs};
+ghost use Rattle.sval.specs.Seen.{map_pairs};
 
 use sval_core::{Lent, Result, Stream, Value};
 
@@ -25,14 +25,14 @@ pub struct MapSlice<'a, K, V> {
 impl<'a, K, V> MapSlice<'a, K, V> {
     /// The map of these pairs.
     pub fn new(map: &'a [(K, V)]) -> Self
-        ensures { pairs result ≡ map.now }
+        ensures { map_pairs result ≡ map.now }
     {
         MapSlice { map }
     }
 
     /// The pairs.
     pub fn as_slice(&self) -> &'a [(K, V)]
-        ensures { result.now ≡ pairs self.now }
+        ensures { result.now ≡ map_pairs self.now }
     {
         self.map
     }
@@ -98,9 +98,9 @@ pub fn stream_map<'v, K: Value<'v, Lent<'v>>, V: Value<'v, Lent<'v>>, S: Stream<
 impl<'v, 'a, K: Value<'v, Lent<'v>>, V: Value<'v, Lent<'v>>> Value<'v, Lent<'v>>
     for MapSlice<'a, K, V> {
     ghost use Rattle.sval_core.specs.Values.{map_emission};
-    ghost use Rattle.sval.specs.Seen.{pairs};
+    ghost use Rattle.sval.specs.Seen.{map_pairs};
 
-    ghost emission = { λ map. map_emission K.emission V.emission (pairs map) };
+    ghost emission = { λ map. map_emission K.emission V.emission (map_pairs map) };
 
     fn stream<S: Stream<Lent<'v>>>(&'v self, stream: &mut S) -> Result {
         stream_map(stream, self.map)

@@ -7,7 +7,7 @@ ghost use Rattle.sval_core.specs.Names.{number_tag};
 ghost use Rattle.sval.specs.Seen.{shown_value, shown_text};
 ghost use Rattle.sval_core.specs.Law.{Emits};
 ghost use Rattle.sval_core.specs.Values.{makes};
-ghost use Rattle.sval.specs.Shown.{IsPrinted, CantRender, Shows, of_stream, fragment_calls, shown_calls, number_calls};
+ghost use Rattle.sval.specs.Shown.{IsPrinted, CantRender, Shows, of_stream, fragment_calls, shown_calls, number_text_calls};
 
 use crate::render::{Render, RenderError};
 use std::alloc::Global;
@@ -156,7 +156,7 @@ fn number() -> &'static Tag
 
 /// Streams a text that is a number.
 fn stream_number_text<L: Lending, S: Stream<L>>(stream: &mut S, text: &str) -> sval_core::Result
-    ensures { Emits S.law result (S.standing stream.old) (makes (number_calls text.now)) (S.standing stream.new) }
+    ensures { Emits S.law result (S.standing stream.old) (makes (number_text_calls text.now)) (S.standing stream.new) }
 {
     stream.tagged_begin(Some(number()), None, None)?;
     stream.text_begin(None)?;
@@ -219,7 +219,7 @@ pub fn stream_number<L: Lending, S: Stream<L>, V: Render>(
     stream: &mut S,
     value: &V,
 ) -> Result<(), DisplayError>
-    ensures shows { Shows (V.printed value.now) (V.unprintable value.now) number_calls
+    ensures shows { Shows (V.printed value.now) (V.unprintable value.now) number_text_calls
         S.law result (S.standing stream.old) (S.standing stream.new) }
     ensures stays { IfErr result (λ error. error ≢ DisplayError.Refused → stream.new ≡ stream.old) }
 {

@@ -6,7 +6,7 @@ use mathlib.Core.List.{append_assoc, append-nil}
 use Rattle.sval_label.specs.Calls.{Call}
 use Rattle.sval_buffer.specs.Forest.{Node, Single, Text, Binary, Container, Nodes, none, ◌and◌, Open, Forest}
 use Rattle.sval_buffer.specs.Flat.{One, Words, Bytes, Holder, FlatPart, flat_part, flat_node, flat_row, flat_spine, flat}
-use Rattle.sval_buffer.specs.FlatForest.{open_places, Built, row_onto, front_of, after, with_part, with_holder, is_open_at, beyond, built, forest_of}
+use Rattle.sval_buffer.specs.FlatForest.{open_places, Built, row_onto, front_of, after_parts, with_part, with_holder, is_open_at, beyond, built, forest_of}
 
 -- ---- rows as lists
 
@@ -42,7 +42,7 @@ front-none (node ∷ rest) =
     let some = some_parts node in
     let e : nat_lt 0 (length (flat_node node)) ≡ true = grind (arith, nat_tests) in rw e refl
 
-after-none : (rest : List Node) → after 0 rest ≡ rest
+after-none : (rest : List Node) → after_parts 0 rest ≡ rest
 after-none [] = refl
 after-none (node ∷ rest) =
     let some = some_parts node in
@@ -54,7 +54,7 @@ front-node n node rest =
     let e : nat_lt (k + n) k ≡ false = grind (arith, nat_tests) in
     let d : k + n - k ≡ n = omega arith in rw (e, d) refl
 
-after-node : (n : ℕ) (node : Node) (rest : List Node) → after (length (flat_node node) + n) (node ∷ rest) ≡ after n rest
+after-node : (n : ℕ) (node : Node) (rest : List Node) → after_parts (length (flat_node node) + n) (node ∷ rest) ≡ after_parts n rest
 after-node n node rest =
     let k = length (flat_node node) in
     let e : nat_lt (k + n) k ≡ false = grind (arith, nat_tests) in
@@ -70,10 +70,10 @@ front-listed n (nodes and node) rest =
     ∙ front-listed (length (flat_node node) + n) nodes (node ∷ rest)
     ∙ ap (listed nodes) (front-node n node rest)
 
-after-listed : (n : ℕ) (nodes : Nodes) (rest : List Node) → after (length (flat_row nodes) + n) (listed nodes rest) ≡ after n rest
+after-listed : (n : ℕ) (nodes : Nodes) (rest : List Node) → after_parts (length (flat_row nodes) + n) (listed nodes rest) ≡ after_parts n rest
 after-listed n none rest = let e : 0 + n ≡ n = omega arith in rw e refl
 after-listed n (nodes and node) rest =
-    ap (λ m. after m (listed nodes (node ∷ rest))) (more-parts nodes node n)
+    ap (λ m. after_parts m (listed nodes (node ∷ rest))) (more-parts nodes node n)
     ∙ after-listed (length (flat_node node) + n) nodes (node ∷ rest)
     ∙ after-node n node rest
 
@@ -82,10 +82,10 @@ front-row nodes rest =
     let e : length (flat_row nodes) ≡ length (flat_row nodes) + 0 = omega arith in
     ap (λ m. front_of m (listed nodes rest)) e ∙ front-listed 0 nodes rest ∙ ap (listed nodes) (front-none rest)
 
-after-row : (nodes : Nodes) (rest : List Node) → after (length (flat_row nodes)) (listed nodes rest) ≡ rest
+after-row : (nodes : Nodes) (rest : List Node) → after_parts (length (flat_row nodes)) (listed nodes rest) ≡ rest
 after-row nodes rest =
     let e : length (flat_row nodes) ≡ length (flat_row nodes) + 0 = omega arith in
-    ap (λ m. after m (listed nodes rest)) e ∙ after-listed 0 nodes rest ∙ after-none rest
+    ap (λ m. after_parts m (listed nodes rest)) e ∙ after-listed 0 nodes rest ∙ after-none rest
 
 -- ---- parts that belong to no container without an end
 
@@ -123,8 +123,8 @@ with_nodes nodes b = record { row = listed nodes b.row; spine = b.spine }
 
 holder-row : (begin : Call) (nodes : Nodes) (b : Built) → with_holder false begin (length (flat_row nodes)) (with_nodes nodes b) ≡ with_node (Container begin nodes) b
 holder-row begin nodes b =
-    ap (λ (row : List Node). let r : Built = record { row = Container begin (row_onto none row) ∷ after (length (flat_row nodes)) (listed nodes b.row); spine = b.spine } in r) (front-row nodes b.row)
-    ∙ ap (λ (row : Nodes). let r : Built = record { row = Container begin row ∷ after (length (flat_row nodes)) (listed nodes b.row); spine = b.spine } in r) (row-listed nodes)
+    ap (λ (row : List Node). let r : Built = record { row = Container begin (row_onto none row) ∷ after_parts (length (flat_row nodes)) (listed nodes b.row); spine = b.spine } in r) (front-row nodes b.row)
+    ∙ ap (λ (row : Nodes). let r : Built = record { row = Container begin row ∷ after_parts (length (flat_row nodes)) (listed nodes b.row); spine = b.spine } in r) (row-listed nodes)
     ∙ ap (λ (rest : List Node). let r : Built = record { row = Container begin nodes ∷ rest; spine = b.spine } in r) (after-row nodes b.row)
 
 mutual

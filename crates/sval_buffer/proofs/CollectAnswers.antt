@@ -9,7 +9,7 @@ use Rattle.sval_buffer.specs.declared.error.Word.{Word}
 use Rattle.sval_buffer.specs.declared.error.ErrorKind.{ErrorKind}
 use Rattle.sval_buffer.specs.declared.error.ErrorKind.TheVariants as error
 use Rattle.sval_buffer.specs.declared.refusals.Refusals.{Refusals}
-use Rattle.sval_buffer.specs.Capture.{IsNoAlloc, wants_after}
+use Rattle.sval_buffer.specs.Capture.{IsNoAlloc, wants_after_error}
 use Rattle.sval_buffer.specs.CollectSteps.{push, push_label, takes_memory, label_takes_memory, Collects, Collecting, held_by, IsUnfitBy, CollectsBy, collect_law, collecting}
 
 -- ---- one fragment
@@ -48,7 +48,7 @@ takes_by how old held call fits = record {
   wants = refl;
 }
 
-rose_once : (why : ErrorKind) (wants : ℕ) → IsNoAlloc why → one_more wants ≤ wants_after why wants
+rose_once : (why : ErrorKind) (wants : ℕ) → IsNoAlloc why → one_more wants ≤ wants_after_error why wants
 rose_once (error.NoAlloc method) wants h = omega arith
 rose_once (error.Unsupported actual expected) wants h = absurd h
 rose_once (error.InvalidValue reason) wants h = absurd h
@@ -56,7 +56,7 @@ rose_once (error.OutsideContainer method) wants h = absurd h
 
 -- what stands after a call that was refused, and why
 pub refuses_by : (how : Collects) (old : Collecting) (held : HeldBytes) (kept : Refusals) (call : Call) (why : ErrorKind) → held ≡ old.held
-    → IsUnfitBy how.expected (how.grows old.held call) (how.step old.held call) why → kept ≡ record { last = Some why; wants = wants_after why old.wants } → old.wants ≤ kept.wants
+    → IsUnfitBy how.expected (how.grows old.held call) (how.step old.held call) why → kept ≡ record { last = Some why; wants = wants_after_error why old.wants } → old.wants ≤ kept.wants
     → Refuses (collect_law how) (collecting old) call (collecting (record { held = held; refusal = kept.last; wants = kept.wants }))
 refuses_by how old held kept call why same cause now rises = record {
   cause = go (how.step old.held call) cause;

@@ -9,20 +9,20 @@ use Rattle.sval_buffer.specs.Forest.{Forest, CaptureAnswer, Becomes, Rejects, Mi
 use Rattle.sval_buffer.specs.declared.error.Word.TheVariants as word
 use Rattle.sval_buffer.specs.declared.error.ErrorKind.{ErrorKind}
 use Rattle.sval_buffer.specs.declared.error.ErrorKind.TheVariants as error
-use Rattle.sval_buffer.specs.Capture.{Capture, no_calls, error_of, IsNoAlloc, IsAccepted, forest_by, IsCaptureCause, wants_after, capture_law, capture_law_by, capture_standing}
+use Rattle.sval_buffer.specs.Capture.{Capture, no_calls, error_of, IsNoAlloc, IsAccepted, forest_by, IsCaptureCause, wants_after_error, capture_law, capture_law_by, capture_standing}
 use Rattle.sval_buffer.specs.CapturedValues.{IsCaptured, RunsOutFrom, RunsOut, IsCollectCause, SpellsAgain, KeepsTree, cause_by}
 use Rattle.sval_buffer.proofs.SameTree.{capture_keeps}
 
 -- ---- one call
 
-rose_once : (why : ErrorKind) (wants : ℕ) → IsNoAlloc why → one_more wants ≤ wants_after why wants
+rose_once : (why : ErrorKind) (wants : ℕ) → IsNoAlloc why → one_more wants ≤ wants_after_error why wants
 rose_once (error.NoAlloc method) wants h = omega arith
 rose_once (error.Unsupported actual expected) wants h = absurd h
 rose_once (error.InvalidValue reason) wants h = absurd h
 rose_once (error.OutsideContainer method) wants h = absurd h
 
 pub refuses_by : (grows : Forest → Call → Bool) (answer : Forest → Call → CaptureAnswer) (old new : Capture) (call : Call) (f : Forest) (why : ErrorKind) → f ≡ old.forest
-    → IsCaptureCause (grows old.forest call) (answer old.forest call) why → new ≡ record { forest = f; refusal = Some why; wants = wants_after why old.wants } → old.wants ≤ new.wants
+    → IsCaptureCause (grows old.forest call) (answer old.forest call) why → new ≡ record { forest = f; refusal = Some why; wants = wants_after_error why old.wants } → old.wants ≤ new.wants
     → Refuses (capture_law_by grows answer) (capture_standing old) call (capture_standing new)
 refuses_by grows answer old new call f why same cause now rises = record {
   cause = go (answer old.forest call) cause;

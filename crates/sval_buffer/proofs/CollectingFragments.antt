@@ -11,8 +11,8 @@ use Rattle.sval_buffer.specs.declared.error.ErrorKind.{ErrorKind}
 use Rattle.sval_buffer.specs.declared.error.ErrorKind.TheVariants as error
 use Rattle.sval_buffer.specs.Capture.{IsNoAlloc}
 use Rattle.sval_buffer.specs.CapturedValues.{cause_by}
-use Rattle.sval_buffer.specs.Collected.{IsDue}
-use Rattle.sval_buffer.specs.CollectSteps.{Collects, steps_of, answer_after, LacksMemoryFrom, LacksMemory, Collecting, nothing_collected, held_by, IsUnfitBy, collect_law, collecting}
+use Rattle.sval_buffer.specs.Collected.{IsHeldDue}
+use Rattle.sval_buffer.specs.CollectSteps.{Collects, steps_of, answer_after, LacksMemoryFrom, LacksCollectMemory, Collecting, nothing_collected, held_by, IsUnfitBy, collect_law, collecting}
 use Rattle.sval_buffer.specs.CollectLaws.{StepsCollect, StreamCollects}
 
 module _ (how : Collects) where
@@ -28,47 +28,47 @@ module _ (how : Collects) where
       go (Err actual) each ok k = absurd (cc)
 
   -- memory was wanting, whatever is due
-  free : (due : Result HeldBytes ErrorKind) (why : ErrorKind) → IsNoAlloc why → IsDue due (Err why)
+  free : (due : Result HeldBytes ErrorKind) (why : ErrorKind) → IsNoAlloc why → IsHeldDue due (Err why)
   free due (error.NoAlloc method) h = tt
   free due (error.Unsupported actual wanted) h = absurd h
   free due (error.InvalidValue reason) h = absurd h
   free due (error.OutsideContainer method) h = absurd h
 
   due_here : (r : Result HeldBytes Word) (rest : HeldBytes → Result HeldBytes Word) (refuses grows : Bool) (why : ErrorKind) → IsUnfitBy how.expected grows r why
-      → IsDue (answer_after how.expected refuses (elim r [ Ok next ↦ rest next | Err actual ↦ Err actual ])) (Err why)
+      → IsHeldDue (answer_after how.expected refuses (elim r [ Ok next ↦ rest next | Err actual ↦ Err actual ])) (Err why)
   due_here (Ok next) rest refuses grows why h = free (answer_after how.expected refuses (rest next)) why h.no_alloc
-  due_here (Err actual) rest refuses grows why h = subst (λ w. IsDue (Err (error.Unsupported actual how.expected)) (Err w)) (sym h) refl
+  due_here (Err actual) rest refuses grows why h = subst (λ w. IsHeldDue (Err (error.Unsupported actual how.expected)) (Err w)) (sym h) refl
 
   stopped_steps : (calls : List Call) (view : Collecting) (old new : Standing Collecting) (refuses : Bool) → view.refusal ≡ None → StoppedIn (collect_law how) old new view calls refuses
-      → IsDue (answer_after how.expected refuses (steps_of how.step view.held calls)) (Err (cause_by new.view.refusal))
+      → IsHeldDue (answer_after how.expected refuses (steps_of how.step view.held calls)) (Err (cause_by new.view.refusal))
   unfolding steps_of
   stopped_steps [] view old new refuses none p =
-      subst (λ r. IsDue (answer_after how.expected r (Ok view.held)) (Err (cause_by new.view.refusal))) (sym p.0)
-      (subst (λ o. IsDue (Err (error.InvalidValue word.FailedToStream)) (Err (cause_by o))) (sym (ap (λ (c : Collecting). c.refusal) p.1 ∙ none)) refl)
+      subst (λ r. IsHeldDue (answer_after how.expected r (Ok view.held)) (Err (cause_by new.view.refusal))) (sym p.0)
+      (subst (λ o. IsHeldDue (Err (error.InvalidValue word.FailedToStream)) (Err (cause_by o))) (sym (ap (λ (c : Collecting). c.refusal) p.1 ∙ none)) refl)
   stopped_steps (call ∷ calls) view old new refuses none (inl p) =
-      subst (λ o. IsDue (answer_after how.expected refuses (steps_of how.step view.held (call ∷ calls))) (Err (cause_by o))) (sym p.1.refusal)
+      subst (λ o. IsHeldDue (answer_after how.expected refuses (steps_of how.step view.held (call ∷ calls))) (Err (cause_by o))) (sym p.1.refusal)
       (due_here (how.step view.held call) (λ next. steps_of how.step next calls) refuses (how.grows view.held call) p.1.why p.1.cause)
   stopped_steps (call ∷ calls) view old new refuses none (inr p) = go (how.step view.held call) (λ next same k. stopped_steps calls next old new refuses same k) p.0 p.1
     where
-      go : (r : Result HeldBytes Word) → ((next : Collecting) → next.refusal ≡ None → StoppedIn (collect_law how) old new next calls refuses → IsDue (answer_after how.expected refuses (steps_of how.step next.held calls)) (Err (cause_by new.view.refusal)))
+      go : (r : Result HeldBytes Word) → ((next : Collecting) → next.refusal ≡ None → StoppedIn (collect_law how) old new next calls refuses → IsHeldDue (answer_after how.expected refuses (steps_of how.step next.held calls)) (Err (cause_by new.view.refusal)))
           → IsOk r → StoppedIn (collect_law how) old new (record { held = held_by r view.held; refusal = view.refusal; wants = view.wants }) calls refuses
-          → IsDue (answer_after how.expected refuses (elim r [ Ok next ↦ steps_of how.step next calls | Err actual ↦ Err actual ])) (Err (cause_by new.view.refusal))
+          → IsHeldDue (answer_after how.expected refuses (elim r [ Ok next ↦ steps_of how.step next calls | Err actual ↦ Err actual ])) (Err (cause_by new.view.refusal))
       go (Ok next) each ok k = each (record { held = next; refusal = view.refusal; wants = view.wants }) none k
       go (Err actual) each ok k = absurd (cc)
 
   on_ok : (collected : Emission → Result HeldBytes ErrorKind) → StepsCollect how.expected how.step collected → (e : Emission) (start last : Collecting) → start ≡ nothing_collected
-      → Streams (collect_law how) (collecting start) e (collecting last) → IsDue (collected e) (Ok last.held)
+      → Streams (collect_law how) (collecting start) e (collecting last) → IsHeldDue (collected e) (Ok last.held)
   on_ok collected same e start last new s =
       let r : steps_of how.step no_bytes e.calls ≡ Ok last.held = subst (λ (c : Collecting). steps_of how.step c.held e.calls ≡ Ok last.held) new (ran_steps e.calls start last s.ran).0 in
       sym (sym (same e) ∙ ap (answer_after how.expected e.refuses) r ∙ ap (λ r. answer_after how.expected r (Ok last.held)) s.willing)
 
   on_err : (collected : Emission → Result HeldBytes ErrorKind) → StepsCollect how.expected how.step collected → (e : Emission) (start last : Collecting) → start ≡ nothing_collected
-      → Stops (collect_law how) (collecting start) e (collecting last) → IsDue (collected e) (Err (cause_by last.refusal))
+      → Stops (collect_law how) (collecting start) e (collecting last) → IsHeldDue (collected e) (Err (cause_by last.refusal))
   on_err collected same e start last new s =
-      let at_start : IsDue (answer_after how.expected e.refuses (steps_of how.step start.held e.calls)) (Err (cause_by last.refusal)) =
+      let at_start : IsHeldDue (answer_after how.expected e.refuses (steps_of how.step start.held e.calls)) (Err (cause_by last.refusal)) =
       stopped_steps e.calls start (collecting start) (collecting last) e.refuses (ap (λ (c : Collecting). c.refusal) new) s.stopped in
-      subst (λ due. IsDue due (Err (cause_by last.refusal))) (same e)
-      (subst (λ (c : Collecting). IsDue (answer_after how.expected e.refuses (steps_of how.step c.held e.calls)) (Err (cause_by last.refusal))) new at_start)
+      subst (λ due. IsHeldDue due (Err (cause_by last.refusal))) (same e)
+      (subst (λ (c : Collecting). IsHeldDue (answer_after how.expected e.refuses (steps_of how.step c.held e.calls)) (Err (cause_by last.refusal))) new at_start)
 
   -- ---- want of memory
 
@@ -120,7 +120,7 @@ module _ (how : Collects) where
       go (Err actual) is each ok k = absurd (cc)
 
   on_want : (e : Emission) (start last : Collecting) → start ≡ nothing_collected → Stops (collect_law how) (collecting start) e (collecting last)
-      → IsNoAlloc (cause_by last.refusal) → LacksMemory how e.calls
+      → IsNoAlloc (cause_by last.refusal) → LacksCollectMemory how e.calls
   on_want e start last new s want =
       subst (λ (c : Collecting). LacksMemoryFrom how c.held e.calls) new
       (stopped_wants e.calls start (collecting start) (collecting last) e.refuses (ap (λ (c : Collecting). c.refusal) new) s.stopped want)

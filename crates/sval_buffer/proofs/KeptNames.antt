@@ -14,12 +14,12 @@ use Rattle.sval_buffer.specs.declared.kept.KeptText.TheVariants.{Static, Stored}
 use Rattle.sval_buffer.specs.declared.kept.KeptLabel.{KeptLabel}
 use Rattle.sval_buffer.specs.declared.kept.NamedCall.{NamedCall}
 use Rattle.sval_buffer.specs.declared.named.NamedKind.{NamedKind}
-use Rattle.sval_buffer.specs.SeenNames.{HasName, kept_text, kept_label, kept_name, kept_call, TextStands, LabelStands, OptionStands, Stands, AllStand, Grows, named_call, call_at, Keeps}
+use Rattle.sval_buffer.specs.SeenNames.{HasName, kept_text, stored_label, stored_name, kept_call, TextStands, LabelStands, OptionStands, NameStands, AllStand, StoreGrows, named_call, call_at, KeepsNamedCall}
 
-pub grows_none : (xs : List ℕ) → Grows xs xs
+pub grows_none : (xs : List ℕ) → StoreGrows xs xs
 grows_none xs = record { more = []; utf8 = IsUtf8-nil; new_is = sym (append-nil xs) }
 
-pub grows_by : (xs ys more : List ℕ) → IsUtf8 more → ys ≡ xs ++ more → Grows xs ys
+pub grows_by : (xs ys more : List ℕ) → IsUtf8 more → ys ≡ xs ++ more → StoreGrows xs ys
 grows_by xs ys more u e = record { more = more; utf8 = u; new_is = e }
 
 index-front : (xs ys : List ℕ) (i : ℕ) → i < length xs → slice_index (xs ++ ys) i ≡ slice_index xs i
@@ -62,36 +62,36 @@ range_more xs more a b h k =
     let n = length-dropped xs a in
     ap (take (b - a)) (drop-front xs more a (omega arith)) ∙ take-front (drop a xs) more (b - a) (omega arith)
 
-text_more : (xs ys : List ℕ) (text : KeptText) → Grows xs ys → TextStands xs text → TextStands ys text × (kept_text ys text ≡ kept_text xs text)
+text_more : (xs ys : List ℕ) (text : KeptText) → StoreGrows xs ys → TextStands xs text → TextStands ys text × (kept_text ys text ≡ kept_text xs text)
 text_more xs ys (Static text) g s = (tt, refl)
 text_more xs ys (Stored start end) g (le, from, to) = (
   subst (λ zs. TextStands zs (Stored start end)) (sym g.new_is) (le, boundary_more xs g.more start g.utf8 from, boundary_more xs g.more end g.utf8 to),
   ap (λ zs. slice_range zs start end) g.new_is ∙ range_more xs g.more start end le to.0,
 )
 
-pub label_more : (xs ys : List ℕ) (label : KeptLabel) → Grows xs ys → LabelStands xs label → LabelStands ys label × (kept_label ys label ≡ kept_label xs label)
+pub label_more : (xs ys : List ℕ) (label : KeptLabel) → StoreGrows xs ys → LabelStands xs label → LabelStands ys label × (stored_label ys label ≡ stored_label xs label)
 label_more xs ys label g s =
     let (stands, same) = text_more xs ys label.text g s in (stands, rw same refl)
 
-option_more : (xs ys : List ℕ) (label : Option KeptLabel) → Grows xs ys → OptionStands xs label
-    → OptionStands ys label × (option_map (kept_label ys) label ≡ option_map (kept_label xs) label)
+option_more : (xs ys : List ℕ) (label : Option KeptLabel) → StoreGrows xs ys → OptionStands xs label
+    → OptionStands ys label × (option_map (stored_label ys) label ≡ option_map (stored_label xs) label)
 option_more xs ys None g s = (tt, refl)
 option_more xs ys (Some label) g s = let (stands, same) = label_more xs ys label g s in (stands, ap Some same)
 
-pub stands_more : (xs ys : List ℕ) (call : NamedCall) → Grows xs ys → Stands xs call → Stands ys call × (kept_call ys call ≡ kept_call xs call)
+pub stands_more : (xs ys : List ℕ) (call : NamedCall) → StoreGrows xs ys → NameStands xs call → NameStands ys call × (kept_call ys call ≡ kept_call xs call)
 stands_more xs ys call g s =
     let (stands, same) = option_more xs ys call.label g s.label in
-    let name : kept_name ys call ≡ kept_name xs call = rw same refl in
+    let name : stored_name ys call ≡ stored_name xs call = rw same refl in
     (record { label = stands; name = subst (HasName call.kind) (sym name) s.name }, rw name refl)
 
-pub all_more : (xs ys : List ℕ) (kept : List NamedCall) → Grows xs ys → AllStand xs kept → AllStand ys kept × (map (kept_call ys) kept ≡ map (kept_call xs) kept)
+pub all_more : (xs ys : List ℕ) (kept : List NamedCall) → StoreGrows xs ys → AllStand xs kept → AllStand ys kept × (map (kept_call ys) kept ≡ map (kept_call xs) kept)
 all_more xs ys [] g s = (tt, refl)
 all_more xs ys (call ∷ kept) g (first, rest) =
     let (stands, same) = stands_more xs ys call g first in
     let (later, others) = all_more xs ys kept g rest in
     ((stands, later), rw (same, others) refl)
 
-pub all_append : (xs : List ℕ) (kept : List NamedCall) (call : NamedCall) → AllStand xs kept → Stands xs call → AllStand xs (kept ++ (call ∷ []))
+pub all_append : (xs : List ℕ) (kept : List NamedCall) (call : NamedCall) → AllStand xs kept → NameStands xs call → AllStand xs (kept ++ (call ∷ []))
 all_append xs [] call s t = (t, tt)
 all_append xs (first ∷ kept) call s t = (s.0, all_append xs kept call s.1 t)
 
@@ -119,20 +119,20 @@ new_text xs ys more start end e at to =
 
 -- ---- a call at a place
 
-pub stands_at : (texts : List ℕ) (kept : List NamedCall) (at : ℕ) (call : NamedCall) → AllStand texts kept → at < length kept → call ≡ get_or kept at call → Stands texts call
+pub stands_at : (texts : List ℕ) (kept : List NamedCall) (at : ℕ) (call : NamedCall) → AllStand texts kept → at < length kept → call ≡ get_or kept at call → NameStands texts call
 stands_at texts [] at call s h e = absurd (omega arith)
-stands_at texts (first ∷ kept) zero call s h e = subst (Stands texts) (sym e) s.0
+stands_at texts (first ∷ kept) zero call s h e = subst (NameStands texts) (sym e) s.0
 stands_at texts (first ∷ kept) (suc at) call s h e = stands_at texts kept at call s.1 (omega arith) e
 
 -- the call at a place, with the store of texts as it is shown
 pub stands_shown : {texts shown : List ℕ} {seen : List Call} {call : NamedCall} (kept : List NamedCall) (at : ℕ)
-    → AllStand texts kept → map (kept_call texts) kept ≡ seen → at < length seen → call ≡ get_or kept at call → shown ≡ texts → Stands shown call
+    → AllStand texts kept → map (kept_call texts) kept ≡ seen → at < length seen → call ≡ get_or kept at call → shown ≡ texts → NameStands shown call
 stands_shown {texts} {call = call} kept at stand view h e same =
     let within : at < length kept = subst (λ n. at < n) (sym (ap length view) ∙ length-map kept (kept_call texts)) h in
-    subst (λ ts. Stands ts call) (sym same) (stands_at texts kept at call stand within e)
+    subst (λ ts. NameStands ts call) (sym same) (stands_at texts kept at call stand within e)
 
 -- the name that is shown says what the call says
-pub has_shown_name : {shown : List ℕ} {call : NamedCall} {label : Option calls.Label} {name : calls.Name} → Stands shown call → label ≡ option_map (kept_label shown) call.label
+pub has_shown_name : {shown : List ℕ} {call : NamedCall} {label : Option calls.Label} {name : calls.Name} → NameStands shown call → label ≡ option_map (stored_label shown) call.label
     → name ≡ record { tag = option_map seen_tag call.tag; label = label; index = option_map seen_index call.index } → HasName call.kind name
 has_shown_name stands same e = rw (e, same) stands.name
 
@@ -144,10 +144,10 @@ call_stands texts (first ∷ kept) (suc at) call h e = call_stands texts kept at
 -- the call that stands at a place is the one that is kept there
 pub keeps_standing : {texts shown : List ℕ} {seen : List Call} {call : NamedCall} {kind : NamedKind} {name : calls.Name} {same : Bool} (kept : List NamedCall) (at : ℕ)
     → map (kept_call texts) kept ≡ seen → at < length kept → call ≡ get_or kept at call → shown ≡ texts
-    → Decides same ((call.kind ≡ kind) × (kept_name shown call ≡ name)) → OnTrue same (Keeps seen at (named_call kind name))
+    → Decides same ((call.kind ≡ kind) × (stored_name shown call ≡ name)) → OnTrue same (KeepsNamedCall seen at (named_call kind name))
 keeps_standing {texts} {shown} {seen} {call} {kind} {name} {same} kept at view within e show decides = OnTrue_from same _ keeps
   where
-    keeps : same ≡ true → Keeps seen at (named_call kind name)
+    keeps : same ≡ true → KeepsNamedCall seen at (named_call kind name)
     keeps found =
         let (of_kind, of_name) = decides.0 found in
         let n = length-map kept (kept_call texts) in

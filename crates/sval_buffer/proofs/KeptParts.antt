@@ -13,7 +13,7 @@ use Rattle.sval_buffer.specs.SeenNames.{call_at, Extends}
 use Rattle.sval_buffer.specs.declared.part.Part.{Part}
 use Rattle.sval_buffer.specs.declared.part.PartKind.{PartKind}
 use Rattle.sval_buffer.specs.declared.part.PartKind.TheVariants as kind
-use Rattle.sval_buffer.specs.SeenParts.{SeenPart, stored, stored_part, flat_kind, seen_part, seen_parts, with_holds, with_length, IsKept, AllKept, PartsTell, told}
+use Rattle.sval_buffer.specs.SeenParts.{SeenPart, flat_part_of, stored_part, flat_kind, seen_part, seen_parts, with_holds, with_length, IsKeptCall, AllKept, PartsTell, told}
 use Rattle.sval_buffer.proofs.Steps.{Is, nothing, tells_it, is_nothing, is_added, is_begun, is_flagged, is_closed, closes, place_within, place_fits, map-set, get-map, newest_is}
 
 -- what is known of an open buffer that is this forest
@@ -29,7 +29,7 @@ holds_it f t e = record { is = record { view = e; invariant = t.tells }; kept = 
 
 -- ---- the calls that parts speak of
 
-is_kept_more : (n m : ℕ) (k : PartKind) → n ≤ m → IsKept n k → IsKept m k
+is_kept_more : (n m : ℕ) (k : PartKind) → n ≤ m → IsKeptCall n k → IsKeptCall m k
 is_kept_more n m (kind.Single single) h i = tt
 is_kept_more n m (kind.Named at) h i = omega arith
 is_kept_more n m (kind.Text held) h i = tt
@@ -41,16 +41,16 @@ pub kept_more : (n m : ℕ) (parts : List Part) → n ≤ m → AllKept n parts 
 kept_more n m [] h k = tt
 kept_more n m (p ∷ parts) h (first, rest) = (is_kept_more n m p.kind h first, kept_more n m parts h rest)
 
-pub kept_append : (n : ℕ) (parts : List Part) (p : Part) → AllKept n parts → IsKept n p.kind → AllKept n (parts ++ (p ∷ []))
+pub kept_append : (n : ℕ) (parts : List Part) (p : Part) → AllKept n parts → IsKeptCall n p.kind → AllKept n (parts ++ (p ∷ []))
 kept_append n [] p k h = (h, tt)
 kept_append n (first ∷ parts) p k h = (k.0, kept_append n parts p k.1 h)
 
-pub kept_set : (n : ℕ) (parts : List Part) (i : ℕ) (p : Part) → AllKept n parts → IsKept n p.kind → AllKept n (slice_set parts i p)
+pub kept_set : (n : ℕ) (parts : List Part) (i : ℕ) (p : Part) → AllKept n parts → IsKeptCall n p.kind → AllKept n (slice_set parts i p)
 kept_set n [] i p k h = tt
 kept_set n (first ∷ parts) zero p k h = (h, k.1)
 kept_set n (first ∷ parts) (suc i) p k h = (k.0, kept_set n parts i p k.1 h)
 
-pub kept_get : (n : ℕ) (parts : List Part) (i : ℕ) (d : Part) → AllKept n parts → i < length parts → IsKept n (slice_index_or parts i d).kind
+pub kept_get : (n : ℕ) (parts : List Part) (i : ℕ) (d : Part) → AllKept n parts → i < length parts → IsKeptCall n (slice_index_or parts i d).kind
 kept_get n [] i d k h = absurd (omega arith)
 kept_get n (p ∷ parts) zero d k h = k.0
 kept_get n (p ∷ parts) (suc i) d k h = kept_get n parts i d k.1 (omega arith)
@@ -60,7 +60,7 @@ at_front [] more i h = absurd (omega arith)
 at_front (call ∷ calls) more zero h = refl
 at_front (call ∷ calls) more (suc i) h = at_front calls more i (omega arith)
 
-kind_more : (calls more : List Call) (k : PartKind) → IsKept (length calls) k → flat_kind (calls ++ more) k ≡ flat_kind calls k
+kind_more : (calls more : List Call) (k : PartKind) → IsKeptCall (length calls) k → flat_kind (calls ++ more) k ≡ flat_kind calls k
 kind_more calls more (kind.Single single) h = refl
 kind_more calls more (kind.Named at) h = ap flat.One (at_front calls more at h)
 kind_more calls more (kind.Text held) h = refl
@@ -94,15 +94,15 @@ module _ {calls : List Call} {parts : List Part} {places : List ℕ} {within : B
   pub holds_flagged : (flag : Bool) → Holds calls parts places flag (with_flag flag f)
   holds_flagged flag = record { is = is_flagged flag h.is; kept = h.kept }
 
-  pub holds_added : (p : Part) (node : Node) → flat_node node ≡ stored (seen_part calls p) ∷ [] → ((place : ℕ) (o : Option ℕ) → holders_node place o node ≡ o ∷ [])
-      → p.holder ≡ slice_get places (length places - 1) → IsKept (length calls) p.kind → Holds calls (parts ++ (p ∷ [])) places within (add node f)
+  pub holds_added : (p : Part) (node : Node) → flat_node node ≡ flat_part_of (seen_part calls p) ∷ [] → ((place : ℕ) (o : Option ℕ) → holders_node place o node ≡ o ∷ [])
+      → p.holder ≡ slice_get places (length places - 1) → IsKeptCall (length calls) p.kind → Holds calls (parts ++ (p ∷ [])) places within (add node f)
   holds_added p node one own held kept = record {
     is = subst (λ ps. Is ps places within (add node f)) (sym (map-append (seen_part calls) parts (p ∷ []))) (is_added (seen_part calls p) node h.is one own held);
     kept = kept_append (length calls) parts p h.kept kept;
   }
 
-  pub holds_begun : (p : Part) (begin : Call) (place : ℕ) → stored (seen_part calls p) ≡ flat_part (flat.Holder begin) 0
-      → p.holder ≡ slice_get places (length places - 1) → place ≡ length parts → IsKept (length calls) p.kind
+  pub holds_begun : (p : Part) (begin : Call) (place : ℕ) → flat_part_of (seen_part calls p) ≡ flat_part (flat.Holder begin) 0
+      → p.holder ≡ slice_get places (length places - 1) → place ≡ length parts → IsKeptCall (length calls) p.kind
       → Holds calls (parts ++ (p ∷ [])) (places ++ (place ∷ [])) within (begun begin f)
   holds_begun p begin place one held at kept = record {
     is = subst (λ ps. Is ps (places ++ (place ∷ [])) within (begun begin f)) (sym (map-append (seen_part calls) parts (p ∷ [])))
@@ -125,7 +125,7 @@ module _ {calls : List Call} {parts : List Part} {places : List ℕ} {within : B
     pub holds : Holds calls (slice_set parts place p) rest within next
     pub answers : close_newest f ≡ Becomes next
 
-  with_kind : (k : PartKind) (n : ℕ) → IsKept (length calls) k → IsKept (length calls) (with_holds k n)
+  with_kind : (k : PartKind) (n : ℕ) → IsKeptCall (length calls) k → IsKeptCall (length calls) (with_holds k n)
   with_kind (kind.Single single) n i = tt
   with_kind (kind.Named at) n i = i
   with_kind (kind.Text held) n i = tt
@@ -164,7 +164,7 @@ module _ {calls : List Call} {parts : List Part} {places : List ℕ} {within : B
         next = next;
         holds = record {
           is = subst (λ (ps : List SeenPart). Is ps rest within next) (sym (map-set (seen_part calls) parts place p)) (is_closed rest place (seen_part calls d) q h.is e now);
-          kept = kept_set (length calls) parts place p h.kept (subst (λ (x : Part). IsKept (length calls) x.kind) (sym same) (with_kind old.kind (length parts - place - 1) (kept_get (length calls) parts place d h.kept lt)));
+          kept = kept_set (length calls) parts place p h.kept (subst (λ (x : Part). IsKeptCall (length calls) x.kind) (sym same) (with_kind old.kind (length parts - place - 1) (kept_get (length calls) parts place d h.kept lt)));
         };
         answers = closes rest place (seen_part calls d) q h.is e now;
       }
@@ -176,19 +176,19 @@ seen_at calls [] i p h e = absurd (omega arith)
 seen_at calls (q ∷ parts) zero p h e = ap (seen_part calls) e
 seen_at calls (q ∷ parts) (suc i) p h e = seen_at calls parts i p (omega arith) e
 
-pub kept_at : (n : ℕ) (parts : List Part) (i : ℕ) (p : Part) → AllKept n parts → i < length parts → p ≡ get_or parts i p → IsKept n p.kind
+pub kept_at : (n : ℕ) (parts : List Part) (i : ℕ) (p : Part) → AllKept n parts → i < length parts → p ≡ get_or parts i p → IsKeptCall n p.kind
 kept_at n [] i p k h e = absurd (omega arith)
-kept_at n (q ∷ parts) zero p k h e = subst (λ (x : Part). IsKept n x.kind) (sym e) k.0
+kept_at n (q ∷ parts) zero p k h e = subst (λ (x : Part). IsKeptCall n x.kind) (sym e) k.0
 kept_at n (q ∷ parts) (suc i) p k h e = kept_at n parts i p k.1 (omega arith) e
 
 -- each part as the flat list has it, in one step and in two
-flat_again : (calls : List Call) (parts : List Part) → map (stored_part calls) parts ≡ map stored (seen_parts calls parts)
+flat_again : (calls : List Call) (parts : List Part) → map (stored_part calls) parts ≡ map flat_part_of (seen_parts calls parts)
 flat_again calls [] = refl
 flat_again calls (p ∷ parts) = ap (λ xs. stored_part calls p ∷ xs) (flat_again calls parts)
 
 -- the place of the container around a part, by both
-pub outer_again : {o h place : Option ℕ} (calls : List Call) (parts : List Part) → o ≡ outer_of (map (stored_part calls) parts) h → h ≡ place → o ≡ outer_of (map stored (seen_parts calls parts)) place
-outer_again {h = h} calls parts outer held = outer ∙ ap (λ xs. outer_of xs h) (flat_again calls parts) ∙ ap (outer_of (map stored (seen_parts calls parts))) held
+pub outer_again : {o h place : Option ℕ} (calls : List Call) (parts : List Part) → o ≡ outer_of (map (stored_part calls) parts) h → h ≡ place → o ≡ outer_of (map flat_part_of (seen_parts calls parts)) place
+outer_again {h = h} calls parts outer held = outer ∙ ap (λ xs. outer_of xs h) (flat_again calls parts) ∙ ap (outer_of (map flat_part_of (seen_parts calls parts))) held
 
 pub seen_length : (calls : List Call) (parts : List Part) → length (seen_parts calls parts) ≡ length parts
 seen_length calls parts = length-map parts (seen_part calls)
@@ -204,9 +204,9 @@ no_places nodes spine k = rw k refl
 -- a forest without a part is kept by no part
 pub no_part_kept : {calls : List Call} {parts : List Part} {places : List ℕ} {within : Bool} {f : Forest} → Holds calls parts places within f → HoldsNoPart f → parts ≡ []
 no_part_kept {calls} {parts} {f = f} h bare =
-    let e : map stored (seen_parts calls parts) ≡ [] = (tells_it h.is).parts_are ∙ no_flat f.nodes f.spine bare.no_nodes bare.no_spine in
-    let n : length (map stored (seen_parts calls parts)) ≡ 0 = ap (λ xs. length xs) e in
-    nothing parts (omega (arith, n, length-map (seen_parts calls parts) stored, length-map parts (seen_part calls)))
+    let e : map flat_part_of (seen_parts calls parts) ≡ [] = (tells_it h.is).parts_are ∙ no_flat f.nodes f.spine bare.no_nodes bare.no_spine in
+    let n : length (map flat_part_of (seen_parts calls parts)) ≡ 0 = ap (λ xs. length xs) e in
+    nothing parts (omega (arith, n, length-map (seen_parts calls parts) flat_part_of, length-map parts (seen_part calls)))
 
 -- and by no place of a container without an end
 pub no_place_kept : {calls : List Call} {parts : List Part} {places : List ℕ} {within : Bool} {f : Forest} → Holds calls parts places within f → HoldsNoPart f → places ≡ []

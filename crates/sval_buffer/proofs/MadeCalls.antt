@@ -8,7 +8,7 @@ use Rattle.sval_core.specs.Law.{Standing}
 use Rattle.sval_buffer.specs.Forest.{Forest, CaptureAnswer, Becomes, Rejects, Holds, RefusedAt, empty_forest, take, forest, forest_from}
 use Rattle.sval_buffer.specs.Capture.{Capture, no_calls, IsAccepted, forest_by, capture_law, capture_standing}
 use Rattle.sval_buffer.specs.CapturedValues.{SpellsAgain}
-use Rattle.sval_buffer.specs.MadeCalls.{Made, taken, refused, AnswersMade, AnswersEach, if_taken, taken_calls, StandsAfter, LastRefused}
+use Rattle.sval_buffer.specs.MadeCalls.{Made, taken_call, refused_call, AnswersMade, AnswersEach, if_taken, taken_calls, StandsAfter, LastRefused}
 use Rattle.sval_buffer.specs.declared.error.ErrorKind.{ErrorKind}
 use Rattle.sval_buffer.proofs.Collecting.{keeps_tree}
 
@@ -43,7 +43,7 @@ keeps_taken made new tree stands = keeps_tree (record { calls = taken_calls made
 
 -- all calls were taken, and the last refusal is the old one; or it is that of a call among them
 abbrev Kept : Forest → ℕ → List Made → Option ErrorKind → Option ErrorKind → Type 0
-Kept start n made before now = ((made ≡ map taken (taken_calls made)) × (now ≡ before)) ⊎ ((why : ErrorKind) × (now ≡ Some why) × LastRefused start n made why)
+Kept start n made before now = ((made ≡ map taken_call (taken_calls made)) × (now ≡ before)) ⊎ ((why : ErrorKind) × (now ≡ Some why) × LastRefused start n made why)
 
 -- one call in front of those of which one was refused
 refused_later : (is : Bool) (call : Call) (later : List Made) (n : ℕ) (old next : Standing Capture) (why : ErrorKind) → AnswersMade capture_law old is call next
@@ -59,14 +59,14 @@ refused_later is call later n old next why answer last = record {
 }
 
 -- a refused call in front of those that were all taken
-refused_here : (call : Call) (later : List Made) (n : ℕ) (old next : Standing Capture) (answer : AnswersMade capture_law old false call next) → later ≡ map taken (taken_calls later)
-    → LastRefused old.view.forest n (refused call ∷ later) answer.left.why
+refused_here : (call : Call) (later : List Made) (n : ℕ) (old next : Standing Capture) (answer : AnswersMade capture_law old false call next) → later ≡ map taken_call (taken_calls later)
+    → LastRefused old.view.forest n (refused_call call ∷ later) answer.left.why
 unfolding forest_from
 refused_here call later n old next answer all = record {
   before = [];
   call = call;
   later = taken_calls later;
-  made_are = ap (λ (ms : List Made). refused call ∷ ms) all;
+  made_are = ap (λ (ms : List Made). refused_call call ∷ ms) all;
   held = old.view.forest;
   before_leave = refl;
   cause = answer.left.cause;
@@ -75,7 +75,7 @@ refused_here call later n old next answer all = record {
 kept_by_one : (is : Bool) (call : Call) (later : List Made) (n : ℕ) (old next : Standing Capture) (now : Option ErrorKind) → AnswersMade capture_law old is call next
     → Kept next.view.forest (next_number is n) later next.view.refusal now → Kept old.view.forest n (record { call = call; taken = is } ∷ later) old.view.refusal now
 kept_by_one true call later n old next now answer (inl all) =
-    inl (ap (λ (ms : List Made). taken call ∷ ms) all.0, all.1 ∙ ap (λ (c : Capture). c.refusal) answer.view)
+    inl (ap (λ (ms : List Made). taken_call call ∷ ms) all.0, all.1 ∙ ap (λ (c : Capture). c.refusal) answer.view)
 kept_by_one false call later n old next now answer (inl all) =
     inr (answer.left.why, all.1 ∙ answer.left.refusal, refused_here call later n old next answer all.0)
 kept_by_one is call later n old next now answer (inr kept) = inr (kept.0, kept.1, refused_later is call later n old next kept.0 answer kept.2)

@@ -5,7 +5,7 @@ use Rattle.sval_label.specs.Calls.{Call}
 use Rattle.sval_buffer.specs.Forest.{Single, Forest, add, begun}
 use Rattle.sval_buffer.specs.Flat as flat
 use Rattle.sval_buffer.specs.Flat.{flat_part}
-use Rattle.sval_buffer.specs.SeenNames.{Extends, Keeps}
+use Rattle.sval_buffer.specs.SeenNames.{Extends, KeepsNamedCall}
 use Rattle.sval_buffer.specs.declared.part.Part.{Part}
 use Rattle.sval_buffer.specs.declared.part.PartKind.TheVariants as kind
 use Rattle.sval_buffer.proofs.KeptParts.{Holds, holds_extended, holds_added, holds_begun}
@@ -18,7 +18,7 @@ abbrev pub named_container : ℕ → Option ℕ → Part
 named_container at holder = record { kind = kind.NamedContainer at 0; holder = holder }
 
 module _ {calls now : List Call} {parts : List Part} {places : List ℕ} {within : Bool} {f : Forest} (h : Holds calls parts places within f)
-    {call : Call} {at : ℕ} {o : Option ℕ} (extends : Extends calls now) (keeps : Keeps now at call) (held : o ≡ slice_get places (length places - 1)) where
+    {call : Call} {at : ℕ} {o : Option ℕ} (extends : Extends calls now) (keeps : KeepsNamedCall now at call) (held : o ≡ slice_get places (length places - 1)) where
   pub holds_single : Holds now (parts ++ (named_part at o ∷ [])) places within (add (Single call) f)
   holds_single =
       holds_added (holds_extended h extends) (named_part at o) (Single call) (ap (λ x. flat_part (flat.One x) 0 ∷ []) (sym keeps.is)) (λ place k. refl) held keeps.within

@@ -7,7 +7,7 @@ use Rattle.sval_core.specs.Law.{computed}
 use Rattle.sval_buffer.specs.declared.kept.NamedCall.{NamedCall}
 use Rattle.sval_buffer.specs.declared.named.NamedKind.{NamedKind}
 use Rattle.sval_buffer.specs.declared.named.NamedKind.TheVariants as kind
-use Rattle.sval_buffer.specs.SeenNames.{kept_name, kept_call, named_call}
+use Rattle.sval_buffer.specs.SeenNames.{stored_name, kept_call, named_call}
 
 name_stays : (k : NamedKind) (tag : Option calls.Tag) (label : Option calls.Label) (index : Option calls.Index)
     → let name : calls.Name = record { tag = tag; label = label; index = index } in computed (named_call k name) ≡ named_call k name
@@ -22,7 +22,7 @@ name_stays (kind.Part slot) tag label index = refl
 names_stay : (texts : List ℕ) (kept : List NamedCall) → map computed (map (kept_call texts) kept) ≡ map (kept_call texts) kept
 names_stay texts [] = refl
 names_stay texts (call ∷ kept) =
-    let name = kept_name texts call in
+    let name = stored_name texts call in
     rw (name_stays call.kind name.tag name.label name.index, names_stay texts kept) refl
 
 -- as the buffer's calls are seen

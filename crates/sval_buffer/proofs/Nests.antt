@@ -10,8 +10,8 @@ use Rattle.sval_buffer.specs.Flat.{FlatKind, FlatPart, flat_part}
 use Rattle.sval_buffer.proofs.BuiltBack.{some_parts}
 use Rattle.sval_buffer.specs.Flat.{flat_node, flat_row, flat_spine}
 use Rattle.sval_buffer.specs.Holders.{holders, holders_node, holders_row, holders_spine, newest_place}
-use Rattle.sval_buffer.specs.SeenParts.{SeenPart, stored, TellsForest}
-use Rattle.sval_buffer.specs.Nested.{Going, still, opens, top, outer_at, outer_of, Nested, IsNested}
+use Rattle.sval_buffer.specs.SeenParts.{SeenPart, flat_part_of, TellsForest}
+use Rattle.sval_buffer.specs.Nested.{Going, still, opens_part, newest_place_of, outer_at, outer_of, Nested, IsNested}
 
 -- ---- places in the whole list
 
@@ -69,11 +69,11 @@ module _ (whole : List FlatPart) where
   moved : (i j : ℕ) (gs : List Going) (parts : List FlatPart) (hs : List (Option ℕ)) → i ≡ j → Nested whole i gs parts hs → Nested whole j gs parts hs
   moved i j gs parts hs e n = subst (λ k. Nested whole k gs parts hs) e n
 
-  nested-leaf : (i k : ℕ) (gs : List Going) (p : FlatPart) (h : Option ℕ) (more : List FlatPart) (hs : List (Option ℕ)) → 0 < k → Fits i k gs → outer_of whole h ≡ top gs
-      → Nested whole (i + 1) (opens i p.holds p.kind gs) more hs → Nested whole i gs (p ∷ more) (h ∷ hs)
+  nested-leaf : (i k : ℕ) (gs : List Going) (p : FlatPart) (h : Option ℕ) (more : List FlatPart) (hs : List (Option ℕ)) → 0 < k → Fits i k gs → outer_of whole h ≡ newest_place_of gs
+      → Nested whole (i + 1) (opens_part i p.holds p.kind gs) more hs → Nested whole i gs (p ∷ more) (h ∷ hs)
   nested-leaf i k gs p h more hs some f held rest =
       let e = still_fits i k gs some f in
-      (held ∙ ap top (sym e), subst (λ xs. Nested whole (i + 1) (opens i p.holds p.kind xs) more hs) (sym e) rest)
+      (held ∙ ap newest_place_of (sym e), subst (λ xs. Nested whole (i + 1) (opens_part i p.holds p.kind xs) more hs) (sym e) rest)
 
   nested-ended : (i : ℕ) (newest : Going) (older : List Going) (parts : List FlatPart) (hs : List (Option ℕ)) → newest.pending.stop ≤ i → Nested whole i older parts hs → Nested whole i (newest ∷ older) parts hs
   nested-ended i newest older [] hs h n = (h, n)
@@ -81,7 +81,7 @@ module _ (whole : List FlatPart) where
   nested-ended i newest older (p ∷ parts) (k ∷ hs) h n =
       let e : nat_le newest.pending.stop i ≡ true = grind (arith, nat_tests) in
       let s : still i older ≡ still i (newest ∷ older) = rw e refl in
-      subst (λ xs. (outer_of whole k ≡ top xs) × Nested whole (i + 1) (opens i p.holds p.kind xs) parts hs) s n
+      subst (λ xs. (outer_of whole k ≡ newest_place_of xs) × Nested whole (i + 1) (opens_part i p.holds p.kind xs) parts hs) s n
 
   abbrev gone : ℕ → Call → ℕ → Going
   gone i begin n = record { place = i; pending = record { stop = i + 1 + n; end = end_of begin } }
@@ -90,7 +90,7 @@ module _ (whole : List FlatPart) where
   held_here i n begin rest at h = let e : (n == 0) ≡ false = grind (arith, nat_tests) in outer_is at ∙ rw e refl
 
   mutual
-    nested-node : (i : ℕ) (gs : List Going) (node : Node) (h : Option ℕ) (more : List FlatPart) (hs : List (Option ℕ)) → At whole i (flat_node node ++ more) → Fits i (length (flat_node node)) gs → outer_of whole h ≡ top gs
+    nested-node : (i : ℕ) (gs : List Going) (node : Node) (h : Option ℕ) (more : List FlatPart) (hs : List (Option ℕ)) → At whole i (flat_node node ++ more) → Fits i (length (flat_node node)) gs → outer_of whole h ≡ newest_place_of gs
         → Nested whole (i + length (flat_node node)) gs more hs → Nested whole i gs (flat_node node ++ more) (holders_node i h node ++ hs)
     nested-node i gs (Single call) h more hs at f held n = nested-leaf i 1 gs (flat_part (flat.One call) 0) h more hs (omega arith) f held n
     nested-node i gs (Text text) h more hs at f held n = nested-leaf i 1 gs (flat_part (flat.Words text) 0) h more hs (omega arith) f held n
@@ -104,7 +104,7 @@ module _ (whole : List FlatPart) where
         (nested-ended (i + 1 + k) (gone i begin k) gs more hs (omega arith) (moved (i + suc k) (i + 1 + k) gs more hs (omega arith) n)))
 
     nested-row : (i : ℕ) (gs : List Going) (nodes : Nodes) (h : Option ℕ) (more : List FlatPart) (hs : List (Option ℕ)) → At whole i (flat_row nodes ++ more) → Fits i (length (flat_row nodes)) gs
-        → (0 < length (flat_row nodes) → outer_of whole h ≡ top gs)
+        → (0 < length (flat_row nodes) → outer_of whole h ≡ newest_place_of gs)
         → Nested whole (i + length (flat_row nodes)) gs more hs → Nested whole i gs (flat_row nodes ++ more) (holders_row i h nodes ++ hs)
     nested-row i gs none h more hs at f held n = moved (i + 0) i gs more hs (omega arith) n
     nested-row i gs (nodes and node) h more hs at f held n =
@@ -114,7 +114,7 @@ module _ (whole : List FlatPart) where
         let k = length b in
         let count : length (a ++ b) ≡ m + k = length-append a b in
         let some = some_parts node in
-        let top_is : outer_of whole h ≡ top gs = held (omega arith) in
+        let top_is : outer_of whole h ≡ newest_place_of gs = held (omega arith) in
         let here : At whole i (a ++ (b ++ more)) = at_same (append_assoc a b more) at in
         let there : At whole (i + m) (b ++ more) = at_later a (b ++ more) here in
         let last = moved (i + length (a ++ b)) (i + m + k) gs more hs (omega arith) n in
@@ -174,5 +174,5 @@ nested-flat f =
 -- and so of the parts that tell a forest
 pub tells_nested : (parts : List SeenPart) (places : List ℕ) (f : Forest) → TellsForest parts places f → IsNested parts
 tells_nested parts places f t =
-    subst (λ ks. Nested (map stored parts) 0 [] (map stored parts) ks) (sym t.holders_are)
+    subst (λ ks. Nested (map flat_part_of parts) 0 [] (map flat_part_of parts) ks) (sym t.holders_are)
     (subst (λ xs. Nested xs 0 [] xs (holders f)) (sym t.parts_are) (nested-flat f))

@@ -19,7 +19,7 @@ use Rattle.sval_buffer.specs.declared.part.Begin.TheVariants as begin
 use Rattle.sval_buffer.specs.declared.part.PartKind.{PartKind}
 use Rattle.sval_buffer.specs.declared.part.PartKind.TheVariants as kind
 use Rattle.sval_buffer.specs.declared.part.Part.{Part}
-use Rattle.sval_buffer.specs.SeenParts.{SeenPart, stored, holder, single_call, begin_call, flat_kind, holds_of, seen_part, seen_parts, IsKept, AllKept, TellsForest}
+use Rattle.sval_buffer.specs.SeenParts.{SeenPart, flat_part_of, holder, single_call, begin_call, flat_kind, holds_of, seen_part, seen_parts, IsKeptCall, AllKept, TellsForest}
 use Rattle.sval_buffer.specs.Owned.{owned_kind, owned_part, owned}
 use Rattle.sval_buffer.proofs.Steps.{is_told, tells_it, within_it}
 use Rattle.sval_buffer.proofs.KeptParts.{Holds}
@@ -73,7 +73,7 @@ module _ (calls : List Call) (names : map computed calls ≡ calls) where
   holds_again (kind.Container b holds) = refl
   holds_again (kind.NamedContainer at holds) = refl
 
-  stored_owned : (parts : List Part) → map stored (seen_parts calls (map owned_part parts)) ≡ map owned_flat (map stored (seen_parts calls parts))
+  stored_owned : (parts : List Part) → map flat_part_of (seen_parts calls (map owned_part parts)) ≡ map owned_flat (map flat_part_of (seen_parts calls parts))
   stored_owned [] = refl
   stored_owned (p ∷ parts) = rw (kind_owned p.kind, holds_again p.kind, stored_owned parts) refl
 
@@ -85,7 +85,7 @@ module _ (calls : List Call) (names : map computed calls ≡ calls) where
   kept_again n [] kept = tt
   kept_again n (p ∷ parts) (first, rest) = (go p.kind first, kept_again n parts rest)
     where
-      go : (k : PartKind) → IsKept n k → IsKept n (owned_kind k)
+      go : (k : PartKind) → IsKeptCall n k → IsKeptCall n (owned_kind k)
       go (kind.Single s) h = tt
       go (kind.Named at) h = h
       go (kind.Text held) h = tt

@@ -9,7 +9,7 @@ use Rattle.sval_buffer.specs.Capture.{Captures, error_of}
 use Rattle.sval_buffer.specs.declared.error.ErrorKind.{ErrorKind}
 use Rattle.sval_buffer.specs.declared.part.Medium.{Medium}
 use Rattle.sval_buffer.specs.declared.part.Part.{Part}
-use Rattle.sval_buffer.specs.SeenParts.{seen_part, seen_parts, told, IsKept, AllKept, FragmentPushes, PartsTell}
+use Rattle.sval_buffer.specs.SeenParts.{seen_part, seen_parts, told, IsKeptCall, AllKept, FragmentPushes, PartsTell}
 use Rattle.sval_buffer.proofs.Steps.{Is}
 use Rattle.sval_buffer.proofs.PushSteps.{EndsIn, ends_in, set-last, pushes_by, pushes_nothing}
 use Rattle.sval_buffer.proofs.KeptParts.{Holds, tell, seen_length}
@@ -32,7 +32,7 @@ is_zero : (n : ℕ) → (0 < n → false ≡ true) → n ≡ 0
 is_zero zero none = refl
 is_zero (suc n) none = let e : false ≡ true = none (omega arith) in cc e
 
-kept_last : (n : ℕ) (front : List Part) (last next : Part) → (IsKept n last.kind → IsKept n next.kind) → AllKept n (front ++ (last ∷ [])) → AllKept n (front ++ (next ∷ []))
+kept_last : (n : ℕ) (front : List Part) (last next : Part) → (IsKeptCall n last.kind → IsKeptCall n next.kind) → AllKept n (front ++ (last ∷ [])) → AllKept n (front ++ (next ∷ []))
 kept_last n [] last next g k = (g k.0, tt)
 kept_last n (p ∷ front) last next g k = (k.0, kept_last n front last next g k.1)
 
@@ -41,7 +41,7 @@ module _ {calls : List Call} {parts : List Part} {places : List ℕ} {within : B
   abbrev pub HoldsPushed : List Part → Result (Unit {0}) ErrorKind → Type 0
   HoldsPushed now r = HoldsBy calls now places within f (fragment_may_grow medium fragment.borrowed f) (push_into medium fragment f) r
 
-  pushed_at_end : (last next : Part) (r : Result (Unit {0}) ErrorKind) (ends : EndsIn parts last) → (IsKept (length calls) last.kind → IsKept (length calls) next.kind)
+  pushed_at_end : (last next : Part) (r : Result (Unit {0}) ErrorKind) (ends : EndsIn parts last) → (IsKeptCall (length calls) last.kind → IsKeptCall (length calls) next.kind)
       → FragmentPushes medium (seen_part calls last) fragment r (seen_part calls next) → HoldsPushed (ends.front ++ (next ∷ [])) r
   pushed_at_end last next r ends still p =
       let seen_ends : EndsIn (seen_parts calls parts) (seen_part calls last) =
@@ -58,7 +58,7 @@ module _ {calls : List Call} {parts : List Part} {places : List ℕ} {within : B
 
   -- the last part of n answers a fragment
   pub last_pushed : (n : ℕ) (last next : Part) (r : Result (Unit {0}) ErrorKind) → n ≡ length parts → 0 < n → last ≡ slice_index_or parts (n - 1) last
-      → (IsKept (length calls) last.kind → IsKept (length calls) next.kind) → FragmentPushes medium (seen_part calls last) fragment r (seen_part calls next)
+      → (IsKeptCall (length calls) last.kind → IsKeptCall (length calls) next.kind) → FragmentPushes medium (seen_part calls last) fragment r (seen_part calls next)
       → HoldsPushed (slice_set parts (n - 1) next) r
   last_pushed n last next r count some is still p =
       let ends : EndsIn parts last = ends_in parts last (omega arith) (is ∙ ap (λ k. slice_index_or parts (k - 1) last) count) in

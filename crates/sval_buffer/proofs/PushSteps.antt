@@ -11,7 +11,7 @@ use Rattle.sval_buffer.specs.declared.part.Medium.{Medium}
 use Rattle.sval_buffer.specs.declared.part.Medium.TheVariants as media
 use Rattle.sval_buffer.specs.FlatForest.{open_places}
 use Rattle.sval_buffer.specs.Holders.{holders, holders_node, holders_row, holders_spine, newest_place}
-use Rattle.sval_buffer.specs.SeenParts.{SeenPart, stored, holder, TellsForest, Pushed, FragmentPushes, IsPushCause}
+use Rattle.sval_buffer.specs.SeenParts.{SeenPart, flat_part_of, holder, TellsForest, Pushed, FragmentPushes, IsPushCause}
 use Rattle.sval_buffer.specs.declared.error.ErrorKind.{ErrorKind}
 use Rattle.sval_buffer.specs.Capture.{Captures, IsCaptureCause, error_of}
 use Rattle.sval_buffer.proofs.Flat.{map_map, push-flat, held_flat, held_flat-append, held-flat}
@@ -87,17 +87,17 @@ module _ (medium : Medium) (fragment : HeldBytes) where
   module _ {parts : List SeenPart} {places : List ℕ} {within : Bool} {f : Forest} (last : SeenPart) (is : Is parts places within f) (ends : EndsIn parts last) where
     -- what the flat list makes of it
     flat-pushed : option_map (λ row. flat.flat (with_row row f.nodes f.spine f.in_fragments)) (push_last medium fragment (newest_row f.nodes f.spine))
-        ≡ option_map (λ k. map stored ends.front ++ (flat_part k last.holds ∷ [])) (flat.push_part medium fragment last.kind)
+        ≡ option_map (λ k. map flat_part_of ends.front ++ (flat_part k last.holds ∷ [])) (flat.push_part medium fragment last.kind)
     flat-pushed =
         push-flat medium fragment f.nodes f.spine f.in_fragments
-        ∙ ap (push_flat medium fragment) (sym (tells_it is).parts_are ∙ ap (map stored) ends.parts_are ∙ map-append stored ends.front (last ∷ []))
-        ∙ push-last (map stored ends.front) (stored last)
+        ∙ ap (push_flat medium fragment) (sym (tells_it is).parts_are ∙ ap (map flat_part_of) ends.parts_are ∙ map-append flat_part_of ends.front (last ∷ []))
+        ∙ push-last (map flat_part_of ends.front) (flat_part_of last)
 
     abbrev answer : CaptureAnswer
     answer = row_or (outside medium) f (push_last medium fragment (newest_row f.nodes f.spine))
 
     pub push_refused : flat.push_part medium fragment last.kind ≡ None → answer ≡ Rejects (outside medium)
-    push_refused none_is = go (push_last medium fragment (newest_row f.nodes f.spine)) (flat-pushed ∙ ap (option_map (λ k. map stored ends.front ++ (flat_part k last.holds ∷ []))) none_is)
+    push_refused none_is = go (push_last medium fragment (newest_row f.nodes f.spine)) (flat-pushed ∙ ap (option_map (λ k. map flat_part_of ends.front ++ (flat_part k last.holds ∷ []))) none_is)
       where
         go : (o : Option Nodes) → option_map (λ row. flat.flat (with_row row f.nodes f.spine f.in_fragments)) o ≡ None → row_or (outside medium) f o ≡ Rejects (outside medium)
         go None e = refl
@@ -106,15 +106,15 @@ module _ (medium : Medium) (fragment : HeldBytes) where
     pub record Pushes (kind : FlatKind) : Type 0 where
       pub row : Nodes
       pub row_is : push_last medium fragment (newest_row f.nodes f.spine) ≡ Some row
-      pub flat_is : flat.flat (with_row row f.nodes f.spine f.in_fragments) ≡ map stored ends.front ++ (flat_part kind last.holds ∷ [])
+      pub flat_is : flat.flat (with_row row f.nodes f.spine f.in_fragments) ≡ map flat_part_of ends.front ++ (flat_part kind last.holds ∷ [])
 
     pub push_taken : (kind : FlatKind) → flat.push_part medium fragment last.kind ≡ Some kind → Pushes kind
-    push_taken kind some = go (push_last medium fragment (newest_row f.nodes f.spine)) refl (flat-pushed ∙ ap (option_map (λ k. map stored ends.front ++ (flat_part k last.holds ∷ []))) some)
+    push_taken kind some = go (push_last medium fragment (newest_row f.nodes f.spine)) refl (flat-pushed ∙ ap (option_map (λ k. map flat_part_of ends.front ++ (flat_part k last.holds ∷ []))) some)
       where
         go : (o : Option Nodes) → push_last medium fragment (newest_row f.nodes f.spine) ≡ o
-            → option_map (λ row. flat.flat (with_row row f.nodes f.spine f.in_fragments)) o ≡ Some (map stored ends.front ++ (flat_part kind last.holds ∷ [])) → Pushes kind
+            → option_map (λ row. flat.flat (with_row row f.nodes f.spine f.in_fragments)) o ≡ Some (map flat_part_of ends.front ++ (flat_part kind last.holds ∷ [])) → Pushes kind
         go None e g = cc g
-        go (Some row) e g = let same : flat.flat (with_row row f.nodes f.spine f.in_fragments) ≡ map stored ends.front ++ (flat_part kind last.holds ∷ []) = cc g in
+        go (Some row) e g = let same : flat.flat (with_row row f.nodes f.spine f.in_fragments) ≡ map flat_part_of ends.front ++ (flat_part kind last.holds ∷ []) = cc g in
             record { row = row; row_is = e; flat_is = same }
 
     pub is_pushed : (next : SeenPart) (p : Pushed (flat.push_part medium fragment last.kind) last next) → let o = push_taken next.kind p.kind in Is (ends.front ++ (next ∷ [])) places within (with_row o.row f.nodes f.spine f.in_fragments)
@@ -122,7 +122,7 @@ module _ (medium : Medium) (fragment : HeldBytes) where
         let o = push_taken next.kind p.kind in
         let g = with_row o.row f.nodes f.spine f.in_fragments in
         let t : TellsForest (ends.front ++ (next ∷ [])) places g = record {
-          parts_are = map-append stored ends.front (next ∷ []) ∙ ap (λ holds. map stored ends.front ++ (flat_part next.kind holds ∷ [])) p.holds ∙ sym o.flat_is;
+          parts_are = map-append flat_part_of ends.front (next ∷ []) ∙ ap (λ holds. map flat_part_of ends.front ++ (flat_part next.kind holds ∷ [])) p.holds ∙ sym o.flat_is;
           places_are = (tells_it is).places_are ∙ sym (open-push f.nodes f.spine f.in_fragments o.row o.row_is);
           holders_are = map-append holder ends.front (next ∷ []) ∙ ap (λ h. map holder ends.front ++ (h ∷ [])) p.holder ∙ sym (map-append holder ends.front (last ∷ [])) ∙ ap (map holder) (sym ends.parts_are)
               ∙ (tells_it is).holders_are ∙ sym (holders-push f.nodes f.spine f.in_fragments o.row o.row_is);
@@ -137,7 +137,7 @@ module _ (medium : Medium) (fragment : HeldBytes) where
       → row_or (outside medium) f (push_last medium fragment (newest_row f.nodes f.spine)) ≡ Rejects (outside medium)
   push_nothing {parts} {f = f} is h =
       let e = nothing parts h in
-      go (push_last medium fragment (newest_row f.nodes f.spine)) (push-flat medium fragment f.nodes f.spine f.in_fragments ∙ ap (push_flat medium fragment) (sym (ap (map stored) (sym e) ∙ (tells_it is).parts_are)))
+      go (push_last medium fragment (newest_row f.nodes f.spine)) (push-flat medium fragment f.nodes f.spine f.in_fragments ∙ ap (push_flat medium fragment) (sym (ap (map flat_part_of) (sym e) ∙ (tells_it is).parts_are)))
     where
       go : (o : Option Nodes) → option_map (λ row. flat.flat (with_row row f.nodes f.spine f.in_fragments)) o ≡ None → row_or (outside medium) f o ≡ Rejects (outside medium)
       go None e = refl
@@ -148,8 +148,8 @@ module _ (medium : Medium) (fragment : HeldBytes) where
       → held_last medium (newest_row f.nodes f.spine) ≡ flat.held_part medium last.kind
   last-held {f = f} last is ends =
       held-flat medium f.nodes f.spine
-      ∙ ap (held_flat medium) (sym (tells_it is).parts_are ∙ ap (map stored) ends.parts_are ∙ map-append stored ends.front (last ∷ []))
-      ∙ held_flat-append medium (map stored ends.front) (stored last) []
+      ∙ ap (held_flat medium) (sym (tells_it is).parts_are ∙ ap (map flat_part_of) ends.parts_are ∙ map-append flat_part_of ends.front (last ∷ []))
+      ∙ held_flat-append medium (map flat_part_of ends.front) (flat_part_of last) []
 
   -- what a part answers to a fragment, the whole buffer answers
   pub record PushesBy (parts : List SeenPart) (places : List ℕ) (within : Bool) (f : Forest) (r : Result (Unit {0}) ErrorKind) : Type 0 where

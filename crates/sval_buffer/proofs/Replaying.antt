@@ -12,10 +12,10 @@ use Rattle.sval_core.proofs.Emissions.{streams_one, stops_one, streams_then, sto
 use Rattle.sval_buffer.specs.Forest.{Forest, null_for_none, replayed}
 use Rattle.sval_buffer.specs.Flat as flat
 use Rattle.sval_buffer.specs.Flat.{FlatKind, FlatPart, flat_part}
-use Rattle.sval_buffer.specs.Replay.{Pending, ended, going, all_ends, head_calls, opened, pass}
+use Rattle.sval_buffer.specs.Replay.{Pending, end_calls_before, going, all_ends, head_calls, opened, pass}
 use Rattle.sval_core.specs.Values.{makes}
-use Rattle.sval_buffer.specs.SeenParts.{SeenPart, stored, holder, TellsForest}
-use Rattle.sval_buffer.specs.Nested.{Going, pendings, still, opens, top, outer_of, IsBelow, Link, Linked, Nested, AllStop, end_calls, is_holder, MakesEnds, EndsBefore}
+use Rattle.sval_buffer.specs.SeenParts.{SeenPart, flat_part_of, holder, TellsForest}
+use Rattle.sval_buffer.specs.Nested.{Going, pendings, still, opens_part, newest_place_of, outer_of, IsBelow, Link, Linked, Nested, AllStop, ends_of_part, is_holder, MakesEnds, EndsAreMade}
 
 -- ---- one list of calls after another
 
@@ -58,7 +58,7 @@ pub record IsWalked {V : Type 0} (law : Law V) (old now : Standing V) (parts : L
   pub rest : List Going
   pub done : List Call
   pub linked : Linked parts at rest
-  pub ended_is : ended place (pendings gs) ≡ done ++ ended place (pendings rest)
+  pub ended_is : end_calls_before place (pendings gs) ≡ done ++ end_calls_before place (pendings rest)
   pub still_is : still place gs ≡ still place rest
   pub streams : Streams law old (makes done) now
 
@@ -69,7 +69,7 @@ pub record Newest (parts : List SeenPart) (at : ℕ) (rest : List Going) : Type 
   pub rest_is : rest ≡ newest ∷ older
   pub place_is : newest.place ≡ at
   pub link : Link parts (Some at) newest
-  pub linked : Linked parts (outer_of (map stored parts) link.part.holder) older
+  pub linked : Linked parts (outer_of (map flat_part_of parts) link.part.holder) older
 
 pub newest_of : (parts : List SeenPart) (at : ℕ) (rest : List Going) → Linked parts (Some at) rest → Newest parts at rest
 newest_of parts at [] l = cc l
@@ -98,7 +98,7 @@ module _ {V : Type 0} {law : Law V} {old now : Standing V} {parts : List SeenPar
   pub walk-none : (w : IsWalked law old now parts place None gs) → MakesEnds law parts place gs old None now
   walk-none w = go w.rest w.linked w.ended_is w.still_is
     where
-      go : (rest : List Going) → Linked parts None rest → ended place (pendings gs) ≡ w.done ++ ended place (pendings rest) → still place gs ≡ still place rest
+      go : (rest : List Going) → Linked parts None rest → end_calls_before place (pendings gs) ≡ w.done ++ end_calls_before place (pendings rest) → still place gs ≡ still place rest
           → MakesEnds law parts place gs old None now
       go [] l e s = record { streams = subst (λ calls. Streams law old (makes calls) now) (sym (e ∙ append-nil w.done)) w.streams; linked = subst (Linked parts None) (sym s) refl }
       go (newest ∷ older) l e s = let never = l.0.at in cc never
@@ -111,7 +111,7 @@ module _ {V : Type 0} {law : Law V} {old now : Standing V} {parts : List SeenPar
       let stop : n.newest.pending.stop ≡ at + 1 + p.holds =
       ap (λ (x : Pending). x.stop) n.link.pending ∙ ap (λ k. k + 1 + n.link.part.holds) n.place_is ∙ ap (λ (x : SeenPart). at + 1 + x.holds) (newest_part parts at w.rest w.linked p same) in
       let e : nat_le n.newest.pending.stop place ≡ false = grind (arith, nat_tests) in
-      let none_ends : ended place (pendings w.rest) ≡ [] = ap (λ gs. ended place (pendings gs)) n.rest_is ∙ rw e refl in
+      let none_ends : end_calls_before place (pendings w.rest) ≡ [] = ap (λ gs. end_calls_before place (pendings gs)) n.rest_is ∙ rw e refl in
       let all_go : still place w.rest ≡ w.rest = ap (still place) n.rest_is ∙ rw e (sym n.rest_is) in
       record {
         streams = subst (λ calls. Streams law old (makes calls) now) (sym (w.ended_is ∙ ap (λ calls. w.done ++ calls) none_ends ∙ append-nil w.done)) w.streams;
@@ -131,32 +131,32 @@ module _ {V : Type 0} {law : Law V} {old now : Standing V} {parts : List SeenPar
         ap (λ (x : Pending). x.stop) n.link.pending ∙ ap (λ k. k + 1 + n.link.part.holds) n.place_is ∙ ap (λ (x : SeenPart). at + 1 + x.holds) part_is in
         grind (arith, nat_tests)
 
-    end_is : end_calls p.kind ≡ n.newest.pending.end ∷ []
+    end_is : ends_of_part p.kind ≡ n.newest.pending.end ∷ []
     end_is =
-        ap (λ (x : SeenPart). end_calls x.kind) (sym part_is) ∙ ap end_calls n.link.kind ∙ ap (λ (x : Pending). x.end ∷ []) (sym n.link.pending)
+        ap (λ (x : SeenPart). ends_of_part x.kind) (sym part_is) ∙ ap ends_of_part n.link.kind ∙ ap (λ (x : Pending). x.end ∷ []) (sym n.link.pending)
 
-    ends_here : ended place (pendings w.rest) ≡ end_calls p.kind ++ ended place (pendings n.older)
-    ends_here = let e = stops_here in ap (λ gs. ended place (pendings gs)) n.rest_is ∙ rw e (ap (λ calls. calls ++ ended place (pendings n.older)) (sym end_is))
+    ends_here : end_calls_before place (pendings w.rest) ≡ ends_of_part p.kind ++ end_calls_before place (pendings n.older)
+    ends_here = let e = stops_here in ap (λ gs. end_calls_before place (pendings gs)) n.rest_is ∙ rw e (ap (λ calls. calls ++ end_calls_before place (pendings n.older)) (sym end_is))
 
     still_here : still place w.rest ≡ still place n.older
     still_here = let e = stops_here in ap (still place) n.rest_is ∙ rw e refl
 
-    pub walk-step : {new : Standing V} → Streams law now (makes (end_calls p.kind)) new → IsWalked law old new parts place (outer_of (map stored parts) p.holder) gs
+    pub walk-step : {new : Standing V} → Streams law now (makes (ends_of_part p.kind)) new → IsWalked law old new parts place (outer_of (map flat_part_of parts) p.holder) gs
     walk-step t = record {
       rest = n.older;
-      done = w.done ++ end_calls p.kind;
-      linked = subst (λ (x : SeenPart). Linked parts (outer_of (map stored parts) x.holder) n.older) part_is n.linked;
-      ended_is = w.ended_is ∙ ap (λ calls. w.done ++ calls) ends_here ∙ sym (append_assoc w.done (end_calls p.kind) (ended place (pendings n.older)));
+      done = w.done ++ ends_of_part p.kind;
+      linked = subst (λ (x : SeenPart). Linked parts (outer_of (map flat_part_of parts) x.holder) n.older) part_is n.linked;
+      ended_is = w.ended_is ∙ ap (λ calls. w.done ++ calls) ends_here ∙ sym (append_assoc w.done (ends_of_part p.kind) (end_calls_before place (pendings n.older)));
       still_is = w.still_is ∙ still_here;
       streams = goes_on w.streams t;
     }
 
-    pub walk-stop : {new : Standing V} → Stops law now (makes (end_calls p.kind)) new → Stops law old (makes (ended place (pendings gs))) new
+    pub walk-stop : {new : Standing V} → Stops law now (makes (ends_of_part p.kind)) new → Stops law old (makes (end_calls_before place (pendings gs))) new
     walk-stop {new} t =
-        subst (λ calls. Stops law old (makes calls) new) (sym (w.ended_is ∙ ap (λ calls. w.done ++ calls) ends_here)) (stops_in (ended place (pendings n.older)) w.streams t)
+        subst (λ calls. Stops law old (makes calls) new) (sym (w.ended_is ∙ ap (λ calls. w.done ++ calls) ends_here)) (stops_in (end_calls_before place (pendings n.older)) w.streams t)
 
-    pub walk-below : IsBelow (outer_of (map stored parts) p.holder) at
-    walk-below = subst (λ (x : SeenPart). IsBelow (outer_of (map stored parts) x.holder) at) part_is (subst (IsBelow (outer_of (map stored parts) n.link.part.holder)) n.place_is n.link.below)
+    pub walk-below : IsBelow (outer_of (map flat_part_of parts) p.holder) at
+    walk-below = subst (λ (x : SeenPart). IsBelow (outer_of (map flat_part_of parts) x.holder) at) part_is (subst (IsBelow (outer_of (map flat_part_of parts) n.link.part.holder)) n.place_is n.link.below)
 
 -- the walk comes nearer to none
 abbrev pub steps_left : Option ℕ → ℕ
@@ -169,7 +169,7 @@ nearer (Some place) now at e h = rw e (omega arith)
 
 -- where a `?` passes on that an end was refused
 pub ends_stopped : {V : Type 0} {law : Law V} {old new : Standing V} (parts : List SeenPart) (place : ℕ) (gs : List Going) (r : Result (Option ℕ) Error) → IsErr r
-    → Stops law old (makes (ended place (pendings gs))) new → EndsBefore law parts place gs old r new
+    → Stops law old (makes (end_calls_before place (pendings gs))) new → EndsAreMade law parts place gs old r new
 ends_stopped parts place gs (Ok next) is s = cc is
 ends_stopped parts place gs (Err refusal) is s = s
 
@@ -192,15 +192,15 @@ before-still i k (newest ∷ older) b = go (nat_le newest.pending.stop i) (befor
     go true rest = rest
     go false rest = b
 
-top_below : (i : ℕ) (gs : List Going) → Before i gs → IsBelow (top gs) i
+top_below : (i : ℕ) (gs : List Going) → Before i gs → IsBelow (newest_place_of gs) i
 top_below i [] b = tt
 top_below i (newest ∷ older) b = b.0
 
-linked_top : (parts : List SeenPart) (at : Option ℕ) (gs : List Going) → Linked parts at gs → at ≡ top gs
+linked_top : (parts : List SeenPart) (at : Option ℕ) (gs : List Going) → Linked parts at gs → at ≡ newest_place_of gs
 linked_top parts at [] l = l
 linked_top parts at (newest ∷ older) l = l.0.at
 
-opens-opened : (i holds : ℕ) (kind : FlatKind) (gs : List Going) → pendings (opens i holds kind gs) ≡ opened i holds kind (pendings gs)
+opens-opened : (i holds : ℕ) (kind : FlatKind) (gs : List Going) → pendings (opens_part i holds kind gs) ≡ opened i holds kind (pendings gs)
 opens-opened i holds (flat.One call) gs = refl
 opens-opened i holds (flat.Words held) gs = refl
 opens-opened i holds (flat.Bytes held) gs = refl
@@ -212,8 +212,8 @@ pub record IsReplayed {V : Type 0} (law : Law V) (old now : Standing V) (parts :
   pub done : List Call
   pub linked : Linked parts at gs
   pub before : Before i gs
-  pub nested : Nested (map stored parts) i gs (map stored (drop i parts)) (map holder (drop i parts))
-  pub all_is : pass 0 [] (map stored parts) ≡ done ++ pass i (pendings gs) (map stored (drop i parts))
+  pub nested : Nested (map flat_part_of parts) i gs (map flat_part_of (drop i parts)) (map holder (drop i parts))
+  pub all_is : pass 0 [] (map flat_part_of parts) ≡ done ++ pass i (pendings gs) (map flat_part_of (drop i parts))
   pub streams : Streams law old (makes done) now
 
 -- where a container is opened, it is the newest, and else the newest is that of before
@@ -222,33 +222,33 @@ newest_after i kind at = if is_holder kind then Some i else at
 
 module _ {V : Type 0} {law : Law V} {old now : Standing V} {parts : List SeenPart} {i : ℕ} {at : Option ℕ} (p : SeenPart) (r : IsReplayed law old now parts i at) (lt : i < length parts) (same : p ≡ get_or parts i p) where
   abbrev more : List FlatPart
-  more = map stored (drop (i + 1) parts)
+  more = map flat_part_of (drop (i + 1) parts)
 
   abbrev ends : List Call
-  ends = ended i (pendings r.gs)
+  ends = end_calls_before i (pendings r.gs)
 
   abbrev heads : List Call
   heads = head_calls p.kind
 
   abbrev gs' : List Going
-  gs' = opens i p.holds p.kind (still i r.gs)
+  gs' = opens_part i p.holds p.kind (still i r.gs)
 
   dropped : drop i parts ≡ p ∷ drop (i + 1) parts
   dropped = rw add-one (drop-cons parts i p lt) ∙ ap (λ (x : SeenPart). x ∷ drop (i + 1) parts) (sym same)
 
-  here : Nested (map stored parts) i r.gs (stored p ∷ more) (p.holder ∷ map holder (drop (i + 1) parts))
-  here = subst (λ (ps : List SeenPart). Nested (map stored parts) i r.gs (map stored ps) (map holder ps)) dropped r.nested
+  here : Nested (map flat_part_of parts) i r.gs (flat_part_of p ∷ more) (p.holder ∷ map holder (drop (i + 1) parts))
+  here = subst (λ (ps : List SeenPart). Nested (map flat_part_of parts) i r.gs (map flat_part_of ps) (map holder ps)) dropped r.nested
 
-  passed : pass 0 [] (map stored parts) ≡ r.done ++ (ends ++ (heads ++ pass (i + 1) (pendings gs') more))
+  passed : pass 0 [] (map flat_part_of parts) ≡ r.done ++ (ends ++ (heads ++ pass (i + 1) (pendings gs') more))
   unfolding pass
   passed =
       r.all_is
-      ∙ ap (λ (ps : List SeenPart). r.done ++ pass i (pendings r.gs) (map stored ps)) dropped
+      ∙ ap (λ (ps : List SeenPart). r.done ++ pass i (pendings r.gs) (map flat_part_of ps)) dropped
       ∙ ap (λ (qs : List Pending). r.done ++ (ends ++ (heads ++ pass (i + 1) qs more)))
       (ap (opened i p.holds p.kind) (sym (pendings-still i r.gs)) ∙ sym (opens-opened i p.holds p.kind (still i r.gs)))
 
   -- the ends before it were refused
-  pub replay-stop_ends : {mid : Standing V} → Stops law now (makes ends) mid → Stops law old (makes (pass 0 [] (map stored parts))) mid
+  pub replay-stop_ends : {mid : Standing V} → Stops law now (makes ends) mid → Stops law old (makes (pass 0 [] (map flat_part_of parts))) mid
   replay-stop_ends {mid} t = subst (λ calls. Stops law old (makes calls) mid) (sym passed) (stops_in (heads ++ pass (i + 1) (pendings gs') more) r.streams t)
 
   linked_after : (next : Option ℕ) → Linked parts next (still i r.gs) → Linked parts (newest_after i p.kind next) gs'
@@ -258,10 +258,10 @@ module _ {V : Type 0} {law : Law V} {old now : Standing V} {parts : List SeenPar
       found : slice_get parts i ≡ Some p
       found = get_found parts i p lt same
 
-      below : IsBelow (outer_of (map stored parts) p.holder) i
+      below : IsBelow (outer_of (map flat_part_of parts) p.holder) i
       below = subst (λ o. IsBelow o i) (sym here.0) (top_below i (still i r.gs) (before-still i i r.gs r.before))
 
-      go : (k : FlatKind) → p.kind ≡ k → Linked parts (if is_holder k then Some i else next) (opens i p.holds k (still i r.gs))
+      go : (k : FlatKind) → p.kind ≡ k → Linked parts (if is_holder k then Some i else next) (opens_part i p.holds k (still i r.gs))
       go (flat.One call) e = l
       go (flat.Words held) e = l
       go (flat.Bytes held) e = l
@@ -276,7 +276,7 @@ module _ {V : Type 0} {law : Law V} {old now : Standing V} {parts : List SeenPar
       older : Before (i + 1) (still i r.gs)
       older = before-more i (still i r.gs) (before-still i i r.gs r.before)
 
-      go : (k : FlatKind) → Before (i + 1) (opens i p.holds k (still i r.gs))
+      go : (k : FlatKind) → Before (i + 1) (opens_part i p.holds k (still i r.gs))
       go (flat.One call) = older
       go (flat.Words held) = older
       go (flat.Bytes held) = older
@@ -284,7 +284,7 @@ module _ {V : Type 0} {law : Law V} {old now : Standing V} {parts : List SeenPar
 
   module _ {mid new : Standing V} (s : Streams law now (makes ends) mid) where
     -- its own calls were refused
-    pub replay-stop_head : Stops law mid (makes heads) new → Stops law old (makes (pass 0 [] (map stored parts))) new
+    pub replay-stop_head : Stops law mid (makes heads) new → Stops law old (makes (pass 0 [] (map flat_part_of parts))) new
     replay-stop_head t =
         subst (λ calls. Stops law old (makes calls) new) (append_assoc r.done ends (heads ++ pass (i + 1) (pendings gs') more) ∙ sym passed)
         (stops_in (pass (i + 1) (pendings gs') more) (goes_on r.streams s) t)
@@ -302,7 +302,7 @@ module _ {V : Type 0} {law : Law V} {old now : Standing V} {parts : List SeenPar
 
 -- ---- the end
 
-all_stop : (i : ℕ) (gs : List Going) → AllStop i gs → ended i (pendings gs) ≡ all_ends (pendings gs)
+all_stop : (i : ℕ) (gs : List Going) → AllStop i gs → end_calls_before i (pendings gs) ≡ all_ends (pendings gs)
 all_stop i [] h = refl
 all_stop i (newest ∷ older) h =
     let stops = h.0 in
@@ -313,21 +313,21 @@ module _ {V : Type 0} {law : Law V} {old now : Standing V} {parts : List SeenPar
   none_left : drop i parts ≡ []
   none_left = drop_all parts i left
 
-  last_is : pass 0 [] (map stored parts) ≡ r.done ++ ended j (pendings r.gs)
+  last_is : pass 0 [] (map flat_part_of parts) ≡ r.done ++ end_calls_before j (pendings r.gs)
   unfolding pass
   last_is =
       r.all_is
-      ∙ ap (λ (ps : List SeenPart). r.done ++ pass i (pendings r.gs) (map stored ps)) none_left
-      ∙ ap (λ calls. r.done ++ calls) (sym (all_stop i r.gs (subst (λ (ps : List SeenPart). Nested (map stored parts) i r.gs (map stored ps) (map holder ps)) none_left r.nested)))
-      ∙ ap (λ k. r.done ++ ended k (pendings r.gs)) (sym same)
+      ∙ ap (λ (ps : List SeenPart). r.done ++ pass i (pendings r.gs) (map flat_part_of ps)) none_left
+      ∙ ap (λ calls. r.done ++ calls) (sym (all_stop i r.gs (subst (λ (ps : List SeenPart). Nested (map flat_part_of parts) i r.gs (map flat_part_of ps) (map holder ps)) none_left r.nested)))
+      ∙ ap (λ k. r.done ++ end_calls_before k (pendings r.gs)) (sym same)
 
-  pub replay-end : {new : Standing V} → Streams law now (makes (ended j (pendings r.gs))) new → Streams law old (makes (pass 0 [] (map stored parts))) new
+  pub replay-end : {new : Standing V} → Streams law now (makes (end_calls_before j (pendings r.gs))) new → Streams law old (makes (pass 0 [] (map flat_part_of parts))) new
   replay-end {new} t = subst (λ calls. Streams law old (makes calls) new) (sym last_is) (goes_on r.streams t)
 
-  pub replay-stop_last : {new : Standing V} → Stops law now (makes (ended j (pendings r.gs))) new → Stops law old (makes (pass 0 [] (map stored parts))) new
+  pub replay-stop_last : {new : Standing V} → Stops law now (makes (end_calls_before j (pendings r.gs))) new → Stops law old (makes (pass 0 [] (map flat_part_of parts))) new
   replay-stop_last {new} t =
-      let all : Stops law old (makes (r.done ++ (ended j (pendings r.gs) ++ []))) new = stops_in [] r.streams t in
-      subst (λ calls. Stops law old (makes calls) new) (ap (λ calls. r.done ++ calls) (append-nil (ended j (pendings r.gs))) ∙ sym last_is) all
+      let all : Stops law old (makes (r.done ++ (end_calls_before j (pendings r.gs) ++ []))) new = stops_in [] r.streams t in
+      subst (λ calls. Stops law old (makes calls) new) (ap (λ calls. r.done ++ calls) (append-nil (end_calls_before j (pendings r.gs))) ∙ sym last_is) all
 
 pub newest_opened : (i : ℕ) (kind : FlatKind) (at : Option ℕ) (b : Bool) → b ≡ is_holder kind → b ≡ true → newest_after i kind at ≡ Some i
 unfolding newest_after
@@ -355,16 +355,16 @@ unfolding pass
 none_passed [] h = refl
 none_passed (p ∷ parts) h = absurd (omega arith)
 
-passed_all : (parts : List SeenPart) (places : List ℕ) (f : Forest) → TellsForest parts places f → null_for_none (pass 0 [] (map stored parts)) ≡ replayed f
+passed_all : (parts : List SeenPart) (places : List ℕ) (f : Forest) → TellsForest parts places f → null_for_none (pass 0 [] (map flat_part_of parts)) ≡ replayed f
 passed_all parts places f t = ap (λ xs. null_for_none (pass 0 [] xs)) t.parts_are ∙ ap null_for_none (pass-flat f)
 
 pub replay_none : (parts : List SeenPart) (places : List ℕ) (f : Forest) → TellsForest parts places f → length parts ≡ 0 → Null ∷ [] ≡ replayed f
-replay_none parts places f t h = sym (none_passed (map stored parts) (length-map parts stored ∙ h)) ∙ passed_all parts places f t
+replay_none parts places f t h = sym (none_passed (map flat_part_of parts) (length-map parts flat_part_of ∙ h)) ∙ passed_all parts places f t
 
-pub replay_some : (parts : List SeenPart) (places : List ℕ) (f : Forest) → TellsForest parts places f → 0 < length parts → pass 0 [] (map stored parts) ≡ replayed f
+pub replay_some : (parts : List SeenPart) (places : List ℕ) (f : Forest) → TellsForest parts places f → 0 < length parts → pass 0 [] (map flat_part_of parts) ≡ replayed f
 replay_some parts places f t h =
-    let size = length-map parts stored in
-    sym (some_passed (map stored parts) (omega arith)) ∙ passed_all parts places f t
+    let size = length-map parts flat_part_of in
+    sym (some_passed (map flat_part_of parts) (omega arith)) ∙ passed_all parts places f t
 
 -- the one call of no value
 pub null_emitted : {V : Type 0} (law : Law V) (old new : Standing V) (r : Result (Unit {0}) Error) (f : Forest) → Null ∷ [] ≡ replayed f → Answers law r old Null new → Emits law r old (makes (replayed f)) new

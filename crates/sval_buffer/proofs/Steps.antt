@@ -10,7 +10,7 @@ use Rattle.sval_buffer.specs.Flat.{FlatKind, FlatPart, flat_part, flat_node, fla
 use Rattle.sval_buffer.specs.FlatForest.{open_places, forest_of}
 use Rattle.sval_buffer.proofs.BuiltBack.{built_back, some_parts}
 use Rattle.sval_buffer.specs.Holders.{holders, holders_node, holders_row, holders_spine, newest_place}
-use Rattle.sval_buffer.specs.SeenParts.{SeenPart, stored, holder, with_length, TellsForest, told}
+use Rattle.sval_buffer.specs.SeenParts.{SeenPart, flat_part_of, holder, with_length, TellsForest, told}
 use Rattle.sval_buffer.proofs.Flat.{flat-add, flat-begun, flat-close}
 
 -- ---- the view
@@ -60,21 +60,21 @@ open-add node f = go f.nodes f.spine
     go nodes (newest ∷ older) = refl
 
 pub tells-add : (parts : List SeenPart) (places : List ℕ) (f : Forest) (p : SeenPart) (node : Node) → TellsForest parts places f
-    → flat_node node ≡ stored p ∷ [] → ((place : ℕ) (h : Option ℕ) → holders_node place h node ≡ h ∷ []) → p.holder ≡ newest_place f.nodes f.spine
+    → flat_node node ≡ flat_part_of p ∷ [] → ((place : ℕ) (h : Option ℕ) → holders_node place h node ≡ h ∷ []) → p.holder ≡ newest_place f.nodes f.spine
     → TellsForest (parts ++ (p ∷ [])) places (add node f)
 tells-add parts places f p node t one own held = record {
-  parts_are = map-append stored parts (p ∷ []) ∙ ap (λ xs. xs ++ (stored p ∷ [])) t.parts_are ∙ ap (λ xs. flat.flat f ++ xs) (sym one) ∙ sym (flat-add node f.nodes f.spine f.in_fragments);
+  parts_are = map-append flat_part_of parts (p ∷ []) ∙ ap (λ xs. xs ++ (flat_part_of p ∷ [])) t.parts_are ∙ ap (λ xs. flat.flat f ++ xs) (sym one) ∙ sym (flat-add node f.nodes f.spine f.in_fragments);
   places_are = t.places_are ∙ sym (open-add node f);
   holders_are = map-append holder parts (p ∷ []) ∙ ap (λ xs. xs ++ (p.holder ∷ [])) t.holders_are ∙ ap (λ h. holders f ++ (h ∷ [])) held
       ∙ ap (λ xs. holders f ++ xs) (sym (own (length (flat.flat f)) (newest_place f.nodes f.spine))) ∙ sym (holders-add node f.nodes f.spine f.in_fragments);
 }
 
 pub tells-begun : (parts : List SeenPart) (places : List ℕ) (f : Forest) (p : SeenPart) (begin : Call) (place : ℕ) → TellsForest parts places f
-    → stored p ≡ flat_part (flat.Holder begin) 0 → p.holder ≡ newest_place f.nodes f.spine → place ≡ length parts
+    → flat_part_of p ≡ flat_part (flat.Holder begin) 0 → p.holder ≡ newest_place f.nodes f.spine → place ≡ length parts
     → TellsForest (parts ++ (p ∷ [])) (places ++ (place ∷ [])) (begun begin f)
 tells-begun parts places f p begin place t one held at = record {
-  parts_are = map-append stored parts (p ∷ []) ∙ ap (λ xs. xs ++ (stored p ∷ [])) t.parts_are ∙ ap (λ x. flat.flat f ++ (x ∷ [])) one ∙ sym (flat-begun begin f);
-  places_are = ap (λ qs. qs ++ (place ∷ [])) t.places_are ∙ ap (λ n. open_places f.nodes f.spine ++ (n ∷ [])) (at ∙ sym (length-map parts stored) ∙ ap (λ xs. length xs) t.parts_are);
+  parts_are = map-append flat_part_of parts (p ∷ []) ∙ ap (λ xs. xs ++ (flat_part_of p ∷ [])) t.parts_are ∙ ap (λ x. flat.flat f ++ (x ∷ [])) one ∙ sym (flat-begun begin f);
+  places_are = ap (λ qs. qs ++ (place ∷ [])) t.places_are ∙ ap (λ n. open_places f.nodes f.spine ++ (n ∷ [])) (at ∙ sym (length-map parts flat_part_of) ∙ ap (λ xs. length xs) t.parts_are);
   holders_are = map-append holder parts (p ∷ []) ∙ ap (λ xs. xs ++ (p.holder ∷ [])) t.holders_are ∙ ap (λ h. holders f ++ (h ∷ [])) held;
 }
 
@@ -118,7 +118,7 @@ last-place nodes (newest ∷ older) =
     ap (slice_get (front ++ (place ∷ []))) e ∙ seam front place
 
 pub is_added : {parts : List SeenPart} {places : List ℕ} {within : Bool} {f : Forest} (p : SeenPart) (node : Node) → Is parts places within f
-    → flat_node node ≡ stored p ∷ [] → ((place : ℕ) (h : Option ℕ) → holders_node place h node ≡ h ∷ []) → p.holder ≡ slice_get places (length places - 1)
+    → flat_node node ≡ flat_part_of p ∷ [] → ((place : ℕ) (h : Option ℕ) → holders_node place h node ≡ h ∷ []) → p.holder ≡ slice_get places (length places - 1)
     → Is (parts ++ (p ∷ [])) places within (add node f)
 is_added {parts} {places} {within} {f} p node is one own held =
     let t = tells_it is in
@@ -127,7 +127,7 @@ is_added {parts} {places} {within} {f} p node is one own held =
     (within_it is ∙ sym (within-row (newest_row f.nodes f.spine and node) f.nodes f.spine f.in_fragments))
 
 pub is_begun : {parts : List SeenPart} {places : List ℕ} {within : Bool} {f : Forest} (p : SeenPart) (begin : Call) (place : ℕ) → Is parts places within f
-    → stored p ≡ flat_part (flat.Holder begin) 0 → p.holder ≡ slice_get places (length places - 1) → place ≡ length parts
+    → flat_part_of p ≡ flat_part (flat.Holder begin) 0 → p.holder ≡ slice_get places (length places - 1) → place ≡ length parts
     → Is (parts ++ (p ∷ [])) (places ++ (place ∷ [])) within (begun begin f)
 is_begun {parts} {places} {within} {f} p begin place is one held at =
     let t = tells_it is in
@@ -182,7 +182,7 @@ pub flat-split : (nodes : Nodes) (newest : Open) (older : List Open)
 flat-split nodes newest older = sym (append_assoc (flat_row nodes) (flat_spine older) (flat_part (flat.Holder newest.begin) 0 ∷ flat_row newest.nodes))
 
 pub length-parts : {parts : List SeenPart} {places : List ℕ} {within : Bool} {f : Forest} → Is parts places within f → length parts ≡ length (flat.flat f)
-length-parts {parts} is = sym (length-map parts stored) ∙ ap (λ xs. length xs) (tells_it is).parts_are
+length-parts {parts} is = sym (length-map parts flat_part_of) ∙ ap (λ xs. length xs) (tells_it is).parts_are
 
 -- the newest container without an end is a part
 pub place_within : {parts : List SeenPart} {places : List ℕ} {within : Bool} {f : Forest} (rest : List ℕ) (place : ℕ) → Is parts places within f → places ≡ rest ++ (place ∷ []) → place < length parts
@@ -229,7 +229,7 @@ pub get-seam : {X : Type 0} (xs : List X) (y : X) (ys : List X) (d : X) → slic
 get-seam [] y ys d = refl
 get-seam (x ∷ xs) y ys d = get-seam xs y ys d
 
-pub held-kind : (p : SeenPart) (begin : Call) (n : ℕ) → p.kind ≡ flat.Holder begin → stored (with_length p n) ≡ flat_part (flat.Holder begin) n
+pub held-kind : (p : SeenPart) (begin : Call) (n : ℕ) → p.kind ≡ flat.Holder begin → flat_part_of (with_length p n) ≡ flat_part (flat.Holder begin) n
 held-kind p begin n e = rw e refl
 
 pub holders-closed : (nodes : Nodes) (newest : Open) (older : List Open) (within : Bool)
@@ -256,26 +256,26 @@ module _ {parts : List SeenPart} {places : List ℕ} {within : Bool} {f : Forest
   split_is : flat.flat f ≡ front ++ (head ∷ flat_row n.newest.nodes)
   split_is = flat_is ∙ flat-split f.nodes n.newest n.older
 
-  old_is : stored old ≡ head
+  old_is : flat_part_of old ≡ head
   old_is =
-      sym (get-map stored parts place d (place_within rest place is e) head)
+      sym (get-map flat_part_of parts place d (place_within rest place is e) head)
       ∙ ap (λ xs. slice_index_or xs place head) ((tells_it is).parts_are ∙ split_is)
       ∙ ap (λ i. slice_index_or (front ++ (head ∷ flat_row n.newest.nodes)) i head) n.place_is
       ∙ get-seam front head (flat_row n.newest.nodes) head
 
-  new_is : stored p ≡ flat_part (flat.Holder n.newest.begin) (length (flat.flat f) - place - 1)
+  new_is : flat_part_of p ≡ flat_part (flat.Holder n.newest.begin) (length (flat.flat f) - place - 1)
   new_is =
-      ap stored same
+      ap flat_part_of same
       ∙ held-kind old n.newest.begin (length parts - place - 1) (ap (λ (x : FlatPart). x.kind) old_is)
       ∙ ap (λ k. flat_part (flat.Holder n.newest.begin) (k - place - 1)) (length-parts is)
 
   abbrev closed_by : List FlatPart → ℕ → List FlatPart
   closed_by xs i = slice_set xs i (flat_part (flat.Holder n.newest.begin) (length xs - i - 1))
 
-  closed_parts : map stored (slice_set parts place p) ≡ flat.flat (add (Container n.newest.begin n.newest.nodes) (record { nodes = f.nodes; spine = n.older; in_fragments = f.in_fragments }))
+  closed_parts : map flat_part_of (slice_set parts place p) ≡ flat.flat (add (Container n.newest.begin n.newest.nodes) (record { nodes = f.nodes; spine = n.older; in_fragments = f.in_fragments }))
   closed_parts =
-      map-set stored parts place p
-      ∙ ap (λ xs. slice_set xs place (stored p)) (tells_it is).parts_are
+      map-set flat_part_of parts place p
+      ∙ ap (λ xs. slice_set xs place (flat_part_of p)) (tells_it is).parts_are
       ∙ ap (slice_set (flat.flat f) place) new_is
       ∙ ap (λ xs. closed_by xs place) flat_is
       ∙ ap (closed_by (flat_row f.nodes ++ flat_spine (n.newest ∷ n.older))) n.place_is
@@ -327,7 +327,7 @@ no_row (nodes and node) rest e = go (flat_row nodes) (flat_node node) (some_part
 pub none_complete : {parts : List SeenPart} {places : List ℕ} {within : Bool} {f : Forest} → Is parts places within f → length parts ≡ 0 → is_complete f ≡ false
 none_complete {parts} {f = f} is h =
     let e = nothing parts h in
-    ap (λ nodes. has_all_ends nodes f.spine f.in_fragments) (no_row f.nodes (flat_spine f.spine) (ap (map stored) (sym e) ∙ (tells_it is).parts_are))
+    ap (λ nodes. has_all_ends nodes f.spine f.in_fragments) (no_row f.nodes (flat_spine f.spine) (ap (map flat_part_of) (sym e) ∙ (tells_it is).parts_are))
 
 pub unended : (nodes : Nodes) (spine : List Open) (within : Bool) → 0 < length (open_places nodes spine) → has_all_ends nodes spine within ≡ false
 unended nodes [] within h = absurd (omega arith)

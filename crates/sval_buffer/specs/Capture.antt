@@ -50,9 +50,9 @@ IsCaptureCause grows (Becomes next) why = WantsMemory grows why
 IsCaptureCause grows (Rejects misfit) why = why ≡ error_of misfit
 
 -- how often memory was wanting, after a refusal of this kind
-abbrev pub wants_after : ErrorKind → ℕ → ℕ
-wants_after (error.NoAlloc method) wants = one_more wants
-wants_after _ wants = wants
+abbrev pub wants_after_error : ErrorKind → ℕ → ℕ
+wants_after_error (error.NoAlloc method) wants = one_more wants
+wants_after_error _ wants = wants
 
 -- a refused call, by whether it may take memory and what the forest answers, leaves the forest, and is the last one that was refused
 pub record IsCaptureLeft (grows : Bool) (answer : CaptureAnswer) (view left : Capture) : Type 0 where
@@ -60,7 +60,7 @@ pub record IsCaptureLeft (grows : Bool) (answer : CaptureAnswer) (view left : Ca
   pub why : ErrorKind
   pub refusal : left.refusal ≡ Some why
   pub cause : IsCaptureCause grows answer why
-  pub wants : left.wants ≡ wants_after why view.wants
+  pub wants : left.wants ≡ wants_after_error why view.wants
 
 -- A call is accepted where the forest takes it, leaves what the forest becomes, and moves nothing else. So it is by which
 -- calls may take memory, and what a forest answers.

@@ -19,7 +19,7 @@ pub record IsCaptured (e : Emission) (buffer : Capture) : Type 0 where
   pub wants : buffer.wants ≡ 0
 
 -- the value doesn't refuse, and its calls leave this forest
-pub record IsTaken (e : Emission) (f : Forest) : Type 0 where
+pub record IsCapturedForest (e : Emission) (f : Forest) : Type 0 where
   pub willing : e.refuses ≡ false
   pub taken : forest e.calls ≡ Holds f
 

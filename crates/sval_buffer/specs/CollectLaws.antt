@@ -7,9 +7,9 @@ use Rattle.sval_buffer.specs.declared.error.Word.{Word}
 use Rattle.sval_buffer.specs.declared.error.Word.TheVariants as word
 use Rattle.sval_buffer.specs.declared.error.ErrorKind.{ErrorKind}
 use Rattle.sval_buffer.specs.CapturedValues.{cause_by}
-use Rattle.sval_buffer.specs.Collected.{text_collected, binary_collected, IsDue}
+use Rattle.sval_buffer.specs.Collected.{text_collected, binary_collected, IsHeldDue}
 use Rattle.sval_buffer.specs.Capture.{IsNoAlloc}
-use Rattle.sval_buffer.specs.CollectSteps.{CollectStep, text_step, binary_step, Collects, text_collects, binary_collects, steps_of, answer_after, LacksMemory, Collecting, nothing_collected, collect_law, collecting}
+use Rattle.sval_buffer.specs.CollectSteps.{CollectStep, text_step, binary_step, Collects, text_collects, binary_collects, steps_of, answer_after, LacksCollectMemory, Collecting, nothing_collected, collect_law, collecting}
 
 -- the steps of the calls answer what their lowered calls do
 abbrev pub StepsCollect : Word → CollectStep → (Emission → Result HeldBytes ErrorKind) → Type 0
@@ -20,11 +20,11 @@ StepsCollect expected step collected = (e : Emission) → answer_after expected 
 -- may take some.
 pub record StreamCollects (how : Collects) (collected : Emission → Result HeldBytes ErrorKind) : Type 0 where
   pub on_ok : (e : Emission) (start last : Collecting) → start ≡ nothing_collected → Streams (collect_law how) (collecting start) e (collecting last)
-      → IsDue (collected e) (Ok last.held)
+      → IsHeldDue (collected e) (Ok last.held)
   pub on_err : (e : Emission) (start last : Collecting) → start ≡ nothing_collected → Stops (collect_law how) (collecting start) e (collecting last)
-      → IsDue (collected e) (Err (cause_by last.refusal))
+      → IsHeldDue (collected e) (Err (cause_by last.refusal))
   pub on_want : (e : Emission) (start last : Collecting) → start ≡ nothing_collected → Stops (collect_law how) (collecting start) e (collecting last)
-      → IsNoAlloc (cause_by last.refusal) → LacksMemory how e.calls
+      → IsNoAlloc (cause_by last.refusal) → LacksCollectMemory how e.calls
 
 -- the steps of texts answer what is collected of a value as a text
 abbrev pub TextStepsCollect : Type 0

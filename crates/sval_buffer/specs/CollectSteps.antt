@@ -8,7 +8,7 @@ use Rattle.sval_core.specs.Law.{Law, Standing}
 use Rattle.sval_core.specs.Names.{says_none}
 use Rattle.sval_buffer.specs.Pushes.{HeldBytes, pushed}
 use Rattle.sval_buffer.specs.Forest.{no_bytes, push_may_grow}
-use Rattle.sval_buffer.specs.Capture.{WantsMemory, wants_after}
+use Rattle.sval_buffer.specs.Capture.{WantsMemory, wants_after_error}
 use Rattle.sval_buffer.specs.declared.error.Word.{Word}
 use Rattle.sval_buffer.specs.declared.error.Word.TheVariants as word
 use Rattle.sval_buffer.specs.declared.error.ErrorKind.{ErrorKind}
@@ -159,8 +159,8 @@ pub record LacksMemoryFrom (how : Collects) (start : HeldBytes) (calls : List Ca
   pub takes_memory : how.grows held call ≡ true
 
 -- the same of calls that meet no content
-abbrev pub LacksMemory : Collects → List Call → Type 0
-LacksMemory how calls = LacksMemoryFrom how no_bytes calls
+abbrev pub LacksCollectMemory : Collects → List Call → Type 0
+LacksCollectMemory how calls = LacksMemoryFrom how no_bytes calls
 
 -- ---- the stream
 
@@ -199,7 +199,7 @@ pub record IsCollectLeft (how : Collects) (view : Collecting) (call : Call) (lef
   pub why : ErrorKind
   pub refusal : left.refusal ≡ Some why
   pub cause : IsUnfitBy how.expected (how.grows view.held call) (how.step view.held call) why
-  pub wants : left.wants ≡ wants_after why view.wants
+  pub wants : left.wants ≡ wants_after_error why view.wants
 
 -- a call is accepted where it fits, leaves the content of its step, and moves nothing else
 abbrev pub collect_law : Collects → Law Collecting

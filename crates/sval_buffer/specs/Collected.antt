@@ -66,6 +66,6 @@ abbrev pub binary_collected : Emission → Result HeldBytes ErrorKind
 binary_collected e = collect_answer word.Binary e.refuses (pushes_of binary_use (lowered is_for_binaries e.calls))
 
 -- what is due is answered, unless memory is wanting
-abbrev pub IsDue : Result HeldBytes ErrorKind → Result HeldBytes ErrorKind → Type 0
-IsDue due (Err (error.NoAlloc method)) = ⊤
-IsDue due given = given ≡ due
+abbrev pub IsHeldDue : Result HeldBytes ErrorKind → Result HeldBytes ErrorKind → Type 0
+IsHeldDue due (Err (error.NoAlloc method)) = ⊤
+IsHeldDue due given = given ≡ due

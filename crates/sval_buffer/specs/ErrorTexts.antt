@@ -19,8 +19,8 @@ word_text word.FormattingFailed = codes "formatting failed"
 word_text word.Unbalanced = codes "unbalanced calls to `begin` and `end`"
 
 -- what an error says
-abbrev pub error_text : ErrorKind → List ℕ
-error_text (error.Unsupported actual expected) = codes "unexpected " ++ (word_text actual ++ (codes ", expected " ++ word_text expected))
-error_text (error.InvalidValue reason) = codes "the value is invalid: " ++ word_text reason
-error_text (error.OutsideContainer method) = codes "expected a fragment while buffering " ++ word_text method
-error_text (error.NoAlloc method) = codes "cannot allocate for " ++ word_text method
+abbrev pub buffer_error_text : ErrorKind → List ℕ
+buffer_error_text (error.Unsupported actual expected) = codes "unexpected " ++ (word_text actual ++ (codes ", expected " ++ word_text expected))
+buffer_error_text (error.InvalidValue reason) = codes "the value is invalid: " ++ word_text reason
+buffer_error_text (error.OutsideContainer method) = codes "expected a fragment while buffering " ++ word_text method
+buffer_error_text (error.NoAlloc method) = codes "cannot allocate for " ++ word_text method

@@ -26,15 +26,15 @@ front_of n (node ∷ rest) =
     if nat_lt n (length (flat_node node)) then [] else node ∷ front_of (n - length (flat_node node)) rest
 
 -- the nodes after those that n parts tell
-abbrev pub after : ℕ → List Node → List Node
-after n [] = []
-after n (node ∷ rest) =
-    if nat_lt n (length (flat_node node)) then node ∷ rest else after (n - length (flat_node node)) rest
+abbrev pub after_parts : ℕ → List Node → List Node
+after_parts n [] = []
+after_parts n (node ∷ rest) =
+    if nat_lt n (length (flat_node node)) then node ∷ rest else after_parts (n - length (flat_node node)) rest
 
 -- one part more at the front
 abbrev pub with_holder : Bool → Call → ℕ → Built → Built
 with_holder true begin holds b = record { row = []; spine = b.spine ++ (record { begin = begin; nodes = row_onto none b.row } ∷ []) }
-with_holder false begin holds b = record { row = Container begin (row_onto none (front_of holds b.row)) ∷ after holds b.row; spine = b.spine }
+with_holder false begin holds b = record { row = Container begin (row_onto none (front_of holds b.row)) ∷ after_parts holds b.row; spine = b.spine }
 
 -- the same of any part
 abbrev pub with_part : Bool → FlatKind → ℕ → Built → Built

@@ -15,14 +15,14 @@ pub record Made : Type 0 where
   pub taken : Bool
 
 -- the same of a call that was taken, and of one that was refused
-abbrev pub taken : Call → Made
-taken call = record { call = call; taken = true }
+abbrev pub taken_call : Call → Made
+taken_call call = record { call = call; taken = true }
 
-abbrev pub refused : Call → Made
-refused call = record { call = call; taken = false }
+abbrev pub refused_call : Call → Made
+refused_call call = record { call = call; taken = false }
 
 -- what the stream's law says of the answer
-abbrev pub AnswersMade : {V : Type 0} → Law V → Standing V → (taken : Bool) → Call → Standing V → Type 0
+abbrev pub AnswersMade : {V : Type 0} → Law V → Standing V → (was_taken : Bool) → Call → Standing V → Type 0
 AnswersMade law old true call new = Takes law old call new
 AnswersMade law old false call new = Refuses law old call new
 
@@ -32,7 +32,7 @@ AnswersEach law old [] new = new ≡ old
 AnswersEach {V} law old (made ∷ later) new = (next : Standing V) × AnswersMade law old made.taken made.call next × AnswersEach law next later new
 
 -- a call in front of others, if it was taken
-abbrev pub if_taken : (taken : Bool) → Call → List Call → List Call
+abbrev pub if_taken : (was_taken : Bool) → Call → List Call → List Call
 if_taken true call later = call ∷ later
 if_taken false call later = later
 
@@ -59,7 +59,7 @@ pub record LastRefused (start : Forest) (number : ℕ) (made : List Made) (why :
   pub before : List Made
   pub call : Call
   pub later : List Call
-  pub made_are : made ≡ before ++ (refused call ∷ map taken later)
+  pub made_are : made ≡ before ++ (refused_call call ∷ map taken_call later)
   pub held : Forest
   pub before_leave : forest_from start number (taken_calls before) ≡ Holds held
   pub cause : IsCaptureCause (may_grow held call) (take held call) why

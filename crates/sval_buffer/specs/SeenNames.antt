@@ -71,17 +71,17 @@ kept_static (Static text) = true
 kept_static (Stored start end) = false
 
 -- a label, with the store of texts
-abbrev pub kept_label : List ℕ → KeptLabel → calls.Label
-kept_label texts label = record { text = kept_text texts label.text; tag = option_map seen_tag label.tag; is_static = kept_static label.text }
+abbrev pub stored_label : List ℕ → KeptLabel → calls.Label
+stored_label texts label = record { text = kept_text texts label.text; tag = option_map seen_tag label.tag; is_static = kept_static label.text }
 
 -- a name, with the store of texts
-abbrev pub kept_name : List ℕ → NamedCall → calls.Name
-kept_name texts call =
-    record { tag = option_map seen_tag call.tag; label = option_map (kept_label texts) call.label; index = option_map seen_index call.index }
+abbrev pub stored_name : List ℕ → NamedCall → calls.Name
+stored_name texts call =
+    record { tag = option_map seen_tag call.tag; label = option_map (stored_label texts) call.label; index = option_map seen_index call.index }
 
 -- a call, with the store of texts
 abbrev pub kept_call : List ℕ → NamedCall → Call
-kept_call texts call = named_call call.kind (kept_name texts call)
+kept_call texts call = named_call call.kind (stored_name texts call)
 
 -- a text between two places that stands in the store
 abbrev pub TextStands : List ℕ → KeptText → Type 0
@@ -98,17 +98,17 @@ OptionStands texts (Some label) = LabelStands texts label
 OptionStands texts None = ⊤
 
 -- the label stands in the store, and the name says what the call says
-pub record Stands (texts : List ℕ) (call : NamedCall) : Type 0 where
+pub record NameStands (texts : List ℕ) (call : NamedCall) : Type 0 where
   pub label : OptionStands texts call.label
-  pub name : HasName call.kind (kept_name texts call)
+  pub name : HasName call.kind (stored_name texts call)
 
 -- the same of all calls that are kept
 abbrev pub AllStand : List ℕ → List NamedCall → Type 0
 AllStand texts [] = ⊤
-AllStand texts (call ∷ calls) = Stands texts call × AllStand texts calls
+AllStand texts (call ∷ calls) = NameStands texts call × AllStand texts calls
 
 -- the store with a text more, or as it was
-pub record Grows (old new : List ℕ) : Type 0 where
+pub record StoreGrows (old new : List ℕ) : Type 0 where
   pub more : List ℕ
   pub utf8 : IsUtf8 more
   pub new_is : new ≡ old ++ more
@@ -123,6 +123,6 @@ pub record Extends (old new : List Call) : Type 0 where
   pub new_is : new ≡ old ++ more
 
 -- there is a call at the place, and it is this one
-pub record Keeps (kept : List Call) (at : ℕ) (call : Call) : Type 0 where
+pub record KeepsNamedCall (kept : List Call) (at : ℕ) (call : Call) : Type 0 where
   pub within : at < length kept
   pub is : call_at kept at ≡ call

@@ -38,8 +38,8 @@ pub record SeenPart : Type 0 where
   pub holder : Option ℕ
 
 -- as the flat list has it
-abbrev pub stored : SeenPart → FlatPart
-stored p = flat_part p.kind p.holds
+abbrev pub flat_part_of : SeenPart → FlatPart
+flat_part_of p = flat_part p.kind p.holds
 
 -- the place of what holds it
 abbrev pub holder : SeenPart → Option ℕ
@@ -47,13 +47,13 @@ holder p = p.holder
 
 -- the parts, the places of the containers without an end, and the place of what holds each part are the forest's
 pub record TellsForest (parts : List SeenPart) (places : List ℕ) (f : Forest) : Type 0 where
-  pub parts_are : map stored parts ≡ flat.flat f
+  pub parts_are : map flat_part_of parts ≡ flat.flat f
   pub places_are : places ≡ open_places f.nodes f.spine
   pub holders_are : map holder parts ≡ holders f
 
 -- the forest that parts tell
 abbrev pub told : List SeenPart → List ℕ → Bool → Forest
-told parts places within = forest_of (map stored parts) places within
+told parts places within = forest_of (map flat_part_of parts) places within
 
 -- a container that holds this many parts
 abbrev pub closed_kind : FlatKind → ℕ → ℕ → ℕ
@@ -101,22 +101,22 @@ seen_part calls p = record { kind = flat_kind calls p.kind; holds = holds_of p.k
 
 -- as the flat list has it
 abbrev pub stored_part : List Call → Part → FlatPart
-stored_part calls p = stored (seen_part calls p)
+stored_part calls p = flat_part_of (seen_part calls p)
 
 -- the same of all parts
 abbrev pub seen_parts : List Call → List Part → List SeenPart
 seen_parts calls parts = map (seen_part calls) parts
 
 -- the call that it speaks of is one of this many
-abbrev pub IsKept : ℕ → PartKind → Type 0
-IsKept calls (kind.Named at) = at < calls
-IsKept calls (kind.NamedContainer at holds) = at < calls
-IsKept calls _ = ⊤
+abbrev pub IsKeptCall : ℕ → PartKind → Type 0
+IsKeptCall calls (kind.Named at) = at < calls
+IsKeptCall calls (kind.NamedContainer at holds) = at < calls
+IsKeptCall calls _ = ⊤
 
 -- the same of all parts
 abbrev pub AllKept : ℕ → List Part → Type 0
 AllKept calls [] = ⊤
-AllKept calls (p ∷ parts) = IsKept calls p.kind × AllKept calls parts
+AllKept calls (p ∷ parts) = IsKeptCall calls p.kind × AllKept calls parts
 
 -- the parts tell a forest, and the calls that they speak of are there
 pub record PartsTell (calls : List Call) (parts : List Part) (places : List ℕ) (within : Bool) : Type 0 where

@@ -9,7 +9,7 @@ ghost use Rattle.sval_buffer.specs.Forest.{HoldsNoPart, replayed};
 ghost use Rattle.sval_buffer.specs.FlatForest.{forest_in};
 ghost use Rattle.sval_buffer.specs.Capture.{IsNoAlloc};
 ghost use Rattle.sval_buffer.specs.Owned.{owned};
-ghost use Rattle.sval_buffer.specs.CapturedValues.{IsTaken, IsTakenOwned, IsOwnedCause, KeepsTree, IsCollectCause, IsOkOrNoAlloc};
+ghost use Rattle.sval_buffer.specs.CapturedValues.{IsCapturedForest, IsTakenOwned, IsOwnedCause, KeepsTree, IsCollectCause, IsOkOrNoAlloc};
 
 use crate::error::Error;
 use crate::named::{CallStore, NamedCalls};
@@ -61,7 +61,7 @@ impl<'sval, N: CallStore> AnyValue<'sval, N> {
     ) -> Result<Self, Error>
     where
         N: 'sval,
-        ensures ok { IfOk result (λ value. IsTaken (V.emission v.now) (forest_in value)) }
+        ensures ok { IfOk result (λ value. IsCapturedForest (V.emission v.now) (forest_in value)) }
         ensures err { IfErr result (λ why. IsCollectCause (V.emission v.now) why) }
         ensures keeps_the_tree { IfOk result (λ value. KeepsTree (V.emission v.now) (forest_in value)) }
         ensures complete { let e = V.emission v.now in

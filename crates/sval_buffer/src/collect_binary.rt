@@ -8,8 +8,8 @@ ghost use Rattle.sval_core.specs.Law.{Answers};
 ghost use Rattle.sval_buffer.specs.declared.error.Word.TheVariants as word;
 ghost use Rattle.sval_buffer.specs.declared.error.ErrorKind.TheVariants as error;
 ghost use Rattle.sval_buffer.specs.Capture.{IsNoAlloc};
-ghost use Rattle.sval_buffer.specs.Collected.{binary_collected, IsDue};
-ghost use Rattle.sval_buffer.specs.CollectSteps.{Collecting, binary_collects, is_digits, own_label, word_for_label, CollectsCall, LacksMemory, nothing_collected, collect_law, collecting};
+ghost use Rattle.sval_buffer.specs.Collected.{binary_collected, IsHeldDue};
+ghost use Rattle.sval_buffer.specs.CollectSteps.{Collecting, binary_collects, is_digits, own_label, word_for_label, CollectsCall, LacksCollectMemory, nothing_collected, collect_law, collecting};
 ghost use Rattle.sval_buffer.specs.SeenCollectors.{binary_collecting};
 
 use crate::binary_buf::BinaryBuf;
@@ -50,9 +50,9 @@ impl<'sval> BinaryBuf<'sval> {
         alloc: Global,
         value: &'sval V,
     ) -> Result<Self, Error>
-        ensures due { IsDue (binary_collected (V.emission value.now)) result }
+        ensures due { IsHeldDue (binary_collected (V.emission value.now)) result }
         ensures memory { let calls = (V.emission value.now).calls in
-            IfErr result (λ why. IsNoAlloc why → LacksMemory binary_collects calls) }
+            IfErr result (λ why. IsNoAlloc why → LacksCollectMemory binary_collects calls) }
     {
         let mut collector: BinaryCollector<'sval> = BinaryCollector::new(alloc);
         match value.stream(&mut collector) {

@@ -10,8 +10,8 @@ ghost use Rattle.sval_buffer.specs.declared.error.Word.TheVariants as word;
 ghost use Rattle.sval_buffer.specs.declared.error.ErrorKind.TheVariants as error;
 ghost use Rattle.sval_buffer.specs.Pushes.{HeldBytes};
 ghost use Rattle.sval_buffer.specs.Capture.{IsNoAlloc};
-ghost use Rattle.sval_buffer.specs.Collected.{text_collected, IsDue};
-ghost use Rattle.sval_buffer.specs.CollectSteps.{Collecting, text_collects, CollectsBy, CollectsCall, push_label, label_takes_memory, LacksMemory, nothing_collected, collect_law, collecting};
+ghost use Rattle.sval_buffer.specs.Collected.{text_collected, IsHeldDue};
+ghost use Rattle.sval_buffer.specs.CollectSteps.{Collecting, text_collects, CollectsBy, CollectsCall, push_label, label_takes_memory, LacksCollectMemory, nothing_collected, collect_law, collecting};
 ghost use Rattle.sval_buffer.specs.SeenCollectors.{text_collecting};
 
 use crate::error::{Error, ErrorKind, Word};
@@ -65,9 +65,9 @@ impl<'sval> TextBuf<'sval> {
         alloc: Global,
         value: &'sval V,
     ) -> Result<Self, Error>
-        ensures due { IsDue (text_collected (V.emission value.now)) result }
+        ensures due { IsHeldDue (text_collected (V.emission value.now)) result }
         ensures memory { let calls = (V.emission value.now).calls in
-            IfErr result (λ why. IsNoAlloc why → LacksMemory text_collects calls) }
+            IfErr result (λ why. IsNoAlloc why → LacksCollectMemory text_collects calls) }
     {
         let mut collector: TextCollector<'sval> = TextCollector::new(alloc);
         match value.stream(&mut collector) {

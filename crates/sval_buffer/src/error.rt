@@ -120,9 +120,9 @@ impl Error {
 
 impl fmt::Display for Error {
     ghost use Rattle.std.specs.Prelude.{Some};
-    ghost use Rattle.sval_buffer.specs.ErrorTexts.{error_text};
+    ghost use Rattle.sval_buffer.specs.ErrorTexts.{buffer_error_text};
 
-    ghost output = { λ kind. Some (error_text kind) };
+    ghost output = { λ kind. Some (buffer_error_text kind) };
 
     fn fmt<W: fmt::Write>(&self, f: &mut fmt::Formatter<W>) -> fmt::Result {
         match self.kind {

@@ -5,7 +5,7 @@ ghost use Rattle.std.specs.Bool.{Decides};
 ghost use Rattle.sval_label.specs.SeenTags.{seen_tag};
 ghost use Rattle.sval_label.specs.SeenIndex.{seen_index};
 ghost use Rattle.sval_label.specs.SeenName.{seen_name, seen_option_tag};
-ghost use Rattle.sval_buffer.specs.SeenNames.{named_call, HasName, kept_label, kept_name, kept_call, kept_text, kept_static, TextStands, LabelStands, OptionStands, Stands, Grows};
+ghost use Rattle.sval_buffer.specs.SeenNames.{named_call, HasName, stored_label, stored_name, kept_call, kept_text, kept_static, TextStands, LabelStands, OptionStands, NameStands, StoreGrows};
 
 use crate::named::NamedKind;
 use sval_core::{Index, Label, Name, NoMemory, Tag};
@@ -55,7 +55,7 @@ impl NamedCall {
     pub(crate) fn is_same(&self, texts: &str, kind: NamedKind, name: &Name<'_>) -> bool
         requires { OptionStands texts.now self.now.label }
         ensures { Decides result
-            ((self.now.kind ≡ kind) × (kept_name texts.now self.now ≡ seen_name name.now)) }
+            ((self.now.kind ≡ kind) × (stored_name texts.now self.now ≡ seen_name name.now)) }
     {
         self.kind == kind
             && is_option_label(texts, &self.label, name.label)
@@ -71,8 +71,8 @@ pub(crate) fn keep(
     name: Name<'_>,
 ) -> std::result::Result<NamedCall, NoMemory>
     requires { HasName kind (seen_name name) }
-    ensures grows { Grows (string_bytes texts.old) (string_bytes texts.new) }
-    ensures stands { IfOk result (Stands (string_bytes texts.new)) }
+    ensures grows { StoreGrows (string_bytes texts.old) (string_bytes texts.new) }
+    ensures stands { IfOk result (NameStands (string_bytes texts.new)) }
     ensures kept { let made = named_call kind (seen_name name.entry) in
         IfOk result (λ call. kept_call (string_bytes texts.new) call ≡ made) }
 {
@@ -90,9 +90,9 @@ pub(crate) fn keep(
 
 /// A label whose text is copied into the store of texts, unless it is static.
 fn keep_label(texts: &mut String, label: &Label<'_>) -> std::result::Result<KeptLabel, NoMemory>
-    ensures grows { Grows (string_bytes texts.old) (string_bytes texts.new) }
+    ensures grows { StoreGrows (string_bytes texts.old) (string_bytes texts.new) }
     ensures stands { IfOk result (LabelStands (string_bytes texts.new)) }
-    ensures kept { IfOk result (λ kept. kept_label (string_bytes texts.new) kept ≡ label.now) }
+    ensures kept { IfOk result (λ kept. stored_label (string_bytes texts.new) kept ≡ label.now) }
 {
     let tag = label.tag().copied();
     match label.as_static_str() {
@@ -114,7 +114,7 @@ fn keep_label(texts: &mut String, label: &Label<'_>) -> std::result::Result<Kept
 /// A label that is kept, if there is one, as it was.
 pub(crate) fn shown_label<'a>(texts: &'a str, kept: &Option<KeptLabel>) -> Option<Label<'a>>
     requires { OptionStands texts.now kept.now }
-    ensures { result ≡ option_map (kept_label texts.now) kept.now }
+    ensures { result ≡ option_map (stored_label texts.now) kept.now }
 {
     match kept {
         Some(label) => Some(shown(texts, label)),
@@ -125,7 +125,7 @@ pub(crate) fn shown_label<'a>(texts: &'a str, kept: &Option<KeptLabel>) -> Optio
 /// A label that is kept, as it was.
 fn shown<'a>(texts: &'a str, kept: &KeptLabel) -> Label<'a>
     requires { LabelStands texts.now kept.now }
-    ensures { result ≡ kept_label texts.now kept.now }
+    ensures { result ≡ stored_label texts.now kept.now }
 {
     let label = match kept.text {
         KeptText::Static(text) => Label::new(text),
@@ -141,7 +141,7 @@ fn shown<'a>(texts: &'a str, kept: &KeptLabel) -> Label<'a>
 fn is_option_label(texts: &str, kept: &Option<KeptLabel>, label: Option<&Label<'_>>) -> bool
     requires { OptionStands texts.now kept.now }
     ensures { Decides result
-        (option_map (kept_label texts.now) kept.now ≡ option_map (λ label. label.now) label.entry) }
+        (option_map (stored_label texts.now) kept.now ≡ option_map (λ label. label.now) label.entry) }
 {
     match (kept, label) {
         (None, None) => true,
@@ -153,7 +153,7 @@ fn is_option_label(texts: &str, kept: &Option<KeptLabel>, label: Option<&Label<'
 /// A label that is kept is this one, by its text, its tag and whether it is static.
 fn is_label(texts: &str, kept: &KeptLabel, label: &Label<'_>) -> bool
     requires { LabelStands texts.now kept.now }
-    ensures { Decides result (kept_label texts.now kept.now ≡ label.now) }
+    ensures { Decides result (stored_label texts.now kept.now ≡ label.now) }
 {
     is_text(texts, kept.text, label) && same_tag(kept.tag.as_ref(), label.tag())
 }

@@ -9,7 +9,7 @@ ghost use Rattle.sval_label.specs.SeenName.{seen_name};
 ghost use Rattle.sval_core.specs.Law.{Emits, computed};
 ghost use Rattle.sval_core.specs.Values.{makes};
 ghost use Rattle.sval_buffer.specs.Forest.{end_of};
-ghost use Rattle.sval_buffer.specs.SeenNames.{hinted, named_head, named_slot, named_call, call_at, HasParts, HasName, Extends, Keeps};
+ghost use Rattle.sval_buffer.specs.SeenNames.{hinted, named_head, named_slot, named_call, call_at, HasParts, HasName, Extends, KeepsNamedCall};
 
 use crate::kept::{NamedCall, keep, shown_label};
 use crate::recent::{Recent, slot_of};
@@ -165,7 +165,7 @@ pub trait CallStore: Sized + Drop {
     fn push(&mut self, kind: NamedKind, name: Name<'_>) -> std::result::Result<usize, NoMemory>
         requires { HasName kind (seen_name name) }
         ensures kept { let call = named_call kind (seen_name name.entry) in
-            IfOk result (λ at. Keeps (calls self.new) at call) }
+            IfOk result (λ at. KeepsNamedCall (calls self.new) at call) }
         ensures extends { OnOk result (Extends (calls self.old) (calls self.new)) }
         ensures err { OnErr result (calls self.new ≡ calls self.old) };
 
@@ -248,7 +248,7 @@ impl NamedCalls {
     /// The place of a call among those that a slot remembers, if it is one of them.
     fn find(&self, slot: usize, kind: NamedKind, name: &Name<'_>) -> Option<usize>
         ensures { let call = named_call kind (seen_name name.now) in
-            IfSome result (λ place. Keeps self.now place call) }
+            IfSome result (λ place. KeepsNamedCall self.now place call) }
     {
         let (last, before) = self.recent.get(slot)?;
         if self.is_kept(last, kind, name) {
@@ -262,7 +262,7 @@ impl NamedCalls {
 
     /// This call is kept at a place.
     fn is_kept(&self, place: usize, kind: NamedKind, name: &Name<'_>) -> bool
-        ensures { OnTrue result (Keeps self.now place (named_call kind (seen_name name.now))) }
+        ensures { OnTrue result (KeepsNamedCall self.now place (named_call kind (seen_name name.now))) }
     {
         match self.calls.get(place) {
             Some(call) => call.is_same(self.texts.as_str(), kind, name),

@@ -5,8 +5,8 @@ ghost use Rattle.sval_label.specs.Calls.{Call};
 ghost use Rattle.sval_core.specs.Law.{Emits};
 ghost use Rattle.sval_buffer.specs.Replay.{pass};
 ghost use Rattle.sval_core.specs.Values.{makes};
-ghost use Rattle.sval_buffer.specs.SeenParts.{stored, stored_part, seen_parts, AllKept};
-ghost use Rattle.sval_buffer.specs.Nested.{Going, outer_of, Linked, IsLinked, IsNested, EndsBefore};
+ghost use Rattle.sval_buffer.specs.SeenParts.{flat_part_of, stored_part, seen_parts, AllKept};
+ghost use Rattle.sval_buffer.specs.Nested.{Going, outer_of, Linked, IsLinked, IsNested, EndsAreMade};
 
 use crate::named::CallStore;
 use crate::part::Part;
@@ -22,7 +22,7 @@ pub(crate) fn replay_parts<'sval, N: CallStore, S: Stream<Lent<'sval>>>(
 ) -> Result
     requires nested { IsNested (seen_parts (N.calls named.now) parts.now) }
     requires kept { AllKept (length (N.calls named.now)) parts.now }
-    ensures { let calls = pass 0 [] (map stored (seen_parts (N.calls named.now) parts.now)) in
+    ensures { let calls = pass 0 [] (map flat_part_of (seen_parts (N.calls named.now) parts.now)) in
         Emits S.law result (S.standing stream.old) (makes calls) (S.standing stream.new) }
 {
     let mut going = None;
@@ -49,7 +49,7 @@ fn end_before<'sval, N: CallStore, S: Stream<Lent<'sval>>>(
     requires linked { IsLinked (seen_parts (N.calls named.now) parts.now) going }
     requires kept { AllKept (length (N.calls named.now)) parts.now }
     ensures { let seen = seen_parts (N.calls named.now) parts.now in (gs : List Going) → Linked seen going gs
-        → EndsBefore S.law seen place gs (S.standing stream.old) result (S.standing stream.new) }
+        → EndsAreMade S.law seen place gs (S.standing stream.old) result (S.standing stream.new) }
 {
     let mut newest = going;
     while let Some(at) = newest {

@@ -7,10 +7,10 @@ ghost use Rattle.sval_label.specs.Grouped.{grouped_call};
 ghost use Rattle.sval_core.specs.Law.{Emits};
 ghost use Rattle.sval_core.specs.Values.{makes};
 ghost use Rattle.sval_buffer.specs.Replay.{head_calls};
-ghost use Rattle.sval_buffer.specs.Nested.{end_calls, is_holder};
+ghost use Rattle.sval_buffer.specs.Nested.{ends_of_part, is_holder};
 ghost use Rattle.sval_buffer.specs.Forest.{end_of, push_may_grow};
 ghost use Rattle.sval_buffer.specs.declared.part.Medium.TheVariants as media;
-ghost use Rattle.sval_buffer.specs.SeenParts.{seen_part, FragmentPushes, fragment_bytes, with_holds, flat_kind, holds_of, single_call, begin_call, no_fragments_yet, IsKept};
+ghost use Rattle.sval_buffer.specs.SeenParts.{seen_part, FragmentPushes, fragment_bytes, with_holds, flat_kind, holds_of, single_call, begin_call, no_fragments_yet, IsKeptCall};
 
 use crate::binary_buf::BinaryBuf;
 use crate::error::{ErrorKind, Word, no_alloc};
@@ -165,7 +165,7 @@ impl<'sval> Part<'sval> {
     ) -> Result<(), ErrorKind>
         ensures pushes { let pushed = fragment_bytes fragment.entry in (calls : List Call)
             → FragmentPushes media.Text (seen_part calls self.old) pushed result (seen_part calls self.new) }
-        ensures kept { (calls : ℕ) → IsKept calls self.old.kind → IsKept calls self.new.kind }
+        ensures kept { (calls : ℕ) → IsKeptCall calls self.old.kind → IsKeptCall calls self.new.kind }
     {
         match &mut self.kind {
             PartKind::Text(text) => match push_into_text(text, fragment) {
@@ -183,7 +183,7 @@ impl<'sval> Part<'sval> {
     ) -> Result<(), ErrorKind>
         ensures pushes { let pushed = fragment_bytes fragment.entry in (calls : List Call)
             → FragmentPushes media.Binary (seen_part calls self.old) pushed result (seen_part calls self.new) }
-        ensures kept { (calls : ℕ) → IsKept calls self.old.kind → IsKept calls self.new.kind }
+        ensures kept { (calls : ℕ) → IsKeptCall calls self.old.kind → IsKeptCall calls self.new.kind }
     {
         match &mut self.kind {
             PartKind::Binary(bytes) => match push_into_binary(bytes, fragment) {
@@ -224,7 +224,7 @@ impl<'sval> Part<'sval> {
         named: &N,
         stream: &mut S,
     ) -> sval_core::Result
-        requires { IsKept (length (N.calls named.now)) self.now.kind }
+        requires { IsKeptCall (length (N.calls named.now)) self.now.kind }
         ensures { let calls = head_calls (flat_kind (N.calls named.now) self.now.kind) in
             Emits S.law result (S.standing stream.old) (makes calls) (S.standing stream.new) }
     {
@@ -245,8 +245,8 @@ impl<'sval> Part<'sval> {
         named: &N,
         stream: &mut S,
     ) -> sval_core::Result
-        requires { IsKept (length (N.calls named.now)) self.now.kind }
-        ensures { let calls = end_calls (flat_kind (N.calls named.now) self.now.kind) in
+        requires { IsKeptCall (length (N.calls named.now)) self.now.kind }
+        ensures { let calls = ends_of_part (flat_kind (N.calls named.now) self.now.kind) in
             Emits S.law result (S.standing stream.old) (makes calls) (S.standing stream.new) }
     {
         match &self.kind {

@@ -43,13 +43,13 @@ pub(crate) struct Parts<'sval, N: CallStore> {
 impl<'sval, N: CallStore> Model for Parts<'sval, N> {
     ghost use Rattle.std.specs.Prelude.{map};
     ghost use Rattle.sval_buffer.specs.FlatForest.{FlatForest};
-    ghost use Rattle.sval_buffer.specs.SeenParts.{stored, seen_parts, PartsTell};
+    ghost use Rattle.sval_buffer.specs.SeenParts.{flat_part_of, seen_parts, PartsTell};
 
     ghost Value = { FlatForest };
 
     ghost view = { λ p.
         let seen = seen_parts (N.calls p.named) p.parts.items in
-        record { parts = map stored seen; places = p.places.items; in_fragments = p.in_fragments } };
+        record { parts = map flat_part_of seen; places = p.places.items; in_fragments = p.in_fragments } };
 
     ghost invariant = { λ p. PartsTell (N.calls p.named) p.parts.items p.places.items p.in_fragments };
 }

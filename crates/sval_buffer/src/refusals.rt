@@ -1,7 +1,7 @@
 //! What a stream that collects keeps of its refusals.
 
 ghost use Rattle.std.specs.Prelude.{◌≡◌, ◌≤◌, None, Some};
-ghost use Rattle.sval_buffer.specs.Capture.{wants_after};
+ghost use Rattle.sval_buffer.specs.Capture.{wants_after_error};
 ghost use Rattle.sval_buffer.specs.CapturedValues.{cause_by};
 
 use crate::error::{Error, ErrorKind, Word};
@@ -26,7 +26,7 @@ impl Refusals {
 
     /// Keeps why a call was refused.
     pub(crate) fn keep(&mut self, why: ErrorKind)
-        ensures kept { self.new ≡ record { last = Some why; wants = wants_after why self.old.wants } }
+        ensures kept { self.new ≡ record { last = Some why; wants = wants_after_error why self.old.wants } }
         ensures rises { self.old.wants ≤ self.new.wants }
     {
         if let ErrorKind::NoAlloc { .. } = why {

@@ -7,7 +7,7 @@ ghost use Rattle.sval_core.specs.Spells.{Spells};
 ghost use Rattle.sval_core.specs.Law.{Answers, Emits, computed};
 ghost use Rattle.sval_buffer.specs.Forest as forest;
 ghost use Rattle.sval_buffer.specs.Forest.{HoldsNoPart};
-ghost use Rattle.sval_buffer.specs.Capture.{Capture, IsNoAlloc, no_calls, wants_after, capture_law};
+ghost use Rattle.sval_buffer.specs.Capture.{Capture, IsNoAlloc, no_calls, wants_after_error, capture_law};
 ghost use Rattle.sval_buffer.specs.Owned.{owned, owning_law};
 ghost use Rattle.sval_buffer.specs.FlatForest.{forest_in};
 ghost use Rattle.sval_core.specs.Values.{makes};
@@ -257,7 +257,7 @@ impl<'sval, N: CallStore> AnyValueBuf<'sval, N> {
     /// Keeps why a call was refused.
     fn keep(&mut self, why: ErrorKind)
         ensures kept { let was = capture_of self.old in
-            capture_of self.new ≡ record was { refusal = Some why; wants = wants_after why was.wants } }
+            capture_of self.new ≡ record was { refusal = Some why; wants = wants_after_error why was.wants } }
         ensures rises { self.old.wants ≤ self.new.wants }
     {
         if let ErrorKind::NoAlloc { .. } = why {

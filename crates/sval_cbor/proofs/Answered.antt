@@ -17,9 +17,9 @@ use Rattle.sval_cbor.specs.declared.error.CborError.{CborError}
 use Rattle.sval_cbor.specs.declared.error.CborError.TheVariants as error
 use Rattle.sval_cbor.specs.declared.error.Stop.{Stop}
 use Rattle.sval_cbor.specs.declared.error.Stop.TheVariants as stop
-use Rattle.sval_cbor.specs.Packs.{PackRefusal, BadKey, BadNumber, RawJson, NotInteger, map_ok, pack_of}
+use Rattle.sval_cbor.specs.Packs.{PackRefusal, BadKey, BadNumber, RawJson, NotInteger, map_packed, pack_of}
 use Rattle.sval_cbor.specs.Cbor.{cbor}
-use Rattle.sval_cbor.specs.Streamed.{CborAnswer, refusal_error, check_error, stop_error, WroteAll, IsHalted, AnswersBytes, AnswersDue, IsNoTree, IsChecked, IsRefusedAs, HasCbor, IsDue, WritesTree, TakesMemory, IsOfValue, StreamsCbor}
+use Rattle.sval_cbor.specs.Streamed.{CborAnswer, refusal_error, check_error, stop_error, WroteAll, IsHalted, AnswersBytes, AnswersDue, IsNoTree, IsChecked, IsRefusedAs, HasCbor, IsCborDue, WritesCborTree, TakesMemory, IsCauseOfValue, StreamsCbor}
 
 -- ---- the writer
 
@@ -47,7 +47,7 @@ stop_answered (stop.Sink sink.Failed) (Ok bytes) old new ok halted = halted.fron
 stop_answered (stop.Sink sink.NoMemory) (Ok bytes) old new ok halted = halted.front bytes refl
 stop_answered (stop.Sink why) (Err refusal) old new ok halted = cc ok
 
-pub stop_leaves : (why : Stop) (due : Result (List ℕ) PackRefusal) (old new : Told) → IsOk due → IsHalted why due old new → IsOfValue (Err (stop_error why)) → ⊥
+pub stop_leaves : (why : Stop) (due : Result (List ℕ) PackRefusal) (old new : Told) → IsOk due → IsHalted why due old new → IsCauseOfValue (Err (stop_error why)) → ⊥
 stop_leaves (stop.Step why) (Ok bytes) old new ok halted own = cc halted
 stop_leaves (stop.Step why) (Err refusal) old new ok halted own = cc ok
 stop_leaves (stop.Sink sink.Failed) due old new ok halted own = own
@@ -55,16 +55,16 @@ stop_leaves (stop.Sink sink.NoMemory) due old new ok halted own = own
 
 -- ---- trees and their bytes
 
-pub packed_by : (found : Result Json PackRefusal) (bytes : List ℕ) → Ok bytes ≡ map_ok cbor found → (json : Json) × (found ≡ Ok json) × (bytes ≡ cbor json)
+pub packed_by : (found : Result Json PackRefusal) (bytes : List ℕ) → Ok bytes ≡ map_packed cbor found → (json : Json) × (found ≡ Ok json) × (bytes ≡ cbor json)
 packed_by (Ok json) bytes e = (json, refl, cc e)
 packed_by (Err why) bytes e = cc e
 
-refused_by : (found : Result Json PackRefusal) (why : PackRefusal) → Err why ≡ map_ok cbor found → found ≡ Err why
+refused_by : (found : Result Json PackRefusal) (why : PackRefusal) → Err why ≡ map_packed cbor found → found ≡ Err why
 refused_by (Ok json) why e = cc e
 refused_by (Err other) why e = let same : why ≡ other = cc e in ap Err (sym same)
 
-json_bytes : {found : Result Json PackRefusal} {bytes : List ℕ} {json : Json} → Ok bytes ≡ map_ok cbor found → found ≡ Ok json → bytes ≡ cbor json
-json_bytes e is = let f = e ∙ ap (map_ok cbor) is in cc f
+json_bytes : {found : Result Json PackRefusal} {bytes : List ℕ} {json : Json} → Ok bytes ≡ map_packed cbor found → found ≡ Ok json → bytes ≡ cbor json
+json_bytes e is = let f = e ∙ ap (map_packed cbor) is in cc f
 
 -- ---- errors of the value
 
@@ -75,7 +75,7 @@ nothing_is_front told bytes = record { count = 0; within = omega arith; appends 
 nothing_fell : (told : Told) → NoCountFell told told
 nothing_fell told = steady_counts (steady_alone told)
 
-pub due_streams : (e : Emission) (why : CborError) (told : Told) → IsOfValue (Err why) → IsDue e (Err why) → ((other : CborError) → IsDue e (Err other) → other ≡ why) → (HasCbor e → ⊥)
+pub due_streams : (e : Emission) (why : CborError) (told : Told) → IsCauseOfValue (Err why) → IsCborDue e (Err why) → ((other : CborError) → IsCborDue e (Err other) → other ≡ why) → (HasCbor e → ⊥)
     → StreamsCbor e (Err why) told told
 due_streams e why told own due only none = record {
   value = tt;
@@ -84,12 +84,12 @@ due_streams e why told own due only none = record {
   only_where = λ h. due;
   error_comes = λ other d. inl (ap Err (sym (only other d)));
   ok_comes = λ has quiet. absurd (none has);
-  write = λ is. absurd (subst IsOfValue is own);
-  write_room = λ is. absurd (subst IsOfValue is own);
-  write_short = λ is. absurd (subst IsOfValue is own);
-  write_value = λ is. absurd (subst IsOfValue is own);
-  no_memory = λ is. absurd (subst IsOfValue is own);
-  no_memory_short = λ is. absurd (subst IsOfValue is own);
+  write = λ is. absurd (subst IsCauseOfValue is own);
+  write_room = λ is. absurd (subst IsCauseOfValue is own);
+  write_short = λ is. absurd (subst IsCauseOfValue is own);
+  write_value = λ is. absurd (subst IsCauseOfValue is own);
+  no_memory = λ is. absurd (subst IsCauseOfValue is own);
+  no_memory_short = λ is. absurd (subst IsCauseOfValue is own);
   counts = nothing_fell told;
   prefix = λ tree json spells packs. nothing_is_front told (cbor json);
 }
@@ -123,7 +123,7 @@ declined why = Err why
 
 -- it comes wherever it is due
 abbrev pub Comes : Emission → CheckAnswer → Type 0
-Comes e r = (due : CheckAnswer) → checks.IsDue e due → (r ≡ due) ⊎ (r ≡ Err check.NoMemory)
+Comes e r = (due : CheckAnswer) → checks.IsCheckDue e due → (r ≡ due) ⊎ (r ≡ Err check.NoMemory)
 
 bad_is_no_other : (at : ℕ) {due : CheckAnswer} → (declined (check.BadCall at) ≡ due) ⊎ (declined (check.BadCall at) ≡ declined check.NoMemory) → due ≡ declined (check.BadCall at)
 bad_is_no_other at (inl is) = sym is
@@ -138,7 +138,7 @@ refused_is_no_other (inl is) = sym is
 refused_is_no_other (inr is) = cc is
 
 -- no other error is due than that the calls are no tree
-only_no_tree : (e : Emission) → (IsOneValue e → ⊥) → (OnlyRefuses e → ⊥) → (other : CborError) → IsDue e (Err other) → other ≡ error.NotATree
+only_no_tree : (e : Emission) → (IsOneValue e → ⊥) → (OnlyRefuses e → ⊥) → (other : CborError) → IsCborDue e (Err other) → other ≡ error.NotATree
 only_no_tree e no_value no_refusal error.NotATree due = refl
 only_no_tree e no_value no_refusal error.Refused due = absurd (no_refusal due)
 only_no_tree e no_value no_refusal error.Key due = absurd (no_value due.value)
@@ -148,7 +148,7 @@ only_no_tree e no_value no_refusal error.NotInteger due = absurd (no_value due.v
 only_no_tree e no_value no_refusal error.Write due = absurd due
 only_no_tree e no_value no_refusal error.NoMemory due = absurd due
 
-pub bad_streams : (e : Emission) (at : ℕ) (told : Told) → checks.IsFirstBad e.calls at → Comes e (Err (check.BadCall at)) → StreamsCbor e (Err error.NotATree) told told
+pub bad_streams : (e : Emission) (at : ℕ) (told : Told) → checks.IsFirstBadCall e.calls at → Comes e (Err (check.BadCall at)) → StreamsCbor e (Err error.NotATree) told told
 bad_streams e at told bad comes =
     let no_value : IsOneValue e → ⊥ = λ one. cc (bad_is_no_other at (comes (Ok tt) one)) in
     let no_refusal : OnlyRefuses e → ⊥ = λ refuses. cc (bad_is_no_other at (comes (Err check.Refused) refuses)) in
@@ -161,7 +161,7 @@ unfinished_streams e told unfinished comes =
     due_streams e error.NotATree told tt (inr unfinished) (only_no_tree e no_value no_refusal) (λ has. no_value has.value)
 
 -- none is due than that the value refuses
-only_refused : (e : Emission) → (IsOneValue e → ⊥) → (IsNoTree e → ⊥) → (other : CborError) → IsDue e (Err other) → other ≡ error.Refused
+only_refused : (e : Emission) → (IsOneValue e → ⊥) → (IsNoTree e → ⊥) → (other : CborError) → IsCborDue e (Err other) → other ≡ error.Refused
 only_refused e no_value a_tree error.NotATree due = absurd (a_tree due)
 only_refused e no_value a_tree error.Refused due = refl
 only_refused e no_value a_tree error.Key due = absurd (no_value due.value)
@@ -181,7 +181,7 @@ refused_streams e told refuses comes =
     no_tree (inr unfinished) = cc
 
 -- what the check doesn't accept
-pub unaccepted_streams : (e : Emission) (why : CheckError) (told : Told) → ((at : ℕ) → declined why ≡ declined (check.BadCall at) → checks.IsFirstBad e.calls at) → (declined why ≡ declined check.Refused → OnlyRefuses e)
+pub unaccepted_streams : (e : Emission) (why : CheckError) (told : Told) → ((at : ℕ) → declined why ≡ declined (check.BadCall at) → checks.IsFirstBadCall e.calls at) → (declined why ≡ declined check.Refused → OnlyRefuses e)
     → (declined why ≡ declined check.Unfinished → checks.IsUnfinished e) → (declined why ≡ declined check.NoMemory → checks.NeedsMemory e.calls) → Comes e (Err why) → StreamsCbor e (Err (check_error why)) told told
 unaccepted_streams e (check.BadCall at) told bad refused unfinished memory comes = bad_streams e at told (bad at refl) comes
 unaccepted_streams e check.Refused told bad refused unfinished memory comes = refused_streams e told (refused refl) comes
@@ -224,7 +224,7 @@ module _ (e : Emission) (one : IsChecked e) where
       let both : Ok json ≡ Err why = sym packs ∙ refused.packs tree spells in
       cc both
 
-  no_error : HasCbor e → (why : CborError) → IsDue e (Err why) → ⊥
+  no_error : HasCbor e → (why : CborError) → IsCborDue e (Err why) → ⊥
   no_error has error.NotATree due = one.surely due
   no_error has error.Refused due = not_refusing due
   no_error has error.Key due = not_refused has BadKey due
@@ -241,7 +241,7 @@ module _ (e : Emission) (one : IsChecked e) where
       let both : Err other ≡ Err why = sym (too.packs tree spells) ∙ refused.packs tree spells in
       cc both
 
-  only_refusal : (why : PackRefusal) → IsRefusedAs e why → (other : CborError) → IsDue e (Err other) → other ≡ refusal_error why
+  only_refusal : (why : PackRefusal) → IsRefusedAs e why → (other : CborError) → IsCborDue e (Err other) → other ≡ refusal_error why
   only_refusal why refused error.NotATree due = absurd (one.surely due)
   only_refusal why refused error.Refused due = absurd (not_refusing due)
   only_refusal why refused error.Key due = ap refusal_error (same_refusal why BadKey refused due)
@@ -251,13 +251,13 @@ module _ (e : Emission) (one : IsChecked e) where
   only_refusal why refused error.Write due = absurd due
   only_refusal why refused error.NoMemory due = absurd due
 
-  refusal_due : (why : PackRefusal) → IsRefusedAs e why → IsDue e (Err (refusal_error why))
+  refusal_due : (why : PackRefusal) → IsRefusedAs e why → IsCborDue e (Err (refusal_error why))
   refusal_due BadKey refused = refused
   refusal_due BadNumber refused = refused
   refusal_due RawJson refused = refused
   refusal_due NotInteger refused = refused
 
-  refusal_of_value : (why : PackRefusal) → IsOfValue (Err (refusal_error why))
+  refusal_of_value : (why : PackRefusal) → IsCauseOfValue (Err (refusal_error why))
   refusal_of_value BadKey = tt
   refusal_of_value BadNumber = tt
   refusal_of_value RawJson = tt
@@ -267,14 +267,14 @@ module _ (e : Emission) (one : IsChecked e) where
   refusal_streams why told refused =
       due_streams e (refusal_error why) told (refusal_of_value why) (refusal_due why refused) (only_refusal why refused) (λ has. not_refused has why refused)
 
-  module _ (bytes : List ℕ) (gives : (tree : Tree) → Spells e.calls tree → Ok bytes ≡ map_ok cbor (pack_of tree)) where
+  module _ (bytes : List ℕ) (gives : (tree : Tree) → Spells e.calls tree → Ok bytes ≡ map_packed cbor (pack_of tree)) where
     has_cbor : HasCbor e
     has_cbor = record {
       value = one.value;
       packs = λ tree spells. let packed = packed_by (pack_of tree) bytes (gives tree spells) in (packed.0, packed.1);
     }
 
-    writes_tree : {old new : Told} → WritesWhole old bytes new → (tree : Tree) → Spells e.calls tree → WritesTree tree old new
+    writes_tree : {old new : Told} → WritesWhole old bytes new → (tree : Tree) → Spells e.calls tree → WritesCborTree tree old new
     writes_tree {old} {new} w tree spells =
         let packed = packed_by (pack_of tree) bytes (gives tree spells) in
         record { json = packed.0; packs = packed.1; appends = subst (λ bytes. Appends old bytes new) packed.2 w.appends }
@@ -344,17 +344,17 @@ module _ (e : Emission) (one : IsChecked e) where
     bytes_stream (Err error.Raw) old new h = absurd h
     bytes_stream (Err error.NotInteger) old new h = absurd h
 
-  refused_as : (why : PackRefusal) → ((tree : Tree) → Spells e.calls tree → Err why ≡ map_ok cbor (pack_of tree)) → IsRefusedAs e why
+  refused_as : (why : PackRefusal) → ((tree : Tree) → Spells e.calls tree → Err why ≡ map_packed cbor (pack_of tree)) → IsRefusedAs e why
   refused_as why gives = record { value = one.value; packs = λ tree spells. refused_by (pack_of tree) why (gives tree spells) }
 
-  pub checked_streams : (due : Result (List ℕ) PackRefusal) (result : CborAnswer) (old new : Told) → ((tree : Tree) → Spells e.calls tree → due ≡ map_ok cbor (pack_of tree))
+  pub checked_streams : (due : Result (List ℕ) PackRefusal) (result : CborAnswer) (old new : Told) → ((tree : Tree) → Spells e.calls tree → due ≡ map_packed cbor (pack_of tree))
       → AnswersDue result old due new → StreamsCbor e result old new
   checked_streams (Ok bytes) result old new gives answers = bytes_stream bytes gives result old new answers
   checked_streams (Err why) result old new gives (is, same) =
       subst (λ r. StreamsCbor e r old new) (sym is) (subst (λ (t : Told). StreamsCbor e (Err (refusal_error why)) old t) (sym same) (refusal_streams why old (refused_as why gives)))
 
   -- where memory was wanting to write, the sink's count of wants rose
-  pub checked_want : (due : Result (List ℕ) PackRefusal) (result : CborAnswer) (old new : Told) → ((tree : Tree) → Spells e.calls tree → due ≡ map_ok cbor (pack_of tree))
+  pub checked_want : (due : Result (List ℕ) PackRefusal) (result : CborAnswer) (old new : Told) → ((tree : Tree) → Spells e.calls tree → due ≡ map_packed cbor (pack_of tree))
       → AnswersDue result old due new → result ≡ Err error.NoMemory → Rose old.wants new.wants × HasCbor e
   checked_want (Ok bytes) result old new gives answers is =
       let front : WritesFront sink.NoMemory old bytes new = subst (λ (r : CborAnswer). AnswersBytes r old bytes new) is answers in (front.cause, has_cbor bytes gives)

@@ -9,14 +9,14 @@ use Rattle.sval_buffer.specs.Forest.{Node, Nodes, Forest, empty_forest, Holds, f
 use Rattle.sval_buffer.specs.Laws.{IsCapturedAs}
 use Rattle.sval_buffer.proofs.Recapture.{is_single, is_begin, IsMade, single, text, binary, container, AreMade, no_nodes, more_made, IsMadeForest, IfHeld, captured-made}
 use Rattle.sval_buffer.proofs.SameTree.{capture_keeps}
-use Rattle.sval_cbor.specs.Packs.{map_ok, pack_of}
+use Rattle.sval_cbor.specs.Packs.{map_packed, pack_of}
 use Rattle.sval_cbor.specs.Cbor.{cbor}
-use Rattle.sval_cbor.specs.Writing.{NoText, progress, are_whole, HaveWholeTexts, written}
+use Rattle.sval_cbor.specs.Writing.{NoText, fragment_progress, are_whole, HaveWholeTexts, written_cbor}
 use Rattle.sval_cbor.proofs.WritingTrees.{spelling_written}
 
 -- ---- calls that stand outside texts
 
-single_outside : (call : Call) → IsTrue (is_single call) → progress NoText call ≡ Some NoText
+single_outside : (call : Call) → IsTrue (is_single call) → fragment_progress NoText call ≡ Some NoText
 single_outside calls.Null h = refl
 single_outside (calls.Truth b) h = refl
 single_outside (calls.Int type z) h = refl
@@ -24,21 +24,21 @@ single_outside (calls.Standalone name) h = refl
 single_outside (calls.TagHint tag) h = refl
 single_outside other h = cc
 
-begin_outside : (call : Call) → IsTrue (is_begin call) → progress NoText call ≡ Some NoText
+begin_outside : (call : Call) → IsTrue (is_begin call) → fragment_progress NoText call ≡ Some NoText
 begin_outside (calls.EnumBegin name) h = refl
 begin_outside (calls.TaggedBegin name) h = refl
 begin_outside (calls.Begin head size) h = refl
 begin_outside (calls.PartBegin slot) h = refl
 begin_outside other h = cc
 
-end_outside : (call : Call) → IsTrue (is_begin call) → progress NoText (end_of call) ≡ Some NoText
+end_outside : (call : Call) → IsTrue (is_begin call) → fragment_progress NoText (end_of call) ≡ Some NoText
 end_outside (calls.EnumBegin name) h = refl
 end_outside (calls.TaggedBegin name) h = refl
 end_outside (calls.Begin head size) h = refl
 end_outside (calls.PartBegin slot) h = refl
 end_outside other h = cc
 
-passed : (call : Call) (rest : List Call) → progress NoText call ≡ Some NoText → HaveWholeTexts rest → HaveWholeTexts (call ∷ rest)
+passed : (call : Call) (rest : List Call) → fragment_progress NoText call ≡ Some NoText → HaveWholeTexts rest → HaveWholeTexts (call ∷ rest)
 passed call rest e h = ap (λ o. are_whole o rest) e ∙ h
 
 mutual
@@ -67,7 +67,7 @@ same_forest e = cc e
 replay_whole : (f : Forest) → AreMade f.nodes → f.spine ≡ [] → HaveWholeTexts (replayed f)
 replay_whole f made e = subst (λ o. HaveWholeTexts (null_for_none (row_calls f.nodes ++ spine_calls o))) (sym e) (null_whole (row_calls f.nodes ++ []) (row_whole made [] refl))
 
-pub captured_is_written : (calls : List Call) (tree : Tree) (f : Forest) → Spells calls tree → forest calls ≡ Holds f → written (replayed f) ≡ map_ok cbor (pack_of tree)
+pub captured_is_written : (calls : List Call) (tree : Tree) (f : Forest) → Spells calls tree → forest calls ≡ Holds f → written_cbor (replayed f) ≡ map_packed cbor (pack_of tree)
 captured_is_written calls tree f s e =
     let (g, captured) = capture_keeps calls tree s in
     let same : g ≡ f = same_forest (sym captured.taken ∙ e) in

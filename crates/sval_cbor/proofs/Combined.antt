@@ -10,10 +10,10 @@ use Rattle.sval_json.specs.Json.{number, text}
 use Rattle.sval_json.specs.Number as json
 use Rattle.sval_json.specs.Number.{sign}
 use Rattle.sval_json.specs.Shape.{byte_items}
-use Rattle.sval_cbor.specs.Packs.{BadNumber, NotInteger, is_whole, has_128_bits}
+use Rattle.sval_cbor.specs.Packs.{BadNumber, NotInteger, is_whole_number, has_128_bits}
 use Rattle.sval_cbor.specs.Cbor.{string, integer, cbor, cbor_items}
-use Rattle.sval_cbor.specs.Writing.{State, writes, number_bytes}
-use Rattle.sval_cbor.specs.WriterLaw.{Target, WriterView, json_bytes, HasDone, IsStopped, Does}
+use Rattle.sval_cbor.specs.Writing.{CborState, writes, number_bytes}
+use Rattle.sval_cbor.specs.WriterLaw.{CborTarget, CborWriterView, json_bytes, HasDoneStep, StepIsStopped, CborDoes}
 use Rattle.sval_cbor.proofs.Doing.{nothing_done, does_then, stopped_first}
 use Rattle.sval_cbor.proofs.Numbers.{integer_of_decimal}
 
@@ -39,20 +39,20 @@ not_null negative [] h = cc h
 not_null true (c ∷ cs) h = refl
 not_null false (c ∷ cs) h = rw (digit_first c h) refl
 
-pub packed_whole : (negative : Bool) (unsigned : List ℕ) → has_digit unsigned ≡ true → is_whole (sign negative ++ unsigned) ≡ true
+pub packed_whole : (negative : Bool) (unsigned : List ℕ) → has_digit unsigned ≡ true → is_whole_number (sign negative ++ unsigned) ≡ true
     → Ok (integer (signed_digits_value 10 (sign negative ++ unsigned))) ≡ number_bytes false (Ok (sign negative ++ unsigned))
 packed_whole negative unsigned h w = rw (not_null negative unsigned h, w) refl
 
-pub packed_refused : (negative : Bool) (unsigned : List ℕ) → has_digit unsigned ≡ true → is_whole (sign negative ++ unsigned) ≡ false → Err NotInteger ≡ number_bytes false (Ok (sign negative ++ unsigned))
+pub packed_refused : (negative : Bool) (unsigned : List ℕ) → has_digit unsigned ≡ true → is_whole_number (sign negative ++ unsigned) ≡ false → Err NotInteger ≡ number_bytes false (Ok (sign negative ++ unsigned))
 packed_refused negative unsigned h w = rw (not_null negative unsigned h, w) refl
 
 -- ---- the bytes of a binary
 
 -- the rest of the bytes is due
-pub record IsRest (all : List ℕ) (state : State) (begun : Target) (rest : List ℕ) (now : WriterView) : Type 0 where
-  pub rest_of : (r : Result (Unit {0}) Error) (new : WriterView) → Does (writes (cbor_items (byte_items rest)) now.state) r now.target new → Does (writes (cbor_items (byte_items all)) state) r begun new
+pub record IsRest (all : List ℕ) (state : CborState) (begun : CborTarget) (rest : List ℕ) (now : CborWriterView) : Type 0 where
+  pub rest_of : (r : Result (Unit {0}) Error) (new : CborWriterView) → CborDoes (writes (cbor_items (byte_items rest)) now.state) r now.target new → CborDoes (writes (cbor_items (byte_items all)) state) r begun new
 
-pub all_rest : (all : List ℕ) (begun : WriterView) → IsRest all begun.state begun.target all begun
+pub all_rest : (all : List ℕ) (begun : CborWriterView) → IsRest all begun.state begun.target all begun
 all_rest all begun = record { rest_of = λ r new d. d }
 
 byte_fits : (byte : ℕ) → byte < 256 → has_128_bits (pos byte) ≡ true
@@ -61,18 +61,18 @@ byte_fits byte small = grind (arith, nat_tests)
 byte_item : (byte : ℕ) → byte < 256 → cbor (number (decimal byte)) ≡ integer (pos byte)
 byte_item byte small = integer_of_decimal (pos byte) (byte_fits byte small)
 
-pub next_rest : {all rest : List ℕ} {byte : ℕ} {state : State} {begun : Target} {mid now : WriterView} → byte < 256 → IsRest all state begun (byte ∷ rest) mid → HasDone (writes (integer (pos byte)) mid.state) mid.target now
+pub next_rest : {all rest : List ℕ} {byte : ℕ} {state : CborState} {begun : CborTarget} {mid now : CborWriterView} → byte < 256 → IsRest all state begun (byte ∷ rest) mid → HasDoneStep (writes (integer (pos byte)) mid.state) mid.target now
     → IsRest all state begun rest now
 next_rest {rest = rest} {byte = byte} {mid = mid} small due d = record {
-  rest_of = λ r new more. due.rest_of r new (subst (λ (bytes : List ℕ). Does (writes (bytes ++ cbor_items (byte_items rest)) mid.state) r mid.target new) (sym (byte_item byte small)) (does_then (cbor_items (byte_items rest)) (λ s. s) r mid.target new d more));
+  rest_of = λ r new more. due.rest_of r new (subst (λ (bytes : List ℕ). CborDoes (writes (bytes ++ cbor_items (byte_items rest)) mid.state) r mid.target new) (sym (byte_item byte small)) (does_then (cbor_items (byte_items rest)) (λ s. s) r mid.target new d more));
 }
 
-pub rest_stopped : {all rest : List ℕ} {byte : ℕ} {state : State} {begun : Target} {mid new : WriterView} → byte < 256 → IsRest all state begun (byte ∷ rest) mid → IsStopped (writes (integer (pos byte)) mid.state) mid.target new
-    → (refusal : Error) → IsStopped (writes (cbor_items (byte_items all)) state) begun new
+pub rest_stopped : {all rest : List ℕ} {byte : ℕ} {state : CborState} {begun : CborTarget} {mid new : CborWriterView} → byte < 256 → IsRest all state begun (byte ∷ rest) mid → StepIsStopped (writes (integer (pos byte)) mid.state) mid.target new
+    → (refusal : Error) → StepIsStopped (writes (cbor_items (byte_items all)) state) begun new
 rest_stopped {rest = rest} {byte = byte} {mid = mid} {new = new} small due stop refusal =
     due.rest_of (Err refusal) new
-    (subst (λ (bytes : List ℕ). IsStopped (writes (bytes ++ cbor_items (byte_items rest)) mid.state) mid.target new) (sym (byte_item byte small)) (stopped_first (cbor_items (byte_items rest)) stop))
+    (subst (λ (bytes : List ℕ). StepIsStopped (writes (bytes ++ cbor_items (byte_items rest)) mid.state) mid.target new) (sym (byte_item byte small)) (stopped_first (cbor_items (byte_items rest)) stop))
 
-pub no_rest : {all : List ℕ} {state : State} {begun : Target} {now : WriterView} (rest : List ℕ) → IsRest all state begun rest now → length rest ≡ 0 → HasDone (writes (cbor_items (byte_items all)) state) begun now
+pub no_rest : {all : List ℕ} {state : CborState} {begun : CborTarget} {now : CborWriterView} (rest : List ℕ) → IsRest all state begun rest now → length rest ≡ 0 → HasDoneStep (writes (cbor_items (byte_items all)) state) begun now
 no_rest {now = now} [] due none = due.rest_of (Ok tt) now (nothing_done now.state now.target)
 no_rest (byte ∷ rest) due none = absurd (omega (arith, none))

@@ -17,7 +17,7 @@ use Rattle.sval_label.proofs.Decimals.{IsShort, short-unsigned, short-signed}
 use Rattle.sval_json.specs.Digits.{digits_of, after_digits, minus, is_tail, without_minus, is_json_number}
 use Rattle.sval_json.specs.Number.{normal}
 use Rattle.sval_json.specs.Json.{number}
-use Rattle.sval_cbor.specs.Packs.{has_128_bits, is_whole}
+use Rattle.sval_cbor.specs.Packs.{has_128_bits, is_whole_number}
 use Rattle.sval_cbor.specs.Cbor.{integer, cbor}
 
 -- ---- a decimal is read back
@@ -134,7 +134,7 @@ back_by false c cs e n d s =
     let small : IsShort (pos (digits_value 10 (c ∷ cs))) = rw v at s in
     ap signed_decimal v ∙ decimal_of_value (c ∷ cs) d small
 
-pub whole_back : (out : List ℕ) → normal out ≡ Ok out → is_json_number out ≡ true → is_whole out ≡ true → signed_decimal (signed_digits_value 10 out) ≡ out
+pub whole_back : (out : List ℕ) → normal out ≡ Ok out → is_json_number out ≡ true → is_whole_number out ≡ true → signed_decimal (signed_digits_value 10 out) ≡ out
 whole_back [] n j w = absurd (cc j)
 whole_back (c ∷ cs) n j w =
     let (empty, bits) = and_parts (is_empty (after_digits (without_minus (c ∷ cs)))) (has_128_bits (signed_digits_value 10 (c ∷ cs))) w in

@@ -23,7 +23,7 @@ use Rattle.sval_json.specs.Shape.{index_text, handle_of, handle, label_or_index,
 use Rattle.sval_json.proofs.NumberGrammar.{front_and_rest, number_tested}
 use Rattle.sval_json.proofs.Texts.{normal_twice}
 use Rattle.sval_json.proofs.NumberTexts.{ascii_utf8, number_utf8, signed_number, normal_form}
-use Rattle.sval_cbor.specs.Packs.{PackRefusal, NotInteger, on_ok, map_ok, has_128_bits, is_whole, number_pack, tagged_pack, is_raw, key_bytes, pack_key_as, pack_key, packs, packed_items, packed_pairs, pack_of}
+use Rattle.sval_cbor.specs.Packs.{PackRefusal, NotInteger, on_packed, map_packed, has_128_bits, is_whole_number, number_pack, tagged_pack, is_raw, key_bytes, pack_key_as, pack_key, packs, packed_items, packed_pairs, pack_of}
 use Rattle.sval_cbor.specs.Premises.{IsShortText, IsShortLabel, IsShortName, IsShort, AreShort}
 use Rattle.sval_cbor.proofs.Numbers.{short_of_128, whole_back}
 
@@ -60,11 +60,11 @@ abbrev pub IfOk : {T E : Type 0} → (T → Type 0) → Result T E → Type 0
 IfOk P (Ok x) = P x
 IfOk P (Err why) = ⊤
 
-if_map : {T U : Type 0} (P : T → Type 0) (Q : U → Type 0) (f : T → U) (r : Result T PackRefusal) → ((x : T) → P x → Q (f x)) → IfOk P r → IfOk Q (map_ok f r)
+if_map : {T U : Type 0} (P : T → Type 0) (Q : U → Type 0) (f : T → U) (r : Result T PackRefusal) → ((x : T) → P x → Q (f x)) → IfOk P r → IfOk Q (map_packed f r)
 if_map P Q f (Ok x) g h = g x h
 if_map P Q f (Err why) g h = tt
 
-if_on : {T U : Type 0} (P : T → Type 0) (Q : U → Type 0) (f : T → Result U PackRefusal) (r : Result T PackRefusal) → ((x : T) → P x → IfOk Q (f x)) → IfOk P r → IfOk Q (on_ok r f)
+if_on : {T U : Type 0} (P : T → Type 0) (Q : U → Type 0) (f : T → Result U PackRefusal) (r : Result T PackRefusal) → ((x : T) → P x → IfOk Q (f x)) → IfOk P r → IfOk Q (on_packed r f)
 if_on P Q f (Ok x) g h = g x h
 if_on P Q f (Err why) g h = tt
 
@@ -217,22 +217,22 @@ normal_short text out e s = elim (normal_length_by (is_negative text) (is_number
 normal_text : (text out : List ℕ) → normal text ≡ Ok out → IsShortText text → IsPackedText out
 normal_text text out e s = (elim (normal_form text out e) [ inl j ↦ number_utf8 out j | inr word ↦ subst IsUtf8 (sym word) null_text.0 ], normal_short text out e s)
 
-no_word : (out : List ℕ) → out ≡ codes "null" → is_whole out ≡ true → ⊥
-no_word out e w = let f : is_whole (codes "null") ≡ true = rw e at w in cc f
+no_word : (out : List ℕ) → out ≡ codes "null" → is_whole_number out ≡ true → ⊥
+no_word out e w = let f : is_whole_number (codes "null") ≡ true = rw e at w in cc f
 
-whole_packed : (text out : List ℕ) → normal text ≡ Ok out → is_whole out ≡ true → IsPackedNumber out
+whole_packed : (text out : List ℕ) → normal text ≡ Ok out → is_whole_number out ≡ true → IsPackedNumber out
 whole_packed text out e w = elim (normal_form text out e) [
   | inl j ↦ (signed_digits_value 10 out, sym (whole_back out (normal_twice text out e) (number_tested j) w), (and_parts (is_empty (after_digits (without_minus out))) (has_128_bits (signed_digits_value 10 out)) w).1)
   | inr word ↦ absurd (no_word out word w)
 ]
 
-number_by : (a b : Bool) (text out : List ℕ) → normal text ≡ Ok out → is_whole out ≡ b → IfOk IsPacked (let r : Result Json PackRefusal = if a then Ok shape.null else if b then Ok (shape.number out) else Err NotInteger in r)
+number_by : (a b : Bool) (text out : List ℕ) → normal text ≡ Ok out → is_whole_number out ≡ b → IfOk IsPacked (let r : Result Json PackRefusal = if a then Ok shape.null else if b then Ok (shape.number out) else Err NotInteger in r)
 number_by true b text out e w = tt
 number_by false true text out e w = whole_packed text out e w
 number_by false false text out e w = tt
 
 number_packed : (text : List ℕ) (r : Result (List ℕ) json.Refusal) → normal text ≡ r → IfOk IsPacked (number_pack r)
-number_packed text (Ok out) e = number_by (bytes_eq out (codes "null")) (is_whole out) text out e refl
+number_packed text (Ok out) e = number_by (bytes_eq out (codes "null")) (is_whole_number out) text out e refl
 number_packed text (Err why) e = tt
 
 tagged_packed : (kind : TextKind) (tree : Tree) (r : Result Json PackRefusal) → IfOk IsPacked r → IfOk IsPacked (tagged_pack kind tree r)
@@ -313,21 +313,21 @@ mutual
   items_packed : (parts : Parts) → AreInRange parts → AreShort parts → IfOk ArePacked (packed_items parts)
   items_packed none r s = tt
   items_packed (part slot tree parts) r s =
-      if_on IsPacked ArePacked (λ json. map_ok (item json) (packed_items parts)) (packs tree false)
+      if_on IsPacked ArePacked (λ json. map_packed (item json) (packed_items parts)) (packs tree false)
       (λ json m. if_map ArePacked ArePacked (item json) (packed_items parts) (λ row n. (m, n)) (items_packed parts r.2 s.2)) (packs_packed tree false r.1 s.1)
 
   pairs_packed : (parts : Parts) → AreInRange parts → AreShort parts → IfOk PairsArePacked (packed_pairs parts)
   pairs_packed (part Slot.Key name (part slot tree parts)) r s =
-      if_on IsPackedKey PairsArePacked (λ k. on_ok (packs tree false) (λ json. map_ok (pair k json) (packed_pairs parts))) (pack_key name)
-      (λ k n. if_on IsPacked PairsArePacked (λ json. map_ok (pair k json) (packed_pairs parts)) (packs tree false)
+      if_on IsPackedKey PairsArePacked (λ k. on_packed (packs tree false) (λ json. map_packed (pair k json) (packed_pairs parts))) (pack_key name)
+      (λ k n. if_on IsPacked PairsArePacked (λ json. map_packed (pair k json) (packed_pairs parts)) (packs tree false)
       (λ json m. if_map PairsArePacked PairsArePacked (pair k json) (packed_pairs parts) (λ row o. (n, m, o)) (pairs_packed parts r.2.2 s.2.2)) (packs_packed tree false r.2.1 s.2.1))
       (pack_key_packed name r.1 s.1)
   pairs_packed (part (Slot.Field tag label) tree parts) r s =
-      if_on IsPacked PairsArePacked (λ json. map_ok (pair (escaped_key label.text) json) (packed_pairs parts)) (packs tree false)
+      if_on IsPacked PairsArePacked (λ json. map_packed (pair (escaped_key label.text) json) (packed_pairs parts)) (packs tree false)
       (λ json m. if_map PairsArePacked PairsArePacked (pair (escaped_key label.text) json) (packed_pairs parts) (λ row o. ((r.0, s.0), m, o)) (pairs_packed parts r.2 s.2))
       (packs_packed tree false r.1 s.1)
   pairs_packed (part (Slot.FieldPlace tag label index) tree parts) r s =
-      if_on IsPacked PairsArePacked (λ json. map_ok (pair (escaped_key label.text) json) (packed_pairs parts)) (packs tree false)
+      if_on IsPacked PairsArePacked (λ json. map_packed (pair (escaped_key label.text) json) (packed_pairs parts)) (packs tree false)
       (λ json m. if_map PairsArePacked PairsArePacked (pair (escaped_key label.text) json) (packed_pairs parts) (λ row o. ((r.0.0, s.0), m, o)) (pairs_packed parts r.2 s.2))
       (packs_packed tree false r.1 s.1)
   pairs_packed parts r s = tt

@@ -21,9 +21,9 @@ use Rattle.sval_program.specs.Runs as runs
 use Rattle.sval_program.proofs.JobRuns.{Case, on_both, by_end, the_fault}
 use Rattle.sval_cbor.specs.Cbor.{cbor}
 use Rattle.sval_cbor.specs.Forms.{form_named, OnNamed}
-use Rattle.sval_cbor.specs.Packs.{BadKey, BadNumber, RawJson, NotInteger, map_ok, pack_of}
+use Rattle.sval_cbor.specs.Packs.{BadKey, BadNumber, RawJson, NotInteger, map_packed, pack_of}
 use Rattle.sval_cbor.specs.Reports.{Reports, report}
-use Rattle.sval_cbor.specs.Serves.{Due, of_value, of_bad_line, of_bad_call, of_unfinished, of_bad_key, of_bad_number, of_raw, of_no_integer, cbor_terms, WritesBytes, WritesValue, MayLeave}
+use Rattle.sval_cbor.specs.Serves.{Due, of_value, of_bad_line, of_bad_call, of_unfinished, of_bad_key, of_bad_number, of_raw, of_no_integer, cbor_terms, WritesBytes, WritesCborValue, MayLeave}
 use Rattle.sval_cbor.specs.Statuses.{status_of_verdict, IsStatusDue}
 use Rattle.sval_cbor.specs.Verdict.{Verdict, BadLine, BadCall, Unfinished, Whole, IsVerdict, HasVerdict, OnVerdict}
 use Rattle.sval_cbor.proofs.Answered.{packed_by}
@@ -37,11 +37,11 @@ writes_bytes {old} {new} {script} {asked} t = of_due t.due t.appends
     of_due : {bytes : List ℕ} → Due asked script None bytes → Appends old bytes new → WritesBytes old new script asked
     of_due {bytes} (of_value is) appends = record { bytes = bytes; is = is; appends = appends }
 
-pub writes_value : (old new : Told) (script : List ℕ) (asked : Unit {0}) → WritesBytes old new script asked → WritesValue old new script asked
+pub writes_value : (old new : Told) (script : List ℕ) (asked : Unit {0}) → WritesBytes old new script asked → WritesCborValue old new script asked
 writes_value old new script asked w calls tree good spells =
-    let due : Whole (Ok w.bytes) ≡ Whole (map_ok cbor (pack_of tree)) =
-    one_verdict (Whole (Ok w.bytes)) (Whole (map_ok cbor (pack_of tree))) script w.is (record { calls = calls; good = good; is = record { tree = tree; spells = spells; is = refl } }) in
-    let same : Ok w.bytes ≡ map_ok cbor (pack_of tree) = cc due in
+    let due : Whole (Ok w.bytes) ≡ Whole (map_packed cbor (pack_of tree)) =
+    one_verdict (Whole (Ok w.bytes)) (Whole (map_packed cbor (pack_of tree))) script w.is (record { calls = calls; good = good; is = record { tree = tree; spells = spells; is = refl } }) in
+    let same : Ok w.bytes ≡ map_packed cbor (pack_of tree) = cc due in
     let packed = packed_by (pack_of tree) w.bytes same in
     record { json = packed.0; packs = packed.1; appends = subst (λ bytes. Appends old bytes new) packed.2 w.appends }
 

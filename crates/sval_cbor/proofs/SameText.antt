@@ -21,7 +21,7 @@ use Rattle.sval_json.specs.Promises.{KeepsLabelPromise}
 use Rattle.sval_json.proofs.NumberGrammar.{number_bytes}
 use Rattle.sval_json.proofs.EscapedPieces.{escaped-plain}
 use Rattle.sval_json.proofs.NumberTexts.{normal_form}
-use Rattle.sval_cbor.specs.Packs.{PackRefusal, NotInteger, on_ok, map_ok, is_whole, number_pack, tagged_pack, is_raw_kind, is_raw, key_bytes, pack_key_as, pack_key, packs, packed_items, packed_pairs, pack_of}
+use Rattle.sval_cbor.specs.Packs.{PackRefusal, NotInteger, on_packed, map_packed, is_whole_number, number_pack, tagged_pack, is_raw_kind, is_raw, key_bytes, pack_key_as, pack_key, packs, packed_items, packed_pairs, pack_of}
 use Rattle.sval_cbor.specs.Premises.{HasPlainIdentifiers, HavePlainIdentifiers}
 
 -- where the first is no refusal, neither is the second, and what they are stands in this relation
@@ -31,13 +31,13 @@ Agree R (Ok x) (Err why) = ⊥
 Agree R (Err why) _ = ⊤
 
 agree_map : {T U : Type 0} (R : T → T → Type 0) (S : U → U → Type 0) (f g : T → U) (p : Result T PackRefusal) (q : Result T json.Refusal)
-    → ((x y : T) → R x y → S (f x) (g y)) → Agree R p q → Agree S (map_ok f p) (json_shape.map_ok g q)
+    → ((x y : T) → R x y → S (f x) (g y)) → Agree R p q → Agree S (map_packed f p) (json_shape.map_ok g q)
 agree_map R S f g (Ok x) (Ok y) h a = h x y a
 agree_map R S f g (Ok x) (Err why) h a = a
 agree_map R S f g (Err why) q h a = tt
 
 agree_on : {T U : Type 0} (R : T → T → Type 0) (S : U → U → Type 0) (f : T → Result U PackRefusal) (g : T → Result U json.Refusal) (p : Result T PackRefusal) (q : Result T json.Refusal)
-    → ((x y : T) → R x y → Agree S (f x) (g y)) → Agree R p q → Agree S (on_ok p f) (json_shape.on_ok q g)
+    → ((x y : T) → R x y → Agree S (f x) (g y)) → Agree R p q → Agree S (on_packed p f) (json_shape.on_ok q g)
 agree_on R S f g (Ok x) (Ok y) h a = h x y a
 agree_on R S f g (Ok x) (Err why) h a = absurd a
 agree_on R S f g (Err why) q h a = tt
@@ -84,7 +84,7 @@ number_by false true out e = refl
 number_by false false out e = tt
 
 number_agrees : (r : Result (List ℕ) json.Refusal) → Agree SameText (number_pack r) (json_shape.map_ok shape.raw r)
-number_agrees (Ok out) = number_by (bytes_eq out (codes "null")) (is_whole out) out refl
+number_agrees (Ok out) = number_by (bytes_eq out (codes "null")) (is_whole_number out) out refl
 number_agrees (Err why) = tt
 
 tagged_agrees : (kind : TextKind) (tree : Tree) (p : Result Json PackRefusal) (q : Result Json json.Refusal) → Agree SameText p q → Agree SameText (tagged_pack kind tree p) (tagged_json kind tree q)
@@ -203,22 +203,22 @@ mutual
   same_items : (parts : Parts) → HavePlainIdentifiers parts → Agree SameItems (packed_items parts) (items Inside parts)
   same_items none p = λ first. refl
   same_items (part slot tree parts) p =
-      agree_on SameText SameItems (λ json. map_ok (item json) (packed_items parts)) (λ json. json_shape.map_ok (item json) (items Inside parts)) (packs tree false) (json_shape.shape Inside tree false)
+      agree_on SameText SameItems (λ json. map_packed (item json) (packed_items parts)) (λ json. json_shape.map_ok (item json) (items Inside parts)) (packs tree false) (json_shape.shape Inside tree false)
       (λ x y h. agree_map SameItems SameItems (item x) (item y) (packed_items parts) (items Inside parts) (λ row other k. same_item x y row other h k) (same_items parts p.2)) (same tree false p.1)
 
   same_pairs : (parts : Parts) → HavePlainIdentifiers parts → Agree SamePairs (packed_pairs parts) (pairs Inside parts)
   same_pairs (part Slot.Key name (part slot tree parts)) p =
-      agree_on SameKey SamePairs (λ k. on_ok (packs tree false) (λ json. map_ok (pair k json) (packed_pairs parts))) (λ k. json_shape.on_ok (json_shape.shape Inside tree false) (λ json. json_shape.map_ok (pair k json) (pairs Inside parts)))
+      agree_on SameKey SamePairs (λ k. on_packed (packs tree false) (λ json. map_packed (pair k json) (packed_pairs parts))) (λ k. json_shape.on_ok (json_shape.shape Inside tree false) (λ json. json_shape.map_ok (pair k json) (pairs Inside parts)))
       (pack_key name) (key name false)
-      (λ a b d. agree_on SameText SamePairs (λ json. map_ok (pair a json) (packed_pairs parts)) (λ json. json_shape.map_ok (pair b json) (pairs Inside parts)) (packs tree false) (json_shape.shape Inside tree false)
+      (λ a b d. agree_on SameText SamePairs (λ json. map_packed (pair a json) (packed_pairs parts)) (λ json. json_shape.map_ok (pair b json) (pairs Inside parts)) (packs tree false) (json_shape.shape Inside tree false)
       (λ x y h. agree_map SamePairs SamePairs (pair a x) (pair b y) (packed_pairs parts) (pairs Inside parts) (λ row other k. same_pair a b x y row other d h k) (same_pairs parts p.2.2)) (same tree false p.2.1))
       (key_agrees name)
   same_pairs (part (Slot.Field tag label) tree parts) p =
-      agree_on SameText SamePairs (λ json. map_ok (pair (escaped_key label.text) json) (packed_pairs parts)) (λ json. json_shape.map_ok (pair (field_key label) json) (pairs Inside parts)) (packs tree false) (json_shape.shape Inside tree false)
+      agree_on SameText SamePairs (λ json. map_packed (pair (escaped_key label.text) json) (packed_pairs parts)) (λ json. json_shape.map_ok (pair (field_key label) json) (pairs Inside parts)) (packs tree false) (json_shape.shape Inside tree false)
       (λ x y h. agree_map SamePairs SamePairs (pair (escaped_key label.text) x) (pair (field_key label) y) (packed_pairs parts) (pairs Inside parts)
       (λ row other k. same_pair (escaped_key label.text) (field_key label) x y row other (label_agrees label p.0) h k) (same_pairs parts p.2)) (same tree false p.1)
   same_pairs (part (Slot.FieldPlace tag label index) tree parts) p =
-      agree_on SameText SamePairs (λ json. map_ok (pair (escaped_key label.text) json) (packed_pairs parts)) (λ json. json_shape.map_ok (pair (field_key label) json) (pairs Inside parts)) (packs tree false) (json_shape.shape Inside tree false)
+      agree_on SameText SamePairs (λ json. map_packed (pair (escaped_key label.text) json) (packed_pairs parts)) (λ json. json_shape.map_ok (pair (field_key label) json) (pairs Inside parts)) (packs tree false) (json_shape.shape Inside tree false)
       (λ x y h. agree_map SamePairs SamePairs (pair (escaped_key label.text) x) (pair (field_key label) y) (packed_pairs parts) (pairs Inside parts)
       (λ row other k. same_pair (escaped_key label.text) (field_key label) x y row other (label_agrees label p.0) h k) (same_pairs parts p.2)) (same tree false p.1)
   same_pairs parts p = λ first. refl

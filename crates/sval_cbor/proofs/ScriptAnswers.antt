@@ -8,11 +8,11 @@ use Rattle.sval_io.specs.declared.sink.SinkError.TheVariants as sink
 use Rattle.sval_io.proofs.Appending.{writes_nothing}
 use Rattle.sval_io.specs.Sources.{Supply}
 use Rattle.sval_buffer.specs.Forest.{Forest, Holds, forest, replayed}
-use Rattle.sval_check.specs.Checks.{IsFirstBad, IsUnfinished}
+use Rattle.sval_check.specs.Checks.{IsFirstBadCall, IsUnfinished}
 use Rattle.sval_check.specs.declared.error.CheckError.{CheckError}
 use Rattle.sval_check.specs.declared.error.CheckError.TheVariants as check
 use Rattle.sval_script.specs.Lines.{Lines, Good, Bad, lines}
-use Rattle.sval_script.specs.Readings.{Reading, answer_to, answer_with}
+use Rattle.sval_script.specs.Readings.{ScriptReading, answer_to, answer_with}
 use Rattle.sval_script.specs.declared.script.ScriptError.{ScriptError}
 use Rattle.sval_script.specs.declared.script.ScriptError.TheVariants as reading
 use Rattle.sval_program.specs.declared.failure.Fault.{Fault}
@@ -27,9 +27,9 @@ use Rattle.sval_cbor.specs.declared.error.CborError.{CborError}
 use Rattle.sval_cbor.specs.declared.error.CborError.TheVariants as error
 use Rattle.sval_cbor.specs.Packs.{PackRefusal, BadKey, BadNumber, RawJson, NotInteger}
 use Rattle.sval_cbor.specs.Serves.{Due, of_value, of_bad_line, of_bad_call, of_unfinished, of_bad_key, of_bad_number, of_raw, of_no_integer, cbor_terms, failure_of_check, failure_of_cbor}
-use Rattle.sval_cbor.specs.Streamed.{IsChecked, IsOfValue, AnswersBytes, AnswersDue, refusal_error}
+use Rattle.sval_cbor.specs.Streamed.{IsChecked, IsCauseOfValue, AnswersBytes, AnswersDue, refusal_error}
 use Rattle.sval_cbor.specs.Verdict.{Whole, IsVerdict}
-use Rattle.sval_cbor.specs.Writing.{written}
+use Rattle.sval_cbor.specs.Writing.{written_cbor}
 use Rattle.sval_cbor.proofs.Captured.{captured_is_written}
 
 -- nothing is written before a fault
@@ -50,7 +50,7 @@ module _ {K : Type 0} (told : K → Told) (script : List ℕ) (old new : K) wher
   writes_whole (Err why) verdict (never, same) = absurd (cc never)
 
   -- the value doesn't pack
-  refused_fails : (refusal : PackRefusal) (failed : Failure) → failure_of_cbor (refusal_error refusal) ≡ Some failed → IsVerdict (Whole (Err refusal)) script → (IsOfValue (Err (refusal_error refusal)) → new ≡ old)
+  refused_fails : (refusal : PackRefusal) (failed : Failure) → failure_of_cbor (refusal_error refusal) ≡ Some failed → IsVerdict (Whole (Err refusal)) script → (IsCauseOfValue (Err (refusal_error refusal)) → new ≡ old)
       → ServesBytes cbor_terms told tt script (Err failed) old new
   refused_fails BadKey failed is verdict left = fails_so (failure.Fault fault.InvalidKey) failed is (faulty told script fault.InvalidKey old new (of_bad_key verdict) refl (left tt))
   refused_fails BadNumber failed is verdict left = fails_so (failure.Fault fault.InvalidNumber) failed is (faulty told script fault.InvalidNumber old new (of_bad_number verdict) refl (left tt))
@@ -72,11 +72,11 @@ module _ {K : Type 0} (told : K → Told) (script : List ℕ) (old new : K) wher
   declined_fails bytes error.NotInteger failed is verdict w = absurd w
 
   pub write_fails : (due : Result (List ℕ) PackRefusal) (why : CborError) (failed : Failure) → failure_of_cbor why ≡ Some failed → IsVerdict (Whole due) script → AnswersDue (Err why) (told old) due (told new)
-      → (IsOfValue (Err why) → new ≡ old) → ServesBytes cbor_terms told tt script (Err failed) old new
+      → (IsCauseOfValue (Err why) → new ≡ old) → ServesBytes cbor_terms told tt script (Err failed) old new
   write_fails (Ok bytes) why failed is verdict answers left = declined_fails bytes why failed is verdict answers
   write_fails (Err refusal) why failed is verdict (e, same) left =
       let of_refusal : why ≡ refusal_error refusal = cc e in
-      refused_fails refusal failed (subst (λ (w : CborError). failure_of_cbor w ≡ Some failed) of_refusal is) verdict (subst (λ (w : CborError). IsOfValue (Err w) → new ≡ old) of_refusal left)
+      refused_fails refusal failed (subst (λ (w : CborError). failure_of_cbor w ≡ Some failed) of_refusal is) verdict (subst (λ (w : CborError). IsCauseOfValue (Err w) → new ≡ old) of_refusal left)
 
 -- an error of writing is none of the check
 not_of_check : (refusal : PackRefusal) → (refusal_error refusal ≡ error.NotATree → ⊥) × (refusal_error refusal ≡ error.Refused → ⊥)
@@ -94,13 +94,13 @@ of_writing (Err refusal) why old new (e, same) =
 
 module _ (script : List ℕ) (calls : List Call) (good : lines script ≡ Good calls) where
   -- what is captured of them is written as the verdict
-  pub captured_verdict : IsChecked (makes calls) → (held : Forest) → forest calls ≡ Holds held → IsVerdict (Whole (written (replayed held))) script
+  pub captured_verdict : IsChecked (makes calls) → (held : Forest) → forest calls ≡ Holds held → IsVerdict (Whole (written_cbor (replayed held))) script
   captured_verdict checked held taken =
       let (tree, spells) = checked.value.spells in record { calls = calls; good = good; is = record { tree = tree; spells = spells; is = captured_is_written calls tree held spells taken } }
 
   -- what checking found
   pub check_fails : {K : Type 0} (told : K → Told) (out : K) (why : CheckError) (failed : Failure) → failure_of_check why ≡ Some failed
-      → ((at : ℕ) → ◌≡◌ {A = Result (Unit {0}) CheckError} (Err why) (Err (check.BadCall at)) → IsFirstBad calls at)
+      → ((at : ℕ) → ◌≡◌ {A = Result (Unit {0}) CheckError} (Err why) (Err (check.BadCall at)) → IsFirstBadCall calls at)
       → (◌≡◌ {A = Result (Unit {0}) CheckError} (Err why) (Err check.Unfinished) → IsUnfinished (makes calls))
       → ServesBytes cbor_terms told tt script (Err failed) out out
   check_fails told out (check.BadCall n) failed is bad unfinished =
@@ -114,7 +114,7 @@ module _ (script : List ℕ) (calls : List Call) (good : lines script ≡ Good c
 
 -- ---- what a reader answered
 
-module _ {reader : Reading} {old new : Supply} (h : HasRead old reader new) where
+module _ {reader : ScriptReading} {old new : Supply} (h : HasRead old reader new) where
   answered : (l : Lines) (a due : Result (List Call) ScriptError) → (a ≡ answer_to l) ⊎ ((a ≡ Err reading.NoMemory) × (0 < length h.script)) → due ≡ a
       → (due ≡ answer_to l) ⊎ ((due ≡ Err reading.NoMemory) × (0 < length h.script))
   answered l a due (inl is) e = inl (e ∙ is)

@@ -6,29 +6,29 @@ use Rattle.sval_core.specs.Spells.{Spells}
 use Rattle.sval_core.specs.Trees.{Tree}
 use Rattle.sval_core.proofs.FirstBad.{one_first_bad, none_bad}
 use Rattle.sval_core.proofs.Spellings.{spells_one, spelling_is_viable}
-use Rattle.sval_check.specs.Checks.{IsFirstBad}
+use Rattle.sval_check.specs.Checks.{IsFirstBadCall}
 use Rattle.sval_program.proofs.FoundCalls.{Found, found_bad, found_open, found_whole, found}
 use Rattle.sval_script.specs.Lines.{Lines, Good, Bad, lines}
 use Rattle.sval_cbor.specs.Cbor.{cbor}
 use Rattle.sval_cbor.specs.Laws.{OneVerdict}
-use Rattle.sval_cbor.specs.Packs.{PackRefusal, map_ok, pack_of}
+use Rattle.sval_cbor.specs.Packs.{PackRefusal, map_packed, pack_of}
 use Rattle.sval_cbor.specs.Verdict.{Verdict, BadLine, BadCall, Unfinished, Whole, AreUnfinished, SpellWhole, IsOfCalls, OfCalls, IsVerdict, OnVerdict}
 
 -- ---- of calls
 
-one_number : (calls : List Call) (n m : ℕ) → IsFirstBad calls n → IsFirstBad calls m → n ≡ m
+one_number : (calls : List Call) (n m : ℕ) → IsFirstBadCall calls n → IsFirstBadCall calls m → n ≡ m
 one_number calls n m a b =
     let same : length a.front ≡ length b.front = ap length (one_first_bad a.front b.front a.call b.call a.rest b.rest a.whole b.whole a.before a.bad b.before b.bad) in
     omega (arith, same, a.number, b.number)
 
-not_viable : (calls : List Call) (n : ℕ) → IsFirstBad calls n → AreUnfinished calls → ⊥
+not_viable : (calls : List Call) (n : ℕ) → IsFirstBadCall calls n → AreUnfinished calls → ⊥
 not_viable calls n a u = none_bad calls a.front a.rest a.call a.whole u.viable a.bad
 
-not_whole : (calls : List Call) (n : ℕ) (tree : Tree) → IsFirstBad calls n → Spells calls tree → ⊥
+not_whole : (calls : List Call) (n : ℕ) (tree : Tree) → IsFirstBadCall calls n → Spells calls tree → ⊥
 not_whole calls n tree a s = none_bad calls a.front a.rest a.call a.whole (spelling_is_viable calls tree s) a.bad
 
 one_due : (calls : List Call) (due other : Result (List ℕ) PackRefusal) → SpellWhole due calls → SpellWhole other calls → due ≡ other
-one_due calls due other a b = a.is ∙ ap (λ tree. map_ok cbor (pack_of tree)) (spells_one calls a.tree b.tree a.spells b.spells) ∙ sym b.is
+one_due calls due other a b = a.is ∙ ap (λ tree. map_packed cbor (pack_of tree)) (spells_one calls a.tree b.tree a.spells b.spells) ∙ sym b.is
 
 one_of_calls : (v w : Verdict) (calls : List Call) → IsOfCalls v calls → IsOfCalls w calls → v ≡ w
 one_of_calls (BadLine n) w calls a b = absurd a

@@ -5,7 +5,7 @@ use Rattle.std.proofs.Common.{sym, ap, ◌∙◌, subst, append-nil}
 use Rattle.sval_label.specs.Calls.{Call}
 use Rattle.sval_core.specs.Trees.{Tree, Null, Truth, Int, Text, Binary, Standalone, Tagged, EmptyEnum, Enum, Container, Parts, none, part, calls_then, part_calls_then, calls_of}
 use Rattle.sval_core.specs.Spells.{Says, SayParts, bare_name, bare_head, bare_slot}
-use Rattle.sval_cbor.specs.Writing.{NoText, NoFragment, progress, are_whole, HaveWholeTexts}
+use Rattle.sval_cbor.specs.Writing.{NoText, NoFragment, fragment_progress, are_whole, HaveWholeTexts}
 
 -- one text, and then calls with whole texts
 pub record IsWholeText (calls : List Call) (bytes : List ℕ) (rest : List Call) : Type 0 where
@@ -41,9 +41,9 @@ whole_binary bytes calls rest (size, pieces, exact, joined, e) w =
     subst (λ x. IsWholeBinary x bytes rest) (sym e) (binary_of size pieces bytes rest joined v)
 
 -- calls that stand outside texts
-pub whole_inside : (call : Call) (calls rest : List Call) → calls ≡ call ∷ rest → progress NoText call ≡ Some NoText → HaveWholeTexts calls → HaveWholeTexts rest
+pub whole_inside : (call : Call) (calls rest : List Call) → calls ≡ call ∷ rest → fragment_progress NoText call ≡ Some NoText → HaveWholeTexts calls → HaveWholeTexts rest
 whole_inside call calls rest e p w =
-    let v : are_whole (progress NoText call) rest ≡ true = rw e at w in subst (λ o. are_whole o rest ≡ true) p v
+    let v : are_whole (fragment_progress NoText call) rest ≡ true = rw e at w in subst (λ o. are_whole o rest ≡ true) p v
 
 mutual
   pub whole_after : (t : Tree) (calls rest : List Call) → Says t calls rest → HaveWholeTexts calls → HaveWholeTexts rest

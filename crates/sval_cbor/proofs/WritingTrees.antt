@@ -6,9 +6,9 @@ use Rattle.sval_core.specs.Trees.{Tree, Null, Truth, Int, Text, Binary, Standalo
 use Rattle.sval_core.specs.Spells.{Says, SayParts, bare_name, bare_slot, plain, Spells}
 use Rattle.sval_json.specs.Json.{escaped_key, item, pair}
 use Rattle.sval_json.specs.Shape.{handle}
-use Rattle.sval_cbor.specs.Packs.{PackRefusal, on_ok, map_ok, pack_key, packs, packed_items, packed_pairs, pack_of}
+use Rattle.sval_cbor.specs.Packs.{PackRefusal, on_packed, map_packed, pack_key, packs, packed_items, packed_pairs, pack_of}
 use Rattle.sval_cbor.specs.Cbor.{string, cbor, cbor_items, cbor_pairs}
-use Rattle.sval_cbor.specs.Writing.{Place, Elsewhere, Begun, at, start, after_handle, written_from, written, NoText, HaveWholeTexts}
+use Rattle.sval_cbor.specs.Writing.{EnumPlace, Elsewhere, Begun, cbor_state, cbor_start, after_handle, written_from, written_cbor, NoText, HaveWholeTexts}
 use Rattle.sval_cbor.proofs.WritingPlain.{prepend, prepend_nothing, and_then, written_plain, whole_plain}
 use Rattle.sval_cbor.proofs.WholeTexts.{whole_text, whole_binary, whole_inside, whole_after}
 use Rattle.sval_cbor.proofs.WritingKeys.{is_begun, key_result, after, key_written}
@@ -16,72 +16,72 @@ use Rattle.sval_cbor.proofs.WritingFrames.{in_value, front, unclosed, unclosed_p
 use Rattle.sval_cbor.proofs.WritingValues.{IsWritten, opened, text_value, binary_value, tagged_written, empty_enum, enum_written, AreQuiet, quiet_items, quiet_places, ArePairs, map_pairs, field_pairs, field_place_pairs}
 
 abbrev ItemsAreWritten : Parts → List Call → List Call → Type 0
-ItemsAreWritten parts calls rest = written_from calls (in_value Elsewhere) ≡ and_then (map_ok cbor_items (packed_items parts)) (written_from rest (in_value Elsewhere))
+ItemsAreWritten parts calls rest = written_from calls (in_value Elsewhere) ≡ and_then (map_packed cbor_items (packed_items parts)) (written_from rest (in_value Elsewhere))
 
 abbrev PairsAreWritten : Parts → List Call → List Call → Type 0
-PairsAreWritten parts calls rest = written_from calls (in_value Elsewhere) ≡ and_then (map_ok cbor_pairs (packed_pairs parts)) (written_from rest (in_value Elsewhere))
+PairsAreWritten parts calls rest = written_from calls (in_value Elsewhere) ≡ and_then (map_packed cbor_pairs (packed_pairs parts)) (written_from rest (in_value Elsewhere))
 
 -- a value, its part's end, and then others
 value_part : (tree : Tree) (inner ended last : List Call) (q : Result (List ℕ) PackRefusal) → IsWritten tree inner ended Elsewhere
     → written_from ended (in_value (after tree)) ≡ prepend [] (written_from last (in_value Elsewhere)) → written_from last (in_value Elsewhere) ≡ q
-    → written_from inner (in_value Elsewhere) ≡ and_then (map_ok cbor (packs tree false)) q
+    → written_from inner (in_value Elsewhere) ≡ and_then (map_packed cbor (packs tree false)) q
 value_part tree inner ended last q h e r =
     h ∙ ap (and_then (unclosed tree false)) (e ∙ prepend_nothing (written_from last (in_value Elsewhere)) ∙ r) ∙ ap (λ x. and_then x q) (unclosed_plain tree)
 
 item_part : (tree : Tree) (parts : Parts) (inner ended last rest : List Call) → IsWritten tree inner ended Elsewhere
     → written_from ended (in_value (after tree)) ≡ prepend [] (written_from last (in_value Elsewhere)) → ItemsAreWritten parts last rest
-    → prepend [] (written_from inner (in_value Elsewhere)) ≡ and_then (map_ok cbor_items (on_ok (packs tree false) (λ json. map_ok (item json) (packed_items parts)))) (written_from rest (in_value Elsewhere))
+    → prepend [] (written_from inner (in_value Elsewhere)) ≡ and_then (map_packed cbor_items (on_packed (packs tree false) (λ json. map_packed (item json) (packed_items parts)))) (written_from rest (in_value Elsewhere))
 item_part tree parts inner ended last rest h e r =
     let q = written_from rest (in_value Elsewhere) in
-    prepend_nothing (written_from inner (in_value Elsewhere)) ∙ value_part tree inner ended last (and_then (map_ok cbor_items (packed_items parts)) q) h e r
+    prepend_nothing (written_from inner (in_value Elsewhere)) ∙ value_part tree inner ended last (and_then (map_packed cbor_items (packed_items parts)) q) h e r
     ∙ items_joined (packs tree false) (packed_items parts) q
 
 field_part : (bytes : List ℕ) (tree : Tree) (parts : Parts) (inner ended last rest : List Call) → IsWritten tree inner ended Elsewhere
     → written_from ended (in_value (after tree)) ≡ prepend [] (written_from last (in_value Elsewhere)) → PairsAreWritten parts last rest
     → prepend (string 3 bytes) (written_from inner (in_value Elsewhere))
-    ≡ and_then (map_ok cbor_pairs (on_ok (packs tree false) (λ json. map_ok (pair (escaped_key bytes) json) (packed_pairs parts)))) (written_from rest (in_value Elsewhere))
+    ≡ and_then (map_packed cbor_pairs (on_packed (packs tree false) (λ json. map_packed (pair (escaped_key bytes) json) (packed_pairs parts)))) (written_from rest (in_value Elsewhere))
 field_part bytes tree parts inner ended last rest h e r =
     let q = written_from rest (in_value Elsewhere) in
-    ap (prepend (string 3 bytes)) (value_part tree inner ended last (and_then (map_ok cbor_pairs (packed_pairs parts)) q) h e r)
+    ap (prepend (string 3 bytes)) (value_part tree inner ended last (and_then (map_packed cbor_pairs (packed_pairs parts)) q) h e r)
     ∙ pairs_joined (Ok (escaped_key bytes)) (packs tree false) (packed_pairs parts) q
 
 entry_part : (key value : Tree) (parts : Parts) (inner between held ended last rest : List Call)
-    → written_from inner (at Elsewhere true false) ≡ and_then (key_result key false) (written_from (Call.PartEnd Slot.Key ∷ between) (at (after key) true false))
+    → written_from inner (cbor_state Elsewhere true false) ≡ and_then (key_result key false) (written_from (Call.PartEnd Slot.Key ∷ between) (cbor_state (after key) true false))
     → between ≡ Call.PartBegin Slot.Value ∷ held → IsWritten value held ended Elsewhere
     → written_from ended (in_value (after value)) ≡ prepend [] (written_from last (in_value Elsewhere)) → PairsAreWritten parts last rest
-    → prepend [] (written_from inner (at Elsewhere true false))
-    ≡ and_then (map_ok cbor_pairs (on_ok (pack_key key) (λ k. on_ok (packs value false) (λ json. map_ok (pair k json) (packed_pairs parts))))) (written_from rest (in_value Elsewhere))
+    → prepend [] (written_from inner (cbor_state Elsewhere true false))
+    ≡ and_then (map_packed cbor_pairs (on_packed (pack_key key) (λ k. on_packed (packs value false) (λ json. map_packed (pair k json) (packed_pairs parts))))) (written_from rest (in_value Elsewhere))
 entry_part key value parts inner between held ended last rest k b h e r =
     let q = written_from rest (in_value Elsewhere) in
-    let v = value_part value held ended last (and_then (map_ok cbor_pairs (packed_pairs parts)) q) h e r in
-    let i : written_from between (in_value Elsewhere) ≡ and_then (map_ok cbor (packs value false)) (and_then (map_ok cbor_pairs (packed_pairs parts)) q) =
+    let v = value_part value held ended last (and_then (map_packed cbor_pairs (packed_pairs parts)) q) h e r in
+    let i : written_from between (in_value Elsewhere) ≡ and_then (map_packed cbor (packs value false)) (and_then (map_packed cbor_pairs (packed_pairs parts)) q) =
     ap (λ cs. written_from cs (in_value Elsewhere)) b ∙ prepend_nothing (written_from held (in_value Elsewhere)) ∙ v in
-    prepend_nothing (written_from inner (at Elsewhere true false)) ∙ k ∙ ap (and_then (key_result key false)) (prepend_nothing (written_from between (in_value Elsewhere)) ∙ i)
+    prepend_nothing (written_from inner (cbor_state Elsewhere true false)) ∙ k ∙ ap (and_then (key_result key false)) (prepend_nothing (written_from between (in_value Elsewhere)) ∙ i)
     ∙ pairs_joined (pack_key key) (packs value false) (packed_pairs parts) q
 
 -- ---- containers
 
-seq_written : (size : Option ℕ) (parts : Parts) (inner rest : List Call) (place : Place) → ItemsAreWritten parts inner (Call.End Head.Seq ∷ rest) → IsWritten (Container Head.Seq parts) (Call.Begin Head.Seq size ∷ inner) rest place
+seq_written : (size : Option ℕ) (parts : Parts) (inner rest : List Call) (place : EnumPlace) → ItemsAreWritten parts inner (Call.End Head.Seq ∷ rest) → IsWritten (Container Head.Seq parts) (Call.Begin Head.Seq size ∷ inner) rest place
 seq_written size parts inner rest place h = ap (prepend (0x9f ∷ [])) h ∙ array_framed [] (packed_items parts) (written_from rest (in_value Elsewhere))
 
-map_written : (size : Option ℕ) (parts : Parts) (inner rest : List Call) (place : Place) → PairsAreWritten parts inner (Call.End Head.Map ∷ rest) → IsWritten (Container Head.Map parts) (Call.Begin Head.Map size ∷ inner) rest place
+map_written : (size : Option ℕ) (parts : Parts) (inner rest : List Call) (place : EnumPlace) → PairsAreWritten parts inner (Call.End Head.Map ∷ rest) → IsWritten (Container Head.Map parts) (Call.Begin Head.Map size ∷ inner) rest place
 map_written size parts inner rest place h = ap (prepend (0xbf ∷ [])) h ∙ object_framed [] (packed_pairs parts) (written_from rest (in_value Elsewhere))
 
-record_written : (name : Name) (size : Option ℕ) (parts : Parts) (inner rest : List Call) (place : Place) → PairsAreWritten parts inner (Call.End (Head.Record (bare_name name)) ∷ rest)
+record_written : (name : Name) (size : Option ℕ) (parts : Parts) (inner rest : List Call) (place : EnumPlace) → PairsAreWritten parts inner (Call.End (Head.Record (bare_name name)) ∷ rest)
     → IsWritten (Container (Head.Record name) parts) (Call.Begin (Head.Record name) size ∷ inner) rest place
 record_written name size parts inner rest place h =
     let made = front (handle name) (is_begun place) in
     opened name (0xbf ∷ []) (in_value Elsewhere) place inner ∙ ap (prepend (made ++ (0xbf ∷ []))) h
     ∙ object_framed made (packed_pairs parts) (written_from rest (in_value (after_handle (handle (bare_name name)))))
 
-tuple_written : (name : Name) (size : Option ℕ) (parts : Parts) (inner rest : List Call) (place : Place) → ItemsAreWritten parts inner (Call.End (Head.Tuple (bare_name name)) ∷ rest)
+tuple_written : (name : Name) (size : Option ℕ) (parts : Parts) (inner rest : List Call) (place : EnumPlace) → ItemsAreWritten parts inner (Call.End (Head.Tuple (bare_name name)) ∷ rest)
     → IsWritten (Container (Head.Tuple name) parts) (Call.Begin (Head.Tuple name) size ∷ inner) rest place
 tuple_written name size parts inner rest place h =
     let made = front (handle name) (is_begun place) in
     opened name (0x9f ∷ []) (in_value Elsewhere) place inner ∙ ap (prepend (made ++ (0x9f ∷ []))) h
     ∙ array_framed made (packed_items parts) (written_from rest (in_value (after_handle (handle (bare_name name)))))
 
-record_tuple_written : (name : Name) (size : Option ℕ) (parts : Parts) (inner rest : List Call) (place : Place) → PairsAreWritten parts inner (Call.End (Head.RecordTuple (bare_name name)) ∷ rest)
+record_tuple_written : (name : Name) (size : Option ℕ) (parts : Parts) (inner rest : List Call) (place : EnumPlace) → PairsAreWritten parts inner (Call.End (Head.RecordTuple (bare_name name)) ∷ rest)
     → IsWritten (Container (Head.RecordTuple name) parts) (Call.Begin (Head.RecordTuple name) size ∷ inner) rest place
 record_tuple_written name size parts inner rest place h =
     let made = front (handle name) (is_begun place) in
@@ -100,7 +100,7 @@ abbrev from_start : (calls other : List Call) → calls ≡ other → written_fr
 from_start calls other e = ap (λ cs. written_from cs (in_value Elsewhere)) e
 
 mutual
-  pub value_written : (t : Tree) (calls rest : List Call) (place : Place) → Says t calls rest → HaveWholeTexts calls → IsGood t → IsWritten t calls rest place
+  pub value_written : (t : Tree) (calls rest : List Call) (place : EnumPlace) → Says t calls rest → HaveWholeTexts calls → IsGood t → IsWritten t calls rest place
   value_written Null calls rest place s w g = ap (λ cs. written_from cs (in_value place)) s
   value_written (Truth b) calls rest place s w g = ap (λ cs. written_from cs (in_value place)) s
   value_written (Int type n) calls rest place s w g = ap (λ cs. written_from cs (in_value place)) s
@@ -170,6 +170,6 @@ alone : (r : Result (List ℕ) PackRefusal) → and_then r (Ok []) ≡ r
 alone (Ok bytes) = ap Ok (append-nil bytes)
 alone (Err why) = refl
 
-pub spelling_written : (calls : List Call) (tree : Tree) → Spells calls tree → HaveWholeTexts calls → written calls ≡ map_ok cbor (pack_of tree)
+pub spelling_written : (calls : List Call) (tree : Tree) → Spells calls tree → HaveWholeTexts calls → written_cbor calls ≡ map_packed cbor (pack_of tree)
 spelling_written calls tree s w =
-    sym (written_plain calls start) ∙ value_written tree (plain calls) [] Elsewhere s.1 (whole_plain calls NoText ∙ w) s.0 ∙ alone (unclosed tree false) ∙ unclosed_plain tree
+    sym (written_plain calls cbor_start) ∙ value_written tree (plain calls) [] Elsewhere s.1 (whole_plain calls NoText ∙ w) s.0 ∙ alone (unclosed tree false) ∙ unclosed_plain tree

@@ -9,31 +9,31 @@ use Rattle.sval_json.specs.Json as shape
 use Rattle.sval_json.specs.Json.{escaped_key, Json, Items, no_item, item, Pairs, no_pair, pair}
 use Rattle.sval_json.specs.Number.{normal}
 use Rattle.sval_json.specs.Shape.{handle, own, byte_items}
-use Rattle.sval_cbor.specs.Packs.{PackRefusal, RawJson, on_ok, map_ok, number_pack, tagged_pack, packs}
+use Rattle.sval_cbor.specs.Packs.{PackRefusal, RawJson, on_packed, map_packed, number_pack, tagged_pack, packs}
 use Rattle.sval_cbor.specs.Cbor.{string, cbor, cbor_items}
-use Rattle.sval_cbor.specs.Writing.{Place, Elsewhere, Begun, State, at, writes, opening, after_handle, tagged_begins, written_from, HaveWholeTexts}
+use Rattle.sval_cbor.specs.Writing.{EnumPlace, Elsewhere, Begun, CborState, cbor_state, writes, opening, after_handle, tagged_begins, written_from, HaveWholeTexts}
 use Rattle.sval_cbor.proofs.WritingPlain.{prepend, prepend_nothing, prepend_twice, and_then, bare_own}
 use Rattle.sval_cbor.proofs.WholeTexts.{IsWholeText, IsWholeBinary, whole_text}
 use Rattle.sval_cbor.proofs.WritingKeys.{is_begun, after, rest_of, and_nothing}
 use Rattle.sval_cbor.proofs.WritingFrames.{in_value, name_of, body, front, unclosed, packs_body, unclosed_plain, value_opening, enum_closed, enum_closes}
 
 -- the calls of a tree, and then the rest
-abbrev pub IsWritten : Tree → List Call → List Call → Place → Type 0
+abbrev pub IsWritten : Tree → List Call → List Call → EnumPlace → Type 0
 IsWritten t calls rest place = written_from calls (in_value place) ≡ and_then (unclosed t (is_begun place)) (written_from rest (in_value (after t)))
 
 -- after the name's front
-pub opened : (name : Name) (bytes : List ℕ) (next : State) (place : Place) (calls : List Call)
-    → rest_of calls (on_ok (opening (handle name) place false) (λ made. writes (made ++ bytes) next)) ≡ prepend (front (handle name) (is_begun place) ++ bytes) (written_from calls next)
-opened name bytes next place calls = ap (λ r. rest_of calls (on_ok r (λ made. writes (made ++ bytes) next))) (value_opening (handle name) place)
+pub opened : (name : Name) (bytes : List ℕ) (next : CborState) (place : EnumPlace) (calls : List Call)
+    → rest_of calls (on_packed (opening (handle name) place false) (λ made. writes (made ++ bytes) next)) ≡ prepend (front (handle name) (is_begun place) ++ bytes) (written_from calls next)
+opened name bytes next place calls = ap (λ r. rest_of calls (on_packed r (λ made. writes (made ++ bytes) next))) (value_opening (handle name) place)
 
 -- ---- leaves
 
-pub text_value : (bytes : List ℕ) (calls rest : List Call) (place : Place) → IsWholeText calls bytes rest → written_from calls (in_value place) ≡ prepend (string 3 bytes) (written_from rest (in_value Elsewhere))
+pub text_value : (bytes : List ℕ) (calls rest : List Call) (place : EnumPlace) → IsWholeText calls bytes rest → written_from calls (in_value place) ≡ prepend (string 3 bytes) (written_from rest (in_value Elsewhere))
 text_value bytes calls rest place w =
     ap (λ cs. written_from cs (in_value place)) w.is ∙ prepend_nothing (prepend (string 3 bytes) (prepend [] (written_from rest (in_value Elsewhere))))
     ∙ ap (prepend (string 3 bytes)) (prepend_nothing (written_from rest (in_value Elsewhere)))
 
-pub binary_value : (bytes : List ℕ) (calls rest : List Call) (place : Place) → IsWholeBinary calls bytes rest
+pub binary_value : (bytes : List ℕ) (calls rest : List Call) (place : EnumPlace) → IsWholeBinary calls bytes rest
     → written_from calls (in_value place) ≡ prepend (cbor (shape.array (byte_items bytes))) (written_from rest (in_value Elsewhere))
 binary_value bytes calls rest place w =
     let q = written_from rest (in_value Elsewhere) in
@@ -43,30 +43,30 @@ binary_value bytes calls rest place w =
 -- ---- tagged values
 
 number_ended : (r : Result (List ℕ) PackRefusal) (name : Name) (rest : List Call)
-    → rest_of (Call.TextEnd ∷ Call.TaggedEnd name ∷ rest) (on_ok r (λ made. writes made (at Elsewhere false true))) ≡ and_then r (written_from rest (in_value (after_handle (handle name))))
+    → rest_of (Call.TextEnd ∷ Call.TaggedEnd name ∷ rest) (on_packed r (λ made. writes made (cbor_state Elsewhere false true))) ≡ and_then r (written_from rest (in_value (after_handle (handle name))))
 number_ended (Ok made) name rest = let q = written_from rest (in_value (after_handle (handle name))) in ap (prepend made) (prepend_nothing (prepend [] q) ∙ prepend_nothing q)
 number_ended (Err why) name rest = refl
 
 number_calls : (text : List ℕ) (calls : List Call) (name : Name) (rest : List Call) → IsWholeText calls text (Call.TaggedEnd name ∷ rest)
-    → written_from calls (at Elsewhere false true) ≡ and_then (map_ok cbor (number_pack (normal text))) (written_from rest (in_value (after_handle (handle name))))
+    → written_from calls (cbor_state Elsewhere false true) ≡ and_then (map_packed cbor (number_pack (normal text))) (written_from rest (in_value (after_handle (handle name))))
 number_calls text calls name rest w =
-    ap (λ cs. written_from cs (at Elsewhere false true)) w.is ∙ prepend_nothing (rest_of (Call.TextEnd ∷ Call.TaggedEnd name ∷ rest) (on_ok (map_ok cbor (number_pack (normal text))) (λ made. writes made (at Elsewhere false true))))
-    ∙ number_ended (map_ok cbor (number_pack (normal text))) name rest
+    ap (λ cs. written_from cs (cbor_state Elsewhere false true)) w.is ∙ prepend_nothing (rest_of (Call.TextEnd ∷ Call.TaggedEnd name ∷ rest) (on_packed (map_packed cbor (number_pack (normal text))) (λ made. writes made (cbor_state Elsewhere false true))))
+    ∙ number_ended (map_packed cbor (number_pack (normal text))) name rest
 
 -- bytes in front of what a shape is written as
-fronted : (made : List ℕ) (r : Result Json PackRefusal) (q : Result (List ℕ) PackRefusal) → prepend (made ++ []) (and_then (map_ok cbor r) q) ≡ and_then (map_ok (λ json. made ++ cbor json) r) q
+fronted : (made : List ℕ) (r : Result Json PackRefusal) (q : Result (List ℕ) PackRefusal) → prepend (made ++ []) (and_then (map_packed cbor r) q) ≡ and_then (map_packed (λ json. made ++ cbor json) r) q
 fronted made (Ok json) q = prepend_twice (made ++ []) (cbor json) q ∙ ap (λ x. prepend (x ++ cbor json) q) (append-nil made)
 fronted made (Err why) q = refl
 
-abbrev TaggedIsWritten : TextKind → Name → Tree → List Call → List Call → Place → Type 0
+abbrev TaggedIsWritten : TextKind → Name → Tree → List Call → List Call → EnumPlace → Type 0
 TaggedIsWritten kind name tree inner rest place =
     rest_of inner (tagged_begins kind name (in_value place))
-    ≡ and_then (map_ok (λ json. front (handle name) (is_begun place) ++ cbor json) (tagged_pack kind tree (packs tree false))) (written_from rest (in_value (after_handle (handle (bare_name name)))))
+    ≡ and_then (map_packed (λ json. front (handle name) (is_begun place) ++ cbor json) (tagged_pack kind tree (packs tree false))) (written_from rest (in_value (after_handle (handle (bare_name name)))))
 
-raw_refused : (name : Name) (inner : List Call) (place : Place) → rest_of inner (on_ok (opening (handle name) place false) (λ made. Err RawJson)) ≡ (let r : Result (List ℕ) PackRefusal = Err RawJson in r)
-raw_refused name inner place = ap (λ r. rest_of inner (on_ok r (λ made. Err RawJson))) (value_opening (handle name) place)
+raw_refused : (name : Name) (inner : List Call) (place : EnumPlace) → rest_of inner (on_packed (opening (handle name) place false) (λ made. Err RawJson)) ≡ (let r : Result (List ℕ) PackRefusal = Err RawJson in r)
+raw_refused name inner place = ap (λ r. rest_of inner (on_packed r (λ made. Err RawJson))) (value_opening (handle name) place)
 
-pub tagged_written : (kind : TextKind) (name : Name) (tree : Tree) (inner rest : List Call) (place : Place) → MayHold kind tree → Says tree inner (Call.TaggedEnd (bare_name name) ∷ rest) → HaveWholeTexts inner
+pub tagged_written : (kind : TextKind) (name : Name) (tree : Tree) (inner rest : List Call) (place : EnumPlace) → MayHold kind tree → Says tree inner (Call.TaggedEnd (bare_name name) ∷ rest) → HaveWholeTexts inner
     → IsWritten tree inner (Call.TaggedEnd (bare_name name) ∷ rest) Elsewhere → TaggedIsWritten kind name tree inner rest place
 tagged_written Ordinary name tree inner rest place m s w h =
     let q = written_from rest (in_value (after_handle (handle (bare_name name)))) in
@@ -77,7 +77,7 @@ tagged_written Ordinary name tree inner rest place m s w h =
 tagged_written Number name (Text text) inner rest place m s w h =
     let q = written_from rest (in_value (after_handle (handle (bare_name name)))) in
     let made = front (handle name) (is_begun place) in
-    opened name [] (at Elsewhere false true) place inner
+    opened name [] (cbor_state Elsewhere false true) place inner
     ∙ ap (prepend (made ++ [])) (number_calls text inner (bare_name name) rest (whole_text text inner (Call.TaggedEnd (bare_name name) ∷ rest) s w))
     ∙ fronted made (number_pack (normal text)) q
 tagged_written JsonText name (Text text) inner rest place m s w h = raw_refused name inner place
@@ -87,8 +87,8 @@ tagged_written kind name tree inner rest place m s w h = absurd m
 
 -- ---- enums
 
-pub empty_enum : (name : Name) (rest : List Call) (place : Place)
-    → rest_of (Call.EnumEnd (bare_name name) ∷ rest) (on_ok (opening (handle name) place false) (λ made. writes (made ++ []) (in_value Begun)))
+pub empty_enum : (name : Name) (rest : List Call) (place : EnumPlace)
+    → rest_of (Call.EnumEnd (bare_name name) ∷ rest) (on_packed (opening (handle name) place false) (λ made. writes (made ++ []) (in_value Begun)))
     ≡ prepend (front (handle name) (is_begun place) ++ cbor (own name)) (written_from rest (in_value (after_handle (handle (bare_name name)))))
 empty_enum name rest place =
     let q = written_from rest (in_value (after_handle (handle (bare_name name)))) in
@@ -96,16 +96,16 @@ empty_enum name rest place =
     opened name [] (in_value Begun) place (Call.EnumEnd (bare_name name) ∷ rest) ∙ prepend_twice (made ++ []) (cbor (own (bare_name name))) q
     ∙ ap (λ x. prepend (x ++ cbor (own (bare_name name))) q) (append-nil made) ∙ ap (λ json. prepend (made ++ cbor json) q) (bare_own name)
 
-pub enum_written : (name : Name) (tree : Tree) (inner rest : List Call) (place : Place) → IsWritten tree inner (Call.EnumEnd (bare_name name) ∷ rest) Begun
-    → rest_of inner (on_ok (opening (handle name) place false) (λ made. writes (made ++ []) (in_value Begun)))
-    ≡ and_then (map_ok (λ json. front (handle name) (is_begun place) ++ cbor json) (packs tree true)) (written_from rest (in_value (after_handle (handle (bare_name name)))))
+pub enum_written : (name : Name) (tree : Tree) (inner rest : List Call) (place : EnumPlace) → IsWritten tree inner (Call.EnumEnd (bare_name name) ∷ rest) Begun
+    → rest_of inner (on_packed (opening (handle name) place false) (λ made. writes (made ++ []) (in_value Begun)))
+    ≡ and_then (map_packed (λ json. front (handle name) (is_begun place) ++ cbor json) (packs tree true)) (written_from rest (in_value (after_handle (handle (bare_name name)))))
 enum_written name tree inner rest place h =
     let q = written_from rest (in_value (after_handle (handle (bare_name name)))) in
     let made = front (handle name) (is_begun place) in
     opened name [] (in_value Begun) place inner
     ∙ ap (prepend (made ++ [])) (h ∙ ap (λ bytes. and_then (unclosed tree true) (prepend bytes q)) (enum_closes tree (own (bare_name name))))
     ∙ enum_closed made (handle (name_of tree)) (body tree) q
-    ∙ ap (λ r. and_then (map_ok (λ json. made ++ cbor json) r) q) (sym (packs_body tree true))
+    ∙ ap (λ r. and_then (map_packed (λ json. made ++ cbor json) r) q) (sym (packs_body tree true))
 
 -- ---- parts
 

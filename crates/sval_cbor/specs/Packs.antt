@@ -21,25 +21,25 @@ pub data PackRefusal : Type 0 where
   NotInteger : PackRefusal
 
 -- the rest of the work on a value, unless it was refused
-abbrev pub on_ok : {T U : Type 0} → Result T PackRefusal → (T → Result U PackRefusal) → Result U PackRefusal
-on_ok (Ok value) rest = rest value
-on_ok (Err refusal) rest = Err refusal
+abbrev pub on_packed : {T U : Type 0} → Result T PackRefusal → (T → Result U PackRefusal) → Result U PackRefusal
+on_packed (Ok value) rest = rest value
+on_packed (Err refusal) rest = Err refusal
 
 -- a change of the value, unless it was refused
-abbrev pub map_ok : {T U : Type 0} → (T → U) → Result T PackRefusal → Result U PackRefusal
-map_ok change result = on_ok result (λ value. Ok (change value))
+abbrev pub map_packed : {T U : Type 0} → (T → U) → Result T PackRefusal → Result U PackRefusal
+map_packed change result = on_packed result (λ value. Ok (change value))
 
 -- from -2 ^ 127 to 2 ^ 128 - 1
 abbrev pub has_128_bits : ℤ → Bool
 has_128_bits n = is_unsigned 128 n || is_signed 127 n
 
 -- a number in normal form that has neither fraction nor exponent, and 128 bits
-abbrev pub is_whole : List ℕ → Bool
-is_whole digits = is_empty (after_digits (without_minus digits)) && has_128_bits (signed_digits_value 10 digits)
+abbrev pub is_whole_number : List ℕ → Bool
+is_whole_number digits = is_empty (after_digits (without_minus digits)) && has_128_bits (signed_digits_value 10 digits)
 
 -- text that stands for a number, by its normal form; what is no number there is `null`
 abbrev pub number_pack : Result (List ℕ) json.Refusal → Result Json PackRefusal
-number_pack (Ok digits) = if bytes_eq digits (codes "null") then Ok null else if is_whole digits then Ok (number digits) else Err NotInteger
+number_pack (Ok digits) = if bytes_eq digits (codes "null") then Ok null else if is_whole_number digits then Ok (number digits) else Err NotInteger
 number_pack (Err _) = Err BadNumber
 
 -- text under the tags that say how it is meant; other values under a tag are packed as ever
@@ -86,25 +86,25 @@ abbrev mutual
   packs (Text bytes) _ = Ok (text bytes)
   packs (Binary bytes) _ = Ok (array (byte_items bytes))
   packs (Standalone name) _ = Ok (own name)
-  packs (Tagged name tree) variant = map_ok (wrap Inside variant name) (tagged_pack (text_kind name.tag) tree (packs tree false))
+  packs (Tagged name tree) variant = map_packed (wrap Inside variant name) (tagged_pack (text_kind name.tag) tree (packs tree false))
   packs (EmptyEnum name) variant = Ok (wrap Inside variant name (own name))
-  packs (Enum name tree) variant = map_ok (wrap Inside variant name) (packs tree true)
-  packs (Container Head.Seq parts) _ = map_ok array (packed_items parts)
-  packs (Container Head.Map parts) _ = map_ok object (packed_pairs parts)
-  packs (Container (Head.Record name) parts) variant = map_ok (λ fields. wrap Inside variant name (object fields)) (packed_pairs parts)
-  packs (Container (Head.Tuple name) parts) variant = map_ok (λ places. wrap Inside variant name (array places)) (packed_items parts)
-  packs (Container (Head.RecordTuple name) parts) variant = map_ok (λ fields. wrap Inside variant name (object fields)) (packed_pairs parts)
+  packs (Enum name tree) variant = map_packed (wrap Inside variant name) (packs tree true)
+  packs (Container Head.Seq parts) _ = map_packed array (packed_items parts)
+  packs (Container Head.Map parts) _ = map_packed object (packed_pairs parts)
+  packs (Container (Head.Record name) parts) variant = map_packed (λ fields. wrap Inside variant name (object fields)) (packed_pairs parts)
+  packs (Container (Head.Tuple name) parts) variant = map_packed (λ places. wrap Inside variant name (array places)) (packed_items parts)
+  packs (Container (Head.RecordTuple name) parts) variant = map_packed (λ fields. wrap Inside variant name (object fields)) (packed_pairs parts)
 
   -- the items that parts pack to, in order, or the first refusal
   pub packed_items : Parts → Result Items PackRefusal
   packed_items none = Ok no_item
-  packed_items (part _ tree parts) = on_ok (packs tree false) (λ json. map_ok (item json) (packed_items parts))
+  packed_items (part _ tree parts) = on_packed (packs tree false) (λ json. map_packed (item json) (packed_items parts))
 
   -- a map's key and value, or a field by its label, is a pair; no other part stands in a good map or record
   pub packed_pairs : Parts → Result Pairs PackRefusal
-  packed_pairs (part Slot.Key name (part _ tree parts)) = on_ok (pack_key name) (λ k. on_ok (packs tree false) (λ json. map_ok (pair k json) (packed_pairs parts)))
-  packed_pairs (part (Slot.Field _ label) tree parts) = on_ok (packs tree false) (λ json. map_ok (pair (escaped_key label.text) json) (packed_pairs parts))
-  packed_pairs (part (Slot.FieldPlace _ label _) tree parts) = on_ok (packs tree false) (λ json. map_ok (pair (escaped_key label.text) json) (packed_pairs parts))
+  packed_pairs (part Slot.Key name (part _ tree parts)) = on_packed (pack_key name) (λ k. on_packed (packs tree false) (λ json. map_packed (pair k json) (packed_pairs parts)))
+  packed_pairs (part (Slot.Field _ label) tree parts) = on_packed (packs tree false) (λ json. map_packed (pair (escaped_key label.text) json) (packed_pairs parts))
+  packed_pairs (part (Slot.FieldPlace _ label _) tree parts) = on_packed (packs tree false) (λ json. map_packed (pair (escaped_key label.text) json) (packed_pairs parts))
   packed_pairs _ = Ok no_pair
 
 -- the shape of a whole tree

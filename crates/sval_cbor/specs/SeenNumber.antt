@@ -6,7 +6,7 @@ use Rattle.sval_json.specs.Number.{sign, without_zeros}
 use Rattle.sval_cbor.specs.declared.number.NormalForm as program
 use Rattle.sval_cbor.specs.declared.number.NormalForm.TheVariants as normal
 use Rattle.sval_cbor.specs.declared.integer.Integer.{Integer}
-use Rattle.sval_cbor.specs.Packs.{has_128_bits, is_whole}
+use Rattle.sval_cbor.specs.Packs.{has_128_bits, is_whole_number}
 use Rattle.sval_cbor.specs.SeenWriter.{seen_integer}
 
 -- a zero stands in front of another digit
@@ -49,5 +49,5 @@ IsOf128Bits z None = has_128_bits z ≡ false
 
 -- the number that the normal form is where it is whole, or none where it isn't
 abbrev pub IsWholeAnswer : Bool → List ℕ → Option Integer → Type 0
-IsWholeAnswer negative unsigned (Some integer) = (is_whole (sign negative ++ unsigned) ≡ true) × (signed_digits_value 10 (sign negative ++ unsigned) ≡ seen_integer integer)
-IsWholeAnswer negative unsigned None = is_whole (sign negative ++ unsigned) ≡ false
+IsWholeAnswer negative unsigned (Some integer) = (is_whole_number (sign negative ++ unsigned) ≡ true) × (signed_digits_value 10 (sign negative ++ unsigned) ≡ seen_integer integer)
+IsWholeAnswer negative unsigned None = is_whole_number (sign negative ++ unsigned) ≡ false

@@ -11,17 +11,17 @@ use Rattle.sval_cbor.specs.declared.number.NormalForm.TheVariants as normal
 use Rattle.sval_cbor.specs.declared.writer.Place as program_place
 use Rattle.sval_cbor.specs.declared.writer.Place.TheVariants as place
 use Rattle.sval_cbor.specs.Packs.{PackRefusal, BadKey, BadNumber, RawJson, NotInteger}
-use Rattle.sval_cbor.specs.Writing.{Place, Elsewhere, Begun, Ended}
+use Rattle.sval_cbor.specs.Writing.{EnumPlace, Elsewhere, Begun, Ended}
 
 -- a refusal of the code, as the steps say it
-abbrev pub seen_refusal : program_refusal.Refusal → PackRefusal
-seen_refusal refusal.Key = BadKey
-seen_refusal refusal.Number = BadNumber
-seen_refusal refusal.Raw = RawJson
-seen_refusal refusal.NotInteger = NotInteger
+abbrev pub seen_pack_refusal : program_refusal.Refusal → PackRefusal
+seen_pack_refusal refusal.Key = BadKey
+seen_pack_refusal refusal.Number = BadNumber
+seen_pack_refusal refusal.Raw = RawJson
+seen_pack_refusal refusal.NotInteger = NotInteger
 
 -- the place of the steps that a place of the code is
-abbrev pub seen_place : program_place.Place → Place
+abbrev pub seen_place : program_place.Place → EnumPlace
 seen_place place.Elsewhere = Elsewhere
 seen_place place.Begun = Begun
 seen_place place.Ended = Ended

@@ -18,7 +18,7 @@ use Rattle.sval_cbor.specs.declared.error.CborError.{CborError}
 use Rattle.sval_cbor.specs.declared.error.CborError.TheVariants as error
 use Rattle.sval_cbor.specs.Forms.{form_named}
 use Rattle.sval_cbor.specs.Packs.{BadKey, BadNumber, RawJson, NotInteger}
-use Rattle.sval_cbor.specs.Streamed.{WritesTree}
+use Rattle.sval_cbor.specs.Streamed.{WritesCborTree}
 use Rattle.sval_cbor.specs.Verdict.{Verdict, BadLine, BadCall, Unfinished, Whole, IsVerdict}
 
 -- ---- what is due of a script
@@ -53,8 +53,8 @@ pub record WritesBytes (old new : Told) (script : List ℕ) (asked : Unit {0}) :
   pub appends : Appends old bytes new
 
 -- the tree that the script spells packs, and exactly its bytes were taken
-abbrev pub WritesValue : Told → Told → List ℕ → Unit {0} → Type 0
-WritesValue old new script asked = (calls : List Call) (tree : Tree) → lines script ≡ Good calls → Spells calls tree → WritesTree tree old new
+abbrev pub WritesCborValue : Told → Told → List ℕ → Unit {0} → Type 0
+WritesCborValue old new script asked = (calls : List Call) (tree : Tree) → lines script ≡ Good calls → Spells calls tree → WritesCborTree tree old new
 
 -- what may be left: a first part of the bytes that are the verdict; and nothing where there are none
 abbrev pub MayLeave : Told → Told → Verdict → Type 0

@@ -7,7 +7,7 @@ use Rattle.sval_core.specs.Trees.{Tree}
 use Rattle.sval_io.specs.Sinks.{Told, IsSteady, IsQuiet, IsCounted, NoCountFell, Appends, AppendsFront, AppendsPart, LacksRoom, WritesWhole, WritesFront}
 use Rattle.sval_io.specs.declared.sink.SinkError.{SinkError}
 use Rattle.sval_io.specs.declared.sink.SinkError.TheVariants as sink
-use Rattle.sval_check.specs.Checks.{IsOneValue, IsFirstBad, OnlyRefuses, IsUnfinished, NeedsMemory}
+use Rattle.sval_check.specs.Checks.{IsOneValue, IsFirstBadCall, OnlyRefuses, IsUnfinished, NeedsMemory}
 use Rattle.sval_check.specs.declared.error.CheckError.{CheckError}
 use Rattle.sval_check.specs.declared.error.CheckError.TheVariants as check
 use Rattle.sval_json.specs.Json.{Json}
@@ -17,7 +17,7 @@ use Rattle.sval_cbor.specs.declared.error.Stop.{Stop}
 use Rattle.sval_cbor.specs.declared.error.Stop.TheVariants as stop
 use Rattle.sval_cbor.specs.Packs.{PackRefusal, BadKey, BadNumber, RawJson, NotInteger, pack_of}
 use Rattle.sval_cbor.specs.Cbor.{cbor}
-use Rattle.sval_cbor.specs.SeenWriter.{seen_refusal}
+use Rattle.sval_cbor.specs.SeenWriter.{seen_pack_refusal}
 
 -- what streaming to CBOR answers
 abbrev pub CborAnswer : Type 0
@@ -39,7 +39,7 @@ check_error check.NoMemory = error.NoMemory
 
 -- the error that says what stopped the writer
 abbrev pub stop_error : Stop → CborError
-stop_error (stop.Step why) = refusal_error (seen_refusal why)
+stop_error (stop.Step why) = refusal_error (seen_pack_refusal why)
 stop_error (stop.Sink sink.Failed) = error.Write
 stop_error (stop.Sink sink.NoMemory) = error.NoMemory
 
@@ -59,7 +59,7 @@ pub record IsDeclined (why : SinkError) (due : Result (List ℕ) PackRefusal) (o
 
 -- what stopped the writer
 abbrev pub IsHalted : Stop → Result (List ℕ) PackRefusal → Told → Told → Type 0
-IsHalted (stop.Step why) due old new = due ≡ Err (seen_refusal why)
+IsHalted (stop.Step why) due old new = due ≡ Err (seen_pack_refusal why)
 IsHalted (stop.Sink why) due old new = IsDeclined why due old new
 
 -- all was written, or the writer was stopped
@@ -83,7 +83,7 @@ AnswersDue result old (Err why) new = (result ≡ Err (refusal_error why)) × (n
 
 -- the calls are not one whole value: one of them can't be completed, or all can, and are not whole
 abbrev pub IsNoTree : Emission → Type 0
-IsNoTree e = ((at : ℕ) × IsFirstBad e.calls at) ⊎ IsUnfinished e
+IsNoTree e = ((at : ℕ) × IsFirstBadCall e.calls at) ⊎ IsUnfinished e
 
 -- the calls are one whole value, and surely none of them is in the way of that
 pub record IsChecked (e : Emission) : Type 0 where
@@ -101,26 +101,26 @@ pub record HasCbor (e : Emission) : Type 0 where
   pub packs : (tree : Tree) → Spells e.calls tree → (json : Json) × (pack_of tree ≡ Ok json)
 
 -- the answer that is due, where the sink doesn't decline and memory isn't wanting
-abbrev pub IsDue : Emission → CborAnswer → Type 0
-IsDue e (Ok done) = HasCbor e
-IsDue e (Err error.NotATree) = IsNoTree e
-IsDue e (Err error.Refused) = OnlyRefuses e
-IsDue e (Err error.Key) = IsRefusedAs e BadKey
-IsDue e (Err error.Number) = IsRefusedAs e BadNumber
-IsDue e (Err error.Raw) = IsRefusedAs e RawJson
-IsDue e (Err error.NotInteger) = IsRefusedAs e NotInteger
-IsDue e (Err error.Write) = ⊥
-IsDue e (Err error.NoMemory) = ⊥
+abbrev pub IsCborDue : Emission → CborAnswer → Type 0
+IsCborDue e (Ok done) = HasCbor e
+IsCborDue e (Err error.NotATree) = IsNoTree e
+IsCborDue e (Err error.Refused) = OnlyRefuses e
+IsCborDue e (Err error.Key) = IsRefusedAs e BadKey
+IsCborDue e (Err error.Number) = IsRefusedAs e BadNumber
+IsCborDue e (Err error.Raw) = IsRefusedAs e RawJson
+IsCborDue e (Err error.NotInteger) = IsRefusedAs e NotInteger
+IsCborDue e (Err error.Write) = ⊥
+IsCborDue e (Err error.NoMemory) = ⊥
 
 -- the tree packs, and exactly its bytes were taken
-pub record WritesTree (tree : Tree) (old new : Told) : Type 0 where
+pub record WritesCborTree (tree : Tree) (old new : Told) : Type 0 where
   pub json : Json
   pub packs : pack_of tree ≡ Ok json
   pub appends : Appends old (cbor json) new
 
 -- the bytes of the tree that the calls spell were taken
 abbrev pub WritesSpelled : List Call → Told → Told → Type 0
-WritesSpelled calls old new = (tree : Tree) → Spells calls tree → WritesTree tree old new
+WritesSpelled calls old new = (tree : Tree) → Spells calls tree → WritesCborTree tree old new
 
 -- where the calls spell a tree that packs, a first part of its bytes was taken
 abbrev pub BeginsSpelled : List Call → Told → Told → Type 0
@@ -131,23 +131,23 @@ abbrev pub CutsSpelled : List Call → Told → Told → Type 0
 CutsSpelled calls old new = (tree : Tree) (json : Json) → Spells calls tree → pack_of tree ≡ Ok json → AppendsPart old (cbor json) new
 
 -- where the calls spell a tree that packs, its bytes have no place in the room that is told
-abbrev pub IsTooLong : List Call → Told → Type 0
-IsTooLong calls old = (tree : Tree) (json : Json) → Spells calls tree → pack_of tree ≡ Ok json → LacksRoom old (cbor json)
+abbrev pub LacksCborRoom : List Call → Told → Type 0
+LacksCborRoom calls old = (tree : Tree) (json : Json) → Spells calls tree → pack_of tree ≡ Ok json → LacksRoom old (cbor json)
 
 -- memory was wanting to check the value; or it is a whole one, and memory was wanting to capture it
 abbrev pub TakesMemory : Emission → Type 0
 TakesMemory e = NeedsMemory e.calls ⊎ IsOneValue e
 
 -- the error's cause is not the sink's, nor want of memory
-abbrev pub IsOfValue : CborAnswer → Type 0
-IsOfValue (Ok done) = ⊥
-IsOfValue (Err error.Write) = ⊥
-IsOfValue (Err error.NoMemory) = ⊥
-IsOfValue (Err _) = ⊤
+abbrev pub IsCauseOfValue : CborAnswer → Type 0
+IsCauseOfValue (Ok done) = ⊥
+IsCauseOfValue (Err error.Write) = ⊥
+IsCauseOfValue (Err error.NoMemory) = ⊥
+IsCauseOfValue (Err _) = ⊤
 
 -- where memory was wanting the sink is as it was, or memory was wanting for the sink itself, for bytes that the value has
-abbrev pub IsWant : {K : Type 0} → (K → Told) → Emission → K → K → Type 0
-IsWant told e old new = (new ≡ old) ⊎ (Rose (told old).wants (told new).wants × HasCbor e)
+abbrev pub IsCborWant : {K : Type 0} → (K → Told) → Emission → K → K → Type 0
+IsCborWant told e old new = (new ≡ old) ⊎ (Rose (told old).wants (told new).wants × HasCbor e)
 
 -- On Ok the sink took the bytes of what the tree that the calls spell packs to. Each error comes only where it is so, and where the sink
 -- doesn't decline and memory isn't wanting, the answer that is due comes. An error of the value comes before anything is written, and after
@@ -156,11 +156,11 @@ pub record StreamsCbor (e : Emission) (result : CborAnswer) (old new : Told) : T
   pub value : OnOk result (IsOneValue e)
   pub written : OnOk result (WritesSpelled e.calls old new)
   pub steady : OnOk result (IsSteady old new)
-  pub only_where : IsOfValue result → IsDue e result
-  pub error_comes : (why : CborError) → IsDue e (Err why) → (result ≡ Err why) ⊎ (result ≡ Err error.NoMemory)
+  pub only_where : IsCauseOfValue result → IsCborDue e result
+  pub error_comes : (why : CborError) → IsCborDue e (Err why) → (result ≡ Err why) ⊎ (result ≡ Err error.NoMemory)
   pub ok_comes : HasCbor e → IsQuiet old new → (result ≡ Ok tt) ⊎ (result ≡ Err error.NoMemory)
   pub write : result ≡ Err error.Write → Rose old.faults new.faults
-  pub write_room : result ≡ Err error.Write → IsTooLong e.calls old
+  pub write_room : result ≡ Err error.Write → LacksCborRoom e.calls old
   pub write_short : result ≡ Err error.Write → CutsSpelled e.calls old new
   pub write_value : result ≡ Err error.Write → HasCbor e
   pub no_memory : result ≡ Err error.NoMemory → (Rose old.wants new.wants × HasCbor e) ⊎ ((new ≡ old) × TakesMemory e)

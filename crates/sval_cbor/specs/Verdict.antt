@@ -3,10 +3,10 @@ use Rattle.std.specs.Prelude.{◌≡◌, ℕ, List, Result}
 use Rattle.sval_label.specs.Calls.{Call}
 use Rattle.sval_core.specs.Spells.{Spells, IsViable}
 use Rattle.sval_core.specs.Trees.{Tree}
-use Rattle.sval_check.specs.Checks.{IsFirstBad}
+use Rattle.sval_check.specs.Checks.{IsFirstBadCall}
 use Rattle.sval_script.specs.Lines.{Good, Bad, lines}
 use Rattle.sval_cbor.specs.Cbor.{cbor}
-use Rattle.sval_cbor.specs.Packs.{PackRefusal, map_ok, pack_of}
+use Rattle.sval_cbor.specs.Packs.{PackRefusal, map_packed, pack_of}
 
 -- the first bad line, or the first call that no value goes on with, each counted from 1; calls that are no whole value; or what the value
 -- packs to, as bytes, or why it doesn't
@@ -25,12 +25,12 @@ pub record AreUnfinished (calls : List Call) : Type 0 where
 pub record SpellWhole (due : Result (List ℕ) PackRefusal) (calls : List Call) : Type 0 where
   pub tree : Tree
   pub spells : Spells calls tree
-  pub is : due ≡ map_ok cbor (pack_of tree)
+  pub is : due ≡ map_packed cbor (pack_of tree)
 
 -- what calls give
 abbrev pub IsOfCalls : Verdict → List Call → Type 0
 IsOfCalls (BadLine n) calls = ⊥
-IsOfCalls (BadCall n) calls = IsFirstBad calls n
+IsOfCalls (BadCall n) calls = IsFirstBadCall calls n
 IsOfCalls Unfinished calls = AreUnfinished calls
 IsOfCalls (Whole due) calls = SpellWhole due calls
 

@@ -10,26 +10,26 @@ use Rattle.sval_cbor.specs.declared.error.Stop.TheVariants.{Step, Sink}
 use Rattle.sval_cbor.specs.declared.writer.Writer.{Writer}
 use Rattle.sval_cbor.specs.Packs.{PackRefusal}
 use Rattle.sval_cbor.specs.Cbor.{cbor}
-use Rattle.sval_cbor.specs.SeenWriter.{seen_refusal, seen_place}
+use Rattle.sval_cbor.specs.SeenWriter.{seen_pack_refusal, seen_place}
 use Rattle.sval_cbor.specs.Writing as writing
-use Rattle.sval_cbor.specs.Writing.{State, at, start, simple, step}
+use Rattle.sval_cbor.specs.Writing.{CborState, cbor_state, cbor_start, simple, cbor_step}
 
 -- what a step answers: the bytes and the state after it, or why it is refused
-abbrev pub Due : Type 0
-Due = Result writing.Step PackRefusal
+abbrev pub StepAnswer : Type 0
+StepAnswer = Result writing.CborStep PackRefusal
 
 -- the bytes, none where it is refused
-abbrev pub due_bytes : Due → List ℕ
+abbrev pub due_bytes : StepAnswer → List ℕ
 due_bytes (Ok done) = done.bytes
 due_bytes (Err why) = []
 
 -- the state after it, which doesn't matter where it is refused
-abbrev pub due_state : Due → State
+abbrev pub due_state : StepAnswer → CborState
 due_state (Ok done) = done.state
-due_state (Err why) = start
+due_state (Err why) = cbor_start
 
 -- why it is refused, if it is
-abbrev pub due_refusal : Due → Option PackRefusal
+abbrev pub due_refusal : StepAnswer → Option PackRefusal
 due_refusal (Ok done) = None
 due_refusal (Err why) = Some why
 
@@ -38,73 +38,73 @@ abbrev pub json_bytes : Bool → Json → List ℕ
 json_bytes in_key json = simple in_key (bare_text json) (cbor json)
 
 -- the sink that a writer writes to: which one, what it tells but for what it holds back, and what stopped the writer, if something did
-pub record Target : Type 0 where
+pub record CborTarget : Type 0 where
   pub name : ℕ
   pub told : Told
   pub why : Option Stop
 
 -- what the writer has taken, as a stream: the state of the steps, and the sink
-pub record WriterView : Type 0 where
-  pub state : State
-  pub target : Target
+pub record CborWriterView : Type 0 where
+  pub state : CborState
+  pub target : CborTarget
 
 -- the sink after it took these bytes
-abbrev pub with_bytes : List ℕ → Target → Target
-with_bytes bytes target =
+abbrev pub with_cbor_bytes : List ℕ → CborTarget → CborTarget
+with_cbor_bytes bytes target =
     record target { told = record target.told { text = appended target.told.text bytes; room = less_room target.told.room (length bytes) } }
 
 -- the writer after a step that isn't refused
-abbrev pub after_step : Due → Target → WriterView
-after_step due target = record { state = due_state due; target = with_bytes (due_bytes due) target }
+abbrev pub after_step : StepAnswer → CborTarget → CborWriterView
+after_step due target = record { state = due_state due; target = with_cbor_bytes (due_bytes due) target }
 
 -- the step isn't refused, and what it writes has room
-pub record MayDo (due : Due) (told : Told) : Type 0 where
+pub record MayDoStep (due : StepAnswer) (told : Told) : Type 0 where
   pub refusal : due_refusal due ≡ None
   pub fits : HasRoom told (due_bytes due)
 
 -- the step was done
-pub record HasDone (due : Due) (old : Target) (new : WriterView) : Type 0 where
-  pub may : MayDo due old.told
+pub record HasDoneStep (due : StepAnswer) (old : CborTarget) (new : CborWriterView) : Type 0 where
+  pub may : MayDoStep due old.told
   pub view : new ≡ after_step due old
 
 -- what the sink took, by what stopped the writer: nothing, where the step is refused; a first part of the bytes, where the sink declined
-abbrev pub IsLeftBy : Option Stop → Due → Told → Told → Type 0
-IsLeftBy None due old new = ⊥
-IsLeftBy (Some (Step why)) due old new = (due_refusal due ≡ Some (seen_refusal why)) × (new ≡ old)
-IsLeftBy (Some (Sink why)) due old new = WritesFront why old (due_bytes due) new
+abbrev pub IsLeftByStep : Option Stop → StepAnswer → Told → Told → Type 0
+IsLeftByStep None due old new = ⊥
+IsLeftByStep (Some (Step why)) due old new = (due_refusal due ≡ Some (seen_pack_refusal why)) × (new ≡ old)
+IsLeftByStep (Some (Sink why)) due old new = WritesFront why old (due_bytes due) new
 
 -- the step was stopped
-pub record IsStopped (due : Due) (old : Target) (new : WriterView) : Type 0 where
-  pub left : IsLeftBy new.target.why due old.told new.target.told
+pub record StepIsStopped (due : StepAnswer) (old : CborTarget) (new : CborWriterView) : Type 0 where
+  pub left : IsLeftByStep new.target.why due old.told new.target.told
   pub name : new.target.name ≡ old.name
 
 -- what the answer of a part of the writer says: it did the step, or was stopped in it
-abbrev pub Does : Due → Result (Unit {0}) Error → Target → WriterView → Type 0
-Does due (Ok done) old new = HasDone due old new
-Does due (Err refusal) old new = IsStopped due old new
+abbrev pub CborDoes : StepAnswer → Result (Unit {0}) Error → CborTarget → CborWriterView → Type 0
+CborDoes due (Ok done) old new = HasDoneStep due old new
+CborDoes due (Err refusal) old new = StepIsStopped due old new
 
 -- a call is taken where its step isn't refused and what it writes has room
-abbrev pub writer_law : Law WriterView
-writer_law = record {
-  accepts = λ view call. MayDo (step call view.state) view.target.told;
-  after = λ view call. after_step (step call view.state) view.target;
-  stopped = λ view call left. IsStopped (step call view.state) view.target left;
+abbrev pub cbor_writer_law : Law CborWriterView
+cbor_writer_law = record {
+  accepts = λ view call. MayDoStep (cbor_step call view.state) view.target.told;
+  after = λ view call. after_step (cbor_step call view.state) view.target;
+  stopped = λ view call left. StepIsStopped (cbor_step call view.state) view.target left;
 }
 
 -- ---- the writer in code
 
 -- the state of the steps
-abbrev pub writer_state : {K : Type 0} → Writer K → State
-writer_state w = at (seen_place w.place) w.in_key w.in_number
+abbrev pub cbor_writer_state : {K : Type 0} → Writer K → CborState
+cbor_writer_state w = cbor_state (seen_place w.place) w.in_key w.in_number
 
 -- the sink; `told` is what it tells
-abbrev pub writer_target : {K : Type 0} → (K → Told) → Writer K → Target
+abbrev pub writer_target : {K : Type 0} → (K → Told) → Writer K → CborTarget
 writer_target told w = record { name = w.sink.ghost_name; told = record (told w.sink.now) { held = None }; why = w.why }
 
 -- the writer as its law sees it
-abbrev pub writer_view : {K : Type 0} → (K → Told) → Writer K → WriterView
-writer_view told w = record { state = writer_state w; target = writer_target told w }
+abbrev pub cbor_writer_view : {K : Type 0} → (K → Told) → Writer K → CborWriterView
+cbor_writer_view told w = record { state = cbor_writer_state w; target = writer_target told w }
 
 -- the same with the two counts of the sink
-abbrev pub writer_standing : {K : Type 0} → (K → Told) → Writer K → Standing WriterView
-writer_standing told w = record { view = writer_view told w; faults = (told w.sink.now).faults; wants = (told w.sink.now).wants }
+abbrev pub cbor_writer_standing : {K : Type 0} → (K → Told) → Writer K → Standing CborWriterView
+cbor_writer_standing told w = record { view = cbor_writer_view told w; faults = (told w.sink.now).faults; wants = (told w.sink.now).wants }

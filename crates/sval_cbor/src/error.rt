@@ -27,9 +27,9 @@ pub enum CborError {
 
 impl fmt::Display for CborError {
     ghost use Rattle.std.specs.Prelude.{Some};
-    ghost use Rattle.sval_cbor.specs.ErrorTexts.{error_text};
+    ghost use Rattle.sval_cbor.specs.ErrorTexts.{cbor_error_text};
 
-    ghost output = { λ error. Some (error_text error) };
+    ghost output = { λ error. Some (cbor_error_text error) };
 
     fn fmt<W: fmt::Write>(&self, f: &mut fmt::Formatter<W>) -> fmt::Result {
         f.write_str(match self {

@@ -10,11 +10,11 @@ ghost use Rattle.sval_script.specs.Lines.{lines, Good};
 ghost use Rattle.sval_cbor.specs.Forms.{form_of, OnAsked};
 ghost use Rattle.sval_cbor.specs.Packs.{BadKey, BadNumber, RawJson, NotInteger};
 ghost use Rattle.sval_cbor.specs.Reports.{Reports};
-ghost use Rattle.sval_cbor.specs.Serves.{cbor_terms, WritesBytes, WritesValue, MayLeave, failure_of_check, failure_of_cbor};
+ghost use Rattle.sval_cbor.specs.Serves.{cbor_terms, WritesBytes, WritesCborValue, MayLeave, failure_of_check, failure_of_cbor};
 ghost use Rattle.sval_cbor.specs.Statuses.{IsStatusDue};
 ghost use Rattle.sval_cbor.specs.Streamed.{IsChecked};
 ghost use Rattle.sval_cbor.specs.Verdict.{Unfinished, Whole, IsVerdict, HasVerdict, HasBadLine, HasBadCall, OnVerdict};
-ghost use Rattle.sval_cbor.specs.Writing.{written};
+ghost use Rattle.sval_cbor.specs.Writing.{written_cbor};
 
 use crate::error::CborError;
 use crate::program::WriteCbor;
@@ -64,7 +64,7 @@ fn unwritten(error: CborError) -> Failure
 /// Writes a value whose texts and binaries come whole, and that doesn't refuse.
 fn write_captured<'v, K: Sink, V: Value<'v, Lent<'v>>>(out: &mut K, v: &'v V) -> Result<(), Failure>
     requires { (V.emission v.now).refuses ≡ false }
-    ensures { (script : List ℕ) → IsVerdict (Whole (written (V.emission v.now).calls)) script
+    ensures { (script : List ℕ) → IsVerdict (Whole (written_cbor (V.emission v.now).calls)) script
         → ServesBytes cbor_terms K.told tt script result out.old out.new }
 {
     match write_value(out, v) {
@@ -188,7 +188,7 @@ pub fn run_cbor<I: Source, K: Sink, D: Sink>(
     ensures done { result ≡ DONE
         → OnAsked words.now (I.told input.old) (WritesBytes (K.told out.old) (K.told out.new)) }
     ensures writes { result ≡ DONE
-        → OnAsked words.now (I.told input.old) (WritesValue (K.told out.old) (K.told out.new)) }
+        → OnAsked words.now (I.told input.old) (WritesCborValue (K.told out.old) (K.told out.new)) }
     ensures bad_line { result ≡ BAD_LINE → OnAsked words.now (I.told input.old) HasBadLine }
     ensures bad_call { result ≡ BAD_CALL → OnAsked words.now (I.told input.old) HasBadCall }
     ensures unfinished { result ≡ UNFINISHED → OnAsked words.now (I.told input.old) (HasVerdict Unfinished) }

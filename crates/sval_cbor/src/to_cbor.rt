@@ -1,8 +1,8 @@
 //! Values written to a sink.
 
 ghost use Rattle.std.specs.Prelude.{◌≡◌, false, IsOk, Err};
-ghost use Rattle.sval_cbor.specs.Writing.{written};
-ghost use Rattle.sval_cbor.specs.Streamed.{StreamsCbor, IsChecked, WritesCalls, AnswersDue, IsOfValue, IsWant};
+ghost use Rattle.sval_cbor.specs.Writing.{written_cbor};
+ghost use Rattle.sval_cbor.specs.Streamed.{StreamsCbor, IsChecked, WritesCalls, AnswersDue, IsCauseOfValue, IsCborWant};
 ghost use Rattle.sval_cbor.specs.Streamed.{check_error, stop_error};
 
 use crate::error::{CborError, Refusal, Stop};
@@ -58,8 +58,8 @@ pub fn stream_to_cbor<'v, K: Sink, V: Value<'v, Lent<'v>>>(
     v: &'v V,
 ) -> Result<(), CborError>
     ensures streams { StreamsCbor (V.emission v.now) result (K.told out.old) (K.told out.new) }
-    ensures left { IsOfValue result → out.new ≡ out.old }
-    ensures want { result ≡ Err CborError.NoMemory → IsWant K.told (V.emission v.now) out.old out.new }
+    ensures left { IsCauseOfValue result → out.new ≡ out.old }
+    ensures want { result ≡ Err CborError.NoMemory → IsCborWant K.told (V.emission v.now) out.old out.new }
 {
     match check(alloc, v) {
         Ok(()) => write_checked(alloc, out, v),
@@ -100,8 +100,8 @@ fn write_checked<'v, K: Sink, V: Value<'v, Lent<'v>>>(
 ) -> Result<(), CborError>
     requires { IsChecked (V.emission v.now) }
     ensures streams { StreamsCbor (V.emission v.now) result (K.told out.old) (K.told out.new) }
-    ensures left { IsOfValue result → out.new ≡ out.old }
-    ensures want { result ≡ Err CborError.NoMemory → IsWant K.told (V.emission v.now) out.old out.new }
+    ensures left { IsCauseOfValue result → out.new ≡ out.old }
+    ensures want { result ≡ Err CborError.NoMemory → IsCborWant K.told (V.emission v.now) out.old out.new }
 {
     match ValueBuf::collect(alloc, v) {
         Ok(buffer) => write_value(out, &buffer),
@@ -118,8 +118,8 @@ pub(crate) fn write_value<'v, K: Sink, V: Value<'v, Lent<'v>>>(
     v: &'v V,
 ) -> Result<(), CborError>
     requires { (V.emission v.now).refuses ≡ false }
-    ensures due { AnswersDue result (K.told out.old) (written (V.emission v.now).calls) (K.told out.new) }
-    ensures left { IsOfValue result → out.new ≡ out.old }
+    ensures due { AnswersDue result (K.told out.old) (written_cbor (V.emission v.now).calls) (K.told out.new) }
+    ensures left { IsCauseOfValue result → out.new ≡ out.old }
 {
     match write_calls(&mut CountSink::new(), v) {
         Ok(()) => write_whole(out, v),
@@ -130,9 +130,9 @@ pub(crate) fn write_value<'v, K: Sink, V: Value<'v, Lent<'v>>>(
 /// Writes the same of a value of which no step refuses a call.
 fn write_whole<'v, K: Sink, V: Value<'v, Lent<'v>>>(out: &mut K, v: &'v V) -> Result<(), CborError>
     requires willing { (V.emission v.now).refuses ≡ false }
-    requires whole { IsOk (written (V.emission v.now).calls) }
-    ensures due { AnswersDue result (K.told out.old) (written (V.emission v.now).calls) (K.told out.new) }
-    ensures left { IsOfValue result → out.new ≡ out.old }
+    requires whole { IsOk (written_cbor (V.emission v.now).calls) }
+    ensures due { AnswersDue result (K.told out.old) (written_cbor (V.emission v.now).calls) (K.told out.new) }
+    ensures left { IsCauseOfValue result → out.new ≡ out.old }
 {
     match write_calls(out, v) {
         Ok(()) => Ok(()),
@@ -143,7 +143,7 @@ fn write_whole<'v, K: Sink, V: Value<'v, Lent<'v>>>(out: &mut K, v: &'v V) -> Re
 /// Writes the calls of a value that doesn't refuse, up to what stops the writer.
 fn write_calls<'v, K: Sink, V: Value<'v, Lent<'v>>>(out: &mut K, v: &'v V) -> Result<(), Stop>
     requires { (V.emission v.now).refuses ≡ false }
-    ensures { WritesCalls result (written (V.emission v.now).calls) (K.told out.old) (K.told out.new) }
+    ensures { WritesCalls result (written_cbor (V.emission v.now).calls) (K.told out.old) (K.told out.new) }
 {
     let mut writer = Writer {
         sink: out,

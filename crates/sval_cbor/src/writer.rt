@@ -11,9 +11,9 @@ ghost use Rattle.sval_label.specs.Made.{lent_call};
 ghost use Rattle.sval_core.specs.Law.{Answers};
 ghost use Rattle.sval_json.specs.Json.{number};
 ghost use Rattle.sval_cbor.specs.Cbor.{string, integer};
-ghost use Rattle.sval_cbor.specs.SeenWriter.{seen_refusal, seen_integer};
+ghost use Rattle.sval_cbor.specs.SeenWriter.{seen_pack_refusal, seen_integer};
 ghost use Rattle.sval_cbor.specs.Writing.{writes, simple, simple_step, json_step};
-ghost use Rattle.sval_cbor.specs.WriterLaw.{WriterView, Does, json_bytes, writer_law, writer_state, writer_target, writer_view, writer_standing};
+ghost use Rattle.sval_cbor.specs.WriterLaw.{CborWriterView, CborDoes, json_bytes, cbor_writer_law, cbor_writer_state, writer_target, cbor_writer_view, cbor_writer_standing};
 
 use crate::error::{Refusal, Stop};
 use crate::head::{write_integer, write_text};
@@ -61,8 +61,8 @@ pub(crate) struct Writer<'k, K: Sink> {
 impl<'k, K: Sink> Writer<'k, K> {
     /// Writes these bytes as they are.
     fn write(&mut self, bytes: &[u8]) -> Result
-        ensures { Does (writes bytes.now (writer_state self.old)) result
-            (writer_target K.told self.old) (writer_view K.told self.new) }
+        ensures { CborDoes (writes bytes.now (cbor_writer_state self.old)) result
+            (writer_target K.told self.old) (cbor_writer_view K.told self.new) }
     {
         match write_all(self.sink, bytes) {
             Ok(()) => Ok(()),
@@ -75,8 +75,8 @@ impl<'k, K: Sink> Writer<'k, K> {
 
     /// Writes a text.
     fn write_text(&mut self, text: &[u8]) -> Result
-        ensures { Does (writes (string 3 text.now) (writer_state self.old)) result
-            (writer_target K.told self.old) (writer_view K.told self.new) }
+        ensures { CborDoes (writes (string 3 text.now) (cbor_writer_state self.old)) result
+            (writer_target K.told self.old) (cbor_writer_view K.told self.new) }
     {
         match write_text(self.sink, text) {
             Ok(()) => Ok(()),
@@ -89,8 +89,8 @@ impl<'k, K: Sink> Writer<'k, K> {
 
     /// Writes a whole number.
     fn write_integer(&mut self, number: Integer) -> Result
-        ensures { Does (writes (integer (seen_integer number)) (writer_state self.old)) result
-            (writer_target K.told self.old) (writer_view K.told self.new) }
+        ensures { CborDoes (writes (integer (seen_integer number)) (cbor_writer_state self.old)) result
+            (writer_target K.told self.old) (cbor_writer_view K.told self.new) }
     {
         match write_integer(self.sink, number) {
             Ok(()) => Ok(()),
@@ -103,8 +103,8 @@ impl<'k, K: Sink> Writer<'k, K> {
 
     /// Refuses a call.
     fn refuse(&mut self, why: Refusal) -> Result
-        ensures { Does (Err (seen_refusal why)) result
-            (writer_target K.told self.old) (writer_view K.told self.new) }
+        ensures { CborDoes (Err (seen_pack_refusal why)) result
+            (writer_target K.told self.old) (cbor_writer_view K.told self.new) }
     {
         self.why = Some(Stop::Step(why));
         Err(Error::new())
@@ -112,8 +112,8 @@ impl<'k, K: Sink> Writer<'k, K> {
 
     /// Writes a simple value, by its text in a key.
     fn write_simple(&mut self, text: &[u8], bytes: &[u8]) -> Result
-        ensures { Does (writes (simple self.old.in_key text.now bytes.now) (writer_state self.old)) result
-            (writer_target K.told self.old) (writer_view K.told self.new) }
+        ensures { CborDoes (writes (simple self.old.in_key text.now bytes.now) (cbor_writer_state self.old)) result
+            (writer_target K.told self.old) (cbor_writer_view K.told self.new) }
     {
         if self.in_key {
             return self.write_text(text);
@@ -123,9 +123,10 @@ impl<'k, K: Sink> Writer<'k, K> {
 
     /// Writes a whole number of any type, by its digits in a key.
     fn write_int(&mut self, int: Int) -> Result
-        ensures { Does
-            (writes (json_bytes self.old.in_key (number (signed_decimal (int_number int)))) (writer_state self.old))
-            result (writer_target K.told self.old) (writer_view K.told self.new) }
+        ensures { CborDoes
+            (writes (json_bytes self.old.in_key (number (signed_decimal (int_number int))))
+            (cbor_writer_state self.old))
+            result (writer_target K.told self.old) (cbor_writer_view K.told self.new) }
     {
         if self.in_key {
             let mut buffer = Buffer::new();
@@ -136,8 +137,8 @@ impl<'k, K: Sink> Writer<'k, K> {
 
     /// Takes a simple value.
     fn take_simple(&mut self, text: &[u8], bytes: &[u8]) -> Result
-        ensures { Does (simple_step text.now bytes.now (writer_state self.old)) result
-            (writer_target K.told self.old) (writer_view K.told self.new) }
+        ensures { CborDoes (simple_step text.now bytes.now (cbor_writer_state self.old)) result
+            (writer_target K.told self.old) (cbor_writer_view K.told self.new) }
     {
         self.place = Place::Elsewhere;
         self.write_simple(text, bytes)
@@ -146,8 +147,8 @@ impl<'k, K: Sink> Writer<'k, K> {
     /// Takes a whole number.
     #[inline(never)]
     fn take_int(&mut self, int: Int) -> Result
-        ensures { Does (json_step (number (signed_decimal (int_number int))) (writer_state self.old)) result
-            (writer_target K.told self.old) (writer_view K.told self.new) }
+        ensures { CborDoes (json_step (number (signed_decimal (int_number int))) (cbor_writer_state self.old)) result
+            (writer_target K.told self.old) (cbor_writer_view K.told self.new) }
     {
         self.place = Place::Elsewhere;
         self.write_int(int)
@@ -155,16 +156,16 @@ impl<'k, K: Sink> Writer<'k, K> {
 }
 
 impl<'k, 'sval, K: Sink> Stream<Lent<'sval>> for Writer<'k, K> {
-    ghost View = { WriterView };
+    ghost View = { CborWriterView };
 
-    ghost law = { writer_law };
+    ghost law = { cbor_writer_law };
 
-    ghost standing = { writer_standing K.told };
+    ghost standing = { cbor_writer_standing K.told };
 
     #[inline(always)]
     fn take(&mut self, call: Call<'sval, '_>) -> Result
-        ensures { Answers writer_law result
-            (writer_standing K.told self.old) (lent_call call.entry) (writer_standing K.told self.new) }
+        ensures { Answers cbor_writer_law result
+            (cbor_writer_standing K.told self.old) (lent_call call.entry) (cbor_writer_standing K.told self.new) }
     {
         match call.grouped() {
             GroupedCall::Null => self.take_simple(b"null", b"\xf6"),

@@ -12,14 +12,14 @@ use Rattle.sval_cbor_read.specs.declared.item.Item as made_item
 use Rattle.sval_cbor_read.specs.declared.item.Item.TheVariants as item
 use Rattle.sval_cbor_read.specs.declared.item.Begun.{Begun}
 use Rattle.sval_cbor_read.specs.Items.{head_of, is_piece, big_endian, ArePieces, break, piece, IsByteString, definite, in_pieces}
-use Rattle.sval_cbor_read.specs.Reading.{Frame, State, Item, Ended, Bignum, BignumPieces, Move, moves, mark_of, first_step, item_step, head_step, body_step, string_step, string_calls, tag_step, fits, number_call, step, Reached, onward}
-use Rattle.sval_cbor_read.specs.Steps.{Spot, spot, Steps, one_step, more_steps, IsStuck}
+use Rattle.sval_cbor_read.specs.Reading.{OpenItem, ItemState, Item, Ended, Bignum, BignumPieces, Move, moves, mark_of, first_step, item_step, head_step, body_step, string_step, string_calls, tag_step, fits, number_call, reading_step, Reached, onward}
+use Rattle.sval_cbor_read.specs.Steps.{Spot, spot, ItemSteps, one_step, more_steps, IsStuck}
 use Rattle.sval_cbor_read.specs.SeenHeads.{IsHead}
 use Rattle.sval_cbor_read.specs.SeenStrings.{IsBehind}
 use Rattle.sval_cbor_read.specs.SeenBignums.{IsNumberAt}
 use Rattle.sval_cbor_read.specs.SeenNodes.{byte_string, step_calls}
 use Rattle.sval_cbor_read.proofs.ByteStrings.{byte_string_is}
-use Rattle.sval_cbor_read.specs.SeenItems.{state_behind, begin_calls, IsBegun, IsMarked, BeginsBehind, BeginsNothingBehind, Begins, BeginsNothing}
+use Rattle.sval_cbor_read.specs.SeenItems.{state_behind, item_begin_calls, IsBegun, IsMarked, BeginsBehind, BeginsNothingBehind, Begins, BeginsNothing}
 use Rattle.sval_cbor_read.proofs.Bignums.{bytes_at, nothing_at}
 use Rattle.sval_cbor_read.proofs.OneTree.{one_byte_string}
 use Rattle.sval_cbor_read.proofs.Strings.{string_goes, bignum_read, bignum_piece_read, bignum_goes}
@@ -30,12 +30,12 @@ use Rattle.sval_cbor_read.proofs.OneReading.{reads_after, stops_badly}
 -- ---- steps
 
 -- a step that makes no call, and then others
-pub after_nothing : {state next : State} {left behind : List ℕ} {calls : List Call} {last : Spot} → Steps (spot state left calls) (spot next behind (calls ++ [])) → Steps (spot next behind calls) last
-    → Steps (spot state left calls) last
-after_nothing {next = next} {behind = behind} {calls = calls} {last = last} first more = more_steps first (subst (λ x. Steps (spot next behind x) last) (sym (append-nil calls)) more)
+pub after_nothing : {state next : ItemState} {left behind : List ℕ} {calls : List Call} {last : Spot} → ItemSteps (spot state left calls) (spot next behind (calls ++ [])) → ItemSteps (spot next behind calls) last
+    → ItemSteps (spot state left calls) last
+after_nothing {next = next} {behind = behind} {calls = calls} {last = last} first more = more_steps first (subst (λ x. ItemSteps (spot next behind x) last) (sym (append-nil calls)) more)
 
 -- where there is no step, the reader is stuck
-pub no_item_step : {frames : List Frame} {left : List ℕ} {made : List Call} → step (Item frames) left ≡ None → IsStuck (spot (Item frames) left made)
+pub no_item_step : {frames : List OpenItem} {left : List ℕ} {made : List Call} → reading_step (Item frames) left ≡ None → IsStuck (spot (Item frames) left made)
 no_item_step {frames = frames} {left = left} {made = made} e bytes reached tree is_item = stops_badly bytes left (Item frames) made reached e (λ end. let f = end.0 in cc f) tree is_item
 
 -- ---- heads
@@ -47,7 +47,7 @@ IsOfStep (item.Container frame) = ⊤
 IsOfStep (item.Pieces medium) = ⊤
 IsOfStep _ = ⊥
 
-pub of_step_calls : (found : made_item.Item) (bytes : List ℕ) (move : Option Move) → IsOfStep found → begin_calls found bytes move ≡ step_calls move
+pub of_step_calls : (found : made_item.Item) (bytes : List ℕ) (move : Option Move) → IsOfStep found → item_begin_calls found bytes move ≡ step_calls move
 of_step_calls item.Whole bytes move o = refl
 of_step_calls (item.Big from) bytes move o = absurd o
 of_step_calls (item.NegativeBig from) bytes move o = absurd o
@@ -64,29 +64,29 @@ of_step_begun (item.Pieces medium) bytes move o s = s
 of_step_begun item.Tag bytes move o s = absurd o
 
 pub begins_behind : (bytes : List ℕ) (h : made_head.Head) (found : made_item.Item) (calls : List Call) (next : ℕ)
-    → ((frames : List Frame) → body_step h.major h.number (drop h.next bytes) frames ≡ moves calls (drop next bytes) (state_behind found frames)) → IsOfStep found → 0 < length calls → h.next ≤ next → next ≤ length bytes
+    → ((frames : List OpenItem) → body_step h.major h.number (drop h.next bytes) frames ≡ moves calls (drop next bytes) (state_behind found frames)) → IsOfStep found → 0 < length calls → h.next ≤ next → next ≤ length bytes
     → BeginsBehind bytes h (record { item = found; next = next })
 begins_behind bytes h found calls next e o s l k =
     let same : step_calls (body_step h.major h.number (drop h.next bytes) []) ≡ calls = ap step_calls (e []) in
-    let begun : begin_calls found bytes (body_step h.major h.number (drop h.next bytes) []) ≡ calls = of_step_calls found bytes (body_step h.major h.number (drop h.next bytes) []) o ∙ same in
+    let begun : item_begin_calls found bytes (body_step h.major h.number (drop h.next bytes) []) ≡ calls = of_step_calls found bytes (body_step h.major h.number (drop h.next bytes) []) o ∙ same in
     record {
-      leads = λ frames left made f. subst (λ x. Steps (spot (Item frames) left made) (spot (state_behind found frames) (drop next bytes) (made ++ x))) (sym begun) (one_step (f ∙ e frames));
+      leads = λ frames left made f. subst (λ x. ItemSteps (spot (Item frames) left made) (spot (state_behind found frames) (drop next bytes) (made ++ x))) (sym begun) (one_step (f ∙ e frames));
       is = of_step_begun found bytes (body_step h.major h.number (drop h.next bytes) []) o (subst (λ x. 0 < length x) (sym same) s);
       later = l;
       within = k;
     }
 
-pub begins_nothing_behind : (bytes : List ℕ) (h : made_head.Head) → ((frames : List Frame) → body_step h.major h.number (drop h.next bytes) frames ≡ None) → BeginsNothingBehind bytes h
+pub begins_nothing_behind : (bytes : List ℕ) (h : made_head.Head) → ((frames : List OpenItem) → body_step h.major h.number (drop h.next bytes) frames ≡ None) → BeginsNothingBehind bytes h
 begins_nothing_behind bytes h e frames left made f = no_item_step (f ∙ e frames)
 
 -- a head with this major type
-pub major_is : (h : made_head.Head) (major : ℕ) (after : List ℕ) (frames : List Frame) → h.major ≡ major → body_step h.major h.number after frames ≡ body_step major h.number after frames
+pub major_is : (h : made_head.Head) (major : ℕ) (after : List ℕ) (frames : List OpenItem) → h.major ≡ major → body_step h.major h.number after frames ≡ body_step major h.number after frames
 major_is h major after frames e = ap (λ m. body_step m h.number after frames) e
 
 -- ---- strings
 
 -- a string behind its head, with its calls
-pub string_goes_behind : (major : ℕ) (n : ℕ) (after content rest : List ℕ) (frames : List Frame) → n ≤ length after → IsTrue (is_piece major (take n after)) → content ≡ take n after → rest ≡ drop n after
+pub string_goes_behind : (major : ℕ) (n : ℕ) (after content rest : List ℕ) (frames : List OpenItem) → n ≤ length after → IsTrue (is_piece major (take n after)) → content ≡ take n after → rest ≡ drop n after
     → string_step major n after frames ≡ moves (string_calls major (length content) content) rest (Ended frames)
 string_goes_behind major n after content rest frames l k c r =
     let size : length content ≡ n = ap length c ∙ length-take-le n after l in
@@ -98,36 +98,36 @@ no_string_by true true o h = absurd (h refl refl)
 no_string_by true false o h = refl
 no_string_by false b o h = refl
 
-pub no_string_step : (major n : ℕ) (after : List ℕ) (frames : List Frame) → (n ≤ length after → IsTrue (is_piece major (take n after)) → ⊥) → string_step major n after frames ≡ None
+pub no_string_step : (major n : ℕ) (after : List ℕ) (frames : List OpenItem) → (n ≤ length after → IsTrue (is_piece major (take n after)) → ⊥) → string_step major n after frames ≡ None
 no_string_step major n after frames h =
     no_string_by (nat_le n (length after)) (is_piece major (take n after)) (moves (string_calls major n (take n after)) (drop n after) (Ended frames))
     (λ a b. let l : n ≤ length after = grind (arith, nat_tests) in h l b)
 
 -- ---- numbers as byte strings
 
-pieces_steps : (tag : ℕ) (front : List ℕ) {bytes content rest : List ℕ} → ArePieces 2 bytes content rest → fits tag (front ++ content) ≡ true → (frames : List Frame) (made : List Call)
-    → Steps (spot (BignumPieces tag front frames) bytes made) (spot (Ended frames) rest (made ++ (number_call tag (front ++ content) ∷ [])))
+pieces_steps : (tag : ℕ) (front : List ℕ) {bytes content rest : List ℕ} → ArePieces 2 bytes content rest → fits tag (front ++ content) ≡ true → (frames : List OpenItem) (made : List Call)
+    → ItemSteps (spot (BignumPieces tag front frames) bytes made) (spot (Ended frames) rest (made ++ (number_call tag (front ++ content) ∷ [])))
 pieces_steps tag front (break {rest = rest}) h frames made =
     let e = append-nil front in
-    subst (λ x. Steps (spot (BignumPieces tag front frames) (255 ∷ rest) made) (spot (Ended frames) rest (made ++ (number_call tag x ∷ [])))) (sym e) (one_step (bignum_goes tag front rest frames (rw e at h)))
+    subst (λ x. ItemSteps (spot (BignumPieces tag front frames) (255 ∷ rest) made) (spot (Ended frames) rest (made ++ (number_call tag x ∷ [])))) (sym e) (one_step (bignum_goes tag front rest frames (rw e at h)))
 pieces_steps tag front (piece {bytes = bytes} {after = after} {content = content} {more = last} {rest = rest} s p) h frames made =
     let e = append_assoc front content last in
-    subst (λ x. Steps (spot (BignumPieces tag front frames) bytes made) (spot (Ended frames) rest (made ++ (number_call tag x ∷ [])))) e
+    subst (λ x. ItemSteps (spot (BignumPieces tag front frames) bytes made) (spot (Ended frames) rest (made ++ (number_call tag x ∷ [])))) e
     (after_nothing (one_step (bignum_piece_read tag front bytes content after frames s)) (pieces_steps tag (front ++ content) p (rw e h) frames made))
 
-byte_string_steps : (tag : ℕ) {bytes content rest : List ℕ} → IsByteString bytes content rest → fits tag content ≡ true → (frames : List Frame) (made : List Call)
-    → Steps (spot (Bignum tag frames) bytes made) (spot (Ended frames) rest (made ++ (number_call tag content ∷ [])))
+byte_string_steps : (tag : ℕ) {bytes content rest : List ℕ} → IsByteString bytes content rest → fits tag content ≡ true → (frames : List OpenItem) (made : List Call)
+    → ItemSteps (spot (Bignum tag frames) bytes made) (spot (Ended frames) rest (made ++ (number_call tag content ∷ [])))
 byte_string_steps tag (definite {bytes = bytes} {content = content} {rest = rest} s) h frames made = one_step (bignum_read tag bytes content rest frames s ∙ bignum_goes tag content rest frames h)
 byte_string_steps tag (in_pieces p) h frames made = after_nothing (one_step refl) (pieces_steps tag [] p h frames made)
 
 -- a number under its tag leads on
-pub number_leads : (tag : ℕ) {bytes content rest : List ℕ} (frames : List Frame) (move : Option Move) → IsByteString bytes content rest → fits tag content ≡ true → move ≡ moves [] bytes (Bignum tag frames)
-    → (left : List ℕ) (made : List Call) → step (Item frames) left ≡ move → Steps (spot (Item frames) left made) (spot (Ended frames) rest (made ++ (number_call tag content ∷ [])))
+pub number_leads : (tag : ℕ) {bytes content rest : List ℕ} (frames : List OpenItem) (move : Option Move) → IsByteString bytes content rest → fits tag content ≡ true → move ≡ moves [] bytes (Bignum tag frames)
+    → (left : List ℕ) (made : List Call) → reading_step (Item frames) left ≡ move → ItemSteps (spot (Item frames) left made) (spot (Ended frames) rest (made ++ (number_call tag content ∷ [])))
 number_leads tag frames move s h m left made e = after_nothing (one_step (e ∙ m)) (byte_string_steps tag s h frames made)
 
 -- without one the reader is stuck
-pub number_lacks : (tag : ℕ) (bytes : List ℕ) (frames : List Frame) (move : Option Move) → ((content rest : List ℕ) → IsByteString bytes content rest → fits tag content ≡ true → ⊥) → move ≡ moves [] bytes (Bignum tag frames)
-    → (left : List ℕ) (made : List Call) → step (Item frames) left ≡ move → IsStuck (spot (Item frames) left made)
+pub number_lacks : (tag : ℕ) (bytes : List ℕ) (frames : List OpenItem) (move : Option Move) → ((content rest : List ℕ) → IsByteString bytes content rest → fits tag content ≡ true → ⊥) → move ≡ moves [] bytes (Bignum tag frames)
+    → (left : List ℕ) (made : List Call) → reading_step (Item frames) left ≡ move → IsStuck (spot (Item frames) left made)
 number_lacks tag bytes frames move h m left made e start reached tree is_item =
     let behind : Reached start (Bignum tag frames) bytes (made ++ []) = onward reached (e ∙ m) in
     let (content, rest, s, f) = number_needs (reads_after behind (item_is_read start tree is_item).0).1 in
@@ -142,8 +142,8 @@ marked_begins bytes at found l m =
     let here : item_step (drop at bytes) [] ≡ first_step (mark_of first) behind (head_of (first ∷ behind)) [] = ap (λ x. item_step x []) (bytes_at bytes at l) in
     record {
       leads = λ frames made.
-          let e : step (Item frames) (drop at bytes) ≡ moves (begin_calls found bytes (item_step (drop at bytes) [])) behind (state_behind found frames) =
-          ap (λ x. item_step x frames) (bytes_at bytes at l) ∙ m.moves bytes behind (head_of (first ∷ behind)) frames ∙ ap (λ x. moves (begin_calls found bytes x) behind (state_behind found frames)) (sym here) in
+          let e : reading_step (Item frames) (drop at bytes) ≡ moves (item_begin_calls found bytes (item_step (drop at bytes) [])) behind (state_behind found frames) =
+          ap (λ x. item_step x frames) (bytes_at bytes at l) ∙ m.moves bytes behind (head_of (first ∷ behind)) frames ∙ ap (λ x. moves (item_begin_calls found bytes x) behind (state_behind found frames)) (sym here) in
           one_step e;
       is = subst (IsBegun found bytes) (sym here) (m.is bytes behind (head_of (first ∷ behind)));
       later = omega arith;
@@ -151,7 +151,7 @@ marked_begins bytes at found l m =
     }
 
 -- a first byte that is no mark begins a head
-unmarked_step : (bytes : List ℕ) (at : ℕ) (frames : List Frame) → at < length bytes → mark_of (get_or bytes at 0) ≡ None → step (Item frames) (drop at bytes) ≡ head_step (head_of (drop at bytes)) frames
+unmarked_step : (bytes : List ℕ) (at : ℕ) (frames : List OpenItem) → at < length bytes → mark_of (get_or bytes at 0) ≡ None → reading_step (Item frames) (drop at bytes) ≡ head_step (head_of (drop at bytes)) frames
 unmarked_step bytes at frames l e =
     let here = bytes_at bytes at l in
     ap (λ x. item_step x frames) here ∙ ap (λ o. first_step o (drop (at + 1) bytes) (head_of (get_or bytes at 0 ∷ drop (at + 1) bytes)) frames) e ∙ ap (λ x. head_step (head_of x) frames) (sym here)
@@ -162,7 +162,7 @@ headed_begins bytes at h begun l e (later, (is, before, within)) b =
     let here : item_step (drop at bytes) [] ≡ body_step h.major h.number (drop h.next bytes) [] = unmarked_step bytes at [] l e ∙ ap (λ x. head_step x []) is in
     record {
       leads = λ frames made.
-          subst (λ x. Steps (spot (Item frames) (drop at bytes) made) (spot (state_behind begun.item frames) (drop begun.next bytes) (made ++ begin_calls begun.item bytes x))) (sym here)
+          subst (λ x. ItemSteps (spot (Item frames) (drop at bytes) made) (spot (state_behind begun.item frames) (drop begun.next bytes) (made ++ item_begin_calls begun.item bytes x))) (sym here)
           (b.leads frames (drop at bytes) made (unmarked_step bytes at frames l e ∙ ap (λ x. head_step x frames) is));
       is = subst (IsBegun begun.item bytes) (sym here) b.is;
       later = let k = b.later in omega arith;
@@ -233,17 +233,17 @@ tag_begins bytes h m a b w = record {
 }
 
 -- the move of a tag for numbers
-number_move : (tag : ℕ) (h : made_head.Head) (after : List ℕ) (frames : List Frame) → h.major ≡ 6 → h.number ≡ tag → (tag_step tag after frames ≡ moves [] after (Bignum tag frames))
+number_move : (tag : ℕ) (h : made_head.Head) (after : List ℕ) (frames : List OpenItem) → h.major ≡ 6 → h.number ≡ tag → (tag_step tag after frames ≡ moves [] after (Bignum tag frames))
     → body_step h.major h.number after frames ≡ moves [] after (Bignum tag frames)
 number_move tag h after frames m n e = major_is h 6 after frames m ∙ ap (λ k. body_step 6 k after frames) n ∙ e
 
 -- a number under its tag, by what its byte string is
 number_behind : (tag : ℕ) (bytes : List ℕ) (h : made_head.Head) (bignum : MadeBignum) → h.major ≡ 6 → h.number ≡ tag
-    → ((after : List ℕ) (frames : List Frame) → tag_step tag after frames ≡ moves [] after (Bignum tag frames)) → (number : IsNumberAt bytes h.next bignum) → fits tag number.content ≡ true
-    → (frames : List Frame) (left : List ℕ) (made : List Call) → step (Item frames) left ≡ body_step h.major h.number (drop h.next bytes) frames
-    → Steps (spot (Item frames) left made) (spot (Ended frames) (drop bignum.next bytes) (made ++ (number_call tag (byte_string (drop h.next bytes)) ∷ [])))
+    → ((after : List ℕ) (frames : List OpenItem) → tag_step tag after frames ≡ moves [] after (Bignum tag frames)) → (number : IsNumberAt bytes h.next bignum) → fits tag number.content ≡ true
+    → (frames : List OpenItem) (left : List ℕ) (made : List Call) → reading_step (Item frames) left ≡ body_step h.major h.number (drop h.next bytes) frames
+    → ItemSteps (spot (Item frames) left made) (spot (Ended frames) (drop bignum.next bytes) (made ++ (number_call tag (byte_string (drop h.next bytes)) ∷ [])))
 number_behind tag bytes h bignum m k e number f frames left made step_is =
-    subst (λ x. Steps (spot (Item frames) left made) (spot (Ended frames) (drop bignum.next bytes) (made ++ (number_call tag x ∷ [])))) (sym (byte_string_is number.stands))
+    subst (λ x. ItemSteps (spot (Item frames) left made) (spot (Ended frames) (drop bignum.next bytes) (made ++ (number_call tag x ∷ [])))) (sym (byte_string_is number.stands))
     (number_leads tag frames (body_step h.major h.number (drop h.next bytes) frames) number.stands f (number_move tag h (drop h.next bytes) frames m k (e (drop h.next bytes) frames)) left made step_is)
 
 pub big_begins : (bytes : List ℕ) (h : made_head.Head) (bignum : MadeBignum) → h.major ≡ 6 → h.number ≡ 2 → (number : IsNumberAt bytes h.next bignum) → fits 2 number.content ≡ true
@@ -264,13 +264,13 @@ negative_big_begins bytes h bignum m k number f = record {
   within = number.within;
 }
 
-pub no_number : (tag : ℕ) (bytes : List ℕ) (h : made_head.Head) → h.major ≡ 6 → h.number ≡ tag → ((after : List ℕ) (frames : List Frame) → tag_step tag after frames ≡ moves [] after (Bignum tag frames))
+pub no_number : (tag : ℕ) (bytes : List ℕ) (h : made_head.Head) → h.major ≡ 6 → h.number ≡ tag → ((after : List ℕ) (frames : List OpenItem) → tag_step tag after frames ≡ moves [] after (Bignum tag frames))
     → ((content rest : List ℕ) → IsByteString (drop h.next bytes) content rest → fits tag content ≡ true → ⊥) → BeginsNothingBehind bytes h
 no_number tag bytes h m k e n frames left made step_is =
     number_lacks tag (drop h.next bytes) frames (body_step h.major h.number (drop h.next bytes) frames) n (number_move tag h (drop h.next bytes) frames m k (e (drop h.next bytes) frames)) left made step_is
 
 -- there are no items with other major types
-pub no_major : (h : made_head.Head) (after : List ℕ) (frames : List Frame) → h.major ≢ 0 → h.major ≢ 1 → h.major ≢ 2 → h.major ≢ 3 → h.major ≢ 4 → h.major ≢ 5 → h.major ≢ 6 → body_step h.major h.number after frames ≡ None
+pub no_major : (h : made_head.Head) (after : List ℕ) (frames : List OpenItem) → h.major ≢ 0 → h.major ≢ 1 → h.major ≢ 2 → h.major ≢ 3 → h.major ≢ 4 → h.major ≢ 5 → h.major ≢ 6 → body_step h.major h.number after frames ≡ None
 no_major h after frames a b c d e f g =
     let is_a : (h.major == 0) ≡ false = grind (arith, nat_tests) in
     let is_b : (h.major == 1) ≡ false = grind (arith, nat_tests) in

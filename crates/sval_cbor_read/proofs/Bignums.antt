@@ -5,7 +5,7 @@ use Rattle.std.proofs.Common.{sym, ap, ◌∙◌, subst, arith, drop-cons, appen
 use Rattle.std.proofs.lemmas.List.{length-drop}
 use Rattle.std.proofs.lemmas.Int.Digits.{number_after_append, number_after_ge}
 use Rattle.sval_cbor_read.specs.declared.bignum.Bignum.{Bignum}
-use Rattle.sval_cbor_read.specs.Items.{big_endian, IsString, string, ArePieces, break, piece, IsByteString, definite, in_pieces}
+use Rattle.sval_cbor_read.specs.Items.{big_endian, IsDefiniteString, string, ArePieces, break, piece, IsByteString, definite, in_pieces}
 use Rattle.sval_cbor_read.specs.SeenStrings.{IsStringAt, HasNoString}
 use Rattle.sval_cbor_read.specs.SeenBignums.{IsNumberAt, HasNoNumber, ArePiecesAt, HasNoPieces}
 use Rattle.sval_cbor_read.proofs.OneTree.{no_string_95, no_string_255, one_string}
@@ -43,7 +43,7 @@ nothing_at bytes at l = go (drop at bytes) refl
 pub no_pieces_left : {major : ℕ} {content rest : List ℕ} → ArePieces major [] content rest → ⊥
 no_pieces_left (piece (string e l k) p) = no_head e
 
-pieces_behind : {bytes content left more rest : List ℕ} → IsString 2 bytes content left → ArePieces 2 bytes more rest → (last : List ℕ) × (more ≡ content ++ last) × ArePieces 2 left last rest
+pieces_behind : {bytes content left more rest : List ℕ} → IsDefiniteString 2 bytes content left → ArePieces 2 bytes more rest → (last : List ℕ) × (more ≡ content ++ last) × ArePieces 2 left last rest
 pieces_behind s break = absurd (no_string_255 s)
 pieces_behind s (piece {more = last} t p) = let (same, behind) = one_string s t in (last, ap (λ x. x ++ last) (sym same), rw behind p)
 
@@ -135,7 +135,7 @@ pub number_stands : (bytes : List ℕ) (at : ℕ) (content : List ℕ) (number n
 number_stands bytes at content number next s e m = record { content = content; stands = definite s.stands; value = e; small = m; later = s.later; within = s.within }
 
 -- what begins with another byte than pieces do is definite
-not_95 : {bytes content rest : List ℕ} → ((left : List ℕ) → bytes ≡ 95 ∷ left → ⊥) → IsByteString bytes content rest → IsString 2 bytes content rest
+not_95 : {bytes content rest : List ℕ} → ((left : List ℕ) → bytes ≡ 95 ∷ left → ⊥) → IsByteString bytes content rest → IsDefiniteString 2 bytes content rest
 not_95 n (definite s) = s
 not_95 n (in_pieces {bytes = bytes} p) = absurd (n bytes refl)
 

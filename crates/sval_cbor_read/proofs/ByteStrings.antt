@@ -3,11 +3,11 @@ use Rattle.std.specs.Prelude.{◌≡◌, ℕ, zero, suc, ◌<◌, ◌≤◌, Lis
 use Rattle.std.proofs.Common.{ap, subst, arith}
 use Rattle.std.proofs.lemmas.List.{length-drop}
 use Rattle.sval_cbor_read.specs.Items.{head, string, ArePieces, break, piece, IsByteString, definite, in_pieces}
-use Rattle.sval_cbor_read.specs.SeenNodes.{joined, byte_string}
+use Rattle.sval_cbor_read.specs.SeenNodes.{joined_strings, byte_string}
 use Rattle.sval_cbor_read.proofs.Strings.{no_head, no_break, no_pieces}
 use Rattle.sval_cbor_read.proofs.Nearer.{IsShorter, head_shorter}
 
-pub joined_is : {bytes content rest : List ℕ} (most : ℕ) → ArePieces 2 bytes content rest → length bytes ≤ most → joined most bytes ≡ content
+pub joined_is : {bytes content rest : List ℕ} (most : ℕ) → ArePieces 2 bytes content rest → length bytes ≤ most → joined_strings most bytes ≡ content
 joined_is zero (break {rest = rest}) l = absurd (omega arith)
 joined_is (suc most) (break {rest = rest}) l = refl
 joined_is most (piece {bytes = []} (string e k u) p) l = absurd (no_head e)

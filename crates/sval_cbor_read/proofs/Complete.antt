@@ -9,23 +9,23 @@ use Rattle.sval_label.specs.Calls as calls
 use Rattle.sval_core.specs.Trees.{Tree, Null, Truth, Int, Text, Binary, Container, Parts, none, part, Kind, AreInOrder, IsGood, AreGood}
 use Rattle.sval_core.specs.Trees as trees
 use Rattle.sval_core.specs.Spells.{plain, entries, Says, SayParts, Spells}
-use Rattle.sval_cbor_read.specs.Items.{Head, head, head_of, negative_type, big_endian, IsByteString, IsItem, by_head, bytes_in_pieces, texts_in_pieces, seq_to_break, map_to_break, falsehood, truth, null, IsBody, unsigned, negative, binary, text, seq, map as map_body, big, negative_big, tagged, AreItems, no_items, an_item, AreEntries, no_pairs, a_pair, ItemsToBreak, items_end, items_go_on, EntriesToBreak, entries_end, entries_go_on, IsItemOf}
-use Rattle.sval_cbor_read.specs.Reading.{Frame, Items, Keys, Values, State, Item, Part, Ended, Pieces, Bignum, BignumPieces, Move, moves, Mark, BinaryPieces, TextPieces, SeqToBreak, MapToBreak, Falsehood, mark_of, string_calls, string_step, tag_step, body_step, head_step, first_step, item_step, fragment, string_end, with_piece, piece_step, fits, bignum_step, bignum_begins, bignum_piece, part_or_end, part_step, ended_step, step, Reads, at_end, goes_on, IsReadAs}
+use Rattle.sval_cbor_read.specs.Items.{ItemHead, head, head_of, negative_type, big_endian, IsByteString, IsItem, by_head, bytes_in_pieces, texts_in_pieces, seq_to_break, map_to_break, falsehood, truth, null, IsBody, unsigned, negative, binary, text, seq, map as map_body, big, negative_big, tagged, AreItems, no_items, an_item, AreEntries, no_pairs, a_pair, ItemsToBreak, items_end, items_go_on, EntriesToBreak, entries_end, entries_go_on, IsItemOf}
+use Rattle.sval_cbor_read.specs.Reading.{OpenItem, Items, Keys, Values, ItemState, Item, Part, Ended, Pieces, Bignum, BignumPieces, Move, moves, Mark, BinaryPieces, TextPieces, SeqToBreak, MapToBreak, Falsehood, mark_of, string_calls, string_step, tag_step, body_step, head_step, first_step, item_step, fragment_call, string_end, with_piece, piece_step, fits, bignum_step, bignum_begins, bignum_piece, part_or_end, part_step, ended_step, reading_step, Reads, at_end, goes_on, IsReadAs}
 use Rattle.sval_cbor_read.specs.Reading as reading
-use Rattle.sval_cbor_read.specs.Document.{pieces_of, part_calls, item_calls, body_calls, items_calls, entries_calls, items_to_break_calls, entries_to_break_calls, document_calls}
+use Rattle.sval_cbor_read.specs.Document.{pieces_of, item_part_calls, item_calls, body_calls, items_calls, entries_calls, items_to_break_calls, entries_to_break_calls, cbor_document_calls}
 use Rattle.sval_cbor_read.proofs.OneTree.{break_item, no_head_95, no_head_127, no_head_159, no_head_191, head_244, head_245, head_246}
 use Rattle.sval_cbor_read.proofs.Sound.{byte_of, mark_is}
 use Rattle.sval_cbor_read.proofs.Strings.{string_goes, no_head, byte_string_read, ArePiecesRead, pieces_read}
 
 -- the reader takes the item and makes these calls in front of others, which spell its tree
 record IsRead (made : List Call → List Call) (bytes : List ℕ) (tree : Tree) (rest : List ℕ) : Type 0 where
-  reads : (frames : List Frame) (more : List Call) → Reads (Ended frames) rest more → Reads (Item frames) bytes (made more)
+  reads : (frames : List OpenItem) (more : List Call) → Reads (Ended frames) rest more → Reads (Item frames) bytes (made more)
   says : (more : List Call) → Says tree (plain (made more)) (plain more)
   good : IsGood tree
 
 -- from a state over the frames on, parts to their container's end
-record AreRead (made : List Call → List Call) (first : List Frame → State) (end : Call) (kind : Kind) (bytes : List ℕ) (parts : Parts) (rest : List ℕ) : Type 0 where
-  reads : (frames : List Frame) (more : List Call) → Reads (Ended frames) rest more → Reads (first frames) bytes (made (end ∷ more))
+record AreRead (made : List Call → List Call) (first : List OpenItem → ItemState) (end : Call) (kind : Kind) (bytes : List ℕ) (parts : Parts) (rest : List ℕ) : Type 0 where
+  reads : (frames : List OpenItem) (more : List Call) → Reads (Ended frames) rest more → Reads (first frames) bytes (made (end ∷ more))
   says : (more : List Call) → SayParts parts (plain (made more)) (plain more)
   in_order : AreInOrder kind parts
   good : AreGood parts
@@ -58,7 +58,7 @@ binary_pieces_read pieces p = record {
 
 -- ---- heads
 
-no_simple : (major n m : ℕ) (after other : List ℕ) (o : Option Head) → o ≡ Some (head 7 m other) → o ≡ Some (head major n after) → (major == 7) ≡ false → ⊥
+no_simple : (major n m : ℕ) (after other : List ℕ) (o : Option ItemHead) → o ≡ Some (head 7 m other) → o ≡ Some (head major n after) → (major == 7) ≡ false → ⊥
 no_simple major n m after other o e f h = let g : major ≡ 7 = cc in let k : (7 == 7) ≡ false = rw g at h in cc k
 
 no_marked : (mark : Mark) (bytes : List ℕ) (major n : ℕ) (after : List ℕ) → head_of (byte_of mark ∷ bytes) ≡ Some (head major n after) → (major == 7) ≡ false → ⊥
@@ -70,12 +70,12 @@ no_marked Falsehood bytes major n after e h = no_simple major n 20 after bytes (
 no_marked reading.Truth bytes major n after e h = no_simple major n 21 after bytes (head_of (245 ∷ bytes)) (head_245 bytes) e h
 no_marked reading.Null bytes major n after e h = no_simple major n 22 after bytes (head_of (246 ∷ bytes)) (head_246 bytes) e h
 
-first_goes : (first : ℕ) (bytes : List ℕ) (major n : ℕ) (after : List ℕ) (frames : List Frame) (o : Option Mark) → mark_of first ≡ o → head_of (first ∷ bytes) ≡ Some (head major n after) → (major == 7) ≡ false
+first_goes : (first : ℕ) (bytes : List ℕ) (major n : ℕ) (after : List ℕ) (frames : List OpenItem) (o : Option Mark) → mark_of first ≡ o → head_of (first ∷ bytes) ≡ Some (head major n after) → (major == 7) ≡ false
     → first_step o bytes (head_of (first ∷ bytes)) frames ≡ body_step major n after frames
 first_goes first bytes major n after frames (Some mark) f e h = absurd (no_marked mark bytes major n after (subst (λ x. head_of (x ∷ bytes) ≡ Some (head major n after)) (mark_is first mark f) e) h)
 first_goes first bytes major n after frames None f e h = ap (λ x. head_step x frames) e
 
-pub item_goes : (bytes : List ℕ) (major n : ℕ) (after : List ℕ) (frames : List Frame) → head_of bytes ≡ Some (head major n after) → (major == 7) ≡ false → item_step bytes frames ≡ body_step major n after frames
+pub item_goes : (bytes : List ℕ) (major n : ℕ) (after : List ℕ) (frames : List OpenItem) → head_of bytes ≡ Some (head major n after) → (major == 7) ≡ false → item_step bytes frames ≡ body_step major n after frames
 item_goes [] major n after frames e h = absurd (no_head e)
 item_goes (first ∷ bytes) major n after frames e h = first_goes first bytes major n after frames (mark_of first) refl e h
 
@@ -127,7 +127,7 @@ negative_big_read bytes after content rest e s h = record {
   good = tt;
 }
 
-pub other_tag : (n : ℕ) (after : List ℕ) (frames : List Frame) → n ≢ 2 → n ≢ 3 → tag_step n after frames ≡ moves [] after (Item frames)
+pub other_tag : (n : ℕ) (after : List ℕ) (frames : List OpenItem) → n ≢ 2 → n ≢ 3 → tag_step n after frames ≡ moves [] after (Item frames)
 other_tag n after frames h k =
     let e : (n == 2) ≡ false = grind (arith, nat_tests) in
     let f : (n == 3) ≡ false = grind (arith, nat_tests) in
@@ -202,9 +202,9 @@ entries_end_read rest = record { reads = λ frames more r. goes_on refl r; says 
 
 -- an item in front of others, which its array goes on with
 item_in_front : (left next : Option ℕ) (first others : List Call → List Call) (bytes after rest : List ℕ) (tree : Tree) (parts : Parts)
-    → ((frames : List Frame) → part_step bytes (Items left ∷ frames) ≡ moves (Call.PartBegin calls.Item ∷ []) bytes (Item (Items next ∷ frames)))
+    → ((frames : List OpenItem) → part_step bytes (Items left ∷ frames) ≡ moves (Call.PartBegin calls.Item ∷ []) bytes (Item (Items next ∷ frames)))
     → IsRead first bytes tree after → ItemsAreRead others next after parts rest
-    → ItemsAreRead (λ more. part_calls calls.Item first (others more)) left bytes (part calls.Item tree parts) rest
+    → ItemsAreRead (λ more. item_part_calls calls.Item first (others more)) left bytes (part calls.Item tree parts) rest
 item_in_front left next first others bytes after rest tree parts begins i s = record {
   reads = λ frames more r. goes_on (begins frames) (i.reads (Items next ∷ frames) (Call.PartEnd calls.Item ∷ others (Call.End calls.Seq ∷ more)) (goes_on refl (s.reads frames more r)));
   says = λ more. (plain (first (Call.PartEnd calls.Item ∷ others more)), plain (others more), refl, i.says (Call.PartEnd calls.Item ∷ others more), s.says more);
@@ -213,9 +213,9 @@ item_in_front left next first others bytes after rest tree parts begins i s = re
 }
 
 entry_in_front : (left next : Option ℕ) (first second others : List Call → List Call) (bytes between after rest : List ℕ) (key value : Tree) (parts : Parts)
-    → ((frames : List Frame) → part_step bytes (Keys left ∷ frames) ≡ moves (Call.PartBegin calls.Key ∷ []) bytes (Item (Keys next ∷ frames)))
+    → ((frames : List OpenItem) → part_step bytes (Keys left ∷ frames) ≡ moves (Call.PartBegin calls.Key ∷ []) bytes (Item (Keys next ∷ frames)))
     → IsRead first bytes key between → IsRead second between value after → EntriesAreRead others next after parts rest
-    → EntriesAreRead (λ more. part_calls calls.Key first (part_calls calls.Value second (others more))) left bytes (part calls.Key key (part calls.Value value parts)) rest
+    → EntriesAreRead (λ more. item_part_calls calls.Key first (item_part_calls calls.Value second (others more))) left bytes (part calls.Key key (part calls.Value value parts)) rest
 entry_in_front left next first second others bytes between after rest key value parts begins i v s = record {
   reads = λ frames more r. goes_on (begins frames) (i.reads (Keys next ∷ frames) _ (goes_on refl (v.reads (Values next ∷ frames) _ (goes_on refl (s.reads frames more r)))));
   says = λ more.
@@ -244,19 +244,19 @@ part_goes : (bytes rest : List ℕ) (tree : Tree) (ends : Option Move) (next : O
 part_goes [] rest tree ends next broken i = absurd (no_item tree rest i)
 part_goes (first ∷ bytes) rest tree ends next broken i = goes_on_by first bytes rest tree ends next broken (first == 0xff) refl i
 
-item_begins : (bytes rest : List ℕ) (tree : Tree) (frames : List Frame) → IsItem bytes tree rest
+item_begins : (bytes rest : List ℕ) (tree : Tree) (frames : List OpenItem) → IsItem bytes tree rest
     → part_step bytes (Items None ∷ frames) ≡ moves (Call.PartBegin calls.Item ∷ []) bytes (Item (Items None ∷ frames))
 item_begins bytes rest tree frames i =
     part_goes bytes rest tree (moves (Call.End calls.Seq ∷ []) bytes (Ended frames)) (λ more. moves (Call.PartBegin calls.Item ∷ []) bytes (Item (Items more ∷ frames)))
     (λ after. moves (Call.End calls.Seq ∷ []) after (Ended frames)) i
 
-key_begins : (bytes rest : List ℕ) (tree : Tree) (frames : List Frame) → IsItem bytes tree rest
+key_begins : (bytes rest : List ℕ) (tree : Tree) (frames : List OpenItem) → IsItem bytes tree rest
     → part_step bytes (Keys None ∷ frames) ≡ moves (Call.PartBegin calls.Key ∷ []) bytes (Item (Keys None ∷ frames))
 key_begins bytes rest tree frames i =
     part_goes bytes rest tree (moves (Call.End calls.Map ∷ []) bytes (Ended frames)) (λ more. moves (Call.PartBegin calls.Key ∷ []) bytes (Item (Keys more ∷ frames)))
     (λ after. moves (Call.End calls.Map ∷ []) after (Ended frames)) i
 
-simple_read : (mark : ℕ) (call : Call) (tree : Tree) (rest : List ℕ) → ((frames : List Frame) → item_step (mark ∷ rest) frames ≡ moves (call ∷ []) rest (Ended frames))
+simple_read : (mark : ℕ) (call : Call) (tree : Tree) (rest : List ℕ) → ((frames : List OpenItem) → item_step (mark ∷ rest) frames ≡ moves (call ∷ []) rest (Ended frames))
     → ((more : List Call) → Says tree (plain (call ∷ more)) (plain more)) → IsGood tree → IsRead (λ more. call ∷ more) (mark ∷ rest) tree rest
 simple_read mark call tree rest s c g = record { reads = λ frames more r. goes_on (s frames) r; says = c; good = g }
 
@@ -303,5 +303,5 @@ mutual
       entry_in_front None None (item_calls i) (item_calls v) (entries_to_break_calls s) bytes between after rest key value parts (λ frames. key_begins bytes between key frames i) (item_read i) (item_read v) (entries_to_break_read s)
 
 -- each item is read, and the document's calls spell its tree
-pub item_is_read : (bytes : List ℕ) (tree : Tree) (i : IsItemOf bytes tree) → IsReadAs bytes (document_calls i) × Spells (document_calls i) tree
+pub item_is_read : (bytes : List ℕ) (tree : Tree) (i : IsItemOf bytes tree) → IsReadAs bytes (cbor_document_calls i) × Spells (cbor_document_calls i) tree
 item_is_read bytes tree i = let d = item_read i in (d.reads [] [] at_end, (d.good, d.says []))

@@ -26,10 +26,10 @@ use Rattle.sval_program.specs.Jobs.{may_write, ServesBytes}
 use Rattle.sval_program.specs.Outputs.{WritesText}
 use Rattle.sval_cbor_read.specs.declared.form.Form.{Form}
 use Rattle.sval_cbor_read.specs.declared.form.Form.TheVariants as form
-use Rattle.sval_cbor_read.specs.Document.{document_calls}
+use Rattle.sval_cbor_read.specs.Document.{cbor_document_calls}
 use Rattle.sval_cbor_read.specs.Items.{IsItemOf}
-use Rattle.sval_cbor_read.specs.ReadErrors.{IsRead}
-use Rattle.sval_cbor_read.specs.Serves.{IsInMemory, IsDue, IsMeant, IsWrittenUpToKey, Due, a_text, up_to_key, read_terms, most_of}
+use Rattle.sval_cbor_read.specs.ReadErrors.{IsReadItem}
+use Rattle.sval_cbor_read.specs.Serves.{IsInMemory, IsItemTextDue, IsMeantByItem, IsWrittenUpToKey, Due, a_text, up_to_key, read_terms, most_of}
 use Rattle.sval_cbor_read.proofs.Complete.{item_is_read}
 use Rattle.sval_cbor_read.proofs.ItemTrees.{item_printable, item_promises}
 use Rattle.sval_cbor_read.proofs.OneReading.{one_document}
@@ -41,8 +41,8 @@ use Rattle.sval_cbor_read.proofs.RealItems.{item_is_real, refused_by_key}
 pub one_tree : {input : List ℕ} {tree other : Tree} → IsItemOf input tree → IsItemOf input other → tree ≡ other
 one_tree {input} {tree} {other} i j = (item_has_one_tree input _ _ tree other i j).0
 
-one_calls : {input : List ℕ} {tree other : Tree} (i : IsItemOf input tree) (j : IsItemOf input other) → document_calls i ≡ document_calls j
-one_calls {input} {tree} {other} i j = one_document input (document_calls i) (document_calls j) (item_is_read input tree i).0 (item_is_read input other j).0
+one_calls : {input : List ℕ} {tree other : Tree} (i : IsItemOf input tree) (j : IsItemOf input other) → cbor_document_calls i ≡ cbor_document_calls j
+one_calls {input} {tree} {other} i j = one_document input (cbor_document_calls i) (cbor_document_calls j) (item_is_read input tree i).0 (item_is_read input other j).0
 
 -- bytes have one text at most that is written of them
 pub one_most : (asked : Form) {input : List ℕ} {tree other : Tree} (i : IsItemOf input tree) (j : IsItemOf input other) → most_of asked i ≡ most_of asked j
@@ -52,10 +52,10 @@ one_most form.Calls i j = ap canon (one_tree i j)
 -- the document's calls are written as the tree's JSON
 json_written : {input : List ℕ} {tree : Tree} (i : IsItemOf input tree) (json : Json) → json_of tree ≡ Ok json → most_of form.Json i ≡ compact json
 json_written {input} {tree} i json shape =
-    (subst (λ found. IsWrittenAs found (written_in Inside (document_calls i))) shape (spelling_written Inside (document_calls i) tree (item_is_read input tree i).1)).0
+    (subst (λ found. IsWrittenAs found (written_in Inside (cbor_document_calls i))) shape (spelling_written Inside (cbor_document_calls i) tree (item_is_read input tree i).1)).0
 
 -- the text that is due is all that is written
-pub due_is_most : {input text : List ℕ} (asked : Form) {tree : Tree} (i : IsItemOf input tree) → IsDue text input asked → text ≡ most_of asked i
+pub due_is_most : {input text : List ℕ} (asked : Form) {tree : Tree} (i : IsItemOf input tree) → IsItemTextDue text input asked → text ≡ most_of asked i
 due_is_most form.Json i d = d.is.is_text ∙ sym (json_written d.item d.is.json d.is.shape) ∙ one_most form.Json d.item i
 due_is_most form.Calls i d = d.is ∙ one_most form.Calls d.item i
 
@@ -72,7 +72,7 @@ pub record DueOf (asked : Form) (input bytes : List ℕ) : Type 0 where
   pub may : may_write read_terms found ≡ true
 
 module _ {input : List ℕ} {tree : Tree} (m : IsInMemory input) (item : IsItemOf input tree) where
-  means_json : (json : Json) → json_of tree ≡ Ok json → IsMeant form.Json tree (most_of form.Json item)
+  means_json : (json : Json) → json_of tree ≡ Ok json → IsMeantByItem form.Json tree (most_of form.Json item)
   means_json json shape =
       let meant = text_means Inside tree json (item_is_real input tree m.bytes item) (item_promises m item) shape in
       record { json = json; shape = shape; is_text = json_written item json shape; value = meant.0; is = meant.1 }
@@ -100,7 +100,7 @@ module _ {input : List ℕ} {tree : Tree} (m : IsInMemory input) (item : IsItemO
 
 -- ---- a document in JSON
 
-module _ (input : List ℕ) (calls : List Call) (r : IsRead input calls) where
+module _ (input : List ℕ) (calls : List Call) (r : IsReadItem input calls) where
   is_most : (written_in Inside calls).written ≡ most_of form.Json r.item
   is_most = ap (λ calls. (written_in Inside calls).written) r.same
 

@@ -6,8 +6,8 @@ use Rattle.std.proofs.lemmas.List.{length-drop}
 use Rattle.std.proofs.lemmas.Str.{IsUtf8-from_is_utf8}
 use Rattle.sval_cbor_read.specs.declared.head.Head as made_head
 use Rattle.sval_cbor_read.specs.declared.bignum.Bignum.{Bignum}
-use Rattle.sval_cbor_read.specs.Items.{Head, head, head_of, is_piece, big_endian, string, IsByteString, definite, in_pieces}
-use Rattle.sval_cbor_read.specs.Reading.{Mark, BinaryPieces, TextPieces, SeqToBreak, MapToBreak, Falsehood, Truth, Null, Move, mark_of, first_step, item_step, head_step, string_step, string_calls, fragment, with_piece, moves, Ended}
+use Rattle.sval_cbor_read.specs.Items.{ItemHead, head, head_of, is_piece, big_endian, string, IsByteString, definite, in_pieces}
+use Rattle.sval_cbor_read.specs.Reading.{Mark, BinaryPieces, TextPieces, SeqToBreak, MapToBreak, Falsehood, Truth, Null, Move, mark_of, first_step, item_step, head_step, string_step, string_calls, fragment_call, with_piece, moves, Ended}
 use Rattle.sval_cbor_read.specs.SeenHeads.{IsHead}
 use Rattle.sval_cbor_read.specs.SeenBignums.{IsNumberAt, HasNoNumber}
 use Rattle.sval_cbor_read.specs.SeenNodes.{byte_string, step_calls, piece_calls, IsBignum}
@@ -21,7 +21,7 @@ no_call l = absurd (omega arith)
 
 -- ---- marks
 
-any_mark : (o : Option Mark) (all bytes : List ℕ) (begun : Option Head) → o ≢ None → step_calls (first_step o bytes begun []) ≡ step_calls (first_step o all None [])
+any_mark : (o : Option Mark) (all bytes : List ℕ) (begun : Option ItemHead) → o ≢ None → step_calls (first_step o bytes begun []) ≡ step_calls (first_step o all None [])
 any_mark None all bytes begun n = absurd (n refl)
 any_mark (Some BinaryPieces) all bytes begun n = refl
 any_mark (Some TextPieces) all bytes begun n = refl
@@ -40,7 +40,7 @@ mark_calls bytes at l n =
 -- ---- heads
 
 -- the item of a head is its step
-pub headed_step : (bytes : List ℕ) (at : ℕ) (o : Option Head) → at < length bytes → mark_of (get_or bytes at 0) ≡ None → head_of (drop at bytes) ≡ o → item_step (drop at bytes) [] ≡ head_step o []
+pub headed_step : (bytes : List ℕ) (at : ℕ) (o : Option ItemHead) → at < length bytes → mark_of (get_or bytes at 0) ≡ None → head_of (drop at bytes) ≡ o → item_step (drop at bytes) [] ≡ head_step o []
 headed_step bytes at o l e h =
     let here = bytes_at bytes at l in
     ap (λ x. item_step x []) here ∙ ap (λ m. first_step m (drop (at + 1) bytes) (head_of (get_or bytes at 0 ∷ drop (at + 1) bytes)) []) e ∙ ap (λ x. head_step (head_of x) []) (sym here) ∙ ap (λ x. head_step x []) h
@@ -85,25 +85,25 @@ with_all false b c o l = no_call l
 
 module _ (major : ℕ) (bytes : List ℕ) (at : ℕ) where
   pub no_piece_head : 0 < length (piece_calls major (drop at bytes)) → head_of (drop at bytes) ≡ None → ⊥
-  no_piece_head l e = no_call (subst (λ o. 0 < length (step_calls (with_piece major o (λ piece left. moves (fragment major piece ∷ []) left (Ended []))))) e l)
+  no_piece_head l e = no_call (subst (λ o. 0 < length (step_calls (with_piece major o (λ piece left. moves (fragment_call major piece ∷ []) left (Ended []))))) e l)
 
   piece_at : (h : made_head.Head) → 0 < length (piece_calls major (drop at bytes)) → IsHead bytes at h (head_of (drop at bytes))
-      → 0 < length (step_calls (with_piece major (Some (head h.major h.number (drop h.next bytes))) (λ piece left. moves (fragment major piece ∷ []) left (Ended []))))
-  piece_at h l is = subst (λ o. 0 < length (step_calls (with_piece major o (λ piece left. moves (fragment major piece ∷ []) left (Ended []))))) is.0 l
+      → 0 < length (step_calls (with_piece major (Some (head h.major h.number (drop h.next bytes))) (λ piece left. moves (fragment_call major piece ∷ []) left (Ended []))))
+  piece_at h l is = subst (λ o. 0 < length (step_calls (with_piece major o (λ piece left. moves (fragment_call major piece ∷ []) left (Ended []))))) is.0 l
 
   pub whole_piece : (h : made_head.Head) → 0 < length (piece_calls major (drop at bytes)) → IsHead bytes at h (head_of (drop at bytes)) → IsWhole major h.number (drop h.next bytes)
   whole_piece h l is =
       let after = drop h.next bytes in
-      let (a, b, c) = with_all (h.major == major) (nat_le h.number (length after)) (is_piece major (take h.number after)) (moves (fragment major (take h.number after) ∷ []) (drop h.number after) (Ended [])) (piece_at h l is) in
+      let (a, b, c) = with_all (h.major == major) (nat_le h.number (length after)) (is_piece major (take h.number after)) (moves (fragment_call major (take h.number after) ∷ []) (drop h.number after) (Ended [])) (piece_at h l is) in
       record { within = grind (arith, nat_tests); utf8 = c }
 
   pub piece_calls_are : (h : made_head.Head) (content : List ℕ) → 0 < length (piece_calls major (drop at bytes)) → IsHead bytes at h (head_of (drop at bytes)) → content ≡ take h.number (drop h.next bytes)
-      → fragment major content ∷ [] ≡ piece_calls major (drop at bytes)
+      → fragment_call major content ∷ [] ≡ piece_calls major (drop at bytes)
   piece_calls_are h content l is e =
       let after = drop h.next bytes in
-      let (a, b, c) = with_all (h.major == major) (nat_le h.number (length after)) (is_piece major (take h.number after)) (moves (fragment major (take h.number after) ∷ []) (drop h.number after) (Ended [])) (piece_at h l is) in
-      let go : step_calls (with_piece major (Some (head h.major h.number after)) (λ piece left. moves (fragment major piece ∷ []) left (Ended []))) ≡ fragment major (take h.number after) ∷ [] = rw (a, b, c) refl in
-      ap (λ x. fragment major x ∷ []) e ∙ sym go ∙ ap (λ o. step_calls (with_piece major o (λ piece left. moves (fragment major piece ∷ []) left (Ended [])))) (sym is.0)
+      let (a, b, c) = with_all (h.major == major) (nat_le h.number (length after)) (is_piece major (take h.number after)) (moves (fragment_call major (take h.number after) ∷ []) (drop h.number after) (Ended [])) (piece_at h l is) in
+      let go : step_calls (with_piece major (Some (head h.major h.number after)) (λ piece left. moves (fragment_call major piece ∷ []) left (Ended []))) ≡ fragment_call major (take h.number after) ∷ [] = rw (a, b, c) refl in
+      ap (λ x. fragment_call major x ∷ []) e ∙ sym go ∙ ap (λ o. step_calls (with_piece major o (λ piece left. moves (fragment_call major piece ∷ []) left (Ended [])))) (sym is.0)
 
 -- ---- numbers as byte strings
 

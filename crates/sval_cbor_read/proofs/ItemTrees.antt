@@ -5,7 +5,7 @@ use Rattle.std.proofs.lemmas.List.{take-append-drop}
 use Rattle.sval_core.specs.Trees.{Tree, Parts}
 use Rattle.sval_core.specs.Real.{IsWritable, AreWritable, IsPrintable}
 use Rattle.sval_json.specs.Promises.{KeepsPromises, KeepPromises}
-use Rattle.sval_cbor_read.specs.Items.{head, head_of, IsString, string, ArePieces, break, piece, IsByteString, definite, in_pieces, IsItem, by_head, bytes_in_pieces, texts_in_pieces, seq_to_break, map_to_break, falsehood, truth, null, IsBody, unsigned, negative, binary, text, seq, map, big, negative_big, tagged, AreItems, no_items, an_item, AreEntries, no_pairs, a_pair, ItemsToBreak, items_end, items_go_on, EntriesToBreak, entries_end, entries_go_on, IsItemOf}
+use Rattle.sval_cbor_read.specs.Items.{head, head_of, IsDefiniteString, string, ArePieces, break, piece, IsByteString, definite, in_pieces, IsItem, by_head, bytes_in_pieces, texts_in_pieces, seq_to_break, map_to_break, falsehood, truth, null, IsBody, unsigned, negative, binary, text, seq, map, big, negative_big, tagged, AreItems, no_items, an_item, AreEntries, no_pairs, a_pair, ItemsToBreak, items_end, items_go_on, EntriesToBreak, entries_end, entries_go_on, IsItemOf}
 use Rattle.sval_cbor_read.specs.Serves.{IsInMemory}
 use Rattle.sval_cbor_read.proofs.Nearer.{IsShorter, head_shorter}
 use Rattle.sval_cbor_read.proofs.RealItems.{item_is_real}
@@ -18,7 +18,7 @@ after_length bytes e = subst (IsShorter bytes) e (head_shorter bytes)
 taken_length : (n : ℕ) (after : List ℕ) → length (take n after) + length (drop n after) ≤ length after
 taken_length n after = let e = ap length (take-append-drop n after) in omega (arith, length-append (take n after) (drop n after))
 
-string_length : {major : ℕ} {bytes content rest : List ℕ} → IsString major bytes content rest → length content + length rest < length bytes
+string_length : {major : ℕ} {bytes content rest : List ℕ} → IsDefiniteString major bytes content rest → length content + length rest < length bytes
 string_length (string {number = n} {bytes = bytes} {after = after} e l k) = let a = after_length bytes e in let t = taken_length n after in omega arith
 
 pieces_length : {major : ℕ} {bytes content rest : List ℕ} → ArePieces major bytes content rest → length content + length rest < length bytes

@@ -8,7 +8,7 @@ use Rattle.std.proofs.lemmas.Bool.Decides.{nat_tests}
 use Rattle.std.proofs.lemmas.List.{length-take-le, length-drop}
 use Rattle.std.proofs.lemmas.Int.Digits.{number_lt}
 use Rattle.sval_cbor.specs.Cbor.{head_bytes}
-use Rattle.sval_cbor_read.specs.Items.{Head, head, wide_head, head_of}
+use Rattle.sval_cbor_read.specs.Items.{ItemHead, head, wide_head, head_of}
 use Rattle.sval_cbor_read.proofs.Heads.{bytes_length, all_front}
 
 -- how long a number's head is at most
@@ -31,7 +31,7 @@ wide_length : (m width major n : ℕ) (bytes rest : List ℕ) → AllByRecursion
     → (major ≡ m) × (n < 256 ^ width) × (length rest + width ≡ length bytes)
 wide_length m width major n bytes rest all e = go (nat_le width (length bytes)) refl e
   where
-    go : (b : Bool) → nat_le width (length bytes) ≡ b → (let o : Option Head = if b then Some (head m (number_from_digits 256 (take width bytes)) (drop width bytes)) else None in o) ≡ Some (head major n rest)
+    go : (b : Bool) → nat_le width (length bytes) ≡ b → (let o : Option ItemHead = if b then Some (head m (number_from_digits 256 (take width bytes)) (drop width bytes)) else None in o) ≡ Some (head major n rest)
         → (major ≡ m) × (n < 256 ^ width) × (length rest + width ≡ length bytes)
     go true f g =
         let long : width ≤ length bytes = grind (arith, nat_tests) in
@@ -49,7 +49,7 @@ head_least [] major n rest all e = absurd (cc e)
 head_least (first ∷ bytes) major n rest all e = go (nat_lt (first % 32) 24) (first % 32 == 24) (first % 32 == 25) (first % 32 == 26) (first % 32 == 27) refl e
   where
     go : (a b c d f : Bool) → nat_lt (first % 32) 24 ≡ a
-        → (let o : Option Head = if a then Some (head (first / 32) (first % 32) bytes) else if b then wide_head (first / 32) 1 bytes else if c then wide_head (first / 32) 2 bytes else if d then wide_head (first / 32) 4 bytes else if f then wide_head (first / 32) 8 bytes else None in o) ≡ Some (head major n rest)
+        → (let o : Option ItemHead = if a then Some (head (first / 32) (first % 32) bytes) else if b then wide_head (first / 32) 1 bytes else if c then wide_head (first / 32) 2 bytes else if d then wide_head (first / 32) 4 bytes else if f then wide_head (first / 32) 8 bytes else None in o) ≡ Some (head major n rest)
         → length (head_bytes major n) + length rest ≤ length (first ∷ bytes)
     go true b c d f is g =
         let same : first % 32 ≡ n = cc in
@@ -65,11 +65,11 @@ head_least (first ∷ bytes) major n rest all e = go (nat_lt (first % 32) 24) (f
 -- ---- what is read of bytes
 
 -- a head that is read of bytes has a major type below 8, a number of 64 bits, and fewer bytes after it
-abbrev pub IsBoundedHead : List ℕ → Option Head → Type 0
+abbrev pub IsBoundedHead : List ℕ → Option ItemHead → Type 0
 IsBoundedHead bytes None = ⊤
 IsBoundedHead bytes (Some (head major n after)) = (major < 8) × (n < 2 ^ 64) × (length after < length bytes)
 
-bounded_wide : (first m width : ℕ) (bytes : List ℕ) (o : Option Head) → m < 8 → 256 ^ width ≤ 2 ^ 64 → AllByRecursion (λ d. d < 256) bytes → wide_head m width bytes ≡ o → IsBoundedHead (first ∷ bytes) o
+bounded_wide : (first m width : ℕ) (bytes : List ℕ) (o : Option ItemHead) → m < 8 → 256 ^ width ≤ 2 ^ 64 → AllByRecursion (λ d. d < 256) bytes → wide_head m width bytes ≡ o → IsBoundedHead (first ∷ bytes) o
 bounded_wide first m width bytes None h k all e = tt
 bounded_wide first m width bytes (Some (head major n after)) h k all e =
     let w = wide_length m width major n bytes after all e in (omega (arith, w.0), omega (arith, w.1), omega (arith, w.2))

@@ -5,11 +5,11 @@ use Rattle.std.proofs.Common.{sym, subst, arith}
 use Rattle.std.proofs.lemmas.List.{length-drop}
 use Rattle.sval_label.specs.Calls.{Call, U64, U128, I128}
 use Rattle.sval_label.specs.Calls as calls
-use Rattle.sval_cbor_read.specs.Items.{Head, head, wide_head, head_of, is_piece, negative_type}
-use Rattle.sval_cbor_read.specs.Reading.{Frame, Items, Keys, Values, State, Item, Part, Ended, Pieces, Bignum, BignumPieces, Move, moves, Mark, BinaryPieces, TextPieces, SeqToBreak, MapToBreak, Falsehood, mark_of, marked, string_calls, string_step, tag_step, body_step, head_step, first_step, item_step, fragment, string_end, with_piece, piece_step, fits, number_call, bignum_step, bignum_begins, bignum_piece, part_or_end, part_step, ended_step, step, Reads, at_end, goes_on, IsReadAs, distance}
+use Rattle.sval_cbor_read.specs.Items.{ItemHead, head, wide_head, head_of, is_piece, negative_type}
+use Rattle.sval_cbor_read.specs.Reading.{OpenItem, Items, Keys, Values, ItemState, Item, Part, Ended, Pieces, Bignum, BignumPieces, Move, moves, Mark, BinaryPieces, TextPieces, SeqToBreak, MapToBreak, Falsehood, mark_of, marked, string_calls, string_step, tag_step, body_step, head_step, first_step, item_step, fragment_call, string_end, with_piece, piece_step, fits, number_call, bignum_step, bignum_begins, bignum_piece, part_or_end, part_step, ended_step, reading_step, Reads, at_end, goes_on, IsReadAs, distance}
 use Rattle.sval_cbor_read.specs.Reading as reading
 
-near : {made : List Call} {left : List ℕ} {next : State} {m : Move} {k : ℕ} → moves made left next ≡ Some m → distance next left < k → distance m.next m.left < k
+near : {made : List Call} {left : List ℕ} {next : ItemState} {m : Move} {k : ℕ} → moves made left next ≡ Some m → distance next left < k → distance m.next m.left < k
 near {made = made} {left = left} {next = next} {m = m} {k = k} e h =
     let one : Move = record { calls = made; left = left; next = next } in
     let f : m ≡ one = cc e in subst (λ x. distance x.next x.left < k) (sym f) h
@@ -18,11 +18,11 @@ pub no_move : {m : Move} → (let o : Option Move = None in o) ≡ Some m → �
 no_move e = cc e
 
 -- what follows a head is shorter
-abbrev pub IsShorter : List ℕ → Option Head → Type 0
+abbrev pub IsShorter : List ℕ → Option ItemHead → Type 0
 IsShorter bytes None = ⊤
 IsShorter bytes (Some (head major n after)) = length after < length bytes
 
-wide_by : (b : Bool) (first major n width : ℕ) (bytes : List ℕ) → IsShorter (first ∷ bytes) (let o : Option Head = if b then Some (head major n (drop width bytes)) else None in o)
+wide_by : (b : Bool) (first major n width : ℕ) (bytes : List ℕ) → IsShorter (first ∷ bytes) (let o : Option ItemHead = if b then Some (head major n (drop width bytes)) else None in o)
 wide_by true first major n width bytes = omega (arith, length-drop width bytes)
 wide_by false first major n width bytes = tt
 
@@ -34,7 +34,7 @@ unfolding head_of
 head_shorter [] = tt
 head_shorter (first ∷ bytes) = go (nat_lt (first % 32) 24) (first % 32 == 24) (first % 32 == 25) (first % 32 == 26) (first % 32 == 27)
   where
-    go : (a b c d f : Bool) → IsShorter (first ∷ bytes) (let o : Option Head = if a then Some (head (first / 32) (first % 32) bytes) else if b then wide_head (first / 32) 1 bytes else if c then wide_head (first / 32) 2 bytes else if d then wide_head (first / 32) 4 bytes else if f then wide_head (first / 32) 8 bytes else None in o)
+    go : (a b c d f : Bool) → IsShorter (first ∷ bytes) (let o : Option ItemHead = if a then Some (head (first / 32) (first % 32) bytes) else if b then wide_head (first / 32) 1 bytes else if c then wide_head (first / 32) 2 bytes else if d then wide_head (first / 32) 4 bytes else if f then wide_head (first / 32) 8 bytes else None in o)
     go true b c d f = omega arith
     go false true c d f = wide_shorter first (first / 32) 1 bytes
     go false false true d f = wide_shorter first (first / 32) 2 bytes
@@ -46,7 +46,7 @@ dropped : (n : ℕ) (after : List ℕ) → length (drop n after) ≤ length afte
 dropped n after = omega (arith, length-drop n after)
 
 -- a piece that is taken leaves fewer bytes
-piece_nearer : (major : ℕ) (bytes : List ℕ) (k : ℕ) (next : List ℕ → List ℕ → Option Move) (m : Move) (h : Option Head) → IsShorter bytes h
+piece_nearer : (major : ℕ) (bytes : List ℕ) (k : ℕ) (next : List ℕ → List ℕ → Option Move) (m : Move) (h : Option ItemHead) → IsShorter bytes h
     → ((content left : List ℕ) → length left < length bytes → next content left ≡ Some m → distance m.next m.left < k) → with_piece major h next ≡ Some m → distance m.next m.left < k
 piece_nearer major bytes k next m None s goes e = absurd (no_move e)
 piece_nearer major bytes k next m (Some (head kind n after)) s goes e = go (kind == major && nat_le n (length after) && is_piece major (take n after)) e
@@ -55,14 +55,14 @@ piece_nearer major bytes k next m (Some (head kind n after)) s goes e = go (kind
     go true f = goes (take n after) (drop n after) (omega (arith, dropped n after)) f
     go false f = absurd (no_move f)
 
-string_nearer : (major n : ℕ) (after : List ℕ) (frames : List Frame) (k : ℕ) (m : Move) → 6 * length after + 3 * length frames + 2 < k → string_step major n after frames ≡ Some m → distance m.next m.left < k
+string_nearer : (major n : ℕ) (after : List ℕ) (frames : List OpenItem) (k : ℕ) (m : Move) → 6 * length after + 3 * length frames + 2 < k → string_step major n after frames ≡ Some m → distance m.next m.left < k
 string_nearer major n after frames k m h e = go (nat_le n (length after) && is_piece major (take n after)) e
   where
     go : (b : Bool) → (let o : Option Move = if b then moves (string_calls major n (take n after)) (drop n after) (Ended frames) else None in o) ≡ Some m → distance m.next m.left < k
     go true f = near f (omega (arith, dropped n after))
     go false f = absurd (no_move f)
 
-tag_nearer : (tag : ℕ) (after : List ℕ) (frames : List Frame) (k : ℕ) (m : Move) → 6 * length after + 3 * length frames < k → tag_step tag after frames ≡ Some m → distance m.next m.left < k
+tag_nearer : (tag : ℕ) (after : List ℕ) (frames : List OpenItem) (k : ℕ) (m : Move) → 6 * length after + 3 * length frames < k → tag_step tag after frames ≡ Some m → distance m.next m.left < k
 tag_nearer tag after frames k m h e = go (tag == 2) (tag == 3) e
   where
     go : (a b : Bool) → (if a then moves [] after (Bignum 2 frames) else if b then moves [] after (Bignum 3 frames) else moves [] after (Item frames)) ≡ Some m → distance m.next m.left < k
@@ -70,7 +70,7 @@ tag_nearer tag after frames k m h e = go (tag == 2) (tag == 3) e
     go false true f = near f h
     go false false f = near f h
 
-body_nearer : (major n : ℕ) (after : List ℕ) (frames : List Frame) (k : ℕ) (m : Move) → 6 * length after + 3 * length frames + 5 < k → body_step major n after frames ≡ Some m → distance m.next m.left < k
+body_nearer : (major n : ℕ) (after : List ℕ) (frames : List OpenItem) (k : ℕ) (m : Move) → 6 * length after + 3 * length frames + 5 < k → body_step major n after frames ≡ Some m → distance m.next m.left < k
 body_nearer major n after frames k m h e = go (major == 0) (major == 1) (major == 2) (major == 3) (major == 4) (major == 5) (major == 6) e
   where
     go : (a b c d f g i : Bool)
@@ -91,11 +91,11 @@ body_nearer major n after frames k m h e = go (major == 0) (major == 1) (major =
     go false false false false false false true j = tag_nearer n after frames k m (omega arith) j
     go false false false false false false false j = absurd (no_move j)
 
-head_nearer : (bytes : List ℕ) (frames : List Frame) (m : Move) (h : Option Head) → IsShorter bytes h → head_step h frames ≡ Some m → distance m.next m.left < distance (Item frames) bytes
+head_nearer : (bytes : List ℕ) (frames : List OpenItem) (m : Move) (h : Option ItemHead) → IsShorter bytes h → head_step h frames ≡ Some m → distance m.next m.left < distance (Item frames) bytes
 head_nearer bytes frames m None s e = absurd (no_move e)
 head_nearer bytes frames m (Some (head major n after)) s e = body_nearer major n after frames (distance (Item frames) bytes) m (omega arith) e
 
-marked_nearer : (mark : Mark) (first : ℕ) (bytes : List ℕ) (frames : List Frame) (m : Move) → marked mark bytes frames ≡ Some m → distance m.next m.left < distance (Item frames) (first ∷ bytes)
+marked_nearer : (mark : Mark) (first : ℕ) (bytes : List ℕ) (frames : List OpenItem) (m : Move) → marked mark bytes frames ≡ Some m → distance m.next m.left < distance (Item frames) (first ∷ bytes)
 marked_nearer BinaryPieces first bytes frames m e = near e (omega arith)
 marked_nearer TextPieces first bytes frames m e = near e (omega arith)
 marked_nearer SeqToBreak first bytes frames m e = near e (omega arith)
@@ -104,11 +104,11 @@ marked_nearer Falsehood first bytes frames m e = near e (omega arith)
 marked_nearer reading.Truth first bytes frames m e = near e (omega arith)
 marked_nearer reading.Null first bytes frames m e = near e (omega arith)
 
-first_nearer : (first : ℕ) (bytes : List ℕ) (frames : List Frame) (m : Move) (o : Option Mark) → first_step o bytes (head_of (first ∷ bytes)) frames ≡ Some m → distance m.next m.left < distance (Item frames) (first ∷ bytes)
+first_nearer : (first : ℕ) (bytes : List ℕ) (frames : List OpenItem) (m : Move) (o : Option Mark) → first_step o bytes (head_of (first ∷ bytes)) frames ≡ Some m → distance m.next m.left < distance (Item frames) (first ∷ bytes)
 first_nearer first bytes frames m (Some mark) e = marked_nearer mark first bytes frames m e
 first_nearer first bytes frames m None e = head_nearer (first ∷ bytes) frames m (head_of (first ∷ bytes)) (head_shorter (first ∷ bytes)) e
 
-bignum_nearer : (tag : ℕ) (content left : List ℕ) (frames : List Frame) (k : ℕ) (m : Move) → 6 * length left + 3 * length frames + 2 < k → bignum_step tag content left frames ≡ Some m
+bignum_nearer : (tag : ℕ) (content left : List ℕ) (frames : List OpenItem) (k : ℕ) (m : Move) → 6 * length left + 3 * length frames + 2 < k → bignum_step tag content left frames ≡ Some m
     → distance m.next m.left < k
 bignum_nearer tag content left frames k m h e = go (fits tag content) e
   where
@@ -128,7 +128,7 @@ or_end_nearer None (first ∷ bytes) k ends next broken m f g h e = go (first ==
     go true i = h bytes (omega arith) i
     go false i = g None i
 
-part_nearer : (bytes : List ℕ) (frames : List Frame) (m : Move) → part_step bytes frames ≡ Some m → distance m.next m.left < distance (Part frames) bytes
+part_nearer : (bytes : List ℕ) (frames : List OpenItem) (m : Move) → part_step bytes frames ≡ Some m → distance m.next m.left < distance (Part frames) bytes
 part_nearer bytes [] m e = absurd (no_move e)
 part_nearer bytes (Items left ∷ frames) m e =
     or_end_nearer left bytes (distance (Part (Items left ∷ frames)) bytes) (moves (Call.End calls.Seq ∷ []) bytes (Ended frames)) (λ more. moves (Call.PartBegin calls.Item ∷ []) bytes (Item (Items more ∷ frames)))
@@ -139,7 +139,7 @@ part_nearer bytes (Keys left ∷ frames) m e =
 part_nearer bytes (Values left ∷ frames) m e = absurd (no_move e)
 
 -- each step brings the end nearer
-pub step_nearer : (state : State) (bytes : List ℕ) (m : Move) → step state bytes ≡ Some m → distance m.next m.left < distance state bytes
+pub step_nearer : (state : ItemState) (bytes : List ℕ) (m : Move) → reading_step state bytes ≡ Some m → distance m.next m.left < distance state bytes
 step_nearer (Item frames) [] m e = absurd (no_move e)
 step_nearer (Item frames) (first ∷ bytes) m e = first_nearer first bytes frames m (mark_of first) e
 step_nearer (Part frames) bytes m e = part_nearer bytes frames m e
@@ -150,10 +150,10 @@ step_nearer (Ended (Values left ∷ frames)) bytes m e = near e (omega arith)
 step_nearer (Pieces major frames) [] m e = absurd (no_move e)
 step_nearer (Pieces major frames) (first ∷ bytes) m e = go (first == 0xff) e
   where
-    go : (b : Bool) → (if b then moves (string_end major ∷ []) bytes (Ended frames) else with_piece major (head_of (first ∷ bytes)) (λ piece left. moves (fragment major piece ∷ []) left (Pieces major frames))) ≡ Some m
+    go : (b : Bool) → (if b then moves (string_end major ∷ []) bytes (Ended frames) else with_piece major (head_of (first ∷ bytes)) (λ piece left. moves (fragment_call major piece ∷ []) left (Pieces major frames))) ≡ Some m
         → distance m.next m.left < distance (Pieces major frames) (first ∷ bytes)
     go true f = near f (omega arith)
-    go false f = piece_nearer major (first ∷ bytes) (distance (Pieces major frames) (first ∷ bytes)) (λ piece left. moves (fragment major piece ∷ []) left (Pieces major frames)) m (head_of (first ∷ bytes)) (head_shorter (first ∷ bytes))
+    go false f = piece_nearer major (first ∷ bytes) (distance (Pieces major frames) (first ∷ bytes)) (λ piece left. moves (fragment_call major piece ∷ []) left (Pieces major frames)) m (head_of (first ∷ bytes)) (head_shorter (first ∷ bytes))
         (λ content left l g. near g (omega arith)) f
 step_nearer (Bignum tag frames) [] m e = absurd (no_move e)
 step_nearer (Bignum tag frames) (first ∷ bytes) m e = go (first == 0x5f) e

@@ -3,26 +3,26 @@ use Rattle.std.specs.Prelude.{◌≡◌, ℕ, List, ◌∷◌, Option, Some, ref
 use Rattle.std.proofs.Common.{ap}
 use Rattle.sval_label.specs.Calls.{U128, I128, Seq, Map, Item, Key, Value}
 use Rattle.sval_core.specs.Trees.{Tree, Int, Text, Binary, Container, Parts, part}
-use Rattle.sval_cbor_read.specs.Items.{Head, head, head_of, big_endian, IsString, string, ArePieces, break, piece, IsByteString, definite, in_pieces, IsItem, by_head, bytes_in_pieces, texts_in_pieces, seq_to_break, map_to_break, falsehood, truth, null, IsBody, unsigned, negative, binary, text, seq, map, big, negative_big, tagged, AreItems, no_items, an_item, AreEntries, no_pairs, a_pair, ItemsToBreak, items_end, items_go_on, EntriesToBreak, entries_end, entries_go_on}
+use Rattle.sval_cbor_read.specs.Items.{ItemHead, head, head_of, big_endian, IsDefiniteString, string, ArePieces, break, piece, IsByteString, definite, in_pieces, IsItem, by_head, bytes_in_pieces, texts_in_pieces, seq_to_break, map_to_break, falsehood, truth, null, IsBody, unsigned, negative, binary, text, seq, map, big, negative_big, tagged, AreItems, no_items, an_item, AreEntries, no_pairs, a_pair, ItemsToBreak, items_end, items_go_on, EntriesToBreak, entries_end, entries_go_on}
 
 -- the first bytes of what stands up to a break, and the break itself, begin no head
-pub no_head_95 : (bytes : List ℕ) {h : Head} → head_of (95 ∷ bytes) ≡ Some h → ⊥
+pub no_head_95 : (bytes : List ℕ) {h : ItemHead} → head_of (95 ∷ bytes) ≡ Some h → ⊥
 unfolding head_of
 no_head_95 bytes e = cc e
 
-pub no_head_127 : (bytes : List ℕ) {h : Head} → head_of (127 ∷ bytes) ≡ Some h → ⊥
+pub no_head_127 : (bytes : List ℕ) {h : ItemHead} → head_of (127 ∷ bytes) ≡ Some h → ⊥
 unfolding head_of
 no_head_127 bytes e = cc e
 
-pub no_head_159 : (bytes : List ℕ) {h : Head} → head_of (159 ∷ bytes) ≡ Some h → ⊥
+pub no_head_159 : (bytes : List ℕ) {h : ItemHead} → head_of (159 ∷ bytes) ≡ Some h → ⊥
 unfolding head_of
 no_head_159 bytes e = cc e
 
-pub no_head_191 : (bytes : List ℕ) {h : Head} → head_of (191 ∷ bytes) ≡ Some h → ⊥
+pub no_head_191 : (bytes : List ℕ) {h : ItemHead} → head_of (191 ∷ bytes) ≡ Some h → ⊥
 unfolding head_of
 no_head_191 bytes e = cc e
 
-pub no_head_255 : (bytes : List ℕ) {h : Head} → head_of (255 ∷ bytes) ≡ Some h → ⊥
+pub no_head_255 : (bytes : List ℕ) {h : ItemHead} → head_of (255 ∷ bytes) ≡ Some h → ⊥
 unfolding head_of
 no_head_255 bytes e = cc e
 
@@ -38,17 +38,17 @@ pub head_246 : (bytes : List ℕ) → head_of (246 ∷ bytes) ≡ Some (head 7 2
 unfolding head_of
 head_246 bytes = refl
 
-pub same_heads : {major number m n : ℕ} {after other : List ℕ} {o : Option Head} → o ≡ Some (head major number after) → o ≡ Some (head m n other)
+pub same_heads : {major number m n : ℕ} {after other : List ℕ} {o : Option ItemHead} → o ≡ Some (head major number after) → o ≡ Some (head m n other)
     → (m ≡ major) × (n ≡ number) × (other ≡ after)
 same_heads e f = (cc, cc, cc)
 
-pub no_string_95 : {major : ℕ} {bytes content rest : List ℕ} → IsString major (95 ∷ bytes) content rest → ⊥
+pub no_string_95 : {major : ℕ} {bytes content rest : List ℕ} → IsDefiniteString major (95 ∷ bytes) content rest → ⊥
 no_string_95 (string e h k) = no_head_95 _ e
 
-pub no_string_255 : {major : ℕ} {bytes content rest : List ℕ} → IsString major (255 ∷ bytes) content rest → ⊥
+pub no_string_255 : {major : ℕ} {bytes content rest : List ℕ} → IsDefiniteString major (255 ∷ bytes) content rest → ⊥
 no_string_255 (string e h k) = no_head_255 _ e
 
-pub one_string : {major : ℕ} {bytes content rest other last : List ℕ} → IsString major bytes content rest → IsString major bytes other last → (content ≡ other) × (rest ≡ last)
+pub one_string : {major : ℕ} {bytes content rest other last : List ℕ} → IsDefiniteString major bytes content rest → IsDefiniteString major bytes other last → (content ≡ other) × (rest ≡ last)
 one_string (string e h k) (string f i l) = (cc, cc)
 
 moved_pieces : {major : ℕ} {bytes next content rest : List ℕ} → next ≡ bytes → ArePieces major bytes content rest → ArePieces major next content rest
@@ -74,7 +74,7 @@ one_byte_string (in_pieces p) (in_pieces q) = some_pieces p q
 no_body : {n : ℕ} {after rest : List ℕ} {tree : Tree} → IsBody 7 n after tree rest → ⊥
 no_body b = elim b [ ]
 
-pub simple_body : {major n m : ℕ} {after other rest : List ℕ} {tree : Tree} {o : Option Head} → o ≡ Some (head 7 m other) → o ≡ Some (head major n after) → IsBody major n after tree rest → ⊥
+pub simple_body : {major n m : ℕ} {after other rest : List ℕ} {tree : Tree} {o : Option ItemHead} → o ≡ Some (head 7 m other) → o ≡ Some (head major n after) → IsBody major n after tree rest → ⊥
 simple_body {major = major} e f b = let g : major ≡ 7 = cc in no_body (rw g at b)
 
 pub break_item : {bytes rest : List ℕ} {tree : Tree} → IsItem (255 ∷ bytes) tree rest → ⊥

@@ -3,7 +3,7 @@ use Rattle.std.specs.Prelude.{◌≡◌, ℕ, ◌+◌, ◌<◌, ◌≤◌, List,
 use Rattle.std.proofs.Common.{sym, ap, ◌∙◌, subst, arith}
 use Rattle.std.proofs.lemmas.List.{length-drop, drop-drop}
 use Rattle.sval_cbor_read.specs.declared.head.Head.{Head}
-use Rattle.sval_cbor_read.specs.Items.{head_of, is_piece, IsString, string}
+use Rattle.sval_cbor_read.specs.Items.{head_of, is_piece, IsDefiniteString, string}
 use Rattle.sval_cbor_read.specs.Items as items
 use Rattle.sval_cbor_read.specs.SeenHeads.{IsHead}
 use Rattle.sval_cbor_read.specs.SeenStrings.{IsBehind, IsStringAt, HasNoString}
@@ -19,21 +19,21 @@ string_stands major bytes at h content next (later, (is, before, within)) m b k 
     let after = drop h.next bytes in
     let fits : h.number ≤ length after = let n = b.next_is in let w = b.within in omega (arith, length-drop h.next bytes) in
     let e : head_of (drop at bytes) ≡ Some (items.head major h.number after) = subst (λ x. head_of (drop at bytes) ≡ Some (items.head x h.number after)) m is in
-    let s : IsString major (drop at bytes) (take h.number after) (drop h.number after) = string e fits (subst (λ x. IsTrue (is_piece major x)) b.content_is k) in
+    let s : IsDefiniteString major (drop at bytes) (take h.number after) (drop h.number after) = string e fits (subst (λ x. IsTrue (is_piece major x)) b.content_is k) in
     let rest : drop h.number after ≡ drop next bytes = drop-drop h.number h.next bytes ∙ ap (λ n. drop n bytes) (sym b.next_is) in
     record {
-      stands = subst (λ x. IsString major (drop at bytes) x (drop next bytes)) (sym b.content_is) (subst (IsString major (drop at bytes) (take h.number after)) rest s);
+      stands = subst (λ x. IsDefiniteString major (drop at bytes) x (drop next bytes)) (sym b.content_is) (subst (IsDefiniteString major (drop at bytes) (take h.number after)) rest s);
       later = let n = b.next_is in omega arith;
       within = b.within;
     }
 
 -- a head with other bytes behind it is none of these
-same_head : {m n : ℕ} {after : List ℕ} {major number : ℕ} {other : List ℕ} {o : Option items.Head} → o ≡ Some (items.head m n after) → o ≡ Some (items.head major number other)
+same_head : {m n : ℕ} {after : List ℕ} {major number : ℕ} {other : List ℕ} {o : Option items.ItemHead} → o ≡ Some (items.head m n after) → o ≡ Some (items.head major number other)
     → (m ≡ major) × (n ≡ number) × (after ≡ other)
 same_head e f = (cc, cc, cc)
 
 -- a definite string has its head, its bytes, and UTF-8 where it is a text
-pub string_needs : (major : ℕ) (bytes : List ℕ) (at : ℕ) (h : Head) (content rest : List ℕ) → (at < h.next) × IsHead bytes at h (head_of (drop at bytes)) → IsString major (drop at bytes) content rest
+pub string_needs : (major : ℕ) (bytes : List ℕ) (at : ℕ) (h : Head) (content rest : List ℕ) → (at < h.next) × IsHead bytes at h (head_of (drop at bytes)) → IsDefiniteString major (drop at bytes) content rest
     → (h.major ≡ major) × (h.next + h.number ≤ length bytes) × IsTrue (is_piece major (take h.number (drop h.next bytes)))
 string_needs major bytes at h content rest (later, (is, before, within)) (string {number = n} {after = after} e l k) =
     let (m, number, same) = same_head is e in

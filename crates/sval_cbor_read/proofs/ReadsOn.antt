@@ -16,14 +16,14 @@ use Rattle.sval_cbor_read.specs.declared.reader.Expected as made_expected
 use Rattle.sval_cbor_read.specs.declared.reader.Expected.TheVariants as expected
 use Rattle.sval_cbor_read.specs.declared.reader.Reader.{Reader}
 use Rattle.sval_cbor_read.specs.declared.node.Place.{Place}
-use Rattle.sval_cbor_read.specs.Items.{IsString, ArePieces}
-use Rattle.sval_cbor_read.specs.Reading.{Frame, Items, Keys, State, Item, Part, Ended, Pieces, moves, item_step, part_step, fragment, string_end, piece_step, step}
-use Rattle.sval_cbor_read.specs.Steps.{Spot, spot, Steps, one_step, IsStuck, Makes}
-use Rattle.sval_cbor_read.specs.SeenNodes.{node_of, begins_before, own_calls, piece_calls, ends_behind, place_begins, place_ends, step_calls, streamed, Stands, AreKept}
-use Rattle.sval_cbor_read.specs.SeenFrames.{frame_of, around, changed, place_in}
-use Rattle.sval_cbor_read.specs.SeenItems.{state_behind, begin_calls, IsBegun, IsNoTag, Begins, BeginsNothing, major_of}
+use Rattle.sval_cbor_read.specs.Items.{IsDefiniteString, ArePieces}
+use Rattle.sval_cbor_read.specs.Reading.{OpenItem, Items, Keys, ItemState, Item, Part, Ended, Pieces, moves, item_step, part_step, fragment_call, string_end, piece_step, reading_step}
+use Rattle.sval_cbor_read.specs.Steps.{Spot, spot, ItemSteps, one_step, IsStuck, MakesSomeCall}
+use Rattle.sval_cbor_read.specs.SeenNodes.{item_node, item_begins_before, node_own_calls, piece_calls, item_ends_behind, item_place_begins, item_place_ends, step_calls, streamed_items, NodeBegins, NodesStand}
+use Rattle.sval_cbor_read.specs.SeenFrames.{frame_of, around_frame, changed, item_place_in}
+use Rattle.sval_cbor_read.specs.SeenItems.{state_behind, item_begin_calls, IsBegun, IsNoTag, Begins, BeginsNothing, major_of}
 use Rattle.sval_cbor_read.specs.SeenParts.{Follows}
-use Rattle.sval_cbor_read.specs.SeenReader.{state_of, calls_before, spot_of, Adds, expected_after, opened_after, EndsItem, BeginsPart, KeepsItem, Keeps, piece_of, end_of, ReadsOn}
+use Rattle.sval_cbor_read.specs.SeenReader.{item_state_of, calls_before, spot_of, AddsItemNode, expected_after, opened_after, EndsItem, BeginsPart, KeepsItem, KeepsNode, chunk_kind_of, end_kind_of, ReadsItemsOn}
 use Rattle.sval_cbor_read.proofs.KeptNodes.{own_some, begin_some, kept-add, with_made, begins_with, ends_with}
 use Rattle.sval_cbor_read.specs.SeenStrings.{IsStringAt, HasNoString}
 use Rattle.sval_cbor_read.proofs.Bignums.{bytes_at, nothing_at, no_pieces_left, no_first_piece}
@@ -35,72 +35,72 @@ use Rattle.sval_cbor_read.proofs.OneReading.{reads_after, stops_badly}
 -- ---- spots
 
 -- the spot of a reader by its fields
-pub spot_is : (bytes : List ℕ) (reader : Reader) (expects : made_expected.Expected) (frames : List Frame) (at : ℕ) (nodes : List Node) → reader.expected ≡ expects → reader.opened ≡ frames → reader.at ≡ at
-    → reader.nodes.items ≡ nodes → spot_of bytes reader ≡ spot (state_of expects frames) (drop at bytes) (streamed bytes nodes ++ calls_before expects frames)
+pub spot_is : (bytes : List ℕ) (reader : Reader) (expects : made_expected.Expected) (frames : List OpenItem) (at : ℕ) (nodes : List Node) → reader.expected ≡ expects → reader.opened ≡ frames → reader.at ≡ at
+    → reader.nodes.items ≡ nodes → spot_of bytes reader ≡ spot (item_state_of expects frames) (drop at bytes) (streamed_items bytes nodes ++ calls_before expects frames)
 spot_is bytes reader expects frames at nodes e o a n = rw (e, o, a, n) refl
 
 -- steps up to a reader, by its fields
-pub to_spot : {first : Spot} (bytes : List ℕ) (reader : Reader) (expects : made_expected.Expected) (frames : List Frame) (at : ℕ) (nodes : List Node) → reader.expected ≡ expects → reader.opened ≡ frames → reader.at ≡ at
-    → reader.nodes.items ≡ nodes → Steps first (spot (state_of expects frames) (drop at bytes) (streamed bytes nodes ++ calls_before expects frames)) → Steps first (spot_of bytes reader)
-to_spot {first = first} bytes reader expects frames at nodes e o a n s = subst (Steps first) (sym (spot_is bytes reader expects frames at nodes e o a n)) s
+pub to_spot : {first : Spot} (bytes : List ℕ) (reader : Reader) (expects : made_expected.Expected) (frames : List OpenItem) (at : ℕ) (nodes : List Node) → reader.expected ≡ expects → reader.opened ≡ frames → reader.at ≡ at
+    → reader.nodes.items ≡ nodes → ItemSteps first (spot (item_state_of expects frames) (drop at bytes) (streamed_items bytes nodes ++ calls_before expects frames)) → ItemSteps first (spot_of bytes reader)
+to_spot {first = first} bytes reader expects frames at nodes e o a n s = subst (ItemSteps first) (sym (spot_is bytes reader expects frames at nodes e o a n)) s
 
 -- steps from a reader on, by its fields
 pub from_spot : {last : Spot} (bytes : List ℕ) (reader : Reader) (expects : made_expected.Expected) → reader.expected ≡ expects
-    → Steps (spot (state_of expects reader.opened) (drop reader.at bytes) (streamed bytes reader.nodes.items ++ calls_before expects reader.opened)) last → Steps (spot_of bytes reader) last
-from_spot {last = last} bytes reader expects e s = subst (λ x. Steps x last) (sym (spot_is bytes reader expects reader.opened reader.at reader.nodes.items e refl refl refl)) s
+    → ItemSteps (spot (item_state_of expects reader.opened) (drop reader.at bytes) (streamed_items bytes reader.nodes.items ++ calls_before expects reader.opened)) last → ItemSteps (spot_of bytes reader) last
+from_spot {last = last} bytes reader expects e s = subst (λ x. ItemSteps x last) (sym (spot_is bytes reader expects reader.opened reader.at reader.nodes.items e refl refl refl)) s
 
 pub stuck_at : (bytes : List ℕ) (reader : Reader) (expects : made_expected.Expected) → reader.expected ≡ expects
-    → IsStuck (spot (state_of expects reader.opened) (drop reader.at bytes) (streamed bytes reader.nodes.items ++ calls_before expects reader.opened)) → IsStuck (spot_of bytes reader)
+    → IsStuck (spot (item_state_of expects reader.opened) (drop reader.at bytes) (streamed_items bytes reader.nodes.items ++ calls_before expects reader.opened)) → IsStuck (spot_of bytes reader)
 stuck_at bytes reader expects e s = subst IsStuck (sym (spot_is bytes reader expects reader.opened reader.at reader.nodes.items e refl refl refl)) s
 
 pub makes_at : (bytes : List ℕ) (reader : Reader) (expects : made_expected.Expected) → reader.expected ≡ expects
-    → Makes (spot (state_of expects reader.opened) (drop reader.at bytes) (streamed bytes reader.nodes.items ++ calls_before expects reader.opened)) → Makes (spot_of bytes reader)
-makes_at bytes reader expects e s = subst Makes (sym (spot_is bytes reader expects reader.opened reader.at reader.nodes.items e refl refl refl)) s
+    → MakesSomeCall (spot (item_state_of expects reader.opened) (drop reader.at bytes) (streamed_items bytes reader.nodes.items ++ calls_before expects reader.opened)) → MakesSomeCall (spot_of bytes reader)
+makes_at bytes reader expects e s = subst MakesSomeCall (sym (spot_is bytes reader expects reader.opened reader.at reader.nodes.items e refl refl refl)) s
 
 -- where calls were made
-pub makes_calls : {first : Spot} (state : State) (left : List ℕ) (made calls : List Call) → Steps first (spot state left (made ++ calls)) → 0 < length calls → Makes first
+pub makes_calls : {first : Spot} (state : ItemState) (left : List ℕ) (made calls : List Call) → ItemSteps first (spot state left (made ++ calls)) → 0 < length calls → MakesSomeCall first
 makes_calls state left made calls s l = record { second = spot state left (made ++ calls); steps = s; some = omega (arith, length-append made calls) }
 
 -- ---- items
 
 -- what is kept, where a node was added that stands in the bytes
-kept_by : (bytes : List ℕ) (old new : Reader) (k : made_kind.Kind) (place : Place) (at : ℕ) → new.nodes.items ≡ old.nodes.items ++ (node_of k place at ∷ []) → Stands k (drop at bytes)
-    → AreKept bytes old.nodes.items → AreKept bytes new.nodes.items
-kept_by bytes old new k place at e s all = subst (AreKept bytes) (sym e) (kept-add bytes old.nodes.items k place at all s)
+kept_by : (bytes : List ℕ) (old new : Reader) (k : made_kind.Kind) (place : Place) (at : ℕ) → new.nodes.items ≡ old.nodes.items ++ (item_node k place at ∷ []) → NodeBegins k (drop at bytes)
+    → NodesStand bytes old.nodes.items → NodesStand bytes new.nodes.items
+kept_by bytes old new k place at e s all = subst (NodesStand bytes) (sym e) (kept-add bytes old.nodes.items k place at all s)
 
 module _ (bytes : List ℕ) (old new : Reader) (at : ℕ) where
   -- the calls before an item, and those that it begins with
   abbrev made_with : made_item.Item → List Call
-  made_with begun = streamed bytes old.nodes.items ++ place_begins (place_in old.opened) ++ begin_calls begun bytes (item_step (drop old.at bytes) [])
+  made_with begun = streamed_items bytes old.nodes.items ++ item_place_begins (item_place_in old.opened) ++ item_begin_calls begun bytes (item_step (drop old.at bytes) [])
 
-  steps_on : {first : Spot} (begun : made_item.Item) → old.expected ≡ expected.AnItem → Steps first (spot (state_behind begun old.opened) (drop at bytes) (made_with begun)) → KeepsItem old begun at new
-      → Steps first (spot_of bytes new)
+  steps_on : {first : Spot} (begun : made_item.Item) → old.expected ≡ expected.AnItem → ItemSteps first (spot (state_behind begun old.opened) (drop at bytes) (made_with begun)) → KeepsItem old begun at new
+      → ItemSteps first (spot_of bytes new)
   steps_on item.Whole e s k =
-      to_spot bytes new (expected_after old.opened) (opened_after old.opened) at (old.nodes.items ++ (node_of kind.Item (place_in old.opened) old.at ∷ [])) k.expected_is k.opened_is k.at_is k.nodes_are
-      (ends_with bytes old.opened old.nodes.items kind.Item old.at (place_begins (place_in old.opened)) refl refl s)
+      to_spot bytes new (expected_after old.opened) (opened_after old.opened) at (old.nodes.items ++ (item_node kind.Item (item_place_in old.opened) old.at ∷ [])) k.expected_is k.opened_is k.at_is k.nodes_are
+      (ends_with bytes old.opened old.nodes.items kind.Item old.at (item_place_begins (item_place_in old.opened)) refl refl s)
   steps_on (item.Big from) e s k =
-      to_spot bytes new (expected_after old.opened) (opened_after old.opened) at (old.nodes.items ++ (node_of kind.Big (place_in old.opened) from ∷ [])) k.expected_is k.opened_is k.at_is k.nodes_are
-      (ends_with bytes old.opened old.nodes.items kind.Big from (place_begins (place_in old.opened)) refl refl s)
+      to_spot bytes new (expected_after old.opened) (opened_after old.opened) at (old.nodes.items ++ (item_node kind.Big (item_place_in old.opened) from ∷ [])) k.expected_is k.opened_is k.at_is k.nodes_are
+      (ends_with bytes old.opened old.nodes.items kind.Big from (item_place_begins (item_place_in old.opened)) refl refl s)
   steps_on (item.NegativeBig from) e s k =
-      to_spot bytes new (expected_after old.opened) (opened_after old.opened) at (old.nodes.items ++ (node_of kind.NegativeBig (place_in old.opened) from ∷ [])) k.expected_is k.opened_is k.at_is k.nodes_are
-      (ends_with bytes old.opened old.nodes.items kind.NegativeBig from (place_begins (place_in old.opened)) refl refl s)
+      to_spot bytes new (expected_after old.opened) (opened_after old.opened) at (old.nodes.items ++ (item_node kind.NegativeBig (item_place_in old.opened) from ∷ [])) k.expected_is k.opened_is k.at_is k.nodes_are
+      (ends_with bytes old.opened old.nodes.items kind.NegativeBig from (item_place_begins (item_place_in old.opened)) refl refl s)
   steps_on (item.Container frame) e s k =
-      to_spot bytes new expected.APart (frame_of frame ∷ old.opened) at (old.nodes.items ++ (node_of kind.Begin (place_in old.opened) old.at ∷ [])) k.expected_is k.opened_is k.at_is k.nodes_are
-      (begins_with bytes old.nodes.items kind.Begin (place_in old.opened) old.at (place_begins (place_in old.opened)) refl refl s)
+      to_spot bytes new expected.APart (frame_of frame ∷ old.opened) at (old.nodes.items ++ (item_node kind.Begin (item_place_in old.opened) old.at ∷ [])) k.expected_is k.opened_is k.at_is k.nodes_are
+      (begins_with bytes old.nodes.items kind.Begin (item_place_in old.opened) old.at (item_place_begins (item_place_in old.opened)) refl refl s)
   steps_on (item.Pieces medium) e s k =
-      to_spot bytes new (expected.APiece medium) old.opened at (old.nodes.items ++ (node_of kind.Begin (place_in old.opened) old.at ∷ [])) k.expected_is k.opened_is k.at_is k.nodes_are
-      (begins_with bytes old.nodes.items kind.Begin (place_in old.opened) old.at (place_begins (place_in old.opened)) refl refl s)
+      to_spot bytes new (expected.APiece medium) old.opened at (old.nodes.items ++ (item_node kind.Begin (item_place_in old.opened) old.at ∷ [])) k.expected_is k.opened_is k.at_is k.nodes_are
+      (begins_with bytes old.nodes.items kind.Begin (item_place_in old.opened) old.at (item_place_begins (item_place_in old.opened)) refl refl s)
   steps_on item.Tag e s k =
       to_spot bytes new expected.AnItem old.opened at old.nodes.items (k.expected_is ∙ e) k.opened_is k.at_is k.nodes_are
-      (with_made (append-nil (streamed bytes old.nodes.items ++ place_begins (place_in old.opened))) s)
+      (with_made (append-nil (streamed_items bytes old.nodes.items ++ item_place_begins (item_place_in old.opened))) s)
 
-  all_kept : (begun : made_item.Item) → IsBegun begun bytes (item_step (drop old.at bytes) []) → KeepsItem old begun at new → AreKept bytes old.nodes.items → AreKept bytes new.nodes.items
-  all_kept item.Whole s k all = kept_by bytes old new kind.Item (place_in old.opened) old.at k.nodes_are s all
-  all_kept (item.Big from) s k all = kept_by bytes old new kind.Big (place_in old.opened) from k.nodes_are s all
-  all_kept (item.NegativeBig from) s k all = kept_by bytes old new kind.NegativeBig (place_in old.opened) from k.nodes_are s all
-  all_kept (item.Container frame) s k all = kept_by bytes old new kind.Begin (place_in old.opened) old.at k.nodes_are s all
-  all_kept (item.Pieces medium) s k all = kept_by bytes old new kind.Begin (place_in old.opened) old.at k.nodes_are s all
-  all_kept item.Tag s k all = subst (AreKept bytes) (sym k.nodes_are) all
+  all_kept : (begun : made_item.Item) → IsBegun begun bytes (item_step (drop old.at bytes) []) → KeepsItem old begun at new → NodesStand bytes old.nodes.items → NodesStand bytes new.nodes.items
+  all_kept item.Whole s k all = kept_by bytes old new kind.Item (item_place_in old.opened) old.at k.nodes_are s all
+  all_kept (item.Big from) s k all = kept_by bytes old new kind.Big (item_place_in old.opened) from k.nodes_are s all
+  all_kept (item.NegativeBig from) s k all = kept_by bytes old new kind.NegativeBig (item_place_in old.opened) from k.nodes_are s all
+  all_kept (item.Container frame) s k all = kept_by bytes old new kind.Begin (item_place_in old.opened) old.at k.nodes_are s all
+  all_kept (item.Pieces medium) s k all = kept_by bytes old new kind.Begin (item_place_in old.opened) old.at k.nodes_are s all
+  all_kept item.Tag s k all = subst (NodesStand bytes) (sym k.nodes_are) all
 
   at_kept : (begun : made_item.Item) → KeepsItem old begun at new → at ≤ length bytes → new.at ≤ length bytes
   at_kept item.Whole k w = let a = k.at_is in omega arith
@@ -111,96 +111,96 @@ module _ (bytes : List ℕ) (old new : Reader) (at : ℕ) where
   at_kept item.Tag k w = let a = k.at_is in omega arith
 
 -- the begin of an item
-pub item_goes_on : (bytes : List ℕ) (old new : Reader) (begun : Begun) → old.expected ≡ expected.AnItem → Begins bytes old.at begun → Keeps old begun new → ReadsOn bytes old new true
+pub item_goes_on : (bytes : List ℕ) (old new : Reader) (begun : Begun) → old.expected ≡ expected.AnItem → Begins bytes old.at begun → KeepsNode old begun new → ReadsItemsOn bytes old new true
 item_goes_on bytes old new begun e b k = record {
-  goes = from_spot bytes old expected.AnItem e (steps_on bytes old new begun.next begun.item e (b.leads old.opened (streamed bytes old.nodes.items ++ place_begins (place_in old.opened))) k);
+  goes = from_spot bytes old expected.AnItem e (steps_on bytes old new begun.next begun.item e (b.leads old.opened (streamed_items bytes old.nodes.items ++ item_place_begins (item_place_in old.opened))) k);
   within = at_kept bytes old new begun.next begun.item k b.within;
   kept = all_kept bytes old new begun.next begun.item b.is k;
 }
 
-pub item_stuck : (bytes : List ℕ) (old new : Reader) → old.expected ≡ expected.AnItem → old.at ≤ length bytes → new ≡ old → BeginsNothing bytes old.at → ReadsOn bytes old new false
+pub item_stuck : (bytes : List ℕ) (old new : Reader) → old.expected ≡ expected.AnItem → old.at ≤ length bytes → new ≡ old → BeginsNothing bytes old.at → ReadsItemsOn bytes old new false
 item_stuck bytes old new e w same b = record {
-  goes = stuck_at bytes old expected.AnItem e (b old.opened (streamed bytes old.nodes.items ++ place_begins (place_in old.opened)));
+  goes = stuck_at bytes old expected.AnItem e (b old.opened (streamed_items bytes old.nodes.items ++ item_place_begins (item_place_in old.opened)));
   within = subst (λ r. r.at ≤ length bytes) (sym same) w;
-  kept = λ all. subst (λ r. AreKept bytes r.nodes.items) (sym same) all;
+  kept = λ all. subst (λ r. NodesStand bytes r.nodes.items) (sym same) all;
 }
 
-pub item_makes : (bytes : List ℕ) (old : Reader) (begun : Begun) → old.expected ≡ expected.AnItem → Begins bytes old.at begun → IsNoTag begun.item → Makes (spot_of bytes old)
+pub item_makes : (bytes : List ℕ) (old : Reader) (begun : Begun) → old.expected ≡ expected.AnItem → Begins bytes old.at begun → IsNoTag begun.item → MakesSomeCall (spot_of bytes old)
 item_makes bytes old begun e b n =
-    let calls = begin_calls begun.item bytes (item_step (drop old.at bytes) []) in
-    makes_at bytes old expected.AnItem e (makes_calls (state_behind begun.item old.opened) (drop begun.next bytes) (streamed bytes old.nodes.items ++ place_begins (place_in old.opened)) calls
-    (b.leads old.opened (streamed bytes old.nodes.items ++ place_begins (place_in old.opened))) (begin_some begun.item bytes (item_step (drop old.at bytes) []) b.is n))
+    let calls = item_begin_calls begun.item bytes (item_step (drop old.at bytes) []) in
+    makes_at bytes old expected.AnItem e (makes_calls (state_behind begun.item old.opened) (drop begun.next bytes) (streamed_items bytes old.nodes.items ++ item_place_begins (item_place_in old.opened)) calls
+    (b.leads old.opened (streamed_items bytes old.nodes.items ++ item_place_begins (item_place_in old.opened))) (begin_some begun.item bytes (item_step (drop old.at bytes) []) b.is n))
 
 -- ---- parts of arrays and maps
 
 module _ (bytes : List ℕ) (old : Reader) (is : old.expected ≡ expected.APart) where
   -- the next part begins
-  pub part_begins : (new : Reader) (frame next : Frame) (rest : List Frame) → old.opened ≡ frame ∷ rest
-      → part_step (drop old.at bytes) (frame ∷ rest) ≡ moves (place_begins (place_in (next ∷ rest))) (drop old.at bytes) (Item (next ∷ rest)) → old.at ≤ length bytes → BeginsPart old next new → ReadsOn bytes old new true
+  pub part_begins : (new : Reader) (frame next : OpenItem) (rest : List OpenItem) → old.opened ≡ frame ∷ rest
+      → part_step (drop old.at bytes) (frame ∷ rest) ≡ moves (item_place_begins (item_place_in (next ∷ rest))) (drop old.at bytes) (Item (next ∷ rest)) → old.at ≤ length bytes → BeginsPart old next new → ReadsItemsOn bytes old new true
   part_begins new frame next rest o e w k = record {
     goes =
         from_spot bytes old expected.APart is
         (to_spot bytes new expected.AnItem (next ∷ rest) old.at old.nodes.items k.expected_is (k.opened_is ∙ ap (changed next) o) k.at_is k.nodes_are
-        (with_made (ap (λ x. x ++ place_begins (place_in (next ∷ rest))) (append-nil (streamed bytes old.nodes.items))) (one_step (ap (part_step (drop old.at bytes)) o ∙ e))));
+        (with_made (ap (λ x. x ++ item_place_begins (item_place_in (next ∷ rest))) (append-nil (streamed_items bytes old.nodes.items))) (one_step (ap (part_step (drop old.at bytes)) o ∙ e))));
     within = let a = k.at_is in omega arith;
-    kept = λ all. subst (AreKept bytes) (sym k.nodes_are) all;
+    kept = λ all. subst (NodesStand bytes) (sym k.nodes_are) all;
   }
 
   -- the array or map ends with this node
-  pub part_ends : (new : Reader) (k : made_kind.Kind) (next : ℕ) → part_step (drop old.at bytes) old.opened ≡ moves (own_calls k (drop old.at bytes)) (drop next bytes) (Ended (around old.opened))
-      → begins_before k (place_in (around old.opened)) ≡ [] → ends_behind k (place_in (around old.opened)) ≡ place_ends (place_in (around old.opened)) → Stands k (drop old.at bytes) → next ≤ length bytes
-      → EndsItem (around old.opened) old (node_of k (place_in (around old.opened)) old.at) next new → ReadsOn bytes old new true
+  pub part_ends : (new : Reader) (k : made_kind.Kind) (next : ℕ) → part_step (drop old.at bytes) old.opened ≡ moves (node_own_calls k (drop old.at bytes)) (drop next bytes) (Ended (around_frame old.opened))
+      → item_begins_before k (item_place_in (around_frame old.opened)) ≡ [] → item_ends_behind k (item_place_in (around_frame old.opened)) ≡ item_place_ends (item_place_in (around_frame old.opened)) → NodeBegins k (drop old.at bytes) → next ≤ length bytes
+      → EndsItem (around_frame old.opened) old (item_node k (item_place_in (around_frame old.opened)) old.at) next new → ReadsItemsOn bytes old new true
   part_ends new k next e b f s w ends = record {
     goes =
         from_spot bytes old expected.APart is
-        (to_spot bytes new (expected_after (around old.opened)) (opened_after (around old.opened)) next (old.nodes.items ++ (node_of k (place_in (around old.opened)) old.at ∷ [])) ends.expected_is ends.opened_is ends.at_is
-        ends.nodes_are (ends_with bytes (around old.opened) old.nodes.items k old.at [] b f (one_step e)));
+        (to_spot bytes new (expected_after (around_frame old.opened)) (opened_after (around_frame old.opened)) next (old.nodes.items ++ (item_node k (item_place_in (around_frame old.opened)) old.at ∷ [])) ends.expected_is ends.opened_is ends.at_is
+        ends.nodes_are (ends_with bytes (around_frame old.opened) old.nodes.items k old.at [] b f (one_step e)));
     within = let a = ends.at_is in omega arith;
-    kept = kept_by bytes old new k (place_in (around old.opened)) old.at ends.nodes_are s;
+    kept = kept_by bytes old new k (item_place_in (around_frame old.opened)) old.at ends.nodes_are s;
   }
 
-  pub part_makes : (k : made_kind.Kind) (next : ℕ) → part_step (drop old.at bytes) old.opened ≡ moves (own_calls k (drop old.at bytes)) (drop next bytes) (Ended (around old.opened)) → Stands k (drop old.at bytes)
-      → Makes (spot_of bytes old)
+  pub part_makes : (k : made_kind.Kind) (next : ℕ) → part_step (drop old.at bytes) old.opened ≡ moves (node_own_calls k (drop old.at bytes)) (drop next bytes) (Ended (around_frame old.opened)) → NodeBegins k (drop old.at bytes)
+      → MakesSomeCall (spot_of bytes old)
   part_makes k next e s =
       makes_at bytes old expected.APart is
-      (makes_calls (Ended (around old.opened)) (drop next bytes) (streamed bytes old.nodes.items ++ []) (own_calls k (drop old.at bytes)) (one_step e) (own_some k (drop old.at bytes) s))
+      (makes_calls (Ended (around_frame old.opened)) (drop next bytes) (streamed_items bytes old.nodes.items ++ []) (node_own_calls k (drop old.at bytes)) (one_step e) (own_some k (drop old.at bytes) s))
 
-  pub part_stuck : part_step (drop old.at bytes) old.opened ≡ None → old.at ≤ length bytes → ReadsOn bytes old old false
+  pub part_stuck : part_step (drop old.at bytes) old.opened ≡ None → old.at ≤ length bytes → ReadsItemsOn bytes old old false
   part_stuck e w = record {
-    goes = stuck_at bytes old expected.APart is (λ start reached tree is_item. stops_badly start (drop old.at bytes) (Part old.opened) (streamed bytes old.nodes.items ++ []) reached e (λ end. let f = end.0 in cc f) tree is_item);
+    goes = stuck_at bytes old expected.APart is (λ start reached tree is_item. stops_badly start (drop old.at bytes) (Part old.opened) (streamed_items bytes old.nodes.items ++ []) reached e (λ end. let f = end.0 in cc f) tree is_item);
     within = w;
     kept = λ all. all;
   }
 
 -- what follows in an array
-pub seq_ends : (left : Option ℕ) (bytes : List ℕ) (at next : ℕ) (frames rest : List Frame) → frames ≡ Items left ∷ rest → Follows left bytes at (End next)
-    → part_step (drop at bytes) frames ≡ moves (Call.End calls.Seq ∷ []) (drop next bytes) (Ended (around frames))
+pub seq_ends : (left : Option ℕ) (bytes : List ℕ) (at next : ℕ) (frames rest : List OpenItem) → frames ≡ Items left ∷ rest → Follows left bytes at (End next)
+    → part_step (drop at bytes) frames ≡ moves (Call.End calls.Seq ∷ []) (drop next bytes) (Ended (around_frame frames))
 seq_ends left bytes at next frames rest o (f, l, k) =
     ap (part_step (drop at bytes)) o ∙ f (λ more. moves (Call.PartBegin calls.Item ∷ []) (drop at bytes) (Item (Items more ∷ rest))) (λ after. moves (Call.End calls.Seq ∷ []) after (Ended rest))
-    ∙ ap (λ x. moves (Call.End calls.Seq ∷ []) (drop next bytes) (Ended (around x))) (sym o)
+    ∙ ap (λ x. moves (Call.End calls.Seq ∷ []) (drop next bytes) (Ended (around_frame x))) (sym o)
 
-pub seq_stuck : (left : Option ℕ) (bytes : List ℕ) (at : ℕ) (frames rest : List Frame) → frames ≡ Items left ∷ rest → Follows left bytes at Nothing → part_step (drop at bytes) frames ≡ None
+pub seq_stuck : (left : Option ℕ) (bytes : List ℕ) (at : ℕ) (frames rest : List OpenItem) → frames ≡ Items left ∷ rest → Follows left bytes at Nothing → part_step (drop at bytes) frames ≡ None
 seq_stuck left bytes at frames rest o f =
     ap (part_step (drop at bytes)) o ∙ f (moves (Call.End calls.Seq ∷ []) (drop at bytes) (Ended rest)) (λ more. moves (Call.PartBegin calls.Item ∷ []) (drop at bytes) (Item (Items more ∷ rest))) (λ after. moves (Call.End calls.Seq ∷ []) after (Ended rest))
 
-pub seq_begins : (left more : Option ℕ) (bytes : List ℕ) (at : ℕ) (rest : List Frame) → Follows left bytes at (Another more)
-    → part_step (drop at bytes) (Items left ∷ rest) ≡ moves (place_begins (place_in (Items more ∷ rest))) (drop at bytes) (Item (Items more ∷ rest))
+pub seq_begins : (left more : Option ℕ) (bytes : List ℕ) (at : ℕ) (rest : List OpenItem) → Follows left bytes at (Another more)
+    → part_step (drop at bytes) (Items left ∷ rest) ≡ moves (item_place_begins (item_place_in (Items more ∷ rest))) (drop at bytes) (Item (Items more ∷ rest))
 seq_begins left more bytes at rest f =
     f (moves (Call.End calls.Seq ∷ []) (drop at bytes) (Ended rest)) (λ more. moves (Call.PartBegin calls.Item ∷ []) (drop at bytes) (Item (Items more ∷ rest))) (λ after. moves (Call.End calls.Seq ∷ []) after (Ended rest))
 
 -- what follows in a map
-pub map_ends : (left : Option ℕ) (bytes : List ℕ) (at next : ℕ) (frames rest : List Frame) → frames ≡ Keys left ∷ rest → Follows left bytes at (End next)
-    → part_step (drop at bytes) frames ≡ moves (Call.End calls.Map ∷ []) (drop next bytes) (Ended (around frames))
+pub map_ends : (left : Option ℕ) (bytes : List ℕ) (at next : ℕ) (frames rest : List OpenItem) → frames ≡ Keys left ∷ rest → Follows left bytes at (End next)
+    → part_step (drop at bytes) frames ≡ moves (Call.End calls.Map ∷ []) (drop next bytes) (Ended (around_frame frames))
 map_ends left bytes at next frames rest o (f, l, k) =
     ap (part_step (drop at bytes)) o ∙ f (λ more. moves (Call.PartBegin calls.Key ∷ []) (drop at bytes) (Item (Keys more ∷ rest))) (λ after. moves (Call.End calls.Map ∷ []) after (Ended rest))
-    ∙ ap (λ x. moves (Call.End calls.Map ∷ []) (drop next bytes) (Ended (around x))) (sym o)
+    ∙ ap (λ x. moves (Call.End calls.Map ∷ []) (drop next bytes) (Ended (around_frame x))) (sym o)
 
-pub map_stuck : (left : Option ℕ) (bytes : List ℕ) (at : ℕ) (frames rest : List Frame) → frames ≡ Keys left ∷ rest → Follows left bytes at Nothing → part_step (drop at bytes) frames ≡ None
+pub map_stuck : (left : Option ℕ) (bytes : List ℕ) (at : ℕ) (frames rest : List OpenItem) → frames ≡ Keys left ∷ rest → Follows left bytes at Nothing → part_step (drop at bytes) frames ≡ None
 map_stuck left bytes at frames rest o f =
     ap (part_step (drop at bytes)) o ∙ f (moves (Call.End calls.Map ∷ []) (drop at bytes) (Ended rest)) (λ more. moves (Call.PartBegin calls.Key ∷ []) (drop at bytes) (Item (Keys more ∷ rest))) (λ after. moves (Call.End calls.Map ∷ []) after (Ended rest))
 
-pub map_begins : (left more : Option ℕ) (bytes : List ℕ) (at : ℕ) (rest : List Frame) → Follows left bytes at (Another more)
-    → part_step (drop at bytes) (Keys left ∷ rest) ≡ moves (place_begins (place_in (Keys more ∷ rest))) (drop at bytes) (Item (Keys more ∷ rest))
+pub map_begins : (left more : Option ℕ) (bytes : List ℕ) (at : ℕ) (rest : List OpenItem) → Follows left bytes at (Another more)
+    → part_step (drop at bytes) (Keys left ∷ rest) ≡ moves (item_place_begins (item_place_in (Keys more ∷ rest))) (drop at bytes) (Item (Keys more ∷ rest))
 map_begins left more bytes at rest f =
     f (moves (Call.End calls.Map ∷ []) (drop at bytes) (Ended rest)) (λ more. moves (Call.PartBegin calls.Key ∷ []) (drop at bytes) (Item (Keys more ∷ rest))) (λ after. moves (Call.End calls.Map ∷ []) after (Ended rest))
 
@@ -209,94 +209,94 @@ map_begins left more bytes at rest f =
 module _ (bytes : List ℕ) (old : Reader) (medium : made_medium.Medium) (is : old.expected ≡ expected.APiece medium) where
   -- the step of a piece
   piece_is : (content : List ℕ) (next : ℕ) → IsStringAt (major_of medium) bytes old.at content next
-      → (own_calls (piece_of medium) (drop old.at bytes) ≡ fragment (major_of medium) content ∷ []) × Stands (piece_of medium) (drop old.at bytes)
+      → (node_own_calls (chunk_kind_of medium) (drop old.at bytes) ≡ fragment_call (major_of medium) content ∷ []) × NodeBegins (chunk_kind_of medium) (drop old.at bytes)
   piece_is content next s = by_medium medium s.stands
     where
-      goes_by : (major : ℕ) → IsString major (drop old.at bytes) content (drop next bytes) → piece_calls major (drop old.at bytes) ≡ fragment major content ∷ []
-      goes_by major t = ap step_calls (piece_goes major (drop old.at bytes) content (drop next bytes) (λ piece left. moves (fragment major piece ∷ []) left (Ended [])) t)
+      goes_by : (major : ℕ) → IsDefiniteString major (drop old.at bytes) content (drop next bytes) → piece_calls major (drop old.at bytes) ≡ fragment_call major content ∷ []
+      goes_by major t = ap step_calls (piece_goes major (drop old.at bytes) content (drop next bytes) (λ piece left. moves (fragment_call major piece ∷ []) left (Ended [])) t)
 
-      some_by : (major : ℕ) → IsString major (drop old.at bytes) content (drop next bytes) → 0 < length (piece_calls major (drop old.at bytes))
-      some_by major t = subst (λ x. 0 < length x) (sym (goes_by major t)) (let l : 0 < length (fragment major content ∷ []) = omega arith in l)
+      some_by : (major : ℕ) → IsDefiniteString major (drop old.at bytes) content (drop next bytes) → 0 < length (piece_calls major (drop old.at bytes))
+      some_by major t = subst (λ x. 0 < length x) (sym (goes_by major t)) (let l : 0 < length (fragment_call major content ∷ []) = omega arith in l)
 
-      by_medium : (m : made_medium.Medium) → IsString (major_of m) (drop old.at bytes) content (drop next bytes)
-          → (own_calls (piece_of m) (drop old.at bytes) ≡ fragment (major_of m) content ∷ []) × Stands (piece_of m) (drop old.at bytes)
+      by_medium : (m : made_medium.Medium) → IsDefiniteString (major_of m) (drop old.at bytes) content (drop next bytes)
+          → (node_own_calls (chunk_kind_of m) (drop old.at bytes) ≡ fragment_call (major_of m) content ∷ []) × NodeBegins (chunk_kind_of m) (drop old.at bytes)
       by_medium media.Text t = (goes_by 3 t, some_by 3 t)
       by_medium media.Binary t = (goes_by 2 t, some_by 2 t)
 
   piece_step_is : (content : List ℕ) (next : ℕ) → IsStringAt (major_of medium) bytes old.at content next
-      → step (Pieces (major_of medium) old.opened) (drop old.at bytes) ≡ moves (own_calls (piece_of medium) (drop old.at bytes)) (drop next bytes) (Pieces (major_of medium) old.opened)
+      → reading_step (Pieces (major_of medium) old.opened) (drop old.at bytes) ≡ moves (node_own_calls (chunk_kind_of medium) (drop old.at bytes)) (drop next bytes) (Pieces (major_of medium) old.opened)
   piece_step_is content next s =
       piece_read (major_of medium) (drop old.at bytes) content (drop next bytes) old.opened s.stands
       ∙ ap (λ x. moves x (drop next bytes) (Pieces (major_of medium) old.opened)) (sym (piece_is content next s).0)
 
   -- a piece stands in no part
-  no_begin : (m : made_medium.Medium) (place : Place) → begins_before (piece_of m) place ≡ []
+  no_begin : (m : made_medium.Medium) (place : Place) → item_begins_before (chunk_kind_of m) place ≡ []
   no_begin media.Text place = refl
   no_begin media.Binary place = refl
 
-  no_end : (m : made_medium.Medium) (place : Place) → ends_behind (piece_of m) place ≡ []
+  no_end : (m : made_medium.Medium) (place : Place) → item_ends_behind (chunk_kind_of m) place ≡ []
   no_end media.Text place = refl
   no_end media.Binary place = refl
 
   -- a piece
   pub piece_goes_on : (new : Reader) (content : List ℕ) (next : ℕ) → IsStringAt (major_of medium) bytes old.at content next
-      → Adds old (node_of (piece_of medium) (place_in old.opened) old.at) next (expected.APiece medium) new → ReadsOn bytes old new true
+      → AddsItemNode old (item_node (chunk_kind_of medium) (item_place_in old.opened) old.at) next (expected.APiece medium) new → ReadsItemsOn bytes old new true
   piece_goes_on new content next s k = record {
     goes =
         from_spot bytes old (expected.APiece medium) is
-        (to_spot bytes new (expected.APiece medium) old.opened next (old.nodes.items ++ (node_of (piece_of medium) (place_in old.opened) old.at ∷ [])) k.expected_is k.opened_is k.at_is k.nodes_are
-        (begins_with bytes old.nodes.items (piece_of medium) (place_in old.opened) old.at [] (no_begin medium (place_in old.opened)) (no_end medium (place_in old.opened)) (one_step (piece_step_is content next s))));
+        (to_spot bytes new (expected.APiece medium) old.opened next (old.nodes.items ++ (item_node (chunk_kind_of medium) (item_place_in old.opened) old.at ∷ [])) k.expected_is k.opened_is k.at_is k.nodes_are
+        (begins_with bytes old.nodes.items (chunk_kind_of medium) (item_place_in old.opened) old.at [] (no_begin medium (item_place_in old.opened)) (no_end medium (item_place_in old.opened)) (one_step (piece_step_is content next s))));
     within = let a = k.at_is in let w = s.within in omega arith;
-    kept = kept_by bytes old new (piece_of medium) (place_in old.opened) old.at k.nodes_are (piece_is content next s).1;
+    kept = kept_by bytes old new (chunk_kind_of medium) (item_place_in old.opened) old.at k.nodes_are (piece_is content next s).1;
   }
 
-  pub piece_makes : (content : List ℕ) (next : ℕ) → IsStringAt (major_of medium) bytes old.at content next → Makes (spot_of bytes old)
+  pub piece_makes : (content : List ℕ) (next : ℕ) → IsStringAt (major_of medium) bytes old.at content next → MakesSomeCall (spot_of bytes old)
   piece_makes content next s =
       makes_at bytes old (expected.APiece medium) is
-      (makes_calls (Pieces (major_of medium) old.opened) (drop next bytes) (streamed bytes old.nodes.items ++ []) (own_calls (piece_of medium) (drop old.at bytes)) (one_step (piece_step_is content next s))
-      (own_some (piece_of medium) (drop old.at bytes) (piece_is content next s).1))
+      (makes_calls (Pieces (major_of medium) old.opened) (drop next bytes) (streamed_items bytes old.nodes.items ++ []) (node_own_calls (chunk_kind_of medium) (drop old.at bytes)) (one_step (piece_step_is content next s))
+      (own_some (chunk_kind_of medium) (drop old.at bytes) (piece_is content next s).1))
 
   -- the break
   break_is : old.at < length bytes → get_or bytes old.at 0 ≡ 255
-      → step (Pieces (major_of medium) old.opened) (drop old.at bytes) ≡ moves (own_calls (end_of medium) (drop old.at bytes)) (drop (old.at + 1) bytes) (Ended old.opened)
+      → reading_step (Pieces (major_of medium) old.opened) (drop old.at bytes) ≡ moves (node_own_calls (end_kind_of medium) (drop old.at bytes)) (drop (old.at + 1) bytes) (Ended old.opened)
   break_is l e =
       ap (λ x. piece_step (major_of medium) x old.opened) (bytes_at bytes old.at l ∙ ap (λ x. x ∷ drop (old.at + 1) bytes) e)
       ∙ ap (λ x. moves x (drop (old.at + 1) bytes) (Ended old.opened)) (end_calls medium)
     where
-      end_calls : (m : made_medium.Medium) → string_end (major_of m) ∷ [] ≡ own_calls (end_of m) (drop old.at bytes)
+      end_calls : (m : made_medium.Medium) → string_end (major_of m) ∷ [] ≡ node_own_calls (end_kind_of m) (drop old.at bytes)
       end_calls media.Text = refl
       end_calls media.Binary = refl
 
-  an_end_stands : (m : made_medium.Medium) → Stands (end_of m) (drop old.at bytes)
+  an_end_stands : (m : made_medium.Medium) → NodeBegins (end_kind_of m) (drop old.at bytes)
   an_end_stands media.Text = tt
   an_end_stands media.Binary = tt
 
-  pub pieces_end_with : (new : Reader) → old.at < length bytes → get_or bytes old.at 0 ≡ 255 → EndsItem old.opened old (node_of (end_of medium) (place_in old.opened) old.at) (old.at + 1) new → ReadsOn bytes old new true
+  pub pieces_end_with : (new : Reader) → old.at < length bytes → get_or bytes old.at 0 ≡ 255 → EndsItem old.opened old (item_node (end_kind_of medium) (item_place_in old.opened) old.at) (old.at + 1) new → ReadsItemsOn bytes old new true
   pieces_end_with new l e k = record {
     goes =
         from_spot bytes old (expected.APiece medium) is
-        (to_spot bytes new (expected_after old.opened) (opened_after old.opened) (old.at + 1) (old.nodes.items ++ (node_of (end_of medium) (place_in old.opened) old.at ∷ [])) k.expected_is k.opened_is k.at_is k.nodes_are
-        (ends_with bytes old.opened old.nodes.items (end_of medium) old.at [] (starts_none medium (place_in old.opened)) (an_end medium (place_in old.opened)) (one_step (break_is l e))));
+        (to_spot bytes new (expected_after old.opened) (opened_after old.opened) (old.at + 1) (old.nodes.items ++ (item_node (end_kind_of medium) (item_place_in old.opened) old.at ∷ [])) k.expected_is k.opened_is k.at_is k.nodes_are
+        (ends_with bytes old.opened old.nodes.items (end_kind_of medium) old.at [] (starts_none medium (item_place_in old.opened)) (an_end medium (item_place_in old.opened)) (one_step (break_is l e))));
     within = let a = k.at_is in omega arith;
-    kept = kept_by bytes old new (end_of medium) (place_in old.opened) old.at k.nodes_are (an_end_stands medium);
+    kept = kept_by bytes old new (end_kind_of medium) (item_place_in old.opened) old.at k.nodes_are (an_end_stands medium);
   }
     where
-      starts_none : (m : made_medium.Medium) (place : Place) → begins_before (end_of m) place ≡ []
+      starts_none : (m : made_medium.Medium) (place : Place) → item_begins_before (end_kind_of m) place ≡ []
       starts_none media.Text place = refl
       starts_none media.Binary place = refl
 
-      an_end : (m : made_medium.Medium) (place : Place) → ends_behind (end_of m) place ≡ place_ends place
+      an_end : (m : made_medium.Medium) (place : Place) → item_ends_behind (end_kind_of m) place ≡ item_place_ends place
       an_end media.Text place = refl
       an_end media.Binary place = refl
 
-  pub pieces_end_makes : old.at < length bytes → get_or bytes old.at 0 ≡ 255 → Makes (spot_of bytes old)
+  pub pieces_end_makes : old.at < length bytes → get_or bytes old.at 0 ≡ 255 → MakesSomeCall (spot_of bytes old)
   pieces_end_makes l e =
       makes_at bytes old (expected.APiece medium) is
-      (makes_calls (Ended old.opened) (drop (old.at + 1) bytes) (streamed bytes old.nodes.items ++ []) (own_calls (end_of medium) (drop old.at bytes)) (one_step (break_is l e))
-      (own_some (end_of medium) (drop old.at bytes) (an_end_stands medium)))
+      (makes_calls (Ended old.opened) (drop (old.at + 1) bytes) (streamed_items bytes old.nodes.items ++ []) (node_own_calls (end_kind_of medium) (drop old.at bytes)) (one_step (break_is l e))
+      (own_some (end_kind_of medium) (drop old.at bytes) (an_end_stands medium)))
 
   -- neither
-  pieces_stuck : ((content rest : List ℕ) → ArePieces (major_of medium) (drop old.at bytes) content rest → ⊥) → old.at ≤ length bytes → ReadsOn bytes old old false
+  pieces_stuck : ((content rest : List ℕ) → ArePieces (major_of medium) (drop old.at bytes) content rest → ⊥) → old.at ≤ length bytes → ReadsItemsOn bytes old old false
   pieces_stuck h w = record {
     goes =
         stuck_at bytes old (expected.APiece medium) is
@@ -305,8 +305,8 @@ module _ (bytes : List ℕ) (old : Reader) (medium : made_medium.Medium) (is : o
     kept = λ all. all;
   }
 
-  pub no_piece : old.at < length bytes → get_or bytes old.at 0 ≢ 255 → HasNoString (major_of medium) (drop old.at bytes) → ReadsOn bytes old old false
+  pub no_piece : old.at < length bytes → get_or bytes old.at 0 ≢ 255 → HasNoString (major_of medium) (drop old.at bytes) → ReadsItemsOn bytes old old false
   no_piece l n h = pieces_stuck (λ content rest p. no_first_piece (bytes_at bytes old.at l) n h p) (omega arith)
 
-  pub no_piece_left : length bytes ≤ old.at → old.at ≤ length bytes → ReadsOn bytes old old false
+  pub no_piece_left : length bytes ≤ old.at → old.at ≤ length bytes → ReadsItemsOn bytes old old false
   no_piece_left l w = pieces_stuck (λ content rest p. no_pieces_left (subst (λ x. ArePieces (major_of medium) x content rest) (nothing_at bytes old.at l) p)) w

@@ -13,7 +13,7 @@ use Rattle.sval_json.specs.Json as shape
 use Rattle.sval_json.specs.Number.{Refusal, InvalidKey, InvalidNumber}
 use Rattle.sval_json.specs.declared.style.Variants.TheVariants.{Inside}
 use Rattle.sval_json.specs.Shape.{on_ok, map_ok, key, shape as shape_of, items, pairs, json_of}
-use Rattle.sval_cbor_read.specs.Items.{Head, head, wide_head, head_of, negative_type, big_endian, IsString, string, ArePieces, break, piece, IsByteString, definite, in_pieces, IsItem, by_head, bytes_in_pieces, texts_in_pieces, seq_to_break, map_to_break, falsehood, truth, null, IsBody, unsigned, negative, binary, text, seq, map, big, negative_big, tagged, AreItems, no_items, an_item, AreEntries, no_pairs, a_pair, ItemsToBreak, items_end, items_go_on, EntriesToBreak, entries_end, entries_go_on, IsItemOf}
+use Rattle.sval_cbor_read.specs.Items.{ItemHead, head, wide_head, head_of, negative_type, big_endian, IsDefiniteString, string, ArePieces, break, piece, IsByteString, definite, in_pieces, IsItem, by_head, bytes_in_pieces, texts_in_pieces, seq_to_break, map_to_break, falsehood, truth, null, IsBody, unsigned, negative, binary, text, seq, map, big, negative_big, tagged, AreItems, no_items, an_item, AreEntries, no_pairs, a_pair, ItemsToBreak, items_end, items_go_on, EntriesToBreak, entries_end, entries_go_on, IsItemOf}
 use Rattle.sval_cbor_read.proofs.Heads.{all_front, all_after}
 use Rattle.sval_cbor_read.proofs.LeastHeads.{IsBoundedHead, head_bounded}
 use Rattle.sval_cbor_read.proofs.Complete.{item_is_read}
@@ -114,11 +114,11 @@ refused_by_key bytes tree why i e = is_key why (subst IsKeyRefusal e (shape_of_i
 
 -- ---- ranges
 
-abbrev AfterAreBytes : Option Head → Type 0
+abbrev AfterAreBytes : Option ItemHead → Type 0
 AfterAreBytes None = ⊤
 AfterAreBytes (Some (head major n after)) = AreBytes after
 
-after_wide : (b : Bool) (major n width : ℕ) (bytes : List ℕ) → AreBytes bytes → AfterAreBytes (let o : Option Head = if b then Some (head major n (drop width bytes)) else None in o)
+after_wide : (b : Bool) (major n width : ℕ) (bytes : List ℕ) → AreBytes bytes → AfterAreBytes (let o : Option ItemHead = if b then Some (head major n (drop width bytes)) else None in o)
 after_wide true major n width bytes h = all_after width bytes h
 after_wide false major n width bytes h = tt
 
@@ -127,7 +127,7 @@ unfolding head_of
 after_head [] h = tt
 after_head (first ∷ bytes) h = go (nat_lt (first % 32) 24) (first % 32 == 24) (first % 32 == 25) (first % 32 == 26) (first % 32 == 27)
   where
-    go : (a b c d f : Bool) → AfterAreBytes (let o : Option Head = if a then Some (head (first / 32) (first % 32) bytes) else if b then wide_head (first / 32) 1 bytes else if c then wide_head (first / 32) 2 bytes else if d then wide_head (first / 32) 4 bytes else if f then wide_head (first / 32) 8 bytes else None in o)
+    go : (a b c d f : Bool) → AfterAreBytes (let o : Option ItemHead = if a then Some (head (first / 32) (first % 32) bytes) else if b then wide_head (first / 32) 1 bytes else if c then wide_head (first / 32) 2 bytes else if d then wide_head (first / 32) 4 bytes else if f then wide_head (first / 32) 8 bytes else None in o)
     go true b c d f = h.1
     go false true c d f = after_wide (nat_le 1 (length bytes)) (first / 32) (number_from_digits 256 (take 1 bytes)) 1 bytes h.1
     go false false true d f = after_wide (nat_le 2 (length bytes)) (first / 32) (number_from_digits 256 (take 2 bytes)) 2 bytes h.1
@@ -141,14 +141,14 @@ after_is bytes major n after e h = subst AfterAreBytes e (after_head bytes h)
 number_is : (bytes : List ℕ) (major n : ℕ) (after : List ℕ) → head_of bytes ≡ Some (head major n after) → AreBytes bytes → n < 2 ^ 64
 number_is bytes major n after e h = (subst (IsBoundedHead bytes) e (head_bounded bytes h)).1
 
-string_range : {major : ℕ} {bytes content rest : List ℕ} → IsString major bytes content rest → AreBytes bytes → AreBytes content × AreBytes rest
+string_range : {major : ℕ} {bytes content rest : List ℕ} → IsDefiniteString major bytes content rest → AreBytes bytes → AreBytes content × AreBytes rest
 string_range (string {major = major} {number = n} {bytes = bytes} {after = after} e l k) h = let a = after_is bytes major n after e h in (all_front n after a, all_after n after a)
 
 pieces_range : {major : ℕ} {bytes content rest : List ℕ} → ArePieces major bytes content rest → AreBytes bytes → AreBytes content × AreBytes rest
 pieces_range break h = (tt, h.1)
 pieces_range (piece {content = content} {more = more} s p) h = let a = string_range s h in let b = pieces_range p a.1 in (bytes_joined content more a.0 b.0, b.1)
 
-piece_utf8 : {bytes content rest : List ℕ} → IsString 3 bytes content rest → IsUtf8 content
+piece_utf8 : {bytes content rest : List ℕ} → IsDefiniteString 3 bytes content rest → IsUtf8 content
 piece_utf8 (string {number = n} {after = after} e l k) = IsUtf8-from_is_utf8 (take n after) k
 
 pieces_utf8 : {bytes content rest : List ℕ} → ArePieces 3 bytes content rest → IsUtf8 content

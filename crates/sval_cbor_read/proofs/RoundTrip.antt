@@ -18,17 +18,17 @@ use Rattle.sval_cbor.specs.Cbor.{head_bytes, short_bytes, string as string_bytes
 use Rattle.sval_cbor.specs.Premises.{IsShort}
 use Rattle.sval_cbor.proofs.Numbers.{value_of_decimal, short_of_128}
 use Rattle.sval_cbor.proofs.Packed.{IsPackedText, IsPackedNumber, IsPacked, ArePacked, PairsArePacked, packed}
-use Rattle.sval_cbor_read.specs.Items.{head, head_of, negative_type, is_piece, IsString, string, definite, IsItem, by_head, seq_to_break, map_to_break, falsehood, truth, null, IsBody, unsigned, negative, text, big, negative_big, ItemsToBreak, items_end, items_go_on, EntriesToBreak, entries_end, entries_go_on, IsItemOf}
+use Rattle.sval_cbor_read.specs.Items.{head, head_of, negative_type, is_piece, IsDefiniteString, string, definite, IsItem, by_head, seq_to_break, map_to_break, falsehood, truth, null, IsBody, unsigned, negative, text, big, negative_big, ItemsToBreak, items_end, items_go_on, EntriesToBreak, entries_end, entries_go_on, IsItemOf}
 use Rattle.sval_cbor_read.proofs.Heads.{head_read, short_length, short_value}
 use Rattle.sval_cbor_read.proofs.OneTree.{one_item}
 
 -- ---- strings
 
 string_at : (major n : ℕ) (bytes after content rest : List ℕ) → head_of bytes ≡ Some (head major n after) → n ≤ length after → IsTrue (is_piece major content)
-    → take n after ≡ content → drop n after ≡ rest → IsString major bytes content rest
-string_at major n bytes after content rest e h k f g = subst (λ x. IsString major bytes x rest) f (subst (λ x. IsString major bytes (take n after) x) g (string e h (rw f k)))
+    → take n after ≡ content → drop n after ≡ rest → IsDefiniteString major bytes content rest
+string_at major n bytes after content rest e h k f g = subst (λ x. IsDefiniteString major bytes x rest) f (subst (λ x. IsDefiniteString major bytes (take n after) x) g (string e h (rw f k)))
 
-string_read : (major : ℕ) (content rest : List ℕ) → length content < 2 ^ 64 → IsTrue (is_piece major content) → IsString major (string_bytes major content ++ rest) content rest
+string_read : (major : ℕ) (content rest : List ℕ) → length content < 2 ^ 64 → IsTrue (is_piece major content) → IsDefiniteString major (string_bytes major content ++ rest) content rest
 string_read major content rest h k =
     let n = length content in
     let e : head_of (string_bytes major content ++ rest) ≡ Some (head major n (content ++ rest)) = ap head_of (append_assoc (head_bytes major n) content rest) ∙ head_read major n (content ++ rest) h in

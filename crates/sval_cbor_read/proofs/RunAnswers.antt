@@ -22,24 +22,24 @@ use Rattle.sval_cbor_read.specs.declared.document.CborReadError.TheVariants as r
 use Rattle.sval_cbor_read.specs.declared.form.Form.{Form}
 use Rattle.sval_cbor_read.specs.declared.form.Form.TheVariants as form
 use Rattle.sval_cbor_read.specs.Items.{IsItemOf}
-use Rattle.sval_cbor_read.specs.ReadErrors.{IsReadError}
+use Rattle.sval_cbor_read.specs.ReadErrors.{IsCborReadError}
 use Rattle.sval_cbor_read.specs.Reports.{Reports, report}
-use Rattle.sval_cbor_read.specs.Serves.{IsTextOf, IsNoItem, Due, a_text, up_to_key, no_item, read_terms, failure_of, most_of, WritesDue, WritesUpToKey, MayLeave}
+use Rattle.sval_cbor_read.specs.Serves.{IsTextOfTree, IsNoItem, Due, a_text, up_to_key, no_item, read_terms, failure_of, most_of, WritesItemText, WritesUpToKey, MayLeave}
 use Rattle.sval_cbor_read.specs.Statuses.{status_of_shape, status_of_tree, IsStatusOf, IsStatusDue}
 use Rattle.sval_cbor_read.proofs.DueTexts.{one_tree, due_is_most, up_to_key_is_most}
 
 -- ---- bytes that weren't read
 
-pub unread : {K : Type 0} (told : K → Told) (input : List ℕ) (asked : Form) (old : K) (why : CborReadError) → IsReadError input why → ServesBytes read_terms told asked input (Err (failure_of why)) old old
+pub unread : {K : Type 0} (told : K → Told) (input : List ℕ) (asked : Form) (old : K) (why : CborReadError) → IsCborReadError input why → ServesBytes read_terms told asked input (Err (failure_of why)) old old
 unread told input asked old reading.Bad cause = record { all = record { bytes = []; due = no_item cause; writes = writes_nothing (told old) }; known = refl; untouched = λ e. refl }
 unread told input asked old reading.NoMemory cause = refl
 
 -- ---- what each status says
 
-pub writes_due : {old new : Told} {input : List ℕ} {asked : Form} → runs.TakesDue read_terms None old new input asked → WritesDue old new input asked
+pub writes_due : {old new : Told} {input : List ℕ} {asked : Form} → runs.TakesDue read_terms None old new input asked → WritesItemText old new input asked
 writes_due {old} {new} {input} {asked} t = of_due t.due t.appends
   where
-    of_due : {bytes : List ℕ} → Due asked input None bytes → Appends old bytes new → WritesDue old new input asked
+    of_due : {bytes : List ℕ} → Due asked input None bytes → Appends old bytes new → WritesItemText old new input asked
     of_due {bytes} (a_text due meant) appends = record { text = bytes; due = due; meant = meant; appends = appends }
 
 pub writes_up_to_key : {old new : Told} {input : List ℕ} {asked : Form} (why : Fault) → INVALID_KEY ≡ status_of_fault why → runs.TakesDue read_terms (Some why) old new input asked → WritesUpToKey old new input asked
@@ -55,7 +55,7 @@ is_no_item _ e (no_item none) = none
 
 -- ---- the status that is due
 
-status_of_text : (asked : Form) (tree : Tree) (text : List ℕ) → IsTextOf asked tree text → DONE ≡ status_of_tree asked tree
+status_of_text : (asked : Form) (tree : Tree) (text : List ℕ) → IsTextOfTree asked tree text → DONE ≡ status_of_tree asked tree
 status_of_text form.Json tree text is = ap status_of_shape (sym is.shape)
 status_of_text form.Calls tree text is = refl
 

@@ -4,8 +4,8 @@ use Rattle.std.specs.List.{concat}
 use Rattle.std.proofs.Common.{sym, ap, ◌∙◌, subst, arith, append_assoc, append-nil}
 use Rattle.std.proofs.lemmas.Bool.Decides.{nat_tests}
 use Rattle.sval_label.specs.Calls.{Call}
-use Rattle.sval_cbor_read.specs.Items.{Head, head, head_of, is_piece, IsString, string, ArePieces, break, piece, IsByteString, definite, in_pieces}
-use Rattle.sval_cbor_read.specs.Reading.{Frame, Ended, Pieces, Bignum, BignumPieces, Move, moves, string_calls, string_step, fragment, string_end, with_piece, piece_step, fits, number_call, bignum_step, bignum_begins, bignum_piece, Reads, goes_on}
+use Rattle.sval_cbor_read.specs.Items.{ItemHead, head, head_of, is_piece, IsDefiniteString, string, ArePieces, break, piece, IsByteString, definite, in_pieces}
+use Rattle.sval_cbor_read.specs.Reading.{OpenItem, Ended, Pieces, Bignum, BignumPieces, Move, moves, string_calls, string_step, fragment_call, string_end, with_piece, piece_step, fits, number_call, bignum_step, bignum_begins, bignum_piece, Reads, goes_on}
 use Rattle.sval_cbor_read.specs.Document.{pieces_of}
 use Rattle.sval_cbor_read.proofs.OneTree.{no_head_95, no_head_255}
 
@@ -14,7 +14,7 @@ use Rattle.sval_cbor_read.proofs.OneTree.{no_head_95, no_head_255}
 pub fits_piece : (major n : ℕ) (after : List ℕ) → n ≤ length after → IsTrue (is_piece major (take n after)) → (nat_le n (length after) && is_piece major (take n after)) ≡ true
 fits_piece major n after l k = let e : nat_le n (length after) ≡ true = grind (arith, nat_tests) in rw (e, k) refl
 
-pub string_goes : (major n : ℕ) (after : List ℕ) (frames : List Frame) → n ≤ length after → IsTrue (is_piece major (take n after))
+pub string_goes : (major n : ℕ) (after : List ℕ) (frames : List OpenItem) → n ≤ length after → IsTrue (is_piece major (take n after))
     → string_step major n after frames ≡ moves (string_calls major n (take n after)) (drop n after) (Ended frames)
 string_goes major n after frames l k = rw (fits_piece major n after l k) refl
 
@@ -24,39 +24,39 @@ piece_fits major n after l k =
     let f : (major == major) ≡ true = grind (arith, nat_tests) in
     rw (f, e, k) refl
 
-pub piece_goes : (major : ℕ) (bytes content rest : List ℕ) (next : List ℕ → List ℕ → Option Move) → IsString major bytes content rest → with_piece major (head_of bytes) next ≡ next content rest
+pub piece_goes : (major : ℕ) (bytes content rest : List ℕ) (next : List ℕ → List ℕ → Option Move) → IsDefiniteString major bytes content rest → with_piece major (head_of bytes) next ≡ next content rest
 piece_goes major bytes content rest next (string {number = n} {after = after} e l k) = rw (e, piece_fits major n after l k) refl
 
 -- a head begins with neither the break nor the byte of pieces
-pub no_break : (first : ℕ) (bytes : List ℕ) (h : Head) → head_of (first ∷ bytes) ≡ Some h → (first == 0xff) ≡ false
+pub no_break : (first : ℕ) (bytes : List ℕ) (h : ItemHead) → head_of (first ∷ bytes) ≡ Some h → (first == 0xff) ≡ false
 no_break first bytes h e = go (first == 0xff) refl
   where
     go : (b : Bool) → (first == 0xff) ≡ b → b ≡ false
     go true g = let is : first ≡ 0xff = grind (arith, nat_tests) in absurd (no_head_255 bytes (subst (λ x. head_of (x ∷ bytes) ≡ Some h) is e))
     go false g = refl
 
-pub no_pieces : (first : ℕ) (bytes : List ℕ) (h : Head) → head_of (first ∷ bytes) ≡ Some h → (first == 0x5f) ≡ false
+pub no_pieces : (first : ℕ) (bytes : List ℕ) (h : ItemHead) → head_of (first ∷ bytes) ≡ Some h → (first == 0x5f) ≡ false
 no_pieces first bytes h e = go (first == 0x5f) refl
   where
     go : (b : Bool) → (first == 0x5f) ≡ b → b ≡ false
     go true g = let is : first ≡ 0x5f = grind (arith, nat_tests) in absurd (no_head_95 bytes (subst (λ x. head_of (x ∷ bytes) ≡ Some h) is e))
     go false g = refl
 
-pub no_head : {h : Head} → head_of [] ≡ Some h → ⊥
+pub no_head : {h : ItemHead} → head_of [] ≡ Some h → ⊥
 unfolding head_of
 no_head e = cc e
 
-pub piece_read : (major : ℕ) (bytes content rest : List ℕ) (frames : List Frame) → IsString major bytes content rest → piece_step major bytes frames ≡ moves (fragment major content ∷ []) rest (Pieces major frames)
+pub piece_read : (major : ℕ) (bytes content rest : List ℕ) (frames : List OpenItem) → IsDefiniteString major bytes content rest → piece_step major bytes frames ≡ moves (fragment_call major content ∷ []) rest (Pieces major frames)
 piece_read major [] content rest frames (string e l k) = absurd (no_head e)
 piece_read major (first ∷ bytes) content rest frames (string {number = n} {after = after} e l k) =
-    rw (no_break first bytes (head major n after) e) (piece_goes major (first ∷ bytes) (take n after) (drop n after) (λ piece left. moves (fragment major piece ∷ []) left (Pieces major frames)) (string e l k))
+    rw (no_break first bytes (head major n after) e) (piece_goes major (first ∷ bytes) (take n after) (drop n after) (λ piece left. moves (fragment_call major piece ∷ []) left (Pieces major frames)) (string e l k))
 
-pub bignum_read : (tag : ℕ) (bytes content rest : List ℕ) (frames : List Frame) → IsString 2 bytes content rest → bignum_begins tag bytes frames ≡ bignum_step tag content rest frames
+pub bignum_read : (tag : ℕ) (bytes content rest : List ℕ) (frames : List OpenItem) → IsDefiniteString 2 bytes content rest → bignum_begins tag bytes frames ≡ bignum_step tag content rest frames
 bignum_read tag [] content rest frames (string e l k) = absurd (no_head e)
 bignum_read tag (first ∷ bytes) content rest frames (string {number = n} {after = after} e l k) =
     rw (no_pieces first bytes (head 2 n after) e) (piece_goes 2 (first ∷ bytes) (take n after) (drop n after) (λ piece left. bignum_step tag piece left frames) (string e l k))
 
-pub bignum_piece_read : (tag : ℕ) (front bytes content rest : List ℕ) (frames : List Frame) → IsString 2 bytes content rest
+pub bignum_piece_read : (tag : ℕ) (front bytes content rest : List ℕ) (frames : List OpenItem) → IsDefiniteString 2 bytes content rest
     → bignum_piece tag front bytes frames ≡ moves [] rest (BignumPieces tag (front ++ content) frames)
 bignum_piece_read tag front [] content rest frames (string e l k) = absurd (no_head e)
 bignum_piece_read tag front (first ∷ bytes) content rest frames (string {number = n} {after = after} e l k) =
@@ -64,10 +64,10 @@ bignum_piece_read tag front (first ∷ bytes) content rest frames (string {numbe
 
 -- ---- numbers as byte strings
 
-pub bignum_goes : (tag : ℕ) (content left : List ℕ) (frames : List Frame) → fits tag content ≡ true → bignum_step tag content left frames ≡ moves (number_call tag content ∷ []) left (Ended frames)
+pub bignum_goes : (tag : ℕ) (content left : List ℕ) (frames : List OpenItem) → fits tag content ≡ true → bignum_step tag content left frames ≡ moves (number_call tag content ∷ []) left (Ended frames)
 bignum_goes tag content left frames h = ap (λ b. if b then moves (number_call tag content ∷ []) left (Ended frames) else None) h
 
-bignum_pieces : (tag : ℕ) (front : List ℕ) {bytes content rest : List ℕ} → ArePieces 2 bytes content rest → fits tag (front ++ content) ≡ true → (frames : List Frame) (more : List Call)
+bignum_pieces : (tag : ℕ) (front : List ℕ) {bytes content rest : List ℕ} → ArePieces 2 bytes content rest → fits tag (front ++ content) ≡ true → (frames : List OpenItem) (more : List Call)
     → Reads (Ended frames) rest more → Reads (BignumPieces tag front frames) bytes (number_call tag (front ++ content) ∷ more)
 bignum_pieces tag front (break {rest = rest}) h frames more r =
     let e = append-nil front in
@@ -77,7 +77,7 @@ bignum_pieces tag front (piece {bytes = bytes} {after = after} {content = conten
     subst (λ x. Reads (BignumPieces tag front frames) bytes (number_call tag x ∷ more)) e
     (goes_on (bignum_piece_read tag front bytes content after frames s) (bignum_pieces tag (front ++ content) p (rw e h) frames more r))
 
-pub byte_string_read : (tag : ℕ) {bytes content rest : List ℕ} → IsByteString bytes content rest → fits tag content ≡ true → (frames : List Frame) (more : List Call)
+pub byte_string_read : (tag : ℕ) {bytes content rest : List ℕ} → IsByteString bytes content rest → fits tag content ≡ true → (frames : List OpenItem) (more : List Call)
     → Reads (Ended frames) rest more → Reads (Bignum tag frames) bytes (number_call tag content ∷ more)
 byte_string_read tag (definite {bytes = bytes} {content = content} {rest = rest} s) h frames more r = goes_on (bignum_read tag bytes content rest frames s ∙ bignum_goes tag content rest frames h) r
 byte_string_read tag (in_pieces p) h frames more r = goes_on refl (bignum_pieces tag [] p h frames more r)
@@ -86,7 +86,7 @@ byte_string_read tag (in_pieces p) h frames more r = goes_on refl (bignum_pieces
 
 pub record ArePiecesRead (pieces : List (List ℕ)) (major : ℕ) (bytes content rest : List ℕ) : Type 0 where
   pub joined : concat pieces ≡ content
-  pub reads : (frames : List Frame) (more : List Call) → Reads (Ended frames) rest more → Reads (Pieces major frames) bytes (map (fragment major) pieces ++ string_end major ∷ more)
+  pub reads : (frames : List OpenItem) (more : List Call) → Reads (Ended frames) rest more → Reads (Pieces major frames) bytes (map (fragment_call major) pieces ++ string_end major ∷ more)
 
 pub pieces_read : {major : ℕ} {bytes content rest : List ℕ} (p : ArePieces major bytes content rest) → ArePiecesRead (pieces_of p) major bytes content rest
 pieces_read break = record { joined = refl; reads = λ frames more r. goes_on refl r }

@@ -11,8 +11,8 @@ pieces_of break = []
 pieces_of (piece {content = content} s p) = content ∷ pieces_of p
 
 -- a part with its value's calls, in front of others
-abbrev pub part_calls : calls.Slot → (List Call → List Call) → List Call → List Call
-part_calls slot value more = Call.PartBegin slot ∷ value (Call.PartEnd slot ∷ more)
+abbrev pub item_part_calls : calls.Slot → (List Call → List Call) → List Call → List Call
+item_part_calls slot value more = Call.PartBegin slot ∷ value (Call.PartEnd slot ∷ more)
 
 abbrev mutual
   -- the calls of an item, in front of others
@@ -41,23 +41,23 @@ abbrev mutual
   -- the calls of as many items as a head says, each as a part, in front of others
   pub items_calls : {n : ℕ} {bytes rest : List ℕ} {parts : Parts} → AreItems n bytes parts rest → List Call → List Call
   items_calls no_items more = more
-  items_calls (an_item i s) more = part_calls calls.Item (item_calls i) (items_calls s more)
+  items_calls (an_item i s) more = item_part_calls calls.Item (item_calls i) (items_calls s more)
 
   -- the calls of as many pairs as a head says, each as a key and a value, in front of others
   pub entries_calls : {n : ℕ} {bytes rest : List ℕ} {parts : Parts} → AreEntries n bytes parts rest → List Call → List Call
   entries_calls no_pairs more = more
-  entries_calls (a_pair i v s) more = part_calls calls.Key (item_calls i) (part_calls calls.Value (item_calls v) (entries_calls s more))
+  entries_calls (a_pair i v s) more = item_part_calls calls.Key (item_calls i) (item_part_calls calls.Value (item_calls v) (entries_calls s more))
 
   -- the calls of the items up to a break, each as a part, in front of others
   pub items_to_break_calls : {bytes rest : List ℕ} {parts : Parts} → ItemsToBreak bytes parts rest → List Call → List Call
   items_to_break_calls items_end more = more
-  items_to_break_calls (items_go_on i s) more = part_calls calls.Item (item_calls i) (items_to_break_calls s more)
+  items_to_break_calls (items_go_on i s) more = item_part_calls calls.Item (item_calls i) (items_to_break_calls s more)
 
   -- the calls of the pairs up to a break, each as a key and a value, in front of others
   pub entries_to_break_calls : {bytes rest : List ℕ} {parts : Parts} → EntriesToBreak bytes parts rest → List Call → List Call
   entries_to_break_calls entries_end more = more
-  entries_to_break_calls (entries_go_on i v s) more = part_calls calls.Key (item_calls i) (part_calls calls.Value (item_calls v) (entries_to_break_calls s more))
+  entries_to_break_calls (entries_go_on i v s) more = item_part_calls calls.Key (item_calls i) (item_part_calls calls.Value (item_calls v) (entries_to_break_calls s more))
 
 -- the calls of the whole document
-abbrev pub document_calls : {bytes : List ℕ} {tree : Tree} → IsItemOf bytes tree → List Call
-document_calls i = item_calls i []
+abbrev pub cbor_document_calls : {bytes : List ℕ} {tree : Tree} → IsItemOf bytes tree → List Call
+cbor_document_calls i = item_calls i []

@@ -4,6 +4,6 @@ use Rattle.sval_cbor_read.specs.declared.document.CborReadError.{CborReadError}
 use Rattle.sval_cbor_read.specs.declared.document.CborReadError.TheVariants.{Bad, NoMemory}
 
 -- one plain sentence for each
-abbrev pub error_text : CborReadError → List ℕ
-error_text Bad = codes "the bytes are not one CBOR item of this profile"
-error_text NoMemory = codes "cannot allocate for an item of CBOR"
+abbrev pub cbor_read_error_text : CborReadError → List ℕ
+cbor_read_error_text Bad = codes "the bytes are not one CBOR item of this profile"
+cbor_read_error_text NoMemory = codes "cannot allocate for an item of CBOR"

@@ -12,8 +12,8 @@ use Rattle.sval_cbor.specs.Packs.{pack_of}
 use Rattle.sval_cbor.specs.Cbor.{head_bytes, cbor}
 use Rattle.sval_cbor.specs.Premises.{IsShort}
 use Rattle.sval_cbor_read.specs.Items.{head, head_of, IsItem, IsItemOf}
-use Rattle.sval_cbor_read.specs.Document.{document_calls}
-use Rattle.sval_cbor_read.specs.Reading.{Frame, State, Ended, BignumPieces, Move, fits, step, IsReadAs, Reached, IsAtEnd, distance}
+use Rattle.sval_cbor_read.specs.Document.{cbor_document_calls}
+use Rattle.sval_cbor_read.specs.Reading.{OpenItem, ItemState, Ended, BignumPieces, Move, fits, reading_step, IsReadAs, Reached, IsAtEnd, distance}
 
 -- bytes begin with an item of one tree at most, and it ends at one place
 abbrev pub ItemHasOneTree : Type 0
@@ -28,16 +28,16 @@ abbrev pub ItemsAreRefusedByKey : Type 0
 ItemsAreRefusedByKey = (bytes : List ℕ) (tree : Tree) (why : Refusal) → IsItemOf bytes tree → json_of tree ≡ Err why → why ≡ InvalidKey
 
 -- the document's calls spell the item's tree
-abbrev pub DocumentsSpell : Type 0
-DocumentsSpell = (bytes : List ℕ) (tree : Tree) (item : IsItemOf bytes tree) → Spells (document_calls item) tree
+abbrev pub CborDocumentsSpell : Type 0
+CborDocumentsSpell = (bytes : List ℕ) (tree : Tree) (item : IsItemOf bytes tree) → Spells (cbor_document_calls item) tree
 
 -- the reader reads each item as its document
 abbrev pub ItemsAreRead : Type 0
-ItemsAreRead = (bytes : List ℕ) (tree : Tree) (item : IsItemOf bytes tree) → IsReadAs bytes (document_calls item)
+ItemsAreRead = (bytes : List ℕ) (tree : Tree) (item : IsItemOf bytes tree) → IsReadAs bytes (cbor_document_calls item)
 
 -- what it reads is an item, and is read as that item's document
 abbrev pub ReadIsItem : Type 0
-ReadIsItem = (bytes : List ℕ) (calls : List Call) → IsReadAs bytes calls → (tree : Tree) × (item : IsItemOf bytes tree) × (calls ≡ document_calls item)
+ReadIsItem = (bytes : List ℕ) (calls : List Call) → IsReadAs bytes calls → (tree : Tree) × (item : IsItemOf bytes tree) × (calls ≡ cbor_document_calls item)
 
 -- bytes are read in one way at most
 abbrev pub ReadInOneWay : Type 0
@@ -49,17 +49,17 @@ ReadingEndsWell = (bytes : List ℕ) (calls : List Call) → Reached bytes (Ende
 
 -- where they stop elsewhere, the bytes are no item
 abbrev pub ReadingStopsAtBadBytes : Type 0
-ReadingStopsAtBadBytes = (bytes left : List ℕ) (state : State) (calls : List Call) → Reached bytes state left calls → step state left ≡ None → (IsAtEnd state left → ⊥)
+ReadingStopsAtBadBytes = (bytes left : List ℕ) (state : ItemState) (calls : List Call) → Reached bytes state left calls → reading_step state left ≡ None → (IsAtEnd state left → ⊥)
     → (tree : Tree) → IsItemOf bytes tree → ⊥
 
 -- a number in pieces that is too large before the last of them is in no item, so a reader may stop there
 abbrev pub LargeNumbersAreBadBytes : Type 0
-LargeNumbersAreBadBytes = (bytes left : List ℕ) (tag : ℕ) (front : List ℕ) (frames : List Frame) (calls : List Call) → Reached bytes (BignumPieces tag front frames) left calls
+LargeNumbersAreBadBytes = (bytes left : List ℕ) (tag : ℕ) (front : List ℕ) (frames : List OpenItem) (calls : List Call) → Reached bytes (BignumPieces tag front frames) left calls
     → fits tag front ≡ false → (tree : Tree) → IsItemOf bytes tree → ⊥
 
 -- each step brings the end nearer, so reading ends
 abbrev pub StepsComeNearer : Type 0
-StepsComeNearer = (state : State) (bytes : List ℕ) (move : Move) → step state bytes ≡ Some move → distance move.next move.left < distance state bytes
+StepsComeNearer = (state : ItemState) (bytes : List ℕ) (move : Move) → reading_step state bytes ≡ Some move → distance move.next move.left < distance state bytes
 
 -- the head that is written is read
 abbrev pub HeadsAreRead : Type 0

@@ -2,17 +2,17 @@
 use Rattle.std.specs.Prelude.{◌≡◌, ℕ, ◌<◌, ◌≤◌, List, [], ◌∷◌, ◌++◌, length, drop, Option, ⊤}
 use Rattle.sval_label.specs.Calls.{Call}
 use Rattle.sval_cbor_read.specs.declared.head.Head as made_head
-use Rattle.sval_cbor_read.specs.Items.{Head}
+use Rattle.sval_cbor_read.specs.Items.{ItemHead}
 use Rattle.sval_cbor_read.specs.declared.item.Medium as made_medium
 use Rattle.sval_cbor_read.specs.declared.item.Medium.TheVariants as medium
 use Rattle.sval_cbor_read.specs.declared.item.Item as made_item
 use Rattle.sval_cbor_read.specs.declared.item.Item.TheVariants as item
 use Rattle.sval_cbor_read.specs.declared.item.Begun.{Begun}
 use Rattle.sval_cbor_read.specs.Reading as reading
-use Rattle.sval_cbor_read.specs.Reading.{Frame, State, Move, mark_of, first_step, item_step, body_step, number_call, step}
+use Rattle.sval_cbor_read.specs.Reading.{OpenItem, ItemState, Move, mark_of, first_step, item_step, body_step, number_call, reading_step}
 use Rattle.sval_cbor_read.specs.SeenNodes.{byte_string, step_calls, IsBignum}
 use Rattle.sval_cbor_read.specs.SeenFrames.{frame_of}
-use Rattle.sval_cbor_read.specs.Steps.{Steps, spot, IsStuck}
+use Rattle.sval_cbor_read.specs.Steps.{ItemSteps, spot, IsStuck}
 
 -- the major type of what is in pieces
 abbrev pub major_of : made_medium.Medium → ℕ
@@ -20,7 +20,7 @@ major_of medium.Text = 3
 major_of medium.Binary = 2
 
 -- what comes behind the begin of an item
-abbrev pub state_behind : made_item.Item → List Frame → State
+abbrev pub state_behind : made_item.Item → List OpenItem → ItemState
 state_behind item.Whole frames = reading.Ended frames
 state_behind (item.Big from) frames = reading.Ended frames
 state_behind (item.NegativeBig from) frames = reading.Ended frames
@@ -29,13 +29,13 @@ state_behind (item.Pieces medium) frames = reading.Pieces (major_of medium) fram
 state_behind item.Tag frames = reading.Item frames
 
 -- the calls that an item begins with, by the step there, or by the byte string of a number
-abbrev pub begin_calls : made_item.Item → List ℕ → Option Move → List Call
-begin_calls item.Whole bytes move = step_calls move
-begin_calls (item.Big from) bytes move = number_call 2 (byte_string (drop from bytes)) ∷ []
-begin_calls (item.NegativeBig from) bytes move = number_call 3 (byte_string (drop from bytes)) ∷ []
-begin_calls (item.Container frame) bytes move = step_calls move
-begin_calls (item.Pieces medium) bytes move = step_calls move
-begin_calls item.Tag bytes move = []
+abbrev pub item_begin_calls : made_item.Item → List ℕ → Option Move → List Call
+item_begin_calls item.Whole bytes move = step_calls move
+item_begin_calls (item.Big from) bytes move = number_call 2 (byte_string (drop from bytes)) ∷ []
+item_begin_calls (item.NegativeBig from) bytes move = number_call 3 (byte_string (drop from bytes)) ∷ []
+item_begin_calls (item.Container frame) bytes move = step_calls move
+item_begin_calls (item.Pieces medium) bytes move = step_calls move
+item_begin_calls item.Tag bytes move = []
 
 -- a call is made by the step there, or by the byte string of a number
 abbrev pub IsBegun : made_item.Item → List ℕ → Option Move → Type 0
@@ -52,41 +52,41 @@ IsNoTag item.Tag = ⊥
 IsNoTag _ = ⊤
 
 -- where an item is expected, this move and some further steps lead to what is behind its begin
-abbrev pub LeadsBehind : Option Move → List Frame → made_item.Item → List Call → List ℕ → Type 0
+abbrev pub LeadsBehind : Option Move → List OpenItem → made_item.Item → List Call → List ℕ → Type 0
 LeadsBehind move frames item calls behind =
-    (left : List ℕ) (made : List Call) → step (reading.Item frames) left ≡ move → Steps (spot (reading.Item frames) left made) (spot (state_behind item frames) behind (made ++ calls))
+    (left : List ℕ) (made : List Call) → reading_step (reading.Item frames) left ≡ move → ItemSteps (spot (reading.Item frames) left made) (spot (state_behind item frames) behind (made ++ calls))
 
 -- where an item is expected, this move leads to no item
-abbrev pub LeadsNowhere : Option Move → List Frame → Type 0
-LeadsNowhere move frames = (left : List ℕ) (made : List Call) → step (reading.Item frames) left ≡ move → IsStuck (spot (reading.Item frames) left made)
+abbrev pub LeadsNowhere : Option Move → List OpenItem → Type 0
+LeadsNowhere move frames = (left : List ℕ) (made : List Call) → reading_step (reading.Item frames) left ≡ move → IsStuck (spot (reading.Item frames) left made)
 
 -- the item that a first byte begins by itself
 pub record IsMarked (first : ℕ) (item : made_item.Item) : Type 0 where
-  pub moves : (all bytes : List ℕ) (begun : Option Head) (frames : List Frame)
-      → first_step (mark_of first) bytes begun frames ≡ reading.moves (begin_calls item all (first_step (mark_of first) bytes begun [])) bytes (state_behind item frames)
-  pub is : (all bytes : List ℕ) (begun : Option Head) → IsBegun item all (first_step (mark_of first) bytes begun [])
+  pub moves : (all bytes : List ℕ) (begun : Option ItemHead) (frames : List OpenItem)
+      → first_step (mark_of first) bytes begun frames ≡ reading.moves (item_begin_calls item all (first_step (mark_of first) bytes begun [])) bytes (state_behind item frames)
+  pub is : (all bytes : List ℕ) (begun : Option ItemHead) → IsBegun item all (first_step (mark_of first) bytes begun [])
 
 -- what is found behind a head leads on
 pub record BeginsBehind (bytes : List ℕ) (h : made_head.Head) (begun : Begun) : Type 0 where
-  pub leads : (frames : List Frame)
-      → LeadsBehind (body_step h.major h.number (drop h.next bytes) frames) frames begun.item (begin_calls begun.item bytes (body_step h.major h.number (drop h.next bytes) [])) (drop begun.next bytes)
+  pub leads : (frames : List OpenItem)
+      → LeadsBehind (body_step h.major h.number (drop h.next bytes) frames) frames begun.item (item_begin_calls begun.item bytes (body_step h.major h.number (drop h.next bytes) [])) (drop begun.next bytes)
   pub is : IsBegun begun.item bytes (body_step h.major h.number (drop h.next bytes) [])
   pub later : h.next ≤ begun.next
   pub within : begun.next ≤ length bytes
 
 -- no item begins with this head
 abbrev pub BeginsNothingBehind : List ℕ → made_head.Head → Type 0
-BeginsNothingBehind bytes h = (frames : List Frame) → LeadsNowhere (body_step h.major h.number (drop h.next bytes) frames) frames
+BeginsNothingBehind bytes h = (frames : List OpenItem) → LeadsNowhere (body_step h.major h.number (drop h.next bytes) frames) frames
 
 -- what is found at a place leads on
 pub record Begins (bytes : List ℕ) (at : ℕ) (begun : Begun) : Type 0 where
-  pub leads : (frames : List Frame) (made : List Call)
-      → Steps (spot (reading.Item frames) (drop at bytes) made)
-      (spot (state_behind begun.item frames) (drop begun.next bytes) (made ++ begin_calls begun.item bytes (item_step (drop at bytes) [])))
+  pub leads : (frames : List OpenItem) (made : List Call)
+      → ItemSteps (spot (reading.Item frames) (drop at bytes) made)
+      (spot (state_behind begun.item frames) (drop begun.next bytes) (made ++ item_begin_calls begun.item bytes (item_step (drop at bytes) [])))
   pub is : IsBegun begun.item bytes (item_step (drop at bytes) [])
   pub later : at < begun.next
   pub within : begun.next ≤ length bytes
 
 -- no item begins at a place
 abbrev pub BeginsNothing : List ℕ → ℕ → Type 0
-BeginsNothing bytes at = (frames : List Frame) (made : List Call) → IsStuck (spot (reading.Item frames) (drop at bytes) made)
+BeginsNothing bytes at = (frames : List OpenItem) (made : List Call) → IsStuck (spot (reading.Item frames) (drop at bytes) made)

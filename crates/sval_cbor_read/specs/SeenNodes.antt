@@ -9,36 +9,36 @@ use Rattle.sval_cbor_read.specs.declared.node.Kind as made_kind
 use Rattle.sval_cbor_read.specs.declared.node.Kind.TheVariants as kind
 use Rattle.sval_cbor_read.specs.declared.node.Node.{Node}
 use Rattle.sval_cbor_read.specs.declared.head.Head as made_head
-use Rattle.sval_cbor_read.specs.Items.{Head, head, head_of, IsByteString}
-use Rattle.sval_cbor_read.specs.Reading.{Move, moves, Ended, item_step, string_step, fragment, with_piece, fits, number_call}
+use Rattle.sval_cbor_read.specs.Items.{ItemHead, head, head_of, IsByteString}
+use Rattle.sval_cbor_read.specs.Reading.{Move, moves, Ended, item_step, string_step, fragment_call, with_piece, fits, number_call}
 
 -- ---- places in the bytes
 
 -- the place in the bytes of a node
-abbrev pub node_at : Node → ℕ
-node_at node = node.low + node.high * 2 ^ 32
+abbrev pub node_offset : Node → ℕ
+node_offset node = node.low + node.high * 2 ^ 32
 
 -- the node of this kind, in this place of its container and at this one of the bytes
-abbrev pub node_of : made_kind.Kind → made_place.Place → ℕ → Node
-node_of kind place at = record { low = at % 2 ^ 32; high = at / 2 ^ 32; kind = kind; place = place }
+abbrev pub item_node : made_kind.Kind → made_place.Place → ℕ → Node
+item_node kind place at = record { low = at % 2 ^ 32; high = at / 2 ^ 32; kind = kind; place = place }
 
 -- ---- numbers as byte strings
 
 -- what is made of a definite string and of the bytes behind it
-abbrev pub with_string : Option Head → (List ℕ → List ℕ → List ℕ) → List ℕ
+abbrev pub with_string : Option ItemHead → (List ℕ → List ℕ → List ℕ) → List ℕ
 with_string None go = []
 with_string (Some (head major n after)) go = go (take n after) (drop n after)
 
 -- the contents of definite strings up to a break, joined, of so many strings at most
-abbrev pub joined : ℕ → List ℕ → List ℕ
-joined zero bytes = []
-joined (suc most) [] = []
-joined (suc most) (first ∷ bytes) = if first == 0xff then [] else with_string (head_of (first ∷ bytes)) (λ content left. content ++ joined most left)
+abbrev pub joined_strings : ℕ → List ℕ → List ℕ
+joined_strings zero bytes = []
+joined_strings (suc most) [] = []
+joined_strings (suc most) (first ∷ bytes) = if first == 0xff then [] else with_string (head_of (first ∷ bytes)) (λ content left. content ++ joined_strings most left)
 
 -- the content of the byte string with which the bytes begin, definite or in pieces
 abbrev pub byte_string : List ℕ → List ℕ
 byte_string [] = []
-byte_string (first ∷ bytes) = if first == 0x5f then joined (length bytes) bytes else with_string (head_of (first ∷ bytes)) (λ content left. content)
+byte_string (first ∷ bytes) = if first == 0x5f then joined_strings (length bytes) bytes else with_string (head_of (first ∷ bytes)) (λ content left. content)
 
 -- the bytes begin with a byte string that is a number under this tag
 pub record IsBignum (tag : ℕ) (bytes : List ℕ) : Type 0 where
@@ -55,18 +55,18 @@ pub record IsTextAt (bytes : List ℕ) (at : ℕ) (h : made_head.Head) : Type 0 
 -- ---- calls
 
 -- the begin of the part that an item in this place stands in, if it stands in one
-abbrev pub place_begins : made_place.Place → List Call
-place_begins place.Alone = []
-place_begins place.Item = Call.PartBegin calls.Item ∷ []
-place_begins place.Key = Call.PartBegin calls.Key ∷ []
-place_begins place.Value = Call.PartBegin calls.Value ∷ []
+abbrev pub item_place_begins : made_place.Place → List Call
+item_place_begins place.Alone = []
+item_place_begins place.Item = Call.PartBegin calls.Item ∷ []
+item_place_begins place.Key = Call.PartBegin calls.Key ∷ []
+item_place_begins place.Value = Call.PartBegin calls.Value ∷ []
 
 -- the end of the part that an item in this place stands in, if it stands in one
-abbrev pub place_ends : made_place.Place → List Call
-place_ends place.Alone = []
-place_ends place.Item = Call.PartEnd calls.Item ∷ []
-place_ends place.Key = Call.PartEnd calls.Key ∷ []
-place_ends place.Value = Call.PartEnd calls.Value ∷ []
+abbrev pub item_place_ends : made_place.Place → List Call
+item_place_ends place.Alone = []
+item_place_ends place.Item = Call.PartEnd calls.Item ∷ []
+item_place_ends place.Key = Call.PartEnd calls.Key ∷ []
+item_place_ends place.Value = Call.PartEnd calls.Value ∷ []
 
 -- the calls of a step, where there is one
 abbrev pub step_calls : Option Move → List Call
@@ -74,76 +74,76 @@ step_calls None = []
 step_calls (Some move) = move.calls
 
 -- an item that is a key of a map
-abbrev pub key_calls : List Call → List Call
-key_calls item = Call.PartBegin calls.Key ∷ (item ++ (Call.PartEnd calls.Key ∷ []))
+abbrev pub map_key_calls : List Call → List Call
+map_key_calls item = Call.PartBegin calls.Key ∷ (item ++ (Call.PartEnd calls.Key ∷ []))
 
 -- the fragment that a definite string of this major type is, with which the bytes begin
 abbrev pub piece_calls : ℕ → List ℕ → List Call
-piece_calls major bytes = step_calls (with_piece major (head_of bytes) (λ piece left. moves (fragment major piece ∷ []) left (Ended [])))
+piece_calls major bytes = step_calls (with_piece major (head_of bytes) (λ piece left. moves (fragment_call major piece ∷ []) left (Ended [])))
 
 -- the begin of the part that a node stands in, where it is the first of an item
-abbrev pub begins_before : made_kind.Kind → made_place.Place → List Call
-begins_before kind.Item place = place_begins place
-begins_before kind.Big place = place_begins place
-begins_before kind.NegativeBig place = place_begins place
-begins_before kind.Begin place = place_begins place
-begins_before kind.TextPiece place = []
-begins_before kind.BinaryPiece place = []
-begins_before kind.EndText place = []
-begins_before kind.EndBinary place = []
-begins_before kind.EndSeq place = []
-begins_before kind.EndMap place = []
+abbrev pub item_begins_before : made_kind.Kind → made_place.Place → List Call
+item_begins_before kind.Item place = item_place_begins place
+item_begins_before kind.Big place = item_place_begins place
+item_begins_before kind.NegativeBig place = item_place_begins place
+item_begins_before kind.Begin place = item_place_begins place
+item_begins_before kind.TextPiece place = []
+item_begins_before kind.BinaryPiece place = []
+item_begins_before kind.EndText place = []
+item_begins_before kind.EndBinary place = []
+item_begins_before kind.EndSeq place = []
+item_begins_before kind.EndMap place = []
 
 -- a node's own calls, by the bytes from its place on
-abbrev pub own_calls : made_kind.Kind → List ℕ → List Call
-own_calls kind.Item bytes = step_calls (item_step bytes [])
-own_calls kind.Big bytes = number_call 2 (byte_string bytes) ∷ []
-own_calls kind.NegativeBig bytes = number_call 3 (byte_string bytes) ∷ []
-own_calls kind.Begin bytes = step_calls (item_step bytes [])
-own_calls kind.TextPiece bytes = piece_calls 3 bytes
-own_calls kind.BinaryPiece bytes = piece_calls 2 bytes
-own_calls kind.EndText bytes = Call.TextEnd ∷ []
-own_calls kind.EndBinary bytes = Call.BinaryEnd ∷ []
-own_calls kind.EndSeq bytes = Call.End calls.Seq ∷ []
-own_calls kind.EndMap bytes = Call.End calls.Map ∷ []
+abbrev pub node_own_calls : made_kind.Kind → List ℕ → List Call
+node_own_calls kind.Item bytes = step_calls (item_step bytes [])
+node_own_calls kind.Big bytes = number_call 2 (byte_string bytes) ∷ []
+node_own_calls kind.NegativeBig bytes = number_call 3 (byte_string bytes) ∷ []
+node_own_calls kind.Begin bytes = step_calls (item_step bytes [])
+node_own_calls kind.TextPiece bytes = piece_calls 3 bytes
+node_own_calls kind.BinaryPiece bytes = piece_calls 2 bytes
+node_own_calls kind.EndText bytes = Call.TextEnd ∷ []
+node_own_calls kind.EndBinary bytes = Call.BinaryEnd ∷ []
+node_own_calls kind.EndSeq bytes = Call.End calls.Seq ∷ []
+node_own_calls kind.EndMap bytes = Call.End calls.Map ∷ []
 
 -- the end of the part that a node stands in, where it is the last of an item
-abbrev pub ends_behind : made_kind.Kind → made_place.Place → List Call
-ends_behind kind.Item place = place_ends place
-ends_behind kind.Big place = place_ends place
-ends_behind kind.NegativeBig place = place_ends place
-ends_behind kind.Begin place = []
-ends_behind kind.TextPiece place = []
-ends_behind kind.BinaryPiece place = []
-ends_behind kind.EndText place = place_ends place
-ends_behind kind.EndBinary place = place_ends place
-ends_behind kind.EndSeq place = place_ends place
-ends_behind kind.EndMap place = place_ends place
+abbrev pub item_ends_behind : made_kind.Kind → made_place.Place → List Call
+item_ends_behind kind.Item place = item_place_ends place
+item_ends_behind kind.Big place = item_place_ends place
+item_ends_behind kind.NegativeBig place = item_place_ends place
+item_ends_behind kind.Begin place = []
+item_ends_behind kind.TextPiece place = []
+item_ends_behind kind.BinaryPiece place = []
+item_ends_behind kind.EndText place = item_place_ends place
+item_ends_behind kind.EndBinary place = item_place_ends place
+item_ends_behind kind.EndSeq place = item_place_ends place
+item_ends_behind kind.EndMap place = item_place_ends place
 
 -- the calls of a node in these bytes
 abbrev pub node_calls : List ℕ → Node → List Call
-node_calls bytes node = begins_before node.kind node.place ++ (own_calls node.kind (drop (node_at node) bytes) ++ ends_behind node.kind node.place)
+node_calls bytes node = item_begins_before node.kind node.place ++ (node_own_calls node.kind (drop (node_offset node) bytes) ++ item_ends_behind node.kind node.place)
 
 -- the calls of the nodes, one node after the other
-abbrev pub streamed : List ℕ → List Node → List Call
-streamed bytes nodes = flat_map (node_calls bytes) nodes
+abbrev pub streamed_items : List ℕ → List Node → List Call
+streamed_items bytes nodes = flat_map (node_calls bytes) nodes
 
 -- ---- what stands at the places
 
 -- bytes with which such a node begins: it makes a call, and a number under a tag is one
-abbrev pub Stands : made_kind.Kind → List ℕ → Type 0
-Stands kind.Item bytes = 0 < length (step_calls (item_step bytes []))
-Stands kind.Big bytes = IsBignum 2 bytes
-Stands kind.NegativeBig bytes = IsBignum 3 bytes
-Stands kind.Begin bytes = 0 < length (step_calls (item_step bytes []))
-Stands kind.TextPiece bytes = 0 < length (piece_calls 3 bytes)
-Stands kind.BinaryPiece bytes = 0 < length (piece_calls 2 bytes)
-Stands _ bytes = ⊤
+abbrev pub NodeBegins : made_kind.Kind → List ℕ → Type 0
+NodeBegins kind.Item bytes = 0 < length (step_calls (item_step bytes []))
+NodeBegins kind.Big bytes = IsBignum 2 bytes
+NodeBegins kind.NegativeBig bytes = IsBignum 3 bytes
+NodeBegins kind.Begin bytes = 0 < length (step_calls (item_step bytes []))
+NodeBegins kind.TextPiece bytes = 0 < length (piece_calls 3 bytes)
+NodeBegins kind.BinaryPiece bytes = 0 < length (piece_calls 2 bytes)
+NodeBegins _ bytes = ⊤
 
 -- a node stands at its place in the bytes
-abbrev pub IsKept : List ℕ → Node → Type 0
-IsKept bytes node = Stands node.kind (drop (node_at node) bytes)
+abbrev pub NodeStands : List ℕ → Node → Type 0
+NodeStands bytes node = NodeBegins node.kind (drop (node_offset node) bytes)
 
 -- all nodes do
-abbrev pub AreKept : List ℕ → List Node → Type 0
-AreKept bytes nodes = AllByRecursion (IsKept bytes) nodes
+abbrev pub NodesStand : List ℕ → List Node → Type 0
+NodesStand bytes nodes = AllByRecursion (NodeStands bytes) nodes

@@ -12,72 +12,72 @@ use Rattle.sval_cbor_read.specs.declared.item.Begun.{Begun}
 use Rattle.sval_cbor_read.specs.declared.reader.Expected as made_expected
 use Rattle.sval_cbor_read.specs.declared.reader.Expected.TheVariants as expected
 use Rattle.sval_cbor_read.specs.declared.reader.Reader.{Reader}
-use Rattle.sval_cbor_read.specs.Reading.{Frame, Items, Keys, Values, State, Item, Part, Ended, Pieces}
-use Rattle.sval_cbor_read.specs.Steps.{Spot, spot, Goes}
-use Rattle.sval_cbor_read.specs.SeenNodes.{node_of, place_begins, streamed, AreKept}
-use Rattle.sval_cbor_read.specs.SeenFrames.{frame_of, place_in, changed}
+use Rattle.sval_cbor_read.specs.Reading.{OpenItem, Items, Keys, Values, ItemState, Item, Part, Ended, Pieces}
+use Rattle.sval_cbor_read.specs.Steps.{Spot, spot, StepsLead}
+use Rattle.sval_cbor_read.specs.SeenNodes.{item_node, item_place_begins, streamed_items, NodesStand}
+use Rattle.sval_cbor_read.specs.SeenFrames.{frame_of, item_place_in, changed}
 use Rattle.sval_cbor_read.specs.SeenItems.{major_of}
 
 -- what comes next, over what is open
-abbrev pub state_of : made_expected.Expected → List Frame → State
-state_of expected.AnItem frames = Item frames
-state_of expected.APart frames = Part frames
-state_of (expected.APiece medium) frames = Pieces (major_of medium) frames
-state_of expected.Nothing frames = Ended []
+abbrev pub item_state_of : made_expected.Expected → List OpenItem → ItemState
+item_state_of expected.AnItem frames = Item frames
+item_state_of expected.APart frames = Part frames
+item_state_of (expected.APiece medium) frames = Pieces (major_of medium) frames
+item_state_of expected.Nothing frames = Ended []
 
 -- the calls that were made before an item, of which no node is kept yet
-abbrev pub calls_before : made_expected.Expected → List Frame → List Call
-calls_before expected.AnItem frames = place_begins (place_in frames)
+abbrev pub calls_before : made_expected.Expected → List OpenItem → List Call
+calls_before expected.AnItem frames = item_place_begins (item_place_in frames)
 calls_before _ frames = []
 
 -- the spot of a reader
 abbrev pub spot_of : List ℕ → Reader → Spot
 spot_of bytes reader =
-    spot (state_of reader.expected reader.opened) (drop reader.at bytes) (streamed bytes reader.nodes.items ++ calls_before reader.expected reader.opened)
+    spot (item_state_of reader.expected reader.opened) (drop reader.at bytes) (streamed_items bytes reader.nodes.items ++ calls_before reader.expected reader.opened)
 
 -- one node more
-pub record Adds (old : Reader) (node : Node) (next : ℕ) (expects : made_expected.Expected) (new : Reader) : Type 0 where
+pub record AddsItemNode (old : Reader) (node : Node) (next : ℕ) (expects : made_expected.Expected) (new : Reader) : Type 0 where
   pub at_is : new.at ≡ next
   pub expected_is : new.expected ≡ expects
   pub opened_is : new.opened ≡ old.opened
   pub nodes_are : new.nodes.items ≡ old.nodes.items ++ (node ∷ [])
 
 -- what comes next where an item has ended in these
-abbrev pub expected_after : List Frame → made_expected.Expected
+abbrev pub expected_after : List OpenItem → made_expected.Expected
 expected_after [] = expected.Nothing
 expected_after (Items left ∷ frames) = expected.APart
 expected_after (Keys left ∷ frames) = expected.AnItem
 expected_after (Values left ∷ frames) = expected.APart
 
 -- what is open then: behind a key its value is to come
-abbrev pub opened_after : List Frame → List Frame
+abbrev pub opened_after : List OpenItem → List OpenItem
 opened_after (Keys left ∷ frames) = Values left ∷ frames
 opened_after (Values left ∷ frames) = Keys left ∷ frames
 opened_after frames = frames
 
 -- the last node of an item, which has ended in these
-pub record EndsItem (frames : List Frame) (old : Reader) (node : Node) (next : ℕ) (new : Reader) : Type 0 where
+pub record EndsItem (frames : List OpenItem) (old : Reader) (node : Node) (next : ℕ) (new : Reader) : Type 0 where
   pub at_is : new.at ≡ next
   pub expected_is : new.expected ≡ expected_after frames
   pub opened_is : new.opened ≡ opened_after frames
   pub nodes_are : new.nodes.items ≡ old.nodes.items ++ (node ∷ [])
 
 -- a tag is passed over
-pub record Passes (old : Reader) (next : ℕ) (new : Reader) : Type 0 where
+pub record PassesTag (old : Reader) (next : ℕ) (new : Reader) : Type 0 where
   pub at_is : new.at ≡ next
   pub expected_is : new.expected ≡ old.expected
   pub opened_is : new.opened ≡ old.opened
   pub nodes_are : new.nodes.items ≡ old.nodes.items
 
 -- the next part begins
-pub record BeginsPart (old : Reader) (frame : Frame) (new : Reader) : Type 0 where
+pub record BeginsPart (old : Reader) (frame : OpenItem) (new : Reader) : Type 0 where
   pub at_is : new.at ≡ old.at
   pub expected_is : new.expected ≡ expected.AnItem
   pub opened_is : new.opened ≡ changed frame old.opened
   pub nodes_are : new.nodes.items ≡ old.nodes.items
 
 -- an array or a map is opened
-pub record Opens (old : Reader) (node : Node) (frame : Frame) (next : ℕ) (new : Reader) : Type 0 where
+pub record OpensItem (old : Reader) (node : Node) (frame : OpenItem) (next : ℕ) (new : Reader) : Type 0 where
   pub at_is : new.at ≡ next
   pub expected_is : new.expected ≡ expected.APart
   pub opened_is : new.opened ≡ frame ∷ old.opened
@@ -85,31 +85,31 @@ pub record Opens (old : Reader) (node : Node) (frame : Frame) (next : ℕ) (new 
 
 -- what an item begins with is kept
 abbrev pub KeepsItem : Reader → made_item.Item → ℕ → Reader → Type 0
-KeepsItem old item.Whole next new = EndsItem old.opened old (node_of kind.Item (place_in old.opened) old.at) next new
-KeepsItem old (item.Big from) next new = EndsItem old.opened old (node_of kind.Big (place_in old.opened) from) next new
-KeepsItem old (item.NegativeBig from) next new = EndsItem old.opened old (node_of kind.NegativeBig (place_in old.opened) from) next new
-KeepsItem old (item.Container frame) next new = Opens old (node_of kind.Begin (place_in old.opened) old.at) (frame_of frame) next new
-KeepsItem old (item.Pieces medium) next new = Adds old (node_of kind.Begin (place_in old.opened) old.at) next (expected.APiece medium) new
-KeepsItem old item.Tag next new = Passes old next new
+KeepsItem old item.Whole next new = EndsItem old.opened old (item_node kind.Item (item_place_in old.opened) old.at) next new
+KeepsItem old (item.Big from) next new = EndsItem old.opened old (item_node kind.Big (item_place_in old.opened) from) next new
+KeepsItem old (item.NegativeBig from) next new = EndsItem old.opened old (item_node kind.NegativeBig (item_place_in old.opened) from) next new
+KeepsItem old (item.Container frame) next new = OpensItem old (item_node kind.Begin (item_place_in old.opened) old.at) (frame_of frame) next new
+KeepsItem old (item.Pieces medium) next new = AddsItemNode old (item_node kind.Begin (item_place_in old.opened) old.at) next (expected.APiece medium) new
+KeepsItem old item.Tag next new = PassesTag old next new
 
 -- the same, up to the place behind it
-abbrev pub Keeps : Reader → Begun → Reader → Type 0
-Keeps old begun new = KeepsItem old begun.item begun.next new
+abbrev pub KeepsNode : Reader → Begun → Reader → Type 0
+KeepsNode old begun new = KeepsItem old begun.item begun.next new
 
 -- a piece, and the end, of what is in pieces
-abbrev pub piece_of : made_medium.Medium → Kind
-piece_of medium.Text = kind.TextPiece
-piece_of medium.Binary = kind.BinaryPiece
+abbrev pub chunk_kind_of : made_medium.Medium → Kind
+chunk_kind_of medium.Text = kind.TextPiece
+chunk_kind_of medium.Binary = kind.BinaryPiece
 
-abbrev pub end_of : made_medium.Medium → Kind
-end_of medium.Text = kind.EndText
-end_of medium.Binary = kind.EndBinary
+abbrev pub end_kind_of : made_medium.Medium → Kind
+end_kind_of medium.Text = kind.EndText
+end_kind_of medium.Binary = kind.EndBinary
 
 -- the reader has gone on within the bytes, or it is stuck
-pub record ReadsOn (bytes : List ℕ) (old new : Reader) (taken : Bool) : Type 0 where
-  pub goes : Goes (spot_of bytes old) (spot_of bytes new) taken
+pub record ReadsItemsOn (bytes : List ℕ) (old new : Reader) (taken : Bool) : Type 0 where
+  pub goes : StepsLead (spot_of bytes old) (spot_of bytes new) taken
   pub within : new.at ≤ length bytes
-  pub kept : AreKept bytes old.nodes.items → AreKept bytes new.nodes.items
+  pub kept : NodesStand bytes old.nodes.items → NodesStand bytes new.nodes.items
 
 -- nothing more is to be read, or something is
 abbrev pub HasEnded : made_expected.Expected → Bool → Type 0

@@ -1,7 +1,7 @@
 -- Where the definite strings stand that the code reads.
 use Rattle.std.specs.Prelude.{◌≡◌, ℕ, ◌+◌, ◌<◌, ◌≤◌, List, length, take, drop}
 use Rattle.sval_cbor_read.specs.declared.head.Head.{Head}
-use Rattle.sval_cbor_read.specs.Items.{IsString}
+use Rattle.sval_cbor_read.specs.Items.{IsDefiniteString}
 
 -- as many bytes as a head says stand behind it, up to this place
 pub record IsBehind (bytes : List ℕ) (h : Head) (content : List ℕ) (next : ℕ) : Type 0 where
@@ -11,10 +11,10 @@ pub record IsBehind (bytes : List ℕ) (h : Head) (content : List ℕ) (next : �
 
 -- a definite string stands at a place, up to another
 pub record IsStringAt (major : ℕ) (bytes : List ℕ) (at : ℕ) (content : List ℕ) (next : ℕ) : Type 0 where
-  pub stands : IsString major (drop at bytes) content (drop next bytes)
+  pub stands : IsDefiniteString major (drop at bytes) content (drop next bytes)
   pub later : at < next
   pub within : next ≤ length bytes
 
 -- no definite string begins the bytes
 abbrev pub HasNoString : ℕ → List ℕ → Type 0
-HasNoString major bytes = (content rest : List ℕ) → IsString major bytes content rest → ⊥
+HasNoString major bytes = (content rest : List ℕ) → IsDefiniteString major bytes content rest → ⊥

@@ -22,7 +22,7 @@ use Rattle.sval_cbor_read.specs.declared.document.CborReadError.{CborReadError}
 use Rattle.sval_cbor_read.specs.declared.document.CborReadError.TheVariants as reading
 use Rattle.sval_cbor_read.specs.declared.form.Form.{Form}
 use Rattle.sval_cbor_read.specs.declared.form.Form.TheVariants as form
-use Rattle.sval_cbor_read.specs.Document.{document_calls}
+use Rattle.sval_cbor_read.specs.Document.{cbor_document_calls}
 use Rattle.sval_cbor_read.specs.Forms.{form_named}
 use Rattle.sval_cbor_read.specs.Items.{IsItemOf}
 
@@ -34,24 +34,24 @@ pub record IsInMemory (input : List ℕ) : Type 0 where
 -- ---- what is due of an item
 
 -- the text is that of the tree's JSON
-pub record IsJsonOf (tree : Tree) (text : List ℕ) : Type 0 where
+pub record IsJsonOfTree (tree : Tree) (text : List ℕ) : Type 0 where
   pub json : Json
   pub shape : json_of tree ≡ Ok json
   pub is_text : text ≡ compact json
 
 -- the tree's text: its JSON, which it may not have, or its canonical script
-abbrev pub IsTextOf : Form → Tree → List ℕ → Type 0
-IsTextOf form.Json tree text = IsJsonOf tree text
-IsTextOf form.Calls tree text = text ≡ canon tree
+abbrev pub IsTextOfTree : Form → Tree → List ℕ → Type 0
+IsTextOfTree form.Json tree text = IsJsonOfTree tree text
+IsTextOfTree form.Calls tree text = text ≡ canon tree
 
 -- the input is an item, and this is the text that is due of it
-pub record IsDue (text input : List ℕ) (asked : Form) : Type 0 where
+pub record IsItemTextDue (text input : List ℕ) (asked : Form) : Type 0 where
   pub tree : Tree
   pub item : IsItemOf input tree
-  pub is : IsTextOf asked tree text
+  pub is : IsTextOfTree asked tree text
 
 -- the text denotes the one value that the tree's JSON means, and no other
-pub record TellsValue (tree : Tree) (text : List ℕ) : Type 0 where
+pub record TellsTreeValue (tree : Tree) (text : List ℕ) : Type 0 where
   pub json : Json
   pub shape : json_of tree ≡ Ok json
   pub is_text : text ≡ compact json
@@ -59,9 +59,9 @@ pub record TellsValue (tree : Tree) (text : List ℕ) : Type 0 where
   pub is : IsTheValueOf json value
 
 -- JSON denotes what is meant; a canonical script spells the tree's canonical calls
-abbrev pub IsMeant : Form → Tree → List ℕ → Type 0
-IsMeant form.Json tree text = TellsValue tree text
-IsMeant form.Calls tree text = lines text ≡ Good (calls_of tree)
+abbrev pub IsMeantByItem : Form → Tree → List ℕ → Type 0
+IsMeantByItem form.Json tree text = TellsTreeValue tree text
+IsMeantByItem form.Calls tree text = lines text ≡ Good (calls_of tree)
 
 -- The input is an item that has no JSON, since what stands in the place of a key can't be one, and this is what the steps that write
 -- JSON write of the document's calls before they refuse.
@@ -70,7 +70,7 @@ pub record IsWrittenUpToKey (written input : List ℕ) (asked : Form) : Type 0 w
   pub tree : Tree
   pub item : IsItemOf input tree
   pub refused : json_of tree ≡ Err InvalidKey
-  pub is_written : written ≡ (written_in Inside (document_calls item)).written
+  pub is_written : written ≡ (written_in Inside (cbor_document_calls item)).written
 
 -- it is no item
 abbrev pub IsNoItem : List ℕ → Form → Type 0
@@ -78,7 +78,7 @@ IsNoItem input asked = (tree : Tree) → IsItemOf input tree → ⊥
 
 -- what is due of an input: the text of its item, what is written up to a key, or no bytes where it is no item
 pub data Due : Form → List ℕ → Option Fault → List ℕ → Type 0 where
-  a_text : {asked : Form} {input text : List ℕ} (due : IsDue text input asked) → IsMeant asked due.tree text → Due asked input None text
+  a_text : {asked : Form} {input text : List ℕ} (due : IsItemTextDue text input asked) → IsMeantByItem asked due.tree text → Due asked input None text
   up_to_key : {asked : Form} {input written : List ℕ} → IsWrittenUpToKey written input asked → Due asked input (Some fault.InvalidKey) written
   no_item : {asked : Form} {input : List ℕ} → IsNoItem input asked → Due asked input (Some fault.BadCbor) []
 
@@ -94,16 +94,16 @@ read_terms = record { form_named = form_named; Due = Due; faults = INVALID_KEY �
 -- what is written of an item at most: in JSON what the steps write of the document's calls, which is the text that is due where a key
 -- isn't refused
 abbrev pub most_of : Form → {input : List ℕ} {tree : Tree} → IsItemOf input tree → List ℕ
-most_of form.Json item = (written_in Inside (document_calls item)).written
+most_of form.Json item = (written_in Inside (cbor_document_calls item)).written
 most_of form.Calls {tree = tree} item = canon tree
 
 -- ---- what is left of a sink
 
 -- exactly the text that is due was taken, and it is what is meant
-pub record WritesDue (old new : Told) (input : List ℕ) (asked : Form) : Type 0 where
+pub record WritesItemText (old new : Told) (input : List ℕ) (asked : Form) : Type 0 where
   pub text : List ℕ
-  pub due : IsDue text input asked
-  pub meant : IsMeant asked due.tree text
+  pub due : IsItemTextDue text input asked
+  pub meant : IsMeantByItem asked due.tree text
   pub appends : Appends old text new
 
 -- exactly what is written up to a key that is refused was taken
@@ -114,6 +114,6 @@ pub record WritesUpToKey (old new : Told) (input : List ℕ) (asked : Form) : Ty
 
 -- what may be left: a first part of the text that is due or of what is written up to a key, and nothing where the input is no item
 pub record MayLeave (old new : Told) (input : List ℕ) (asked : Form) : Type 0 where
-  pub begins : (text : List ℕ) → IsDue text input asked → AppendsFront old text new
+  pub begins : (text : List ℕ) → IsItemTextDue text input asked → AppendsFront old text new
   pub up_to_key : (written : List ℕ) → IsWrittenUpToKey written input asked → AppendsFront old written new
   pub nothing : IsNoItem input asked → new ≡ old

@@ -3,27 +3,27 @@ use Rattle.std.specs.Prelude.{◌≡◌, ℕ, ◌<◌, Bool, true, false, List, 
 use Rattle.sval_label.specs.Calls.{Call}
 use Rattle.sval_core.specs.Trees.{Tree}
 use Rattle.sval_cbor_read.specs.Items.{IsItemOf}
-use Rattle.sval_cbor_read.specs.Reading.{State, Item, Move, step, Reached}
+use Rattle.sval_cbor_read.specs.Reading.{ItemState, Item, Move, reading_step, Reached}
 
 -- where the reader is: what comes next, the bytes that are left, and the calls that were made
 pub record Spot : Type 0 where
-  pub state : State
+  pub state : ItemState
   pub left : List ℕ
   pub made : List Call
 
 -- a spot by its three parts
-abbrev pub spot : State → List ℕ → List Call → Spot
+abbrev pub spot : ItemState → List ℕ → List Call → Spot
 spot state left made = record { state = state; left = left; made = made }
 
 -- before the first step
-abbrev pub start : List ℕ → Spot
-start bytes = spot (Item []) bytes []
+abbrev pub first_spot : List ℕ → Spot
+first_spot bytes = spot (Item []) bytes []
 
 -- one or more steps
-pub data Steps : Spot → Spot → Type 0 where
-  one_step : {state : State} {left : List ℕ} {made : List Call} {move : Move} → step state left ≡ Some move
-      → Steps (spot state left made) (spot move.next move.left (made ++ move.calls))
-  more_steps : {first second third : Spot} → Steps first second → Steps second third → Steps first third
+pub data ItemSteps : Spot → Spot → Type 0 where
+  one_step : {state : ItemState} {left : List ℕ} {made : List Call} {move : Move} → reading_step state left ≡ Some move
+      → ItemSteps (spot state left made) (spot move.next move.left (made ++ move.calls))
+  more_steps : {first second third : Spot} → ItemSteps first second → ItemSteps second third → ItemSteps first third
 
 -- the steps from the bytes' first on lead to this spot
 abbrev pub IsReached : List ℕ → Spot → Type 0
@@ -34,12 +34,12 @@ abbrev pub IsStuck : Spot → Type 0
 IsStuck at = (bytes : List ℕ) → IsReached bytes at → (tree : Tree) → IsItemOf bytes tree → ⊥
 
 -- steps lead on to the second spot, or the first is stuck
-abbrev pub Goes : Spot → Spot → Bool → Type 0
-Goes first second true = Steps first second
-Goes first second false = IsStuck first
+abbrev pub StepsLead : Spot → Spot → Bool → Type 0
+StepsLead first second true = ItemSteps first second
+StepsLead first second false = IsStuck first
 
 -- steps lead on to where some call was made
-pub record Makes (first : Spot) : Type 0 where
+pub record MakesSomeCall (first : Spot) : Type 0 where
   pub second : Spot
-  pub steps : Steps first second
+  pub steps : ItemSteps first second
   pub some : 0 < length second.made

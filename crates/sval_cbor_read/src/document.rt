@@ -2,8 +2,8 @@
 
 ghost use Rattle.std.specs.Prelude.{IfOk, IfErr};
 ghost use Rattle.sval_core.specs.Values.{makes};
-ghost use Rattle.sval_cbor_read.specs.SeenNodes.{streamed, AreKept};
-ghost use Rattle.sval_cbor_read.specs.ReadErrors.{IsRead, IsReadError};
+ghost use Rattle.sval_cbor_read.specs.SeenNodes.{streamed_items, NodesStand};
+ghost use Rattle.sval_cbor_read.specs.ReadErrors.{IsReadItem, IsCborReadError};
 
 use crate::node::Node;
 use crate::node_calls::stream_nodes;
@@ -26,9 +26,9 @@ pub enum CborReadError {
 
 impl fmt::Display for CborReadError {
     ghost use Rattle.std.specs.Prelude.{Some};
-    ghost use Rattle.sval_cbor_read.specs.ErrorTexts.{error_text};
+    ghost use Rattle.sval_cbor_read.specs.ErrorTexts.{cbor_read_error_text};
 
-    ghost output = { λ error. Some (error_text error) };
+    ghost output = { λ error. Some (cbor_read_error_text error) };
 
     fn fmt<W: fmt::Write>(&self, f: &mut fmt::Formatter<W>) -> fmt::Result {
         f.write_str(match self {
@@ -64,13 +64,13 @@ pub struct CborDoc<'a> {
 impl<'a> Model for CborDoc<'a> {
     ghost use Rattle.std.specs.Prelude.{List};
     ghost use Rattle.sval_label.specs.Calls.{Call};
-    ghost use Rattle.sval_cbor_read.specs.SeenNodes.{streamed, AreKept};
+    ghost use Rattle.sval_cbor_read.specs.SeenNodes.{streamed_items, NodesStand};
 
     ghost Value = { List Call };
 
-    ghost view = { λ doc. streamed doc.bytes.now doc.nodes.items };
+    ghost view = { λ doc. streamed_items doc.bytes.now doc.nodes.items };
 
-    ghost invariant = { λ doc. AreKept doc.bytes.now doc.nodes.items };
+    ghost invariant = { λ doc. NodesStand doc.bytes.now doc.nodes.items };
 }
 
 impl<'a> CborDoc<'a> {
@@ -90,8 +90,8 @@ impl<'a> CborDoc<'a> {
     /// [`CborReadError::Bad`] comes only where the bytes are an item of no tree. [`CborReadError::NoMemory`] may come in
     /// its place and in that of a document, but only where some first bytes make a call.
     pub fn read(alloc: Global, bytes: &'a [u8]) -> Result<Self, CborReadError>
-        ensures ok { IfOk result (λ doc. IsRead bytes.now doc) }
-        ensures err { IfErr result (IsReadError bytes.now) }
+        ensures ok { IfOk result (λ doc. IsReadItem bytes.now doc) }
+        ensures err { IfErr result (IsCborReadError bytes.now) }
     {
         match read_nodes(alloc, bytes) {
             Ok(nodes) => Ok(CborDoc { bytes, nodes }),
@@ -107,9 +107,9 @@ impl<'a> CborDoc<'a> {
 
 /// Reads the nodes of an item, step by step.
 fn read_nodes(alloc: Global, bytes: &[u8]) -> Result<Vec<Node>, CborReadError>
-    ensures ok { IfOk result (λ nodes. IsRead bytes.now (streamed bytes.now nodes.items)) }
-    ensures kept { IfOk result (λ nodes. AreKept bytes.now nodes.items) }
-    ensures err { IfErr result (IsReadError bytes.now) }
+    ensures ok { IfOk result (λ nodes. IsReadItem bytes.now (streamed_items bytes.now nodes.items)) }
+    ensures kept { IfOk result (λ nodes. NodesStand bytes.now nodes.items) }
+    ensures err { IfErr result (IsCborReadError bytes.now) }
 {
     let mut reader = Reader::new(alloc);
     while !reader.has_ended() {

@@ -1,6 +1,6 @@
 //! The laws of CBOR's items, each as a clause that is proved.
 
-ghost use Rattle.sval_cbor_read.specs.Laws.{ItemHasOneTree, ItemsAreReal, ItemsAreRefusedByKey, DocumentsSpell, ItemsAreRead, ReadIsItem, ReadInOneWay, ReadingEndsWell, ReadingStopsAtBadBytes, LargeNumbersAreBadBytes, StepsComeNearer, HeadsAreRead, HeadsAreShortest, WrittenIsReadBack};
+ghost use Rattle.sval_cbor_read.specs.Laws.{ItemHasOneTree, ItemsAreReal, ItemsAreRefusedByKey, CborDocumentsSpell, ItemsAreRead, ReadIsItem, ReadInOneWay, ReadingEndsWell, ReadingStopsAtBadBytes, LargeNumbersAreBadBytes, StepsComeNearer, HeadsAreRead, HeadsAreShortest, WrittenIsReadBack};
 
 /// What holds of all bytes.
 pub fn item_laws()
@@ -13,7 +13,7 @@ pub fn item_laws()
 
 /// What holds of the reader's steps.
 pub fn reading_laws()
-    ensures documents_spell { DocumentsSpell }
+    ensures documents_spell { CborDocumentsSpell }
     ensures items_are_read { ItemsAreRead }
     ensures read_is_item { ReadIsItem }
     ensures read_in_one_way { ReadInOneWay }

@@ -1,7 +1,7 @@
 //! What is kept of the bytes.
 
 ghost use Rattle.std.specs.Prelude.{◌≡◌, ◌≤◌, ◌^◌, IfOk, OnErr};
-ghost use Rattle.sval_cbor_read.specs.SeenNodes.{node_at, node_of};
+ghost use Rattle.sval_cbor_read.specs.SeenNodes.{node_offset, item_node};
 
 use std::alloc::AllocError;
 use std::mem::size_of;
@@ -57,7 +57,7 @@ impl Node {
     /// A node at a place of the bytes. It has no room for a place of 2^48 or more, which is answered as want of memory.
     #[inline(always)]
     pub(crate) fn new(kind: Kind, place: Place, at: usize) -> Result<Node, NoMemory>
-        ensures ok { IfOk result (λ node. node ≡ node_of kind place at) }
+        ensures ok { IfOk result (λ node. node ≡ item_node kind place at) }
         ensures too_far { OnErr result (2 ^ 48 ≤ at) }
     {
         if at >= 1 << 48 {
@@ -74,7 +74,7 @@ impl Node {
     /// Its place in the bytes.
     #[inline(always)]
     pub(crate) fn at(self) -> usize
-        ensures { result ≡ node_at self }
+        ensures { result ≡ node_offset self }
     {
         self.low as usize + self.high as usize * (1 << 32)
     }

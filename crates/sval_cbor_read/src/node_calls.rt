@@ -6,7 +6,7 @@ ghost use Rattle.sval_core.specs.Law.{Emits};
 ghost use Rattle.sval_core.specs.Values.{makes};
 ghost use Rattle.sval_cbor_read.specs.Items.{negative_type, big_endian};
 ghost use Rattle.sval_cbor_read.specs.Reading.{mark_of, first_step, item_step, body_step, string_step, number_call};
-ghost use Rattle.sval_cbor_read.specs.SeenNodes.{place_begins, place_ends, byte_string, step_calls, piece_calls, IsBignum, IsTextAt, key_calls, begins_before, own_calls, ends_behind, node_at, node_calls, IsKept, AreKept, streamed};
+ghost use Rattle.sval_cbor_read.specs.SeenNodes.{item_place_begins, item_place_ends, byte_string, step_calls, piece_calls, IsBignum, IsTextAt, map_key_calls, item_begins_before, node_own_calls, item_ends_behind, node_offset, node_calls, NodeStands, NodesStand, streamed_items};
 
 use crate::bignum::read_bignum;
 use crate::head::{Head, read_head, short_text_head};
@@ -19,7 +19,7 @@ impl Place {
     #[inline(always)]
     fn begin<L: Lending, S: Stream<L>>(self, stream: &mut S) -> Result
         ensures { Emits S.law result
-            (S.standing stream.old) (makes (place_begins self)) (S.standing stream.new) }
+            (S.standing stream.old) (makes (item_place_begins self)) (S.standing stream.new) }
     {
         match self {
             Place::Alone => Ok(()),
@@ -33,7 +33,7 @@ impl Place {
     #[inline(always)]
     fn end<L: Lending, S: Stream<L>>(self, stream: &mut S) -> Result
         ensures { Emits S.law result
-            (S.standing stream.old) (makes (place_ends self)) (S.standing stream.new) }
+            (S.standing stream.old) (makes (item_place_ends self)) (S.standing stream.new) }
     {
         match self {
             Place::Alone => Ok(()),
@@ -200,7 +200,7 @@ fn stream_text_key<'v, S: Stream<Lent<'v>>>(bytes: &'v [u8], head: Head, stream:
     requires within { head.next ≤ length bytes.now }
     requires some { 0 < length (step_calls (string_step 3 head.number (drop head.next bytes.now) [])) }
     ensures { Emits S.law result (S.standing stream.old)
-        (makes (key_calls (step_calls (string_step 3 head.number (drop head.next bytes.now) []))))
+        (makes (map_key_calls (step_calls (string_step 3 head.number (drop head.next bytes.now) []))))
         (S.standing stream.new) }
 {
     let content = unsafe { from_utf8_unchecked(content_behind(bytes, head)) };
@@ -273,7 +273,7 @@ impl Node {
     #[inline(always)]
     fn begin<L: Lending, S: Stream<L>>(self, stream: &mut S) -> Result
         ensures { Emits S.law result (S.standing stream.old)
-            (makes (begins_before self.kind self.place)) (S.standing stream.new) }
+            (makes (item_begins_before self.kind self.place)) (S.standing stream.new) }
     {
         match self.kind {
             Kind::Item | Kind::Big | Kind::NegativeBig | Kind::Begin => self.place.begin(stream),
@@ -289,9 +289,9 @@ impl Node {
     /// Makes its own calls, in bytes that it stands in.
     #[inline(always)]
     fn make<'v, S: Stream<Lent<'v>>>(self, bytes: &'v [u8], stream: &mut S) -> Result
-        requires { IsKept bytes.now self }
+        requires { NodeStands bytes.now self }
         ensures { Emits S.law result (S.standing stream.old)
-            (makes (own_calls self.kind (drop (node_at self) bytes.now))) (S.standing stream.new) }
+            (makes (node_own_calls self.kind (drop (node_offset self) bytes.now))) (S.standing stream.new) }
     {
         match self.kind {
             Kind::Item | Kind::Begin => stream_item(bytes, self.at(), stream),
@@ -310,7 +310,7 @@ impl Node {
     #[inline(always)]
     fn end<L: Lending, S: Stream<L>>(self, stream: &mut S) -> Result
         ensures { Emits S.law result (S.standing stream.old)
-            (makes (ends_behind self.kind self.place)) (S.standing stream.new) }
+            (makes (item_ends_behind self.kind self.place)) (S.standing stream.new) }
     {
         match self.kind {
             Kind::Begin | Kind::TextPiece | Kind::BinaryPiece => Ok(()),
@@ -327,7 +327,7 @@ impl Node {
     /// Makes its calls, in bytes that it stands in.
     #[inline(always)]
     fn stream<'v, S: Stream<Lent<'v>>>(self, bytes: &'v [u8], stream: &mut S) -> Result
-        requires { IsKept bytes.now self }
+        requires { NodeStands bytes.now self }
         ensures { Emits S.law result (S.standing stream.old)
             (makes (node_calls bytes.now self)) (S.standing stream.new) }
     {
@@ -348,9 +348,9 @@ pub(crate) fn stream_nodes<'v, S: Stream<Lent<'v>>>(
     nodes: &[Node],
     stream: &mut S,
 ) -> Result
-    requires { AreKept bytes.now nodes.now }
+    requires { NodesStand bytes.now nodes.now }
     ensures { Emits S.law result (S.standing stream.old)
-        (makes (streamed bytes.now nodes.now)) (S.standing stream.new) }
+        (makes (streamed_items bytes.now nodes.now)) (S.standing stream.new) }
 {
     for node in nodes {
         node.stream(bytes, stream)?;

@@ -1,11 +1,11 @@
 //! The machine that reads items one by one.
 
 ghost use Rattle.std.specs.Prelude.{◌≡◌, ◌≢◌, ◌≤◌, ℕ, List, [], ◌∷◌, ◌++◌, Some, IfOk, IfErr, length};
-ghost use Rattle.sval_cbor_read.specs.Steps.{Goes, Makes, start};
-ghost use Rattle.sval_cbor_read.specs.SeenNodes.{node_of};
+ghost use Rattle.sval_cbor_read.specs.Steps.{StepsLead, MakesSomeCall, first_spot};
+ghost use Rattle.sval_cbor_read.specs.SeenNodes.{item_node};
 ghost use Rattle.sval_cbor_read.specs.SeenItems.{IsNoTag};
-ghost use Rattle.sval_cbor_read.specs.SeenFrames.{frame_of, TopIs, around, place_in};
-ghost use Rattle.sval_cbor_read.specs.SeenReader.{spot_of, expected_after, opened_after, Adds, Opens, EndsItem, Keeps, BeginsPart, ReadsOn, HasEnded};
+ghost use Rattle.sval_cbor_read.specs.SeenFrames.{frame_of, TopFrameIs, around_frame, item_place_in};
+ghost use Rattle.sval_cbor_read.specs.SeenReader.{spot_of, expected_after, opened_after, AddsItemNode, OpensItem, EndsItem, KeepsNode, BeginsPart, ReadsItemsOn, HasEnded};
 ghost use Rattle.sval_cbor_read.specs.declared.node.Kind.TheVariants as kind;
 ghost use Rattle.sval_cbor_read.specs.declared.stack.Frame.TheVariants as frame;
 ghost use Rattle.sval_cbor_read.specs.declared.reader.Expected.TheVariants as expected;
@@ -56,7 +56,7 @@ impl Reader {
     /// A reader that has read nothing.
     #[inline(always)]
     pub(crate) fn new(alloc: Global) -> Self
-        ensures starts { (bytes : List ℕ) → spot_of bytes result ≡ start bytes }
+        ensures starts { (bytes : List ℕ) → spot_of bytes result ≡ first_spot bytes }
         ensures at { result.at ≡ 0 }
         ensures nodes { result.nodes.items ≡ [] }
     {
@@ -72,7 +72,7 @@ impl Reader {
     /// The place of an item directly in what is open.
     #[inline(always)]
     fn place(&self) -> Place
-        ensures { result ≡ place_in self.now.opened }
+        ensures { result ≡ item_place_in self.now.opened }
     {
         match self.opened.top() {
             None => Place::Alone,
@@ -106,7 +106,7 @@ impl Reader {
         next: usize,
         expected: Expected,
     ) -> Result<(), NoMemory>
-        ensures { IfOk result (λ done. Adds self.old (node_of kind place from) next expected self.new) }
+        ensures { IfOk result (λ done. AddsItemNode self.old (item_node kind place from) next expected self.new) }
     {
         let node = Node::new(kind, place, from)?;
         self.push(node)?;
@@ -146,7 +146,7 @@ impl Reader {
         from: usize,
         next: usize,
     ) -> Result<(), NoMemory>
-        ensures { IfOk result (λ done. EndsItem self.old.opened self.old (node_of kind place from) next self.new) }
+        ensures { IfOk result (λ done. EndsItem self.old.opened self.old (item_node kind place from) next self.new) }
     {
         match self.add(kind, place, from, next, Expected::Nothing) {
             Ok(()) => {
@@ -160,8 +160,8 @@ impl Reader {
     /// Opens an array or a map, which begins here.
     #[inline(always)]
     fn open(&mut self, place: Place, next: usize, frame: Frame) -> Result<(), NoMemory>
-        ensures { IfOk result (λ done. Opens self.old
-            (node_of kind.Begin place self.old.at) (frame_of frame) next self.new) }
+        ensures { IfOk result (λ done. OpensItem self.old
+            (item_node kind.Begin place self.old.at) (frame_of frame) next self.new) }
     {
         match self.add(Kind::Begin, place, self.at, next, Expected::APart) {
             Ok(()) => self.opened.push(frame),
@@ -172,7 +172,7 @@ impl Reader {
     /// Keeps what an item begins with.
     #[inline(always)]
     fn begin_item(&mut self, begun: Begun) -> Result<(), NoMemory>
-        ensures keeps { IfOk result (λ done. Keeps self.old begun self.new) }
+        ensures keeps { IfOk result (λ done. KeepsNode self.old begun self.new) }
         ensures no_memory { IfErr result (λ error. IsNoTag begun.item) }
     {
         let place = self.place();
@@ -197,8 +197,8 @@ impl Reader {
     fn item(&mut self, bytes: &[u8]) -> Result<bool, NoMemory>
         requires within { self.old.at ≤ length bytes.now }
         requires is { self.old.expected ≡ expected.AnItem }
-        ensures goes { IfOk result (ReadsOn bytes.now self.old self.new) }
-        ensures no_memory { IfErr result (λ error. Makes (spot_of bytes.now self.old)) }
+        ensures goes { IfOk result (ReadsItemsOn bytes.now self.old self.new) }
+        ensures no_memory { IfErr result (λ error. MakesSomeCall (spot_of bytes.now self.old)) }
     {
         match item_at(bytes, self.at) {
             None => Ok(false),
@@ -221,8 +221,8 @@ impl Reader {
     /// Ends the innermost array.
     #[inline(always)]
     fn end_seq(&mut self, next: usize) -> Result<(), NoMemory>
-        ensures { IfOk result (λ done. EndsItem (around self.old.opened) self.old
-            (node_of kind.EndSeq (place_in (around self.old.opened)) self.old.at) next self.new) }
+        ensures { IfOk result (λ done. EndsItem (around_frame self.old.opened) self.old
+            (item_node kind.EndSeq (item_place_in (around_frame self.old.opened)) self.old.at) next self.new) }
     {
         self.opened.pop();
         let place = self.place();
@@ -232,8 +232,8 @@ impl Reader {
     /// Ends the innermost map.
     #[inline(always)]
     fn end_map(&mut self, next: usize) -> Result<(), NoMemory>
-        ensures { IfOk result (λ done. EndsItem (around self.old.opened) self.old
-            (node_of kind.EndMap (place_in (around self.old.opened)) self.old.at) next self.new) }
+        ensures { IfOk result (λ done. EndsItem (around_frame self.old.opened) self.old
+            (item_node kind.EndMap (item_place_in (around_frame self.old.opened)) self.old.at) next self.new) }
     {
         self.opened.pop();
         let place = self.place();
@@ -245,9 +245,9 @@ impl Reader {
     fn next_item(&mut self, left: Option<usize>, bytes: &[u8]) -> Result<bool, NoMemory>
         requires within { self.old.at ≤ length bytes.now }
         requires is { self.old.expected ≡ expected.APart }
-        requires top { TopIs (Some (frame.Items left)) self.old.opened }
-        ensures goes { IfOk result (ReadsOn bytes.now self.old self.new) }
-        ensures no_memory { IfErr result (λ error. Makes (spot_of bytes.now self.old)) }
+        requires top { TopFrameIs (Some (frame.Items left)) self.old.opened }
+        ensures goes { IfOk result (ReadsItemsOn bytes.now self.old self.new) }
+        ensures no_memory { IfErr result (λ error. MakesSomeCall (spot_of bytes.now self.old)) }
     {
         match next_part(left, bytes, self.at) {
             NextPart::Nothing => Ok(false),
@@ -267,9 +267,9 @@ impl Reader {
     fn next_pair(&mut self, left: Option<usize>, bytes: &[u8]) -> Result<bool, NoMemory>
         requires within { self.old.at ≤ length bytes.now }
         requires is { self.old.expected ≡ expected.APart }
-        requires top { TopIs (Some (frame.Keys left)) self.old.opened }
-        ensures goes { IfOk result (ReadsOn bytes.now self.old self.new) }
-        ensures no_memory { IfErr result (λ error. Makes (spot_of bytes.now self.old)) }
+        requires top { TopFrameIs (Some (frame.Keys left)) self.old.opened }
+        ensures goes { IfOk result (ReadsItemsOn bytes.now self.old self.new) }
+        ensures no_memory { IfErr result (λ error. MakesSomeCall (spot_of bytes.now self.old)) }
     {
         match next_part(left, bytes, self.at) {
             NextPart::Nothing => Ok(false),
@@ -289,8 +289,8 @@ impl Reader {
     fn part(&mut self, bytes: &[u8]) -> Result<bool, NoMemory>
         requires within { self.old.at ≤ length bytes.now }
         requires is { self.old.expected ≡ expected.APart }
-        ensures goes { IfOk result (ReadsOn bytes.now self.old self.new) }
-        ensures no_memory { IfErr result (λ error. Makes (spot_of bytes.now self.old)) }
+        ensures goes { IfOk result (ReadsItemsOn bytes.now self.old self.new) }
+        ensures no_memory { IfErr result (λ error. MakesSomeCall (spot_of bytes.now self.old)) }
     {
         match self.opened.top() {
             Some(Frame::Items(left)) => self.next_item(left, bytes),
@@ -315,8 +315,8 @@ impl Reader {
     pub(crate) fn step(&mut self, bytes: &[u8]) -> Result<bool, NoMemory>
         requires within { self.old.at ≤ length bytes.now }
         requires more { self.old.expected ≢ expected.Nothing }
-        ensures goes { IfOk result (ReadsOn bytes.now self.old self.new) }
-        ensures no_memory { IfErr result (λ error. Makes (spot_of bytes.now self.old)) }
+        ensures goes { IfOk result (ReadsItemsOn bytes.now self.old self.new) }
+        ensures no_memory { IfErr result (λ error. MakesSomeCall (spot_of bytes.now self.old)) }
     {
         match self.expected {
             Expected::AnItem => self.item(bytes),

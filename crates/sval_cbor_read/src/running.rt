@@ -6,9 +6,9 @@ ghost use Rattle.sval_program.specs.Jobs.{ServesBytes, ServesInput, Serves};
 ghost use Rattle.sval_program.specs.Runs.{AreQuiet, Ends};
 ghost use Rattle.sval_program.specs.Runs as runs;
 ghost use Rattle.sval_cbor_read.specs.Forms.{OnAsked};
-ghost use Rattle.sval_cbor_read.specs.ReadErrors.{IsRead};
+ghost use Rattle.sval_cbor_read.specs.ReadErrors.{IsReadItem};
 ghost use Rattle.sval_cbor_read.specs.Reports.{Reports};
-ghost use Rattle.sval_cbor_read.specs.Serves.{read_terms, IsInMemory, IsNoItem, WritesDue, WritesUpToKey, MayLeave};
+ghost use Rattle.sval_cbor_read.specs.Serves.{read_terms, IsInMemory, IsNoItem, WritesItemText, WritesUpToKey, MayLeave};
 ghost use Rattle.sval_cbor_read.specs.Statuses.{IsStatusDue};
 
 use crate::document::CborDoc;
@@ -24,8 +24,8 @@ use sval_program::{Failure, Fault, print_captured};
 
 /// Writes the JSON of a document.
 fn write_json<K: Sink>(doc: &CborDoc<'_>, out: &mut K) -> Result<(), Failure>
-    requires { (input : List ℕ) × IsRead input doc.now × IsInMemory input }
-    ensures { (input : List ℕ) → IsRead input doc.now → IsInMemory input
+    requires { (input : List ℕ) × IsReadItem input doc.now × IsInMemory input }
+    ensures { (input : List ℕ) → IsReadItem input doc.now → IsInMemory input
         → ServesBytes read_terms K.told Form.Json input result out.old out.new }
 {
     match stream_to_io_write(out, doc) {
@@ -42,8 +42,8 @@ fn write_json<K: Sink>(doc: &CborDoc<'_>, out: &mut K) -> Result<(), Failure>
 
 /// Captures a document, and prints the canonical script of what it captured.
 fn print_script<K: Sink>(alloc: Global, doc: &CborDoc<'_>, out: &mut K) -> Result<(), Failure>
-    requires { (input : List ℕ) × IsRead input doc.now × IsInMemory input }
-    ensures { (input : List ℕ) → IsRead input doc.now → IsInMemory input
+    requires { (input : List ℕ) × IsReadItem input doc.now × IsInMemory input }
+    ensures { (input : List ℕ) → IsReadItem input doc.now → IsInMemory input
         → ServesBytes read_terms K.told Form.Calls input result out.old out.new }
 {
     Ok(print_captured(alloc, doc.node_count(), doc, out)?)
@@ -56,8 +56,8 @@ fn write_document<K: Sink>(
     doc: &CborDoc<'_>,
     out: &mut K,
 ) -> Result<(), Failure>
-    requires { (input : List ℕ) × IsRead input doc.now × IsInMemory input }
-    ensures { (input : List ℕ) → IsRead input doc.now → IsInMemory input
+    requires { (input : List ℕ) × IsReadItem input doc.now × IsInMemory input }
+    ensures { (input : List ℕ) → IsReadItem input doc.now → IsInMemory input
         → ServesBytes read_terms K.told form input result out.old out.new }
 {
     match form {
@@ -154,7 +154,7 @@ pub fn run_cbor_read<I: Source, K: Sink, D: Sink>(
 
     // Each status comes only where it is so.
     ensures done { result ≡ DONE
-        → OnAsked words.now (I.told input.old) (WritesDue (K.told out.old) (K.told out.new)) }
+        → OnAsked words.now (I.told input.old) (WritesItemText (K.told out.old) (K.told out.new)) }
     ensures invalid_key { result ≡ INVALID_KEY
         → OnAsked words.now (I.told input.old) (WritesUpToKey (K.told out.old) (K.told out.new)) }
     ensures bad_cbor { result ≡ BAD_CBOR → OnAsked words.now (I.told input.old) IsNoItem }

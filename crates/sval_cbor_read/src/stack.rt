@@ -1,7 +1,7 @@
 //! What is open.
 
 ghost use Rattle.std.specs.Prelude.{◌≡◌, [], ◌∷◌, map, reverse, IfOk};
-ghost use Rattle.sval_cbor_read.specs.SeenFrames.{frame_of, frames_of, TopIs, around, changed};
+ghost use Rattle.sval_cbor_read.specs.SeenFrames.{frame_of, open_frames, TopFrameIs, around_frame, changed};
 
 use std::alloc::Global;
 use std::marker::Model;
@@ -34,7 +34,7 @@ pub(crate) struct Stack {
 /// These frames with another one behind them, or none where there is no other one.
 #[inline(never)]
 fn with_inner(mut outer: Vec<Frame>, inner: Option<Frame>) -> Result<Vec<Frame>, NoMemory>
-    ensures { IfOk result (λ all. reverse (map frame_of all.items) ≡ frames_of inner outer.items) }
+    ensures { IfOk result (λ all. reverse (map frame_of all.items) ≡ open_frames inner outer.items) }
 {
     match inner {
         None => outer.clear(),
@@ -45,12 +45,12 @@ fn with_inner(mut outer: Vec<Frame>, inner: Option<Frame>) -> Result<Vec<Frame>,
 
 impl Model for Stack {
     ghost use Rattle.std.specs.Prelude.{List};
-    ghost use Rattle.sval_cbor_read.specs.Reading.{Frame};
-    ghost use Rattle.sval_cbor_read.specs.SeenFrames.{frames_of};
+    ghost use Rattle.sval_cbor_read.specs.Reading.{OpenItem};
+    ghost use Rattle.sval_cbor_read.specs.SeenFrames.{open_frames};
 
-    ghost Value = { List Frame };
+    ghost Value = { List OpenItem };
 
-    ghost view = { λ stack. frames_of stack.top stack.outer.items };
+    ghost view = { λ stack. open_frames stack.top stack.outer.items };
 }
 
 impl Stack {
@@ -69,7 +69,7 @@ impl Stack {
     /// The innermost frame.
     #[inline(always)]
     pub(crate) fn top(&self) -> Option<Frame>
-        ensures { TopIs result self.now }
+        ensures { TopFrameIs result self.now }
     {
         self.top
     }
@@ -98,7 +98,7 @@ impl Stack {
     /// Closes the innermost array or map, if there is one.
     #[inline(always)]
     pub(crate) fn pop(&mut self)
-        ensures { self.new ≡ around self.old }
+        ensures { self.new ≡ around_frame self.old }
     {
         if self.top.is_some() {
             self.top = self.outer.pop();

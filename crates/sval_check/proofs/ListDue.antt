@@ -7,15 +7,15 @@ use Rattle.sval_core.specs.Many.{IsNoHint}
 use Rattle.sval_core.specs.Checker.{Frame, State}
 use Rattle.sval_core.specs.Stacks.{top_of}
 use Rattle.sval_core.specs.CheckerSteps.{goes_on, state_after, is_whole_tree, before_call}
-use Rattle.sval_core.specs.ManyChecker.{is_whole, Progress}
+use Rattle.sval_core.specs.ManyChecker.{is_whole_value, Progress}
 use Rattle.sval_core.proofs.ManyTaken.{taken_list_is_viable, ends_with_trees, trees_end}
 use Rattle.sval_core.proofs.ManySteps.{viable_is_next_of_list}
 use Rattle.sval_check.specs.declared.error.CheckError.TheVariants as error
 use Rattle.sval_check.specs.declared.machine.Refusal.{Refusal}
 use Rattle.sval_check.specs.declared.machine.Refusal.TheVariants.{NotViable, NoMemory}
-use Rattle.sval_check.specs.Checks.{opens}
+use Rattle.sval_check.specs.Checks.{has_own_end}
 use Rattle.sval_check.specs.ManyChecks.{as_kept, AreValues, IsFirstBadOfList, OnlyRefusesList, IsUnfinishedList, EndsTree, NeedsMemoryOfList, ListAnswer, IsDueOfList}
-use Rattle.sval_check.specs.Listing.{Listed, nothing_listed, listed_standing, listing_law, IsStopFor, IsStoppedBy}
+use Rattle.sval_check.specs.Listing.{Listed, nothing_listed, listed_standing, listing_law, IsStopFor, IsListedRefusal}
 use Rattle.sval_check.specs.Checking.{stop_by}
 use Rattle.sval_check.proofs.DueOrWant.{IsDueOrWant}
 use Rattle.sval_check.proofs.CallsSoFar.{all_so_far, StopsAfterAll, StopsAt, stops}
@@ -79,7 +79,7 @@ hint_or_none call now s same whole e = cc e
 whole_is_closed : (s : State) → is_whole_tree s ≡ true → s.frames ≡ []
 whole_is_closed s whole = by_frames s.frames whole
   where
-    by_frames : (fs : List Frame) → is_whole s.filled fs ≡ true → fs ≡ []
+    by_frames : (fs : List Frame) → is_whole_value s.filled fs ≡ true → fs ≡ []
     by_frames [] e = refl
     by_frames (f ∷ fs) e = absurd (cc e)
 
@@ -95,10 +95,10 @@ number_is n at last is same = omega (arith, is, same)
 stopped_at : (e : Emission) (last : Listed) → StopsAt listing_law ListsSoFar [] e.calls last → IsListAnswer e (Err (stop_by last.why last.taken))
 stopped_at e last r = by_last left.last left.why left.cause
   where
-    left : IsStoppedBy r.at r.call last
+    left : IsListedRefusal r.at r.call last
     left = r.left r.so_far.willing
 
-    grows : (opens r.call ≡ true) ⊎ (is_whole_tree (state_after r.call r.at.state) ≡ true) → goes_on r.at.state r.call ≡ true → (opens r.call ≡ true) ⊎ EndsTree r.taken r.call
+    grows : (has_own_end r.call ≡ true) ⊎ (is_whole_tree (state_after r.call r.at.state) ≡ true) → goes_on r.at.state r.call ≡ true → (has_own_end r.call ≡ true) ⊎ EndsTree r.taken r.call
     grows (inl o) goes = inl o
     grows (inr whole) goes = inr (ends_tree r.at r.taken r.call r.so_far goes whole)
 

@@ -7,7 +7,7 @@ use Rattle.sval_core.specs.Law.{Law, Standing, HasCause, Refuses, Answers}
 use Rattle.sval_check.specs.declared.machine.Refusal.{Refusal}
 use Rattle.sval_check.specs.declared.machine.Refusal.TheVariants.{NotViable, NoMemory}
 use Rattle.sval_check.specs.Checking.{Checking, checking_law, checking_standing, IsCauseFor, IsEndedBy}
-use Rattle.sval_check.specs.Listing.{Listed, listing_law, listed_standing, IsStopFor, IsStoppedBy}
+use Rattle.sval_check.specs.Listing.{Listed, listing_law, listed_standing, IsStopFor, IsListedRefusal}
 
 -- what is kept of one value, and where the values before it ended
 abbrev pub with_ends : List ℕ → Checking → Listed
@@ -26,7 +26,7 @@ refused_in_list ends old new call r = record { cause = by_cause r.cause; left = 
     by_cause (inl not) = inl (λ a. not (record { willing = a.willing; viable = a.viable }))
     by_cause (inr rose) = inr rose
 
-    by_left : IsEndedBy old call new → IsStoppedBy (with_ends ends old) call (with_ends ends new)
+    by_left : IsEndedBy old call new → IsListedRefusal (with_ends ends old) call (with_ends ends new)
     by_left e = record { last = e.last; why = e.why; cause = cause_of_stop ends old call e.last e.cause; taken = e.taken }
 
 pub passes_on : {V : Type 0} {law : Law V} {old new : Standing V} {call : Call} (r : Result (Unit {0}) Error) → IsErr r → Refuses law old call new → Answers law r old call new

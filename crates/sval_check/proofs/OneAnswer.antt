@@ -12,24 +12,24 @@ use Rattle.sval_check.specs.declared.error.CheckError.TheVariants as error
 use Rattle.sval_check.specs.declared.machine.Refusal.{Refusal}
 use Rattle.sval_check.specs.declared.machine.Refusal.TheVariants.{NotViable, NoMemory}
 use Rattle.sval_check.specs.Checking.{Checking, nothing_checked, checking_standing, checking_law, IsCauseFor, IsEndedBy, stop_by}
-use Rattle.sval_check.specs.Checks.{IsOneValue, IsFirstBad, OnlyRefuses, IsUnfinished, NeedsMemory, CheckAnswer, IsDue}
+use Rattle.sval_check.specs.Checks.{IsOneValue, IsFirstBadCall, OnlyRefuses, IsUnfinished, NeedsMemory, CheckAnswer, IsCheckDue}
 use Rattle.sval_check.proofs.SoFar.{viable_goes, appended}
 use Rattle.sval_check.proofs.DueOrWant.{IsDueOrWant}
 use Rattle.sval_check.proofs.CallsSoFar.{all_so_far, StopsAfterAll, StopsAt, stops}
 use Rattle.sval_check.proofs.Runs.{ChecksSoFar, none_checked, checked_more}
 
-one_number : {calls : List Call} {at other : ℕ} → IsFirstBad calls at → IsFirstBad calls other → at ≡ other
+one_number : {calls : List Call} {at other : ℕ} → IsFirstBadCall calls at → IsFirstBadCall calls other → at ≡ other
 one_number b c =
     let same = one_first_bad b.front c.front b.call c.call b.rest c.rest b.whole c.whole b.before b.bad c.before c.bad in
     b.number ∙ ap (λ front. min (length front + 1) (2 ^ 64 - 1)) same ∙ sym c.number
 
-not_viable : {calls : List Call} {at : ℕ} → IsFirstBad calls at → IsViable calls → ⊥
+not_viable : {calls : List Call} {at : ℕ} → IsFirstBadCall calls at → IsViable calls → ⊥
 not_viable {calls} b v = none_bad calls b.front b.rest b.call b.whole v b.bad
 
 viable : {e : Emission} → IsOneValue e → IsViable e.calls
 viable {e} o = spelling_is_viable e.calls o.spells.0 o.spells.1
 
-pub one_due : (e : Emission) (first second : CheckAnswer) → IsDue e first → IsDue e second → first ≡ second
+pub one_due : (e : Emission) (first second : CheckAnswer) → IsCheckDue e first → IsCheckDue e second → first ≡ second
 one_due e (Ok u) (Ok v) p q = refl
 one_due e (Ok u) (Err (error.BadCall at)) p q = absurd (not_viable q (viable p))
 one_due e (Ok u) (Err error.Refused) p q = let never = sym p.willing ∙ q.refuses in cc never
@@ -52,7 +52,7 @@ one_due e first (Err error.NoMemory) p q = absurd q
 -- ---- an answer that is due, or want of memory where it may come
 
 abbrev pub IsAnswer : Emission → CheckAnswer → Type 0
-IsAnswer e result = IsDueOrWant (IsDue e) (NeedsMemory e.calls) result
+IsAnswer e result = IsDueOrWant (IsCheckDue e) (NeedsMemory e.calls) result
 
 pub answer_ok : (e : Emission) (result : CheckAnswer) → IsAnswer e result → OnOk result (IsOneValue e)
 answer_ok e (Ok done) (inl is) = is

@@ -5,7 +5,7 @@ use Rattle.sval_label.specs.Calls.{Call}
 use Rattle.sval_core.specs.Law.{Law, Standing, Refuses, one_more, Rose}
 use Rattle.sval_check.specs.declared.checked.Why.{Why}
 use Rattle.sval_check.specs.declared.checked.Why.TheVariants.{NotViable, NoMemory, Inner}
-use Rattle.sval_check.specs.Checked.{CheckedView, checked_law, checked_standing, wants_after, Accepts, IsCause}
+use Rattle.sval_check.specs.Checked.{CheckedView, checked_law, checked_standing, wants_after, CheckedAccepts, IsCause}
 
 same_faults : {V : Type 0} {a b : Standing V} → a ≡ b → b.faults ≤ a.faults
 same_faults {V} {a} {b} e = let same : a.faults ≡ b.faults = ap (λ (s : Standing V). s.faults) e in omega (arith, same)
@@ -13,7 +13,7 @@ same_faults {V} {a} {b} e = let same : a.faults ≡ b.faults = ap (λ (s : Stand
 rose : (before now : ℕ) → now ≡ one_more before → Rose before now
 rose before now e = omega (arith, e)
 
-not_accepted : {V : Type 0} (law : Law V) (view : CheckedView V) (call : Call) (inner : Standing V) → IsCause law view call inner NotViable → Accepts law view call → ⊥
+not_accepted : {V : Type 0} (law : Law V) (view : CheckedView V) (call : Call) (inner : Standing V) → IsCause law view call inner NotViable → CheckedAccepts law view call → ⊥
 not_accepted law view call inner c a = let never : true ≡ false = sym a.viable ∙ c.0 in cc never
 
 -- the law's words for a refusal of which the cause is kept

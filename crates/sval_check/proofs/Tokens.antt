@@ -4,7 +4,7 @@ use Rattle.std.proofs.Common.{append_assoc, ◌∙◌, subst}
 use Rattle.std.proofs.lemmas.List.{append-nil}
 use Rattle.sval_label.specs.Calls.{Call}
 use Rattle.sval_core.specs.Law.{Ran}
-use Rattle.sval_check.specs.TokenBufs.{token_law, KeepsAll, TakesAll}
+use Rattle.sval_check.specs.TokenBufs.{token_law, KeepsAll, TakesAnyCalls}
 
 pub keeps_all : (kept calls left : List Call) → Ran token_law kept calls left → left ≡ kept ++ calls
 keeps_all kept [] left ran = rw append-nil ran

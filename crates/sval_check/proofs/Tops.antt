@@ -14,7 +14,7 @@ use Rattle.sval_check.specs.declared.kept.Named.{Named}
 use Rattle.sval_check.specs.declared.kept.Named.TheVariants as named
 use Rattle.sval_check.specs.Kept.{named_frame}
 use Rattle.sval_check.specs.Frames.{frames_of, are_named}
-use Rattle.sval_check.specs.Tops.{is_head, is_slot, ends, has_parts, part_rest, on_top}
+use Rattle.sval_check.specs.Tops.{is_head, is_slot, may_end_with, has_parts, part_rest, on_top}
 
 -- the frame of the innermost begin with a name, if there is one
 abbrev pub frame_at : List ℕ → Option ℕ → List Named → Option machine.Frame
@@ -44,7 +44,7 @@ pub slot_is : {now items : List Frame} {left : Option ℕ} (ns : List Named) (te
     → is_slot (frame_at texts None ns) slot ≡ is_slot (top_of (frames_of (reverse items) ns texts)) slot
 slot_is {now} {items} {left} ns texts slot same e = slot_at texts left ns slot ∙ ap (λ top. is_slot top slot) (sym (top_is ns texts same e))
 
-head_at : (texts : List ℕ) (left : Option ℕ) (ns : List Named) (head : Head) → (is_head (frame_at texts None ns) head && is_used_up left) ≡ ends (frame_at texts left ns) head
+head_at : (texts : List ℕ) (left : Option ℕ) (ns : List Named) (head : Head) → (is_head (frame_at texts None ns) head && is_used_up left) ≡ may_end_with (frame_at texts left ns) head
 head_at texts left [] head = refl
 head_at texts left (named.Value value.Tagged name ∷ ns) head = refl
 head_at texts left (named.Value value.Enum name ∷ ns) head = refl
@@ -56,8 +56,8 @@ head_at texts left (named.Place tag index ∷ ns) head = refl
 head_at texts left (named.FieldPlace tag label index ∷ ns) head = refl
 
 pub head_is : {now items : List Frame} {left : Option ℕ} (ns : List Named) (texts : List ℕ) (head : Head) → now ≡ items → top_of (reverse now) ≡ Some (frame.Named left)
-    → (is_head (frame_at texts None ns) head && is_used_up left) ≡ ends (top_of (frames_of (reverse items) ns texts)) head
-head_is {now} {items} {left} ns texts head same e = head_at texts left ns head ∙ ap (λ top. ends top head) (sym (top_is ns texts same e))
+    → (is_head (frame_at texts None ns) head && is_used_up left) ≡ may_end_with (top_of (frames_of (reverse items) ns texts)) head
+head_is {now} {items} {left} ns texts head same e = head_at texts left ns head ∙ ap (λ top. may_end_with top head) (sym (top_is ns texts same e))
 
 -- the parts of a container with a name are entries of it
 one_entry : (slot : Slot) (texts : List ℕ) (left : Option ℕ) (ns : List Named) → (if has_parts (frame_at texts None ns) slot then take_off left 1 else None) ≡ part_rest slot (frame_at texts left ns)

@@ -5,7 +5,7 @@ use Rattle.sval_core.specs.Law.{Law, Standing, Refuses, one_more}
 use Rattle.sval_core.specs.Spells.{IsViable}
 use Rattle.sval_core.specs.Checker.{State, kept}
 use Rattle.sval_core.specs.CheckerSteps.{goes_on, state_after}
-use Rattle.sval_check.specs.Checks.{opens}
+use Rattle.sval_check.specs.Checks.{has_own_end}
 use Rattle.sval_check.specs.declared.machine.Refusal.{Refusal}
 use Rattle.sval_check.specs.declared.machine.Refusal.TheVariants as refusal
 use Rattle.sval_check.specs.declared.checked.Why.{Why}
@@ -55,7 +55,7 @@ wants_after NotViable wants = wants
 wants_after _ wants = one_more wants
 
 -- a call is accepted where a value goes on with it, and the inner stream accepts it
-pub record Accepts {V : Type 0} (law : Law V) (view : CheckedView V) (call : Call) : Type 0 where
+pub record CheckedAccepts {V : Type 0} (law : Law V) (view : CheckedView V) (call : Call) : Type 0 where
   pub viable : goes_on view.state call ≡ true
   pub inside : law.accepts view.inner.view call
 
@@ -69,11 +69,11 @@ checked_after law view call = record view {
 -- where a call may be refused for this, and what that leaves of the inner stream
 abbrev pub IsCause : {V : Type 0} → Law V → CheckedView V → Call → Standing V → Why → Type 0
 IsCause law view call inner NotViable = (goes_on view.state call ≡ false) × (inner ≡ view.inner)
-IsCause law view call inner NoMemory = (opens call ≡ true) × (goes_on view.state call ≡ true) × (inner ≡ view.inner)
+IsCause law view call inner NoMemory = (has_own_end call ≡ true) × (goes_on view.state call ≡ true) × (inner ≡ view.inner)
 IsCause law view call inner Inner = (goes_on view.state call ≡ true) × Refuses law view.inner call inner
 
 -- a call that was refused leaves the state as it was, and its cause
-pub record IsLeft {V : Type 0} (law : Law V) (view : CheckedView V) (call : Call) (left : CheckedView V) : Type 0 where
+pub record IsLeftRefused {V : Type 0} (law : Law V) (view : CheckedView V) (call : Call) (left : CheckedView V) : Type 0 where
   pub state : left.state ≡ view.state
   pub last : Why
   pub why : left.why ≡ Some last
@@ -82,12 +82,12 @@ pub record IsLeft {V : Type 0} (law : Law V) (view : CheckedView V) (call : Call
 
 -- the law of a stream whose calls are checked, over one of this law
 abbrev pub checked_law : {V : Type 0} → Law V → Law (CheckedView V)
-checked_law law = record { accepts = Accepts law; after = checked_after law; stopped = IsLeft law }
+checked_law law = record { accepts = CheckedAccepts law; after = checked_after law; stopped = IsLeftRefused law }
 
 -- what passing a call on says, where no refusal was kept yet: it was taken, or there is a cause to refuse it
-abbrev pub Passes : {V : Type 0} → Law V → CheckedView V → Call → CheckedView V → Result (Unit {0}) Why → Type 0
-Passes law old call new (Ok done) = Accepts law old call × (new ≡ checked_after law old call)
-Passes law old call new (Err why) = IsCause law old call new.inner why × (new ≡ record old { inner = new.inner })
+abbrev pub PassesCall : {V : Type 0} → Law V → CheckedView V → Call → CheckedView V → Result (Unit {0}) Why → Type 0
+PassesCall law old call new (Ok done) = CheckedAccepts law old call × (new ≡ checked_after law old call)
+PassesCall law old call new (Err why) = IsCause law old call new.inner why × (new ≡ record old { inner = new.inner })
 
 -- ---- lists of calls
 

@@ -4,7 +4,7 @@ use Rattle.sval_label.specs.Calls.{Call}
 use Rattle.sval_core.specs.Law.{Law, Standing, one_more}
 use Rattle.sval_core.specs.Checker.{State}
 use Rattle.sval_core.specs.CheckerSteps.{unfilled, goes_on, state_after}
-use Rattle.sval_check.specs.Checks.{opens}
+use Rattle.sval_check.specs.Checks.{has_own_end}
 use Rattle.sval_check.specs.declared.error.CheckError.{CheckError}
 use Rattle.sval_check.specs.declared.error.CheckError.TheVariants as error
 use Rattle.sval_check.specs.declared.machine.Refusal.{Refusal}
@@ -35,7 +35,7 @@ abbrev pub checking_standing : Checking → Standing Checking
 checking_standing c = record { view = c; faults = 0; wants = wants_of c.why }
 
 -- no call was refused, and a value goes on with this one
-pub record GoesOn (c : Checking) (call : Call) : Type 0 where
+pub record ValueGoesOn (c : Checking) (call : Call) : Type 0 where
   pub willing : c.why ≡ None
   pub viable : goes_on c.state call ≡ true
 
@@ -46,7 +46,7 @@ checking_after c call = record c { state = state_after call c.state; taken = one
 -- where a call may be refused for this: memory may be wanting for what it begins
 abbrev pub IsCauseFor : Checking → Call → Refusal → Type 0
 IsCauseFor c call NotViable = goes_on c.state call ≡ false
-IsCauseFor c call NoMemory = (goes_on c.state call ≡ true) × (opens call ≡ true)
+IsCauseFor c call NoMemory = (goes_on c.state call ≡ true) × (has_own_end call ≡ true)
 
 -- a call that was refused is counted, and its cause kept
 pub record IsEndedBy (c : Checking) (call : Call) (left : Checking) : Type 0 where
@@ -57,12 +57,12 @@ pub record IsEndedBy (c : Checking) (call : Call) (left : Checking) : Type 0 whe
 
 -- the law of what checks calls for one tree: after a refusal nothing more is said
 abbrev pub checking_law : Law Checking
-checking_law = record { accepts = GoesOn; after = checking_after; stopped = λ c call left. c.why ≡ None → IsEndedBy c call left }
+checking_law = record { accepts = ValueGoesOn; after = checking_after; stopped = λ c call left. c.why ≡ None → IsEndedBy c call left }
 
 -- what one step says, before its refusal is kept
-abbrev pub Steps : Checking → Call → Checking → Result (Unit {0}) Refusal → Type 0
-Steps old call new (Ok done) = (goes_on old.state call ≡ true) × (new ≡ checking_after old call)
-Steps old call new (Err why) = IsCauseFor old call why × (new.taken ≡ one_more old.taken)
+abbrev pub StepsOrRefuses : Checking → Call → Checking → Result (Unit {0}) Refusal → Type 0
+StepsOrRefuses old call new (Ok done) = (goes_on old.state call ≡ true) × (new ≡ checking_after old call)
+StepsOrRefuses old call new (Err why) = IsCauseFor old call why × (new.taken ≡ one_more old.taken)
 
 -- what is answered where a call was refused for this, of which this is the number, or the value itself refused
 abbrev pub stop_by : Option Refusal → ℕ → CheckError

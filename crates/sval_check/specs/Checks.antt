@@ -13,7 +13,7 @@ pub record IsOneValue (e : Emission) : Type 0 where
   pub spells : (tree : Tree) × Spells e.calls tree
 
 -- the calls before this one can be completed, and with it they cannot; its number is counted from 1 and stops at the greatest u64
-pub record IsFirstBad (calls : List Call) (at : ℕ) : Type 0 where
+pub record IsFirstBadCall (calls : List Call) (at : ℕ) : Type 0 where
   pub front : List Call
   pub call : Call
   pub rest : List Call
@@ -34,14 +34,14 @@ pub record IsUnfinished (e : Emission) : Type 0 where
   pub no_tree : (tree : Tree) → Spells e.calls tree → ⊥
 
 -- these calls begin what has an end of its own, and so need memory
-abbrev pub opens : Call → Bool
-opens (TextBegin _) = true
-opens (BinaryBegin _) = true
-opens (EnumBegin _) = true
-opens (TaggedBegin _) = true
-opens (Begin _ _) = true
-opens (PartBegin _) = true
-opens _ = false
+abbrev pub has_own_end : Call → Bool
+has_own_end (TextBegin _) = true
+has_own_end (BinaryBegin _) = true
+has_own_end (EnumBegin _) = true
+has_own_end (TaggedBegin _) = true
+has_own_end (Begin _ _) = true
+has_own_end (PartBegin _) = true
+has_own_end _ = false
 
 -- one of the calls needs memory, and with it and those before it the calls can be completed
 pub record NeedsMemory (calls : List Call) : Type 0 where
@@ -50,20 +50,20 @@ pub record NeedsMemory (calls : List Call) : Type 0 where
   pub rest : List Call
   pub whole : calls ≡ front ++ (call ∷ rest)
   pub viable : IsViable (front ++ (call ∷ []))
-  pub opens : opens call ≡ true
+  pub opens : has_own_end call ≡ true
 
 -- what checking answers
 abbrev pub CheckAnswer : Type 0
 CheckAnswer = Result (Unit {0}) CheckError
 
 -- the answer that is due, where memory isn't wanting
-abbrev pub IsDue : Emission → CheckAnswer → Type 0
-IsDue e (Ok done) = IsOneValue e
-IsDue e (Err (error.BadCall at)) = IsFirstBad e.calls at
-IsDue e (Err error.Refused) = OnlyRefuses e
-IsDue e (Err error.Unfinished) = IsUnfinished e
-IsDue e (Err error.NoMemory) = ⊥
+abbrev pub IsCheckDue : Emission → CheckAnswer → Type 0
+IsCheckDue e (Ok done) = IsOneValue e
+IsCheckDue e (Err (error.BadCall at)) = IsFirstBadCall e.calls at
+IsCheckDue e (Err error.Refused) = OnlyRefuses e
+IsCheckDue e (Err error.Unfinished) = IsUnfinished e
+IsCheckDue e (Err error.NoMemory) = ⊥
 
 -- a value has one answer that is due
 abbrev pub OneAnswer : Type 0
-OneAnswer = (e : Emission) → (due : CheckAnswer) × IsDue e due × ((other : CheckAnswer) → IsDue e other → due ≡ other)
+OneAnswer = (e : Emission) → (due : CheckAnswer) × IsCheckDue e due × ((other : CheckAnswer) → IsCheckDue e other → due ≡ other)

@@ -60,7 +60,7 @@ abbrev pub named_top : Names → Option ℕ → Option machine.Frame
 named_top names left = option_map (λ named. named_frame names.texts.items named left) (top_of (reverse names.begun.items))
 
 -- a begin is kept with its frame in front of any others
-pub record Opens (old new : Names) (opened : machine.Frame) (kept : Frame) : Type 0 where
+pub record OpensFrame (old new : Names) (opened : machine.Frame) (kept : Frame) : Type 0 where
   pub frames : (frames : List Frame) → frames_over (kept ∷ frames) new ≡ opened ∷ frames_over frames old
   pub named : (frames : List Frame) → are_named (kept ∷ frames) (reverse new.begun.items) ≡ are_named frames (reverse old.begun.items)
 
@@ -70,14 +70,14 @@ pub record IsSeenAs (kept : Frame) (opened : machine.Frame) : Type 0 where
   pub named : (frames : List Frame) (named : List Named) → are_named (kept ∷ frames) named ≡ are_named frames named
 
 -- the names are as they were
-pub record AreKept (old new : Names) : Type 0 where
+pub record NamesStay (old new : Names) : Type 0 where
   pub begun : new.begun.items ≡ old.begun.items
   pub texts : new.texts.items ≡ old.texts.items
 
 -- a begin is kept, or memory was wanting and nothing changed
-abbrev pub Keeps : Names → Names → machine.Frame → Result Frame NoMemory → Type 0
-Keeps old new opened (Ok kept) = Opens old new opened kept
-Keeps old new opened (Err error) = AreKept old new
+abbrev pub KeepsBegin : Names → Names → machine.Frame → Result Frame NoMemory → Type 0
+KeepsBegin old new opened (Ok kept) = OpensFrame old new opened kept
+KeepsBegin old new opened (Err error) = NamesStay old new
 
 -- what is told apart of a value that begins
 abbrev pub seen_form : Form → steps.Form

@@ -5,7 +5,7 @@ use Rattle.sval_core.specs.Law.{Law, Standing, one_more}
 use Rattle.sval_core.specs.Checker.{State}
 use Rattle.sval_core.specs.CheckerSteps.{unfilled, goes_on, state_after, is_whole_tree}
 use Rattle.sval_core.specs.ManyChecker.{ready}
-use Rattle.sval_check.specs.Checks.{opens}
+use Rattle.sval_check.specs.Checks.{has_own_end}
 use Rattle.sval_check.specs.declared.machine.Refusal.{Refusal}
 use Rattle.sval_check.specs.declared.machine.Refusal.TheVariants.{NotViable, NoMemory}
 use Rattle.sval_check.specs.declared.lister.Lister.{Lister}
@@ -19,8 +19,8 @@ pub record Listed : Type 0 where
   pub why : Option Refusal
 
 -- what a lister keeps
-abbrev pub listed : Lister → Listed
-listed lister = record { state = lister.checker.machine; ends = lister.ends; taken = lister.checker.taken; why = lister.checker.why }
+abbrev pub lister_view : Lister → Listed
+lister_view lister = record { state = lister.checker.machine; ends = lister.ends; taken = lister.checker.taken; why = lister.checker.why }
 
 -- before any call
 abbrev pub nothing_listed : Listed
@@ -54,10 +54,10 @@ listed_after l call = led_to (state_after call l.state) l
 -- where a call may be refused for this: memory may be wanting for what it begins, or for the end of a tree
 abbrev pub IsStopFor : Listed → Call → Refusal → Type 0
 IsStopFor l call NotViable = goes_on l.state call ≡ false
-IsStopFor l call NoMemory = (goes_on l.state call ≡ true) × ((opens call ≡ true) ⊎ (is_whole_tree (state_after call l.state) ≡ true))
+IsStopFor l call NoMemory = (goes_on l.state call ≡ true) × ((has_own_end call ≡ true) ⊎ (is_whole_tree (state_after call l.state) ≡ true))
 
 -- a call that was refused is counted, and its cause kept
-pub record IsStoppedBy (l : Listed) (call : Call) (left : Listed) : Type 0 where
+pub record IsListedRefusal (l : Listed) (call : Call) (left : Listed) : Type 0 where
   pub last : Refusal
   pub why : left.why ≡ Some last
   pub cause : IsStopFor l call last
@@ -65,4 +65,4 @@ pub record IsStoppedBy (l : Listed) (call : Call) (left : Listed) : Type 0 where
 
 -- the law of what checks calls for many trees: after a refusal nothing more is said
 abbrev pub listing_law : Law Listed
-listing_law = record { accepts = Continues; after = listed_after; stopped = λ l call left. l.why ≡ None → IsStoppedBy l call left }
+listing_law = record { accepts = Continues; after = listed_after; stopped = λ l call left. l.why ≡ None → IsListedRefusal l call left }

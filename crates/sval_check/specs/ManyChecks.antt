@@ -4,7 +4,7 @@ use Rattle.sval_label.specs.Calls.{Call}
 use Rattle.sval_core.specs.Trees.{Tree}
 use Rattle.sval_core.specs.Many.{SpellsAll, IsViableAll, IsNoHint, AreEnds}
 use Rattle.sval_core.specs.Law.{Emission}
-use Rattle.sval_check.specs.Checks.{opens}
+use Rattle.sval_check.specs.Checks.{has_own_end}
 use Rattle.sval_check.specs.declared.error.CheckError.{CheckError}
 use Rattle.sval_check.specs.declared.error.CheckError.TheVariants as error
 
@@ -55,7 +55,7 @@ pub record NeedsMemoryOfList (calls : List Call) : Type 0 where
   pub rest : List Call
   pub whole : calls ≡ front ++ (call ∷ rest)
   pub viable : IsViableAll (front ++ (call ∷ []))
-  pub grows : (opens call ≡ true) ⊎ EndsTree front call
+  pub grows : (has_own_end call ≡ true) ⊎ EndsTree front call
 
 -- what checking for many trees answers: where they end, or an error
 abbrev pub ListAnswer : Type 0

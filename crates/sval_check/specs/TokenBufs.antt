@@ -14,8 +14,8 @@ abbrev pub nothing_taken : TakenCalls
 nothing_taken = record { calls = []; wants = 0 }
 
 -- with this call behind those that were taken
-abbrev pub with_call : TakenCalls → Call → TakenCalls
-with_call taken call = record taken { calls = taken.calls ++ (call ∷ []) }
+abbrev pub with_taken_call : TakenCalls → Call → TakenCalls
+with_taken_call taken call = record taken { calls = taken.calls ++ (call ∷ []) }
 
 -- every call is accepted and appended, and a refused one leaves the calls
 abbrev pub token_law : Law (List Call)
@@ -27,7 +27,7 @@ token_standing taken = record { view = taken.calls; faults = 0; wants = taken.wa
 
 -- a call is kept, or nothing is changed
 abbrev pub KeepsCall : TakenCalls → Call → Result (Unit {0}) NoMemory → TakenCalls → Type 0
-KeepsCall old call (Ok done) new = new ≡ with_call old call
+KeepsCall old call (Ok done) new = new ≡ with_taken_call old call
 KeepsCall old call (Err no_memory) new = new ≡ old
 
 -- whatever calls are taken, they are kept behind those that were, all of them and in order
@@ -35,5 +35,5 @@ abbrev pub KeepsAll : Type 0
 KeepsAll = (kept calls left : List Call) → Ran token_law kept calls left → left ≡ kept ++ calls
 
 -- any calls may be taken
-abbrev pub TakesAll : Type 0
-TakesAll = (kept calls : List Call) → Ran token_law kept calls (kept ++ calls)
+abbrev pub TakesAnyCalls : Type 0
+TakesAnyCalls = (kept calls : List Call) → Ran token_law kept calls (kept ++ calls)

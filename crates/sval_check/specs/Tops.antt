@@ -39,9 +39,9 @@ has_parts (Some (InContainer head kind left)) slot = same_kind (kind_of slot) ki
 has_parts top slot = false
 
 -- a container may end with this head
-abbrev pub ends : Option machine.Frame → Head → Bool
-ends (Some (InContainer head kind left)) ended = same_head ended head && (may_end kind && is_used_up left)
-ends top ended = false
+abbrev pub may_end_with : Option machine.Frame → Head → Bool
+may_end_with (Some (InContainer head kind left)) ended = same_head ended head && (may_end kind && is_used_up left)
+may_end_with top ended = false
 
 -- a text or binary may end
 abbrev pub content_ends : Content → Option machine.Frame → Bool
@@ -80,10 +80,10 @@ with_next left (frame.Named _) = frame.Named left
 with_next left kept = kept
 
 -- the checker's own frame of a text or binary, of which so much is still to come
-abbrev pub with_rest : Content → Option ℕ → Frame → Frame
-with_rest content.Text left (frame.Text _) = frame.Text left
-with_rest content.Binary left (frame.Binary _) = frame.Binary left
-with_rest content left kept = kept
+abbrev pub with_text_left : Content → Option ℕ → Frame → Frame
+with_text_left content.Text left (frame.Text _) = frame.Text left
+with_text_left content.Binary left (frame.Binary _) = frame.Binary left
+with_text_left content left kept = kept
 
 -- a stack with its innermost changed
 abbrev pub on_top : {A : Type 0} → (A → A) → List A → List A

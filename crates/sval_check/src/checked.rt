@@ -8,7 +8,7 @@ ghost use Rattle.sval_core.specs.Law.{Answers};
 ghost use Rattle.sval_core.specs.CheckerSteps.{unfilled, is_whole_tree};
 ghost use Rattle.sval_core.specs.Spells.{Spells};
 ghost use Rattle.sval_core.specs.Trees.{Tree};
-ghost use Rattle.sval_check.specs.Checked.{CheckedView, Passes, StandsFor, checked_law, checked_standing, inner_of, last_why, own_wants, seen, state_of, wants_after};
+ghost use Rattle.sval_check.specs.Checked.{CheckedView, PassesCall, StandsFor, checked_law, checked_standing, inner_of, last_why, own_wants, seen, state_of, wants_after};
 
 use crate::machine::{Machine, Refusal};
 use std::alloc::Global;
@@ -160,7 +160,7 @@ fn pass<L: Lending, S: Stream<L>>(
     checked: &mut Checked<S>,
     call: AnyCall<'_, L::Text, L::Bytes>,
 ) -> Result<(), Why>
-    ensures { Passes S.law (seen S.standing checked.old) (call_of L.text L.bytes call.entry)
+    ensures { PassesCall S.law (seen S.standing checked.old) (call_of L.text L.bytes call.entry)
         (seen S.standing checked.new) result }
 {
     let (call, passed) = twice(call);

@@ -4,7 +4,7 @@ ghost use Rattle.std.specs.Prelude.{◌≡◌};
 ghost use Rattle.sval_label.specs.Made.{call_of};
 ghost use Rattle.sval_core.specs.Law.{Answers};
 ghost use Rattle.sval_core.specs.CheckerSteps.{is_whole_tree};
-ghost use Rattle.sval_check.specs.Checking.{Checking, checking, checking_law, checking_standing, nothing_checked, Steps, stop_by};
+ghost use Rattle.sval_check.specs.Checking.{Checking, checking, checking_law, checking_standing, nothing_checked, StepsOrRefuses, stop_by};
 
 use crate::error::CheckError;
 use crate::machine::{Machine, Refusal};
@@ -56,7 +56,7 @@ impl Checker {
     /// Counts a call and goes on with it, or says why it doesn't go on.
     #[inline(always)]
     fn step<L: Lending>(&mut self, call: AnyCall<'_, L::Text, L::Bytes>) -> Result<(), Refusal>
-        ensures { Steps (checking self.old) (call_of L.text L.bytes call.entry) (checking self.new) result }
+        ensures { StepsOrRefuses (checking self.old) (call_of L.text L.bytes call.entry) (checking self.new) result }
     {
         self.taken = self.taken.saturating_add(1);
         self.machine.step::<L>(call)

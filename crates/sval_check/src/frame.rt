@@ -2,7 +2,7 @@
 
 ghost use Rattle.std.specs.Prelude.{◌≡◌};
 ghost use Rattle.sval_check.specs.Frames.{begun_form, begun_frame, seen_form, IsSeenAs};
-ghost use Rattle.sval_check.specs.Tops.{with_next, with_rest};
+ghost use Rattle.sval_check.specs.Tops.{with_next, with_text_left};
 
 /// What has begun and has no end yet; of a size that was given, what is still to come.
 ///
@@ -45,7 +45,7 @@ impl Frame {
 
     /// This frame with another rest, where it is in such a content.
     pub(crate) fn with_left(self, content: Content, left: Option<usize>) -> Frame
-        ensures { result ≡ with_rest content left self }
+        ensures { result ≡ with_text_left content left self }
     {
         match (self, content) {
             (Frame::Text(_), Content::Text) => Frame::Text(left),

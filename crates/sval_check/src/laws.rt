@@ -7,7 +7,7 @@ ghost use Rattle.std.specs.Prelude.{◌≡◌};
 ghost use Rattle.std.specs.Bool.{Decides};
 ghost use Rattle.sval_core.specs.Spells.{bare_name};
 ghost use Rattle.sval_check.specs.Tokens.{token_name, token_call, compared};
-ghost use Rattle.sval_check.specs.TokenBufs.{KeepsAll, TakesAll};
+ghost use Rattle.sval_check.specs.TokenBufs.{KeepsAll, TakesAnyCalls};
 
 use crate::token::{Token, TokenName};
 use sval_core::{Lending, Stream};
@@ -33,7 +33,7 @@ pub fn checked_laws<L: Lending, S: Stream<L>>()
 /// What holds of a [`TokenBuf`](crate::TokenBuf) after any calls.
 pub fn token_buf_laws()
     ensures keeps_all { KeepsAll }
-    ensures takes_all { TakesAll }
+    ensures takes_all { TakesAnyCalls }
 {}
 
 /// What `==` answers of two tokens: whether they are the same call and say the same, but for the tags of labels and

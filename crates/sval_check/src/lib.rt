@@ -9,7 +9,7 @@
 #![tactic(auto)]
 
 ghost use Rattle.std.specs.Prelude.{◌≡◌, ◌⊎◌, ℕ, Err, IfOk, OnOk};
-ghost use Rattle.sval_check.specs.Checks.{IsOneValue, IsFirstBad, OnlyRefuses, IsUnfinished, NeedsMemory, CheckAnswer, IsDue};
+ghost use Rattle.sval_check.specs.Checks.{IsOneValue, IsFirstBadCall, OnlyRefuses, IsUnfinished, NeedsMemory, CheckAnswer, IsCheckDue};
 ghost use Rattle.sval_check.specs.ManyChecks.{AreValues, IsFirstBadOfList, OnlyRefusesList, IsUnfinishedList};
 ghost use Rattle.sval_check.specs.ManyChecks.{NeedsMemoryOfList, ListAnswer, IsDueOfList};
 
@@ -71,11 +71,11 @@ pub use token_buf::TokenBuf;
 pub fn check<'v, V: Value<'v, Lent<'v>>>(alloc: Global, value: &'v V) -> Result<(), CheckError>
     ensures ok { OnOk result (IsOneValue (V.emission value.now)) }
     ensures bad_call { (at : ℕ) → result ≡ Err (CheckError.BadCall at)
-        → IsFirstBad (V.emission value.now).calls at }
+        → IsFirstBadCall (V.emission value.now).calls at }
     ensures refused { result ≡ Err CheckError.Refused → OnlyRefuses (V.emission value.now) }
     ensures unfinished { result ≡ Err CheckError.Unfinished → IsUnfinished (V.emission value.now) }
     ensures no_memory { result ≡ Err CheckError.NoMemory → NeedsMemory (V.emission value.now).calls }
-    ensures comes { (due : CheckAnswer) → IsDue (V.emission value.now) due
+    ensures comes { (due : CheckAnswer) → IsCheckDue (V.emission value.now) due
         → (result ≡ due) ⊎ (result ≡ Err CheckError.NoMemory) }
 {
     let mut checker = Checker::new(alloc);

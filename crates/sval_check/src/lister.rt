@@ -5,7 +5,7 @@ ghost use Rattle.sval_label.specs.Made.{call_of};
 ghost use Rattle.sval_core.specs.Law.{Answers};
 ghost use Rattle.sval_core.specs.Stacks.{top_of};
 ghost use Rattle.sval_check.specs.Checking.{stop_by};
-ghost use Rattle.sval_check.specs.Listing.{Listed, listed, listing_law, listed_standing, nothing_listed};
+ghost use Rattle.sval_check.specs.Listing.{Listed, lister_view, listing_law, listed_standing, nothing_listed};
 
 use crate::checker::Checker;
 use crate::ends::Ends;
@@ -27,7 +27,7 @@ pub(crate) struct Lister {
 impl Lister {
     /// One that has taken no call, and no memory yet.
     pub(crate) fn new(alloc: Global) -> Self
-        ensures { listed result ≡ nothing_listed }
+        ensures { lister_view result ≡ nothing_listed }
     {
         Lister {
             checker: Checker::new(alloc),
@@ -62,12 +62,12 @@ impl<L: Lending> Stream<L> for Lister {
 
     ghost law = { listing_law };
 
-    ghost standing = { λ lister. listed_standing (listed lister) };
+    ghost standing = { λ lister. listed_standing (lister_view lister) };
 
     #[inline(always)]
     fn take(&mut self, call: AnyCall<'_, L::Text, L::Bytes>) -> sval_core::Result
-        ensures { Answers listing_law result (listed_standing (listed self.old))
-            (call_of L.text L.bytes call.entry) (listed_standing (listed self.new)) }
+        ensures { Answers listing_law result (listed_standing (lister_view self.old))
+            (call_of L.text L.bytes call.entry) (listed_standing (lister_view self.new)) }
     {
         Stream::<L>::take(&mut self.checker, call)?;
         if self.checker.machine.is_whole() {

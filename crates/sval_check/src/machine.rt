@@ -9,7 +9,7 @@ ghost use Rattle.sval_core.specs.Checker.{InContainer, State};
 ghost use Rattle.sval_core.specs.CheckerSteps.{unfilled, has_room, Variant, form_of_head, value, begin, at_top, next};
 ghost use Rattle.sval_core.specs.CheckerSteps.{tagged_end, enum_end, end, part_begin, part_end, is_whole_tree};
 ghost use Rattle.sval_core.specs.Stacks.{below, top_of};
-ghost use Rattle.sval_check.specs.Checks.{opens};
+ghost use Rattle.sval_check.specs.Checks.{has_own_end};
 ghost use Rattle.sval_check.specs.Kept.{value_frame};
 ghost use Rattle.sval_check.specs.Frames.{begun_frame, begun_form, seen_form};
 ghost use Rattle.sval_check.specs.Tops.{content_fragment, content_end};
@@ -152,7 +152,7 @@ impl Machine {
         call: AnyCall<'_, L::Text, L::Bytes>,
     ) -> Result<Due, Refusal>
         ensures { let call = call_of L.text L.bytes call.entry in
-            Readies (opens call) (next self.old call) self.old self.new result }
+            Readies (has_own_end call) (next self.old call) self.old self.new result }
     {
         match call.grouped() {
             GroupedCall::Null | GroupedCall::Bool(_) | GroupedCall::Int(_) => {

@@ -10,7 +10,7 @@ ghost use Rattle.sval_core.specs.Checker.{InPart};
 ghost use Rattle.sval_core.specs.CheckerSteps.{admits};
 ghost use Rattle.sval_core.specs.Stacks.{top_of};
 ghost use Rattle.sval_check.specs.Kept.{kept_label, kept_name, named_size, named_frame, value_frame, texts_around};
-ghost use Rattle.sval_check.specs.Frames.{named_top, Keeps, seen_form};
+ghost use Rattle.sval_check.specs.Frames.{named_top, KeepsBegin, seen_form};
 ghost use Rattle.sval_check.specs.Tops.{is_tagged, is_enum, is_head, is_slot, has_parts};
 
 use crate::frame::{Form, Frame};
@@ -44,7 +44,7 @@ impl Names {
     #[inline(always)]
     fn push(&mut self, named: Named, text: &str, left: Option<usize>) -> Result<Frame, NoMemory>
         requires { named_size named ≡ length text.now }
-        ensures { Keeps self.old self.new (named_frame text.now named left) result }
+        ensures { KeepsBegin self.old self.new (named_frame text.now named left) result }
     {
         self.begun.reserve(1)?;
         self.texts.extend_from_slice(text.as_bytes())?;
@@ -60,7 +60,7 @@ impl Names {
         name: Name<'_>,
         left: Option<usize>,
     ) -> Result<Frame, NoMemory>
-        ensures { Keeps self.old self.new (value_frame value (plain_name (seen_name name.entry)) left) result }
+        ensures { KeepsBegin self.old self.new (value_frame value (plain_name (seen_name name.entry)) left) result }
     {
         self.push(
             Named::Value(value, KeptName::of(name)),
@@ -72,7 +72,7 @@ impl Names {
     /// Keeps the begin of a container's part, and gives its frame.
     #[inline(always)]
     pub(crate) fn keep_slot(&mut self, slot: Slot<'_>) -> Result<Frame, NoMemory>
-        ensures { Keeps self.old self.new (InPart (plain_slot (seen_slot slot.entry))) result }
+        ensures { KeepsBegin self.old self.new (InPart (plain_slot (seen_slot slot.entry))) result }
     {
         match slot {
             Slot::Item => Ok(Frame::Item),
@@ -87,7 +87,8 @@ impl Names {
     /// Keeps the begin of a field of a record.
     #[inline(always)]
     fn keep_field(&mut self, tag: Option<&Tag>, label: &Label<'_>) -> Result<Frame, NoMemory>
-        ensures { Keeps self.old self.new (InPart (plain_slot (seen_slot (Slot.Field tag.entry label.entry)))) result }
+        ensures { KeepsBegin self.old self.new (InPart
+            (plain_slot (seen_slot (Slot.Field tag.entry label.entry)))) result }
     {
         self.push(
             Named::Field(tag.copied(), KeptLabel::of(label)),
@@ -99,7 +100,8 @@ impl Names {
     /// Keeps the begin of a field of a tuple.
     #[inline(always)]
     fn keep_place(&mut self, tag: Option<&Tag>, index: &Index) -> Result<Frame, NoMemory>
-        ensures { Keeps self.old self.new (InPart (plain_slot (seen_slot (Slot.Place tag.entry index.entry)))) result }
+        ensures { KeepsBegin self.old self.new (InPart
+            (plain_slot (seen_slot (Slot.Place tag.entry index.entry)))) result }
     {
         self.push(Named::Place(tag.copied(), *index), "", None)
     }
@@ -112,7 +114,7 @@ impl Names {
         label: &Label<'_>,
         index: &Index,
     ) -> Result<Frame, NoMemory>
-        ensures { Keeps self.old self.new
+        ensures { KeepsBegin self.old self.new
             (InPart (plain_slot (seen_slot (Slot.FieldPlace tag.entry label.entry index.entry)))) result }
     {
         self.push(

@@ -9,8 +9,8 @@ ghost use Rattle.sval_core.specs.CheckerSteps.{admits};
 ghost use Rattle.sval_core.specs.Stacks.{top_of, below};
 ghost use Rattle.sval_check.specs.Kept.{value_frame};
 ghost use Rattle.sval_check.specs.Frames.{begun_frame, seen_form};
-ghost use Rattle.sval_check.specs.Tops.{is_tagged, is_enum, is_slot, ends, content_ends, content_rest, part_rest};
-ghost use Rattle.sval_check.specs.Tops.{with_left, with_rest, with_next, after_part, on_top, under_top};
+ghost use Rattle.sval_check.specs.Tops.{is_tagged, is_enum, is_slot, may_end_with, content_ends, content_rest, part_rest};
+ghost use Rattle.sval_check.specs.Tops.{with_left, with_text_left, with_next, after_part, on_top, under_top};
 
 use crate::frame::{Begin, Content, Form, Frame};
 use crate::kept::NamedValue;
@@ -70,7 +70,7 @@ fn advance_around(frames: &mut [Frame], left: Option<usize>)
 /// Puts what is still to come of a text or binary into the innermost frame, if it is in one.
 #[inline(always)]
 fn set_left(frames: &mut [Frame], content: Content, left: Option<usize>)
-    ensures { reverse frames.new ≡ on_top (with_rest content left) (reverse frames.old) }
+    ensures { reverse frames.new ≡ on_top (with_text_left content left) (reverse frames.old) }
 {
     if let Some(top) = frames.last_mut() {
         *top = top.with_left(content, left);
@@ -157,7 +157,7 @@ impl Stack {
     /// The innermost frame is in a container that may end with this head.
     #[inline(always)]
     pub(crate) fn ends(&self, head: Head<'_>) -> bool
-        ensures { result ≡ ends (top_of self.now) (seen_head head.entry) }
+        ensures { result ≡ may_end_with (top_of self.now) (seen_head head.entry) }
     {
         match innermost(&self.frames) {
             Some(Frame::Seq(left)) => matches!(head, Head::Seq) && is_used_up(left),

@@ -7,7 +7,7 @@ use Rattle.sval_core.specs.Spells.{plain, plain_call}
 use Rattle.sval_core.specs.Checker.{Frame, Steps, Runs}
 use Rattle.sval_core.specs.Many.{SpellsAll, IsNoHint, EndAfter}
 use Rattle.sval_core.specs.ManyChecker as all
-use Rattle.sval_core.specs.ManyChecker.{is_whole, ready, noted, RunsAll, Progress, kept_all}
+use Rattle.sval_core.specs.ManyChecker.{is_whole_value, ready, noted, RunsAll, Progress, kept_all}
 use Rattle.sval_core.proofs.Completions.{spelling_is_run, run_is_spelling}
 use Rattle.sval_core.proofs.ManyRuns.{Cut, never, first, cut, no_empty_end, plain_none, plain_some, counts}
 use Rattle.sval_core.proofs.Determined.{no_more, first_step, only_step}

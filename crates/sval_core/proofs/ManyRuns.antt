@@ -7,7 +7,7 @@ use Rattle.sval_core.specs.Spells.{plain, plain_call}
 use Rattle.sval_core.specs.Checker.{Frame, InText, InBinary, InTagged, InEnum, InContainer, InPart, Steps, null, truth, int, standalone, text_begin, text_fragment, text_end, binary_begin, binary_fragment, binary_end, tagged_begin, tagged_end, enum_begin, enum_end, begin, end, part_begin, part_end, Runs, done, more}
 use Rattle.sval_core.specs.Many.{IsNoHint}
 use Rattle.sval_core.specs.ManyChecker as all
-use Rattle.sval_core.specs.ManyChecker.{is_whole, ready, noted, RunsAll, Progress, kept_all}
+use Rattle.sval_core.specs.ManyChecker.{is_whole_value, ready, noted, RunsAll, Progress, kept_all}
 
 -- ---- what begins stands on something: a part in its container
 
@@ -83,17 +83,17 @@ no_empty_end (more s (more s' r)) h e f = let k = no_empty_end (more s' r) (foun
 -- ---- a run for lists begins with a run over one tree
 
 -- a state in which no whole value stands outside everything goes on as it is
-pub ready_as_is : (b : Bool) (fs : List Frame) → is_whole b fs ≡ false → ready b fs ≡ b
+pub ready_as_is : (b : Bool) (fs : List Frame) → is_whole_value b fs ≡ false → ready b fs ≡ b
 ready_as_is true [] e = absurd (cc e)
 ready_as_is false [] e = refl
 ready_as_is b (f ∷ fs) e = refl
 
-ready_is_not_whole : (b : Bool) (fs : List Frame) → is_whole (ready b fs) fs ≡ false
+ready_is_not_whole : (b : Bool) (fs : List Frame) → is_whole_value (ready b fs) fs ≡ false
 ready_is_not_whole b [] = refl
 ready_is_not_whole true (f ∷ fs) = refl
 ready_is_not_whole false (f ∷ fs) = refl
 
-pub whole_is : (b : Bool) (fs : List Frame) → is_whole b fs ≡ true → (b ≡ true) × (fs ≡ [])
+pub whole_is : (b : Bool) (fs : List Frame) → is_whole_value b fs ≡ true → (b ≡ true) × (fs ≡ [])
 whole_is true [] e = (refl, refl)
 whole_is false [] e = absurd (cc e)
 whole_is true (f ∷ fs) e = absurd (cc e)
@@ -102,7 +102,7 @@ whole_is false (f ∷ fs) e = absurd (cc e)
 -- no tree has ended, or the first one ends at this call
 pub data Cut : ℕ → Bool → List Frame → List Call → List ℕ → Bool → List Frame → Type 0 where
   never : {n : ℕ} {b b' : Bool} {fs gs : List Frame} {calls : List Call} {es : List ℕ} (m : Bool) → Runs (ready b fs) fs (plain calls) m gs
-      → is_whole m gs ≡ false → es ≡ [] → Cut n b fs calls es b' gs
+      → is_whole_value m gs ≡ false → es ≡ [] → Cut n b fs calls es b' gs
   first : {n : ℕ} {b b' : Bool} {fs gs : List Frame} {calls : List Call} {es : List ℕ} (front rest : List Call) (last : Call) (others : List ℕ)
       → calls ≡ front ++ (last ∷ rest) → IsNoHint last → Runs (ready b fs) fs (plain (front ++ (last ∷ []))) true []
       → RunsAll (n + length front + 1) true [] rest others b' gs → es ≡ (n + length front + 1) ∷ others → Cut n b fs calls es b' gs
@@ -124,7 +124,7 @@ cut_hint n b b' fs gs c calls es e (first front rest last others d h r a k) =
     (subst (λ x. RunsAll x true [] rest others b' gs) (counts n (length front)) a) (k ∙ ap (λ x. x ∷ others) (counts n (length front)))
 
 cut_more : (n : ℕ) (b b1 b' : Bool) (fs fs1 gs : List Frame) (c p : Call) (calls : List Call) (es : List ℕ) → plain_call c ≡ Some p → Steps (ready b fs) fs p b1 fs1
-    → is_whole b1 fs1 ≡ false → Cut (n + 1) b1 fs1 calls es b' gs → Cut n b fs (c ∷ calls) es b' gs
+    → is_whole_value b1 fs1 ≡ false → Cut (n + 1) b1 fs1 calls es b' gs → Cut n b fs (c ∷ calls) es b' gs
 cut_more n b b1 b' fs fs1 gs c p calls es e s w (never m r v k) =
     never m (subst (λ x. Runs (ready b fs) fs x m gs) (sym (plain_some c p calls e)) (more s (subst (λ x. Runs x fs1 (plain calls) m gs) (ready_as_is b1 fs1 w) r))) v k
 cut_more n b b1 b' fs fs1 gs c p calls es e s w (first front rest last others d h r a k) =

@@ -8,7 +8,7 @@ use Rattle.sval_core.specs.Spells.{new_entries}
 use Rattle.sval_core.specs.SameNames.{same_name, same_head, same_slot}
 use Rattle.sval_core.specs.Stacks.{top_of, below}
 use Rattle.sval_core.specs.Checker.{Frame, InText, InBinary, InTagged, InEnum, InContainer, InPart, State}
-use Rattle.sval_core.specs.ManyChecker.{is_whole, ready, Progress}
+use Rattle.sval_core.specs.ManyChecker.{is_whole_value, ready, Progress}
 
 -- what is told apart of a value that begins: it is a text, or what an enum may hold, or neither
 pub data Form : Type 0 where
@@ -189,7 +189,7 @@ state_after call s = unwrap_or (next s call) s
 
 -- the calls that were taken spell a tree
 abbrev pub is_whole_tree : State → Bool
-is_whole_tree s = is_whole s.filled s.frames
+is_whole_tree s = is_whole_value s.filled s.frames
 
 -- ---- lists of trees: after a whole tree the next one may begin
 

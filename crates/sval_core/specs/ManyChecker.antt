@@ -5,9 +5,9 @@ use Rattle.sval_core.specs.Spells.{plain_call}
 use Rattle.sval_core.specs.Checker.{Frame, Steps}
 
 -- a whole value stands outside all that has begun
-abbrev pub is_whole : Bool → List Frame → Bool
-is_whole filled [] = filled
-is_whole filled (frame ∷ frames) = false
+abbrev pub is_whole_value : Bool → List Frame → Bool
+is_whole_value filled [] = filled
+is_whole_value filled (frame ∷ frames) = false
 
 -- where it does, it is done with, and the next value may begin
 abbrev pub ready : Bool → List Frame → Bool
@@ -16,7 +16,7 @@ ready filled (frame ∷ frames) = filled
 
 -- the number of a call after which a whole value stands there
 abbrev pub noted : ℕ → Bool → List Frame → List ℕ → List ℕ
-noted n filled frames ends = if is_whole filled frames then n ∷ ends else ends
+noted n filled frames ends = if is_whole_value filled frames then n ∷ ends else ends
 
 -- the calls after the first n calls, from a state to a state; a tree ends at each of the numbers
 pub data RunsAll : ℕ → Bool → List Frame → List Call → List ℕ → Bool → List Frame → Type 0 where

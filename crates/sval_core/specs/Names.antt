@@ -45,8 +45,8 @@ abbrev pub tag_alone : Tag → Name
 tag_alone tag = record { tag = Some tag; label = None; index = None }
 
 -- an index that says nothing but its number
-abbrev pub untagged : ℕ → Index
-untagged n = record { number = pos n; tag = None }
+abbrev pub untagged_offset : ℕ → Index
+untagged_offset n = record { number = pos n; tag = None }
 
 -- the index of a part in its order
 abbrev pub offset : ℕ → Index

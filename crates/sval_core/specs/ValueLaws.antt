@@ -6,7 +6,7 @@ use Rattle.sval_core.specs.Trees as tree
 use Rattle.sval_core.specs.Trees.{Tree, Parts, text_kind, MayHold, IsVariant, plain_name, plain_head, plain_slot, first_kind, AreInOrder}
 use Rattle.sval_core.specs.Spells.{entries}
 use Rattle.sval_core.specs.Law.{Emission, silent, then_emits}
-use Rattle.sval_core.specs.Values.{part_emission, tagged_emission, tag_emission, enum_emission, container_emission, parts_emission, null_emission, truth_emission, int_emission, unit_emission, text_emission, binary_emission, binary_array_emission, seq_emission, array_emission, map_emission, option_emission, tuple_emission}
+use Rattle.sval_core.specs.Values.{part_emission, tagged_emission, tag_emission, enum_emission, container_emission, parts_emission, null_emission, truth_emission, int_emission, unit_emission, one_text_emission, binary_emission, binary_array_emission, seq_emission, array_emission, map_emission, option_emission, tuple_emission}
 use Rattle.sval_core.specs.ValueTrees.{Tells, TellsParts, tagged_tree, unit_tree, binary_array_tree, seq_tree, array_tree, map_tree, option_tree, tuple_tree}
 
 -- ---- joining
@@ -31,7 +31,7 @@ pub record PlainValuesTell : Type 0 where
   pub truth : (b : Bool) → Tells (truth_emission b) (tree.Truth b)
   pub int : (type : IntType) (n : ℤ) → Tells (int_emission type n) (tree.Int type n)
   pub unit : Tells unit_emission unit_tree
-  pub text : (borrowed : Bool) (text : List ℕ) → Tells (text_emission borrowed text) (tree.Text text)
+  pub text : (borrowed : Bool) (text : List ℕ) → Tells (one_text_emission borrowed text) (tree.Text text)
   pub binary : (bytes : List ℕ) → Tells (binary_emission bytes) (tree.Binary bytes)
   pub binary_array : (bytes : List ℕ) → Tells (binary_array_emission bytes) (binary_array_tree bytes)
 

@@ -64,8 +64,8 @@ unit_emission = tag_emission (tag_alone unit_tag)
 -- ---- texts and binaries, each in one fragment after its length
 
 -- a text of one fragment, which is borrowed or computed
-abbrev pub text_emission : (borrowed : Bool) → List ℕ → Emission
-text_emission borrowed text = between (Call.TextBegin (Some (length text))) Call.TextEnd (emits (Call.TextFragment borrowed text))
+abbrev pub one_text_emission : (borrowed : Bool) → List ℕ → Emission
+one_text_emission borrowed text = between (Call.TextBegin (Some (length text))) Call.TextEnd (emits (Call.TextFragment borrowed text))
 
 -- the calls of a whole text in one borrowed fragment, which tells this size, if it tells one
 abbrev pub whole_text_calls : Option ℕ → List ℕ → List Call
@@ -78,11 +78,11 @@ whole_key_calls size text =
 
 -- a `str`: a text of one borrowed fragment
 abbrev pub str_emission : List ℕ → Emission
-str_emission text = text_emission true text
+str_emission text = one_text_emission true text
 
 -- a `char`: a text of one computed fragment
 abbrev pub char_emission : ℕ → Emission
-char_emission char = text_emission false (encode_utf8 char)
+char_emission char = one_text_emission false (encode_utf8 char)
 
 -- a binary of one borrowed fragment
 abbrev pub binary_emission : List ℕ → Emission

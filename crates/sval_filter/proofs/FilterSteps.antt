@@ -6,7 +6,7 @@ use Rattle.sval_label.specs.Calls.{Call}
 use Rattle.sval_core.specs.Law.{Law, Standing, Takes, Refuses, HasCause, one_more}
 use Rattle.sval_core.specs.Checker.{State}
 use Rattle.sval_core.specs.CheckerSteps.{next, state_after}
-use Rattle.sval_check.specs.Checks.{opens}
+use Rattle.sval_check.specs.Checks.{has_own_end}
 use Rattle.sval_check.specs.Checked.{why_of}
 use Rattle.sval_check.specs.Dues.{Readies}
 use Rattle.sval_check.specs.declared.machine.Refusal.{Refusal}
@@ -55,13 +55,13 @@ module _ {V : Type 0} (law : Law V) (state : State) (old new : SieveView V) (cal
 
 -- the machine doesn't go on
 pub not_ready : {V : Type 0} (law : Law V) (state now : State) (sieve : SieveView V) (call : Call) (why : Option Why) (wants : ℕ) (cause : Refusal)
-    → Readies (opens call) (next state call) state now (Err cause)
+    → Readies (has_own_end call) (next state call) state now (Err cause)
     → Filters law (ruled_by state sieve why wants) call (Err (why_of cause)) (ruled_by now sieve why wants)
 not_ready law state now sieve call why wants refusal.NotViable r = ((ap (λ (o : Option State). is_some o) r.0, refl), ap (λ (s : State). ruled_by s sieve why wants) r.1)
 not_ready law state now sieve call why wants refusal.NoMemory r =
     let inside = mode_in sieve.paths sieve.kept.layers in
     let label = label_may_grow call inside (mode_in sieve.paths (below sieve.kept.layers)) sieve.kept.held in
-    ((r.1, grows (opens call) label (key_may_grow inside sieve.kept.held call) r.0, refl), ap (λ (s : State). ruled_by s sieve why wants) r.2)
+    ((r.1, grows (has_own_end call) label (key_may_grow inside sieve.kept.held call) r.0, refl), ap (λ (s : State). ruled_by s sieve why wants) r.2)
   where
     grows : (a b c : Bool) → a ≡ true → (a || b || c) ≡ true
     grows a b c e = ap (λ x. x || b || c) e

@@ -14,7 +14,7 @@ use Rattle.sval_core.specs.StepLaws.{Goes}
 use Rattle.sval_core.proofs.CheckerSteps.{goes_to, goes_taken}
 use Rattle.sval_filter.specs.Paths.{Path, Rule}
 use Rattle.sval_filter.specs.Filtering.{fresh, due, kept_after, all_due}
-use Rattle.sval_filter.specs.FilterLaw.{Why, NotViable, NoMemory, Inner, FilterView, new_filter, is_stopped, all_taken, AcceptsAll, Accepts, inner_after, filter_after, IsFilterCause, IsFilterLeft, filter_law, Took, none, takes, refuses}
+use Rattle.sval_filter.specs.FilterLaw.{Why, NotViable, NoMemory, Inner, FilterView, new_filter, is_stopped, all_taken, AcceptsAll, FilterAccepts, inner_after, filter_after, IsFilterCause, IsFilterLeft, filter_law, Took, none, takes, refuses}
 use Rattle.sval_filter.specs.Laws.{InnerTakesPruned, TakesTrees}
 use Rattle.sval_filter.proofs.DueCalls.{due_spells_pruned}
 
@@ -88,7 +88,7 @@ module _ {V : Type 0} (law : Law V) (rule : Rule) (paths : List Path) where
       let to = goes_to view.state g.0 c g.1 in
       let first = due rule paths view.kept c in
       let later = all_due rule paths (kept_after rule paths view.kept c) calls in
-      let accepted : Accepts law rule paths view c = record { goes = record { going = going; viable = goes_taken view.state g.0 c g.1 }; passed_on = accepts_first law first later view.inner.view a } in
+      let accepted : FilterAccepts law rule paths view c = record { goes = record { going = going; viable = goes_taken view.state g.0 c g.1 }; passed_on = accepts_first law first later view.inner.view a } in
       let next = filter_takes calls (filter_after law rule paths view c) going (subst (λ (s : State). Runs s.filled s.frames (plain calls) b' fs') to g.2) (accepts_second law first later view.inner.view a) in
       (next.0, (accepted, next.1))
 

@@ -12,10 +12,10 @@ use Rattle.sval_core.specs.Spells.{plain}
 use Rattle.sval_buffer.specs.Forest.{Forest, CaptureAnswer, Becomes, Rejects, take, may_grow}
 use Rattle.sval_buffer.specs.Capture.{Capture, forest_by, IsAccepted, IsCaptureCause, capture_law, capture_standing}
 use Rattle.sval_buffer.specs.declared.error.ErrorKind.{ErrorKind}
-use Rattle.sval_filter.specs.Filtering.{Holding, key_may_grow, fragments, text_of}
-use Rattle.sval_filter.specs.Held.{is_end, Holds}
+use Rattle.sval_filter.specs.Filtering.{Holding, key_may_grow, fragments, key_text_of}
+use Rattle.sval_filter.specs.Held.{is_end, HoldsCall}
 use Rattle.sval_filter.proofs.Refusals.{least}
-use Rattle.sval_filter.specs.SeenKeys.{KeyRead, nothing_read, read, text_by, with_fragment, Copies, read_law, read_standing}
+use Rattle.sval_filter.specs.SeenKeys.{KeyRead, nothing_read, key_read_on, text_by, with_fragment, Copies, read_law, read_standing}
 use Rattle.sval_filter.specs.declared.key_text.Place.{Place}
 use Rattle.sval_filter.specs.declared.key_text.Place.TheVariants.{Before, Inside, After, NoText}
 
@@ -61,20 +61,20 @@ module _ (old new : Capture) where
 
 -- what holding a call says, by what the buffer says of the call with computed fragments
 module _ (old new : Capture) (call taken : Call) (is : taken ≡ computed call) where
-  pub holds_taken : {done : Unit {0}} → Takes capture_law (capture_standing old) taken (capture_standing new) → Holds call old.forest (Ok done) new.forest
+  pub holds_taken : {done : Unit {0}} → Takes capture_law (capture_standing old) taken (capture_standing new) → HoldsCall call old.forest (Ok done) new.forest
   holds_taken t = ap (λ (capture : Capture). capture.forest) t.view ∙ ap (λ c. forest_by (take old.forest c) old.forest) is
 
-  pub holds_end : {done : Unit {0}} → true ≡ is_end call → Refuses capture_law (capture_standing old) taken (capture_standing new) → Holds call old.forest (Ok done) new.forest
+  pub holds_end : {done : Unit {0}} → true ≡ is_end call → Refuses capture_law (capture_standing old) taken (capture_standing new) → HoldsCall call old.forest (Ok done) new.forest
   holds_end e r = end_stays old new call e (subst (λ c. Refuses capture_law (capture_standing old) c (capture_standing new)) is r)
 
-  pub holds_none : {want : NoMemory} → false ≡ is_end call → Refuses capture_law (capture_standing old) taken (capture_standing new) → Holds call old.forest (Err want) new.forest
+  pub holds_none : {want : NoMemory} → false ≡ is_end call → Refuses capture_law (capture_standing old) taken (capture_standing new) → HoldsCall call old.forest (Err want) new.forest
   holds_none e r = call_wants old new call e (subst (λ c. Refuses capture_law (capture_standing old) c (capture_standing new)) is r)
 
 -- ---- the text that calls begin with
 
 -- the text after more calls
 abbrev label_after : Place → List ℕ → List Call → Option (List ℕ)
-label_after place text calls = let key = fold read (record { place = place; text = text }) calls in text_by key.place key.text
+label_after place text calls = let key = fold key_read_on (record { place = place; text = text }) calls in text_by key.place key.text
 
 -- behind a text nothing counts
 behind : (text : List ℕ) (calls : List Call) → label_after After text calls ≡ Some text
@@ -99,7 +99,7 @@ within text (TextFragment borrowed bytes ∷ calls) = within (text ++ bytes) cal
 within text (TextBegin size ∷ calls) = behind text calls ∙ ap Some (sym (append-nil text))
 within text (call ∷ calls) = behind text calls ∙ ap Some (sym (append-nil text))
 
-from_start : (calls : List Call) → label_after Before [] calls ≡ text_of (plain calls)
+from_start : (calls : List Call) → label_after Before [] calls ≡ key_text_of (plain calls)
 from_start [] = refl
 from_start (TagHint tag ∷ calls) = from_start calls
 from_start (TextBegin size ∷ calls) = within [] calls
@@ -108,13 +108,13 @@ from_start (call ∷ calls) = nowhere [] calls
 
 -- what was read of calls from the start is their text
 pub text_read : (calls : List Call) (old new : Standing KeyRead) → old.view ≡ nothing_read → Streams read_law old (makes calls) new
-    → text_by new.view.place new.view.text ≡ text_of (plain calls)
+    → text_by new.view.place new.view.text ≡ key_text_of (plain calls)
 text_read calls old new start s =
-    ap (λ (key : KeyRead). text_by key.place key.text) (streams_folds read_law s ∙ ap (λ (key : KeyRead). fold read key calls) start) ∙ from_start calls
+    ap (λ (key : KeyRead). text_by key.place key.text) (streams_folds read_law s ∙ ap (λ (key : KeyRead). fold key_read_on key calls) start) ∙ from_start calls
 
 -- the same from where nothing was read
 pub label_read : (calls : List Call) (place : Place) (text : List ℕ) (wants : ℕ) (new : Standing KeyRead) → place ≡ Before → text ≡ []
-    → Streams read_law (read_standing (record { place = place; text = text }) wants) (makes calls) new → text_by new.view.place new.view.text ≡ text_of (plain calls)
+    → Streams read_law (read_standing (record { place = place; text = text }) wants) (makes calls) new → text_by new.view.place new.view.text ≡ key_text_of (plain calls)
 label_read calls place text wants new p t s =
     text_read calls (read_standing (record { place = place; text = text }) wants) new
     (ap (λ (x : Place). let key : KeyRead = record { place = x; text = text } in key) p ∙ ap (λ (x : List ℕ). let key : KeyRead = record { place = Before; text = x } in key) t) s
@@ -126,11 +126,11 @@ has_text old new place text [] s = absurd (cc (s.0))
 has_text old new place text (call ∷ calls) (inl s) =
     ap (λ (p : Place). is_some (label_after p text (call ∷ calls))) s.1 ∙ ap is_some (within text (call ∷ calls))
 has_text old new place text (call ∷ calls) (inr s) =
-    let key : KeyRead = read (record { place = place; text = text }) call in has_text old new key.place key.text calls s.1
+    let key : KeyRead = key_read_on (record { place = place; text = text }) call in has_text old new key.place key.text calls s.1
 
 -- the same of calls from where nothing was read
 pub label_wanted : (calls : List Call) (place : Place) (text : List ℕ) (wants : ℕ) (new : Standing KeyRead) → place ≡ Before → text ≡ []
-    → Stops read_law (read_standing (record { place = place; text = text }) wants) (makes calls) new → is_some (text_of (plain calls)) ≡ true
+    → Stops read_law (read_standing (record { place = place; text = text }) wants) (makes calls) new → is_some (key_text_of (plain calls)) ≡ true
 label_wanted calls place text wants new p t s =
     ap is_some (sym (ap (λ (x : Place). label_after x text calls) p ∙ ap (λ (x : List ℕ). label_after Before x calls) t ∙ from_start calls))
     ∙ has_text (read_standing (record { place = place; text = text }) wants) new place text calls s.stopped
@@ -148,7 +148,7 @@ never_stopped (call ∷ calls) key old new f g v w (inl s) = by_cause s.0
     by_cause (inl taken) = taken tt
     by_cause (inr (inl rose)) = never old.faults new.faults f g rose
     by_cause (inr (inr rose)) = never old.wants new.wants v w rose
-never_stopped (call ∷ calls) key old new f g v w (inr s) = never_stopped calls (read key call) old new f g v w s.1
+never_stopped (call ∷ calls) key old new f g v w (inr s) = never_stopped calls (key_read_on key call) old new f g v w s.1
 
 pub want_is_kept : (calls : List Call) (key : KeyRead) (wants : ℕ) (new : Standing KeyRead) → wants ≡ 0 → new.faults ≡ 0 → new.wants ≡ 0
     → Stops read_law (read_standing key wants) (makes calls) new → ⊥
@@ -165,7 +165,7 @@ was_inside NoText text bytes e = absurd (cc e)
 pub fragment_read : (old new : KeyRead) (wants now : ℕ) (borrowed : Bool) (bytes : List ℕ) (call : Call) (result : Result (Unit {0}) Error) → call ≡ TextFragment borrowed bytes
     → Copies (with_fragment old.place old.text bytes) wants result new now → wants ≤ now → Answers read_law result (read_standing old wants) call (read_standing new now)
 fragment_read old new wants now borrowed bytes call (Ok done) is c up =
-    record { accepted = tt; view = c.0 ∙ ap (λ (c : Call). read old c) (sym is); faults = refl; wants = c.1 }
+    record { accepted = tt; view = c.0 ∙ ap (λ (c : Call). key_read_on old c) (sym is); faults = refl; wants = c.1 }
 fragment_read old new wants now borrowed bytes call (Err refusal) is c up =
     record {
       cause = inr (inr c.1);

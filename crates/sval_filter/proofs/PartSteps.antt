@@ -14,7 +14,7 @@ use Rattle.sval_buffer.specs.Forest.{Forest, empty_forest, replayed}
 use Rattle.sval_buffer.proofs.SameTree.{capture_keeps}
 use Rattle.sval_filter.specs.Paths.{Path, Rule, Fate, LeftOut, Stays, Within}
 use Rattle.sval_filter.specs.Pruned.{key_label}
-use Rattle.sval_filter.specs.Filtering.{Mode, Holding, By, Layer, layer, mode_in, entry_in, with_entry, fragments, text_of, held_label, fate_in, passed, mode_of_part, key_due, due_at_end, kept_after_end, kept_after_in, kept_after, due_in, due, all_due}
+use Rattle.sval_filter.specs.Filtering.{Mode, Holding, By, Layer, layer, mode_in, entry_in, with_entry, fragments, key_text_of, held_label, fate_in, passed, mode_of_part, key_due, due_at_end, kept_after_end, kept_after_in, kept_after, due_in, due, all_due}
 use Rattle.sval_filter.proofs.Turns.{at, Crossing, one_call, plain_append}
 use Rattle.sval_filter.proofs.Silent.{holding, left_out, part_begin_is, part_end_is, silent_run, held_all, held_is}
 
@@ -24,17 +24,17 @@ fragments_joined : (pieces : List (List ℕ)) → fragments (map (Call.TextFragm
 fragments_joined [] = refl
 fragments_joined (piece ∷ pieces) = ap (λ x. piece ++ x) (fragments_joined pieces)
 
-text_label : (t : Tree) (calls : List Call) → Says t calls [] → text_of calls ≡ key_label t
-text_label tree.Null calls s = ap text_of s
-text_label (tree.Truth b) calls s = ap text_of s
-text_label (tree.Int type n) calls s = ap text_of s
-text_label (tree.Text bytes) calls s = ap text_of s.4 ∙ ap Some (fragments_joined s.1 ∙ s.3)
-text_label (tree.Binary bytes) calls s = ap text_of s.4
-text_label (tree.Standalone name) calls s = ap text_of s
-text_label (tree.Tagged name t) calls s = ap text_of s.1
-text_label (tree.EmptyEnum name) calls s = ap text_of s
-text_label (tree.Enum name t) calls s = ap text_of s.1
-text_label (tree.Container head parts) calls s = ap text_of s.3
+text_label : (t : Tree) (calls : List Call) → Says t calls [] → key_text_of calls ≡ key_label t
+text_label tree.Null calls s = ap key_text_of s
+text_label (tree.Truth b) calls s = ap key_text_of s
+text_label (tree.Int type n) calls s = ap key_text_of s
+text_label (tree.Text bytes) calls s = ap key_text_of s.4 ∙ ap Some (fragments_joined s.1 ∙ s.3)
+text_label (tree.Binary bytes) calls s = ap key_text_of s.4
+text_label (tree.Standalone name) calls s = ap key_text_of s
+text_label (tree.Tagged name t) calls s = ap key_text_of s.1
+text_label (tree.EmptyEnum name) calls s = ap key_text_of s
+text_label (tree.Enum name t) calls s = ap key_text_of s.1
+text_label (tree.Container head parts) calls s = ap key_text_of s.3
 
 plain_computed : (calls : List Call) → plain (map computed calls) ≡ plain calls
 plain_computed [] = refl

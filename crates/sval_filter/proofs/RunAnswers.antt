@@ -21,7 +21,7 @@ use Rattle.sval_program.proofs.Growing.{front_of_nothing}
 use Rattle.sval_program.proofs.JobRuns.{by_end, on_both, the_fault}
 use Rattle.sval_filter.specs.Forms.{Asked, OnNamed}
 use Rattle.sval_filter.specs.Reports.{Reports, report}
-use Rattle.sval_filter.specs.Serves.{Due, a_text, is_bad_line, is_bad_call, is_unfinished, up_to_key, up_to_number, filter_terms, WritesText, WritesUpToRefusal, MayLeave}
+use Rattle.sval_filter.specs.Serves.{Due, a_text, is_bad_line, is_bad_call, is_unfinished, up_to_key, up_to_number, filter_terms, WritesFilteredText, WritesUpToRefusal, MayLeave}
 use Rattle.sval_filter.specs.Statuses.{IsStatusDue}
 use Rattle.sval_filter.specs.Verdict.{Verdict, BadLine, BadCall, Unfinished, Whole, IsVerdict, HasBadLine, HasBadCall, OnVerdict}
 use Rattle.sval_filter.specs.Words.{rule_and_paths}
@@ -29,10 +29,10 @@ use Rattle.sval_filter.proofs.Verdicts.{of_each}
 
 -- ---- what each status says
 
-pub writes_text : {old new : Told} {script : List ℕ} {asked : Asked} → runs.TakesDue filter_terms None old new script asked → WritesText old new script asked
+pub writes_text : {old new : Told} {script : List ℕ} {asked : Asked} → runs.TakesDue filter_terms None old new script asked → WritesFilteredText old new script asked
 writes_text {old} {new} {script} {asked} t = of_due t.due t.appends
   where
-    of_due : {bytes : List ℕ} → Due asked script None bytes → Appends old bytes new → WritesText old new script asked
+    of_due : {bytes : List ℕ} → Due asked script None bytes → Appends old bytes new → WritesFilteredText old new script asked
     of_due {bytes} (a_text is) appends = record { bytes = bytes; is = is; appends = appends }
 
 -- the line that a fault names, if it names one

@@ -6,11 +6,11 @@ use Rattle.sval_core.specs.Values.{makes}
 use Rattle.sval_io.specs.Sinks.{Told}
 use Rattle.sval_io.proofs.Appending.{writes_nothing}
 use Rattle.sval_io.specs.Sources.{Supply}
-use Rattle.sval_check.specs.Checks.{IsFirstBad, IsUnfinished}
+use Rattle.sval_check.specs.Checks.{IsFirstBadCall, IsUnfinished}
 use Rattle.sval_check.specs.declared.error.CheckError.{CheckError}
 use Rattle.sval_check.specs.declared.error.CheckError.TheVariants as check
 use Rattle.sval_script.specs.Lines.{Lines, Good, Bad, lines}
-use Rattle.sval_script.specs.Readings.{Reading, answer_to, answer_with}
+use Rattle.sval_script.specs.Readings.{ScriptReading, answer_to, answer_with}
 use Rattle.sval_script.specs.declared.script.ScriptError.{ScriptError}
 use Rattle.sval_script.specs.declared.script.ScriptError.TheVariants as reading
 use Rattle.sval_program.specs.declared.failure.Fault.{Fault}
@@ -36,7 +36,7 @@ module _ (script : List ℕ) (asked : Asked) (calls : List Call) (good : lines s
   fails_so told out why failed is f = let same : why ≡ failed = cc is in subst (λ (w : Failure). ServesBytes filter_terms told asked script (Err w) out out) same f
 
   pub check_fails : {K : Type 0} (told : K → Told) (out : K) (why : CheckError) (failed : Failure) → failure_of_check why ≡ Some failed
-      → ((at : ℕ) → ◌≡◌ {A = Result (Unit {0}) CheckError} (Err why) (Err (check.BadCall at)) → IsFirstBad calls at)
+      → ((at : ℕ) → ◌≡◌ {A = Result (Unit {0}) CheckError} (Err why) (Err (check.BadCall at)) → IsFirstBadCall calls at)
       → (◌≡◌ {A = Result (Unit {0}) CheckError} (Err why) (Err check.Unfinished) → IsUnfinished (makes calls))
       → ServesBytes filter_terms told asked script (Err failed) out out
   check_fails told out (check.BadCall n) failed is bad unfinished =
@@ -50,7 +50,7 @@ module _ (script : List ℕ) (asked : Asked) (calls : List Call) (good : lines s
 
 -- ---- what a reader answered
 
-module _ {reader : Reading} {old new : Supply} (h : HasRead old reader new) where
+module _ {reader : ScriptReading} {old new : Supply} (h : HasRead old reader new) where
   answered : (l : Lines) (a due : Result (List Call) ScriptError) → (a ≡ answer_to l) ⊎ ((a ≡ Err reading.NoMemory) × (0 < length h.script)) → due ≡ a
       → (due ≡ answer_to l) ⊎ ((due ≡ Err reading.NoMemory) × (0 < length h.script))
   answered l a due (inl is) e = inl (e ∙ is)

@@ -12,7 +12,7 @@ use Rattle.sval_filter.specs.Paths.{Rule, Fate, LeftOut, Stays, Within}
 use Rattle.sval_filter.specs.Filtering.{Filtering, Mode, Holding, By, Layer, layer, mode_in, entry_in, with_entry, mode_of_part, passed, hint_due, held_after, key_may_grow}
 use Rattle.sval_filter.specs.SeenLayers.{Layered, is_left_out, is_holding, passes}
 use Rattle.sval_filter.specs.FilterLaw.{all_taken, AcceptsAll, inner_after}
-use Rattle.sval_filter.specs.Sieves.{SieveView, Passes, Moves, Settles, Opens, one_if, key_and_end}
+use Rattle.sval_filter.specs.Sieves.{SieveView, PassesCalls, Moves, Settles, OpensLayer, one_if, key_and_end}
 use Rattle.sval_filter.specs.declared.sieve.Hindrance.{Hindrance}
 use Rattle.sval_filter.specs.declared.sieve.Hindrance.TheVariants.{NoMemory, Inside}
 
@@ -46,14 +46,14 @@ accepts_taken law calls old new s = let all = ran_all law calls old.view new.vie
 -- ---- calls that a sieve passes on
 
 module _ {V : Type 0} (law : Law V) (old new : Standing V) (call : Call) where
-  pub none_passed : (passing : Bool) → passing ≡ false → Passes law old (one_if passing call) (Ok tt) old
-  none_passed passing e = subst (λ b. Passes law old (one_if b call) (Ok tt) old) (sym e) took_none
+  pub none_passed : (passing : Bool) → passing ≡ false → PassesCalls law old (one_if passing call) (Ok tt) old
+  none_passed passing e = subst (λ b. PassesCalls law old (one_if b call) (Ok tt) old) (sym e) took_none
 
-  pub one_taken : (passing : Bool) → passing ≡ true → Takes law old call new → Passes law old (one_if passing call) (Ok tt) new
-  one_taken passing e t = subst (λ b. Passes law old (one_if b call) (Ok tt) new) (sym e) (took_one t)
+  pub one_taken : (passing : Bool) → passing ≡ true → Takes law old call new → PassesCalls law old (one_if passing call) (Ok tt) new
+  one_taken passing e t = subst (λ b. PassesCalls law old (one_if b call) (Ok tt) new) (sym e) (took_one t)
 
-  pub one_refused : (passing : Bool) → passing ≡ true → Refuses law old call new → Passes law old (one_if passing call) (Err Inside) new
-  one_refused passing e r = subst (λ b. Passes law old (one_if b call) (Err Inside) new) (sym e) (stopped_one r)
+  pub one_refused : (passing : Bool) → passing ≡ true → Refuses law old call new → PassesCalls law old (one_if passing call) (Err Inside) new
+  one_refused passing e r = subst (λ b. PassesCalls law old (one_if b call) (Err Inside) new) (sym e) (stopped_one r)
 
 -- a key between its begin and its end
 key_calls : (calls : List Call) (end : Call) → between (PartBegin Key) end (as_computed (makes calls)) ≡ makes (PartBegin Key ∷ (map computed calls ++ (end ∷ [])))
@@ -64,17 +64,17 @@ module _ {V : Type 0} (law : Law V) (old new : Standing V) (held : Forest) (end 
   abbrev between_key : Emission
   between_key = between (PartBegin Key) end (as_computed (makes (replayed held)))
 
-  pub key_left_out : (fate : Fate) → is_left_out fate ≡ true → Passes law old (key_and_end fate held end) (Ok tt) old
+  pub key_left_out : (fate : Fate) → is_left_out fate ≡ true → PassesCalls law old (key_and_end fate held end) (Ok tt) old
   key_left_out LeftOut e = took_none
   key_left_out Stays e = absurd (cc e)
   key_left_out (Within paths) e = absurd (cc e)
 
-  pub key_taken : (fate : Fate) → is_left_out fate ≡ false → Streams law old between_key new → Passes law old (key_and_end fate held end) (Ok tt) new
+  pub key_taken : (fate : Fate) → is_left_out fate ≡ false → Streams law old between_key new → PassesCalls law old (key_and_end fate held end) (Ok tt) new
   key_taken LeftOut e s = absurd (cc e)
   key_taken Stays e s = subst (λ e. Streams law old e new) (key_calls (replayed held) end) s
   key_taken (Within paths) e s = subst (λ e. Streams law old e new) (key_calls (replayed held) end) s
 
-  pub key_stopped : (fate : Fate) → is_left_out fate ≡ false → Stops law old between_key new → Passes law old (key_and_end fate held end) (Err Inside) new
+  pub key_stopped : (fate : Fate) → is_left_out fate ≡ false → Stops law old between_key new → PassesCalls law old (key_and_end fate held end) (Err Inside) new
   key_stopped LeftOut e s = absurd (cc e)
   key_stopped Stays e s = subst (λ e. Stops law old e new) (key_calls (replayed held) end) s
   key_stopped (Within paths) e s = subst (λ e. Stops law old e new) (key_calls (replayed held) end) s
@@ -83,13 +83,13 @@ module _ {V : Type 0} (law : Law V) (old new : Standing V) (held : Forest) (end 
 
 -- what passing calls on says of the sieve
 pub passes_moves : {V : Type 0} (law : Law V) (old : SieveView V) (inner : Standing V) (calls : List Call) (result : Result (Unit {0}) Hindrance)
-    → Passes law old.inner calls result inner → Moves law old calls old.kept false result (record old { inner = inner })
+    → PassesCalls law old.inner calls result inner → Moves law old calls old.kept false result (record old { inner = inner })
 passes_moves law old inner calls (Ok done) p = (p, refl)
 passes_moves law old inner calls (Err NoMemory) p = absurd p
 passes_moves law old inner calls (Err Inside) p = (p, refl)
 
 module _ {V : Type 0} (law : Law V) (old : SieveView V) (call p : Call) (holds passing : Bool) where
-  pub settles_passed : (inner : Standing V) (result : Result (Unit {0}) Hindrance) → holds ≡ false → Passes law old.inner (one_if passing p) result inner
+  pub settles_passed : (inner : Standing V) (result : Result (Unit {0}) Hindrance) → holds ≡ false → PassesCalls law old.inner (one_if passing p) result inner
       → Settles law holds passing call p old result (record old { inner = inner })
   settles_passed inner result e passes = subst (λ b. Settles law b passing call p old result (record old { inner = inner })) (sym e) (passes_moves law old inner (one_if passing p) result passes)
 
@@ -164,7 +164,7 @@ module _ {V : Type 0} (law : Law V) (mode around : Mode) (call p : Call) (old mi
   abbrev kept_by : (a : Mode) → Filtering
   kept_by a = record { layers = layer mode ∷ old.kept.layers; held = held_after a old.kept.held call }
 
-  pub opens_ok : (new : SieveView V) → Settles law holds passing call p mid (Ok tt) new → Opens law mode call p old (Ok tt) new
+  pub opens_ok : (new : SieveView V) → Settles law holds passing call p mid (Ok tt) new → OpensLayer law mode call p old (Ok tt) new
   opens_ok new s =
       subst (λ (a : Mode). Moves law old (due_by a) (kept_by a) true (Ok tt) new) is_around
       (by_mode around (subst (λ b. Settles law b (passes mode) call p (with_layers (layer mode ∷ old.kept.layers) old) (Ok tt) new) h
@@ -177,7 +177,7 @@ module _ {V : Type 0} (law : Law V) (mode around : Mode) (call p : Call) (old mi
       by_mode (By fate) m = m
 
   pub opens_err : (why : Hindrance) (new' new : SieveView V) → Settles law holds passing call p mid (Err why) new' → new ≡ with_layers (below new'.kept.layers) new'
-      → Opens law mode call p old (Err why) new
+      → OpensLayer law mode call p old (Err why) new
   opens_err why new' new s closed =
       subst (λ (a : Mode). Moves law old (due_by a) (kept_by a) true (Err why) new) is_around
       (by_mode around why (subst (λ b. Settles law b (passes mode) call p (with_layers (layer mode ∷ old.kept.layers) old) (Err why) new') h
@@ -203,7 +203,7 @@ module _ {V : Type 0} (law : Law V) (mode around : Mode) (call p : Call) (old mi
         subst (λ inner. new ≡ record old { inner = inner }) (sym inner_is) (back (record old { inner = new'.inner }) m.1),
       )
 
-  pub opens_wanting : Opens law mode call p old (Err NoMemory) old
+  pub opens_wanting : OpensLayer law mode call p old (Err NoMemory) old
   opens_wanting = (refl, refl)
 
 -- other layers once a call was taken
@@ -250,20 +250,20 @@ module _ {V : Type 0} (law : Law V) (old new : SieveView V) (call p : Call) (mod
   moved_into opened calls = Moves law old calls (record { layers = layer opened ∷ old.kept.layers; held = held_after (mode_in old.paths old.kept.layers) old.kept.held call }) true result new
 
   -- a value is treated as what it is in
-  pub begins : mode ≡ mode_in old.paths old.kept.layers → Opens law mode call p old result new
+  pub begins : mode ≡ mode_in old.paths old.kept.layers → OpensLayer law mode call p old result new
       → moved_into (mode_in old.paths old.kept.layers) (passed (mode_in old.paths old.kept.layers) (p ∷ []))
   begins is o =
       subst (moved_into (mode_in old.paths old.kept.layers)) (value_in_key (mode_in old.paths old.kept.layers) p)
-      (subst (λ (m : Mode). Opens law m call p old result new) is o)
+      (subst (λ (m : Mode). OpensLayer law m call p old result new) is o)
 
   -- a part is treated by its place
-  pub begins_part : (part : Slot) → mode ≡ mode_of_part old.rule (mode_in old.paths old.kept.layers) (entry_in old.kept.layers) part → Opens law mode call p old result new
+  pub begins_part : (part : Slot) → mode ≡ mode_of_part old.rule (mode_in old.paths old.kept.layers) (entry_in old.kept.layers) part → OpensLayer law mode call p old result new
       → moved_into (mode_of_part old.rule (mode_in old.paths old.kept.layers) (entry_in old.kept.layers) part)
       (passed (mode_of_part old.rule (mode_in old.paths old.kept.layers) (entry_in old.kept.layers) part) (p ∷ []))
   begins_part part is o =
       subst (moved_into (mode_of_part old.rule (mode_in old.paths old.kept.layers) (entry_in old.kept.layers) part))
       (part_in_key old.rule (mode_in old.paths old.kept.layers) (entry_in old.kept.layers) part p)
-      (subst (λ (m : Mode). Opens law m call p old result new) is o)
+      (subst (λ (m : Mode). OpensLayer law m call p old result new) is o)
 
 module _ {V : Type 0} (law : Law V) (old mid new : SieveView V) (calls : List Call) (held : Forest) (g : Bool) where
   -- a call was taken, and then layers closed
@@ -285,7 +285,7 @@ module _ {V : Type 0} (law : Law V) (rule : Rule) (held : Forest) (inner later :
   old_key = view_by rule held inner all
 
   -- the entry's fate is known, and the key went on if it stays
-  pub key_ends : Passes law inner (key_and_end fate held end) (Ok tt) later → new ≡ record all { layers = with_entry fate (below all.layers) } → (cleared : Forest) → cleared ≡ empty_forest
+  pub key_ends : PassesCalls law inner (key_and_end fate held end) (Ok tt) later → new ≡ record all { layers = with_entry fate (below all.layers) } → (cleared : Forest) → cleared ≡ empty_forest
       → Moves law old_key (key_and_end due held end) (record { layers = with_entry due (below all.layers); held = empty_forest }) true (Ok tt) (view_by rule cleared later new)
   key_ends p closed cleared empty = (
     subst (λ (f : Fate). Streams law inner (makes (key_and_end f held end)) later) is p,
@@ -293,7 +293,7 @@ module _ {V : Type 0} (law : Law V) (rule : Rule) (held : Forest) (inner later :
         ∙ ap (λ (forest : Forest). view_by rule forest later (record all { layers = with_entry due (below all.layers) })) empty,
   )
 
-  pub key_is_refused : (grows : Bool) (why : Hindrance) (after : Filtering) → Passes law inner (key_and_end fate held end) (Err why) later
+  pub key_is_refused : (grows : Bool) (why : Hindrance) (after : Filtering) → PassesCalls law inner (key_and_end fate held end) (Err why) later
       → Moves law old_key (key_and_end due held end) after grows (Err why) (view_by rule held later all)
   key_is_refused grows NoMemory after p = absurd p
   key_is_refused grows Inside after p = (subst (λ (f : Fate). Stops law inner (makes (key_and_end f held end)) later) is p, refl)

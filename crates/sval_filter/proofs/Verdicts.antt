@@ -6,7 +6,7 @@ use Rattle.sval_core.specs.Spells.{Spells}
 use Rattle.sval_core.specs.Trees.{Tree, calls_of}
 use Rattle.sval_core.proofs.FirstBad.{one_first_bad, none_bad}
 use Rattle.sval_core.proofs.Spellings.{spells_one, spelling_is_viable}
-use Rattle.sval_check.specs.Checks.{IsFirstBad}
+use Rattle.sval_check.specs.Checks.{IsFirstBadCall}
 use Rattle.sval_json.specs.Json.{Json, compact}
 use Rattle.sval_json.specs.Number.{Refusal}
 use Rattle.sval_json.specs.Shape.{json_of}
@@ -39,15 +39,15 @@ one_written (Some why) (Some other) bytes more tree a b =
 
 -- ---- of calls
 
-one_number : (calls : List Call) (n m : ℕ) → IsFirstBad calls n → IsFirstBad calls m → n ≡ m
+one_number : (calls : List Call) (n m : ℕ) → IsFirstBadCall calls n → IsFirstBadCall calls m → n ≡ m
 one_number calls n m a b =
     let same : length a.front ≡ length b.front = ap length (one_first_bad a.front b.front a.call b.call a.rest b.rest a.whole b.whole a.before a.bad b.before b.bad) in
     omega (arith, same, a.number, b.number)
 
-not_viable : (calls : List Call) (n : ℕ) → IsFirstBad calls n → AreUnfinished calls → ⊥
+not_viable : (calls : List Call) (n : ℕ) → IsFirstBadCall calls n → AreUnfinished calls → ⊥
 not_viable calls n a u = none_bad calls a.front a.rest a.call a.whole u.viable a.bad
 
-not_whole : (calls : List Call) (n : ℕ) (tree : Tree) → IsFirstBad calls n → Spells calls tree → ⊥
+not_whole : (calls : List Call) (n : ℕ) (tree : Tree) → IsFirstBadCall calls n → Spells calls tree → ⊥
 not_whole calls n tree a s = none_bad calls a.front a.rest a.call a.whole (spelling_is_viable calls tree s) a.bad
 
 one_whole : (calls : List Call) (asked : Asked) (refused other : Option Refusal) (bytes more : List ℕ) → SpellWhole refused bytes asked calls → SpellWhole other more asked calls → Whole refused bytes ≡ Whole other more

@@ -35,7 +35,7 @@ is_stopped (Some Inner) = true
 is_stopped _ = false
 
 -- the filter isn't stopped, and some value goes on with the call
-pub record GoesOn {V : Type 0} (view : FilterView V) (call : Call) : Type 0 where
+pub record FilterGoesOn {V : Type 0} (view : FilterView V) (call : Call) : Type 0 where
   pub going : is_stopped view.why ≡ false
   pub viable : goes_on view.state call ≡ true
 
@@ -49,8 +49,8 @@ abbrev pub AcceptsAll : {V : Type 0} → Law V → V → List Call → Type 0
 AcceptsAll law view calls = Ran law view calls (all_taken law view calls)
 
 -- a call is accepted where it goes on, and the inner stream accepts the calls that are due
-pub record Accepts {V : Type 0} (law : Law V) (rule : Rule) (paths : List Path) (view : FilterView V) (call : Call) : Type 0 where
-  pub goes : GoesOn view call
+pub record FilterAccepts {V : Type 0} (law : Law V) (rule : Rule) (paths : List Path) (view : FilterView V) (call : Call) : Type 0 where
+  pub goes : FilterGoesOn view call
   pub passed_on : AcceptsAll law view.inner.view (due rule paths view.kept call)
 
 -- the inner stream after these calls were taken
@@ -73,20 +73,20 @@ pub record IsNotViable {V : Type 0} (view : FilterView V) (call : Call) : Type 0
   pub not_viable : goes_on view.state call ≡ false
 
 -- the call goes on, and may take memory
-pub record LacksMemory {V : Type 0} (paths : List Path) (view : FilterView V) (call : Call) : Type 0 where
-  pub goes : GoesOn view call
+pub record LacksFilterMemory {V : Type 0} (paths : List Path) (view : FilterView V) (call : Call) : Type 0 where
+  pub goes : FilterGoesOn view call
   pub grows : may_take_memory paths view.kept call ≡ true
 
 -- the call goes on, and the inner stream refused one of the calls that are due
 pub record IsRefusedInside {V : Type 0} (law : Law V) (rule : Rule) (paths : List Path) (view : FilterView V) (call : Call)
     (inner : Standing V) : Type 0 where
-  pub goes : GoesOn view call
+  pub goes : FilterGoesOn view call
   pub stops : Stops law view.inner (makes (due rule paths view.kept call)) inner
 
 -- the cause of a refusal for this, and what it leaves of the inner stream
 abbrev pub IsFilterCause : {V : Type 0} → Law V → Rule → List Path → FilterView V → Call → Standing V → Why → Type 0
 IsFilterCause law rule paths view call inner NotViable = IsNotViable view call × (inner ≡ view.inner)
-IsFilterCause law rule paths view call inner NoMemory = LacksMemory paths view call × (inner ≡ view.inner)
+IsFilterCause law rule paths view call inner NoMemory = LacksFilterMemory paths view call × (inner ≡ view.inner)
 IsFilterCause law rule paths view call inner Inner =
     ((is_stopped view.why ≡ true) × (inner ≡ view.inner)) ⊎ IsRefusedInside law rule paths view call inner
 
@@ -103,7 +103,7 @@ pub record IsFilterLeft {V : Type 0} (law : Law V) (rule : Rule) (paths : List P
 -- the law of a filter with this rule and these paths, over a stream of this law
 abbrev pub filter_law : {V : Type 0} → Law V → Rule → List Path → Law (FilterView V)
 filter_law law rule paths = record {
-  accepts = λ view call. Accepts law rule paths view call;
+  accepts = λ view call. FilterAccepts law rule paths view call;
   after = λ view call. filter_after law rule paths view call;
   stopped = λ view call left. IsFilterLeft law rule paths view call left;
 }
@@ -117,8 +117,8 @@ pub record Ruled (V : Type 0) : Type 0 where
   pub view : FilterView V
 
 -- the calls that are due at a call
-abbrev pub due_of : {V : Type 0} → Ruled V → Call → List Call
-due_of ruled call = due ruled.rule ruled.paths ruled.view.kept call
+abbrev pub calls_due : {V : Type 0} → Ruled V → Call → List Call
+calls_due ruled call = due ruled.rule ruled.paths ruled.view.kept call
 
 -- the faults are the inner stream's, and the wants its own
 abbrev pub ruled_standing : {V : Type 0} → Ruled V → Standing (Ruled V)
@@ -133,7 +133,7 @@ pub record IsRuledLeft {V : Type 0} (law : Law V) (ruled : Ruled V) (call : Call
 -- the law of filters over streams of this law: that of a filter with the rule and the paths
 abbrev pub ruled_law : {V : Type 0} → Law V → Law (Ruled V)
 ruled_law law = record {
-  accepts = λ ruled call. Accepts law ruled.rule ruled.paths ruled.view call;
+  accepts = λ ruled call. FilterAccepts law ruled.rule ruled.paths ruled.view call;
   after = λ ruled call. record ruled { view = filter_after law ruled.rule ruled.paths ruled.view call };
   stopped = λ ruled call left. IsRuledLeft law ruled call left;
 }
@@ -143,7 +143,7 @@ ruled_law law = record {
 -- the filter took these calls, and refused others between them without being stopped
 pub data Took {V : Type 0} (law : Law V) (rule : Rule) (paths : List Path) : FilterView V → List Call → FilterView V → Type 0 where
   none : {view : FilterView V} → Took law rule paths view [] view
-  takes : {view last : FilterView V} {call : Call} {calls : List Call} → Accepts law rule paths view call
+  takes : {view last : FilterView V} {call : Call} {calls : List Call} → FilterAccepts law rule paths view call
       → Took law rule paths (filter_after law rule paths view call) calls last → Took law rule paths view (call ∷ calls) last
   refuses : {view left last : FilterView V} {calls : List Call} (call : Call) → IsFilterLeft law rule paths view call left
       → is_stopped left.why ≡ false → Took law rule paths left calls last → Took law rule paths view calls last

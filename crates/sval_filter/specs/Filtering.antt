@@ -4,7 +4,7 @@ use Rattle.sval_label.specs.Calls.{Call, Head, Slot}
 use Rattle.sval_core.specs.Law.{computed}
 use Rattle.sval_core.specs.Spells.{plain}
 use Rattle.sval_core.specs.Stacks.{below}
-use Rattle.sval_check.specs.Checks.{opens}
+use Rattle.sval_check.specs.Checks.{has_own_end}
 use Rattle.sval_buffer.specs.Forest.{Forest, empty_forest, take, may_grow, replayed}
 use Rattle.sval_buffer.specs.Capture.{forest_by}
 use Rattle.sval_filter.specs.Paths.{Path, Rule, Fate, LeftOut, Stays}
@@ -27,13 +27,13 @@ fragments (Call.TextFragment borrowed bytes ∷ calls) = bytes ++ fragments call
 fragments calls = []
 
 -- the text that a key's calls spell, if it is one
-abbrev pub text_of : List Call → Option (List ℕ)
-text_of (Call.TextBegin size ∷ calls) = Some (fragments calls)
-text_of calls = None
+abbrev pub key_text_of : List Call → Option (List ℕ)
+key_text_of (Call.TextBegin size ∷ calls) = Some (fragments calls)
+key_text_of calls = None
 
 -- the label of the entry whose key is held
 abbrev pub held_label : Forest → Option (List ℕ)
-held_label held = text_of (plain (replayed held))
+held_label held = key_text_of (plain (replayed held))
 
 -- the calls, where they are passed on
 abbrev pub passed : Mode → List Call → List Call
@@ -73,7 +73,7 @@ label_may_grow call inside around held = false
 -- a call may take memory: it begins what has an end of its own, it ends a key that is a text, or the held key takes some
 abbrev pub may_take_memory : List Path → Filtering → Call → Bool
 may_take_memory paths kept call =
-    opens call
+    has_own_end call
     || label_may_grow call (mode_in paths kept.layers) (mode_in paths (below kept.layers)) kept.held
     || key_may_grow (mode_in paths kept.layers) kept.held call
 

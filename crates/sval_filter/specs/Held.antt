@@ -18,6 +18,6 @@ is_end (PartEnd slot) = true
 is_end call = false
 
 -- the key has the call, with its fragment as a computed one, or memory was wanting for it
-abbrev pub Holds : Call → Forest → Result (Unit {0}) NoMemory → Forest → Type 0
-Holds call old (Ok done) new = new ≡ forest_by (take old (computed call)) old
-Holds call old (Err want) new = (new ≡ old) × (key_may_grow Holding old call ≡ true)
+abbrev pub HoldsCall : Call → Forest → Result (Unit {0}) NoMemory → Forest → Type 0
+HoldsCall call old (Ok done) new = new ≡ forest_by (take old (computed call)) old
+HoldsCall call old (Err want) new = (new ≡ old) × (key_may_grow Holding old call ≡ true)

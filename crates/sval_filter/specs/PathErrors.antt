@@ -5,10 +5,10 @@ use Rattle.sval_filter.specs.declared.paths.PathError.{PathError}
 use Rattle.sval_filter.specs.declared.paths.PathError.TheVariants.{NoPath, BadWord, NoMemory}
 
 -- a path is there beside the others, or memory was wanting
-abbrev pub Adds : List Path → Path → Result (Unit {0}) PathError → List Path → Type 0
-Adds old path (Ok done) new = new ≡ old ++ (path ∷ [])
-Adds old path (Err NoMemory) new = new ≡ old
-Adds old path (Err other) new = ⊥
+abbrev pub AddsPath : List Path → Path → Result (Unit {0}) PathError → List Path → Type 0
+AddsPath old path (Ok done) new = new ≡ old ++ (path ∷ [])
+AddsPath old path (Err NoMemory) new = new ≡ old
+AddsPath old path (Err other) new = ⊥
 
 -- the last path has a label more; there is none; or memory was wanting for the label
 abbrev pub AddsLabel : List Path → List ℕ → Result (Unit {0}) PathError → List Path → Type 0
@@ -20,4 +20,4 @@ AddsLabel old label (Err BadWord) new = ⊥
 -- the path of a word is there beside the others; the word names none; or it does, and memory was wanting
 abbrev pub AddsWord : List Path → List ℕ → Result (Unit {0}) PathError → List Path → Type 0
 AddsWord old word (Err BadWord) new = (is_bad_word word ≡ true) × (new ≡ old)
-AddsWord old word result new = (is_bad_word word ≡ false) × Adds old (labels_of word) result new
+AddsWord old word result new = (is_bad_word word ≡ false) × AddsPath old (labels_of word) result new

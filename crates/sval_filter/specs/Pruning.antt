@@ -5,7 +5,7 @@ use Rattle.sval_core.specs.Spells.{Spells}
 use Rattle.sval_core.specs.Law.{Emission, Law, Standing, Streams, Stops}
 use Rattle.sval_core.specs.Values.{makes}
 use Rattle.sval_label.specs.Calls.{Call}
-use Rattle.sval_check.specs.Checks.{CheckAnswer, IsOneValue, IsFirstBad, OnlyRefuses, IsUnfinished, NeedsMemory}
+use Rattle.sval_check.specs.Checks.{CheckAnswer, IsOneValue, IsFirstBadCall, OnlyRefuses, IsUnfinished, NeedsMemory}
 use Rattle.sval_check.specs.declared.error.CheckError.TheVariants as checked
 use Rattle.sval_check.specs.declared.checked.Why.{Why}
 use Rattle.sval_check.specs.declared.checked.Why.TheVariants as filter
@@ -32,20 +32,20 @@ abbrev pub TakesPruneMemory : Emission → Type 0
 TakesPruneMemory e = NeedsMemory e.calls ⊎ IsOneValue e
 
 -- memory was wanting
-abbrev pub IsWant : PruneError → Type 0
-IsWant why = why ≡ NoMemory
+abbrev pub IsPruneWant : PruneError → Type 0
+IsPruneWant why = why ≡ NoMemory
 
 -- ---- what pruning answers
 
 -- the cause of an error
 abbrev pub IsPruneCause : Emission → PruneError → Type 0
-IsPruneCause e NotATree = ((at : ℕ) × IsFirstBad e.calls at) ⊎ IsUnfinished e
+IsPruneCause e NotATree = ((at : ℕ) × IsFirstBadCall e.calls at) ⊎ IsUnfinished e
 IsPruneCause e Refused = OnlyRefuses e
 IsPruneCause e NoMemory = TakesPruneMemory e
 
 -- the answer where checking answers so, or memory was wanting
 abbrev pub IsDueToPrune : {T : Type 0} → CheckAnswer → Result T PruneError → Type 0
-IsDueToPrune (Ok done) result = IfErr result IsWant
+IsDueToPrune (Ok done) result = IfErr result IsPruneWant
 IsDueToPrune (Err (checked.BadCall at)) result = (result ≡ Err NotATree) ⊎ (result ≡ Err NoMemory)
 IsDueToPrune (Err checked.Unfinished) result = (result ≡ Err NotATree) ⊎ (result ≡ Err NoMemory)
 IsDueToPrune (Err checked.Refused) result = (result ≡ Err Refused) ⊎ (result ≡ Err NoMemory)

@@ -8,7 +8,7 @@ use Rattle.sval_core.specs.CheckerSteps.{goes_on}
 use Rattle.sval_buffer.specs.SeenBuffers.{capture_of}
 use Rattle.sval_filter.specs.Paths.{Path, Rule}
 use Rattle.sval_filter.specs.Filtering.{Filtering, may_take_memory}
-use Rattle.sval_filter.specs.FilterLaw.{Why, NotViable, NoMemory, Inner, Ruled, AcceptsAll, filter_after, due_of}
+use Rattle.sval_filter.specs.FilterLaw.{Why, NotViable, NoMemory, Inner, Ruled, AcceptsAll, filter_after, calls_due}
 use Rattle.sval_filter.specs.Sieves.{SieveView, sieve_view}
 use Rattle.sval_filter.specs.declared.sieve.Hindrance.{Hindrance}
 use Rattle.sval_filter.specs.declared.sieve.Hindrance.TheVariants as hindrance
@@ -37,13 +37,13 @@ IsHindrance law old call inner NotViable = (goes_on old.view.state call ≡ fals
 IsHindrance law old call inner NoMemory =
     (goes_on old.view.state call ≡ true) × (may_take_memory old.paths old.view.kept call ≡ true) × (inner ≡ old.view.inner)
 IsHindrance law old call inner Inner =
-    (goes_on old.view.state call ≡ true) × Stops law old.view.inner (makes (due_of old call)) inner
+    (goes_on old.view.state call ≡ true) × Stops law old.view.inner (makes (calls_due old call)) inner
 
 -- what passing a call on says, of a filter that isn't stopped and keeps no refusal: it was taken, or there is a cause to refuse it
 abbrev pub Filters : {V : Type 0} → Law V → Ruled V → Call → Result (Unit {0}) Why → Ruled V → Type 0
 Filters law old call (Ok done) new =
     (goes_on old.view.state call ≡ true)
-    × AcceptsAll law old.view.inner.view (due_of old call)
+    × AcceptsAll law old.view.inner.view (calls_due old call)
     × (new ≡ record old { view = filter_after law old.rule old.paths old.view call })
 Filters law old call (Err why) new =
     IsHindrance law old call new.view.inner why × (new ≡ record old { view = record old.view { inner = new.view.inner } })

@@ -34,11 +34,11 @@ with_begin Before text = record { place = Inside; text = text }
 with_begin place text = record { place = passed_by place; text = text }
 
 -- a call more; a hint leaves all
-abbrev pub read : KeyRead → Call → KeyRead
-read key (Call.TagHint tag) = key
-read key (Call.TextBegin size) = with_begin key.place key.text
-read key (Call.TextFragment borrowed bytes) = with_fragment key.place key.text bytes
-read key call = record { place = passed_by key.place; text = key.text }
+abbrev pub key_read_on : KeyRead → Call → KeyRead
+key_read_on key (Call.TagHint tag) = key
+key_read_on key (Call.TextBegin size) = with_begin key.place key.text
+key_read_on key (Call.TextFragment borrowed bytes) = with_fragment key.place key.text bytes
+key_read_on key call = record { place = passed_by key.place; text = key.text }
 
 -- the text, if there is one
 abbrev pub text_by : Place → List ℕ → Option (List ℕ)
@@ -48,7 +48,7 @@ text_by place text = None
 
 -- it takes all calls, and refuses one only inside the text
 abbrev pub read_law : Law KeyRead
-read_law = record { accepts = λ key call. ⊤; after = read; stopped = λ key call left. key.place ≡ Inside }
+read_law = record { accepts = λ key call. ⊤; after = key_read_on; stopped = λ key call left. key.place ≡ Inside }
 
 -- how often memory was wanting, by the last want that is kept: the count stands at its type's end from the first want on
 abbrev pub wants_by : Option NoMemory → ℕ

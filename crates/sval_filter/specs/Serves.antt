@@ -58,18 +58,18 @@ failure_of_check check.Refused = None
 -- ---- what is left of a sink
 
 -- the verdict is these bytes, whole or up to a refusal, and exactly they were taken
-pub record WritesUpTo (refused : Option Refusal) (old new : Told) (script : List ℕ) (asked : Asked) : Type 0 where
+pub record WritesFilteredUpTo (refused : Option Refusal) (old new : Told) (script : List ℕ) (asked : Asked) : Type 0 where
   pub bytes : List ℕ
   pub is : IsVerdict (Whole refused bytes) script asked
   pub appends : Appends old bytes new
 
 -- the verdict is this text, and exactly it was taken
-abbrev pub WritesText : Told → Told → List ℕ → Asked → Type 0
-WritesText old new script asked = WritesUpTo None old new script asked
+abbrev pub WritesFilteredText : Told → Told → List ℕ → Asked → Type 0
+WritesFilteredText old new script asked = WritesFilteredUpTo None old new script asked
 
 -- the verdict is a refusal, and exactly what stands before it was taken
 abbrev pub WritesUpToRefusal : Refusal → Told → Told → List ℕ → Asked → Type 0
-WritesUpToRefusal why old new script asked = WritesUpTo (Some why) old new script asked
+WritesUpToRefusal why old new script asked = WritesFilteredUpTo (Some why) old new script asked
 
 -- what may be left: a first part of the bytes that are the verdict; and nothing where there are none
 abbrev pub MayLeave : Told → Told → Verdict → Type 0

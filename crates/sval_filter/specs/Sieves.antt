@@ -40,10 +40,10 @@ next_kept view call = kept_after view.rule view.paths view.kept call
 -- ---- steps
 
 -- what passing calls on says: the inner stream took them, or stopped in them
-abbrev pub Passes : {V : Type 0} → Law V → Standing V → List Call → Result (Unit {0}) Hindrance → Standing V → Type 0
-Passes law old calls (Ok done) new = Streams law old (makes calls) new
-Passes law old calls (Err NoMemory) new = ⊥
-Passes law old calls (Err Inside) new = Stops law old (makes calls) new
+abbrev pub PassesCalls : {V : Type 0} → Law V → Standing V → List Call → Result (Unit {0}) Hindrance → Standing V → Type 0
+PassesCalls law old calls (Ok done) new = Streams law old (makes calls) new
+PassesCalls law old calls (Err NoMemory) new = ⊥
+PassesCalls law old calls (Err Inside) new = Stops law old (makes calls) new
 
 -- what a step says of which these calls are due and this is kept after it, and which may take memory
 abbrev pub Moves : {V : Type 0} → Law V → SieveView V → List Call → Filtering → (grows : Bool) → Result (Unit {0}) Hindrance → SieveView V → Type 0
@@ -64,8 +64,8 @@ Settles law true passes held passed old result new =
 Settles law false passes held passed old result new = Moves law old (one_if passes passed) old.kept false result new
 
 -- what opening a layer says in which calls are treated so
-abbrev pub Opens : {V : Type 0} → Law V → Mode → (held passed : Call) → SieveView V → Result (Unit {0}) Hindrance → SieveView V → Type 0
-Opens law mode held passed old result new =
+abbrev pub OpensLayer : {V : Type 0} → Law V → Mode → (held passed : Call) → SieveView V → Result (Unit {0}) Hindrance → SieveView V → Type 0
+OpensLayer law mode held passed old result new =
     let around = mode_in old.paths old.kept.layers in
     let kept : Filtering = record { layers = layer mode ∷ old.kept.layers; held = held_after around old.kept.held held } in
     Moves law old (if is_holding around then [] else one_if (passes mode) passed) kept true result new

@@ -3,7 +3,7 @@ use Rattle.std.specs.Prelude.{◌≡◌, ℕ, List, Option, Some, None, Ok, Err}
 use Rattle.sval_label.specs.Calls.{Call}
 use Rattle.sval_core.specs.Spells.{Spells, IsViable}
 use Rattle.sval_core.specs.Trees.{Tree, calls_of}
-use Rattle.sval_check.specs.Checks.{IsFirstBad}
+use Rattle.sval_check.specs.Checks.{IsFirstBadCall}
 use Rattle.sval_json.specs.Json.{Json, compact}
 use Rattle.sval_json.specs.Number.{Refusal}
 use Rattle.sval_json.specs.Shape.{json_of}
@@ -51,7 +51,7 @@ pub record SpellWhole (refused : Option Refusal) (bytes : List ℕ) (asked : Ask
 -- what calls give
 abbrev pub IsOfCalls : Verdict → Asked → List Call → Type 0
 IsOfCalls (BadLine n) asked calls = ⊥
-IsOfCalls (BadCall n) asked calls = IsFirstBad calls n
+IsOfCalls (BadCall n) asked calls = IsFirstBadCall calls n
 IsOfCalls Unfinished asked calls = AreUnfinished calls
 IsOfCalls (Whole refused bytes) asked calls = SpellWhole refused bytes asked calls
 

@@ -6,7 +6,7 @@ ghost use Rattle.sval_label.specs.Grouped.{grouped_call};
 ghost use Rattle.sval_core.specs.Law.{computed};
 ghost use Rattle.sval_buffer.specs.SeenBuffers.{capture_of};
 ghost use Rattle.sval_filter.specs.Filtering.{held_label};
-ghost use Rattle.sval_filter.specs.Held.{is_end, Holds};
+ghost use Rattle.sval_filter.specs.Held.{is_end, HoldsCall};
 ghost use Rattle.sval_filter.specs.SeenKeys.{text_by};
 
 use crate::key_text::KeyText;
@@ -75,7 +75,7 @@ pub(crate) fn hold<L: Lending>(
     held: &mut ValueBuf<'static>,
     call: AnyCall<'_, L::Text, L::Bytes>,
 ) -> Result<(), NoMemory>
-    ensures { Holds (call_of L.text L.bytes call.entry)
+    ensures { HoldsCall (call_of L.text L.bytes call.entry)
         (capture_of held.old).forest result (capture_of held.new).forest }
 {
     let call = call.grouped();

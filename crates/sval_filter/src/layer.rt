@@ -148,7 +148,8 @@ impl<'p> Layer<'p> {
         slot: Slot<'_>,
     ) -> Result<Mode<'p>, NoMemory>
         ensures { let part = seen_slot slot.entry in
-            IfOk result (λ mode. seen_mode mode ≡ mode_of_part rule (seen_mode self.now.mode) (seen_fate self.now.entry) part) }
+            IfOk result (λ mode. seen_mode mode ≡ mode_of_part rule (seen_mode self.now.mode)
+            (seen_fate self.now.entry) part) }
     {
         match (&self.mode, slot) {
             (Mode::Holding, _) => Ok(Mode::Holding),

@@ -93,7 +93,10 @@ impl<'p> Layers<'p> {
     /// Opens a layer in which calls are treated so.
     pub(crate) fn push(&mut self, mode: Mode<'p>) -> Result<(), NoMemory>
         ensures { let layers = self.old.layers in
-            self.new ≡ record self.old { layers = (if is_ok result then layer (seen_mode mode.entry) ∷ layers else layers) } }
+            self.new ≡ record self.old {
+              layers = (if is_ok result then layer (seen_mode mode.entry) ∷ layers
+                  else layers);
+            } }
     {
         let layer = Layer {
             mode,

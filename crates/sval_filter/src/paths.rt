@@ -3,7 +3,7 @@
 ghost use Rattle.std.specs.Prelude.{◌≡◌, [], ◌∷◌, ◌++◌, if◌then◌else◌, is_ok, IfOk};
 ghost use Rattle.sval_filter.specs.Paths.{labels_of, is_bad_word};
 ghost use Rattle.sval_filter.specs.SeenPaths.{labels_in, paths_in};
-ghost use Rattle.sval_filter.specs.PathErrors.{Adds, AddsLabel, AddsWord};
+ghost use Rattle.sval_filter.specs.PathErrors.{AddsPath, AddsLabel, AddsWord};
 
 use std::alloc::Global;
 use std::error::Error;
@@ -104,7 +104,7 @@ impl Paths {
     ///
     /// [`PathError::NoMemory`] where memory was wanting. The paths are then as before.
     pub fn new_path(&mut self, label: &str) -> Result<(), PathError>
-        ensures { Adds self.old (label.now ∷ []) result self.new }
+        ensures { AddsPath self.old (label.now ∷ []) result self.new }
     {
         let mut path = Vec::new(self.alloc);
         push_label(self.alloc, &mut path, label)?;

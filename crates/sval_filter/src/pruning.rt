@@ -1,9 +1,9 @@
 //! Values with what a rule and paths leave of them.
 
 ghost use Rattle.std.specs.Prelude.{◌≡◌, IfOk, IfErr};
-ghost use Rattle.sval_check.specs.Checks.{CheckAnswer, IsDue, IsOneValue};
+ghost use Rattle.sval_check.specs.Checks.{CheckAnswer, IsCheckDue, IsOneValue};
 ghost use Rattle.sval_buffer.specs.FlatForest.{forest_in};
-ghost use Rattle.sval_filter.specs.Pruning.{IsPruned, PassesPruned, StopsPruned, IsPruneCause, IsDueToPrune, IsWant, IsWanting, IsNoAllocIn};
+ghost use Rattle.sval_filter.specs.Pruning.{IsPruned, PassesPruned, StopsPruned, IsPruneCause, IsDueToPrune, IsPruneWant, IsWanting, IsNoAllocIn};
 
 use crate::filter::Filter;
 use crate::paths::{Paths, Rule};
@@ -82,7 +82,7 @@ pub fn prune<'sval, N: CallStore + 'sval, V: Value<'sval, Lent<'sval>>>(
 ) -> Result<AnyValue<'sval, N>, PruneError>
     ensures ok { IfOk result (λ value. IsPruned (V.emission v.now) rule paths.now (forest_in value)) }
     ensures err { IfErr result (IsPruneCause (V.emission v.now)) }
-    ensures comes { (due : CheckAnswer) → IsDue (V.emission v.now) due → IsDueToPrune due result }
+    ensures comes { (due : CheckAnswer) → IsCheckDue (V.emission v.now) due → IsDueToPrune due result }
 {
     match check(alloc, v) {
         Ok(()) => prune_tree(alloc, v, rule, paths),
@@ -102,7 +102,7 @@ pub(crate) fn prune_tree<'sval, N: CallStore + 'sval, V: Value<'sval, Lent<'sval
 ) -> Result<AnyValue<'sval, N>, PruneError>
     requires { IsOneValue (V.emission v.now) }
     ensures ok { IfOk result (λ value. IsPruned (V.emission v.now) rule paths.now (forest_in value)) }
-    ensures err { IfErr result IsWant }
+    ensures err { IfErr result IsPruneWant }
 {
     let buffer: AnyValueBuf<'sval, N> = AnyValueBuf::new(alloc);
     match pass_value(alloc, v, rule, paths, buffer) {
@@ -138,7 +138,7 @@ fn pass_value<'v, L: Lending, S: Stream<L> + Drop, V: Value<'v, L>>(
 /// The want of memory that a filter over a buffer met, by the last refusals of both.
 fn want_of(why: Option<Why>, refusal: Option<sval_buffer::Error>) -> PruneError
     requires { IsWanting why refusal }
-    ensures { IsWant result }
+    ensures { IsPruneWant result }
 {
     match why {
         Some(Why::NoMemory) => PruneError::NoMemory,
@@ -150,7 +150,7 @@ fn want_of(why: Option<Why>, refusal: Option<sval_buffer::Error>) -> PruneError
 /// The want of memory that a buffer met, by its last refusal.
 fn want_of_buffer(refusal: Option<sval_buffer::Error>) -> PruneError
     requires { IsNoAllocIn refusal }
-    ensures { IsWant result }
+    ensures { IsPruneWant result }
 {
     let Some(error) = refusal else {
         unreachable!("the buffer refused a call");

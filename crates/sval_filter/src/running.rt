@@ -11,9 +11,9 @@ ghost use Rattle.sval_program.specs.Runs.{AreQuiet, Ends};
 ghost use Rattle.sval_program.specs.Runs as runs;
 ghost use Rattle.sval_script.specs.Lines.{lines, Good};
 ghost use Rattle.sval_filter.specs.Forms.{Asked, OnAsked};
-ghost use Rattle.sval_filter.specs.Pruning.{IsPruned, IsWant};
+ghost use Rattle.sval_filter.specs.Pruning.{IsPruned, IsPruneWant};
 ghost use Rattle.sval_filter.specs.Reports.{Reports};
-ghost use Rattle.sval_filter.specs.Serves.{filter_terms, IsLeftOf, WritesText, WritesUpToRefusal, MayLeave, failure_of_check};
+ghost use Rattle.sval_filter.specs.Serves.{filter_terms, IsLeftOf, WritesFilteredText, WritesUpToRefusal, MayLeave, failure_of_check};
 ghost use Rattle.sval_filter.specs.Statuses.{IsStatusDue};
 ghost use Rattle.sval_filter.specs.Verdict.{Unfinished, IsVerdict, HasBadLine, HasBadCall, OnVerdict};
 
@@ -47,7 +47,7 @@ fn found(error: CheckError) -> Failure
 fn left_of<'v>(alloc: Global, form: &Form<'_>, script: &'v Script) -> Result<Value<'v>, PruneError>
     requires { IsOneValue (makes script.now) }
     ensures ok { IfOk result (λ left. IsPruned (makes script.now) form.now.0 form.now.1 (forest_in left)) }
-    ensures err { IfErr result IsWant }
+    ensures err { IfErr result IsPruneWant }
 {
     let paths = paths_of(alloc, form.words)?;
     prune_tree(alloc, script, form.rule, &paths)
@@ -188,7 +188,7 @@ pub fn run_filter<I: Source, K: Sink, D: Sink>(
 
     // Each status comes only where it is so.
     ensures done { result ≡ DONE
-        → OnAsked words.now (I.told input.old) (WritesText (K.told out.old) (K.told out.new)) }
+        → OnAsked words.now (I.told input.old) (WritesFilteredText (K.told out.old) (K.told out.new)) }
     ensures bad_line { result ≡ BAD_LINE → OnAsked words.now (I.told input.old) HasBadLine }
     ensures bad_call { result ≡ BAD_CALL → OnAsked words.now (I.told input.old) HasBadCall }
     ensures unfinished { result ≡ UNFINISHED → OnAsked words.now (I.told input.old) (IsVerdict Unfinished) }

@@ -14,7 +14,7 @@ ghost use Rattle.sval_filter.specs.SeenLayers.{seen_fate, seen_mode, entry_by};
 ghost use Rattle.sval_filter.specs.Filtering.{layer, mode_in, entry_in, with_entry, mode_of_part, passed, hint_due, without_size};
 ghost use Rattle.sval_filter.specs.Filtering.{held_after, held_label, key_may_grow, may_take_memory};
 ghost use Rattle.sval_filter.specs.Sieves.{sieve_view, due_at, next_kept};
-ghost use Rattle.sval_filter.specs.Sieves.{Passes, Moves, Settles, Opens, one_if, key_and_end};
+ghost use Rattle.sval_filter.specs.Sieves.{PassesCalls, Moves, Settles, OpensLayer, one_if, key_and_end};
 
 use crate::held::{hold, read_text};
 use crate::key_text::KeyText;
@@ -69,7 +69,7 @@ fn pass_on<L: Lending, S: Stream<L>>(
     call: AnyCall<'_, L::Text, L::Bytes>,
 ) -> Result<(), Hindrance>
     ensures { let due = one_if passes (call_of L.text L.bytes call.entry) in
-        Passes S.law (S.standing inner.old) due result (S.standing inner.new) }
+        PassesCalls S.law (S.standing inner.old) due result (S.standing inner.new) }
 {
     if !passes {
         return Ok(());
@@ -89,7 +89,7 @@ fn pass_key<L: Lending, S: Stream<L>>(
 ) -> Result<(), Hindrance>
     ensures { let due =
         key_and_end (seen_fate fate.now) (capture_of held.now).forest (call_of L.text L.bytes end.entry) in
-        Passes S.law (S.standing inner.old) due result (S.standing inner.new) }
+        PassesCalls S.law (S.standing inner.old) due result (S.standing inner.new) }
 {
     if fate.is_left_out() {
         return Ok(());
@@ -164,7 +164,8 @@ fn hint<L: Lending, S: Stream<L>>(
     ensures { let old = sieve_view S.standing sieve.old in
         let taken = call_of L.text L.bytes call.entry in
         let mode = mode_in old.paths old.kept.layers in
-        Moves S.law old (hint_due mode (entry_in old.kept.layers) taken) (record old.kept { held = held_after mode old.kept.held taken })
+        Moves S.law old (hint_due mode (entry_in old.kept.layers) taken)
+        (record old.kept { held = held_after mode old.kept.held taken })
         (key_may_grow mode old.kept.held taken) result (sieve_view S.standing sieve.new) }
 {
     let layer = sieve.layers.innermost();
@@ -183,7 +184,8 @@ fn open<'p, L: Lending, S: Stream<L>>(
 ) -> Result<(), Hindrance>
     ensures { let held = call_of L.text L.bytes call.entry in
         let due = call_of L.text L.bytes relayed.entry in
-        Opens S.law (seen_mode mode.entry) held due (sieve_view S.standing sieve.old) result (sieve_view S.standing sieve.new) }
+        OpensLayer S.law (seen_mode mode.entry) held due (sieve_view S.standing sieve.old) result
+        (sieve_view S.standing sieve.new) }
 {
     let holds = sieve.layers.innermost().mode.is_holding();
     let passes = mode.passes();
@@ -344,7 +346,8 @@ pub(crate) fn step<L: Lending, S: Stream<L>>(
 ) -> Result<(), Hindrance>
     ensures { let old = sieve_view S.standing sieve.old in
         let taken = call_of L.text L.bytes call.entry in
-        Moves S.law old (due_at old taken) (next_kept old taken) (may_take_memory old.paths old.kept taken) result (sieve_view S.standing sieve.new) }
+        Moves S.law old (due_at old taken) (next_kept old taken) (may_take_memory old.paths old.kept taken)
+        result (sieve_view S.standing sieve.new) }
 {
     let (call, same) = twice(call);
     match same.grouped() {

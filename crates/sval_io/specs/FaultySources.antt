@@ -9,8 +9,8 @@ pub record FaultySupply : Type 0 where
   pub plan : Plan
 
 -- it tells the bytes that are left
-abbrev pub faulty_told : FaultySupply → Supply
-faulty_told faulty = record { left = Some faulty.left; faults = faulty.plan.faults }
+abbrev pub faulty_source_told : FaultySupply → Supply
+faulty_source_told faulty = record { left = Some faulty.left; faults = faulty.plan.faults }
 
 -- how many bytes a call that doesn't fail gives into a buffer of this length
 abbrev pub given : FaultySupply → ℕ → ℕ

@@ -2,7 +2,7 @@
 
 ghost use Rattle.std.specs.Prelude.{◌≡◌, ◌↔◌, ◌≤◌, IfOk, OnErr, drop, length};
 ghost use Rattle.sval_io.specs.FaultPlans.{new_plan, IsDueToFail};
-ghost use Rattle.sval_io.specs.FaultySources.{after_read, faulty_told, given};
+ghost use Rattle.sval_io.specs.FaultySources.{after_read, faulty_source_told, given};
 ghost use Rattle.sval_io.specs.Sources.{ReadsInto};
 
 use crate::fault_plan::FaultPlan;
@@ -49,12 +49,12 @@ impl<'a> FaultySource<'a> {
 }
 
 impl<'a> Source for FaultySource<'a> {
-    ghost told = { faulty_told };
+    ghost told = { faulty_source_told };
 
     fn read(&mut self, buffer: &mut [u8]) -> Result<usize, SourceError>
         ensures chunk { IfOk result (λ count. count ≡ given self.old (length buffer.old)) }
         ensures fails { (result ≡ Err SourceError.Failed) ↔ IsDueToFail self.old.plan }
-        ensures reads { ReadsInto result (faulty_told self.old) buffer.new (faulty_told self.new) }
+        ensures reads { ReadsInto result (faulty_source_told self.old) buffer.new (faulty_source_told self.new) }
         ensures rest { IfOk result (λ count. drop count buffer.new ≡ drop count buffer.old) }
         ensures untouched { OnErr result (buffer.new ≡ buffer.old) }
         ensures plan { self.new.plan ≡ after_read result self.old.plan }

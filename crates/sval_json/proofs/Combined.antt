@@ -6,8 +6,8 @@ use Rattle.sval_label.specs.declared.error.Error.{Error}
 use Rattle.sval_label.specs.Calls.{Label}
 use Rattle.sval_json.specs.Escape.{escaped}
 use Rattle.sval_json.specs.Json.{comma}
-use Rattle.sval_json.specs.Actions.{escapes, State, set_named, Outcome, Action, write, ◌then◌, ◌sets◌, from}
-use Rattle.sval_json.specs.Steps.{item_begins, value_written, text_begins, fragment, quote_if_quoted, bytes_step, label_text, field_begins}
+use Rattle.sval_json.specs.Actions.{escapes, WriterState, set_named, Outcome, Action, write, ◌then◌, ◌sets◌, from}
+use Rattle.sval_json.specs.Steps.{item_begins, value_written, text_begins, fragment, quote_if_quoted, bytes_step, key_label_text, field_begins}
 use Rattle.sval_json.specs.WriterLaw.{WriterView, HasDone, IsStopped, IsOnlySet, Does, after_action}
 use Rattle.sval_json.proofs.Doing.{nothing_done, done_then, stopped_first, stopped_later}
 
@@ -24,15 +24,15 @@ does_then first next (Err refusal) old new d e = stopped_later d e
 
 -- ---- a change of the state
 
-pub done_sets : {action : Action} {old mid new : WriterView} (change : State → State) → HasDone action old mid → IsOnlySet change mid new → HasDone (action sets change) old new
+pub done_sets : {action : Action} {old mid new : WriterView} (change : WriterState → WriterState) → HasDone action old mid → IsOnlySet change mid new → HasDone (action sets change) old new
 done_sets {action} {old} {mid} {new} change d set =
     let view : new ≡ after_action (action sets change) old = set ∙ ap (λ (v : WriterView). let changed : WriterView = record v { state = change v.state } in changed) d.view in
     record { may = record { refusal = d.may.refusal; fits = d.may.fits }; view = view }
 
-pub stops_sets : {action : Action} {old new : WriterView} (change : State → State) → IsStopped action old new → IsStopped (action sets change) old new
+pub stops_sets : {action : Action} {old new : WriterView} (change : WriterState → WriterState) → IsStopped action old new → IsStopped (action sets change) old new
 stops_sets change stop = record { left = stop.left; name = stop.name }
 
-pub does_from : (action : Action) (change : State → State) (r : Result (Unit {0}) Error) (old new : WriterView) → Does action r (record old { state = change old.state }) new → Does (from change action) r old new
+pub does_from : (action : Action) (change : WriterState → WriterState) (r : Result (Unit {0}) Error) (old new : WriterView) → Does action r (record old { state = change old.state }) new → Does (from change action) r old new
 does_from action change (Ok done) old new d = record { may = record { refusal = d.may.refusal; fits = d.may.fits }; view = d.view }
 does_from action change (Err refusal) old new stop = record { left = stop.left; name = stop.name }
 
@@ -52,7 +52,7 @@ does_alike action other r old new e d = from_outcome other r old new (subst (λ 
 -- ---- a text
 
 -- where texts bring their quotes and are escaped, the three parts of a text write this
-pub text_is_quoted : (text : List ℕ) (state : State) → state.quoted ≡ true → state.handler ≡ escapes → value_written (codes "\"" ++ escaped text ++ codes "\"") state ≡ (text_begins then fragment text then quote_if_quoted) state
+pub text_is_quoted : (text : List ℕ) (state : WriterState) → state.quoted ≡ true → state.handler ≡ escapes → value_written (codes "\"" ++ escaped text ++ codes "\"") state ≡ (text_begins then fragment text then quote_if_quoted) state
 text_is_quoted text state quoted handler = rw (quoted, handler) refl
 
 -- ---- the bytes of a binary
@@ -78,7 +78,7 @@ none_due (byte ∷ rest) due none = absurd (omega (arith, none))
 -- ---- a field
 
 -- a field begins by one text, with the comma in front unless it is the first
-pub field_begun : (label : Label) (bytes : List ℕ) (r : Result (Unit {0}) Error) (old new : WriterView) → bytes ≡ comma old.state.empty ++ (codes "\"" ++ label_text label ++ codes "\":")
+pub field_begun : (label : Label) (bytes : List ℕ) (r : Result (Unit {0}) Error) (old new : WriterView) → bytes ≡ comma old.state.empty ++ (codes "\"" ++ key_label_text label ++ codes "\":")
     → Does (write bytes) r (record old { state = set_named false old.state }) new → Does (field_begins label) r old new
 field_begun label bytes r old new e d =
     does_alike (from (set_named false) (write bytes)) (field_begins label) r old new

@@ -15,21 +15,21 @@ use Rattle.sval_json.specs.declared.error.Stop.{Stop}
 use Rattle.sval_json.specs.declared.error.Stop.TheVariants.{Step, Sink}
 use Rattle.sval_json.specs.declared.style.Variants.{Variants}
 use Rattle.sval_json.specs.declared.writer.Writer.{Writer}
-use Rattle.sval_json.specs.Actions.{State, Outcome, escapes, write}
+use Rattle.sval_json.specs.Actions.{WriterState, Outcome, escapes, write}
 use Rattle.sval_json.specs.Escape.{escaped}
-use Rattle.sval_json.specs.Steps.{step}
+use Rattle.sval_json.specs.Steps.{writer_step}
 use Rattle.sval_json.specs.WriterLaw.{WriterView, with_bytes, after_action, MayDo, IsLeftBy, IsStopped, Does, step_law, writer_view, writer_standing}
 use Rattle.sval_json.proofs.Doing.{with_bytes-nothing, with_bytes-append}
 
 -- from this state on none of the calls is refused, they write these bytes, and lead to the last state
-abbrev pub JoinsAs : Variants → State → List Call → List ℕ → State → Type 0
+abbrev pub JoinsAs : Variants → WriterState → List Call → List ℕ → WriterState → Type 0
 JoinsAs style state [] bytes last = (bytes ≡ []) × (last ≡ state)
 JoinsAs style state (call ∷ calls) bytes last =
-    ((step style call state).refusal ≡ None)
-    × ((rest : List ℕ) × (bytes ≡ (step style call state).written ++ rest) × JoinsAs style (step style call state).state calls rest last)
+    ((writer_step style call state).refusal ≡ None)
+    × ((rest : List ℕ) × (bytes ≡ (writer_step style call state).written ++ rest) × JoinsAs style (writer_step style call state).state calls rest last)
 
 -- the view after these bytes were written, in this state
-abbrev pub joined : WriterView → List ℕ → State → WriterView
+abbrev pub joined : WriterView → List ℕ → WriterState → WriterView
 joined view bytes last = record { style = view.style; state = last; target = with_bytes bytes view.target }
 
 -- ---- all were taken
@@ -42,18 +42,18 @@ room_rest : (room : Option ℕ) (xs ys : List ℕ) → IfSome room (λ left. len
 room_rest None xs ys h = tt
 room_rest (Some left) xs ys h = omega (arith, length-append xs ys, h)
 
-pub joined_ran : (view : WriterView) (calls : List Call) (bytes : List ℕ) (last : State) → JoinsAs view.style view.state calls bytes last → HasRoom view.target.told bytes
+pub joined_ran : (view : WriterView) (calls : List Call) (bytes : List ℕ) (last : WriterState) → JoinsAs view.style view.state calls bytes last → HasRoom view.target.told bytes
     → Ran step_law view calls (joined view bytes last)
 joined_ran view [] bytes last j fits =
     ap (λ bytes. joined view bytes last) j.0 ∙ ap (joined view []) j.1
     ∙ ap (λ target. let same : WriterView = record view { target = target } in same) (with_bytes-nothing view.target)
 joined_ran view (call ∷ calls) bytes last j fits =
-    let o : Outcome = step view.style call view.state in
+    let o : Outcome = writer_step view.style call view.state in
     let rest : List ℕ = j.1.0 in
     let split : bytes ≡ o.written ++ rest = j.1.1 in
     let here : HasRoom view.target.told (o.written ++ rest) = subst (HasRoom view.target.told) split fits in
-    let next : WriterView = after_action (step view.style call) view in
-    let may : MayDo (step view.style call) view = record { refusal = j.0; fits = room_first view.target.told.room o.written rest here } in
+    let next : WriterView = after_action (writer_step view.style call) view in
+    let may : MayDo (writer_step view.style call) view = record { refusal = j.0; fits = room_first view.target.told.room o.written rest here } in
     let on : Ran step_law next calls (joined next rest last) = joined_ran next calls rest last j.1.2 (room_rest view.target.told.room o.written rest here) in
     let same : joined next rest last ≡ joined view bytes last =
     ap (λ target. let end : WriterView = record { style = view.style; state = last; target = target } in end) (with_bytes-append view.target o.written rest)
@@ -81,10 +81,10 @@ lacks None count taken bytes size within fits full = tt
 lacks (Some left) count taken bytes size within fits full = omega (arith, size, within, fits, full)
 
 -- it stopped in the first call
-stops_in_first : (why : SinkError) (view new : WriterView) (call : Call) (rest bytes : List ℕ) → bytes ≡ (step view.style call view.state).written ++ rest → (cut : Cut why view bytes new)
-    → cut.part.count < length (step view.style call view.state).written → IsStopped (step view.style call) view new
+stops_in_first : (why : SinkError) (view new : WriterView) (call : Call) (rest bytes : List ℕ) → bytes ≡ (writer_step view.style call view.state).written ++ rest → (cut : Cut why view bytes new)
+    → cut.part.count < length (writer_step view.style call view.state).written → IsStopped (writer_step view.style call) view new
 stops_in_first why view new call rest bytes split cut within =
-    let piece : List ℕ = (step view.style call view.state).written in
+    let piece : List ℕ = (writer_step view.style call view.state).written in
     let n : ℕ = cut.part.count in
     let same : take n bytes ≡ take n piece = ap (take n) split ∙ take-append-le n piece rest (omega (arith, within)) in
     let told : Told = view.target.told in
@@ -98,25 +98,25 @@ stops_in_first why view new call rest bytes split cut within =
       counts = cut.counts;
     } in
     record {
-      left = subst (λ (stop : Option Stop). IsLeftBy stop (step view.style call view.state).refusal piece told new.target.told) (sym cut.why_is) left;
+      left = subst (λ (stop : Option Stop). IsLeftBy stop (writer_step view.style call view.state).refusal piece told new.target.told) (sym cut.why_is) left;
       name = cut.name;
     }
 
 -- it stopped behind the first call
-stops_behind : (why : SinkError) (view new : WriterView) (call : Call) (rest bytes : List ℕ) → bytes ≡ (step view.style call view.state).written ++ rest → (step view.style call view.state).refusal ≡ None
-    → (cut : Cut why view bytes new) → length (step view.style call view.state).written ≤ cut.part.count
-    → MayDo (step view.style call) view × Cut why (after_action (step view.style call) view) rest new
+stops_behind : (why : SinkError) (view new : WriterView) (call : Call) (rest bytes : List ℕ) → bytes ≡ (writer_step view.style call view.state).written ++ rest → (writer_step view.style call view.state).refusal ≡ None
+    → (cut : Cut why view bytes new) → length (writer_step view.style call view.state).written ≤ cut.part.count
+    → MayDo (writer_step view.style call) view × Cut why (after_action (writer_step view.style call) view) rest new
 stops_behind why view new call rest bytes split accepted cut behind =
-    let piece : List ℕ = (step view.style call view.state).written in
+    let piece : List ℕ = (writer_step view.style call view.state).written in
     let n : ℕ = cut.part.count - length piece in
     let told : Told = view.target.told in
     let count_is : cut.part.count ≡ length piece + n = omega (arith, behind) in
     let taken : take cut.part.count bytes ≡ piece ++ take n rest = ap (λ m. take m bytes) count_is ∙ ap (take (length piece + n)) split ∙ take-append-add piece rest n in
     let appends : Appends told (piece ++ take n rest) new.target.told = subst (λ taken. Appends told taken new.target.told) taken cut.part.appends in
     let size : length bytes ≡ length piece + length rest = ap length split ∙ length-append piece rest in
-    let after : Told = (after_action (step view.style call) view).target.told in
+    let after : Told = (after_action (writer_step view.style call) view).target.told in
     let steady : IsSteady after told = record { faults = refl; wants = refl } in
-    let later : Cut why (after_action (step view.style call) view) rest new = record {
+    let later : Cut why (after_action (writer_step view.style call) view) rest new = record {
       part = record {
         count = n;
         within = omega (arith, count_is, size, cut.part.within);
@@ -134,19 +134,19 @@ stops_behind why view new call rest bytes split accepted cut behind =
     } in
     (record { refusal = accepted; fits = room_first told.room piece (take n rest) appends.fits }, later)
 
-pub joined_stops : (old new : Standing WriterView) (why : SinkError) → Rose old.faults new.faults ⊎ Rose old.wants new.wants → (view : WriterView) (calls : List Call) (bytes : List ℕ) (last : State)
+pub joined_stops : (old new : Standing WriterView) (why : SinkError) → Rose old.faults new.faults ⊎ Rose old.wants new.wants → (view : WriterView) (calls : List Call) (bytes : List ℕ) (last : WriterState)
     → JoinsAs view.style view.state calls bytes last → Cut why view bytes new.view → StoppedIn step_law old new view calls false
 joined_stops old new why rose view [] bytes last j cut =
     let none : cut.part.count < 0 = subst (λ bytes. cut.part.count < length bytes) j.0 cut.part.within in
     absurd (omega (arith, none))
 joined_stops old new why rose view (call ∷ calls) bytes last j cut =
-    by_order (order cut.part.count (length (step view.style call view.state).written))
-    (λ later. joined_stops old new why rose (after_action (step view.style call) view) calls j.1.0 last j.1.2 later)
+    by_order (order cut.part.count (length (writer_step view.style call view.state).written))
+    (λ later. joined_stops old new why rose (after_action (writer_step view.style call) view) calls j.1.0 last j.1.2 later)
   where
     next : WriterView
-    next = after_action (step view.style call) view
+    next = after_action (writer_step view.style call) view
 
-    by_order : (cut.part.count < length (step view.style call view.state).written) ⊎ (length (step view.style call view.state).written ≤ cut.part.count)
+    by_order : (cut.part.count < length (writer_step view.style call view.state).written) ⊎ (length (writer_step view.style call view.state).written ≤ cut.part.count)
         → (Cut why next j.1.0 new.view → StoppedIn step_law old new next calls false) → StoppedIn step_law old new view (call ∷ calls) false
     by_order (inl within) on = inl (inr rose, stops_in_first why view new.view call j.1.0 bytes j.1.1 cut within)
     by_order (inr behind) on =
@@ -156,7 +156,7 @@ joined_stops old new why rose view (call ∷ calls) bytes last j cut =
 -- ---- what is written together, by what writing it answers
 
 -- what stopped it was the sink
-stopped_cut : (view new : WriterView) (bytes : List ℕ) (last : State) → IsStopped (write bytes) (record view { state = last }) new
+stopped_cut : (view new : WriterView) (bytes : List ℕ) (last : WriterState) → IsStopped (write bytes) (record view { state = last }) new
     → (new.target.why ≡ Some (Sink Failed) → IsFull new.target.told) → (why : SinkError) × Cut why view bytes new
 stopped_cut view new bytes last stop full = by_why new.target.why refl stop.left
   where
@@ -187,7 +187,7 @@ module _ {K : Type 0} (told : K → Told) (w w' : Writer K) where
   rose Failed counted = inl counted
   rose NoMemory counted = inr counted
 
-  pub emits_joined : (r : Result (Unit {0}) Error) (calls : List Call) (bytes : List ℕ) (last : State) → JoinsAs before.style before.state calls bytes last
+  pub emits_joined : (r : Result (Unit {0}) Error) (calls : List Call) (bytes : List ℕ) (last : WriterState) → JoinsAs before.style before.state calls bytes last
       → Does (write bytes) r (record before { state = last }) behind → OnErr r (w'.why ≡ Some (Sink Failed) → IsFull (told w'.sink.now))
       → Emits step_law r (writer_standing told w) (makes calls) (writer_standing told w')
   emits_joined (Ok done) calls bytes last j d full = record {
@@ -207,7 +207,7 @@ module _ {K : Type 0} (told : K → Told) (w w' : Writer K) where
 -- ---- a whole text, and one that is a key
 
 -- the state of one who escapes texts
-abbrev pub escaping : (named empty quoted : Bool) → State
+abbrev pub escaping : (named empty quoted : Bool) → WriterState
 escaping named empty quoted = record { named = named; empty = empty; quoted = quoted; handler = escapes }
 
 pub text_joins : (style : Variants) (named empty : Bool) (size : Option ℕ) (text : List ℕ) → escaped text ≡ text

@@ -6,10 +6,10 @@ use Rattle.sval_core.specs.Trees.{Tree, Null, Truth, Int, Text, Binary, Standalo
 use Rattle.sval_core.specs.Spells.{bare_name}
 use Rattle.sval_json.specs.declared.style.Variants.{Variants}
 use Rattle.sval_json.specs.Json.{Key, raw_key}
-use Rattle.sval_json.specs.Number.{Refusal, InvalidKey, InvalidNumber, Machine, Reading, normal, take_bytes, at_end, answer, answer_with}
+use Rattle.sval_json.specs.Number.{Refusal, InvalidKey, InvalidNumber, Machine, NumberReading, normal, take_bytes, number_at_end, answer, number_answer}
 use Rattle.sval_json.specs.Shape.{map_ok, handle, is_wrapped, tagged_key, key}
 use Rattle.sval_json.specs.Actions.{Handler, escapes, reads, set_quoted, set_handler, Outcome, Action, continue, ◌then◌, ◌sets◌, when}
-use Rattle.sval_json.specs.Steps.{opens, name_step, refusal_of, number_ends, standalone_step, container_begins, after_name, step}
+use Rattle.sval_json.specs.Steps.{opens, name_step, refusal_of, number_ends, standalone_step, container_begins, after_name, writer_step}
 use Rattle.sval_json.specs.Laws.{BeginsWith}
 use Rattle.sval_json.proofs.Numbers.{machine_is_normal}
 use Rattle.sval_json.proofs.Writing.{at, machine_start}
@@ -36,7 +36,7 @@ silent_first o next why is none = subst (StopsIn []) (sym (stays o next why is))
 -- ---- a number
 
 -- the number stops at a byte or at its end
-stops_at_end : (b : Name) (c n : Bool) (h : Handler) (o : Option (List ℕ)) (w text : List ℕ) (next : Action) (why : Refusal) → answer_with o w ≡ Err why → (take_bytes machine_start text).written ≡ w →
+stops_at_end : (b : Name) (c n : Bool) (h : Handler) (o : Option (List ℕ)) (w text : List ℕ) (next : Action) (why : Refusal) → number_answer o w ≡ Err why → (take_bytes machine_start text).written ≡ w →
     (let f : Outcome = ((λ s. number_ends o (set_quoted true (set_handler escapes s))) then when (λ state. state.empty) (standalone_step b) sets after_name b) (at n false false h) in
     let k : Outcome = continue f.refusal f next in
     let whole : Outcome = record { state = k.state; written = w ++ k.written; refusal = k.refusal } in StopsIn text whole)
@@ -45,18 +45,18 @@ stops_at_end b c n h (Some end) w text next why e is = cc e
 
 stops_in_text : (style : Variants) (b : Name) (n : Bool) (v : Bool) (w text : List ℕ) (machine : Machine) (next : Action) (why : Refusal) →
     answer (record { written = w; machine = machine; valid = v }) ≡ Err why → (take_bytes machine_start text).written ≡ w →
-    StopsIn text (continue (refusal_of v) (record { state = at n false false (reads machine); written = w; refusal = refusal_of v }) (step style Call.TextEnd then (tag_end Number b then next)))
+    StopsIn text (continue (refusal_of v) (record { state = at n false false (reads machine); written = w; refusal = refusal_of v }) (writer_step style Call.TextEnd then (tag_end Number b then next)))
 stops_in_text style b n false w text machine next why e is = record { why = InvalidNumber; refusal = refl; begins = ([], is ∙ sym (append-nil w)) }
-stops_in_text style b n true w text machine next why e is = stops_at_end b true n (reads machine) (at_end machine.phase) w text next why e is
+stops_in_text style b n true w text machine next why e is = stops_at_end b true n (reads machine) (number_at_end machine.phase) w text next why e is
 
 -- a text that is no number stops where it is read as one
 pub number_stops : (style : Variants) (b : Name) (n e : Bool) (text : List ℕ) (next : Action) (why : Refusal) → normal text ≡ Err why → StopsIn text (text_run style text (tag_end Number b then next) (at n e false (reads machine_start)))
 number_stops style b n e text next why bad =
-    let r : Reading = take_bytes machine_start text in
+    let r : NumberReading = take_bytes machine_start text in
     stops_in_text style b n r.valid r.written text r.machine next why (machine_is_normal text ∙ bad) refl
 
 -- a number is written whole
-whole_at_end : (b : Name) (n : Bool) (h : Handler) (o : Option (List ℕ)) (w out : List ℕ) (next : Action) → answer_with o w ≡ Ok out →
+whole_at_end : (b : Name) (n : Bool) (h : Handler) (o : Option (List ℕ)) (w out : List ℕ) (next : Action) → number_answer o w ≡ Ok out →
     (let f : Outcome = ((λ s. number_ends o (set_quoted true (set_handler escapes s))) then when (λ state. state.empty) (standalone_step b) sets after_name b) (at n false false h) in
     let k : Outcome = continue f.refusal f next in BeginsWith (w ++ k.written) out)
 whole_at_end b n h None w out next e = cc e
@@ -66,13 +66,13 @@ whole_at_end b n h (Some end) w out next e =
     (more, ap (λ x. w ++ (x ++ more)) (append-nil end) ∙ sym (append_assoc w end more) ∙ ap (λ x. x ++ more) whole)
 
 whole_in_text : (style : Variants) (b : Name) (n : Bool) (v : Bool) (w out : List ℕ) (machine : Machine) (next : Action) → answer (record { written = w; machine = machine; valid = v }) ≡ Ok out
-    → BeginsWith (continue (refusal_of v) (record { state = at n false false (reads machine); written = w; refusal = refusal_of v }) (step style Call.TextEnd then (tag_end Number b then next))).written out
+    → BeginsWith (continue (refusal_of v) (record { state = at n false false (reads machine); written = w; refusal = refusal_of v }) (writer_step style Call.TextEnd then (tag_end Number b then next))).written out
 whole_in_text style b n false w out machine next e = cc e
-whole_in_text style b n true w out machine next e = whole_at_end b n (reads machine) (at_end machine.phase) w out next e
+whole_in_text style b n true w out machine next e = whole_at_end b n (reads machine) (number_at_end machine.phase) w out next e
 
 pub number_begins : (style : Variants) (b : Name) (n e : Bool) (text out : List ℕ) (next : Action) → normal text ≡ Ok out → BeginsWith (text_run style text (tag_end Number b then next) (at n e false (reads machine_start))).written out
 number_begins style b n e text out next is =
-    let r : Reading = take_bytes machine_start text in
+    let r : NumberReading = take_bytes machine_start text in
     whole_in_text style b n r.valid r.written out r.machine next (machine_is_normal text ∙ is)
 
 -- ---- a key
@@ -140,7 +140,7 @@ empty_stops : (name : Name) (v w : Bool) (k : Key) (why : Refusal) → (v && is_
 unfolding run
 empty_stops name v true k why is bad = (
   [],
-  λ style e next. silent_first (step style (Call.EnumBegin name) (at v e false escapes)) (step style (Call.EnumEnd (bare_name name)) then next) InvalidKey (enum_refused style v e (handle name) is) (name_unwritten style v e (handle name) is),
+  λ style e next. silent_first (writer_step style (Call.EnumBegin name) (at v e false escapes)) (writer_step style (Call.EnumEnd (bare_name name)) then next) InvalidKey (enum_refused style v e (handle name) is) (name_unwritten style v e (handle name) is),
 )
 empty_stops name v false k why is bad = cc bad
 
@@ -149,13 +149,13 @@ enum_stops : (name : Name) (tree : Tree) (v w : Bool) (why : Refusal) → (v && 
 unfolding run
 enum_stops name tree v true why is bad inner = (
   [],
-  λ style e next. silent_first (step style (Call.EnumBegin name) (at v e false escapes)) (run style tree (step style (Call.EnumEnd (bare_name name)) then next)) InvalidKey (enum_refused style v e (handle name) is) (name_unwritten style v e (handle name) is),
+  λ style e next. silent_first (writer_step style (Call.EnumBegin name) (at v e false escapes)) (run style tree (writer_step style (Call.EnumEnd (bare_name name)) then next)) InvalidKey (enum_refused style v e (handle name) is) (name_unwritten style v e (handle name) is),
 )
 enum_stops name tree v false why is bad inner =
     let d = inner why bad in (
       d.0,
-      λ style e next. subst (λ (f : Outcome). StopsIn d.0 (continue f.refusal f (run style tree (step style (Call.EnumEnd (bare_name name)) then next)))) (sym (enum_quiet style v e (handle name) is))
-          (d.1 style true (step style (Call.EnumEnd (bare_name name)) then next)),
+      λ style e next. subst (λ (f : Outcome). StopsIn d.0 (continue f.refusal f (run style tree (writer_step style (Call.EnumEnd (bare_name name)) then next)))) (sym (enum_quiet style v e (handle name) is))
+          (d.1 style true (writer_step style (Call.EnumEnd (bare_name name)) then next)),
     )
 
 -- the steps stop in a key that is none

@@ -3,7 +3,7 @@ use Rattle.std.specs.Prelude.{◌≡◌, ℕ, Bool, true, false, List, [], ◌�
 use Rattle.std.specs.Char.{is_ascii_digit}
 use Rattle.std.proofs.Common.{sym, ap, ◌∙◌, subst, inl, inr, append_assoc}
 use Rattle.sval_json.specs.Digits.{is_sign, is_exponent_mark, zero_digit, minus, point}
-use Rattle.sval_json.specs.Number.{begins_word, Phase, Start, Signed, Zero, Whole, Point, Fraction, Exponent, ExponentSign, ExponentDigits, Word, Machine, Reading, moves, stops, word_or_stop, take_byte, take_bytes, answer, InvalidNumber, normal, at_end, answer_with}
+use Rattle.sval_json.specs.Number.{begins_word, Phase, Start, Signed, Zero, Whole, Point, Fraction, Exponent, ExponentSign, ExponentDigits, Word, Machine, NumberReading, takes_byte, stops, word_or_stop, take_byte, take_bytes, answer, InvalidNumber, normal, number_at_end, number_answer}
 use Rattle.sval_json.specs.Grammar.{IsNumber}
 use Rattle.sval_json.specs.Laws.{BeginsWith}
 use Rattle.sval_json.proofs.Numbers.{prefix, answer_prefix, machine, machine_is_normal}
@@ -12,14 +12,14 @@ use Rattle.sval_json.proofs.Texts.{normal_twice}
 use Rattle.sval_json.proofs.Writing.{machine_start}
 
 -- a byte that is not taken writes nothing
-abbrev IsQuiet : Reading → Type 0
+abbrev IsQuiet : NumberReading → Type 0
 IsQuiet r = r.valid ≡ false → r.written ≡ []
 
-either_quiet : (b : Bool) (x y : Reading) → IsQuiet x → IsQuiet y → IsQuiet (if b then x else y)
+either_quiet : (b : Bool) (x y : NumberReading) → IsQuiet x → IsQuiet y → IsQuiet (if b then x else y)
 either_quiet true x y q r = q
 either_quiet false x y q r = r
 
-moves_quiet : (bytes : List ℕ) (n : Bool) (p : Phase) → IsQuiet (moves bytes n p)
+moves_quiet : (bytes : List ℕ) (n : Bool) (p : Phase) → IsQuiet (takes_byte bytes n p)
 moves_quiet bytes n p e = cc e
 
 stops_quiet : (m : Machine) → IsQuiet (stops m)
@@ -67,17 +67,17 @@ zero_ends n ExponentDigits = (_, refl)
 zero_ends n Word = (_, refl)
 
 -- what a byte makes of the rest
-read_on : Reading → List ℕ → Reading
+read_on : NumberReading → List ℕ → NumberReading
 read_on now bytes =
-    let later : Reading = take_bytes now.machine bytes in
+    let later : NumberReading = take_bytes now.machine bytes in
     if now.valid then record { written = now.written ++ later.written; machine = later.machine; valid = later.valid } else now
 
-reads_on : (now : Reading) (bytes : List ℕ) → now.valid ≡ true
-    → read_on now bytes ≡ (let later : Reading = take_bytes now.machine bytes in record { written = now.written ++ later.written; machine = later.machine; valid = later.valid })
+reads_on : (now : NumberReading) (bytes : List ℕ) → now.valid ≡ true
+    → read_on now bytes ≡ (let later : NumberReading = take_bytes now.machine bytes in record { written = now.written ++ later.written; machine = later.machine; valid = later.valid })
 unfolding read_on
 reads_on now bytes e = rw e refl
 
-reads_off : (now : Reading) (bytes : List ℕ) → now.valid ≡ false → read_on now bytes ≡ now
+reads_off : (now : NumberReading) (bytes : List ℕ) → now.valid ≡ false → read_on now bytes ≡ now
 unfolding read_on
 reads_off now bytes e = rw e refl
 
@@ -86,8 +86,8 @@ one_more : (m : Machine) (byte : ℕ) (bytes other : List ℕ) → (take_byte m.
     → Completes m (byte ∷ bytes) (byte ∷ other)
 unfolding read_on
 one_more m byte bytes other e later =
-    let now : Reading = take_byte m.negative m.phase byte in
-    let whole : Reading = take_bytes now.machine other in
+    let now : NumberReading = take_byte m.negative m.phase byte in
+    let whole : NumberReading = take_bytes now.machine other in
     record {
       out = now.written ++ later.out;
       is_number = ap answer (reads_on now other e) ∙ answer_prefix now.written whole.written whole.machine whole.valid ∙ ap (prefix now.written) later.is_number;
@@ -103,7 +103,7 @@ one_more m byte bytes other e later =
 none_more : (m : Machine) (byte : ℕ) (bytes : List ℕ) → (take_byte m.negative m.phase byte).valid ≡ false → Completes m (byte ∷ bytes) (zero_digit ∷ [])
 unfolding read_on
 none_more m byte bytes e =
-    let now : Reading = take_byte m.negative m.phase byte in
+    let now : NumberReading = take_byte m.negative m.phase byte in
     let end = zero_ends m.negative m.phase in
     let nothing : (take_bytes m (byte ∷ bytes)).written ≡ [] = ap (λ r. r.written) (reads_off now bytes e) ∙ byte_quiet m.negative m.phase byte e in
     record {
@@ -127,7 +127,7 @@ completes m (byte ∷ bytes) = by_byte m byte bytes (take_byte m.negative m.phas
 pub begins_on : (c : List ℕ) {a b : List ℕ} → BeginsWith a b → BeginsWith b c → BeginsWith a c
 begins_on c p q = (q.0 ++ p.0, p.1 ∙ ap (λ w. w ++ p.0) q.1 ∙ append_assoc c q.0 p.0)
 
-answered : (v : Bool) (end : Option (List ℕ)) (w out : List ℕ) → (if v then answer_with end w else Err InvalidNumber) ≡ Ok out → BeginsWith out w
+answered : (v : Bool) (end : Option (List ℕ)) (w out : List ℕ) → (if v then number_answer end w else Err InvalidNumber) ≡ Ok out → BeginsWith out w
 answered false end w out e = cc e
 answered true None w out e = cc e
 answered true (Some end) w out e = let whole : w ++ end ≡ out = cc e in (end, sym whole)
@@ -146,12 +146,12 @@ pub record GoesOnAs (text other : List ℕ) : Type 0 where
 pub goes_on_as : (text : List ℕ) → (other : List ℕ) × GoesOnAs text other
 goes_on_as text =
     let c = completes machine_start text in
-    let r : Reading = take_bytes machine_start c.0 in
+    let r : NumberReading = take_bytes machine_start c.0 in
     let is : normal c.0 ≡ Ok c.1.out = sym (machine_is_normal c.0) ∙ c.1.is_number in (
       c.1.out,
       record {
         is_number = normal_twice c.0 c.1.out is;
-        begins = begins_on (take_bytes machine_start text).written (answered r.valid (at_end r.machine.phase) r.written c.1.out c.1.is_number) c.1.begins;
+        begins = begins_on (take_bytes machine_start text).written (answered r.valid (number_at_end r.machine.phase) r.written c.1.out c.1.is_number) c.1.begins;
         utf8 = normal_utf8 c.1.out (normal_form c.0 c.1.out is);
       },
     )

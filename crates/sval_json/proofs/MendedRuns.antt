@@ -6,10 +6,10 @@ use Rattle.sval_label.specs.Calls.{Call, Head, Slot, Name, Label}
 use Rattle.sval_core.specs.Trees.{Tree, Null, Truth, Int, Text, Binary, Standalone, Tagged, EmptyEnum, Enum, Container, Parts, none, part, TextKind, Ordinary, Number, JsonValue, JsonText, JsonNumber, text_kind, MayHold, IsGood, AreGood}
 use Rattle.sval_core.specs.Spells.{bare_name, bare_head, bare_slot}
 use Rattle.sval_json.specs.declared.style.Variants.{Variants}
-use Rattle.sval_json.specs.Number.{Refusal, at_end}
+use Rattle.sval_json.specs.Number.{Refusal, number_at_end}
 use Rattle.sval_json.specs.Shape.{handle, handle_of, is_none_tag}
-use Rattle.sval_json.specs.Actions.{Handler, escapes, copies, reads, State, set_named, set_empty, set_quoted, set_handler, Outcome, Action, write, nothing, continue, ◌then◌, ◌sets◌, when}
-use Rattle.sval_json.specs.Steps.{refuse_in_key, opens, closes, quote_if_quoted, opens_handle, name_step, after_name, item_begins, value_written, text_begins, fragment_by, fragment, number_ends, handler_ends, bytes_step, label_step, own_step, standalone_step, begins_tagged, number_is_over, ends_tagged, refuses_key, container_begins, container_ends, part_begins, part_ends, step}
+use Rattle.sval_json.specs.Actions.{Handler, escapes, copies, reads, WriterState, set_named, set_empty, set_quoted, set_handler, Outcome, Action, write, nothing, continue, ◌then◌, ◌sets◌, when}
+use Rattle.sval_json.specs.Steps.{refuse_in_key, opens, closes, quote_if_quoted, opens_handle, name_step, after_name, item_begins, value_written, text_begins, fragment_by, fragment, number_ends, handler_ends, bytes_step, label_step, own_step, standalone_step, begins_tagged, number_is_over, ends_tagged, refuses_key, container_begins, container_ends, part_begins, part_ends, writer_step}
 use Rattle.sval_json.specs.Laws.{BeginsWith}
 use Rattle.sval_json.proofs.WrittenOnce.{run, run_parts}
 
@@ -39,7 +39,7 @@ goes_after None done next other g = after_bytes done.written g
 
 -- where fragments are escaped, they are after it
 abbrev pub Keeps : Action → Type 0
-Keeps a = (s : State) → s.handler ≡ escapes → (a s).state.handler ≡ escapes
+Keeps a = (s : WriterState) → s.handler ≡ escapes → (a s).state.handler ≡ escapes
 
 kept_on : (refusal : Option Refusal) (done : Outcome) (next : Action) → done.state.handler ≡ escapes → Keeps next → (continue refusal done next).state.handler ≡ escapes
 kept_on (Some why) done next h k = h
@@ -48,7 +48,7 @@ kept_on None done next h k = k done.state h
 pub keeps_then : (a b : Action) → Keeps a → Keeps b → Keeps (a then b)
 keeps_then a b k l s h = kept_on (a s).refusal (a s) b (k s h) l
 
-keeps_when : (test : State → Bool) (a : Action) → Keeps a → Keeps (when test a)
+keeps_when : (test : WriterState → Bool) (a : Action) → Keeps a → Keeps (when test a)
 keeps_when test a k s h = elim (test s) as (λ b. ((if b then a else nothing) s).state.handler ≡ escapes) [ true ↦ k s h | false ↦ h ]
 
 keeps_refuse : Keeps refuse_in_key
@@ -92,7 +92,7 @@ keeps_bytes (b ∷ bytes) s h = keeps_then (item_begins then value_written (deci
 keeps_own_if_empty : (name : Name) → Keeps (when (λ state. state.empty) (standalone_step name))
 keeps_own_if_empty name = keeps_when (λ state. state.empty) (standalone_step name) (keeps_standalone name)
 
-keeps_enum_end : (style : Variants) (name : Name) → Keeps (step style (Call.EnumEnd name))
+keeps_enum_end : (style : Variants) (name : Name) → Keeps (writer_step style (Call.EnumEnd name))
 keeps_enum_end style name s h =
     keeps_then (when (λ state. state.empty) (standalone_step name)) _ (keeps_own_if_empty name) (keeps_when (λ state. state.named) (closes _) (λ s h. h)) s h
 
@@ -139,16 +139,16 @@ keeps_tag_end : (name : Name) → Keeps (tag_end Ordinary name)
 keeps_tag_end name s h = keeps_then nothing (when (λ state. state.empty) (standalone_step name)) (λ s h. h) (keeps_own_if_empty name) s h
 
 -- after the end of a text that is meant in a way of its own fragments are escaped, whatever happened before
-over_at : (h : Handler) (s : State) → s.handler ≡ escapes → (handler_ends h s).state.handler ≡ escapes
+over_at : (h : Handler) (s : WriterState) → s.handler ≡ escapes → (handler_ends h s).state.handler ≡ escapes
 over_at escapes s e = e
 over_at copies s e = e
-over_at (reads machine) s e = last (at_end machine.phase)
+over_at (reads machine) s e = last (number_at_end machine.phase)
   where
     last : (o : Option (List ℕ)) → (number_ends o s).state.handler ≡ escapes
     last None = e
     last (Some bytes) = e
 
-clears : (k : TextKind) (name : Name) (s : State) → (k ≡ Ordinary → ⊥) → (tag_end k name s).state.handler ≡ escapes
+clears : (k : TextKind) (name : Name) (s : WriterState) → (k ≡ Ordinary → ⊥) → (tag_end k name s).state.handler ≡ escapes
 clears Ordinary name s other = absurd (other refl)
 clears JsonText name s other = kept_on None (ends_tagged JsonText s) (when (λ state. state.empty) (standalone_step name)) refl (keeps_own_if_empty name)
 clears JsonValue name s other = kept_on None (ends_tagged JsonValue s) (when (λ state. state.empty) (standalone_step name)) refl (keeps_own_if_empty name)
@@ -159,11 +159,11 @@ clears Number name s other = kept_on (number_is_over s).refusal (number_is_over 
 
 -- where fragments are escaped, the one goes as the other
 abbrev pub Sim : Action → Action → Type 0
-Sim next other = (s : State) → s.handler ≡ escapes → Goes (next s) (other s)
+Sim next other = (s : WriterState) → s.handler ≡ escapes → Goes (next s) (other s)
 
 -- wherever
 abbrev pub SimAll : Action → Action → Type 0
-SimAll next other = (s : State) → Goes (next s) (other s)
+SimAll next other = (s : WriterState) → Goes (next s) (other s)
 
 pub sim_then : (a : Action) {next other : Action} → Keeps a → Sim next other → Sim (a then next) (a then other)
 sim_then a {next} {other} k g s h = goes_after (a s).refusal (a s) next other (g (a s).state (k s h))
@@ -176,12 +176,12 @@ all_end k name {next} {other} special g s = goes_after (tag_end k name s).refusa
 
 -- a text that a tag holds
 abbrev pub text_run : Variants → List ℕ → Action → Action
-text_run style bytes next = step style (Call.TextBegin None) then (fragment bytes then (step style Call.TextEnd then next))
+text_run style bytes next = writer_step style (Call.TextBegin None) then (fragment bytes then (writer_step style Call.TextEnd then next))
 
 held_text : (style : Variants) (k : TextKind) (h : Option (List ℕ)) (name : Name) (bytes : List ℕ) {next other : Action} → (k ≡ Ordinary → ⊥) → Sim next other
     → Sim (tag_begin style k h then text_run style bytes (tag_end k name then next)) (tag_begin style k h then text_run style bytes (tag_end k name then other))
 held_text style k h name bytes special g s e =
-    all_then (tag_begin style k h) (all_then (step style (Call.TextBegin None)) (all_then (fragment bytes) (all_then (step style Call.TextEnd) (all_end k name special g)))) s
+    all_then (tag_begin style k h) (all_then (writer_step style (Call.TextBegin None)) (all_then (fragment bytes) (all_then (writer_step style Call.TextEnd) (all_end k name special g)))) s
 
 pub sim_held : (style : Variants) (k : TextKind) (h : Option (List ℕ)) (name : Name) (tree : Tree) {next other : Action} → MayHold k tree →
     ((a b : Action) → Sim a b → Sim (run style tree a) (run style tree b)) → Sim next other →
@@ -201,28 +201,28 @@ pub sim_ordinary : (style : Variants) (h : Option (List ℕ)) (name : Name) {beg
     → Sim next other → Sim (tag_begin style Ordinary h then begun) (tag_begin style Ordinary h then ended)
 sim_ordinary style h name inner g = sim_then (tag_begin style Ordinary h) (keeps_tag style h) (inner (sim_then (tag_end Ordinary name) (keeps_tag_end name) g))
 
-pub sim_enum : (style : Variants) (name last : Name) {begun ended next other : Action} → (Sim (step style (Call.EnumEnd last) then next) (step style (Call.EnumEnd last) then other) → Sim begun ended)
-    → Sim next other → Sim (step style (Call.EnumBegin name) then begun) (step style (Call.EnumBegin name) then ended)
+pub sim_enum : (style : Variants) (name last : Name) {begun ended next other : Action} → (Sim (writer_step style (Call.EnumEnd last) then next) (writer_step style (Call.EnumEnd last) then other) → Sim begun ended)
+    → Sim next other → Sim (writer_step style (Call.EnumBegin name) then begun) (writer_step style (Call.EnumBegin name) then ended)
 sim_enum style name last inner g =
-    sim_then (step style (Call.EnumBegin name)) (λ s h. keeps_name style (handle name) s h) (inner (sim_then (step style (Call.EnumEnd last)) (keeps_enum_end style last) g))
+    sim_then (writer_step style (Call.EnumBegin name)) (λ s h. keeps_name style (handle name) s h) (inner (sim_then (writer_step style (Call.EnumEnd last)) (keeps_enum_end style last) g))
 
-pub sim_container : (style : Variants) (head last : Head) {begun ended next other : Action} → (Sim (step style (Call.End last) then next) (step style (Call.End last) then other) → Sim begun ended)
-    → Sim next other → Sim (step style (Call.Begin head None) then begun) (step style (Call.Begin head None) then ended)
+pub sim_container : (style : Variants) (head last : Head) {begun ended next other : Action} → (Sim (writer_step style (Call.End last) then next) (writer_step style (Call.End last) then other) → Sim begun ended)
+    → Sim next other → Sim (writer_step style (Call.Begin head None) then begun) (writer_step style (Call.Begin head None) then ended)
 sim_container style head last inner g =
-    sim_then (step style (Call.Begin head None)) (keeps_begin style head) (inner (sim_then (step style (Call.End last)) (keeps_end last) g))
+    sim_then (writer_step style (Call.Begin head None)) (keeps_begin style head) (inner (sim_then (writer_step style (Call.End last)) (keeps_end last) g))
 
 mutual
   unfolding run
 
   pub sim_same : (style : Variants) (t : Tree) (next other : Action) → IsGood t → Sim next other → Sim (run style t next) (run style t other)
-  sim_same style Null next other good g = sim_then (step style Call.Null) (λ s h. h) g
-  sim_same style (Truth b) next other good g = sim_then (step style (Call.Truth b)) (λ s h. h) g
-  sim_same style (Int type n) next other good g = sim_then (step style (Call.Int type n)) (λ s h. h) g
+  sim_same style Null next other good g = sim_then (writer_step style Call.Null) (λ s h. h) g
+  sim_same style (Truth b) next other good g = sim_then (writer_step style (Call.Truth b)) (λ s h. h) g
+  sim_same style (Int type n) next other good g = sim_then (writer_step style (Call.Int type n)) (λ s h. h) g
   sim_same style (Text bytes) next other good g =
-      sim_then (step style (Call.TextBegin None)) keeps_text (sim_then (fragment bytes) (keeps_fragment bytes) (sim_then (step style Call.TextEnd) keeps_quote g))
+      sim_then (writer_step style (Call.TextBegin None)) keeps_text (sim_then (fragment bytes) (keeps_fragment bytes) (sim_then (writer_step style Call.TextEnd) keeps_quote g))
   sim_same style (Binary bytes) next other good g =
-      sim_then (step style (Call.BinaryBegin None)) (keeps_opens _) (sim_then (bytes_step bytes) (keeps_bytes bytes) (sim_then (step style Call.BinaryEnd) (λ s h. h) g))
-  sim_same style (Standalone name) next other good g = sim_then (step style (Call.Standalone name)) (keeps_standalone name) g
+      sim_then (writer_step style (Call.BinaryBegin None)) (keeps_opens _) (sim_then (bytes_step bytes) (keeps_bytes bytes) (sim_then (writer_step style Call.BinaryEnd) (λ s h. h) g))
+  sim_same style (Standalone name) next other good g = sim_then (writer_step style (Call.Standalone name)) (keeps_standalone name) g
   sim_same style (Tagged name tree) next other good g =
       sim_held style (text_kind name.tag) (handle name) (bare_name name) tree good.1 (λ a b h. sim_same style tree a b good.2 h) g
   sim_same style (EmptyEnum name) next other good g = sim_enum style name (bare_name name) (λ h. h) g
@@ -232,5 +232,5 @@ mutual
   sim_same_parts : (style : Variants) (p : Parts) (next other : Action) → AreGood p → Sim next other → Sim (run_parts style p next) (run_parts style p other)
   sim_same_parts style none next other good g = g
   sim_same_parts style (part slot tree parts) next other good g =
-      sim_then (step style (Call.PartBegin slot)) (keeps_part slot)
-      (sim_same style tree _ _ good.1 (sim_then (step style (Call.PartEnd (bare_slot slot))) (keeps_part_end (bare_slot slot)) (sim_same_parts style parts next other good.2 g)))
+      sim_then (writer_step style (Call.PartBegin slot)) (keeps_part slot)
+      (sim_same style tree _ _ good.1 (sim_then (writer_step style (Call.PartEnd (bare_slot slot))) (keeps_part_end (bare_slot slot)) (sim_same_parts style parts next other good.2 g)))

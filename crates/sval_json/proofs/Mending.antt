@@ -16,8 +16,8 @@ use Rattle.sval_json.specs.Promises.{KeepsTextPromise, KeepsPromises, KeepPromis
 use Rattle.sval_json.specs.Grammar.{Denotes}
 use Rattle.sval_json.specs.Fronts.{IsFront}
 use Rattle.sval_json.specs.Mended.{Mends, same, number, tagged, enum, container, MendParts, no_part, a_part, a_key}
-use Rattle.sval_json.specs.Actions.{escapes, start, Outcome, Action, nothing, ◌then◌}
-use Rattle.sval_json.specs.Steps.{name_step, begins_number, part_begins, step, written_in}
+use Rattle.sval_json.specs.Actions.{escapes, writer_start, Outcome, Action, nothing, ◌then◌}
+use Rattle.sval_json.specs.Steps.{name_step, begins_number, part_begins, writer_step, written_in}
 use Rattle.sval_json.specs.Laws.{BeginsWith, IsWrittenAs, IsBegunAs}
 use Rattle.sval_json.proofs.Writing.{at}
 use Rattle.sval_json.proofs.WritingPlain.{steps_plain, spelling_written}
@@ -233,8 +233,8 @@ other_part slot tree parts g m h rest = record {
   keeps = λ p. (p.0, m.keeps p.1, rest.keeps p.2);
   order = λ kind o. (o.0, rest.order (next_kind kind) o.1);
   sim = λ style next after s.
-      sim_then (step style (Call.PartBegin slot)) (keeps_part slot)
-      (m.sim style _ _ (sim_then (step style (Call.PartEnd (bare_slot slot))) (keeps_part_end (bare_slot slot)) (rest.sim style next after s)));
+      sim_then (writer_step style (Call.PartBegin slot)) (keeps_part slot)
+      (m.sim style _ _ (sim_then (writer_step style (Call.PartEnd (bare_slot slot))) (keeps_part_end (bare_slot slot)) (rest.sim style next after s)));
 }
 
 key_part : (tree : Tree) (parts : Parts) (x : Result json.Key Refusal) → key tree false ≡ x → IsGood tree → PartsMending parts → PartsMending (part Slot.Key tree parts)
@@ -248,8 +248,8 @@ key_part tree parts (Ok k) is g rest = record {
   keeps = λ p. (p.0, p.1, rest.keeps p.2);
   order = λ kind o. (o.0, rest.order (next_kind kind) o.1);
   sim = λ style next after s.
-      sim_then (step style (Call.PartBegin Slot.Key)) (keeps_part Slot.Key)
-      (sim_same style tree _ _ g (sim_then (step style (Call.PartEnd Slot.Key)) (keeps_part_end Slot.Key) (rest.sim style next after s)));
+      sim_then (writer_step style (Call.PartBegin Slot.Key)) (keeps_part Slot.Key)
+      (sim_same style tree _ _ g (sim_then (writer_step style (Call.PartEnd Slot.Key)) (keeps_part_end Slot.Key) (rest.sim style next after s)));
 }
 key_part tree parts (Err why) is g rest =
     let m = mended_key tree why g is in
@@ -263,8 +263,8 @@ key_part tree parts (Err why) is g rest =
       order = λ kind o. (o.0, rest.order (next_kind kind) o.1);
       sim = λ style next after s state e.
           let begun : Outcome = part_begins Slot.Key state in
-          let then_on : Action = step style (Call.PartEnd Slot.Key) then run_parts style parts next in
-          let then_other : Action = step style (Call.PartEnd Slot.Key) then run_parts style rest.others after in
+          let then_on : Action = writer_step style (Call.PartEnd Slot.Key) then run_parts style parts next in
+          let then_other : Action = writer_step style (Call.PartEnd Slot.Key) then run_parts style rest.others after in
           goes_after begun.refusal begun (run style tree then_on) (run style m.other then_other)
           (subst (λ x. Goes (run style tree then_on (at false state.empty false x)) (run style m.other then_other (at false state.empty false x))) (sym e) (m.goes style state.empty then_on then_other));
     }
@@ -317,8 +317,8 @@ mutual
 
 -- ---- what was written
 
-spelled : (style : Variants) (calls : List Call) (tree : Tree) → Spells calls tree → written_in style calls ≡ run style tree nothing start
-spelled style calls tree s = ap (λ f. f start) (sym (steps_plain style calls) ∙ says_run style tree (plain calls) [] s.1)
+spelled : (style : Variants) (calls : List Call) (tree : Tree) → Spells calls tree → written_in style calls ≡ run style tree nothing writer_start
+spelled style calls tree s = ap (λ f. f writer_start) (sym (steps_plain style calls) ∙ says_run style tree (plain calls) [] s.1)
 
 written_compact : (style : Variants) (calls : List Call) (tree : Tree) (j : Json) → Spells calls tree → json_in style tree ≡ Ok j → (written_in style calls).written ≡ compact j
 written_compact style calls tree j s is = (subst (λ x. IsWrittenAs x (written_in style calls)) is (spelling_written style calls tree s)).0
@@ -327,8 +327,8 @@ module _ (style : Variants) (calls : List Call) (tree : Tree) (s : Spells calls 
   mended_text : (m : Mending tree) (j : Json) → json_in style m.other ≡ Ok j → BeginsWith (compact j) (written_in style calls).written
   mended_text m j is =
       let spells = calls_of-spells m.other m.good in
-      let both = goes_begins (m.sim style nothing nothing (λ state e. alike refl) start refl) in
-      let whole : compact j ≡ (run style m.other nothing start).written = sym (written_compact style (calls_of m.other) m.other j spells is) ∙ ap (λ o. o.written) (spelled style (calls_of m.other) m.other spells) in
+      let both = goes_begins (m.sim style nothing nothing (λ state e. alike refl) writer_start refl) in
+      let whole : compact j ≡ (run style m.other nothing writer_start).written = sym (written_compact style (calls_of m.other) m.other j spells is) ∙ ap (λ o. o.written) (spelled style (calls_of m.other) m.other spells) in
       (both.0, whole ∙ both.1 ∙ ap (λ o. o.written ++ both.0) (sym (spelled style calls tree s)))
 
   -- whatever calls spell a tree, what is written for them begins the text of a tree that mends it

@@ -17,9 +17,9 @@ use Rattle.sval_json.specs.declared.error.Stop.TheVariants.{Step, Sink}
 use Rattle.sval_json.specs.ErrorKinds.{seen_refusal, refusal_kind, error_kind}
 use Rattle.sval_json.specs.Json.{Json}
 use Rattle.sval_json.specs.Shape.{json_in}
-use Rattle.sval_json.specs.Actions.{start, nothing}
+use Rattle.sval_json.specs.Actions.{writer_start, nothing}
 use Rattle.sval_json.specs.Number.{Refusal, InvalidKey, InvalidNumber}
-use Rattle.sval_json.specs.Steps.{step, steps, written_in}
+use Rattle.sval_json.specs.Steps.{writer_step, writer_steps, written_in}
 use Rattle.sval_json.specs.declared.writer.Writer.{Writer}
 use Rattle.sval_json.specs.WriterLaw.{WriterView, after_action, HasDone, IsLeftBy, IsStopped, writer_law, writer_state, writer_view, writer_standing}
 use Rattle.sval_json.specs.Laws.{IsWrittenAs}
@@ -33,25 +33,25 @@ use Rattle.sval_json.proofs.Doing.{nothing_done, done_then, stopped_first, stopp
 
 -- ---- from view to view
 
-pub ran_as : (calls : List Call) (old new : WriterView) → Ran writer_law old calls new → HasDone (steps old.style calls) old new
+pub ran_as : (calls : List Call) (old new : WriterView) → Ran writer_law old calls new → HasDone (writer_steps old.style calls) old new
 ran_as [] old new e = subst (HasDone nothing old) (sym e) (nothing_done old)
-ran_as (call ∷ calls) old new r = done_then (record { may = r.0.0; view = refl }) (ran_as calls (after_action (step old.style call) old) new r.1)
+ran_as (call ∷ calls) old new r = done_then (record { may = r.0.0; view = refl }) (ran_as calls (after_action (writer_step old.style call) old) new r.1)
 
 -- all calls were taken and the value refused, or the writer was stopped in one of them
 pub data Ending (old : WriterView) (e : Emission) (new : WriterView) : Type 0 where
-  refused : e.refuses ≡ true → HasDone (steps old.style e.calls) old new → Ending old e new
-  failed : IsStopped (steps old.style e.calls) old new → Ending old e new
+  refused : e.refuses ≡ true → HasDone (writer_steps old.style e.calls) old new → Ending old e new
+  failed : IsStopped (writer_steps old.style e.calls) old new → Ending old e new
 
 pub ending_of : (old new : Standing WriterView) (calls : List Call) (refuses : Bool) (view : WriterView) → StoppedIn writer_law old new view calls refuses
     → Ending view (record { calls = calls; refuses = refuses }) new.view
 ending_of old new [] refuses view (r, e) = refused r (ran_as [] view new.view e)
-ending_of old new (call ∷ calls) refuses view (inl (cause, stop)) = failed (stopped_first (steps view.style calls) stop)
-ending_of old new (call ∷ calls) refuses view (inr (accepted, rest)) = later (ending_of old new calls refuses (after_action (step view.style call) view) rest)
+ending_of old new (call ∷ calls) refuses view (inl (cause, stop)) = failed (stopped_first (writer_steps view.style calls) stop)
+ending_of old new (call ∷ calls) refuses view (inr (accepted, rest)) = later (ending_of old new calls refuses (after_action (writer_step view.style call) view) rest)
   where
-    first : HasDone (step view.style call) view (after_action (step view.style call) view)
+    first : HasDone (writer_step view.style call) view (after_action (writer_step view.style call) view)
     first = record { may = accepted.0; view = refl }
 
-    later : Ending (after_action (step view.style call) view) (record { calls = calls; refuses = refuses }) new.view → Ending view (record { calls = call ∷ calls; refuses = refuses }) new.view
+    later : Ending (after_action (writer_step view.style call) view) (record { calls = calls; refuses = refuses }) new.view → Ending view (record { calls = call ∷ calls; refuses = refuses }) new.view
     later (refused r done) = refused r (done_then first done)
     later (failed stop) = failed (stopped_later first stop)
 
@@ -161,13 +161,13 @@ module _ (style : Variants) (e : Emission) (held holds : ℕ) (old new : Told) (
     prefix = front_held left.front;
   }
 
-module _ {K : Type 0} (told : K → Told) (e : Emission) (old new : Writer K) (is_start : writer_state old ≡ start) where
-  after_done : HasDone (steps old.variants e.calls) (writer_view told old) (writer_view told new) → IsAfter old.variants e.calls old.sink.ghost_name new.sink.ghost_name (told old.sink.now) (told new.sink.now)
+module _ {K : Type 0} (told : K → Told) (e : Emission) (old new : Writer K) (is_start : writer_state old ≡ writer_start) where
+  after_done : HasDone (writer_steps old.variants e.calls) (writer_view told old) (writer_view told new) → IsAfter old.variants e.calls old.sink.ghost_name new.sink.ghost_name (told old.sink.now) (told new.sink.now)
   after_done d = record {
     name = ap (λ v. v.target.name) d.view;
     written = record {
-      refusal = subst (λ state. (steps old.variants e.calls state).refusal ≡ None) is_start d.may.refusal;
-      appends = subst (λ state. Appends (told old.sink.now) (steps old.variants e.calls state).written (told new.sink.now)) is_start (record {
+      refusal = subst (λ state. (writer_steps old.variants e.calls state).refusal ≡ None) is_start d.may.refusal;
+      appends = subst (λ state. Appends (told old.sink.now) (writer_steps old.variants e.calls state).written (told new.sink.now)) is_start (record {
         fits = d.may.fits;
         text = ap (λ v. v.target.told.text) d.view;
         room = ap (λ v. v.target.told.room) d.view;
@@ -179,7 +179,7 @@ module _ {K : Type 0} (told : K → Told) (e : Emission) (old new : Writer K) (i
   pub after_streams : Streams writer_law (writer_standing told old) e (writer_standing told new) → IsAfter old.variants e.calls old.sink.ghost_name new.sink.ghost_name (told old.sink.now) (told new.sink.now)
   after_streams s = after_done (ran_as e.calls (writer_view told old) (writer_view told new) s.ran)
 
-  after_refusal : e.refuses ≡ true → new.why ≡ None → HasDone (steps old.variants e.calls) (writer_view told old) (writer_view told new)
+  after_refusal : e.refuses ≡ true → new.why ≡ None → HasDone (writer_steps old.variants e.calls) (writer_view told old) (writer_view told new)
       → IsAfterStop old.variants e (error_kind new.why) old.sink.ghost_name new.sink.ghost_name (told old.sink.now) (told new.sink.now)
   after_refusal r none d =
       let after = after_done d in
@@ -187,11 +187,11 @@ module _ {K : Type 0} (told : K → Told) (e : Emission) (old new : Writer K) (i
       subst (λ found. IsAfterStop old.variants e found old.sink.ghost_name new.sink.ghost_name (told old.sink.now) (told new.sink.now)) (sym is)
       (after_itself old.variants e old.sink.ghost_name new.sink.ghost_name (told old.sink.now) (told new.sink.now) after.name (record { refuses = r; written = after.written; steady = after.steady }))
 
-  after_failure : IsStopped (steps old.variants e.calls) (writer_view told old) (writer_view told new)
+  after_failure : IsStopped (writer_steps old.variants e.calls) (writer_view told old) (writer_view told new)
       → IsAfterStop old.variants e (error_kind new.why) old.sink.ghost_name new.sink.ghost_name (told old.sink.now) (told new.sink.now)
   after_failure stop =
       after_left old.variants e old.sink.ghost_name new.sink.ghost_name (told old.sink.now) (told new.sink.now) stop.name new.why
-      (subst (λ state. IsLeftBy new.why (steps old.variants e.calls state).refusal (steps old.variants e.calls state).written (writer_view told old).target.told (writer_view told new).target.told) is_start stop.left)
+      (subst (λ state. IsLeftBy new.why (writer_steps old.variants e.calls state).refusal (writer_steps old.variants e.calls state).written (writer_view told old).target.told (writer_view told new).target.told) is_start stop.left)
 
   pub after_stops : {found : ErrorKind} → old.why ≡ None → found ≡ error_kind new.why → Stops writer_law (writer_standing told old) e (writer_standing told new)
       → IsAfterStop old.variants e found old.sink.ghost_name new.sink.ghost_name (told old.sink.now) (told new.sink.now)

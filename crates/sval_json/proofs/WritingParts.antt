@@ -10,8 +10,8 @@ use Rattle.sval_json.specs.Escape.{escaped, in_quotes}
 use Rattle.sval_json.specs.Json.{Key as JsonKey, Json, array, object, Items, item, Pairs, pair, escaped_key, raw_key, comma, compact, compact_items, compact_pairs, key_text}
 use Rattle.sval_json.specs.Number.{Refusal}
 use Rattle.sval_json.specs.Shape.{on_ok, map_ok, handle, own, is_identifier, wrap_in, field_key, tagged_json, shape, items, pairs}
-use Rattle.sval_json.specs.Actions.{escapes, State, nothing, ◌then◌}
-use Rattle.sval_json.specs.Steps.{opens, name_step, item_begins, field_begins, label_text, part_begins, part_ends}
+use Rattle.sval_json.specs.Actions.{escapes, WriterState, nothing, ◌then◌}
+use Rattle.sval_json.specs.Steps.{opens, name_step, item_begins, field_begins, key_label_text, part_begins, part_ends}
 use Rattle.sval_json.proofs.Writing.{at, wrote, handle_front, front, close}
 use Rattle.sval_json.proofs.WritingKeys.{key_inner}
 
@@ -74,8 +74,8 @@ shape_true style _ i = absurd i
 -- what begins and ends the parts of a container
 pub record AsItems (kind : Kind) : Type 0 where
   pub next : next_kind kind ≡ kind
-  pub begins : (slot : Slot) → kind_of slot ≡ kind → (s : State) → part_begins slot s ≡ item_begins s
-  pub ends : (slot : Slot) → kind_of slot ≡ kind → (s : State) → part_ends (bare_slot slot) s ≡ nothing s
+  pub begins : (slot : Slot) → kind_of slot ≡ kind → (s : WriterState) → part_begins slot s ≡ item_begins s
+  pub ends : (slot : Slot) → kind_of slot ≡ kind → (s : WriterState) → part_ends (bare_slot slot) s ≡ nothing s
 
 pub label_of : Slot → Label
 label_of (Slot.Field _ label) = label
@@ -84,32 +84,32 @@ label_of _ = record { text = []; tag = None; is_static = false }
 
 pub record AsFields (style : Variants) (kind : Kind) : Type 0 where
   pub next : next_kind kind ≡ kind
-  pub begins : (slot : Slot) → kind_of slot ≡ kind → (s : State) → part_begins slot s ≡ field_begins (label_of slot) s
-  pub ends : (slot : Slot) → kind_of slot ≡ kind → (s : State) → part_ends (bare_slot slot) s ≡ nothing s
+  pub begins : (slot : Slot) → kind_of slot ≡ kind → (s : WriterState) → part_begins slot s ≡ field_begins (label_of slot) s
+  pub ends : (slot : Slot) → kind_of slot ≡ kind → (s : WriterState) → part_ends (bare_slot slot) s ≡ nothing s
   pub as_pair : (slot : Slot) → kind_of slot ≡ kind → (t : Tree) (p : Parts) → pairs style (part slot t p) ≡ on_ok (shape style t false) (λ json. map_ok (pair (field_key (label_of slot)) json) (pairs style p))
 
-item_begins_so : (slot : Slot) → kind_of slot ≡ Item → (s : State) → part_begins slot s ≡ item_begins s
+item_begins_so : (slot : Slot) → kind_of slot ≡ Item → (s : WriterState) → part_begins slot s ≡ item_begins s
 item_begins_so Slot.Item e s = refl
 item_begins_so _ e s = absurd (cc)
 
-item_ends_so : (slot : Slot) → kind_of slot ≡ Item → (s : State) → part_ends (bare_slot slot) s ≡ nothing s
+item_ends_so : (slot : Slot) → kind_of slot ≡ Item → (s : WriterState) → part_ends (bare_slot slot) s ≡ nothing s
 item_ends_so Slot.Item e s = refl
 item_ends_so _ e s = absurd (cc)
 
-place_begins_so : (slot : Slot) → kind_of slot ≡ Place → (s : State) → part_begins slot s ≡ item_begins s
+place_begins_so : (slot : Slot) → kind_of slot ≡ Place → (s : WriterState) → part_begins slot s ≡ item_begins s
 place_begins_so (Slot.Place _ _) e s = refl
 place_begins_so _ e s = absurd (cc)
 
-place_ends_so : (slot : Slot) → kind_of slot ≡ Place → (s : State) → part_ends (bare_slot slot) s ≡ nothing s
+place_ends_so : (slot : Slot) → kind_of slot ≡ Place → (s : WriterState) → part_ends (bare_slot slot) s ≡ nothing s
 place_ends_so (Slot.Place _ _) e s = refl
 place_ends_so _ e s = absurd (cc)
 
-field_begins_so : (slot : Slot) → kind_of slot ≡ Field → (s : State) → part_begins slot s ≡ field_begins (label_of slot) s
+field_begins_so : (slot : Slot) → kind_of slot ≡ Field → (s : WriterState) → part_begins slot s ≡ field_begins (label_of slot) s
 unfolding label_of
 field_begins_so (Slot.Field _ _) e s = refl
 field_begins_so _ e s = absurd (cc)
 
-field_ends_so : (slot : Slot) → kind_of slot ≡ Field → (s : State) → part_ends (bare_slot slot) s ≡ nothing s
+field_ends_so : (slot : Slot) → kind_of slot ≡ Field → (s : WriterState) → part_ends (bare_slot slot) s ≡ nothing s
 field_ends_so (Slot.Field _ _) e s = refl
 field_ends_so _ e s = absurd (cc)
 
@@ -118,12 +118,12 @@ unfolding label_of
 field_pair style (Slot.Field _ _) e t p = refl
 field_pair style _ e t p = absurd (cc)
 
-field_place_begins_so : (slot : Slot) → kind_of slot ≡ FieldPlace → (s : State) → part_begins slot s ≡ field_begins (label_of slot) s
+field_place_begins_so : (slot : Slot) → kind_of slot ≡ FieldPlace → (s : WriterState) → part_begins slot s ≡ field_begins (label_of slot) s
 unfolding label_of
 field_place_begins_so (Slot.FieldPlace _ _ _) e s = refl
 field_place_begins_so _ e s = absurd (cc)
 
-field_place_ends_so : (slot : Slot) → kind_of slot ≡ FieldPlace → (s : State) → part_ends (bare_slot slot) s ≡ nothing s
+field_place_ends_so : (slot : Slot) → kind_of slot ≡ FieldPlace → (s : WriterState) → part_ends (bare_slot slot) s ≡ nothing s
 field_place_ends_so (Slot.FieldPlace _ _ _) e s = refl
 field_place_ends_so _ e s = absurd (cc)
 
@@ -151,11 +151,11 @@ more_items f (Ok j) (Ok i) = ap (λ w. Ok w) (sym (append_assoc (comma f) (compa
 more_items f (Ok j) (Err e) = refl
 more_items f (Err e) y = refl
 
-label_key : (label : Label) → key_text (field_key label) ≡ in_quotes (label_text label)
+label_key : (label : Label) → key_text (field_key label) ≡ in_quotes (key_label_text label)
 label_key label = elim (is_identifier label.tag) as (λ b. key_text (if b then raw_key label.text else escaped_key label.text) ≡ in_quotes (if b then label.text else escaped label.text)) [ true ↦ refl | false ↦ refl ]
 
 pub more_fields : (f : Bool) (label : Label) (x : Result Json Refusal) (y : Result Pairs Refusal) →
-    map_ok (λ w. comma f ++ (codes "\"" ++ label_text label ++ codes "\":") ++ w) (on_ok (map_ok compact x) (λ v. map_ok (λ w. v ++ w) (map_ok (compact_pairs false) y)))
+    map_ok (λ w. comma f ++ (codes "\"" ++ key_label_text label ++ codes "\":") ++ w) (on_ok (map_ok compact x) (λ v. map_ok (λ w. v ++ w) (map_ok (compact_pairs false) y)))
     ≡ map_ok (compact_pairs f) (on_ok x (λ json. map_ok (pair (field_key label) json) y))
 more_fields f label (Ok j) (Ok i) = ap (λ w. Ok w) (rw (label_key label) (simp append_assoc))
 more_fields f label (Ok j) (Err e) = refl

@@ -15,10 +15,10 @@ use Rattle.sval_json.specs.declared.style.Variants.{Variants}
 use Rattle.sval_json.specs.declared.style.Variants.TheVariants.{Inside, Beside}
 use Rattle.sval_json.specs.Escape.{escaped}
 use Rattle.sval_json.specs.Digits.{minus, point, zero_digit, is_sign, is_exponent_mark}
-use Rattle.sval_json.specs.Number.{Refusal, InvalidKey, Phase, Start, Signed, Zero, Whole, Point, Fraction, Exponent, ExponentSign, ExponentDigits, Word, Machine, Reading, begins_word, sign, word_or_stop, take_byte, take_bytes, at_end}
+use Rattle.sval_json.specs.Number.{Refusal, InvalidKey, Phase, Start, Signed, Zero, Whole, Point, Fraction, Exponent, ExponentSign, ExponentDigits, Word, Machine, NumberReading, begins_word, sign, word_or_stop, take_byte, take_bytes, number_at_end}
 use Rattle.sval_json.specs.Shape.{handle, handle_of, is_identifier, is_none_tag}
-use Rattle.sval_json.specs.Actions.{Handler, escapes, copies, reads, State, start, set_named, set_empty, set_quoted, set_handler, Outcome, Action, write, nothing, refuse, continue, ◌then◌, ◌sets◌, from, when}
-use Rattle.sval_json.specs.Steps.{value_written, refuse_in_key, opens, closes, quote_if_quoted, handle_text, opens_handle, name_step, after_name, comma_unless_empty, item_begins, text_begins, fragment, fragment_by, number_ends, handler_ends, bytes_step, label_step, own_step, standalone_step, field_begins, ends_tagged, refuses_key, container_begins, container_ends, part_begins, part_ends, step, steps}
+use Rattle.sval_json.specs.Actions.{Handler, escapes, copies, reads, WriterState, writer_start, set_named, set_empty, set_quoted, set_handler, Outcome, Action, write, nothing, refuse, continue, ◌then◌, ◌sets◌, from, when}
+use Rattle.sval_json.specs.Steps.{value_written, refuse_in_key, opens, closes, quote_if_quoted, handle_text, opens_handle, name_step, after_name, comma_unless_empty, item_begins, text_begins, fragment, fragment_by, number_ends, handler_ends, bytes_step, label_step, own_step, standalone_step, field_begins, ends_tagged, refuses_key, container_begins, container_ends, part_begins, part_ends, writer_step, writer_steps}
 use Rattle.sval_json.specs.Laws.{WrittenIsUtf8}
 use Rattle.sval_json.specs.Passed.{HasRealEnd, ArePassed}
 use Rattle.sval_json.proofs.NumberTexts.{ascii_utf8, number_utf8, signed_number, natural_number, escaped_utf8}
@@ -26,7 +26,7 @@ use Rattle.sval_json.proofs.Meaning.{truth_utf8, comma_utf8, indexes_number, num
 
 -- wherever it begins, an action writes UTF-8
 pub record WritesUtf8 (action : Action) : Type 0 where
-  pub at : (state : State) → IsUtf8 (action state).written
+  pub at : (state : WriterState) → IsUtf8 (action state).written
 
 -- ---- what actions are made of
 
@@ -46,17 +46,17 @@ continue_utf8 None done next u n = IsUtf8-append _ _ u (n.at done.state)
 then_utf8 : (first next : Action) → WritesUtf8 first → WritesUtf8 next → WritesUtf8 (first then next)
 then_utf8 first next f n = record { at = λ state. continue_utf8 (first state).refusal (first state) next (f.at state) n }
 
-sets_utf8 : (action : Action) (change : State → State) → WritesUtf8 action → WritesUtf8 (action sets change)
+sets_utf8 : (action : Action) (change : WriterState → WriterState) → WritesUtf8 action → WritesUtf8 (action sets change)
 sets_utf8 action change a = record { at = λ state. a.at state }
 
-from_utf8 : (change : State → State) (action : Action) → WritesUtf8 action → WritesUtf8 (from change action)
+from_utf8 : (change : WriterState → WriterState) (action : Action) → WritesUtf8 action → WritesUtf8 (from change action)
 from_utf8 change action a = record { at = λ state. a.at (change state) }
 
-chosen_utf8 : (b : Bool) (action : Action) (state : State) → WritesUtf8 action → IsUtf8 ((if b then action else nothing) state).written
+chosen_utf8 : (b : Bool) (action : Action) (state : WriterState) → WritesUtf8 action → IsUtf8 ((if b then action else nothing) state).written
 chosen_utf8 true action state a = a.at state
 chosen_utf8 false action state a = IsUtf8-nil
 
-when_utf8 : (test : State → Bool) (action : Action) → WritesUtf8 action → WritesUtf8 (when test action)
+when_utf8 : (test : WriterState → Bool) (action : Action) → WritesUtf8 action → WritesUtf8 (when test action)
 when_utf8 test action a = record { at = λ state. chosen_utf8 (test state) action state a }
 
 -- ---- actions
@@ -123,7 +123,7 @@ mark_low byte h = grind (arith, nat_tests)
 point_low : (byte : ℕ) → (byte == point) ≡ true → nat_lt byte 128 ≡ true
 point_low byte h = grind (arith, nat_tests)
 
-chosen_reading : (b : Bool) (x y : Reading) → (b ≡ true → IsUtf8 x.written) → IsUtf8 y.written → IsUtf8 (let r : Reading = if b then x else y in r).written
+chosen_reading : (b : Bool) (x y : NumberReading) → (b ≡ true → IsUtf8 x.written) → IsUtf8 y.written → IsUtf8 (let r : NumberReading = if b then x else y in r).written
 chosen_reading true x y f u = f refl
 chosen_reading false x y f u = u
 
@@ -167,13 +167,13 @@ byte_utf8 negative Word byte = IsUtf8-nil
 bytes_utf8 : (machine : Machine) (bytes : List ℕ) → IsUtf8 (take_bytes machine bytes).written
 bytes_utf8 machine [] = IsUtf8-nil
 bytes_utf8 machine (byte ∷ bytes) =
-    let now : Reading = take_byte machine.negative machine.phase byte in
-    let later : Reading = take_bytes now.machine bytes in
+    let now : NumberReading = take_byte machine.negative machine.phase byte in
+    let later : NumberReading = take_bytes now.machine bytes in
     chosen_reading now.valid (record { written = now.written ++ later.written; machine = later.machine; valid = later.valid }) now
     (λ e. IsUtf8-append _ _ (byte_utf8 machine.negative machine.phase byte) (bytes_utf8 now.machine bytes))
     (byte_utf8 machine.negative machine.phase byte)
 
-end_utf8 : (phase : Phase) → WritesUtf8 (number_ends (at_end phase))
+end_utf8 : (phase : Phase) → WritesUtf8 (number_ends (number_at_end phase))
 end_utf8 Start = refuse_utf8 _
 end_utf8 Signed = refuse_utf8 _
 end_utf8 Zero = write_utf8 _ (ascii_utf8 (zero_digit ∷ []) refl)
@@ -301,7 +301,7 @@ enum_end_utf8 name r =
     sets_utf8 _ (after_name name) (then_utf8 _ _ (when_utf8 (λ state. state.empty) (standalone_step name) (standalone_utf8 name r))
     (when_utf8 (λ state. state.named) (closes (codes "}")) close_pairs))
 
-step_utf8 : (style : Variants) (call : Call) → IsRealCall call → HasRealEnd call → WritesUtf8 (step style call)
+step_utf8 : (style : Variants) (call : Call) → IsRealCall call → HasRealEnd call → WritesUtf8 (writer_step style call)
 step_utf8 style Call.Null r e = value_utf8 (codes "null") (ascii_utf8 (codes "null") refl)
 step_utf8 style (Call.Truth b) r e = value_utf8 (truth_text b) (truth_utf8 b)
 step_utf8 style (Call.Int type n) r e = value_utf8 (signed_decimal n) (number_utf8 (signed_decimal n) (signed_number n (short_of_type type n r)))
@@ -327,9 +327,9 @@ step_utf8 style (Call.End head) r e = ends_utf8 head
 step_utf8 style (Call.PartBegin slot) r e = part_begins_utf8 slot r
 step_utf8 style (Call.PartEnd slot) r e = part_ends_utf8 slot
 
-steps_utf8 : (style : Variants) (calls : List Call) → ArePassed calls → WritesUtf8 (steps style calls)
+steps_utf8 : (style : Variants) (calls : List Call) → ArePassed calls → WritesUtf8 (writer_steps style calls)
 steps_utf8 style [] r = nothing_utf8
-steps_utf8 style (call ∷ calls) r = then_utf8 (step style call) (steps style calls) (step_utf8 style call r.0.0 r.0.1) (steps_utf8 style calls r.1)
+steps_utf8 style (call ∷ calls) r = then_utf8 (writer_step style call) (writer_steps style calls) (step_utf8 style call r.0.0 r.0.1) (steps_utf8 style calls r.1)
 
 pub written_is_utf8 : WrittenIsUtf8
-written_is_utf8 style calls r = (steps_utf8 style calls r).at start
+written_is_utf8 style calls r = (steps_utf8 style calls r).at writer_start

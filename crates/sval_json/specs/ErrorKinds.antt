@@ -37,9 +37,9 @@ without_io kind.IO = kind.Generic
 without_io found = found
 
 -- what an error says
-abbrev pub error_text : ErrorKind → List ℕ
-error_text kind.Generic = codes "an error occurred serializing a value to JSON"
-error_text kind.IO = codes "failed to write JSON"
-error_text kind.InvalidKey = codes "attempt to serialize a non-string key"
-error_text kind.InvalidNumber = codes "attempt to serialize an invalid number"
-error_text kind.NoMemory = codes "cannot allocate for JSON"
+abbrev pub json_error_text : ErrorKind → List ℕ
+json_error_text kind.Generic = codes "an error occurred serializing a value to JSON"
+json_error_text kind.IO = codes "failed to write JSON"
+json_error_text kind.InvalidKey = codes "attempt to serialize a non-string key"
+json_error_text kind.InvalidNumber = codes "attempt to serialize an invalid number"
+json_error_text kind.NoMemory = codes "cannot allocate for JSON"

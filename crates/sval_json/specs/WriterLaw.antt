@@ -8,9 +8,9 @@ use Rattle.sval_json.specs.declared.error.Stop.{Stop}
 use Rattle.sval_json.specs.declared.error.Stop.TheVariants.{Step, Sink}
 use Rattle.sval_json.specs.declared.style.Variants.{Variants}
 use Rattle.sval_json.specs.declared.writer.Writer.{Writer}
-use Rattle.sval_json.specs.Actions.{State, Action}
+use Rattle.sval_json.specs.Actions.{WriterState, Action}
 use Rattle.sval_json.specs.SeenWriter.{seen_handler}
-use Rattle.sval_json.specs.Steps.{step}
+use Rattle.sval_json.specs.Steps.{writer_step}
 use Rattle.sval_json.specs.Number.{Refusal}
 use Rattle.sval_json.specs.Passed.{IsPassed}
 use Rattle.sval_json.specs.ErrorKinds.{seen_refusal}
@@ -24,7 +24,7 @@ pub record Target : Type 0 where
 -- what the writer has taken, as a stream: its style of variants, the state of the steps, and the sink
 pub record WriterView : Type 0 where
   pub style : Variants
-  pub state : State
+  pub state : WriterState
   pub target : Target
 
 -- the sink after it took these bytes
@@ -66,29 +66,29 @@ Does action (Ok done) old new = HasDone action old new
 Does action (Err refusal) old new = IsStopped action old new
 
 -- the state was changed so, and nothing else
-abbrev pub IsOnlySet : (State → State) → WriterView → WriterView → Type 0
+abbrev pub IsOnlySet : (WriterState → WriterState) → WriterView → WriterView → Type 0
 IsOnlySet change old new = new ≡ record old { state = change old.state }
 
 -- a call is taken where its step refuses nothing and what it writes has room
 abbrev pub step_law : Law WriterView
 step_law = record {
-  accepts = λ view call. MayDo (step view.style call) view;
-  after = λ view call. after_action (step view.style call) view;
-  stopped = λ view call left. IsStopped (step view.style call) view left;
+  accepts = λ view call. MayDo (writer_step view.style call) view;
+  after = λ view call. after_action (writer_step view.style call) view;
+  stopped = λ view call left. IsStopped (writer_step view.style call) view left;
 }
 
 -- the same, of calls that a program can pass: no other is passed
 abbrev pub writer_law : Law WriterView
 writer_law = record {
-  accepts = λ view call. MayDo (step view.style call) view × IsPassed call;
-  after = λ view call. after_action (step view.style call) view;
-  stopped = λ view call left. IsStopped (step view.style call) view left;
+  accepts = λ view call. MayDo (writer_step view.style call) view × IsPassed call;
+  after = λ view call. after_action (writer_step view.style call) view;
+  stopped = λ view call left. IsStopped (writer_step view.style call) view left;
 }
 
 -- ---- the writer in code
 
 -- the state of the steps
-abbrev pub writer_state : {K : Type 0} → Writer K → State
+abbrev pub writer_state : {K : Type 0} → Writer K → WriterState
 writer_state w = record { named = w.named; empty = w.empty; quoted = w.quoted; handler = seen_handler w.handler }
 
 -- `told` is what the sink tells

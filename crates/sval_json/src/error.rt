@@ -90,9 +90,9 @@ impl Error {
 
 impl fmt::Display for Error {
     ghost use Rattle.std.specs.Prelude.{Some};
-    ghost use Rattle.sval_json.specs.ErrorKinds.{error_text};
+    ghost use Rattle.sval_json.specs.ErrorKinds.{json_error_text};
 
-    ghost output = { λ kind. Some (error_text kind) };
+    ghost output = { λ kind. Some (json_error_text kind) };
 
     fn fmt<W: fmt::Write>(&self, f: &mut fmt::Formatter<W>) -> fmt::Result {
         f.write_str(match self.kind {

@@ -2,8 +2,8 @@
 
 ghost use Rattle.std.specs.Prelude.{◌≡◌, ◌++◌, codes, false, true, option_map, IfSome};
 ghost use Rattle.sval_io.specs.Sinks.{WritesAll};
-ghost use Rattle.sval_json.specs.Number.{Start, sign, take_bytes, at_end};
-ghost use Rattle.sval_json.specs.SeenNumber.{seen_phase, seen_machine, seen_reading, after_front};
+ghost use Rattle.sval_json.specs.Number.{Start, sign, take_bytes, number_at_end};
+ghost use Rattle.sval_json.specs.SeenNumber.{seen_phase, seen_machine, seen_reading, with_front_written};
 ghost use Rattle.sval_json.specs.SeenNumber.{is_leading, IsLead, is_running, IsStep, ReadsAll};
 
 use sval_io::{Sink, SinkError, write_all};
@@ -159,7 +159,7 @@ impl NumberMachine {
     /// Reads bytes that are written as they are, after these in front.
     fn read_run<'a>(self, front: &'static [u8], bytes: &'a [u8]) -> Reading<'a>
         requires { is_running self.phase ≡ true }
-        ensures { seen_reading result ≡ after_front front.now (take_bytes (seen_machine self) bytes.now) }
+        ensures { seen_reading result ≡ with_front_written front.now (take_bytes (seen_machine self) bytes.now) }
     {
         let mut phase = self.phase;
         let mut count = 0;
@@ -225,7 +225,7 @@ impl NumberMachine {
 
     /// What is still written at the end of the number, or none where it may not end here.
     pub(crate) fn end(self) -> Option<&'static [u8]>
-        ensures { option_map (λ bytes. bytes.now) result ≡ at_end (seen_phase self.phase) }
+        ensures { option_map (λ bytes. bytes.now) result ≡ number_at_end (seen_phase self.phase) }
     {
         match self.phase {
             Phase::Zero => Some(b"0"),

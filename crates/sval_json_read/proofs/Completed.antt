@@ -8,9 +8,9 @@ use Rattle.sval_json.specs.Grammar as json
 use Rattle.sval_json.specs.Grammar.{is_space, close}
 use Rattle.sval_json_read.specs.Tokens.{Placed, Token}
 use Rattle.sval_json_read.specs.Tokens as token
-use Rattle.sval_json_read.specs.Numbers.{Phase, Minus, Zero, Whole, Point, Fraction, Mark, Sign, Power, first_phase, next_phase, may_end}
-use Rattle.sval_json_read.specs.Strings.{Within, Plain, Backslash, Unit, UnitD, ThreeLeft, TwoLeft, OneLeft, HighTwoLeft, HighOneLeft, High, LowBackslash, LowUnit, LowD, LowTwoLeft, LowOneLeft, next_within, closes}
-use Rattle.sval_json_read.specs.Reader.{Opened, Array, Object, Expected, AValue, FirstItem, FirstKey, NextKey, Colon, Next, Letter, InNumber, InString, State, place_in, expects, adds, opens, ends, begins, goes_on, follows, begins_key, letters_left, number_ends, string_ends, step_in, step}
+use Rattle.sval_json_read.specs.Numbers.{NumberPhase, Minus, Zero, Whole, Point, Fraction, Mark, Sign, Power, first_phase, next_phase, number_may_end}
+use Rattle.sval_json_read.specs.Strings.{Within, Plain, Backslash, Unit, UnitD, ThreeLeft, TwoLeft, OneLeft, HighTwoLeft, HighOneLeft, High, LowBackslash, LowUnit, LowD, LowTwoLeft, LowOneLeft, next_within, closes_string}
+use Rattle.sval_json_read.specs.Reader.{Opened, Array, Object, Expected, AValue, FirstItem, FirstKey, NextKey, Colon, Next, Letter, InNumber, InString, ReaderState, place_in, expects, adds_token, opens_container, ends_container, begins, comma_or_close, follows, begins_key, letters_left, number_is_ended, string_ends, step_in, reader_step}
 use Rattle.sval_json_read.proofs.NumberPhases.{completes}
 use Rattle.sval_json_read.proofs.StringSteps.{Completes, string-step, string-closes}
 use Rattle.sval_json_read.proofs.Fits.{Ends, whole, array_ends, object_ends, ValueThen, value_then, ColonThen, colon_then, KeyThen, key_then, Fits, value, first_item, first_key, next_key, colon, after_it, letter, in_number, in_key, in_text}
@@ -153,14 +153,14 @@ string_ascii LowOneLeft rest h = h
 
 -- ---- numbers
 
-abbrev number_rest : Phase → List ℕ
+abbrev number_rest : NumberPhase → List ℕ
 number_rest Minus = 48 ∷ []
 number_rest Point = 48 ∷ []
 number_rest Mark = 48 ∷ []
 number_rest Sign = 48 ∷ []
 number_rest _ = []
 
-number_completes : (phase : Phase) → completes phase (number_rest phase) ≡ true
+number_completes : (phase : NumberPhase) → completes phase (number_rest phase) ≡ true
 number_completes Minus = refl
 number_completes Zero = refl
 number_completes Whole = refl
@@ -170,21 +170,21 @@ number_completes Mark = refl
 number_completes Sign = refl
 number_completes Power = refl
 
-number_then : (phase : Phase) (rest : List ℕ) → front is_number_byte rest ≡ [] → front is_number_byte (number_rest phase ++ rest) ≡ number_rest phase
+number_then : (phase : NumberPhase) (rest : List ℕ) → front is_number_byte rest ≡ [] → front is_number_byte (number_rest phase ++ rest) ≡ number_rest phase
 number_then Minus rest h = ap (λ x. 48 ∷ x) h
 number_then Point rest h = ap (λ x. 48 ∷ x) h
 number_then Mark rest h = ap (λ x. 48 ∷ x) h
 number_then Sign rest h = ap (λ x. 48 ∷ x) h
 number_then phase rest h = h
 
-number_after : (phase : Phase) (rest : List ℕ) → after_front is_number_byte rest ≡ rest → after_front is_number_byte (number_rest phase ++ rest) ≡ rest
+number_after : (phase : NumberPhase) (rest : List ℕ) → after_front is_number_byte rest ≡ rest → after_front is_number_byte (number_rest phase ++ rest) ≡ rest
 number_after Minus rest h = h
 number_after Point rest h = h
 number_after Mark rest h = h
 number_after Sign rest h = h
 number_after phase rest h = h
 
-number_ascii : (phase : Phase) (rest : List ℕ) → all_ascii rest ≡ true → all_ascii (number_rest phase ++ rest) ≡ true
+number_ascii : (phase : NumberPhase) (rest : List ℕ) → all_ascii rest ≡ true → all_ascii (number_rest phase ++ rest) ≡ true
 number_ascii Minus rest h = h
 number_ascii Point rest h = h
 number_ascii Mark rest h = h
@@ -227,52 +227,52 @@ completion (InString false within read) opened h = record {
 
 -- ---- the letters stay ASCII
 
-pub data StaysAscii : Option State → Type 0 where
+pub data StaysAscii : Option ReaderState → Type 0 where
   refused : StaysAscii None
-  stays : {state : State} → has_ascii state.expected ≡ true → StaysAscii (Some state)
+  stays : {state : ReaderState} → has_ascii state.expected ≡ true → StaysAscii (Some state)
 
-or_else : (test : Bool) (state : State) {others : Option State} → has_ascii state.expected ≡ true → StaysAscii others → StaysAscii (cond test (Some state) others)
+or_else : (test : Bool) (state : ReaderState) {others : Option ReaderState} → has_ascii state.expected ≡ true → StaysAscii others → StaysAscii (cond test (Some state) others)
 or_else true state h k = stays h
 or_else false state h k = k
 
-one_of : (test : Bool) {some others : Option State} → StaysAscii some → StaysAscii others → StaysAscii (cond test some others)
+one_of : (test : Bool) {some others : Option ReaderState} → StaysAscii some → StaysAscii others → StaysAscii (cond test some others)
 one_of true h k = h
 one_of false h k = k
 
-mapped : {T : Type 0} (f : T → State) (o : Option T) → ((x : T) → has_ascii (f x).expected ≡ true) → StaysAscii (option_map f o)
+mapped : {T : Type 0} (f : T → ReaderState) (o : Option T) → ((x : T) → has_ascii (f x).expected ≡ true) → StaysAscii (option_map f o)
 mapped f None h = refused
 mapped f (Some x) h = stays (h x)
 
-goes_on_ascii : (state : State) (opened : List Opened) (byte : ℕ) → StaysAscii (goes_on state opened byte)
+goes_on_ascii : (state : ReaderState) (opened : List Opened) (byte : ℕ) → StaysAscii (comma_or_close state opened byte)
 goes_on_ascii state [] byte = refused
-goes_on_ascii state (Array ∷ around) byte = or_else (byte == 44) (expects state AValue) refl (or_else (byte == 93) (ends state around token.EndArray) refl refused)
-goes_on_ascii state (Object ∷ around) byte = or_else (byte == 44) (expects state NextKey) refl (or_else (byte == 125) (ends state around token.EndObject) refl refused)
+goes_on_ascii state (Array ∷ around) byte = or_else (byte == 44) (expects state AValue) refl (or_else (byte == 93) (ends_container state around token.EndArray) refl refused)
+goes_on_ascii state (Object ∷ around) byte = or_else (byte == 44) (expects state NextKey) refl (or_else (byte == 125) (ends_container state around token.EndObject) refl refused)
 
-follows_ascii : (state : State) (byte : ℕ) → StaysAscii (follows state byte)
+follows_ascii : (state : ReaderState) (byte : ℕ) → StaysAscii (follows state byte)
 follows_ascii state byte = or_else (is_space byte) (expects state Next) refl (goes_on_ascii state state.opened byte)
 
-begins_ascii : (state : State) (byte : ℕ) → StaysAscii (begins state byte)
+begins_ascii : (state : ReaderState) (byte : ℕ) → StaysAscii (begins state byte)
 begins_ascii state byte =
     or_else (byte == 34) (expects state (InString false Plain [])) refl
-    (or_else (byte == 91) (opens state Array token.BeginArray FirstItem) refl
-    (or_else (byte == 123) (opens state Object token.BeginObject FirstKey) refl
-    (or_else (byte == 110) (adds state (place_in state.opened) token.Null (Letter 117 (108 ∷ 108 ∷ []))) refl
-    (or_else (byte == 116) (adds state (place_in state.opened) (token.Truth true) (Letter 114 (117 ∷ 101 ∷ []))) refl
-    (or_else (byte == 102) (adds state (place_in state.opened) (token.Truth false) (Letter 97 (108 ∷ 115 ∷ 101 ∷ []))) refl
+    (or_else (byte == 91) (opens_container state Array token.BeginArray FirstItem) refl
+    (or_else (byte == 123) (opens_container state Object token.BeginObject FirstKey) refl
+    (or_else (byte == 110) (adds_token state (place_in state.opened) token.Null (Letter 117 (108 ∷ 108 ∷ []))) refl
+    (or_else (byte == 116) (adds_token state (place_in state.opened) (token.Truth true) (Letter 114 (117 ∷ 101 ∷ []))) refl
+    (or_else (byte == 102) (adds_token state (place_in state.opened) (token.Truth false) (Letter 97 (108 ∷ 115 ∷ 101 ∷ []))) refl
     (mapped (λ phase. expects state (InNumber phase (byte ∷ []))) (first_phase byte) (λ phase. refl)))))))
 
-begins_key_ascii : (state : State) (byte : ℕ) → StaysAscii (begins_key state byte)
+begins_key_ascii : (state : ReaderState) (byte : ℕ) → StaysAscii (begins_key state byte)
 begins_key_ascii state byte = or_else (byte == 34) (expects state (InString true Plain [])) refl refused
 
 letters_left_ascii : (letters : List ℕ) → all_ascii letters ≡ true → has_ascii (letters_left letters) ≡ true
 letters_left_ascii [] h = refl
 letters_left_ascii (first ∷ letters) h = h
 
-string_ends_ascii : (state : State) (is_key : Bool) (bytes : List ℕ) → has_ascii (string_ends state is_key bytes).expected ≡ true
+string_ends_ascii : (state : ReaderState) (is_key : Bool) (bytes : List ℕ) → has_ascii (string_ends state is_key bytes).expected ≡ true
 string_ends_ascii state true bytes = refl
 string_ends_ascii state false bytes = refl
 
-step_in_ascii : (expected : Expected) (state : State) (byte : ℕ) → has_ascii expected ≡ true → has_ascii state.expected ≡ true → StaysAscii (step_in expected state byte)
+step_in_ascii : (expected : Expected) (state : ReaderState) (byte : ℕ) → has_ascii expected ≡ true → has_ascii state.expected ≡ true → StaysAscii (step_in expected state byte)
 step_in_ascii AValue state byte h k = or_else (is_space byte) state k (begins_ascii state byte)
 step_in_ascii FirstItem state byte h k = or_else (is_space byte) state k (one_of (byte == 93) (follows_ascii state byte) (begins_ascii state byte))
 step_in_ascii FirstKey state byte h k = or_else (is_space byte) state k (one_of (byte == 125) (follows_ascii state byte) (begins_key_ascii state byte))
@@ -283,10 +283,10 @@ step_in_ascii (Letter first letters) state byte h k =
     or_else (byte == first) (expects state (letters_left letters)) (letters_left_ascii letters (and_parts (nat_lt first 128) (all_ascii letters) h).1) refused
 step_in_ascii (InNumber phase text) state byte h k =
     one_of (is_number_byte byte) (mapped (λ next. expects state (InNumber next (text ++ (byte ∷ [])))) (next_phase phase byte) (λ next. refl))
-    (one_of (may_end phase) (follows_ascii (number_ends state text) byte) refused)
+    (one_of (number_may_end phase) (follows_ascii (number_is_ended state text) byte) refused)
 step_in_ascii (InString is_key within bytes) state byte h k =
-    or_else (closes within byte) (string_ends state is_key bytes) (string_ends_ascii state is_key bytes)
+    or_else (closes_string within byte) (string_ends state is_key bytes) (string_ends_ascii state is_key bytes)
     (mapped (λ next. expects state (InString is_key next (bytes ++ (byte ∷ [])))) (next_within within byte) (λ next. refl))
 
-pub step-ascii : (state : State) (byte : ℕ) → has_ascii state.expected ≡ true → StaysAscii (step state byte)
+pub step-ascii : (state : ReaderState) (byte : ℕ) → has_ascii state.expected ≡ true → StaysAscii (reader_step state byte)
 step-ascii state byte h = step_in_ascii state.expected state byte h h

@@ -22,13 +22,13 @@ use Rattle.sval_program.specs.Outputs.{WritesText}
 use Rattle.sval_json_read.specs.declared.form.Form.{Form}
 use Rattle.sval_json_read.specs.declared.form.Form.TheVariants as form
 use Rattle.sval_json_read.specs.Trees.{tree_of, settled}
-use Rattle.sval_json_read.specs.ReadErrors.{IsRead}
-use Rattle.sval_json_read.specs.Serves.{IsDue, WritesDueText}
+use Rattle.sval_json_read.specs.ReadErrors.{IsReadText}
+use Rattle.sval_json_read.specs.Serves.{IsJsonTextDue, WritesDueText}
 use Rattle.sval_json_read.proofs.SettledTrees.{denoted-settles}
 use Rattle.sval_json_read.proofs.WritableTrees.{denoted-printable}
 
 -- an input has one text that is due
-pub one_due : (input : List ℕ) (asked : Form) (text other : List ℕ) → IsDue text input asked → IsDue other input asked → text ≡ other
+pub one_due : (input : List ℕ) (asked : Form) (text other : List ℕ) → IsJsonTextDue text input asked → IsJsonTextDue other input asked → text ≡ other
 one_due input form.Json text other d e =
     let same = denotes_one input d.value e.value d.denotes e.denotes in
     let shape : json_of (tree_of d.value) ≡ Ok e.is.json = ap (λ value. json_of (tree_of value)) same ∙ e.is.shape in
@@ -40,7 +40,7 @@ one_due input form.Calls text other d e =
 
 -- ---- a document in JSON
 
-module _ (input : List ℕ) (calls : List Call) (r : IsRead input calls) where
+module _ (input : List ℕ) (calls : List Call) (r : IsReadText input calls) where
   settles : (json : Json) × (json_of (tree_of r.document.value) ≡ Ok json) × IsTheValueOf json (settled r.document.value)
   settles = denoted-settles r.document.denotes
 
@@ -51,7 +51,7 @@ module _ (input : List ℕ) (calls : List Call) (r : IsRead input calls) where
   pub no_refusal : (why : Refusal) → json_of (tree_of r.document.value) ≡ Err why → ⊥
   no_refusal why refused = let never : Ok settles.0 ≡ Err why = sym settles.1 ∙ refused in cc never
 
-  json_due : (json : Json) → json_of (tree_of r.document.value) ≡ Ok json → IsDue (compact json) input form.Json
+  json_due : (json : Json) → json_of (tree_of r.document.value) ≡ Ok json → IsJsonTextDue (compact json) input form.Json
   json_due json shape =
       let one : Ok settles.0 ≡ Ok json = sym settles.1 ∙ shape in
       let same : settles.0 ≡ json = cc one in

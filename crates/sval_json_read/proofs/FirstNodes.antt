@@ -8,11 +8,11 @@ use Rattle.sval_json_read.specs.declared.node.Node.TheVariants as node
 use Rattle.sval_json_read.specs.declared.node.Place as made_place
 use Rattle.sval_json_read.specs.declared.node.Place.TheVariants as place
 use Rattle.sval_json_read.specs.Trees.{fits_i64, whole_value}
-use Rattle.sval_json_read.specs.Lookups.{truth_of, number_of, i64_of, items_of, members_of}
+use Rattle.sval_json_read.specs.Lookups.{json_truth_of, json_number_of, i64_of, items_of, members_of}
 use Rattle.sval_json_read.specs.Tokens as token
 use Rattle.sval_json_read.specs.Tokens.{Place, Alone, Item, Value, Token, Placed, tokens_of}
 use Rattle.sval_json_read.specs.Nodes.{token_in, tokens_in}
-use Rattle.sval_json_read.specs.SeenNodes.{node_of, IsKeptOf}
+use Rattle.sval_json_read.specs.SeenNodes.{seen_node, IsKeptOf}
 use Rattle.sval_json_read.specs.SeenValues.{text_in, value_in}
 use Rattle.sval_json_read.specs.ValueNodes.{IsOfValue, alone, item, of_pair, AreOfValue}
 use Rattle.sval_json_read.proofs.PieceTexts.{pieces-text}
@@ -54,9 +54,9 @@ some_nodes bytes [] a = absurd (all_begin a.is_of)
 some_nodes bytes (one ∷ nodes) a = omega arith
 
 -- the first node says what the value is
-pub first_begins : (bytes : List ℕ) (nodes : List Node) (d : Node) → AreOfValue bytes nodes → Begins (token_in bytes (node_of (get_or nodes 0 d)).kept) (value_in (tokens_in bytes (map node_of nodes)))
+pub first_begins : (bytes : List ℕ) (nodes : List Node) (d : Node) → AreOfValue bytes nodes → Begins (token_in bytes (seen_node (get_or nodes 0 d)).kept) (value_in (tokens_in bytes (map seen_node nodes)))
 first_begins bytes [] d a = absurd (all_begin a.is_of)
-first_begins bytes (one ∷ nodes) d a = subst (Begins (token_in bytes (node_of one).kept)) (sym (value-seen a.is_of)) (all_begin a.is_of)
+first_begins bytes (one ∷ nodes) d a = subst (Begins (token_in bytes (seen_node one).kept)) (sym (value-seen a.is_of)) (all_begin a.is_of)
 
 -- and can be cut from the text
 pub first_kept : (bytes : List ℕ) (nodes : List Node) (d : Node) → AreOfValue bytes nodes → IsKeptOf bytes (get_or nodes 0 d)
@@ -66,8 +66,8 @@ first_kept bytes (one ∷ nodes) d a = a.kept.0
 -- ---- by the first node
 
 module _ {bytes : List ℕ} {nodes : List Node} {first : Node} (a : AreOfValue bytes nodes) (e : get_or nodes 0 (node.Null place.Alone) ≡ first) where
-  pub begins : Begins (token_in bytes (node_of first).kept) (value_in (tokens_in bytes (map node_of nodes)))
-  begins = subst (λ n. Begins (token_in bytes (node_of n).kept) (value_in (tokens_in bytes (map node_of nodes)))) e (first_begins bytes nodes (node.Null place.Alone) a)
+  pub begins : Begins (token_in bytes (seen_node first).kept) (value_in (tokens_in bytes (map seen_node nodes)))
+  begins = subst (λ n. Begins (token_in bytes (seen_node n).kept) (value_in (tokens_in bytes (map seen_node nodes)))) e (first_begins bytes nodes (node.Null place.Alone) a)
 
   pub kept : IsKeptOf bytes first
   kept = subst (IsKeptOf bytes) e (first_kept bytes nodes (node.Null place.Alone) a)
@@ -75,31 +75,31 @@ module _ {bytes : List ℕ} {nodes : List Node} {first : Node} (a : AreOfValue b
 -- ---- where the first node is of another kind
 
 module _ {bytes : List ℕ} {nodes : List Node} (a : AreOfValue bytes nodes) where
-  pub no_truth : ((p : made_place.Place) (b : Bool) → get_or nodes 0 (node.Null place.Alone) ≡ node.Bool p b → ⊥) → truth_of (value_in (tokens_in bytes (map node_of nodes))) ≡ None
+  pub no_truth : ((p : made_place.Place) (b : Bool) → get_or nodes 0 (node.Null place.Alone) ≡ node.Bool p b → ⊥) → json_truth_of (value_in (tokens_in bytes (map seen_node nodes))) ≡ None
   no_truth n = go (get_or nodes 0 (node.Null place.Alone)) refl
     where
-      go : (first : Node) → get_or nodes 0 (node.Null place.Alone) ≡ first → truth_of (value_in (tokens_in bytes (map node_of nodes))) ≡ None
-      go (node.Null p) e = ap truth_of (begins a e)
+      go : (first : Node) → get_or nodes 0 (node.Null place.Alone) ≡ first → json_truth_of (value_in (tokens_in bytes (map seen_node nodes))) ≡ None
+      go (node.Null p) e = ap json_truth_of (begins a e)
       go (node.Bool p b) e = absurd (n p b e)
-      go (node.Number p size from) e = ap truth_of (begins a e)
-      go (node.Text p size from) e = ap truth_of (begins a e)
-      go (node.BeginArray p) e = ap truth_of (begins a e).1
+      go (node.Number p size from) e = ap json_truth_of (begins a e)
+      go (node.Text p size from) e = ap json_truth_of (begins a e)
+      go (node.BeginArray p) e = ap json_truth_of (begins a e).1
       go (node.EndArray p) e = absurd (begins a e)
-      go (node.BeginObject p) e = ap truth_of (begins a e).1
+      go (node.BeginObject p) e = ap json_truth_of (begins a e).1
       go (node.EndObject p) e = absurd (begins a e)
 
   pub no_number : ((p : made_place.Place) (size from : ℕ) → get_or nodes 0 (node.Null place.Alone) ≡ node.Number p size from → ⊥)
-      → number_of (value_in (tokens_in bytes (map node_of nodes))) ≡ None
+      → json_number_of (value_in (tokens_in bytes (map seen_node nodes))) ≡ None
   no_number n = go (get_or nodes 0 (node.Null place.Alone)) refl
     where
-      go : (first : Node) → get_or nodes 0 (node.Null place.Alone) ≡ first → number_of (value_in (tokens_in bytes (map node_of nodes))) ≡ None
-      go (node.Null p) e = ap number_of (begins a e)
-      go (node.Bool p b) e = ap number_of (begins a e)
+      go : (first : Node) → get_or nodes 0 (node.Null place.Alone) ≡ first → json_number_of (value_in (tokens_in bytes (map seen_node nodes))) ≡ None
+      go (node.Null p) e = ap json_number_of (begins a e)
+      go (node.Bool p b) e = ap json_number_of (begins a e)
       go (node.Number p size from) e = absurd (n p size from e)
-      go (node.Text p size from) e = ap number_of (begins a e)
-      go (node.BeginArray p) e = ap number_of (begins a e).1
+      go (node.Text p size from) e = ap json_number_of (begins a e)
+      go (node.BeginArray p) e = ap json_number_of (begins a e).1
       go (node.EndArray p) e = absurd (begins a e)
-      go (node.BeginObject p) e = ap number_of (begins a e).1
+      go (node.BeginObject p) e = ap json_number_of (begins a e).1
       go (node.EndObject p) e = absurd (begins a e)
 
 -- ---- numbers
@@ -108,7 +108,7 @@ abbrev some_text : Option (List ℕ) → List ℕ
 some_text None = []
 some_text (Some text) = text
 
-pub number_is : (value : JsonValue) (text : List ℕ) → Some text ≡ number_of value → value ≡ json.Number text
+pub number_is : (value : JsonValue) (text : List ℕ) → Some text ≡ json_number_of value → value ≡ json.Number text
 number_is json.Null text e = absurd (cc e)
 number_is (json.Truth b) text e = absurd (cc e)
 number_is (json.Number other) text e = ap json.Number (sym (ap some_text e))
@@ -116,7 +116,7 @@ number_is (json.Text other) text e = absurd (cc e)
 number_is (json.Array _) text e = absurd (cc e)
 number_is (json.Object _) text e = absurd (cc e)
 
-pub number_none : (value : JsonValue) → None ≡ number_of value → i64_of value ≡ None
+pub number_none : (value : JsonValue) → None ≡ json_number_of value → i64_of value ≡ None
 number_none json.Null e = refl
 number_none (json.Truth b) e = refl
 number_none (json.Number other) e = absurd (cc e)
@@ -133,10 +133,10 @@ no_fit text f = rw f refl
 -- ---- arrays and objects
 
 module _ {bytes : List ℕ} {nodes : List Node} (a : AreOfValue bytes nodes) where
-  pub no_items : ((p : made_place.Place) → get_or nodes 0 (node.Null place.Alone) ≡ node.BeginArray p → ⊥) → items_of (value_in (tokens_in bytes (map node_of nodes))) ≡ None
+  pub no_items : ((p : made_place.Place) → get_or nodes 0 (node.Null place.Alone) ≡ node.BeginArray p → ⊥) → items_of (value_in (tokens_in bytes (map seen_node nodes))) ≡ None
   no_items n = go (get_or nodes 0 (node.Null place.Alone)) refl
     where
-      go : (first : Node) → get_or nodes 0 (node.Null place.Alone) ≡ first → items_of (value_in (tokens_in bytes (map node_of nodes))) ≡ None
+      go : (first : Node) → get_or nodes 0 (node.Null place.Alone) ≡ first → items_of (value_in (tokens_in bytes (map seen_node nodes))) ≡ None
       go (node.Null p) e = ap items_of (begins a e)
       go (node.Bool p b) e = ap items_of (begins a e)
       go (node.Number p size from) e = ap items_of (begins a e)
@@ -146,10 +146,10 @@ module _ {bytes : List ℕ} {nodes : List Node} (a : AreOfValue bytes nodes) whe
       go (node.BeginObject p) e = ap items_of (begins a e).1
       go (node.EndObject p) e = absurd (begins a e)
 
-  pub no_members : ((p : made_place.Place) → get_or nodes 0 (node.Null place.Alone) ≡ node.BeginObject p → ⊥) → members_of (value_in (tokens_in bytes (map node_of nodes))) ≡ None
+  pub no_members : ((p : made_place.Place) → get_or nodes 0 (node.Null place.Alone) ≡ node.BeginObject p → ⊥) → members_of (value_in (tokens_in bytes (map seen_node nodes))) ≡ None
   no_members n = go (get_or nodes 0 (node.Null place.Alone)) refl
     where
-      go : (first : Node) → get_or nodes 0 (node.Null place.Alone) ≡ first → members_of (value_in (tokens_in bytes (map node_of nodes))) ≡ None
+      go : (first : Node) → get_or nodes 0 (node.Null place.Alone) ≡ first → members_of (value_in (tokens_in bytes (map seen_node nodes))) ≡ None
       go (node.Null p) e = ap members_of (begins a e)
       go (node.Bool p b) e = ap members_of (begins a e)
       go (node.Number p size from) e = ap members_of (begins a e)

@@ -2,7 +2,7 @@
 use Rattle.std.specs.Prelude.{◌≡◌, ℕ, true, false, List, [], ◌∷◌, ◌++◌}
 use Rattle.sval_json.specs.Digits.{front, after_front, is_number_byte}
 use Rattle.sval_json.specs.Grammar.{JsonValue, Values, Members, after_space, IsString, IsValue, empty_array, array, empty_object, object, AreValues, last_value, more_values, AreMembers, last_member, more_members}
-use Rattle.sval_json_read.specs.Numbers.{Phase}
+use Rattle.sval_json_read.specs.Numbers.{NumberPhase}
 use Rattle.sval_json_read.specs.Strings.{Within}
 use Rattle.sval_json_read.specs.Reader.{Opened, Array, Object, Expected, AValue, FirstItem, FirstKey, NextKey, Colon, Next, Letter, InNumber, InString}
 use Rattle.sval_json_read.proofs.NumberPhases.{completes}
@@ -41,7 +41,7 @@ pub data Fits : Expected → List Opened → List ℕ → Type 0 where
   colon : {bytes : List ℕ} {opened : List Opened} → ColonThen opened bytes → Fits Colon opened bytes
   after_it : {bytes : List ℕ} {opened : List Opened} → Ends opened bytes → Fits Next opened bytes
   letter : {bytes rest : List ℕ} {opened : List Opened} {first : ℕ} {letters : List ℕ} → bytes ≡ first ∷ (letters ++ rest) → Ends opened rest → Fits (Letter first letters) opened bytes
-  in_number : {bytes read : List ℕ} {opened : List Opened} {phase : Phase} → completes phase (front is_number_byte bytes) ≡ true
+  in_number : {bytes read : List ℕ} {opened : List Opened} {phase : NumberPhase} → completes phase (front is_number_byte bytes) ≡ true
       → Ends opened (after_front is_number_byte bytes) → Fits (InNumber phase read) opened bytes
   in_key : {bytes read : List ℕ} {opened : List Opened} {within : Within} (rest : List ℕ) → Completes within bytes rest → ColonThen opened rest → Fits (InString true within read) opened bytes
   in_text : {bytes read : List ℕ} {opened : List Opened} {within : Within} (rest : List ℕ) → Completes within bytes rest → Ends opened rest → Fits (InString false within read) opened bytes

@@ -8,9 +8,9 @@ use Rattle.sval_json_read.specs.declared.node.Node.TheVariants as node
 use Rattle.sval_json_read.specs.declared.node.Place as made_place
 use Rattle.sval_json_read.specs.declared.node.Place.TheVariants as place
 use Rattle.sval_json_read.specs.Tokens as token
-use Rattle.sval_json_read.specs.Tokens.{Place, Alone, Item, Value, Token, Placed, at, tokens_of, item_tokens, pair_tokens}
+use Rattle.sval_json_read.specs.Tokens.{Place, Alone, Item, Value, Token, Placed, placed_at, tokens_of, item_tokens, pair_tokens}
 use Rattle.sval_json_read.specs.Nodes.{token_in, placed_in, tokens_in}
-use Rattle.sval_json_read.specs.SeenNodes.{node_of, AreKeptOf}
+use Rattle.sval_json_read.specs.SeenNodes.{seen_node, AreKeptOf}
 use Rattle.sval_json_read.specs.SeenValues.{value_in, values_in, members_in}
 use Rattle.sval_json_read.specs.ValueNodes.{IsOfValue, alone, item, of_pair, IsOfValues, no_items, an_item, IsOfMembers, no_pairs, a_pair, AreOfValue, AreOfValues, AreOfMembers}
 use Rattle.sval_json_read.proofs.SeenValues.{value-seen, values-seen, members-seen}
@@ -23,7 +23,7 @@ items_one_by_one (more_values is_value e are) = an_item is_value (items_one_by_o
 
 pub pairs_one_by_one : {bytes rest : List ℕ} {members : Members} (are : AreMembers bytes members rest) → IsOfMembers (pair_tokens are) members
 pairs_one_by_one (last_member {text = text} {value = value} key c is_value e) =
-    subst (λ tokens. IsOfMembers (at token.Key (token.Text (token.between_quotes key)) ∷ tokens) (json.a_member text value no_members)) (append-nil (tokens_of Value is_value)) (a_pair key is_value no_pairs)
+    subst (λ tokens. IsOfMembers (placed_at token.Key (token.Text (token.between_quotes key)) ∷ tokens) (json.a_member text value no_members)) (append-nil (tokens_of Value is_value)) (a_pair key is_value no_pairs)
 pairs_one_by_one (more_members key c is_value e are) = a_pair key is_value (pairs_one_by_one are)
 
 -- ---- what stands within
@@ -44,7 +44,7 @@ record ArrayParts (tokens : List Placed) (value : JsonValue) : Type 0 where
   place : Place
   values : Values
   mid : List Placed
-  same : tokens ≡ at place token.BeginArray ∷ (mid ++ (at place token.EndArray ∷ []))
+  same : tokens ≡ placed_at place token.BeginArray ∷ (mid ++ (placed_at place token.EndArray ∷ []))
   are_of : IsOfValues mid values
   is : value ≡ json.Array values
 
@@ -52,7 +52,7 @@ record ObjectParts (tokens : List Placed) (value : JsonValue) : Type 0 where
   place : Place
   members : Members
   mid : List Placed
-  same : tokens ≡ at place token.BeginObject ∷ (mid ++ (at place token.EndObject ∷ []))
+  same : tokens ≡ placed_at place token.BeginObject ∷ (mid ++ (placed_at place token.EndObject ∷ []))
   are_of : IsOfMembers mid members
   is : value ≡ json.Object members
 
@@ -100,17 +100,17 @@ within first last mid row e =
     let n : length (first ∷ (mid ++ (last ∷ []))) - 1 - 1 ≡ length mid = omega (arith, l) in
     ap (λ r. take (length r - 1 - 1) (drop 1 r)) e ∙ ap (λ k. take k (mid ++ (last ∷ []))) n ∙ all_but_last mid last
 
-pub tokens_within : (bytes : List ℕ) (count : ℕ) (nodes : List Node) → tokens_in bytes (map node_of (take count nodes)) ≡ take count (tokens_in bytes (map node_of nodes))
+pub tokens_within : (bytes : List ℕ) (count : ℕ) (nodes : List Node) → tokens_in bytes (map seen_node (take count nodes)) ≡ take count (tokens_in bytes (map seen_node nodes))
 tokens_within bytes zero nodes = refl
 tokens_within bytes (suc count) [] = refl
-tokens_within bytes (suc count) (one ∷ nodes) = ap (λ tokens. placed_in bytes (node_of one) ∷ tokens) (tokens_within bytes count nodes)
+tokens_within bytes (suc count) (one ∷ nodes) = ap (λ tokens. placed_in bytes (seen_node one) ∷ tokens) (tokens_within bytes count nodes)
 
-pub tokens_behind : (bytes : List ℕ) (count : ℕ) (nodes : List Node) → tokens_in bytes (map node_of (drop count nodes)) ≡ drop count (tokens_in bytes (map node_of nodes))
+pub tokens_behind : (bytes : List ℕ) (count : ℕ) (nodes : List Node) → tokens_in bytes (map seen_node (drop count nodes)) ≡ drop count (tokens_in bytes (map seen_node nodes))
 tokens_behind bytes zero nodes = refl
 tokens_behind bytes (suc count) [] = refl
 tokens_behind bytes (suc count) (one ∷ nodes) = tokens_behind bytes count nodes
 
-pub tokens_length : (bytes : List ℕ) (nodes : List Node) → length (tokens_in bytes (map node_of nodes)) ≡ length nodes
+pub tokens_length : (bytes : List ℕ) (nodes : List Node) → length (tokens_in bytes (map seen_node nodes)) ≡ length nodes
 tokens_length bytes [] = refl
 tokens_length bytes (one ∷ nodes) = ap suc (tokens_length bytes nodes)
 
@@ -129,31 +129,31 @@ kept_behind bytes (suc count) (one ∷ nodes) k = kept_behind bytes count nodes 
 -- the nodes of an array's items, and what they are of
 pub record Within (bytes : List ℕ) (nodes : List Node) (inner : List Node) : Type 0 where
   pub are : AreOfValues bytes inner
-  pub is : value_in (tokens_in bytes (map node_of nodes)) ≡ json.Array (values_in (tokens_in bytes (map node_of inner)))
+  pub is : value_in (tokens_in bytes (map seen_node nodes)) ≡ json.Array (values_in (tokens_in bytes (map seen_node inner)))
 
 -- and of an object's pairs
 pub record WithinObject (bytes : List ℕ) (nodes : List Node) (inner : List Node) : Type 0 where
   pub are : AreOfMembers bytes inner
-  pub is : value_in (tokens_in bytes (map node_of nodes)) ≡ json.Object (members_in (tokens_in bytes (map node_of inner)))
+  pub is : value_in (tokens_in bytes (map seen_node nodes)) ≡ json.Object (members_in (tokens_in bytes (map seen_node inner)))
 
 module _ (bytes : List ℕ) (nodes : List Node) (a : AreOfValue bytes nodes) where
   abbrev pub inner : List Node
   inner = take (length nodes - 1 - 1) (drop 1 nodes)
 
-  first_is : (P : Token → Type 0) (p : Token) (first : Node) → get_or nodes 0 (node.Null place.Alone) ≡ first → 0 < length nodes → P (token_in bytes (node_of first).kept)
-      → First P (tokens_in bytes (map node_of nodes))
+  first_is : (P : Token → Type 0) (p : Token) (first : Node) → get_or nodes 0 (node.Null place.Alone) ≡ first → 0 < length nodes → P (token_in bytes (seen_node first).kept)
+      → First P (tokens_in bytes (map seen_node nodes))
   first_is P p first e l h = go nodes e l
     where
-      go : (row : List Node) → get_or row 0 (node.Null place.Alone) ≡ first → 0 < length row → First P (tokens_in bytes (map node_of row))
+      go : (row : List Node) → get_or row 0 (node.Null place.Alone) ≡ first → 0 < length row → First P (tokens_in bytes (map seen_node row))
       go [] e l = absurd (omega (arith, l))
-      go (one ∷ row) e l = subst (λ n. P (token_in bytes (node_of n).kept)) (sym e) h
+      go (one ∷ row) e l = subst (λ n. P (token_in bytes (seen_node n).kept)) (sym e) h
 
-  inner_tokens : (one other : Placed) (mid : List Placed) → tokens_in bytes (map node_of nodes) ≡ one ∷ (mid ++ (other ∷ [])) → tokens_in bytes (map node_of inner) ≡ mid
+  inner_tokens : (one other : Placed) (mid : List Placed) → tokens_in bytes (map seen_node nodes) ≡ one ∷ (mid ++ (other ∷ [])) → tokens_in bytes (map seen_node inner) ≡ mid
   inner_tokens one other mid e =
       tokens_within bytes (length nodes - 1 - 1) (drop 1 nodes) ∙ ap (take (length nodes - 1 - 1)) (tokens_behind bytes 1 nodes)
-      ∙ ap (λ n. take (n - 1 - 1) (drop 1 (tokens_in bytes (map node_of nodes)))) (sym (tokens_length bytes nodes)) ∙ within one other mid (tokens_in bytes (map node_of nodes)) e
+      ∙ ap (λ n. take (n - 1 - 1) (drop 1 (tokens_in bytes (map seen_node nodes)))) (sym (tokens_length bytes nodes)) ∙ within one other mid (tokens_in bytes (map seen_node nodes)) e
 
-  two_nodes : (one other : Placed) (mid : List Placed) → tokens_in bytes (map node_of nodes) ≡ one ∷ (mid ++ (other ∷ [])) → 2 ≤ length nodes
+  two_nodes : (one other : Placed) (mid : List Placed) → tokens_in bytes (map seen_node nodes) ≡ one ∷ (mid ++ (other ∷ [])) → 2 ≤ length nodes
   two_nodes one other mid e =
       let l = length-append mid (other ∷ []) in
       let n = sym (tokens_length bytes nodes) ∙ ap (λ (tokens : List Placed). length tokens) e in

@@ -12,8 +12,8 @@ use Rattle.sval_json_read.specs.declared.node.Node.TheVariants as node
 use Rattle.sval_json_read.specs.Nodes.{token_in, tokens_in}
 use Rattle.sval_json_read.specs.Documents.{IsDocument}
 use Rattle.sval_json_read.specs.RawStrings.{IsProperToken, AreProperTokens}
-use Rattle.sval_json_read.specs.SeenNodes.{node_of, StandsIn, IsCutFrom, AreKeptOf}
-use Rattle.sval_json_read.specs.ReadErrors.{IsRead}
+use Rattle.sval_json_read.specs.SeenNodes.{seen_node, StandsIn, IsCutFrom, AreKeptOf}
+use Rattle.sval_json_read.specs.ReadErrors.{IsReadText}
 use Rattle.sval_json.specs.Grammar.{Denotes}
 use Rattle.sval_json_read.specs.Calls.{document_calls}
 use Rattle.sval_json_read.specs.Tokens.{Placed}
@@ -62,7 +62,7 @@ number_cut bytes from size u w n =
       subst (IsCharBoundary bytes) (let e : from + (size - 1) + 1 ≡ from + size = omega (arith, k, s) in e) (IsCharBoundary-after_ascii bytes (from + (size - 1)) u (omega (arith, k, s, w)) last),
     )
 
-cut_one : (bytes : List ℕ) (kept : Node) → IsUtf8 bytes → StandsIn bytes kept → IsProperToken (token_in bytes (node_of kept).kept) → IsCutFrom bytes kept
+cut_one : (bytes : List ℕ) (kept : Node) → IsUtf8 bytes → StandsIn bytes kept → IsProperToken (token_in bytes (seen_node kept).kept) → IsCutFrom bytes kept
 cut_one bytes (node.Null place) u s p = tt
 cut_one bytes (node.Bool place value) u s p = tt
 cut_one bytes (node.Number place size from) u s p = number_cut bytes from size u s p
@@ -72,17 +72,17 @@ cut_one bytes (node.EndArray place) u s p = tt
 cut_one bytes (node.BeginObject place) u s p = tt
 cut_one bytes (node.EndObject place) u s p = tt
 
-cut_all : (bytes : List ℕ) (nodes : List Node) → IsUtf8 bytes → AllByRecursion (StandsIn bytes) nodes → AreProperTokens (tokens_in bytes (map node_of nodes)) → AreKeptOf bytes nodes
+cut_all : (bytes : List ℕ) (nodes : List Node) → IsUtf8 bytes → AllByRecursion (StandsIn bytes) nodes → AreProperTokens (tokens_in bytes (map seen_node nodes)) → AreKeptOf bytes nodes
 cut_all bytes [] u s p = tt
 cut_all bytes (node ∷ nodes) u s p = (record { cut = cut_one bytes node u s.0 p.0; proper = p.0 }, cut_all bytes nodes u s.1 p.1)
 
-pub document-kept : (bytes : List ℕ) (nodes : List Node) → IsUtf8 bytes → AllByRecursion (StandsIn bytes) nodes → IsDocument bytes (tokens_in bytes (map node_of nodes)) → AreKeptOf bytes nodes
-document-kept bytes nodes u s d = cut_all bytes nodes u s (document-tokens bytes (tokens_in bytes (map node_of nodes)) d)
+pub document-kept : (bytes : List ℕ) (nodes : List Node) → IsUtf8 bytes → AllByRecursion (StandsIn bytes) nodes → IsDocument bytes (tokens_in bytes (map seen_node nodes)) → AreKeptOf bytes nodes
+document-kept bytes nodes u s d = cut_all bytes nodes u s (document-tokens bytes (tokens_in bytes (map seen_node nodes)) d)
 
 root-is : {bytes : List ℕ} {tokens : List Placed} (d : IsDocument bytes tokens) → IsOfValue tokens d.value
 root-is d = subst (λ row. IsOfValue row d.value) (sym d.same) (alone d.denotes.is_value)
 
-pub kept-document : (bytes : List ℕ) (nodes : List Node) → IsUtf8 bytes → AllByRecursion (StandsIn bytes) nodes → IsDocument bytes (tokens_in bytes (map node_of nodes)) → IsKeptDocument bytes nodes
+pub kept-document : (bytes : List ℕ) (nodes : List Node) → IsUtf8 bytes → AllByRecursion (StandsIn bytes) nodes → IsDocument bytes (tokens_in bytes (map seen_node nodes)) → IsKeptDocument bytes nodes
 kept-document bytes nodes u s d = record { kept = document-kept bytes nodes u s d; document = d }
 
 -- and they are those of a value, which the calls spell
@@ -93,5 +93,5 @@ root-nodes bytes nodes k = record { kept = k.kept; value = k.document.value; is_
 pub document-denotes : (bytes : List ℕ) (tokens : List Placed) → IsDocument bytes tokens → Denotes bytes (value_in tokens)
 document-denotes bytes tokens d = subst (Denotes bytes) (sym (value-seen (root-is d))) d.denotes
 
-pub document-read : (bytes : List ℕ) (tokens : List Placed) → IsDocument bytes tokens → IsRead bytes (document_calls tokens)
+pub document-read : (bytes : List ℕ) (tokens : List Placed) → IsDocument bytes tokens → IsReadText bytes (document_calls tokens)
 document-read bytes tokens d = record { tokens = tokens; document = d; same = refl; spells = document-calls bytes tokens d }

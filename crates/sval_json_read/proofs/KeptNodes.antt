@@ -6,13 +6,13 @@ use Rattle.std.proofs.lemmas.Grind.{flat_map-append}
 use Rattle.sval_core.specs.Spells.{Spells}
 use Rattle.sval_json_read.specs.Trees.{tree_of}
 use Rattle.sval_json_read.specs.Documents.{IsDocument}
-use Rattle.sval_json_read.specs.Calls.{token_calls, document_calls}
+use Rattle.sval_json_read.specs.Calls.{placed_token_calls, document_calls}
 use Rattle.sval_json_read.specs.Nodes.{Node, placed_in, tokens_in, streamed}
 use Rattle.sval_json_read.proofs.Documents.{document-calls}
 
 pub streamed-calls : (bytes : List ℕ) (nodes : List Node) → streamed bytes nodes ≡ document_calls (tokens_in bytes nodes)
 streamed-calls bytes [] = refl
-streamed-calls bytes (node ∷ nodes) = ap (λ x. token_calls (placed_in bytes node) ++ x) (streamed-calls bytes nodes)
+streamed-calls bytes (node ∷ nodes) = ap (λ x. placed_token_calls (placed_in bytes node) ++ x) (streamed-calls bytes nodes)
 
 pub streamed-spells : (bytes : List ℕ) (nodes : List Node) (d : IsDocument bytes (tokens_in bytes nodes)) → Spells (streamed bytes nodes) (tree_of d.value)
 streamed-spells bytes nodes d = subst (λ x. Spells x (tree_of d.value)) (sym (streamed-calls bytes nodes)) (document-calls bytes (tokens_in bytes nodes) d)
@@ -23,7 +23,7 @@ tokens_in-append bytes (node ∷ nodes) others = ap (λ x. placed_in bytes node 
 
 pub streamed-append : (bytes : List ℕ) (nodes others : List Node) → streamed bytes (nodes ++ others) ≡ streamed bytes nodes ++ streamed bytes others
 streamed-append bytes nodes others =
-    flat_map-append (λ node. token_calls (placed_in bytes node)) nodes others
+    flat_map-append (λ node. placed_token_calls (placed_in bytes node)) nodes others
 
 -- ---- the bytes between two places
 

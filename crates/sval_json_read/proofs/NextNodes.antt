@@ -9,12 +9,12 @@ use Rattle.sval_json_read.specs.declared.node.Node.TheVariants as node
 use Rattle.sval_json_read.specs.declared.node.Place as made_place
 use Rattle.sval_json_read.specs.declared.node.Place.TheVariants as place
 use Rattle.sval_json_read.specs.Tokens as token
-use Rattle.sval_json_read.specs.Tokens.{Place, Item, Value, Token, Placed, at, tokens_of, between_quotes}
+use Rattle.sval_json_read.specs.Tokens.{Place, Item, Value, Token, Placed, placed_at, tokens_of, between_quotes}
 use Rattle.sval_json_read.specs.Nodes.{token_in, tokens_in}
-use Rattle.sval_json_read.specs.SeenNodes.{node_of}
+use Rattle.sval_json_read.specs.SeenNodes.{seen_node}
 use Rattle.sval_json_read.specs.SeenValues.{text_in, value_in, values_in, members_in}
 use Rattle.sval_json_read.specs.NodeSpans.{span}
-use Rattle.sval_json_read.specs.Lookups.{listed, paired}
+use Rattle.sval_json_read.specs.Lookups.{values_listed, paired}
 use Rattle.sval_json_read.specs.ValueNodes.{IsOfValue, item, of_pair, IsOfValues, no_items, an_item, IsOfMembers, no_pairs, a_pair, AreOfValue, AreOfValues, AreOfMembers}
 use Rattle.sval_json_read.proofs.PieceTexts.{pieces-text}
 use Rattle.sval_json_read.proofs.SpanTokens.{token_span, span-tokens, value-span}
@@ -33,31 +33,31 @@ behind_of (x ∷ xs) ys = behind_of xs ys
 record Leads (bytes : List ℕ) (nodes : List Node) (value : JsonValue) (more : List Placed) : Type 0 where
   front : List Placed
   is_of : IsOfValue front value
-  same : tokens_in bytes (map node_of nodes) ≡ front ++ more
+  same : tokens_in bytes (map seen_node nodes) ≡ front ++ more
   long : token_span 0 (front ++ more) ≡ length front
 
 module _ (bytes : List ℕ) (nodes : List Node) (value : JsonValue) (more : List Placed) (l : Leads bytes nodes value more) where
-  count : span 0 (map node_of nodes) ≡ length l.front
-  count = span-tokens bytes 0 (map node_of nodes) ∙ ap (token_span 0) l.same ∙ l.long
+  count : span 0 (map seen_node nodes) ≡ length l.front
+  count = span-tokens bytes 0 (map seen_node nodes) ∙ ap (token_span 0) l.same ∙ l.long
 
-  front_tokens : tokens_in bytes (map node_of (take (span 0 (map node_of nodes)) nodes)) ≡ l.front
+  front_tokens : tokens_in bytes (map seen_node (take (span 0 (map seen_node nodes)) nodes)) ≡ l.front
   front_tokens =
-      tokens_within bytes (span 0 (map node_of nodes)) nodes ∙ ap (λ n. take n (tokens_in bytes (map node_of nodes))) count ∙ ap (take (length l.front)) l.same
+      tokens_within bytes (span 0 (map seen_node nodes)) nodes ∙ ap (λ n. take n (tokens_in bytes (map seen_node nodes))) count ∙ ap (take (length l.front)) l.same
       ∙ front_of l.front more
 
-  more_tokens : tokens_in bytes (map node_of (drop (span 0 (map node_of nodes)) nodes)) ≡ more
+  more_tokens : tokens_in bytes (map seen_node (drop (span 0 (map seen_node nodes)) nodes)) ≡ more
   more_tokens =
-      tokens_behind bytes (span 0 (map node_of nodes)) nodes ∙ ap (λ n. drop n (tokens_in bytes (map node_of nodes))) count ∙ ap (drop (length l.front)) l.same
+      tokens_behind bytes (span 0 (map seen_node nodes)) nodes ∙ ap (λ n. drop n (tokens_in bytes (map seen_node nodes))) count ∙ ap (drop (length l.front)) l.same
       ∙ behind_of l.front more
 
-  span_within : span 0 (map node_of nodes) ≤ length nodes
+  span_within : span 0 (map seen_node nodes) ≤ length nodes
   span_within =
       let n = sym (tokens_length bytes nodes) ∙ ap (λ (tokens : List Placed). length tokens) l.same in
       let k = length-append l.front more in
       let c = count in
       omega (arith, n, k, c)
 
-  front_is_of : IsOfValue (tokens_in bytes (map node_of (take (span 0 (map node_of nodes)) nodes))) value
+  front_is_of : IsOfValue (tokens_in bytes (map seen_node (take (span 0 (map seen_node nodes)) nodes))) value
   front_is_of = subst (λ tokens. IsOfValue tokens value) (sym front_tokens) l.is_of
 
 -- ---- items
@@ -67,7 +67,7 @@ pub record FirstItem (bytes : List ℕ) (nodes : List Node) (n : ℕ) : Type 0 w
   pub within : n ≤ length nodes
   pub first : AreOfValue bytes (take n nodes)
   pub behind : AreOfValues bytes (drop n nodes)
-  pub is : listed (values_in (tokens_in bytes (map node_of nodes))) ≡ value_in (tokens_in bytes (map node_of (take n nodes))) ∷ listed (values_in (tokens_in bytes (map node_of (drop n nodes))))
+  pub is : values_listed (values_in (tokens_in bytes (map seen_node nodes))) ≡ value_in (tokens_in bytes (map seen_node (take n nodes))) ∷ values_listed (values_in (tokens_in bytes (map seen_node (drop n nodes))))
 
 record ItemParts (bytes : List ℕ) (nodes : List Node) (values : Values) : Type 0 where
   value : JsonValue
@@ -77,7 +77,7 @@ record ItemParts (bytes : List ℕ) (nodes : List Node) (values : Values) : Type
   are_of : IsOfValues more others
   is : values ≡ json.a_value value others
 
-item_parts : (bytes : List ℕ) (nodes : List Node) (tokens : List Placed) (values : Values) → tokens_in bytes (map node_of nodes) ≡ tokens → IsOfValues tokens values → 0 < length nodes
+item_parts : (bytes : List ℕ) (nodes : List Node) (tokens : List Placed) (values : Values) → tokens_in bytes (map seen_node nodes) ≡ tokens → IsOfValues tokens values → 0 < length nodes
     → ItemParts bytes nodes values
 item_parts bytes nodes _ _ e no_items s = let n = sym (tokens_length bytes nodes) ∙ ap (λ (tokens : List Placed). length tokens) e in absurd (omega (arith, n, s))
 item_parts bytes nodes _ _ e (an_item {value = value} {tokens = tokens} {values = values} is_value are) s = record {
@@ -89,17 +89,17 @@ item_parts bytes nodes _ _ e (an_item {value = value} {tokens = tokens} {values 
   is = refl;
 }
 
-pub first_item : (bytes : List ℕ) (nodes : List Node) → AreOfValues bytes nodes → 0 < length nodes → FirstItem bytes nodes (span 0 (map node_of nodes))
+pub first_item : (bytes : List ℕ) (nodes : List Node) → AreOfValues bytes nodes → 0 < length nodes → FirstItem bytes nodes (span 0 (map seen_node nodes))
 first_item bytes nodes a s =
     let parts = item_parts bytes nodes _ a.values refl a.are_of s in
-    let n = span 0 (map node_of nodes) in
+    let n = span 0 (map seen_node nodes) in
     let front = front_is_of bytes nodes parts.value parts.more parts.leads in
     let behind = subst (λ tokens. IsOfValues tokens parts.others) (sym (more_tokens bytes nodes parts.value parts.more parts.leads)) parts.are_of in
     record {
       within = span_within bytes nodes parts.value parts.more parts.leads;
       first = record { kept = kept_front bytes n nodes a.kept; value = parts.value; is_of = front };
       behind = record { kept = kept_behind bytes n nodes a.kept; values = parts.others; are_of = behind };
-      is = ap listed (values-seen a.are_of ∙ parts.is) ∙ ap (λ v. v ∷ listed parts.others) (sym (value-seen front)) ∙ ap (λ vs. value_in (tokens_in bytes (map node_of (take n nodes))) ∷ listed vs) (sym (values-seen behind));
+      is = ap values_listed (values-seen a.are_of ∙ parts.is) ∙ ap (λ v. v ∷ values_listed parts.others) (sym (value-seen front)) ∙ ap (λ vs. value_in (tokens_in bytes (map seen_node (take n nodes))) ∷ values_listed vs) (sym (values-seen behind));
     }
 
 pub some_left : (nodes : List Node) → false ≡ (length nodes == 0) → 0 < length nodes
@@ -107,7 +107,7 @@ some_left [] e = absurd (cc e)
 some_left (one ∷ nodes) e = omega arith
 
 -- by the number that the code found
-pub first_item_by : (bytes : List ℕ) (nodes : List Node) (n : ℕ) → AreOfValues bytes nodes → false ≡ (length nodes == 0) → n ≡ span 0 (map node_of nodes) → FirstItem bytes nodes n
+pub first_item_by : (bytes : List ℕ) (nodes : List Node) (n : ℕ) → AreOfValues bytes nodes → false ≡ (length nodes == 0) → n ≡ span 0 (map seen_node nodes) → FirstItem bytes nodes n
 first_item_by bytes nodes n a s e = subst (FirstItem bytes nodes) (sym e) (first_item bytes nodes a (some_left nodes s))
 
 -- ---- pairs
@@ -117,8 +117,8 @@ pub record FirstPair (bytes : List ℕ) (nodes : List Node) (n : ℕ) (raw : Lis
   pub within : n ≤ length (drop 1 nodes)
   pub first : AreOfValue bytes (take n (drop 1 nodes))
   pub behind : AreOfMembers bytes (drop n (drop 1 nodes))
-  pub is : paired (members_in (tokens_in bytes (map node_of nodes)))
-      ≡ record { name = text_in raw; value = value_in (tokens_in bytes (map node_of (take n (drop 1 nodes)))) } ∷ paired (members_in (tokens_in bytes (map node_of (drop n (drop 1 nodes)))))
+  pub is : paired (members_in (tokens_in bytes (map seen_node nodes)))
+      ≡ record { name = text_in raw; value = value_in (tokens_in bytes (map seen_node (take n (drop 1 nodes)))) } ∷ paired (members_in (tokens_in bytes (map seen_node (drop n (drop 1 nodes)))))
 
 abbrev first_token : List Placed → Option Token
 first_token [] = None
@@ -130,7 +130,7 @@ raw_of _ = []
 
 -- the first node is the key of these bytes
 abbrev pub KeyIs : List ℕ → List Node → List ℕ → Type 0
-KeyIs bytes nodes raw = first_token (tokens_in bytes (map node_of nodes)) ≡ Some (token.Text raw)
+KeyIs bytes nodes raw = first_token (tokens_in bytes (map seen_node nodes)) ≡ Some (token.Text raw)
 
 same_key : {raw other : List ℕ} → Some (token.Text raw) ≡ Some (token.Text other) → raw ≡ other
 same_key e = ap raw_of e
@@ -145,7 +145,7 @@ record PairParts (bytes : List ℕ) (nodes : List Node) (members : Members) : Ty
   are_of : IsOfMembers more others
   is : members ≡ json.a_member (text_in raw) value others
 
-pair_parts : (bytes : List ℕ) (nodes : List Node) (tokens : List Placed) (members : Members) → tokens_in bytes (map node_of nodes) ≡ tokens → IsOfMembers tokens members → 0 < length nodes
+pair_parts : (bytes : List ℕ) (nodes : List Node) (tokens : List Placed) (members : Members) → tokens_in bytes (map seen_node nodes) ≡ tokens → IsOfMembers tokens members → 0 < length nodes
     → PairParts bytes nodes members
 pair_parts bytes [] tokens _ e are s = absurd (omega (arith, s))
 pair_parts bytes (one ∷ nodes) _ _ e no_pairs s = absurd (cc e)
@@ -160,10 +160,10 @@ pair_parts bytes (one ∷ nodes) _ _ e (a_pair {value = value} {tokens = tokens}
   is = ap (λ t. json.a_member t value members) (sym (pieces-text key));
 }
 
-pub first_pair : (bytes : List ℕ) (nodes : List Node) (raw : List ℕ) → AreOfMembers bytes nodes → 0 < length nodes → KeyIs bytes nodes raw → FirstPair bytes nodes (span 0 (map node_of (drop 1 nodes))) raw
+pub first_pair : (bytes : List ℕ) (nodes : List Node) (raw : List ℕ) → AreOfMembers bytes nodes → 0 < length nodes → KeyIs bytes nodes raw → FirstPair bytes nodes (span 0 (map seen_node (drop 1 nodes))) raw
 first_pair bytes nodes raw a s k =
     let parts = pair_parts bytes nodes _ a.members refl a.are_of s in
-    let n = span 0 (map node_of (drop 1 nodes)) in
+    let n = span 0 (map seen_node (drop 1 nodes)) in
     let front = front_is_of bytes (drop 1 nodes) parts.value parts.more parts.leads in
     let behind = subst (λ tokens. IsOfMembers tokens parts.others) (sym (more_tokens bytes (drop 1 nodes) parts.value parts.more parts.leads)) parts.are_of in
     let same_raw : parts.raw ≡ raw = same_key (sym parts.first_is ∙ k) in
@@ -173,7 +173,7 @@ first_pair bytes nodes raw a s k =
       behind = record { kept = kept_behind bytes n (drop 1 nodes) (kept_behind bytes 1 nodes a.kept); members = parts.others; are_of = behind };
       is = ap paired (members-seen a.are_of ∙ parts.is ∙ ap (λ r. json.a_member (text_in r) parts.value parts.others) same_raw)
           ∙ ap (λ v. record { name = text_in raw; value = v } ∷ paired parts.others) (sym (value-seen front))
-          ∙ ap (λ ms. record { name = text_in raw; value = value_in (tokens_in bytes (map node_of (take n (drop 1 nodes)))) } ∷ paired ms) (sym (members-seen behind));
+          ∙ ap (λ ms. record { name = text_in raw; value = value_in (tokens_in bytes (map seen_node (take n (drop 1 nodes)))) } ∷ paired ms) (sym (members-seen behind));
     }
 
 -- ---- by what the code found
@@ -181,19 +181,19 @@ first_pair bytes nodes raw a s k =
 key_is : (bytes : List ℕ) (nodes : List Node) (p : made_place.Place) (size from : ℕ) → get_or nodes 0 (node.Null place.Alone) ≡ node.Text p size from → 0 < length nodes
     → KeyIs bytes nodes (between from (from + size) bytes)
 key_is bytes [] p size from e s = absurd (omega (arith, s))
-key_is bytes (one ∷ nodes) p size from e s = ap (λ n. Some (token_in bytes (node_of n).kept)) e
+key_is bytes (one ∷ nodes) p size from e s = ap (λ n. Some (token_in bytes (seen_node n).kept)) e
 
 pub first_pair_by : (bytes : List ℕ) (nodes values : List Node) (n : ℕ) (p : made_place.Place) (size from : ℕ) → AreOfMembers bytes nodes → false ≡ (length nodes == 0)
-    → get_or nodes 0 (node.Null place.Alone) ≡ node.Text p size from → values ≡ drop 1 nodes → n ≡ span 0 (map node_of values) → FirstPair bytes nodes n (between from (from + size) bytes)
+    → get_or nodes 0 (node.Null place.Alone) ≡ node.Text p size from → values ≡ drop 1 nodes → n ≡ span 0 (map seen_node values) → FirstPair bytes nodes n (between from (from + size) bytes)
 first_pair_by bytes nodes values n p size from a s e v c =
-    subst (λ n. FirstPair bytes nodes n (between from (from + size) bytes)) (sym (c ∙ ap (λ (row : List Node). span 0 (map node_of row)) v))
+    subst (λ n. FirstPair bytes nodes n (between from (from + size) bytes)) (sym (c ∙ ap (λ (row : List Node). span 0 (map seen_node row)) v))
     (first_pair bytes nodes (between from (from + size) bytes) a (some_left nodes s) (key_is bytes nodes p size from e (some_left nodes s)))
 
 pub a_key_first : (bytes : List ℕ) (nodes : List Node) → AreOfMembers bytes nodes → false ≡ (length nodes == 0)
     → ((p : made_place.Place) (size from : ℕ) → get_or nodes 0 (node.Null place.Alone) ≡ node.Text p size from → ⊥) → ⊥
 a_key_first bytes nodes a s n = go nodes (pair_parts bytes nodes _ a.members refl a.are_of (some_left nodes s)).first_is n
   where
-    go : {raw : List ℕ} (row : List Node) → first_token (tokens_in bytes (map node_of row)) ≡ Some (token.Text raw)
+    go : {raw : List ℕ} (row : List Node) → first_token (tokens_in bytes (map seen_node row)) ≡ Some (token.Text raw)
         → ((p : made_place.Place) (size from : ℕ) → get_or row 0 (node.Null place.Alone) ≡ node.Text p size from → ⊥) → ⊥
     go [] e n = absurd (cc e)
     go (node.Null p ∷ row) e n = absurd (cc e)

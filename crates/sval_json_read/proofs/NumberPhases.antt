@@ -7,10 +7,10 @@ use Rattle.std.proofs.Common.{sym, arith}
 use Rattle.std.proofs.lemmas.Bool.Decides.{nat_tests}
 use Rattle.sval_label.specs.Texts.{is_empty, is_decimal}
 use Rattle.sval_json.specs.Digits.{minus, point, zero_digit, is_sign, is_exponent_mark, digits_of, after_digits, has_digit, without_sign, is_exponent, is_tail, is_json_number}
-use Rattle.sval_json_read.specs.Numbers.{Phase, Minus, Zero, Whole, Point, Fraction, Mark, Sign, Power, may_end, when, first_digit, first_phase, exponent_begins, tail_begins, next_phase}
+use Rattle.sval_json_read.specs.Numbers.{NumberPhase, Minus, Zero, Whole, Point, Fraction, Mark, Sign, Power, number_may_end, phase_when, first_digit, first_phase, exponent_begins, tail_begins, next_phase}
 
 -- the texts that complete a number, by what of it was read
-abbrev pub completes : Phase → List ℕ → Bool
+abbrev pub completes : NumberPhase → List ℕ → Bool
 completes Minus text = is_decimal (digits_of text) && is_tail (after_digits text)
 completes Zero text = is_tail text
 completes Whole text = is_tail (after_digits text)
@@ -20,11 +20,11 @@ completes Mark text = has_digit (without_sign text) && is_empty (after_digits (w
 completes Sign text = has_digit text && is_empty (after_digits text)
 completes Power text = is_empty (after_digits text)
 
-abbrev pub completes_after : Option Phase → List ℕ → Bool
+abbrev pub completes_after : Option NumberPhase → List ℕ → Bool
 completes_after None text = false
 completes_after (Some phase) text = completes phase text
 
-pub may_end-completes : (phase : Phase) → completes phase [] ≡ may_end phase
+pub may_end-completes : (phase : NumberPhase) → completes phase [] ≡ number_may_end phase
 may_end-completes Minus = refl
 may_end-completes Zero = refl
 may_end-completes Whole = refl
@@ -37,7 +37,7 @@ may_end-completes Power = refl
 exponent : (byte : ℕ) (text : List ℕ) → is_exponent (byte ∷ text) ≡ completes_after (exponent_begins byte) text
 exponent byte text = go (is_exponent_mark byte)
   where
-    go : (m : Bool) → (m && has_digit (without_sign text) && is_empty (after_digits (without_sign text))) ≡ completes_after (when m Mark) text
+    go : (m : Bool) → (m && has_digit (without_sign text) && is_empty (after_digits (without_sign text))) ≡ completes_after (phase_when m Mark) text
     go true = refl
     go false = refl
 
@@ -83,14 +83,14 @@ digits_begin : (byte : ℕ) (text : List ℕ) → completes Minus (byte ∷ text
 digits_begin byte text = go (byte == zero_digit) (is_ascii_digit byte) refl refl
   where
     go : (z d : Bool) → (byte == zero_digit) ≡ z → is_ascii_digit byte ≡ d
-        → (is_decimal (cond d (byte ∷ digits_of text) []) && is_tail (cond d (after_digits text) (byte ∷ text))) ≡ completes_after (cond z (Some Zero) (when d Whole)) text
+        → (is_decimal (cond d (byte ∷ digits_of text) []) && is_tail (cond d (after_digits text) (byte ∷ text))) ≡ completes_after (cond z (Some Zero) (phase_when d Whole)) text
     go true true e f = rw (is_zero byte e) (after_zero text)
     go true false e f = let g : is_ascii_digit byte ≡ true = grind (arith, nat_tests) in absurd (cc)
     go false true e f = rw (decimal_from byte (digits_of text) f e (front_digits text)) refl
     go false false e f = refl
 
 -- one byte more
-pub next-completes : (phase : Phase) (byte : ℕ) (text : List ℕ) → completes phase (byte ∷ text) ≡ completes_after (next_phase phase byte) text
+pub next-completes : (phase : NumberPhase) (byte : ℕ) (text : List ℕ) → completes phase (byte ∷ text) ≡ completes_after (next_phase phase byte) text
 next-completes Minus byte text = digits_begin byte text
 next-completes Zero byte text = tail byte text
 next-completes Whole byte text = go (is_ascii_digit byte)
@@ -100,7 +100,7 @@ next-completes Whole byte text = go (is_ascii_digit byte)
     go false = tail byte text
 next-completes Point byte text = go (is_ascii_digit byte)
   where
-    go : (d : Bool) → (d && is_exponent (cond d (after_digits text) (byte ∷ text))) ≡ completes_after (when d Fraction) text
+    go : (d : Bool) → (d && is_exponent (cond d (after_digits text) (byte ∷ text))) ≡ completes_after (phase_when d Fraction) text
     go true = refl
     go false = refl
 next-completes Fraction byte text = go (is_ascii_digit byte)
@@ -111,18 +111,18 @@ next-completes Fraction byte text = go (is_ascii_digit byte)
 next-completes Mark byte text = go (is_sign byte) (is_ascii_digit byte) refl
   where
     go : (s d : Bool) → is_ascii_digit byte ≡ d
-        → (has_digit (cond s text (byte ∷ text)) && is_empty (after_digits (cond s text (byte ∷ text)))) ≡ completes_after (cond s (Some Sign) (when d Power)) text
+        → (has_digit (cond s text (byte ∷ text)) && is_empty (after_digits (cond s text (byte ∷ text)))) ≡ completes_after (cond s (Some Sign) (phase_when d Power)) text
     go true d e = refl
     go false true e = rw e refl
     go false false e = rw e refl
 next-completes Sign byte text = go (is_ascii_digit byte)
   where
-    go : (d : Bool) → (d && is_empty (cond d (after_digits text) (byte ∷ text))) ≡ completes_after (when d Power) text
+    go : (d : Bool) → (d && is_empty (cond d (after_digits text) (byte ∷ text))) ≡ completes_after (phase_when d Power) text
     go true = refl
     go false = refl
 next-completes Power byte text = go (is_ascii_digit byte)
   where
-    go : (d : Bool) → is_empty (cond d (after_digits text) (byte ∷ text)) ≡ completes_after (when d Power) text
+    go : (d : Bool) → is_empty (cond d (after_digits text) (byte ∷ text)) ≡ completes_after (phase_when d Power) text
     go true = refl
     go false = refl
 

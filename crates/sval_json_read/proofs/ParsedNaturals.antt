@@ -9,7 +9,7 @@ use Rattle.sval_label.specs.Texts.{is_empty}
 use Rattle.sval_json.specs.Digits.{minus, digits_of, after_digits, is_json_number}
 use Rattle.sval_json.specs.Number.{is_negative}
 use Rattle.sval_json.specs.Grammar.{Number}
-use Rattle.sval_json_read.specs.Trees.{is_whole}
+use Rattle.sval_json_read.specs.Trees.{has_no_fraction}
 use Rattle.sval_json_read.specs.Lookups.{fits_u64, u64_of}
 use Rattle.sval_json_read.proofs.SettledNumbers.{IsUnsigned, Signed, negative, positive, signed, whole_digits, no_number_there, digit_first}
 use Rattle.sval_json_read.proofs.ParsedNumbers.{own, none_after, all_of_whole, in_range_test, no_sign}
@@ -34,7 +34,7 @@ no_minus_digit unsigned h = cc h
 
 no_minus_fits : (unsigned : List ℕ) → fits_u64 (minus ∷ unsigned) ≡ true → ⊥
 no_minus_fits unsigned h =
-    let (w, o) = and_parts (is_whole (minus ∷ unsigned)) (not (is_negative (minus ∷ unsigned)) && nat_lt (digits_value 10 (digits_of (minus ∷ unsigned))) (2 ^ 64)) h in
+    let (w, o) = and_parts (has_no_fraction (minus ∷ unsigned)) (not (is_negative (minus ∷ unsigned)) && nat_lt (digits_value 10 (digits_of (minus ∷ unsigned))) (2 ^ 64)) h in
     cc o
 
 negative_reads : {E : Type 0} (unsigned : List ℕ) (r : Result ℕ E) → ParsesUnsigned 64 10 (minus ∷ unsigned) r → ReadsU64 (minus ∷ unsigned) r
@@ -52,10 +52,10 @@ positive_reads byte bytes r m u h =
     by_test text ((all_ascii_digits text ≡ true) × (0 < length text) × (digits_value 10 text < 2 ^ 64)) (digits_value 10 text) r
     (parse_plain own 64 text r h n.0)
     (λ p. let k = none_after text p.0 in
-    and_from (is_whole text) (not (is_negative text) && nat_lt (digits_value 10 (digits_of text)) (2 ^ 64)) (subst (λ x. is_empty (after_digits x) ≡ true) (sym w) k.1)
+    and_from (has_no_fraction text) (not (is_negative text) && nat_lt (digits_value 10 (digits_of text)) (2 ^ 64)) (subst (λ x. is_empty (after_digits x) ≡ true) (sym w) k.1)
     (and_from (not (is_negative text)) (nat_lt (digits_value 10 (digits_of text)) (2 ^ 64)) (ap not m)
     (subst (λ x. nat_lt (digits_value 10 x) (2 ^ 64) ≡ true) (sym k.0) (in_range_test (digits_value 10 text) (2 ^ 64) p.2))))
-    (λ t. let (e, o) = and_parts (is_whole text) (not (is_negative text) && nat_lt (digits_value 10 (digits_of text)) (2 ^ 64)) t in
+    (λ t. let (e, o) = and_parts (has_no_fraction text) (not (is_negative text) && nat_lt (digits_value 10 (digits_of text)) (2 ^ 64)) t in
     let (_, s) = and_parts (not (is_negative text)) (nat_lt (digits_value 10 (digits_of text)) (2 ^ 64)) o in
     let f = subst (λ x. is_empty (after_digits x) ≡ true) w e in
     let d = all_of_whole text u.decimal_part f in

@@ -13,7 +13,7 @@ use Rattle.sval_label.specs.Ranges.{is_of_type}
 use Rattle.sval_label.specs.Texts.{is_empty, is_decimal}
 use Rattle.sval_json.specs.Digits.{minus, digits_of, after_digits, is_json_number}
 use Rattle.sval_json.proofs.NumberGrammar.{all_in_front}
-use Rattle.sval_json_read.specs.Trees.{is_whole, whole_value, fits_i64}
+use Rattle.sval_json_read.specs.Trees.{has_no_fraction, whole_value, fits_i64}
 use Rattle.sval_json_read.proofs.SettledNumbers.{IsUnsigned, Signed, negative, positive, signed, some_digits, whole_digits, no_number_there, digit_first}
 use Rattle.sval_json.proofs.NumberTexts.{decimal_digits}
 use Rattle.sval_json_read.proofs.StringSteps.{below}
@@ -86,9 +86,9 @@ positive_reads byte bytes r m u h =
     by_test text ((all_ascii_digits text ≡ true) × (0 < length text) × (digits_value 10 text < 2 ^ 63)) (pos (digits_value 10 text)) r
     (parse_signed_plain own w64 text r h n.0 n.1)
     (λ p. let k = none_after text p.0 in
-    and_from (is_whole text) (is_of_type I64 (whole_value text)) (subst (λ x. is_empty (after_digits x) ≡ true) (sym w) k.1)
+    and_from (has_no_fraction text) (is_of_type I64 (whole_value text)) (subst (λ x. is_empty (after_digits x) ≡ true) (sym w) k.1)
     (subst (λ z. is_of_type I64 z ≡ true) (sym (positive_value byte bytes m ∙ ap (λ x. pos (digits_value 10 x)) k.0)) (in_range_test (digits_value 10 text) (2 ^ 63) p.2)))
-    (λ t. let (e, o) = and_parts (is_whole text) (is_of_type I64 (whole_value text)) t in
+    (λ t. let (e, o) = and_parts (has_no_fraction text) (is_of_type I64 (whole_value text)) t in
     let f = subst (λ x. is_empty (after_digits x) ≡ true) w e in
     let d = all_of_whole text u.decimal_part f in
     let l = below (digits_value 10 (digits_of text)) (2 ^ 63) (subst (λ z. is_of_type I64 z ≡ true) (positive_value byte bytes m) o) in

@@ -6,7 +6,7 @@ use Rattle.sval_label.specs.Calls.{Call, Slot}
 use Rattle.sval_core.specs.Law.{Standing, Law, Takes, Refuses, Answers, Streams, Stops, Emits, emits, then_emits}
 use Rattle.sval_core.specs.Values.{makes}
 use Rattle.sval_core.proofs.Emissions.{streams_one, stops_one, streams_then, stops_first, stops_later, passes_on}
-use Rattle.sval_json_read.specs.Calls.{Piece, piece_call, pieces, text_calls, key_calls}
+use Rattle.sval_json_read.specs.Calls.{Piece, piece_call, pieces, string_value_calls, key_calls}
 use Rattle.sval_json_read.specs.RawStrings.{IsRaw}
 
 -- some first calls were taken, and the pieces of this are left
@@ -45,12 +45,12 @@ pieces-start raw r = record { done = []; all_is = refl; is_raw = r; streams = re
 -- ---- a string
 
 module _ {V : Type 0} {law : Law V} {old mid : Standing V} (raw : List ℕ) where
-  pub string_stops : {new : Standing V} → Takes law old (Call.TextBegin None) mid → Stops law mid (makes (map piece_call (pieces raw))) new → Stops law old (makes (text_calls raw)) new
+  pub string_stops : {new : Standing V} → Takes law old (Call.TextBegin None) mid → Stops law mid (makes (map piece_call (pieces raw))) new → Stops law old (makes (string_value_calls raw)) new
   unfolding emits then_emits
   string_stops t p = stops_later (streams_one t) (stops_first (makes (Call.TextEnd ∷ [])) p)
 
   pub string_emits : {next : Standing V} (r : Result (Unit {0}) Error) (new : Standing V) → Takes law old (Call.TextBegin None) mid → Streams law mid (makes (map piece_call (pieces raw))) next
-      → Answers law r next Call.TextEnd new → Emits law r old (makes (text_calls raw)) new
+      → Answers law r next Call.TextEnd new → Emits law r old (makes (string_value_calls raw)) new
   unfolding emits then_emits
   string_emits (Ok done) new t s e = streams_then (streams_one t) (streams_then s (streams_one e))
   string_emits (Err refusal) new t s e = stops_later (streams_one t) (stops_later s (stops_one e))
@@ -58,11 +58,11 @@ module _ {V : Type 0} {law : Law V} {old mid : Standing V} (raw : List ℕ) wher
 -- ---- a key
 
 module _ {V : Type 0} {law : Law V} {old mid : Standing V} (raw : List ℕ) where
-  pub key_stops : {new : Standing V} → Takes law old (Call.PartBegin Slot.Key) mid → Stops law mid (makes (text_calls raw)) new → Stops law old (makes (key_calls raw)) new
+  pub key_stops : {new : Standing V} → Takes law old (Call.PartBegin Slot.Key) mid → Stops law mid (makes (string_value_calls raw)) new → Stops law old (makes (key_calls raw)) new
   unfolding emits then_emits
   key_stops t p = stops_later (streams_one t) (stops_first (makes (Call.PartEnd Slot.Key ∷ [])) p)
 
-  pub key_emits : {next : Standing V} (r : Result (Unit {0}) Error) (new : Standing V) → Takes law old (Call.PartBegin Slot.Key) mid → Streams law mid (makes (text_calls raw)) next
+  pub key_emits : {next : Standing V} (r : Result (Unit {0}) Error) (new : Standing V) → Takes law old (Call.PartBegin Slot.Key) mid → Streams law mid (makes (string_value_calls raw)) next
       → Answers law r next (Call.PartEnd Slot.Key) new → Emits law r old (makes (key_calls raw)) new
   unfolding emits then_emits
   key_emits (Ok done) new t s e = streams_then (streams_one t) (streams_then s (streams_one e))

@@ -9,7 +9,7 @@ use Rattle.sval_json.specs.Grammar as json
 use Rattle.sval_json.specs.Grammar.{JsonValue, Values, Members, is_unescaped, escaped_byte, code_unit, is_high_surrogate, is_low_surrogate, is_surrogate, pair_of, IsString, IsValue, AreValues, AreMembers, last_value, more_values, last_member, more_members}
 use Rattle.sval_json.proofs.NumberGrammar.{number_tested}
 use Rattle.sval_json_read.specs.Tokens as token
-use Rattle.sval_json_read.specs.Tokens.{Place, Alone, Item, Value, Token, Placed, at, between_quotes, tokens_of, item_tokens, pair_tokens}
+use Rattle.sval_json_read.specs.Tokens.{Place, Alone, Item, Value, Token, Placed, placed_at, between_quotes, tokens_of, item_tokens, pair_tokens}
 use Rattle.sval_json_read.specs.Documents.{IsDocument}
 use Rattle.sval_json_read.specs.RawStrings.{IsRaw, done, plain, short, unit, pair, AreProperTokens, is_no_backslash}
 use Rattle.sval_json_read.specs.Calls.{run, escape, byte_before, escape_after, pieces_after, pieces}
@@ -37,9 +37,9 @@ mutual
   value_tokens place (json.number e n) = (number_tested n, tt)
   value_tokens place (json.string s) = (between-raw s, tt)
   value_tokens place (json.empty_array e) = (tt, (tt, tt))
-  value_tokens place (json.array vs) = (tt, all_append (item_tokens vs) (at place token.EndArray ∷ []) (items_tokens vs) (tt, tt))
+  value_tokens place (json.array vs) = (tt, all_append (item_tokens vs) (placed_at place token.EndArray ∷ []) (items_tokens vs) (tt, tt))
   value_tokens place (json.empty_object e) = (tt, (tt, tt))
-  value_tokens place (json.object vs) = (tt, all_append (pair_tokens vs) (at place token.EndObject ∷ []) (pairs_tokens vs) (tt, tt))
+  value_tokens place (json.object vs) = (tt, all_append (pair_tokens vs) (placed_at place token.EndObject ∷ []) (pairs_tokens vs) (tt, tt))
 
   items_tokens : {bytes rest : List ℕ} {row : Values} (vs : AreValues bytes row rest) → AreProperTokens (item_tokens vs)
   items_tokens (last_value v e) = value_tokens Item v

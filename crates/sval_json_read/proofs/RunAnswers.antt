@@ -23,9 +23,9 @@ use Rattle.sval_json_read.specs.declared.document.ReadError.{ReadError}
 use Rattle.sval_json_read.specs.declared.document.ReadError.TheVariants as reading
 use Rattle.sval_json_read.specs.declared.form.Form.{Form}
 use Rattle.sval_json_read.specs.Forms.{form_named, OnNamed}
-use Rattle.sval_json_read.specs.ReadErrors.{IsReadError}
+use Rattle.sval_json_read.specs.ReadErrors.{IsJsonReadError}
 use Rattle.sval_json_read.specs.Reports.{Reports, FailsAtByte, report}
-use Rattle.sval_json_read.specs.Serves.{IsDue, Due, a_text, no_utf8, no_json, read_terms, failure_of, WritesDue, MayLeave, WritesDueText, IsNoUtf8, HasBadJson}
+use Rattle.sval_json_read.specs.Serves.{IsJsonTextDue, Due, a_text, no_utf8, no_json, read_terms, failure_of, WritesJsonText, MayLeave, WritesDueText, IsNoUtf8, HasBadJson}
 use Rattle.sval_json_read.specs.Statuses.{IsStatusOf, IsStatusDue}
 use Rattle.sval_json_read.proofs.DueTexts.{one_due}
 
@@ -35,7 +35,7 @@ use Rattle.sval_json_read.proofs.DueTexts.{one_due}
 faulty : {input : List ℕ} {asked : Form} {why : Fault} (told : Told) → Due asked input (Some why) [] → WritesAllDue read_terms asked input (Some why) told told
 faulty told d = record { bytes = []; due = d; writes = writes_nothing told }
 
-pub unread : {K : Type 0} (told : K → Told) (input : List ℕ) (asked : Form) (old : K) (why : ReadError) → IsReadError input why → ServesBytes read_terms told asked input (Err (failure_of why)) old old
+pub unread : {K : Type 0} (told : K → Told) (input : List ℕ) (asked : Form) (old : K) (why : ReadError) → IsJsonReadError input why → ServesBytes read_terms told asked input (Err (failure_of why)) old old
 unread told input asked old reading.NotUtf8 cause = record { all = faulty (told old) (no_utf8 cause); known = refl; untouched = λ e. refl }
 unread told input asked old (reading.BadJson at) cause = record { all = faulty (told old) (no_json cause); known = refl; untouched = λ e. refl }
 unread told input asked old reading.NoMemory cause = refl
@@ -49,11 +49,11 @@ stops_within told input asked old new why w = record { found = None; bytes = w.t
 
 -- ---- what each status says
 
-text_due : {asked : Form} {input text : List ℕ} → Due asked input None text → IsDue text input asked
+text_due : {asked : Form} {input text : List ℕ} → Due asked input None text → IsJsonTextDue text input asked
 text_due (a_text d) = d
 
-pub done : (form : Option Form) (left : Option (List ℕ)) (old new : Told) → OnBoth form left (runs.TakesDue read_terms None old new) → OnBoth form left (WritesDue old new)
-done form left old new f = on_both form left (runs.TakesDue read_terms None old new) (WritesDue old new) (λ input asked t. record { text = t.bytes; due = text_due t.due; appends = t.appends }) f
+pub done : (form : Option Form) (left : Option (List ℕ)) (old new : Told) → OnBoth form left (runs.TakesDue read_terms None old new) → OnBoth form left (WritesJsonText old new)
+done form left old new f = on_both form left (runs.TakesDue read_terms None old new) (WritesJsonText old new) (λ input asked t. record { text = t.bytes; due = text_due t.due; appends = t.appends }) f
 
 pub is_no_utf8 : {input text : List ℕ} {asked : Form} (why : Fault) → NOT_UTF8 ≡ status_of_fault why → Due asked input (Some why) text → IsNoUtf8 input asked
 is_no_utf8 _ e (no_utf8 cause) = cause

@@ -16,7 +16,7 @@ use Rattle.sval_label.specs.Ranges.{is_of_type}
 use Rattle.sval_label.specs.Texts.{is_empty, is_decimal}
 use Rattle.sval_json.specs.Digits.{minus, zero_digit, is_sign, digits_of, after_digits, has_digit, without_sign, is_tail, without_minus, is_json_number}
 use Rattle.sval_json.specs.Number.{Refusal, is_number, without_zeros, with_sign, normal, normal_after}
-use Rattle.sval_json_read.specs.Trees.{is_whole, whole_value, fits_i64, settled_number}
+use Rattle.sval_json_read.specs.Trees.{has_no_fraction, whole_value, fits_i64, settled_number}
 use Rattle.sval_json.proofs.NumberGrammar.{front_and_rest}
 use Rattle.sval_json.proofs.NumberTexts.{decimal_digits}
 use Rattle.sval_json_read.proofs.StringSteps.{below}
@@ -108,7 +108,7 @@ negative_small : (n : ℕ) → is_of_type I64 (neg_ℤ (pos n)) ≡ true → n <
 negative_small zero h = omega arith
 negative_small (suc n) h = let l = below n (2 ^ 63) h in omega arith
 
-whole_written : {text : List ℕ} → Signed text → is_whole text ≡ true → is_of_type I64 (whole_value text) ≡ true → signed_decimal (whole_value text) ≡ settled_number text
+whole_written : {text : List ℕ} → Signed text → has_no_fraction text ≡ true → is_of_type I64 (whole_value text) ≡ true → signed_decimal (whole_value text) ≡ settled_number text
 whole_written (negative {unsigned = unsigned} u) w f =
     negative_number unsigned (digits_value 10 (digits_of unsigned)) (ap (digits_value 10) (whole_digits unsigned w))
     (back_from_whole unsigned u.decimal_part w (negative_small (digits_value 10 (digits_of unsigned)) f))
@@ -126,7 +126,7 @@ whole_written (positive {byte = byte} {bytes = bytes} m u) w f =
 -- a number that is an `i64` is written as it is settled
 pub fits-written : (text : List ℕ) → is_json_number text ≡ true → fits_i64 text ≡ true → signed_decimal (whole_value text) ≡ settled_number text
 fits-written text h f =
-    let (w, t) = and_parts (is_whole text) (is_of_type I64 (whole_value text)) f in whole_written (signed text h) w t
+    let (w, t) = and_parts (has_no_fraction text) (is_of_type I64 (whole_value text)) f in whole_written (signed text h) w t
 
 -- ---- other numbers
 

@@ -22,7 +22,7 @@ use Rattle.sval_json.specs.Laws.{IsTheValueOf}
 use Rattle.sval_json.proofs.NumberGrammar.{tested_number}
 use Rattle.sval_json.proofs.NumberTexts.{number_utf8, number_denotes}
 use Rattle.sval_json.proofs.Meaning.{text_means}
-use Rattle.sval_json_read.specs.Trees.{is_whole, whole_value, fits_i64, number_name, number_tree, tree_of, items_of, entries_of, settled_number, settled, settled_values, settled_members}
+use Rattle.sval_json_read.specs.Trees.{has_no_fraction, whole_value, fits_i64, number_name, number_tree, tree_of, items_of, entries_of, settled_number, settled, settled_values, settled_members}
 use Rattle.sval_json_read.proofs.SpelledTrees.{good}
 use Rattle.sval_json_read.proofs.Utf8Texts.{IsProper, AreProper, PairsAreProper, denoted-proper}
 use Rattle.sval_json_read.proofs.SettledNumbers.{fits-written, other-normal, other-settled}
@@ -33,7 +33,7 @@ number_in_range : (text : List ℕ) → is_json_number text ≡ true → IsInRan
 number_in_range text h = go (fits_i64 text) refl
   where
     go : (b : Bool) → fits_i64 text ≡ b → IsInRange (cond b (Tree.Int I64 (whole_value text)) (Tree.Tagged number_name (Text text)))
-    go true e = (and_parts (is_whole text) (is_of_type I64 (whole_value text)) e).1
+    go true e = (and_parts (has_no_fraction text) (is_of_type I64 (whole_value text)) e).1
     go false e = ((tt, tt), number_utf8 text (tested_number text h))
 
 mutual

@@ -7,20 +7,20 @@ use Rattle.sval_json.specs.Digits.{minus, zero_digit, front, after_front, is_jso
 use Rattle.sval_json.specs.Grammar as json
 use Rattle.sval_json.specs.Grammar.{JsonValue, after_space, is_space, IsValue, Denotes}
 use Rattle.sval_json.proofs.NumberGrammar.{run_value}
-use Rattle.sval_json_read.specs.Tokens.{Token, Placed, at, Alone}
+use Rattle.sval_json_read.specs.Tokens.{Token, Placed, placed_at, Alone}
 use Rattle.sval_json_read.specs.Tokens as token
-use Rattle.sval_json_read.specs.Numbers.{Phase, Minus, Zero, Whole, when, first_phase, next_phase, may_end}
-use Rattle.sval_json_read.specs.Strings.{Within, Plain, next_within, closes}
-use Rattle.sval_json_read.specs.Reader.{Opened, Array, Object, Expected, AValue, FirstItem, FirstKey, NextKey, Colon, Next, Letter, InNumber, InString, State, place_in, begins, goes_on, follows, begins_key, letters_left, string_ends, step_in, step, after, at_end_in, at_end}
+use Rattle.sval_json_read.specs.Numbers.{NumberPhase, Minus, Zero, Whole, phase_when, first_phase, next_phase, number_may_end}
+use Rattle.sval_json_read.specs.Strings.{Within, Plain, next_within, closes_string}
+use Rattle.sval_json_read.specs.Reader.{Opened, Array, Object, Expected, AValue, FirstItem, FirstKey, NextKey, Colon, Next, Letter, InNumber, InString, ReaderState, place_in, begins, comma_or_close, follows, begins_key, letters_left, string_ends, step_in, reader_step, after_bytes, at_end_in, tokens_at_end}
 use Rattle.sval_json_read.proofs.NumberPhases.{completes, completes_after, may_end-completes, next-completes, first-completes}
 use Rattle.sval_json_read.proofs.StringSteps.{CompletesAfter, plain, string-step, string-closes}
 use Rattle.sval_json_read.proofs.Fits.{Ends, whole, array_ends, array_goes_on, object_ends, object_goes_on, ValueThen, value_then, ColonThen, colon_then, KeyThen, key_then, Fits, value, first_item, no_item, first_key, no_key, next_key, colon, after_it, letter, in_number, in_key, in_text, array_begun, object_begun}
 
-abbrev OnStep : Option State → List ℕ → Type 0
+abbrev OnStep : Option ReaderState → List ℕ → Type 0
 OnStep None bytes = ⊥
 OnStep (Some state) bytes = Fits state.expected state.opened bytes
 
-abbrev make : Expected → List Opened → List Placed → Option State
+abbrev make : Expected → List Opened → List Placed → Option ReaderState
 make x opened tokens = Some (record { expected = x; opened = opened; tokens = tokens })
 
 -- ---- single bytes
@@ -59,19 +59,19 @@ end_of_object : {bytes : List ℕ} {around : List Opened} → Fits Next around b
 end_of_object (after_it s) = object_ends refl s
 
 in_order : (x : Expected) (opened : List Opened) (tokens : List Placed) (byte : ℕ) (bytes : List ℕ)
-    → OnStep (goes_on (record { expected = x; opened = opened; tokens = tokens }) opened byte) bytes → Ends opened (byte ∷ bytes)
+    → OnStep (comma_or_close (record { expected = x; opened = opened; tokens = tokens }) opened byte) bytes → Ends opened (byte ∷ bytes)
 in_order x [] tokens byte bytes r = absurd r
 in_order x (Array ∷ around) tokens byte bytes r = go (byte == 44) (byte == 93) refl refl r
   where
     go : (c e : Bool) → (byte == 44) ≡ c → (byte == 93) ≡ e → OnStep (cond c (Some (record { expected = AValue; opened = Array ∷ around; tokens = tokens }))
-        (cond e (Some (record { expected = Next; opened = around; tokens = tokens ++ (at (place_in around) token.EndArray ∷ []) })) None)) bytes → Ends (Array ∷ around) (byte ∷ bytes)
+        (cond e (Some (record { expected = Next; opened = around; tokens = tokens ++ (placed_at (place_in around) token.EndArray ∷ []) })) None)) bytes → Ends (Array ∷ around) (byte ∷ bytes)
     go true e h k f = at_byte (λ b. Ends (Array ∷ around) (b ∷ bytes)) byte 44 h (comma_in_array f)
     go false true h k f = at_byte (λ b. Ends (Array ∷ around) (b ∷ bytes)) byte 93 k (end_of_array f)
     go false false h k f = absurd f
 in_order x (Object ∷ around) tokens byte bytes r = go (byte == 44) (byte == 125) refl refl r
   where
     go : (c e : Bool) → (byte == 44) ≡ c → (byte == 125) ≡ e → OnStep (cond c (Some (record { expected = NextKey; opened = Object ∷ around; tokens = tokens }))
-        (cond e (Some (record { expected = Next; opened = around; tokens = tokens ++ (at (place_in around) token.EndObject ∷ []) })) None)) bytes → Ends (Object ∷ around) (byte ∷ bytes)
+        (cond e (Some (record { expected = Next; opened = around; tokens = tokens ++ (placed_at (place_in around) token.EndObject ∷ []) })) None)) bytes → Ends (Object ∷ around) (byte ∷ bytes)
     go true e h k f = at_byte (λ b. Ends (Object ∷ around) (b ∷ bytes)) byte 44 h (comma_in_object f)
     go false true h k f = at_byte (λ b. Ends (Object ∷ around) (b ∷ bytes)) byte 125 k (end_of_object f)
     go false false h k f = absurd f
@@ -83,7 +83,7 @@ after_value : (x : Expected) (opened : List Opened) (tokens : List Placed) (byte
     → OnStep (follows (record { expected = x; opened = opened; tokens = tokens }) byte) bytes → Ends opened (byte ∷ bytes)
 after_value x opened tokens byte bytes r = go (is_space byte) refl r
   where
-    go : (s : Bool) → is_space byte ≡ s → OnStep (cond s (Some (record { expected = Next; opened = opened; tokens = tokens })) (goes_on (record { expected = x; opened = opened; tokens = tokens }) opened byte)) bytes
+    go : (s : Bool) → is_space byte ≡ s → OnStep (cond s (Some (record { expected = Next; opened = opened; tokens = tokens })) (comma_or_close (record { expected = x; opened = opened; tokens = tokens }) opened byte)) bytes
         → Ends opened (byte ∷ bytes)
     go true h f = space_before byte bytes h (ends_from f)
     go false h f = in_order x opened tokens byte bytes f
@@ -105,11 +105,11 @@ text_begun (in_text rest c s) = let t = c [] plain in value_then (json.string t.
 key_begun : {bytes : List ℕ} {opened : List Opened} → Fits (InString true Plain []) opened bytes → KeyThen opened (34 ∷ bytes)
 key_begun (in_key rest c s) = let t = c [] plain in key_then refl t.1 s
 
-first_number_byte : (byte : ℕ) (phase : Phase) → first_phase byte ≡ Some phase → is_number_byte byte ≡ true
+first_number_byte : (byte : ℕ) (phase : NumberPhase) → first_phase byte ≡ Some phase → is_number_byte byte ≡ true
 first_number_byte byte phase h = go (byte == minus) (byte == zero_digit) (is_ascii_digit byte) refl refl refl h
   where
     go : (m z d : Bool) → (byte == minus) ≡ m → (byte == zero_digit) ≡ z → is_ascii_digit byte ≡ d
-        → cond m (Some Minus) (cond z (Some Zero) (when d Whole)) ≡ Some phase → is_number_byte byte ≡ true
+        → cond m (Some Minus) (cond z (Some Zero) (phase_when d Whole)) ≡ Some phase → is_number_byte byte ≡ true
     go true z d e f g h = grind (arith, nat_tests)
     go false true d e f g h = grind (arith, nat_tests)
     go false false true e f g h = rw g refl
@@ -121,14 +121,14 @@ number_front byte bytes h = rw h refl
 number_after : (byte : ℕ) (bytes : List ℕ) → is_number_byte byte ≡ true → after_front is_number_byte (byte ∷ bytes) ≡ after_front is_number_byte bytes
 number_after byte bytes h = rw h refl
 
-number_then : (byte : ℕ) (bytes read : List ℕ) (opened : List Opened) (phase : Phase) → first_phase byte ≡ Some phase → Fits (InNumber phase read) opened bytes → ValueThen opened (byte ∷ bytes)
+number_then : (byte : ℕ) (bytes read : List ℕ) (opened : List Opened) (phase : NumberPhase) → first_phase byte ≡ Some phase → Fits (InNumber phase read) opened bytes → ValueThen opened (byte ∷ bytes)
 number_then byte bytes read opened phase e (in_number h s) =
     let b = first_number_byte byte phase e in
     let n : is_json_number (front is_number_byte (byte ∷ bytes)) ≡ true =
     ap is_json_number (number_front byte bytes b) ∙ first-completes byte (front is_number_byte bytes) ∙ ap (λ o. completes_after o (front is_number_byte bytes)) e ∙ h in
     value_then (run_value n) (subst (Ends opened) (sym (number_after byte bytes b)) s)
 
-number_begun : (byte : ℕ) (bytes : List ℕ) (opened : List Opened) (tokens : List Placed) (o : Option Phase) → first_phase byte ≡ o
+number_begun : (byte : ℕ) (bytes : List ℕ) (opened : List Opened) (tokens : List Placed) (o : Option NumberPhase) → first_phase byte ≡ o
     → OnStep (option_map (λ phase. record { expected = InNumber phase (byte ∷ []); opened = opened; tokens = tokens }) o) bytes → ValueThen opened (byte ∷ bytes)
 number_begun byte bytes opened tokens None e r = absurd r
 number_begun byte bytes opened tokens (Some phase) e r = number_then byte bytes (byte ∷ []) opened phase e r
@@ -140,11 +140,11 @@ first_byte x opened tokens byte bytes r = go (byte == 34) (byte == 91) (byte == 
     go : (q a o n t f : Bool) → (byte == 34) ≡ q → (byte == 91) ≡ a → (byte == 123) ≡ o → (byte == 110) ≡ n → (byte == 116) ≡ t → (byte == 102) ≡ f
         → OnStep (
         cond q (make (InString false Plain []) opened tokens)
-        (cond a (make FirstItem (Array ∷ opened) (tokens ++ (at (place_in opened) token.BeginArray ∷ [])))
-        (cond o (make FirstKey (Object ∷ opened) (tokens ++ (at (place_in opened) token.BeginObject ∷ [])))
-        (cond n (make (Letter 117 (108 ∷ 108 ∷ [])) opened (tokens ++ (at (place_in opened) token.Null ∷ [])))
-        (cond t (make (Letter 114 (117 ∷ 101 ∷ [])) opened (tokens ++ (at (place_in opened) (token.Truth true) ∷ [])))
-        (cond f (make (Letter 97 (108 ∷ 115 ∷ 101 ∷ [])) opened (tokens ++ (at (place_in opened) (token.Truth false) ∷ [])))
+        (cond a (make FirstItem (Array ∷ opened) (tokens ++ (placed_at (place_in opened) token.BeginArray ∷ [])))
+        (cond o (make FirstKey (Object ∷ opened) (tokens ++ (placed_at (place_in opened) token.BeginObject ∷ [])))
+        (cond n (make (Letter 117 (108 ∷ 108 ∷ [])) opened (tokens ++ (placed_at (place_in opened) token.Null ∷ [])))
+        (cond t (make (Letter 114 (117 ∷ 101 ∷ [])) opened (tokens ++ (placed_at (place_in opened) (token.Truth true) ∷ [])))
+        (cond f (make (Letter 97 (108 ∷ 115 ∷ 101 ∷ [])) opened (tokens ++ (placed_at (place_in opened) (token.Truth false) ∷ [])))
         (option_map (λ phase. record { expected = InNumber phase (byte ∷ []); opened = opened; tokens = tokens }) (first_phase byte)))))))
         ) bytes → ValueThen opened (byte ∷ bytes)
     go true a o n t f h1 h2 h3 h4 h5 h6 s = at_byte (λ b. ValueThen opened (b ∷ bytes)) byte 34 h1 (text_begun s)
@@ -261,13 +261,13 @@ at_letter first letters opened tokens byte bytes r = go (byte == first) refl r
     go true h f = at_byte (λ b. Fits (Letter first letters) opened (b ∷ bytes)) byte first h (last_letter opened first letters bytes f)
     go false h f = absurd f
 
-number_goes_on : (phase next : Phase) (read more : List ℕ) (opened : List Opened) (byte : ℕ) (bytes : List ℕ) → is_number_byte byte ≡ true → next_phase phase byte ≡ Some next
+number_goes_on : (phase next : NumberPhase) (read more : List ℕ) (opened : List Opened) (byte : ℕ) (bytes : List ℕ) → is_number_byte byte ≡ true → next_phase phase byte ≡ Some next
     → Fits (InNumber next more) opened bytes → Fits (InNumber phase read) opened (byte ∷ bytes)
 number_goes_on phase next read more opened byte bytes b e (in_number h s) =
     in_number (ap (completes phase) (number_front byte bytes b) ∙ next-completes phase byte (front is_number_byte bytes) ∙ ap (λ o. completes_after o (front is_number_byte bytes)) e ∙ h)
     (subst (Ends opened) (sym (number_after byte bytes b)) s)
 
-number_byte : (phase : Phase) (read : List ℕ) (opened : List Opened) (tokens : List Placed) (byte : ℕ) (bytes : List ℕ) → is_number_byte byte ≡ true → (o : Option Phase) → next_phase phase byte ≡ o
+number_byte : (phase : NumberPhase) (read : List ℕ) (opened : List Opened) (tokens : List Placed) (byte : ℕ) (bytes : List ℕ) → is_number_byte byte ≡ true → (o : Option NumberPhase) → next_phase phase byte ≡ o
     → OnStep (option_map (λ next. record { expected = InNumber next (read ++ (byte ∷ [])); opened = opened; tokens = tokens }) o) bytes → Fits (InNumber phase read) opened (byte ∷ bytes)
 number_byte phase read opened tokens byte bytes b None e r = absurd r
 number_byte phase read opened tokens byte bytes b (Some next) e r = number_goes_on phase next read (read ++ (byte ∷ [])) opened byte bytes b e r
@@ -278,18 +278,18 @@ no_number_front byte bytes h = rw h refl
 no_number_after : (byte : ℕ) (bytes : List ℕ) → is_number_byte byte ≡ false → after_front is_number_byte (byte ∷ bytes) ≡ byte ∷ bytes
 no_number_after byte bytes h = rw h refl
 
-at_number : (phase : Phase) (read : List ℕ) (opened : List Opened) (tokens : List Placed) (byte : ℕ) (bytes : List ℕ)
+at_number : (phase : NumberPhase) (read : List ℕ) (opened : List Opened) (tokens : List Placed) (byte : ℕ) (bytes : List ℕ)
     → OnStep (step_in (InNumber phase read) (record { expected = InNumber phase read; opened = opened; tokens = tokens }) byte) bytes → Fits (InNumber phase read) opened (byte ∷ bytes)
-at_number phase read opened tokens byte bytes r = go (is_number_byte byte) (may_end phase) refl refl r
+at_number phase read opened tokens byte bytes r = go (is_number_byte byte) (number_may_end phase) refl refl r
   where
-    go : (n m : Bool) → is_number_byte byte ≡ n → may_end phase ≡ m
+    go : (n m : Bool) → is_number_byte byte ≡ n → number_may_end phase ≡ m
         → OnStep (cond n (option_map (λ next. record { expected = InNumber next (read ++ (byte ∷ [])); opened = opened; tokens = tokens }) (next_phase phase byte))
-        (cond m (follows (record { expected = Next; opened = opened; tokens = tokens ++ (at (place_in opened) (token.Number read) ∷ []) }) byte) None)) bytes
+        (cond m (follows (record { expected = Next; opened = opened; tokens = tokens ++ (placed_at (place_in opened) (token.Number read) ∷ []) }) byte) None)) bytes
         → Fits (InNumber phase read) opened (byte ∷ bytes)
     go true m h k f = number_byte phase read opened tokens byte bytes h (next_phase phase byte) refl f
     go false true h k f =
         in_number (ap (completes phase) (no_number_front byte bytes h) ∙ may_end-completes phase ∙ k)
-        (subst (Ends opened) (sym (no_number_after byte bytes h)) (after_value Next opened (tokens ++ (at (place_in opened) (token.Number read) ∷ [])) byte bytes f))
+        (subst (Ends opened) (sym (no_number_after byte bytes h)) (after_value Next opened (tokens ++ (placed_at (place_in opened) (token.Number read) ∷ [])) byte bytes f))
     go false false h k f = absurd f
 
 string_goes_on : (is_key : Bool) (within next : Within) (read more : List ℕ) (opened : List Opened) (byte : ℕ) (bytes : List ℕ) → next_within within byte ≡ Some next
@@ -302,7 +302,7 @@ string_byte : (is_key : Bool) (within : Within) (read : List ℕ) (opened : List
 string_byte is_key within read opened tokens byte bytes None e r = absurd r
 string_byte is_key within read opened tokens byte bytes (Some next) e r = string_goes_on is_key within next read (read ++ (byte ∷ [])) opened byte bytes e r
 
-string_ended : (is_key : Bool) (within : Within) (read : List ℕ) (opened : List Opened) (tokens : List Placed) (byte : ℕ) (bytes : List ℕ) → closes within byte ≡ true
+string_ended : (is_key : Bool) (within : Within) (read : List ℕ) (opened : List Opened) (tokens : List Placed) (byte : ℕ) (bytes : List ℕ) → closes_string within byte ≡ true
     → OnStep (Some (string_ends (record { expected = InString is_key within read; opened = opened; tokens = tokens }) is_key read)) bytes → Fits (InString is_key within read) opened (byte ∷ bytes)
 string_ended true within read opened tokens byte bytes h r = in_key bytes (string-closes within byte h) (colon_from r)
 string_ended false within read opened tokens byte bytes h r = in_text bytes (string-closes within byte h) (ends_from r)
@@ -310,9 +310,9 @@ string_ended false within read opened tokens byte bytes h r = in_text bytes (str
 at_string : (is_key : Bool) (within : Within) (read : List ℕ) (opened : List Opened) (tokens : List Placed) (byte : ℕ) (bytes : List ℕ)
     → OnStep (step_in (InString is_key within read) (record { expected = InString is_key within read; opened = opened; tokens = tokens }) byte) bytes
     → Fits (InString is_key within read) opened (byte ∷ bytes)
-at_string is_key within read opened tokens byte bytes r = go (closes within byte) refl r
+at_string is_key within read opened tokens byte bytes r = go (closes_string within byte) refl r
   where
-    go : (c : Bool) → closes within byte ≡ c
+    go : (c : Bool) → closes_string within byte ≡ c
         → OnStep (cond c (Some (string_ends (record { expected = InString is_key within read; opened = opened; tokens = tokens }) is_key read))
         (option_map (λ next. record { expected = InString is_key next (read ++ (byte ∷ [])); opened = opened; tokens = tokens }) (next_within within byte))) bytes
         → Fits (InString is_key within read) opened (byte ∷ bytes)
@@ -332,7 +332,7 @@ one_byte (InNumber phase read) opened tokens byte bytes r = at_number phase read
 one_byte (InString is_key within read) opened tokens byte bytes r = at_string is_key within read opened tokens byte bytes r
 
 -- what completes a text from the next state, behind this byte completes it from this one
-pub byte-fits : (state next : State) (byte : ℕ) (bytes : List ℕ) → step state byte ≡ Some next → Fits next.expected next.opened bytes → Fits state.expected state.opened (byte ∷ bytes)
+pub byte-fits : (state next : ReaderState) (byte : ℕ) (bytes : List ℕ) → reader_step state byte ≡ Some next → Fits next.expected next.opened bytes → Fits state.expected state.opened (byte ∷ bytes)
 byte-fits state next byte bytes e f = one_byte state.expected state.opened state.tokens byte bytes (subst (λ o. OnStep o bytes) (sym e) f)
 
 -- ---- the end, and all bytes
@@ -341,23 +341,23 @@ abbrev pub IsSomeTokens : Option (List Placed) → Type 0
 IsSomeTokens None = ⊥
 IsSomeTokens (Some tokens) = Unit {0}
 
-number_at_end : (phase : Phase) (read : List ℕ) (tokens : List Placed) (m : Bool) → may_end phase ≡ m
-    → IsSomeTokens (cond m (Some (tokens ++ (at Alone (token.Number read) ∷ []))) None) → Fits (InNumber phase read) [] []
+number_at_end : (phase : NumberPhase) (read : List ℕ) (tokens : List Placed) (m : Bool) → number_may_end phase ≡ m
+    → IsSomeTokens (cond m (Some (tokens ++ (placed_at Alone (token.Number read) ∷ []))) None) → Fits (InNumber phase read) [] []
 number_at_end phase read tokens true e h = in_number (may_end-completes phase ∙ e) (whole refl)
 number_at_end phase read tokens false e h = absurd h
 
 no_byte : (x : Expected) (opened : List Opened) (tokens : List Placed) → IsSomeTokens (at_end_in x opened tokens) → Fits x opened []
 no_byte Next [] tokens h = after_it (whole refl)
-no_byte (InNumber phase read) [] tokens h = number_at_end phase read tokens (may_end phase) refl h
+no_byte (InNumber phase read) [] tokens h = number_at_end phase read tokens (number_may_end phase) refl h
 no_byte x opened tokens h = absurd h
 
-step_or : (o : Option State) (bytes : List ℕ) → ((state : State) → IsSomeTokens (option_and_then at_end (after state bytes)) → Fits state.expected state.opened bytes)
-    → IsSomeTokens (option_and_then at_end (option_and_then (λ next. after next bytes) o)) → OnStep o bytes
+step_or : (o : Option ReaderState) (bytes : List ℕ) → ((state : ReaderState) → IsSomeTokens (option_and_then tokens_at_end (after_bytes state bytes)) → Fits state.expected state.opened bytes)
+    → IsSomeTokens (option_and_then tokens_at_end (option_and_then (λ next. after_bytes next bytes) o)) → OnStep o bytes
 step_or None bytes f h = absurd h
 step_or (Some state) bytes f h = f state h
 
 -- what the machine takes from a state completes a text from it
-pub taken-fits : (bytes : List ℕ) (state : State) → IsSomeTokens (option_and_then at_end (after state bytes)) → Fits state.expected state.opened bytes
+pub taken-fits : (bytes : List ℕ) (state : ReaderState) → IsSomeTokens (option_and_then tokens_at_end (after_bytes state bytes)) → Fits state.expected state.opened bytes
 taken-fits [] state h = no_byte state.expected state.opened state.tokens h
 taken-fits (byte ∷ bytes) state h =
-    one_byte state.expected state.opened state.tokens byte bytes (step_or (step state byte) bytes (λ next k. taken-fits bytes next k) h)
+    one_byte state.expected state.opened state.tokens byte bytes (step_or (reader_step state byte) bytes (λ next k. taken-fits bytes next k) h)

@@ -3,7 +3,7 @@ use Rattle.std.specs.Prelude.{◌≡◌, ℕ, zero, suc, ◌+◌, ◌-◌, List,
 use Rattle.std.proofs.Common.{ap, ◌∙◌, arith, append_assoc, length-append}
 use Rattle.sval_json.specs.Grammar.{JsonValue, Values, Members, IsValue, null, truth, falsehood, number, string, empty_array, array, empty_object, object, AreValues, last_value, more_values, AreMembers, last_member, more_members}
 use Rattle.sval_json_read.specs.Tokens as token
-use Rattle.sval_json_read.specs.Tokens.{Place, Alone, Item, Key, Value, Token, Placed, at, between_quotes, tokens_of, item_tokens, pair_tokens}
+use Rattle.sval_json_read.specs.Tokens.{Place, Alone, Item, Key, Value, Token, Placed, placed_at, between_quotes, tokens_of, item_tokens, pair_tokens}
 use Rattle.sval_json_read.specs.Nodes as kept
 use Rattle.sval_json_read.specs.Nodes.{Kept, Node, token_in, tokens_in}
 use Rattle.sval_json_read.specs.NodeSpans.{depth_behind, while_open, span}
@@ -53,11 +53,11 @@ one_less n = omega arith
 
 -- a bracket, what stands in it, and the bracket behind it
 in_brackets : (place : Place) (end : Token) (depth : ℕ) (inner rest : List Placed) → depth_after end (suc depth) ≡ depth
-    → token_span (suc depth) (inner ++ (at place end ∷ rest)) ≡ length inner + token_span (suc depth) (at place end ∷ rest)
-    → suc (token_span (suc depth) ((inner ++ (at place end ∷ [])) ++ rest)) ≡ suc (length (inner ++ (at place end ∷ []))) + while_open depth (token_span depth rest)
+    → token_span (suc depth) (inner ++ (placed_at place end ∷ rest)) ≡ length inner + token_span (suc depth) (placed_at place end ∷ rest)
+    → suc (token_span (suc depth) ((inner ++ (placed_at place end ∷ [])) ++ rest)) ≡ suc (length (inner ++ (placed_at place end ∷ []))) + while_open depth (token_span depth rest)
 in_brackets place end depth inner rest d e =
-    let l = length-append inner (at place end ∷ []) in
-    let f = ap (λ tokens. token_span (suc depth) tokens) (append_assoc inner (at place end ∷ []) rest) in
+    let l = length-append inner (placed_at place end ∷ []) in
+    let f = ap (λ tokens. token_span (suc depth) tokens) (append_assoc inner (placed_at place end ∷ []) rest) in
     let g = ap (λ n. length inner + suc (while_open n (token_span n rest))) d in
     let s = f ∙ e ∙ g in
     omega (arith, l, s)
@@ -70,10 +70,10 @@ mutual
   value-span depth place falsehood more = one (while_open depth (token_span depth more))
   value-span depth place (number e n) more = one (while_open depth (token_span depth more))
   value-span depth place (string s) more = one (while_open depth (token_span depth more))
-  value-span depth place (empty_array e) more = in_brackets place token.EndArray depth [] more (one_less depth) (none (token_span (suc depth) (at place token.EndArray ∷ more)))
-  value-span depth place (array values) more = in_brackets place token.EndArray depth (item_tokens values) more (one_less depth) (items-span depth values (at place token.EndArray ∷ more))
-  value-span depth place (empty_object e) more = in_brackets place token.EndObject depth [] more (one_less depth) (none (token_span (suc depth) (at place token.EndObject ∷ more)))
-  value-span depth place (object members) more = in_brackets place token.EndObject depth (pair_tokens members) more (one_less depth) (pairs-span depth members (at place token.EndObject ∷ more))
+  value-span depth place (empty_array e) more = in_brackets place token.EndArray depth [] more (one_less depth) (none (token_span (suc depth) (placed_at place token.EndArray ∷ more)))
+  value-span depth place (array values) more = in_brackets place token.EndArray depth (item_tokens values) more (one_less depth) (items-span depth values (placed_at place token.EndArray ∷ more))
+  value-span depth place (empty_object e) more = in_brackets place token.EndObject depth [] more (one_less depth) (none (token_span (suc depth) (placed_at place token.EndObject ∷ more)))
+  value-span depth place (object members) more = in_brackets place token.EndObject depth (pair_tokens members) more (one_less depth) (pairs-span depth members (placed_at place token.EndObject ∷ more))
 
   pub items-span : {bytes rest : List ℕ} {values : Values} (depth : ℕ) (are : AreValues bytes values rest) (more : List Placed)
       → token_span (suc depth) (item_tokens are ++ more) ≡ length (item_tokens are) + token_span (suc depth) more

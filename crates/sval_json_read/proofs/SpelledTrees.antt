@@ -9,8 +9,8 @@ use Rattle.sval_json.specs.Grammar as json
 use Rattle.sval_json.specs.Grammar.{JsonValue, Values, no_values, a_value, Members, no_members, a_member, IsString, IsValue, null, truth, falsehood, number, string, empty_array, array, empty_object, object, AreValues, last_value, more_values, AreMembers, last_member, more_members, Denotes}
 use Rattle.sval_json_read.specs.Trees.{fits_i64, whole_value, number_name, number_tree, tree_of, items_of, entries_of}
 use Rattle.sval_json_read.specs.Tokens as token
-use Rattle.sval_json_read.specs.Tokens.{Place, Alone, Item, Key, Value, Token, Placed, at, between_quotes, tokens_of, item_tokens, pair_tokens}
-use Rattle.sval_json_read.specs.Calls.{Piece, run, piece_bytes, pieces, piece_call, text_calls, number_calls, place_begins, place_ends, calls_in, token_calls, document_calls}
+use Rattle.sval_json_read.specs.Tokens.{Place, Alone, Item, Key, Value, Token, Placed, placed_at, between_quotes, tokens_of, item_tokens, pair_tokens}
+use Rattle.sval_json_read.specs.Calls.{Piece, run, piece_bytes, pieces, piece_call, string_value_calls, number_calls, place_begins, place_ends, calls_in, placed_token_calls, document_calls}
 use Rattle.sval_json_read.specs.Calls as part
 use Rattle.sval_json_read.proofs.PieceTexts.{pieces-text}
 
@@ -55,7 +55,7 @@ piece_calls [] rest = refl
 piece_calls (run bytes ∷ row) rest = ap (λ x. Call.TextFragment false bytes ∷ x) (piece_calls row rest)
 piece_calls (part.escape bytes ∷ row) rest = ap (λ x. Call.TextFragment false bytes ∷ x) (piece_calls row rest)
 
-text_says : {bytes text rest : List ℕ} (s : IsString bytes text rest) (more : List Call) → Says (Text text) (plain (text_calls (between_quotes s) ++ more)) (plain more)
+text_says : {bytes text rest : List ℕ} (s : IsString bytes text rest) (more : List Call) → Says (Text text) (plain (string_value_calls (between_quotes s) ++ more)) (plain more)
 text_says s more = (None, map piece_bytes (pieces (between_quotes s)), tt, pieces-text s, ap (λ x. Call.TextBegin None ∷ x) (piece_calls (pieces (between_quotes s)) more))
 
 number_says : (text : List ℕ) (more : List Call) → Says (number_tree text) (plain (number_calls text ++ more)) (plain more)
@@ -85,35 +85,35 @@ leaf : (place : Place) (tree : Tree) (calls more : List Call) → Says tree (pla
 leaf place tree calls more s = record { inner = calls ++ (place_ends place ++ more); begin = leaf_calls place calls more; says = s }
 
 -- an array or object with the calls of its parts
-around_calls : (place : Place) (begin end : Call) (parts : List Placed) (e : Placed) (more : List Call) → token_calls e ≡ end ∷ place_ends place
+around_calls : (place : Place) (begin end : Call) (parts : List Placed) (e : Placed) (more : List Call) → placed_token_calls e ≡ end ∷ place_ends place
     → ((place_begins place ++ (begin ∷ [])) ++ document_calls (parts ++ (e ∷ []))) ++ more
     ≡ place_begins place ++ (begin ∷ (document_calls parts ++ (end ∷ (place_ends place ++ more))))
 around_calls place begin end parts e more h =
     append_assoc (place_begins place ++ (begin ∷ [])) (document_calls (parts ++ (e ∷ []))) more
     ∙ append_assoc (place_begins place) (begin ∷ []) (document_calls (parts ++ (e ∷ [])) ++ more)
     ∙ ap (λ x. place_begins place ++ (begin ∷ x)) (
-    ap (λ x. x ++ more) (flat_map-append token_calls parts (e ∷ []) ∙ ap (λ x. document_calls parts ++ x) (append-nil (token_calls e) ∙ h))
+    ap (λ x. x ++ more) (flat_map-append placed_token_calls parts (e ∷ []) ∙ ap (λ x. document_calls parts ++ x) (append-nil (placed_token_calls e) ∙ h))
     ∙ append_assoc (document_calls parts) (end ∷ place_ends place) more
     )
 
 split_calls : (one others : List Placed) (more : List Call) → document_calls (one ++ others) ++ more ≡ document_calls one ++ (document_calls others ++ more)
-split_calls one others more = ap (λ x. x ++ more) (flat_map-append token_calls one others) ∙ append_assoc (document_calls one) (document_calls others) more
+split_calls one others more = ap (λ x. x ++ more) (flat_map-append placed_token_calls one others) ∙ append_assoc (document_calls one) (document_calls others) more
 
 array_says : (place : Place) (values : Values) (parts : List Placed) (more : List Call)
     → ((rest : List Call) → SayParts (items_of values) (plain (document_calls parts ++ rest)) (plain rest))
-    → SaysIn place (tree_of (json.Array values)) (document_calls (at place token.BeginArray ∷ (parts ++ (at place token.EndArray ∷ []))) ++ more) more
+    → SaysIn place (tree_of (json.Array values)) (document_calls (placed_at place token.BeginArray ∷ (parts ++ (placed_at place token.EndArray ∷ []))) ++ more) more
 array_says place row parts more s = record {
   inner = Call.Begin Head.Seq None ∷ (document_calls parts ++ (Call.End Head.Seq ∷ (place_ends place ++ more)));
-  begin = around_calls place (Call.Begin Head.Seq None) (Call.End Head.Seq) parts (at place token.EndArray) more refl;
+  begin = around_calls place (Call.Begin Head.Seq None) (Call.End Head.Seq) parts (placed_at place token.EndArray) more refl;
   says = (None, plain (document_calls parts ++ (Call.End Head.Seq ∷ (place_ends place ++ more))), tt, refl, s (Call.End Head.Seq ∷ (place_ends place ++ more)));
 }
 
 object_says : (place : Place) (members : Members) (parts : List Placed) (more : List Call)
     → ((rest : List Call) → SayParts (entries_of members) (plain (document_calls parts ++ rest)) (plain rest))
-    → SaysIn place (tree_of (json.Object members)) (document_calls (at place token.BeginObject ∷ (parts ++ (at place token.EndObject ∷ []))) ++ more) more
+    → SaysIn place (tree_of (json.Object members)) (document_calls (placed_at place token.BeginObject ∷ (parts ++ (placed_at place token.EndObject ∷ []))) ++ more) more
 object_says place row parts more s = record {
   inner = Call.Begin Head.Map None ∷ (document_calls parts ++ (Call.End Head.Map ∷ (place_ends place ++ more)));
-  begin = around_calls place (Call.Begin Head.Map None) (Call.End Head.Map) parts (at place token.EndObject) more refl;
+  begin = around_calls place (Call.Begin Head.Map None) (Call.End Head.Map) parts (placed_at place token.EndObject) more refl;
   says = (None, plain (document_calls parts ++ (Call.End Head.Map ∷ (place_ends place ++ more))), tt, refl, s (Call.End Head.Map ∷ (place_ends place ++ more)));
 }
 
@@ -133,11 +133,11 @@ key_calls calls others more =
     ap (λ x. Call.PartBegin Slot.Key ∷ x) (append_assoc (calls ++ (Call.PartEnd Slot.Key ∷ [])) others more ∙ append_assoc calls (Call.PartEnd Slot.Key ∷ []) (others ++ more))
 
 last_pair : {bytes text colon : List ℕ} (k : IsString bytes text colon) (tree : Tree) (value : List Placed) (more : List Call) → SaysIn Value tree (document_calls value ++ more) more
-    → SayParts (in_row Slot.Key (Text text) (in_row Slot.Value tree none)) (plain (document_calls (at Key (token.Text (between_quotes k)) ∷ value) ++ more)) (plain more)
+    → SayParts (in_row Slot.Key (Text text) (in_row Slot.Value tree none)) (plain (document_calls (placed_at Key (token.Text (between_quotes k)) ∷ value) ++ more)) (plain more)
 last_pair k tree value more s = (
-  plain (text_calls (between_quotes k) ++ (Call.PartEnd Slot.Key ∷ (document_calls value ++ more))),
+  plain (string_value_calls (between_quotes k) ++ (Call.PartEnd Slot.Key ∷ (document_calls value ++ more))),
   plain (document_calls value ++ more),
-  ap plain (key_calls (text_calls (between_quotes k)) (document_calls value) more),
+  ap plain (key_calls (string_value_calls (between_quotes k)) (document_calls value) more),
   text_says k (Call.PartEnd Slot.Key ∷ (document_calls value ++ more)),
   (plain s.inner, plain more, ap plain s.begin, s.says, refl),
 )
@@ -145,12 +145,12 @@ last_pair k tree value more s = (
 next_pair : {bytes text colon : List ℕ} (k : IsString bytes text colon) (tree : Tree) (parts : Parts) (value others : List Placed) (more : List Call)
     → SaysIn Value tree (document_calls value ++ (document_calls others ++ more)) (document_calls others ++ more)
     → SayParts parts (plain (document_calls others ++ more)) (plain more)
-    → SayParts (in_row Slot.Key (Text text) (in_row Slot.Value tree parts)) (plain (document_calls (at Key (token.Text (between_quotes k)) ∷ (value ++ others)) ++ more)) (plain more)
+    → SayParts (in_row Slot.Key (Text text) (in_row Slot.Value tree parts)) (plain (document_calls (placed_at Key (token.Text (between_quotes k)) ∷ (value ++ others)) ++ more)) (plain more)
 next_pair k tree parts value others more s rest = (
-  plain (text_calls (between_quotes k) ++ (Call.PartEnd Slot.Key ∷ (document_calls value ++ (document_calls others ++ more)))),
+  plain (string_value_calls (between_quotes k) ++ (Call.PartEnd Slot.Key ∷ (document_calls value ++ (document_calls others ++ more)))),
   plain (document_calls value ++ (document_calls others ++ more)),
-  ap plain (key_calls (text_calls (between_quotes k)) (document_calls (value ++ others)) more
-      ∙ ap (λ x. Call.PartBegin Slot.Key ∷ (text_calls (between_quotes k) ++ (Call.PartEnd Slot.Key ∷ x))) (split_calls value others more)),
+  ap plain (key_calls (string_value_calls (between_quotes k)) (document_calls (value ++ others)) more
+      ∙ ap (λ x. Call.PartBegin Slot.Key ∷ (string_value_calls (between_quotes k) ++ (Call.PartEnd Slot.Key ∷ x))) (split_calls value others more)),
   text_says k (Call.PartEnd Slot.Key ∷ (document_calls value ++ (document_calls others ++ more))),
   (plain s.inner, plain (document_calls others ++ more), ap plain s.begin, s.says, rest),
 )
@@ -161,7 +161,7 @@ mutual
   value_says place truth more = leaf place (Tree.Truth true) (Call.Truth true ∷ []) more refl
   value_says place falsehood more = leaf place (Tree.Truth false) (Call.Truth false ∷ []) more refl
   value_says place (number {text = text} e n) more = leaf place (number_tree text) (number_calls text) more (number_says text (place_ends place ++ more))
-  value_says place (string {text = text} s) more = leaf place (Text text) (text_calls (between_quotes s)) more (text_says s (place_ends place ++ more))
+  value_says place (string {text = text} s) more = leaf place (Text text) (string_value_calls (between_quotes s)) more (text_says s (place_ends place ++ more))
   value_says place (empty_array e) more = array_says place no_values [] more (λ rest. refl)
   value_says place (array {values = row} vs) more = array_says place row (item_tokens vs) more (λ rest. items_say vs rest)
   value_says place (empty_object e) more = object_says place no_members [] more (λ rest. refl)

@@ -6,28 +6,28 @@ use Rattle.std.proofs.lemmas.Bool.{cases_lt}
 use Rattle.std.proofs.lemmas.Bool.Decides.{nat_tests}
 use Rattle.sval_json.specs.Grammar.{is_unescaped, escaped_byte, code_unit, is_high_surrogate, is_low_surrogate, is_surrogate, IsString, close, unescaped, escape, unit, pair}
 use Rattle.sval_json_read.specs.Tokens.{Placed, between_quotes}
-use Rattle.sval_json_read.specs.Strings.{Within, Plain, High, is_hex, is_d, next_within, closes}
-use Rattle.sval_json_read.specs.Reader.{Opened, InString, State, string_ends}
+use Rattle.sval_json_read.specs.Strings.{Within, Plain, High, is_hex, is_d, next_within, closes_string}
+use Rattle.sval_json_read.specs.Reader.{Opened, InString, ReaderState, string_ends}
 use Rattle.sval_json_read.proofs.Runs.{at_state, read_from}
 use Rattle.sval_json_read.proofs.StringSteps.{below}
 
 -- one byte that isn't the closing quote, and some
 abbrev pub takes : Within → ℕ → Option Within
-takes within byte = if closes within byte then None else next_within within byte
+takes within byte = if closes_string within byte then None else next_within within byte
 
 abbrev pub walks : Within → List ℕ → Option Within
 walks within [] = Some within
 walks within (byte ∷ bytes) = option_and_then (λ next. walks next bytes) (takes within byte)
 
 module _ (is_key : Bool) (opened : List Opened) (tokens : List Placed) where
-  abbrev inside : Within → List ℕ → State
+  abbrev inside : Within → List ℕ → ReaderState
   inside within read = at_state (InString is_key within read) opened tokens
 
   walk_step : (within : Within) (read : List ℕ) (byte : ℕ) (bytes : List ℕ) (o : Option Within) → takes within byte ≡ o
       → (next : Within) → o ≡ Some next → read_from (inside within read) (byte ∷ bytes) ≡ read_from (inside next (read ++ (byte ∷ []))) bytes
-  walk_step within read byte bytes o e next k = go (closes within byte) refl (e ∙ k)
+  walk_step within read byte bytes o e next k = go (closes_string within byte) refl (e ∙ k)
     where
-      go : (c : Bool) → closes within byte ≡ c → cond c None (next_within within byte) ≡ Some next
+      go : (c : Bool) → closes_string within byte ≡ c → cond c None (next_within within byte) ≡ Some next
           → read_from (inside within read) (byte ∷ bytes) ≡ read_from (inside next (read ++ (byte ∷ []))) bytes
       go true c k = cc k
       go false c k = rw (c, k) refl
@@ -141,10 +141,10 @@ low_walk a b c d u e s =
 -- ---- a whole string
 
 module _ (is_key : Bool) (opened : List Opened) (tokens : List Placed) where
-  abbrev in_string : List ℕ → State
+  abbrev in_string : List ℕ → ReaderState
   in_string read = at_state (InString is_key Plain read) opened tokens
 
-  abbrev ended : List ℕ → State
+  abbrev ended : List ℕ → ReaderState
   ended read = string_ends (at_state (InString is_key Plain read) opened tokens) is_key read
 
   pub string-run : {bytes text rest : List ℕ} (read : List ℕ) (s : IsString bytes text rest) → read_from (in_string read) bytes ≡ read_from (ended (read ++ between_quotes s)) rest

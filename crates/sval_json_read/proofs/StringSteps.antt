@@ -5,7 +5,7 @@ use Rattle.std.proofs.Common.{sym, subst, arith, inl, inr}
 use Rattle.std.proofs.lemmas.Bool.{and_parts}
 use Rattle.std.proofs.lemmas.Bool.Decides.{nat_tests}
 use Rattle.sval_json.specs.Grammar.{is_unescaped, escaped_byte, code_unit, is_high_surrogate, is_low_surrogate, is_surrogate, IsString, close, unescaped, escape, unit, pair}
-use Rattle.sval_json_read.specs.Strings.{Within, Plain, Backslash, Unit, UnitD, ThreeLeft, TwoLeft, OneLeft, HighTwoLeft, HighOneLeft, High, LowBackslash, LowUnit, LowD, LowTwoLeft, LowOneLeft, when, is_hex, is_d, next_within, closes}
+use Rattle.sval_json_read.specs.Strings.{Within, Plain, Backslash, Unit, UnitD, ThreeLeft, TwoLeft, OneLeft, HighTwoLeft, HighOneLeft, High, LowBackslash, LowUnit, LowD, LowTwoLeft, LowOneLeft, within_when, is_hex, is_d, next_within, closes_string}
 
 -- the values of two hex digits with which a unit begins: of no surrogate, of a high one, of a low one
 abbrev pub AreOrdinary : ℕ → ℕ → Type 0
@@ -111,7 +111,7 @@ on_or : {bytes rest : List ℕ} (test : Bool) (within : Within) (others : Option
 on_or true within others r = inl (refl, r)
 on_or false within others r = inr (refl, r)
 
-on_when : {bytes rest : List ℕ} (test : Bool) (within : Within) → CompletesAfter (when test within) bytes rest → (test ≡ true) × Completes within bytes rest
+on_when : {bytes rest : List ℕ} (test : Bool) (within : Within) → CompletesAfter (within_when test within) bytes rest → (test ≡ true) × Completes within bytes rest
 on_when true within r = (refl, r)
 on_when false within r = absurd r
 
@@ -186,19 +186,19 @@ pub is_hex_below : (byte : ℕ) → is_hex byte ≡ true → digit_value byte < 
 is_hex_below byte h = below (digit_value byte) 16 h
 
 pub string-step : (within : Within) (byte : ℕ) (bytes rest : List ℕ) → CompletesAfter (next_within within byte) bytes rest → Completes within (byte ∷ bytes) rest
-string-step Plain byte bytes rest r = elim (on_or (is_unescaped byte) Plain (when (byte == 92) Backslash) r) [
+string-step Plain byte bytes rest r = elim (on_or (is_unescaped byte) Plain (within_when (byte == 92) Backslash) r) [
   | inl y ↦ plain_unescaped byte y.0 y.1
   | inr n ↦ let w = on_when (byte == 92) Backslash n.1 in plain_backslash (same byte 92 w.0) w.1
 ]
-string-step Backslash byte bytes rest r = elim (on_or (byte == 117) Unit (when (is_some (escaped_byte byte)) Plain) r) [
+string-step Backslash byte bytes rest r = elim (on_or (byte == 117) Unit (within_when (is_some (escaped_byte byte)) Plain) r) [
   | inl y ↦ backslash_unit (same byte 117 y.0) y.1
   | inr n ↦ let w = on_when (is_some (escaped_byte byte)) Plain n.1 in backslash_letter byte (escaped_byte byte) refl w.0 w.1
 ]
-string-step Unit byte bytes rest r = elim (on_or (is_d byte) UnitD (when (is_hex byte) ThreeLeft) r) [
+string-step Unit byte bytes rest r = elim (on_or (is_d byte) UnitD (within_when (is_hex byte) ThreeLeft) r) [
   | inl y ↦ unit_to_d byte (same (digit_value byte) 13 y.0) y.1
   | inr n ↦ let w = on_when (is_hex byte) ThreeLeft n.1 in unit_to_three byte (is_hex_below byte w.0) (other (digit_value byte) 13 n.0) w.1
 ]
-string-step UnitD byte bytes rest r = elim (on_or (nat_lt (digit_value byte) 8) TwoLeft (when (nat_lt (digit_value byte) 12) HighTwoLeft) r) [
+string-step UnitD byte bytes rest r = elim (on_or (nat_lt (digit_value byte) 8) TwoLeft (within_when (nat_lt (digit_value byte) 12) HighTwoLeft) r) [
   | inl y ↦ d_to_two byte (below (digit_value byte) 8 y.0) y.1
   | inr n ↦ let w = on_when (nat_lt (digit_value byte) 12) HighTwoLeft n.1 in d_to_high byte (above (digit_value byte) 8 n.0) (below (digit_value byte) 12 w.0) w.1
 ]
@@ -220,6 +220,6 @@ plain_closes : {byte : ℕ} {bytes : List ℕ} → byte ≡ 34 → Completes Pla
 plain_closes {bytes = bytes} e part plain = subst (λ b. Text (b ∷ bytes) bytes) (sym e) ([], close)
 
 -- the closing quote
-pub string-closes : {bytes : List ℕ} (within : Within) (byte : ℕ) → closes within byte ≡ true → Completes within (byte ∷ bytes) bytes
+pub string-closes : {bytes : List ℕ} (within : Within) (byte : ℕ) → closes_string within byte ≡ true → Completes within (byte ∷ bytes) bytes
 string-closes Plain byte h = plain_closes (same byte 34 h)
 string-closes within byte h = cc h

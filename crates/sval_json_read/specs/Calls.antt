@@ -66,12 +66,12 @@ piece_call (run bytes) = Call.TextFragment true bytes
 piece_call (escape bytes) = Call.TextFragment false bytes
 
 -- a string: a text whose length isn't told, with a fragment for each piece
-abbrev pub text_calls : List ℕ → List Call
-text_calls bytes = Call.TextBegin None ∷ (map piece_call (pieces bytes) ++ (Call.TextEnd ∷ []))
+abbrev pub string_value_calls : List ℕ → List Call
+string_value_calls bytes = Call.TextBegin None ∷ (map piece_call (pieces bytes) ++ (Call.TextEnd ∷ []))
 
 -- a string that is a key of an object
 abbrev pub key_calls : List ℕ → List Call
-key_calls bytes = Call.PartBegin Slot.Key ∷ (text_calls bytes ++ (Call.PartEnd Slot.Key ∷ []))
+key_calls bytes = Call.PartBegin Slot.Key ∷ (string_value_calls bytes ++ (Call.PartEnd Slot.Key ∷ []))
 
 -- a number: an `i64` where it has no fraction and no exponent and fits, and else its text under the tag `NUMBER`
 abbrev pub number_calls : List ℕ → List Call
@@ -98,16 +98,16 @@ abbrev pub calls_in : Place → Token → List Call
 calls_in place Null = place_begins place ++ (Call.Null ∷ place_ends place)
 calls_in place (Truth b) = place_begins place ++ (Call.Truth b ∷ place_ends place)
 calls_in place (Number text) = place_begins place ++ (number_calls text ++ place_ends place)
-calls_in place (Text bytes) = place_begins place ++ (text_calls bytes ++ place_ends place)
+calls_in place (Text bytes) = place_begins place ++ (string_value_calls bytes ++ place_ends place)
 calls_in place BeginArray = place_begins place ++ (Call.Begin Head.Seq None ∷ [])
 calls_in place EndArray = Call.End Head.Seq ∷ place_ends place
 calls_in place BeginObject = place_begins place ++ (Call.Begin Head.Map None ∷ [])
 calls_in place EndObject = Call.End Head.Map ∷ place_ends place
 
 -- the calls of a token in its place
-abbrev pub token_calls : Placed → List Call
-token_calls placed = calls_in placed.place placed.token
+abbrev pub placed_token_calls : Placed → List Call
+placed_token_calls placed = calls_in placed.place placed.token
 
 -- the calls of the tokens, one token after the other
 abbrev pub document_calls : List Placed → List Call
-document_calls tokens = flat_map token_calls tokens
+document_calls tokens = flat_map placed_token_calls tokens

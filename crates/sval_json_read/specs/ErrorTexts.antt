@@ -5,7 +5,7 @@ use Rattle.sval_json_read.specs.declared.document.ReadError.{ReadError}
 use Rattle.sval_json_read.specs.declared.document.ReadError.TheVariants as read
 
 -- the text of an error
-abbrev pub error_text : ReadError → List ℕ
-error_text read.NotUtf8 = codes "the bytes are not UTF-8"
-error_text (read.BadJson at) = codes "no JSON begins with more of the bytes than the first " ++ decimal at
-error_text read.NoMemory = codes "cannot allocate for a document"
+abbrev pub read_error_text : ReadError → List ℕ
+read_error_text read.NotUtf8 = codes "the bytes are not UTF-8"
+read_error_text (read.BadJson at) = codes "no JSON begins with more of the bytes than the first " ++ decimal at
+read_error_text read.NoMemory = codes "cannot allocate for a document"

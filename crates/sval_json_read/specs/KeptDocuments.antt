@@ -3,9 +3,9 @@ use Rattle.std.specs.Prelude.{ℕ, List, map}
 use Rattle.sval_json_read.specs.declared.node.Node as made_node
 use Rattle.sval_json_read.specs.Documents.{IsDocument}
 use Rattle.sval_json_read.specs.Nodes.{tokens_in}
-use Rattle.sval_json_read.specs.SeenNodes.{node_of, AreKeptOf}
+use Rattle.sval_json_read.specs.SeenNodes.{seen_node, AreKeptOf}
 
 -- the nodes are its tokens, and their numbers and strings can be cut from it
 pub record IsKeptDocument (bytes : List ℕ) (nodes : List made_node.Node) : Type 0 where
   pub kept : AreKeptOf bytes nodes
-  pub document : IsDocument bytes (tokens_in bytes (map node_of nodes))
+  pub document : IsDocument bytes (tokens_in bytes (map seen_node nodes))

@@ -15,7 +15,7 @@ use Rattle.sval_json_read.specs.Documents.{IsDocument, IsBadJson}
 use Rattle.sval_json_read.specs.Calls.{Piece, run, escape, piece_bytes, pieces, document_calls}
 use Rattle.sval_json_read.specs.RawStrings.{AreProperTokens}
 use Rattle.sval_json_read.specs.Nodes.{Node, tokens_in, streamed}
-use Rattle.sval_json_read.specs.Reader.{read, taken}
+use Rattle.sval_json_read.specs.Reader.{tokens_read, bytes_taken}
 
 -- the tree of a value that some bytes denote is one that a program's calls can spell, and it promises nothing of raw texts
 abbrev pub TreesAreReal : Type 0
@@ -46,8 +46,8 @@ abbrev pub RunsAreLongest : Type 0
 RunsAreLongest = (bytes : List ℕ) → AreLongest (pieces bytes)
 
 -- the calls of a document spell the tree of its value
-abbrev pub DocumentsSpell : Type 0
-DocumentsSpell = (bytes : List ℕ) (tokens : List Placed) (document : IsDocument bytes tokens) → Spells (document_calls tokens) (tree_of document.value)
+abbrev pub JsonDocumentsSpell : Type 0
+JsonDocumentsSpell = (bytes : List ℕ) (tokens : List Placed) (document : IsDocument bytes tokens) → Spells (document_calls tokens) (tree_of document.value)
 
 -- and so do those of the flat list in which it is kept, one node after the other
 abbrev pub NodesSpell : Type 0
@@ -67,11 +67,11 @@ OneDocument = (bytes : List ℕ) (tokens others : List Placed) → IsDocument by
 
 -- the machine reads exactly the texts that denote a value, and gives their tokens
 abbrev pub ReadsTheDocuments : Type 0
-ReadsTheDocuments = (bytes : List ℕ) (tokens : List Placed) → (IsDocument bytes tokens → read bytes ≡ Some tokens) × (IsUtf8 bytes → read bytes ≡ Some tokens → IsDocument bytes tokens)
+ReadsTheDocuments = (bytes : List ℕ) (tokens : List Placed) → (IsDocument bytes tokens → tokens_read bytes ≡ Some tokens) × (IsUtf8 bytes → tokens_read bytes ≡ Some tokens → IsDocument bytes tokens)
 
 -- and refuses the others: what it takes of them before it refuses a byte, or lacks one, is where they fail
 abbrev pub RefusesTheOthers : Type 0
-RefusesTheOthers = (bytes : List ℕ) → IsUtf8 bytes → read bytes ≡ None → IsBadJson bytes (taken bytes)
+RefusesTheOthers = (bytes : List ℕ) → IsUtf8 bytes → tokens_read bytes ≡ None → IsBadJson bytes (bytes_taken bytes)
 
 -- bytes that are UTF-8 are a document or fail
 abbrev pub IsReadOrBad : Type 0
@@ -85,7 +85,7 @@ NotBoth = (bytes : List ℕ) (tokens : List Placed) (n : ℕ) → IsDocument byt
 
 -- what it takes of UTF-8 before it refuses a byte is the longest front of a text that denotes a value
 abbrev pub StopsWhereTheyFail : Type 0
-StopsWhereTheyFail = (bytes : List ℕ) → IsUtf8 bytes → FailsAt bytes (taken bytes)
+StopsWhereTheyFail = (bytes : List ℕ) → IsUtf8 bytes → FailsAt bytes (bytes_taken bytes)
 
 -- and there is no second such place
 abbrev pub FailsAtOnePlace : Type 0

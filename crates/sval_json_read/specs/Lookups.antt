@@ -6,28 +6,28 @@ use Rattle.std.specs.Str.Parse.{digits_value}
 use Rattle.sval_json.specs.Digits.{digits_of}
 use Rattle.sval_json.specs.Number.{is_negative}
 use Rattle.sval_json.specs.Grammar.{JsonValue, Null, Truth, Number, Text, Array, Object, Values, no_values, a_value, Members, no_members, a_member}
-use Rattle.sval_json_read.specs.Trees.{is_whole, whole_value, fits_i64}
+use Rattle.sval_json_read.specs.Trees.{has_no_fraction, whole_value, fits_i64}
 use Rattle.sval_json_read.specs.declared.json_ref.JsonKind as made
 use Rattle.sval_json_read.specs.declared.json_ref.JsonKind.TheVariants as kind
 
 -- which of the six a value is
-abbrev pub kind_of : JsonValue → made.JsonKind
-kind_of Null = kind.Null
-kind_of (Truth _) = kind.Bool
-kind_of (Number _) = kind.Number
-kind_of (Text _) = kind.Text
-kind_of (Array _) = kind.Array
-kind_of (Object _) = kind.Object
+abbrev pub json_kind_of : JsonValue → made.JsonKind
+json_kind_of Null = kind.Null
+json_kind_of (Truth _) = kind.Bool
+json_kind_of (Number _) = kind.Number
+json_kind_of (Text _) = kind.Text
+json_kind_of (Array _) = kind.Array
+json_kind_of (Object _) = kind.Object
 
 -- the truth that a value is
-abbrev pub truth_of : JsonValue → Option Bool
-truth_of (Truth b) = Some b
-truth_of _ = None
+abbrev pub json_truth_of : JsonValue → Option Bool
+json_truth_of (Truth b) = Some b
+json_truth_of _ = None
 
 -- the text of the number that a value is, as it stands
-abbrev pub number_of : JsonValue → Option (List ℕ)
-number_of (Number text) = Some text
-number_of _ = None
+abbrev pub json_number_of : JsonValue → Option (List ℕ)
+json_number_of (Number text) = Some text
+json_number_of _ = None
 
 -- the number that a value is, where it has no fraction and no exponent and is in the range of `i64`
 abbrev pub i64_of : JsonValue → Option ℤ
@@ -36,7 +36,7 @@ i64_of _ = None
 
 -- a number without a minus, a fraction and an exponent, in the range of `u64`
 abbrev pub fits_u64 : List ℕ → Bool
-fits_u64 text = is_whole text && (not (is_negative text) && nat_lt (digits_value 10 (digits_of text)) (2 ^ 64))
+fits_u64 text = has_no_fraction text && (not (is_negative text) && nat_lt (digits_value 10 (digits_of text)) (2 ^ 64))
 
 -- the number that a value is, where it has no minus, no fraction and no exponent and is in the range of `u64`
 abbrev pub u64_of : JsonValue → Option ℕ
@@ -44,18 +44,18 @@ u64_of (Number text) = if fits_u64 text then Some (digits_value 10 (digits_of te
 u64_of _ = None
 
 -- the text of the string that a value is
-abbrev pub text_of : JsonValue → Option (List ℕ)
-text_of (Text text) = Some text
-text_of _ = None
+abbrev pub json_text_of : JsonValue → Option (List ℕ)
+json_text_of (Text text) = Some text
+json_text_of _ = None
 
 -- the values, in order
-abbrev pub listed : Values → List JsonValue
-listed no_values = []
-listed (a_value value values) = value ∷ listed values
+abbrev pub values_listed : Values → List JsonValue
+values_listed no_values = []
+values_listed (a_value value values) = value ∷ values_listed values
 
 -- the items of the array that a value is, in order
 abbrev pub items_of : JsonValue → Option (List JsonValue)
-items_of (Array values) = Some (listed values)
+items_of (Array values) = Some (values_listed values)
 items_of _ = None
 
 -- a pair of an object: the text of its key, and its value

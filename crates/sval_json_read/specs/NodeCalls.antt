@@ -3,7 +3,7 @@ use Rattle.std.specs.Prelude.{List, [], ◌∷◌, None}
 use Rattle.sval_label.specs.Calls.{Call, Head}
 use Rattle.sval_json_read.specs.Tokens.{Place, Token, Null, Truth, Number, Text, BeginArray, EndArray, BeginObject, EndObject}
 use Rattle.sval_json_read.specs.Nodes as nodes
-use Rattle.sval_json_read.specs.Calls.{place_begins, place_ends, number_calls, text_calls}
+use Rattle.sval_json_read.specs.Calls.{place_begins, place_ends, number_calls, string_value_calls}
 
 -- the begin of the part that a node stands in, where it is no end of an array or object
 abbrev pub begins_before : nodes.Kept → Place → List Call
@@ -12,15 +12,15 @@ begins_before nodes.EndObject place = []
 begins_before kept place = place_begins place
 
 -- a token's own calls, wherever it stands
-abbrev pub own_calls : Token → List Call
-own_calls Null = Call.Null ∷ []
-own_calls (Truth b) = Call.Truth b ∷ []
-own_calls (Number text) = number_calls text
-own_calls (Text bytes) = text_calls bytes
-own_calls BeginArray = Call.Begin Head.Seq None ∷ []
-own_calls EndArray = Call.End Head.Seq ∷ []
-own_calls BeginObject = Call.Begin Head.Map None ∷ []
-own_calls EndObject = Call.End Head.Map ∷ []
+abbrev pub token_own_calls : Token → List Call
+token_own_calls Null = Call.Null ∷ []
+token_own_calls (Truth b) = Call.Truth b ∷ []
+token_own_calls (Number text) = number_calls text
+token_own_calls (Text bytes) = string_value_calls bytes
+token_own_calls BeginArray = Call.Begin Head.Seq None ∷ []
+token_own_calls EndArray = Call.End Head.Seq ∷ []
+token_own_calls BeginObject = Call.Begin Head.Map None ∷ []
+token_own_calls EndObject = Call.End Head.Map ∷ []
 
 -- the end of the part that a node stands in, where it is no begin of an array or object
 abbrev pub ends_behind : nodes.Kept → Place → List Call

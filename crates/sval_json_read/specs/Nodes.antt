@@ -3,8 +3,8 @@ use Rattle.std.specs.Prelude.{ℕ, Bool, List, map, flat_map}
 use Rattle.std.specs.List.{between}
 use Rattle.sval_label.specs.Calls.{Call}
 use Rattle.sval_json_read.specs.Tokens as token
-use Rattle.sval_json_read.specs.Tokens.{Place, Token, Placed, at}
-use Rattle.sval_json_read.specs.Calls.{token_calls}
+use Rattle.sval_json_read.specs.Tokens.{Place, Token, Placed, placed_at}
+use Rattle.sval_json_read.specs.Calls.{placed_token_calls}
 
 -- a number or a string, without its quotes, stands from a place up to another
 pub data Kept : Type 0 where
@@ -35,7 +35,7 @@ token_in bytes EndObject = token.EndObject
 
 -- the token of a node, in its place
 abbrev pub placed_in : List ℕ → Node → Placed
-placed_in bytes node = at node.place (token_in bytes node.kept)
+placed_in bytes node = placed_at node.place (token_in bytes node.kept)
 
 -- the tokens of the nodes, in order
 abbrev pub tokens_in : List ℕ → List Node → List Placed
@@ -43,4 +43,4 @@ tokens_in bytes nodes = map (placed_in bytes) nodes
 
 -- the calls of the nodes, one node after the other
 abbrev pub streamed : List ℕ → List Node → List Call
-streamed bytes nodes = flat_map (λ node. token_calls (placed_in bytes node)) nodes
+streamed bytes nodes = flat_map (λ node. placed_token_calls (placed_in bytes node)) nodes

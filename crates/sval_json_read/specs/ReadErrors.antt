@@ -8,11 +8,11 @@ use Rattle.sval_json_read.specs.Trees.{tree_of}
 use Rattle.sval_json_read.specs.Tokens.{Placed}
 use Rattle.sval_json_read.specs.Calls.{document_calls}
 use Rattle.sval_json_read.specs.Documents.{IsDocument, IsBadJson}
-use Rattle.sval_json_read.specs.Reader.{State, start, after}
+use Rattle.sval_json_read.specs.Reader.{ReaderState, reader_start, after_bytes}
 use Rattle.sval_json_read.specs.SeenReader.{HasToken}
 
 -- the bytes denote a value, these are the calls of its tokens, and they spell its tree
-pub record IsRead (bytes : List ℕ) (calls : List Call) : Type 0 where
+pub record IsReadText (bytes : List ℕ) (calls : List Call) : Type 0 where
   pub tokens : List Placed
   pub document : IsDocument bytes tokens
   pub same : calls ≡ document_calls tokens
@@ -22,12 +22,12 @@ pub record IsRead (bytes : List ℕ) (calls : List Call) : Type 0 where
 pub record KeepsSome (bytes : List ℕ) : Type 0 where
   pub count : ℕ
   pub within : count ≤ length bytes
-  pub state : State
-  pub reached : after start (take count bytes) ≡ Some state
+  pub state : ReaderState
+  pub reached : after_bytes reader_start (take count bytes) ≡ Some state
   pub keeps : HasToken state
 
 -- the cause of each error: the bytes are no UTF-8, they denote no value and fail there, or they are UTF-8 and some node is kept of them
-abbrev pub IsReadError : List ℕ → ReadError → Type 0
-IsReadError bytes NotUtf8 = IsUtf8 bytes → ⊥
-IsReadError bytes (BadJson at) = IsBadJson bytes at
-IsReadError bytes NoMemory = IsUtf8 bytes × KeepsSome bytes
+abbrev pub IsJsonReadError : List ℕ → ReadError → Type 0
+IsJsonReadError bytes NotUtf8 = IsUtf8 bytes → ⊥
+IsJsonReadError bytes (BadJson at) = IsBadJson bytes at
+IsJsonReadError bytes NoMemory = IsUtf8 bytes × KeepsSome bytes

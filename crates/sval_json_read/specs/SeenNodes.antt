@@ -10,26 +10,26 @@ use Rattle.sval_json_read.specs.Nodes as nodes
 use Rattle.sval_json_read.specs.RawStrings.{IsProperToken}
 
 -- a place of the code
-abbrev pub place_of : made_place.Place → tokens.Place
-place_of place.Alone = tokens.Alone
-place_of place.Item = tokens.Item
-place_of place.Key = tokens.Key
-place_of place.Value = tokens.Value
+abbrev pub node_place : made_place.Place → tokens.Place
+node_place place.Alone = tokens.Alone
+node_place place.Item = tokens.Item
+node_place place.Key = tokens.Key
+node_place place.Value = tokens.Value
 
 -- a node with this place
-abbrev pub node_at : made_place.Place → nodes.Kept → nodes.Node
-node_at place kept = record { place = place_of place; kept = kept }
+abbrev pub placed_node : made_place.Place → nodes.Kept → nodes.Node
+placed_node place kept = record { place = node_place place; kept = kept }
 
 -- a node of the code: what has a length ends so many bytes behind its begin
-abbrev pub node_of : made_node.Node → nodes.Node
-node_of (node.Null place) = node_at place nodes.Null
-node_of (node.Bool place value) = node_at place (nodes.Truth value)
-node_of (node.Number place length from) = node_at place (nodes.Number from (from + length))
-node_of (node.Text place length from) = node_at place (nodes.Text from (from + length))
-node_of (node.BeginArray place) = node_at place nodes.BeginArray
-node_of (node.EndArray place) = node_at place nodes.EndArray
-node_of (node.BeginObject place) = node_at place nodes.BeginObject
-node_of (node.EndObject place) = node_at place nodes.EndObject
+abbrev pub seen_node : made_node.Node → nodes.Node
+seen_node (node.Null place) = placed_node place nodes.Null
+seen_node (node.Bool place value) = placed_node place (nodes.Truth value)
+seen_node (node.Number place length from) = placed_node place (nodes.Number from (from + length))
+seen_node (node.Text place length from) = placed_node place (nodes.Text from (from + length))
+seen_node (node.BeginArray place) = placed_node place nodes.BeginArray
+seen_node (node.EndArray place) = placed_node place nodes.EndArray
+seen_node (node.BeginObject place) = placed_node place nodes.BeginObject
+seen_node (node.EndObject place) = placed_node place nodes.EndObject
 
 -- a number ends within the bytes, and a string begins and ends with whole characters
 abbrev pub StandsIn : List ℕ → made_node.Node → Type 0
@@ -46,7 +46,7 @@ IsCutFrom bytes _ = ⊤
 -- a node whose number or string can be cut from the bytes: a number of JSON, or unescaped bytes and whole escapes
 pub record IsKeptOf (bytes : List ℕ) (kept : made_node.Node) : Type 0 where
   pub cut : IsCutFrom bytes kept
-  pub proper : IsProperToken (nodes.token_in bytes (node_of kept).kept)
+  pub proper : IsProperToken (nodes.token_in bytes (seen_node kept).kept)
 
 -- all nodes are so
 abbrev pub AreKeptOf : List ℕ → List made_node.Node → Type 0

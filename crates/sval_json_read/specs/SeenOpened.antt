@@ -10,11 +10,11 @@ opened_of opened.Array = machine.Array
 opened_of opened.Object = machine.Object
 
 -- the innermost container, if something is open
-abbrev pub TopIs : Option Opened → List machine.Opened → Type 0
-TopIs None all = all ≡ []
-TopIs (Some top) all = (around : List machine.Opened) × (all ≡ opened_of top ∷ around)
+abbrev pub TopContainerIs : Option Opened → List machine.Opened → Type 0
+TopContainerIs None all = all ≡ []
+TopContainerIs (Some top) all = (outer : List machine.Opened) × (all ≡ opened_of top ∷ outer)
 
 -- what is open around the innermost container
-abbrev pub around : List machine.Opened → List machine.Opened
-around [] = []
-around (top ∷ rest) = rest
+abbrev pub around_container : List machine.Opened → List machine.Opened
+around_container [] = []
+around_container (top ∷ rest) = rest

@@ -5,9 +5,9 @@ use Rattle.sval_json_read.specs.Lookups.{Member}
 use Rattle.sval_json_read.specs.declared.json_parts.JsonMember as made
 
 -- the first, where there is one, and what is left
-abbrev pub TakesFirst : Option JsonValue → (old new : List JsonValue) → Type 0
-TakesFirst None old new = (old ≡ []) × (new ≡ [])
-TakesFirst (Some value) old new = old ≡ value ∷ new
+abbrev pub TakesFirstPart : Option JsonValue → (old new : List JsonValue) → Type 0
+TakesFirstPart None old new = (old ≡ []) × (new ≡ [])
+TakesFirstPart (Some value) old new = old ≡ value ∷ new
 
 -- the first pair, where there is one, and what is left
 abbrev pub TakesFirstPair : Option made.JsonMember → (old new : List Member) → Type 0

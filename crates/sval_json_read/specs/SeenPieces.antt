@@ -5,6 +5,6 @@ use Rattle.sval_json_read.specs.declared.piece.Piece.TheVariants as piece
 use Rattle.sval_json_read.specs.Calls.{Piece, run, escape}
 
 -- a piece of the code
-abbrev pub piece_of : made_piece.Piece → Piece
-piece_of (piece.Run text) = run text.now
-piece_of (piece.Escape character) = escape (encode_utf8 character)
+abbrev pub seen_piece : made_piece.Piece → Piece
+seen_piece (piece.Run text) = run text.now
+seen_piece (piece.Escape character) = escape (encode_utf8 character)

@@ -17,11 +17,11 @@ use Rattle.sval_json_read.specs.Numbers as numbers
 use Rattle.sval_json_read.specs.Strings as strings
 use Rattle.sval_json_read.specs.Reader as machine
 use Rattle.sval_json_read.specs.SeenOpened.{opened_of}
-use Rattle.sval_json_read.specs.SeenNodes.{place_of, node_of, StandsIn}
-use Rattle.sval_json_read.specs.Words.{word_of}
+use Rattle.sval_json_read.specs.SeenNodes.{node_place, seen_node, StandsIn}
+use Rattle.sval_json_read.specs.Words.{expected_word}
 
 -- a phase of the code
-abbrev pub phase_of : made_phase.Phase → numbers.Phase
+abbrev pub phase_of : made_phase.Phase → numbers.NumberPhase
 phase_of phase.Minus = numbers.Minus
 phase_of phase.Zero = numbers.Zero
 phase_of phase.Whole = numbers.Whole
@@ -57,27 +57,27 @@ expected_of bytes from upto expected.FirstKey = machine.FirstKey
 expected_of bytes from upto expected.NextKey = machine.NextKey
 expected_of bytes from upto expected.Colon = machine.Colon
 expected_of bytes from upto expected.Next = machine.Next
-expected_of bytes from upto (expected.Letter word) = word_of word
+expected_of bytes from upto (expected.Letter word) = expected_word word
 expected_of bytes from upto (expected.InNumber phase) = machine.InNumber (phase_of phase) (between from upto bytes)
 expected_of bytes from upto (expected.InString is_key within) = machine.InString is_key (within_of within) (between from upto bytes)
 
 -- the machine's state, where the reader has read the bytes up to this place
-abbrev pub state_of : List ℕ → ℕ → Reader → machine.State
-state_of bytes upto reader = record {
+abbrev pub seen_state : List ℕ → ℕ → Reader → machine.ReaderState
+seen_state bytes upto reader = record {
   expected = expected_of bytes reader.from upto reader.expected;
   opened = reader.opened;
-  tokens = tokens_in bytes (map node_of reader.nodes.items);
+  tokens = tokens_in bytes (map seen_node reader.nodes.items);
 }
 
 -- what the machine gives for a byte is what the answer says: the byte was taken and the state is this, or it wasn't
-abbrev pub Gives : Option machine.State → machine.State → Bool → Type 0
-Gives given new true = given ≡ Some new
-Gives given new false = given ≡ None
+abbrev pub GivesState : Option machine.ReaderState → machine.ReaderState → Bool → Type 0
+GivesState given new true = given ≡ Some new
+GivesState given new false = given ≡ None
 
 -- what the machine gives at the end is what the answer says: a text was whole and has these tokens, or it wasn't
-abbrev pub Ends : Option (List Placed) → List Placed → Bool → Type 0
-Ends given tokens true = given ≡ Some tokens
-Ends given tokens false = given ≡ None
+abbrev pub EndsText : Option (List Placed) → List Placed → Bool → Type 0
+EndsText given tokens true = given ≡ Some tokens
+EndsText given tokens false = given ≡ None
 
 -- bytes that are UTF-8 were read up to this place, and a number or string that is being read begins there; the nodes stand in them
 pub record ReadsIn (bytes : List ℕ) (upto from : ℕ) (nodes : List Node) : Type 0 where
@@ -88,34 +88,34 @@ pub record ReadsIn (bytes : List ℕ) (upto from : ℕ) (nodes : List Node) : Ty
 
 -- a number that may end with the last byte
 abbrev pub ends_number : machine.Expected → Bool
-ends_number (machine.InNumber phase _) = numbers.may_end phase
+ends_number (machine.InNumber phase _) = numbers.number_may_end phase
 ends_number _ = false
 
 -- one node more
-pub record Adds (old : Reader) (node : Node) (expected : made_expected.Expected) (new : Reader) : Type 0 where
+pub record AddsNode (old : Reader) (node : Node) (expected : made_expected.Expected) (new : Reader) : Type 0 where
   pub expected_is : new.expected ≡ expected
   pub from_is : new.from ≡ old.from
   pub opened_is : new.opened ≡ old.opened
   pub nodes_are : new.nodes.items ≡ old.nodes.items ++ (node ∷ [])
 
 -- a container begins, with this node in its place
-pub record Opens (old : Reader) (container : Opened) (node : Place → Node) (expected : made_expected.Expected) (new : Reader) : Type 0 where
+pub record OpensContainer (old : Reader) (container : Opened) (node : Place → Node) (expected : made_expected.Expected) (new : Reader) : Type 0 where
   pub place : Place
-  pub place_is : place_of place ≡ machine.place_in old.opened
+  pub place_is : node_place place ≡ machine.place_in old.opened
   pub expected_is : new.expected ≡ expected
   pub from_is : new.from ≡ old.from
   pub opened_is : new.opened ≡ opened_of container ∷ old.opened
   pub nodes_are : new.nodes.items ≡ old.nodes.items ++ (node place ∷ [])
 
 -- a token was kept, or a number is being read that may end
-abbrev pub HasToken : machine.State → Type 0
+abbrev pub HasToken : machine.ReaderState → Type 0
 HasToken state = (0 < length state.tokens) ⊎ (ends_number state.expected ≡ true)
 
 -- the machine goes on, and a token was kept by then
-abbrev pub KeepsToken : Option machine.State → Type 0
+abbrev pub KeepsToken : Option machine.ReaderState → Type 0
 KeepsToken None = ⊥
 KeepsToken (Some state) = 0 < length state.tokens
 
 -- a token is kept before a byte or behind it
-abbrev pub KeepsAt : machine.State → Option machine.State → Type 0
+abbrev pub KeepsAt : machine.ReaderState → Option machine.ReaderState → Type 0
 KeepsAt state next = HasToken state ⊎ KeepsToken next

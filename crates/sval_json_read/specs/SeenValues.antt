@@ -16,13 +16,13 @@ pub record Level : Type 0 where
   pub members : Members
 
 -- nothing stands there
-abbrev pub nothing : Level
-nothing = record { values = no_values; members = no_members }
+abbrev pub empty_level : Level
+empty_level = record { values = no_values; members = no_members }
 
 -- the innermost level
-abbrev pub top : List Level → Level
-top [] = nothing
-top (level ∷ around) = level
+abbrev pub innermost_level : List Level → Level
+innermost_level [] = empty_level
+innermost_level (level ∷ around) = level
 
 -- the levels around the innermost
 abbrev pub under : List Level → List Level
@@ -31,7 +31,7 @@ under (level ∷ around) = around
 
 -- a value before what stands in the innermost level
 abbrev pub puts : JsonValue → List Level → List Level
-puts value levels = record { values = a_value value (top levels).values; members = (top levels).members } ∷ under levels
+puts value levels = record { values = a_value value (innermost_level levels).values; members = (innermost_level levels).members } ∷ under levels
 
 -- a key before its value makes a pair
 abbrev pub pairs_up : List ℕ → Values → Members → Level
@@ -40,7 +40,7 @@ pairs_up text (a_value value values) members = record { values = values; members
 
 -- a key before its value in the innermost level
 abbrev pub names : List ℕ → List Level → List Level
-names text levels = pairs_up text (top levels).values (top levels).members ∷ under levels
+names text levels = pairs_up text (innermost_level levels).values (innermost_level levels).members ∷ under levels
 
 -- a string in this place: a key, or a value
 abbrev pub puts_text : Place → List ℕ → List Level → List Level
@@ -55,10 +55,10 @@ puts_token place Null levels = puts json.Null levels
 puts_token place (Truth b) levels = puts (json.Truth b) levels
 puts_token place (Number text) levels = puts (json.Number text) levels
 puts_token place (Text raw) levels = puts_text place (text_in raw) levels
-puts_token place EndArray levels = nothing ∷ levels
-puts_token place BeginArray levels = puts (json.Array (top levels).values) (under levels)
-puts_token place EndObject levels = nothing ∷ levels
-puts_token place BeginObject levels = puts (json.Object (top levels).members) (under levels)
+puts_token place EndArray levels = empty_level ∷ levels
+puts_token place BeginArray levels = puts (json.Array (innermost_level levels).values) (under levels)
+puts_token place EndObject levels = empty_level ∷ levels
+puts_token place BeginObject levels = puts (json.Object (innermost_level levels).members) (under levels)
 
 -- what stands in the levels that the tokens leave
 abbrev pub levels_of : List Placed → List Level
@@ -72,11 +72,11 @@ first_value (a_value value _) = value
 
 -- the values that tokens are of, as the items of an array
 abbrev pub values_in : List Placed → Values
-values_in tokens = (top (levels_of tokens)).values
+values_in tokens = (innermost_level (levels_of tokens)).values
 
 -- the pairs that tokens are of, as those of an object
 abbrev pub members_in : List Placed → Members
-members_in tokens = (top (levels_of tokens)).members
+members_in tokens = (innermost_level (levels_of tokens)).members
 
 -- the value that tokens are of
 abbrev pub value_in : List Placed → JsonValue

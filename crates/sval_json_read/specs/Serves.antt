@@ -27,30 +27,30 @@ use Rattle.sval_json_read.specs.Trees.{tree_of, settled}
 -- ---- what is due of a value
 
 -- the text of the JSON of its tree, which denotes the settled value, and no other
-pub record IsJsonOf (value : JsonValue) (text : List ℕ) : Type 0 where
+pub record IsJsonOfValue (value : JsonValue) (text : List ℕ) : Type 0 where
   pub json : Json
   pub shape : json_of (tree_of value) ≡ Ok json
   pub is_text : text ≡ compact json
   pub means : IsTheValueOf json (settled value)
 
 -- the canonical script of its tree, which spells the tree's canonical calls
-pub record IsScriptOf (value : JsonValue) (text : List ℕ) : Type 0 where
+pub record IsScriptOfValue (value : JsonValue) (text : List ℕ) : Type 0 where
   pub is_text : text ≡ canon (tree_of value)
   pub reads_back : lines text ≡ Good (calls_of (tree_of value))
 
-abbrev pub IsTextOf : Form → JsonValue → List ℕ → Type 0
-IsTextOf form.Json = IsJsonOf
-IsTextOf form.Calls = IsScriptOf
+abbrev pub IsTextOfValue : Form → JsonValue → List ℕ → Type 0
+IsTextOfValue form.Json = IsJsonOfValue
+IsTextOfValue form.Calls = IsScriptOfValue
 
 -- the input denotes a value, and this is the text that is due of it
-pub record IsDue (text input : List ℕ) (asked : Form) : Type 0 where
+pub record IsJsonTextDue (text input : List ℕ) (asked : Form) : Type 0 where
   pub value : JsonValue
   pub denotes : Denotes input value
-  pub is : IsTextOf asked value text
+  pub is : IsTextOfValue asked value text
 
 -- what is due of an input: the text of its value, or the fault that it has, before which nothing is written
 pub data Due : Form → List ℕ → Option Fault → List ℕ → Type 0 where
-  a_text : {asked : Form} {input text : List ℕ} → IsDue text input asked → Due asked input None text
+  a_text : {asked : Form} {input text : List ℕ} → IsJsonTextDue text input asked → Due asked input None text
   no_utf8 : {asked : Form} {input : List ℕ} → (IsUtf8 input → ⊥) → Due asked input (Some fault.NotUtf8) []
   no_json : {asked : Form} {input : List ℕ} {at : ℕ} → IsBadJson input at → Due asked input (Some (fault.BadJson at)) []
 
@@ -69,20 +69,20 @@ read_terms = record { form_named = form_named; Due = Due; faults = NOT_UTF8 ∷ 
 -- the text that is due was written, or a first part of it
 pub record WritesDueText {K : Type 0} (told : K → Told) (input : List ℕ) (asked : Form) (result : Result (Unit {0}) SinkError) (old new : K) : Type 0 where
   pub text : List ℕ
-  pub due : IsDue text input asked
+  pub due : IsJsonTextDue text input asked
   pub writes : WritesText result told text old new
 
 -- ---- what is left of a sink
 
 -- exactly the text that is due was taken
-pub record WritesDue (old new : Told) (input : List ℕ) (asked : Form) : Type 0 where
+pub record WritesJsonText (old new : Told) (input : List ℕ) (asked : Form) : Type 0 where
   pub text : List ℕ
-  pub due : IsDue text input asked
+  pub due : IsJsonTextDue text input asked
   pub appends : Appends old text new
 
 -- what may be left: a first part of the text that is due, and nothing where the input denotes no value
 pub record MayLeave (old new : Told) (input : List ℕ) (asked : Form) : Type 0 where
-  pub begins : (text : List ℕ) → IsDue text input asked → AppendsFront old text new
+  pub begins : (text : List ℕ) → IsJsonTextDue text input asked → AppendsFront old text new
   pub nothing : ((value : JsonValue) → Denotes input value → ⊥) → new ≡ old
 
 -- ---- what a status says of the input

@@ -28,8 +28,8 @@ pub data Within : Type 0 where
   LowOneLeft : Within
 
 -- this state, where the test holds
-abbrev pub when : Bool → Within → Option Within
-when test within = if test then Some within else None
+abbrev pub within_when : Bool → Within → Option Within
+within_when test within = if test then Some within else None
 
 -- a hex digit, in either case
 abbrev pub is_hex : ℕ → Bool
@@ -41,23 +41,23 @@ is_d byte = digit_value byte == 13
 
 -- one more byte, other than the closing quote. After D a digit up to 7 makes no surrogate, 8 to B a high one, C to F a low one
 abbrev pub next_within : Within → ℕ → Option Within
-next_within Plain byte = if is_unescaped byte then Some Plain else when (byte == 92) Backslash
-next_within Backslash byte = if byte == 117 then Some Unit else when (is_some (escaped_byte byte)) Plain
-next_within Unit byte = if is_d byte then Some UnitD else when (is_hex byte) ThreeLeft
-next_within UnitD byte = if nat_lt (digit_value byte) 8 then Some TwoLeft else when (nat_lt (digit_value byte) 12) HighTwoLeft
-next_within ThreeLeft byte = when (is_hex byte) TwoLeft
-next_within TwoLeft byte = when (is_hex byte) OneLeft
-next_within OneLeft byte = when (is_hex byte) Plain
-next_within HighTwoLeft byte = when (is_hex byte) HighOneLeft
-next_within HighOneLeft byte = when (is_hex byte) High
-next_within High byte = when (byte == 92) LowBackslash
-next_within LowBackslash byte = when (byte == 117) LowUnit
-next_within LowUnit byte = when (is_d byte) LowD
-next_within LowD byte = when (nat_le 12 (digit_value byte) && is_hex byte) LowTwoLeft
-next_within LowTwoLeft byte = when (is_hex byte) LowOneLeft
-next_within LowOneLeft byte = when (is_hex byte) Plain
+next_within Plain byte = if is_unescaped byte then Some Plain else within_when (byte == 92) Backslash
+next_within Backslash byte = if byte == 117 then Some Unit else within_when (is_some (escaped_byte byte)) Plain
+next_within Unit byte = if is_d byte then Some UnitD else within_when (is_hex byte) ThreeLeft
+next_within UnitD byte = if nat_lt (digit_value byte) 8 then Some TwoLeft else within_when (nat_lt (digit_value byte) 12) HighTwoLeft
+next_within ThreeLeft byte = within_when (is_hex byte) TwoLeft
+next_within TwoLeft byte = within_when (is_hex byte) OneLeft
+next_within OneLeft byte = within_when (is_hex byte) Plain
+next_within HighTwoLeft byte = within_when (is_hex byte) HighOneLeft
+next_within HighOneLeft byte = within_when (is_hex byte) High
+next_within High byte = within_when (byte == 92) LowBackslash
+next_within LowBackslash byte = within_when (byte == 117) LowUnit
+next_within LowUnit byte = within_when (is_d byte) LowD
+next_within LowD byte = within_when (nat_le 12 (digit_value byte) && is_hex byte) LowTwoLeft
+next_within LowTwoLeft byte = within_when (is_hex byte) LowOneLeft
+next_within LowOneLeft byte = within_when (is_hex byte) Plain
 
 -- the quote that ends the string
-abbrev pub closes : Within → ℕ → Bool
-closes Plain byte = byte == 34
-closes _ byte = false
+abbrev pub closes_string : Within → ℕ → Bool
+closes_string Plain byte = byte == 34
+closes_string _ byte = false

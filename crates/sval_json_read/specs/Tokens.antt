@@ -27,8 +27,8 @@ pub record Placed : Type 0 where
   pub token : Token
 
 -- the token in this place
-abbrev pub at : Place → Token → Placed
-at place token = record { place = place; token = token }
+abbrev pub placed_at : Place → Token → Placed
+placed_at place token = record { place = place; token = token }
 
 -- the bytes of a string before its closing quote
 abbrev pub between_quotes : {bytes text rest : List ℕ} → IsString bytes text rest → List ℕ
@@ -42,15 +42,15 @@ between_quotes (pair {a = a} {b = b} {c = c} {d = d} {e = e} {f = f} {g = g} {h 
 abbrev mutual
   -- the tokens of a value that stands in this place
   pub tokens_of : {bytes rest : List ℕ} {value : JsonValue} → Place → IsValue bytes value rest → List Placed
-  tokens_of place json.null = at place Null ∷ []
-  tokens_of place json.truth = at place (Truth true) ∷ []
-  tokens_of place json.falsehood = at place (Truth false) ∷ []
-  tokens_of place (json.number {text = text} _ _) = at place (Number text) ∷ []
-  tokens_of place (json.string string) = at place (Text (between_quotes string)) ∷ []
-  tokens_of place (json.empty_array _) = at place BeginArray ∷ at place EndArray ∷ []
-  tokens_of place (json.array values) = at place BeginArray ∷ (item_tokens values ++ (at place EndArray ∷ []))
-  tokens_of place (json.empty_object _) = at place BeginObject ∷ at place EndObject ∷ []
-  tokens_of place (json.object members) = at place BeginObject ∷ (pair_tokens members ++ (at place EndObject ∷ []))
+  tokens_of place json.null = placed_at place Null ∷ []
+  tokens_of place json.truth = placed_at place (Truth true) ∷ []
+  tokens_of place json.falsehood = placed_at place (Truth false) ∷ []
+  tokens_of place (json.number {text = text} _ _) = placed_at place (Number text) ∷ []
+  tokens_of place (json.string string) = placed_at place (Text (between_quotes string)) ∷ []
+  tokens_of place (json.empty_array _) = placed_at place BeginArray ∷ placed_at place EndArray ∷ []
+  tokens_of place (json.array values) = placed_at place BeginArray ∷ (item_tokens values ++ (placed_at place EndArray ∷ []))
+  tokens_of place (json.empty_object _) = placed_at place BeginObject ∷ placed_at place EndObject ∷ []
+  tokens_of place (json.object members) = placed_at place BeginObject ∷ (pair_tokens members ++ (placed_at place EndObject ∷ []))
 
   -- the tokens of an array's items, in order
   pub item_tokens : {bytes rest : List ℕ} {values : Values} → AreValues bytes values rest → List Placed
@@ -59,5 +59,5 @@ abbrev mutual
 
   -- the tokens of an object's pairs, in order, each its key and then its value
   pub pair_tokens : {bytes rest : List ℕ} {members : Members} → AreMembers bytes members rest → List Placed
-  pair_tokens (last_member key _ value _) = at Key (Text (between_quotes key)) ∷ tokens_of Value value
-  pair_tokens (more_members key _ value _ members) = at Key (Text (between_quotes key)) ∷ (tokens_of Value value ++ pair_tokens members)
+  pair_tokens (last_member key _ value _) = placed_at Key (Text (between_quotes key)) ∷ tokens_of Value value
+  pair_tokens (more_members key _ value _ members) = placed_at Key (Text (between_quotes key)) ∷ (tokens_of Value value ++ pair_tokens members)

@@ -13,8 +13,8 @@ use Rattle.sval_json.specs.Grammar as json
 use Rattle.sval_json.specs.Grammar.{JsonValue, Values, no_values, a_value, Members, no_members, a_member}
 
 -- a number without fraction and exponent
-abbrev pub is_whole : List ℕ → Bool
-is_whole text = is_empty (after_digits (without_minus text))
+abbrev pub has_no_fraction : List ℕ → Bool
+has_no_fraction text = is_empty (after_digits (without_minus text))
 
 -- the value of a number without fraction and exponent
 abbrev pub whole_value : List ℕ → ℤ
@@ -22,7 +22,7 @@ whole_value text = let n = digits_value 10 (digits_of (without_minus text)) in i
 
 -- a number without fraction and exponent, in the range of `i64`
 abbrev pub fits_i64 : List ℕ → Bool
-fits_i64 text = is_whole text && is_of_type I64 (whole_value text)
+fits_i64 text = has_no_fraction text && is_of_type I64 (whole_value text)
 
 -- what a number's text stands under where it is no `i64`
 abbrev pub number_name : Name

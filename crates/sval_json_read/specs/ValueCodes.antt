@@ -3,7 +3,7 @@ use Rattle.std.specs.Prelude.{◌≡◌, ℕ, true, false, ◌==◌, if◌then�
 use Rattle.std.specs.Coded.{Coded, code_by, coded×, coded_ℕ, coded_list}
 use Rattle.std.proofs.Common.{ap, ◌∙◌}
 use Rattle.sval_json.specs.Grammar.{JsonValue, Null, Truth, Number, Text, Array, Object, Values, no_values, a_value, Members, no_members, a_member}
-use Rattle.sval_json_read.specs.SeenValues.{Level, nothing, top, under, puts, names, first_value}
+use Rattle.sval_json_read.specs.SeenValues.{Level, empty_level, innermost_level, under, puts, names, first_value}
 use Rattle.sval_json_read.specs.Lookups.{Member}
 
 -- a number and a text
@@ -40,9 +40,9 @@ puts_symbol kind text levels =
     else if kind == 3 then puts (Number text) levels
     else if kind == 4 then puts (Text text) levels
     else if kind == 5 then names text levels
-    else if kind == 6 then nothing ∷ levels
-    else if kind == 7 then puts (Array (top levels).values) (under levels)
-    else puts (Object (top levels).members) (under levels)
+    else if kind == 6 then empty_level ∷ levels
+    else if kind == 7 then puts (Array (innermost_level levels).values) (under levels)
+    else puts (Object (innermost_level levels).members) (under levels)
 
 -- what symbols stand for, from the last to the first
 abbrev pub levels_by : List Symbol → List Level
@@ -51,7 +51,7 @@ levels_by (symbol ∷ symbols) = puts_symbol symbol.0 symbol.1 (levels_by symbol
 
 -- the value that symbols give back
 abbrev pub value_by : List Symbol → JsonValue
-value_by symbols = first_value (top (levels_by symbols)).values
+value_by symbols = first_value (innermost_level (levels_by symbols)).values
 
 -- values before what stands in the innermost level
 abbrev pub puts_all : Values → List Level → List Level
@@ -63,31 +63,31 @@ abbrev pub pairs_all : Members → List Level → List Level
 pairs_all no_members levels = levels
 pairs_all (a_member text value members) levels = names text (puts value (pairs_all members levels))
 
-pub all_values : (values : Values) (around : List Level) → (top (puts_all values (nothing ∷ around))).values ≡ values
+pub all_values : (values : Values) (around : List Level) → (innermost_level (puts_all values (empty_level ∷ around))).values ≡ values
 all_values no_values around = refl
 all_values (a_value value values) around = ap (a_value value) (all_values values around)
 
-pub under_values : (values : Values) (around : List Level) → under (puts_all values (nothing ∷ around)) ≡ around
+pub under_values : (values : Values) (around : List Level) → under (puts_all values (empty_level ∷ around)) ≡ around
 under_values no_values around = refl
 under_values (a_value value values) around = under_values values around
 
-pub all_members : (members : Members) (around : List Level) → (top (pairs_all members (nothing ∷ around))).members ≡ members
+pub all_members : (members : Members) (around : List Level) → (innermost_level (pairs_all members (empty_level ∷ around))).members ≡ members
 all_members no_members around = refl
 all_members (a_member text value members) around = ap (a_member text value) (all_members members around)
 
-pub under_members : (members : Members) (around : List Level) → under (pairs_all members (nothing ∷ around)) ≡ around
+pub under_members : (members : Members) (around : List Level) → under (pairs_all members (empty_level ∷ around)) ≡ around
 under_members no_members around = refl
 under_members (a_member text value members) around = under_members members around
 
-pub array_puts : (values : Values) (levels inner : List Level) → inner ≡ puts_all values (nothing ∷ levels) → puts (Array (top inner).values) (under inner) ≡ puts (Array values) levels
+pub array_puts : (values : Values) (levels inner : List Level) → inner ≡ puts_all values (empty_level ∷ levels) → puts (Array (innermost_level inner).values) (under inner) ≡ puts (Array values) levels
 array_puts values levels inner e =
-    ap (λ x. puts (Array (top x).values) (under x)) e ∙ ap (λ x. puts (Array x) (under (puts_all values (nothing ∷ levels)))) (all_values values levels)
+    ap (λ x. puts (Array (innermost_level x).values) (under x)) e ∙ ap (λ x. puts (Array x) (under (puts_all values (empty_level ∷ levels)))) (all_values values levels)
     ∙ ap (puts (Array values)) (under_values values levels)
 
-pub object_puts : (members : Members) (levels inner : List Level) → inner ≡ pairs_all members (nothing ∷ levels)
-    → puts (Object (top inner).members) (under inner) ≡ puts (Object members) levels
+pub object_puts : (members : Members) (levels inner : List Level) → inner ≡ pairs_all members (empty_level ∷ levels)
+    → puts (Object (innermost_level inner).members) (under inner) ≡ puts (Object members) levels
 object_puts members levels inner e =
-    ap (λ x. puts (Object (top x).members) (under x)) e ∙ ap (λ x. puts (Object x) (under (pairs_all members (nothing ∷ levels)))) (all_members members levels)
+    ap (λ x. puts (Object (innermost_level x).members) (under x)) e ∙ ap (λ x. puts (Object x) (under (pairs_all members (empty_level ∷ levels)))) (all_members members levels)
     ∙ ap (puts (Object members)) (under_members members levels)
 
 mutual
@@ -113,7 +113,7 @@ mutual
 abbrev pub value_code : Coded JsonValue
 value_code =
     code_by (List Symbol) (coded_list (coded× coded_ℕ (coded_list coded_ℕ))) (λ value. symbols_before value []) value_by
-    (λ value. ap (λ (levels : List Level). first_value (top levels).values) (given_back value []))
+    (λ value. ap (λ (levels : List Level). first_value (innermost_level levels).values) (given_back value []))
 
 -- the code of a pair of an object
 abbrev pub member_code : Coded Member

@@ -2,9 +2,9 @@
 use Rattle.std.specs.Prelude.{ℕ, List, [], ◌∷◌, ◌++◌, map}
 use Rattle.sval_json.specs.Grammar.{JsonValue, Values, no_values, a_value, Members, no_members, a_member, IsString, IsValue}
 use Rattle.sval_json_read.specs.declared.node.Node as made_node
-use Rattle.sval_json_read.specs.Tokens.{Alone, Item, Key, Value, Text, Placed, at, between_quotes, tokens_of}
+use Rattle.sval_json_read.specs.Tokens.{Alone, Item, Key, Value, Text, Placed, placed_at, between_quotes, tokens_of}
 use Rattle.sval_json_read.specs.Nodes.{tokens_in}
-use Rattle.sval_json_read.specs.SeenNodes.{node_of, AreKeptOf}
+use Rattle.sval_json_read.specs.SeenNodes.{seen_node, AreKeptOf}
 
 -- tokens of a value
 pub data IsOfValue : List Placed → JsonValue → Type 0 where
@@ -23,22 +23,22 @@ pub data IsOfMembers : List Placed → Members → Type 0 where
   no_pairs : IsOfMembers [] no_members
   a_pair : {key text colon bytes rest : List ℕ} {value : JsonValue} {tokens : List Placed} {members : Members} (string : IsString key text colon) (is_value : IsValue bytes value rest)
       → IsOfMembers tokens members
-      → IsOfMembers (at Key (Text (between_quotes string)) ∷ (tokens_of Value is_value ++ tokens)) (a_member text value members)
+      → IsOfMembers (placed_at Key (Text (between_quotes string)) ∷ (tokens_of Value is_value ++ tokens)) (a_member text value members)
 
 -- nodes of a value
 pub record AreOfValue (bytes : List ℕ) (nodes : List made_node.Node) : Type 0 where
   pub kept : AreKeptOf bytes nodes
   pub value : JsonValue
-  pub is_of : IsOfValue (tokens_in bytes (map node_of nodes)) value
+  pub is_of : IsOfValue (tokens_in bytes (map seen_node nodes)) value
 
 -- nodes of values, as items of an array
 pub record AreOfValues (bytes : List ℕ) (nodes : List made_node.Node) : Type 0 where
   pub kept : AreKeptOf bytes nodes
   pub values : Values
-  pub are_of : IsOfValues (tokens_in bytes (map node_of nodes)) values
+  pub are_of : IsOfValues (tokens_in bytes (map seen_node nodes)) values
 
 -- nodes of the pairs of an object
 pub record AreOfMembers (bytes : List ℕ) (nodes : List made_node.Node) : Type 0 where
   pub kept : AreKeptOf bytes nodes
   pub members : Members
-  pub are_of : IsOfMembers (tokens_in bytes (map node_of nodes)) members
+  pub are_of : IsOfMembers (tokens_in bytes (map seen_node nodes)) members

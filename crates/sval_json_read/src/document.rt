@@ -8,8 +8,8 @@ ghost use Rattle.sval_json_read.specs.Calls.{document_calls};
 ghost use Rattle.sval_json_read.specs.SeenValues.{value_in};
 ghost use Rattle.sval_json_read.specs.Documents.{IsDocument};
 ghost use Rattle.sval_json_read.specs.Nodes.{tokens_in};
-ghost use Rattle.sval_json_read.specs.SeenNodes.{node_of, StandsIn};
-ghost use Rattle.sval_json_read.specs.ReadErrors.{IsReadError, IsRead};
+ghost use Rattle.sval_json_read.specs.SeenNodes.{seen_node, StandsIn};
+ghost use Rattle.sval_json_read.specs.ReadErrors.{IsJsonReadError, IsReadText};
 
 use crate::json_ref::JsonRef;
 use crate::node::Node;
@@ -36,9 +36,9 @@ pub enum ReadError {
 
 impl fmt::Display for ReadError {
     ghost use Rattle.std.specs.Prelude.{Some};
-    ghost use Rattle.sval_json_read.specs.ErrorTexts.{error_text};
+    ghost use Rattle.sval_json_read.specs.ErrorTexts.{read_error_text};
 
-    ghost output = { λ error. Some (error_text error) };
+    ghost output = { λ error. Some (read_error_text error) };
 
     fn fmt<W: fmt::Write>(&self, f: &mut fmt::Formatter<W>) -> fmt::Result {
         match *self {
@@ -81,12 +81,12 @@ impl<'a> Model for JsonDoc<'a> {
     ghost use Rattle.std.specs.Prelude.{List, map};
     ghost use Rattle.sval_json_read.specs.KeptDocuments.{IsKeptDocument};
     ghost use Rattle.sval_json_read.specs.Nodes.{tokens_in};
-    ghost use Rattle.sval_json_read.specs.SeenNodes.{node_of};
+    ghost use Rattle.sval_json_read.specs.SeenNodes.{seen_node};
     ghost use Rattle.sval_json_read.specs.Tokens.{Placed};
 
     ghost Value = { List Placed };
 
-    ghost view = { λ doc. tokens_in doc.text.now (map node_of doc.nodes.items) };
+    ghost view = { λ doc. tokens_in doc.text.now (map seen_node doc.nodes.items) };
 
     ghost invariant = { λ doc. IsKeptDocument doc.text.now doc.nodes.items };
 }
@@ -106,9 +106,9 @@ impl<'a> JsonDoc<'a> {
     /// denote no value. [`ReadError::NoMemory`] may come in its place and in that of a document, but only where some
     /// first bytes hold a whole number or string, a bracket or brace, or the first letter of a word.
     pub fn read(alloc: Global, bytes: &'a [u8]) -> Result<Self, ReadError>
-        ensures ok { IfOk result (λ doc. IsRead bytes.now (document_calls doc)) }
+        ensures ok { IfOk result (λ doc. IsReadText bytes.now (document_calls doc)) }
         ensures value { IfOk result (λ doc. Denotes bytes.now (value_in doc)) }
-        ensures err { IfErr result (IsReadError bytes.now) }
+        ensures err { IfErr result (IsJsonReadError bytes.now) }
     {
         match from_utf8(bytes) {
             Ok(text) => read_text(alloc, text),
@@ -131,9 +131,9 @@ impl<'a> JsonDoc<'a> {
 
 /// Reads a text whole, where nothing but its UTF-8 is known.
 fn read_text(alloc: Global, text: &str) -> Result<JsonDoc<'_>, ReadError>
-    ensures ok { IfOk result (λ doc. IsRead text.now (document_calls doc)) }
+    ensures ok { IfOk result (λ doc. IsReadText text.now (document_calls doc)) }
     ensures value { IfOk result (λ doc. Denotes text.now (value_in doc)) }
-    ensures err { IfErr result (IsReadError text.now) }
+    ensures err { IfErr result (IsJsonReadError text.now) }
 {
     match read_nodes(alloc, text.as_bytes()) {
         Ok(nodes) => Ok(JsonDoc { text, nodes }),
@@ -144,9 +144,9 @@ fn read_text(alloc: Global, text: &str) -> Result<JsonDoc<'_>, ReadError>
 /// Reads the nodes of a text, byte by byte, but that what no escape cuts of a string is passed over at once.
 fn read_nodes(alloc: Global, bytes: &[u8]) -> Result<Vec<Node>, ReadError>
     requires { IsUtf8 bytes.now }
-    ensures ok { IfOk result (λ nodes. IsDocument bytes.now (tokens_in bytes.now (map node_of nodes.items))) }
+    ensures ok { IfOk result (λ nodes. IsDocument bytes.now (tokens_in bytes.now (map seen_node nodes.items))) }
     ensures stand { IfOk result (λ nodes. AllByRecursion (StandsIn bytes.now) nodes.items) }
-    ensures err { IfErr result (IsReadError bytes.now) }
+    ensures err { IfErr result (IsJsonReadError bytes.now) }
 {
     let mut reader = Reader::new(alloc);
     let mut at: usize = 0;

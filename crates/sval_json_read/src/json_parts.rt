@@ -1,12 +1,12 @@
 //! The items of arrays, and the pairs of objects.
 
 ghost use Rattle.std.specs.Prelude.{◌≡◌, ◌<◌, map, length, drop};
-ghost use Rattle.sval_json_read.specs.Lookups.{last_named, listed, paired};
+ghost use Rattle.sval_json_read.specs.Lookups.{last_named, values_listed, paired};
 ghost use Rattle.sval_json_read.specs.Nodes.{tokens_in};
-ghost use Rattle.sval_json_read.specs.SeenNodes.{node_of};
+ghost use Rattle.sval_json_read.specs.SeenNodes.{seen_node};
 ghost use Rattle.sval_json_read.specs.SeenValues.{values_in, members_in};
 ghost use Rattle.sval_json_read.specs.ValueNodes.{AreOfValues, AreOfMembers};
-ghost use Rattle.sval_json_read.specs.SeenParts.{TakesFirst, TakesFirstPair};
+ghost use Rattle.sval_json_read.specs.SeenParts.{TakesFirstPart, TakesFirstPair};
 
 use crate::json_ref::JsonRef;
 use crate::json_text::JsonText;
@@ -25,9 +25,9 @@ impl<'d> Model for JsonItems<'d> {
     ghost use Rattle.std.specs.Prelude.{List, map};
     ghost use Rattle.sval_json.specs.Grammar.{JsonValue};
     ghost use Rattle.sval_json_read.specs.Nodes.{tokens_in};
-    ghost use Rattle.sval_json_read.specs.SeenNodes.{node_of};
+    ghost use Rattle.sval_json_read.specs.SeenNodes.{seen_node};
     ghost use Rattle.sval_json_read.specs.SeenValues.{values_in};
-    ghost use Rattle.sval_json_read.specs.Lookups.{listed};
+    ghost use Rattle.sval_json_read.specs.Lookups.{values_listed};
     ghost use Rattle.std.specs.Coded.{coded_list};
     ghost use Rattle.sval_json_read.specs.ValueCodes.{value_code};
     ghost use Rattle.sval_json_read.specs.ValueNodes.{AreOfValues};
@@ -36,7 +36,7 @@ impl<'d> Model for JsonItems<'d> {
 
     ghost coded = { coded_list value_code };
 
-    ghost view = { λ items. listed (values_in (tokens_in items.text.now (map node_of items.nodes.now))) };
+    ghost view = { λ items. values_listed (values_in (tokens_in items.text.now (map seen_node items.nodes.now))) };
 
     ghost invariant = { λ items. AreOfValues items.text.now items.nodes.now };
 }
@@ -45,14 +45,14 @@ impl<'d> JsonItems<'d> {
     /// The items that these nodes are of.
     pub(crate) fn new(text: &'d str, nodes: &'d [Node]) -> Self
         requires { AreOfValues text.now nodes.now }
-        ensures { result ≡ listed (values_in (tokens_in text.now (map node_of nodes.now))) }
+        ensures { result ≡ values_listed (values_in (tokens_in text.now (map seen_node nodes.now))) }
     {
         JsonItems { text, nodes }
     }
 
     /// Takes the first item that is left.
     pub fn next(&mut self) -> Option<JsonRef<'d>>
-        ensures { TakesFirst result self.old self.new }
+        ensures { TakesFirstPart result self.old self.new }
     {
         if self.nodes.is_empty() {
             return None;
@@ -81,7 +81,7 @@ pub struct JsonMembers<'d> {
 impl<'d> Model for JsonMembers<'d> {
     ghost use Rattle.std.specs.Prelude.{List, map};
     ghost use Rattle.sval_json_read.specs.Nodes.{tokens_in};
-    ghost use Rattle.sval_json_read.specs.SeenNodes.{node_of};
+    ghost use Rattle.sval_json_read.specs.SeenNodes.{seen_node};
     ghost use Rattle.sval_json_read.specs.SeenValues.{members_in};
     ghost use Rattle.sval_json_read.specs.Lookups.{Member, paired};
     ghost use Rattle.std.specs.Coded.{coded_list};
@@ -92,7 +92,7 @@ impl<'d> Model for JsonMembers<'d> {
 
     ghost coded = { coded_list member_code };
 
-    ghost view = { λ members. paired (members_in (tokens_in members.text.now (map node_of members.nodes.now))) };
+    ghost view = { λ members. paired (members_in (tokens_in members.text.now (map seen_node members.nodes.now))) };
 
     ghost invariant = { λ members. AreOfMembers members.text.now members.nodes.now };
 }
@@ -101,7 +101,7 @@ impl<'d> JsonMembers<'d> {
     /// The pairs that these nodes are of.
     pub(crate) fn new(text: &'d str, nodes: &'d [Node]) -> Self
         requires { AreOfMembers text.now nodes.now }
-        ensures { result ≡ paired (members_in (tokens_in text.now (map node_of nodes.now))) }
+        ensures { result ≡ paired (members_in (tokens_in text.now (map seen_node nodes.now))) }
     {
         JsonMembers { text, nodes }
     }

@@ -3,10 +3,10 @@
 ghost use Rattle.std.specs.Prelude.{◌≡◌, ◌≤◌, ◌-◌, map, option_map, length, take, drop, IfSome, true};
 ghost use Rattle.sval_json.specs.Digits.{is_json_number};
 ghost use Rattle.sval_json_read.specs.Nodes.{tokens_in};
-ghost use Rattle.sval_json_read.specs.SeenNodes.{node_of};
+ghost use Rattle.sval_json_read.specs.SeenNodes.{seen_node};
 ghost use Rattle.sval_json_read.specs.SeenValues.{value_in};
 ghost use Rattle.sval_json_read.specs.ValueNodes.{AreOfValue};
-ghost use Rattle.sval_json_read.specs.Lookups.{kind_of, truth_of, number_of, i64_of, u64_of, text_of, items_of, members_of, member_of};
+ghost use Rattle.sval_json_read.specs.Lookups.{json_kind_of, json_truth_of, json_number_of, i64_of, u64_of, json_text_of, items_of, members_of, member_of};
 
 use crate::json_parts::{JsonItems, JsonMembers};
 use crate::json_text::JsonText;
@@ -40,7 +40,7 @@ impl<'d> Model for JsonRef<'d> {
     ghost use Rattle.std.specs.Prelude.{map};
     ghost use Rattle.sval_json.specs.Grammar.{JsonValue};
     ghost use Rattle.sval_json_read.specs.Nodes.{tokens_in};
-    ghost use Rattle.sval_json_read.specs.SeenNodes.{node_of};
+    ghost use Rattle.sval_json_read.specs.SeenNodes.{seen_node};
     ghost use Rattle.sval_json_read.specs.SeenValues.{value_in};
     ghost use Rattle.sval_json_read.specs.ValueCodes.{value_code};
     ghost use Rattle.sval_json_read.specs.ValueNodes.{AreOfValue};
@@ -49,7 +49,7 @@ impl<'d> Model for JsonRef<'d> {
 
     ghost coded = { value_code };
 
-    ghost view = { λ here. value_in (tokens_in here.text.now (map node_of here.nodes.now)) };
+    ghost view = { λ here. value_in (tokens_in here.text.now (map seen_node here.nodes.now)) };
 
     ghost invariant = { λ here. AreOfValue here.text.now here.nodes.now };
 }
@@ -58,14 +58,14 @@ impl<'d> JsonRef<'d> {
     /// The value that these nodes are of.
     pub(crate) fn new(text: &'d str, nodes: &'d [Node]) -> Self
         requires { AreOfValue text.now nodes.now }
-        ensures { result ≡ value_in (tokens_in text.now (map node_of nodes.now)) }
+        ensures { result ≡ value_in (tokens_in text.now (map seen_node nodes.now)) }
     {
         JsonRef { text, nodes }
     }
 
     /// Which of the six it is.
     pub fn kind(&self) -> JsonKind
-        ensures { result ≡ kind_of self.now }
+        ensures { result ≡ json_kind_of self.now }
     {
         match self.nodes[0] {
             Node::Null(_) => JsonKind::Null,
@@ -79,7 +79,7 @@ impl<'d> JsonRef<'d> {
 
     /// The truth that it is.
     pub fn as_bool(&self) -> Option<bool>
-        ensures { result ≡ truth_of self.now }
+        ensures { result ≡ json_truth_of self.now }
     {
         match self.nodes[0] {
             Node::Bool(_, value) => Some(value),
@@ -89,7 +89,7 @@ impl<'d> JsonRef<'d> {
 
     /// The text of the number that it is, as it stands in the document.
     pub fn as_number(&self) -> Option<&'d str>
-        ensures number { option_map (λ text. text.now) result ≡ number_of self.now }
+        ensures number { option_map (λ text. text.now) result ≡ json_number_of self.now }
         ensures proper { IfSome result (λ text. is_json_number text.now ≡ true) }
     {
         match self.nodes[0] {
@@ -126,7 +126,7 @@ impl<'d> JsonRef<'d> {
 
     /// The string that it is.
     pub fn as_text(&self) -> Option<JsonText<'d>>
-        ensures { result ≡ text_of self.now }
+        ensures { result ≡ json_text_of self.now }
     {
         match self.nodes[0] {
             Node::Text(_, length, from) => {

@@ -4,7 +4,7 @@ ghost use Rattle.std.specs.Prelude.{◌≡◌, ◌++◌, ℕ, List, None, IfOk, 
 ghost use Rattle.std.specs.Str.{bytes_eq};
 ghost use Rattle.sval_json_read.specs.RawStrings.{IsRaw};
 ghost use Rattle.sval_json_read.specs.Calls.{piece_bytes};
-ghost use Rattle.sval_json_read.specs.SeenPieces.{piece_of};
+ghost use Rattle.sval_json_read.specs.SeenPieces.{seen_piece};
 ghost use Rattle.sval_json_read.specs.SeenValues.{text_in};
 
 use crate::piece::{Piece, first_piece};
@@ -99,8 +99,8 @@ fn behind<'b>(text: &[u8], bytes: &'b [u8]) -> Option<&'b [u8]>
 
 /// What follows a piece's text at the beginning of these bytes, where they begin with it.
 fn behind_piece<'b>(piece: Piece<'_>, bytes: &'b [u8]) -> Option<&'b [u8]>
-    ensures found { IfSome result (λ more. bytes.now ≡ piece_bytes (piece_of piece.entry) ++ more.now) }
-    ensures other { result ≡ None → (more : List ℕ) → bytes.now ≡ piece_bytes (piece_of piece.entry) ++ more → ⊥ }
+    ensures found { IfSome result (λ more. bytes.now ≡ piece_bytes (seen_piece piece.entry) ++ more.now) }
+    ensures other { result ≡ None → (more : List ℕ) → bytes.now ≡ piece_bytes (seen_piece piece.entry) ++ more → ⊥ }
 {
     match piece {
         Piece::Run(run) => behind(run.as_bytes(), bytes),

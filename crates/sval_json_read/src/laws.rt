@@ -1,6 +1,6 @@
 //! The laws of reading JSON, each as a clause that is proved.
 
-ghost use Rattle.sval_json_read.specs.Laws.{TreesAreReal, TreesArePrintable, WrittenAgainSettles, PiecesAreTheText, RunsAreLongest, DocumentsSpell, NodesMakeTheCalls, NodesSpell, TokensAreProper, OneDocument, ReadsTheDocuments, RefusesTheOthers, IsReadOrBad, NotBoth, StopsWhereTheyFail, FailsAtOnePlace};
+ghost use Rattle.sval_json_read.specs.Laws.{TreesAreReal, TreesArePrintable, WrittenAgainSettles, PiecesAreTheText, RunsAreLongest, JsonDocumentsSpell, NodesMakeTheCalls, NodesSpell, TokensAreProper, OneDocument, ReadsTheDocuments, RefusesTheOthers, IsReadOrBad, NotBoth, StopsWhereTheyFail, FailsAtOnePlace};
 
 /// What holds of all texts that denote a value.
 pub fn document_laws()
@@ -9,7 +9,7 @@ pub fn document_laws()
     ensures written_again_settles { WrittenAgainSettles }
     ensures pieces_are_the_text { PiecesAreTheText }
     ensures runs_are_longest { RunsAreLongest }
-    ensures documents_spell { DocumentsSpell }
+    ensures documents_spell { JsonDocumentsSpell }
     ensures nodes_make_the_calls { NodesMakeTheCalls }
     ensures nodes_spell { NodesSpell }
     ensures tokens_are_proper { TokensAreProper }

@@ -3,10 +3,10 @@
 ghost use Rattle.std.specs.Prelude.{map};
 ghost use Rattle.sval_core.specs.Law.{Emits};
 ghost use Rattle.sval_core.specs.Values.{makes};
-ghost use Rattle.sval_json_read.specs.Calls.{place_begins, place_ends, token_calls};
+ghost use Rattle.sval_json_read.specs.Calls.{place_begins, place_ends, placed_token_calls};
 ghost use Rattle.sval_json_read.specs.Nodes.{token_in, placed_in, streamed};
-ghost use Rattle.sval_json_read.specs.NodeCalls.{begins_before, own_calls, ends_behind};
-ghost use Rattle.sval_json_read.specs.SeenNodes.{place_of, node_of, IsKeptOf, AreKeptOf};
+ghost use Rattle.sval_json_read.specs.NodeCalls.{begins_before, token_own_calls, ends_behind};
+ghost use Rattle.sval_json_read.specs.SeenNodes.{node_place, seen_node, IsKeptOf, AreKeptOf};
 
 use crate::node::{Node, Place};
 use crate::number_calls::stream_number;
@@ -17,7 +17,7 @@ impl Place {
     /// Begins the part that a value in this place stands in.
     fn begin<L: Lending, S: Stream<L>>(self, stream: &mut S) -> Result
         ensures { Emits S.law result
-            (S.standing stream.old) (makes (place_begins (place_of self))) (S.standing stream.new) }
+            (S.standing stream.old) (makes (place_begins (node_place self))) (S.standing stream.new) }
     {
         match self {
             Place::Alone => Ok(()),
@@ -30,7 +30,7 @@ impl Place {
     /// Ends the part that a value in this place stands in.
     fn end<L: Lending, S: Stream<L>>(self, stream: &mut S) -> Result
         ensures { Emits S.law result
-            (S.standing stream.old) (makes (place_ends (place_of self))) (S.standing stream.new) }
+            (S.standing stream.old) (makes (place_ends (node_place self))) (S.standing stream.new) }
     {
         match self {
             Place::Alone => Ok(()),
@@ -45,7 +45,7 @@ impl Node {
     /// Begins the part that it stands in, if it is no end.
     fn begin<L: Lending, S: Stream<L>>(self, stream: &mut S) -> Result
         ensures { Emits S.law result (S.standing stream.old)
-            (makes (begins_before (node_of self).kept (node_of self).place))
+            (makes (begins_before (seen_node self).kept (seen_node self).place))
             (S.standing stream.new) }
     {
         match self {
@@ -63,7 +63,7 @@ impl Node {
     fn make<'v, S: Stream<Lent<'v>>>(self, text: &'v str, stream: &mut S) -> Result
         requires { IsKeptOf text.now self }
         ensures { Emits S.law result (S.standing stream.old)
-            (makes (own_calls (token_in text.now (node_of self).kept))) (S.standing stream.new) }
+            (makes (token_own_calls (token_in text.now (seen_node self).kept))) (S.standing stream.new) }
     {
         match self {
             Node::Null(_) => stream.null(),
@@ -84,7 +84,7 @@ impl Node {
     /// Ends the part that it stands in, if it is no begin.
     fn end<L: Lending, S: Stream<L>>(self, stream: &mut S) -> Result
         ensures { Emits S.law result (S.standing stream.old)
-            (makes (ends_behind (node_of self).kept (node_of self).place))
+            (makes (ends_behind (seen_node self).kept (seen_node self).place))
             (S.standing stream.new) }
     {
         match self {
@@ -102,7 +102,7 @@ impl Node {
     fn stream_parts<'v, S: Stream<Lent<'v>>>(self, text: &'v str, stream: &mut S) -> Result
         requires { IsKeptOf text.now self }
         ensures { Emits S.law result (S.standing stream.old)
-            (makes (token_calls (placed_in text.now (node_of self)))) (S.standing stream.new) }
+            (makes (placed_token_calls (placed_in text.now (seen_node self)))) (S.standing stream.new) }
     {
         self.begin(stream)?;
         self.make(text, stream)?;
@@ -113,7 +113,7 @@ impl Node {
     fn stream<'v, S: Stream<Lent<'v>>>(self, text: &'v str, stream: &mut S) -> Result
         requires { IsKeptOf text.now self }
         ensures { Emits S.law result (S.standing stream.old)
-            (makes (token_calls (placed_in text.now (node_of self)))) (S.standing stream.new) }
+            (makes (placed_token_calls (placed_in text.now (seen_node self)))) (S.standing stream.new) }
     {
         match self {
             Node::Text(Place::Key, length, from) => {
@@ -132,7 +132,7 @@ pub(crate) fn stream_nodes<'v, S: Stream<Lent<'v>>>(
 ) -> Result
     requires { AreKeptOf text.now nodes.now }
     ensures { Emits S.law result (S.standing stream.old)
-        (makes (streamed text.now (map node_of nodes.now))) (S.standing stream.new) }
+        (makes (streamed text.now (map seen_node nodes.now))) (S.standing stream.new) }
 {
     for node in nodes {
         node.stream(text, stream)?;

@@ -89,7 +89,7 @@ pub(crate) fn first_phase(byte: u8) -> Option<Phase>
 
 /// Whether the number may end here.
 pub(crate) fn may_end(phase: Phase) -> bool
-    ensures { result ≡ machine.may_end (phase_of phase) }
+    ensures { result ≡ machine.number_may_end (phase_of phase) }
 {
     match phase {
         Phase::Zero | Phase::Whole | Phase::Fraction | Phase::Power => true,

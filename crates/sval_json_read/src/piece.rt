@@ -4,7 +4,7 @@ ghost use Rattle.std.specs.Prelude.{◌≡◌, ◌<◌, ◌∷◌, length, take,
 ghost use Rattle.std.specs.List.{list_all};
 ghost use Rattle.sval_json_read.specs.Calls.{pieces};
 ghost use Rattle.sval_json_read.specs.RawStrings.{IsRaw, is_no_backslash};
-ghost use Rattle.sval_json_read.specs.SeenPieces.{piece_of};
+ghost use Rattle.sval_json_read.specs.SeenPieces.{seen_piece};
 
 use crate::escape::{Unescaped, unescape};
 use memchr::memchr;
@@ -22,7 +22,7 @@ pub(crate) enum Piece<'a> {
 pub(crate) fn first_piece(raw: &str) -> (Piece<'_>, &str)
     requires is_raw { IsRaw raw.now }
     requires some { 0 < length raw.now }
-    ensures pieces { pieces raw.now ≡ piece_of result.0 ∷ pieces result.1.now }
+    ensures pieces { pieces raw.now ≡ seen_piece result.0 ∷ pieces result.1.now }
     ensures is_raw { IsRaw result.1.now }
     ensures shorter { length result.1.now < length raw.now }
 {
@@ -38,7 +38,7 @@ fn first_escape(raw: &str) -> (Piece<'_>, &str)
     requires is_raw { IsRaw raw.now }
     requires some { 0 < length raw.now }
     requires backslash { get_or raw.now 0 0 ≡ 92 }
-    ensures pieces { pieces raw.now ≡ piece_of result.0 ∷ pieces result.1.now }
+    ensures pieces { pieces raw.now ≡ seen_piece result.0 ∷ pieces result.1.now }
     ensures is_raw { IsRaw result.1.now }
     ensures shorter { length result.1.now < length raw.now }
 {
@@ -53,7 +53,7 @@ fn first_run(raw: &str, len: usize) -> (Piece<'_>, &str)
     requires within { len < length raw.now }
     requires unescaped { list_all is_no_backslash (take len raw.now) ≡ true }
     requires backslash { get_or raw.now len 0 ≡ 92 }
-    ensures pieces { pieces raw.now ≡ piece_of result.0 ∷ pieces result.1.now }
+    ensures pieces { pieces raw.now ≡ seen_piece result.0 ∷ pieces result.1.now }
     ensures is_raw { IsRaw result.1.now }
     ensures shorter { length result.1.now < length raw.now }
 {

@@ -3,8 +3,8 @@
 ghost use Rattle.std.specs.Prelude.{◌≡◌, ◌+◌, ◌<◌, ℕ, List, [], IfOk, IfErr, length, get_or, map};
 ghost use Rattle.sval_json_read.specs.Reader as machine;
 ghost use Rattle.sval_json_read.specs.Nodes.{tokens_in};
-ghost use Rattle.sval_json_read.specs.SeenNodes.{place_of, node_of, StandsIn};
-ghost use Rattle.sval_json_read.specs.SeenReader.{state_of, Gives, HasToken, KeepsAt, Ends, Adds, ReadsIn};
+ghost use Rattle.sval_json_read.specs.SeenNodes.{node_place, seen_node, StandsIn};
+ghost use Rattle.sval_json_read.specs.SeenReader.{seen_state, GivesState, HasToken, KeepsAt, EndsText, AddsNode, ReadsIn};
 
 mod container;
 mod scalar;
@@ -48,7 +48,7 @@ pub(crate) struct Reader {
 impl Reader {
     /// A reader that has read nothing.
     pub(crate) fn new(alloc: Global) -> Self
-        ensures starts { (bytes : List ℕ) → state_of bytes 0 result ≡ machine.start }
+        ensures starts { (bytes : List ℕ) → seen_state bytes 0 result ≡ machine.reader_start }
         ensures from { result.from ≡ 0 }
         ensures nodes { result.nodes.items ≡ [] }
     {
@@ -62,7 +62,7 @@ impl Reader {
 
     /// Keeps a node.
     fn add(&mut self, node: Node, expected: Expected) -> Result<(), NoMemory>
-        ensures { IfOk result (λ done. Adds self.old node expected self.new) }
+        ensures { IfOk result (λ done. AddsNode self.old node expected self.new) }
     {
         self.nodes.push(node)?;
         self.expected = expected;
@@ -71,7 +71,7 @@ impl Reader {
 
     /// The place of a value directly in what is open.
     fn place(&self) -> Place
-        ensures { place_of result ≡ machine.place_in self.now.opened }
+        ensures { node_place result ≡ machine.place_in self.now.opened }
     {
         match self.opened.top() {
             None => Place::Alone,
@@ -84,11 +84,12 @@ impl Reader {
     pub(crate) fn step(&mut self, bytes: &[u8], at: usize) -> Result<bool, NoMemory>
         requires at_in { at < length bytes.now }
         requires reads { ReadsIn bytes.now at self.old.from self.old.nodes.items }
-        ensures gives { IfOk result (Gives (machine.step (state_of bytes.now at self.old) (get_or bytes.now at 0))
-            (state_of bytes.now (at + 1) self.new)) }
+        ensures gives { IfOk result (GivesState (machine.reader_step (seen_state bytes.now at self.old)
+            (get_or bytes.now at 0))
+            (seen_state bytes.now (at + 1) self.new)) }
         ensures reads { IfOk result (λ taken. ReadsIn bytes.now (at + 1) self.new.from self.new.nodes.items) }
-        ensures no_memory { IfErr result (λ error. KeepsAt (state_of bytes.now at self.old)
-            (machine.step (state_of bytes.now at self.old) (get_or bytes.now at 0))) }
+        ensures no_memory { IfErr result (λ error. KeepsAt (seen_state bytes.now at self.old)
+            (machine.reader_step (seen_state bytes.now at self.old) (get_or bytes.now at 0))) }
     {
         match self.expected {
             Expected::AValue => self.value(bytes, at),
@@ -106,11 +107,11 @@ impl Reader {
     /// Whether all bytes were a text that denotes a value.
     pub(crate) fn finish(&mut self, bytes: &[u8]) -> Result<bool, NoMemory>
         requires { ReadsIn bytes.now (length bytes.now) self.old.from self.old.nodes.items }
-        ensures ends { IfOk result (Ends (machine.at_end (state_of bytes.now (length bytes.now) self.old))
-            (tokens_in bytes.now (map node_of self.new.nodes.items))) }
+        ensures ends { IfOk result (EndsText (machine.tokens_at_end (seen_state bytes.now (length bytes.now) self.old))
+            (tokens_in bytes.now (map seen_node self.new.nodes.items))) }
         ensures reads { IfOk result (λ whole.
             ReadsIn bytes.now (length bytes.now) self.new.from self.new.nodes.items) }
-        ensures no_memory { IfErr result (λ error. HasToken (state_of bytes.now (length bytes.now) self.old)) }
+        ensures no_memory { IfErr result (λ error. HasToken (seen_state bytes.now (length bytes.now) self.old)) }
     {
         if self.opened.top().is_some() {
             return Ok(false);

@@ -7,9 +7,9 @@ ghost use Rattle.sval_program.specs.Runs.{AreQuiet, Ends};
 ghost use Rattle.sval_program.specs.Runs as runs;
 ghost use Rattle.sval_json_read.specs.Calls.{document_calls};
 ghost use Rattle.sval_json_read.specs.Forms.{OnAsked};
-ghost use Rattle.sval_json_read.specs.ReadErrors.{IsRead};
+ghost use Rattle.sval_json_read.specs.ReadErrors.{IsReadText};
 ghost use Rattle.sval_json_read.specs.Reports.{Reports};
-ghost use Rattle.sval_json_read.specs.Serves.{read_terms, WritesDue, MayLeave, WritesDueText, IsNoUtf8, HasBadJson};
+ghost use Rattle.sval_json_read.specs.Serves.{read_terms, WritesJsonText, MayLeave, WritesDueText, IsNoUtf8, HasBadJson};
 ghost use Rattle.sval_json_read.specs.Statuses.{IsStatusDue};
 
 use crate::document::JsonDoc;
@@ -25,8 +25,8 @@ use sval_program::{Failure, print_captured};
 
 /// Writes the JSON of a document.
 fn write_json<K: Sink>(doc: &JsonDoc<'_>, out: &mut K) -> Result<(), SinkError>
-    requires { (input : List ℕ) × IsRead input (document_calls doc.now) }
-    ensures { (input : List ℕ) → IsRead input (document_calls doc.now)
+    requires { (input : List ℕ) × IsReadText input (document_calls doc.now) }
+    ensures { (input : List ℕ) → IsReadText input (document_calls doc.now)
         → WritesDueText K.told input Form.Json result out.old out.new }
 {
     match stream_to_io_write(out, doc) {
@@ -43,8 +43,8 @@ fn write_json<K: Sink>(doc: &JsonDoc<'_>, out: &mut K) -> Result<(), SinkError>
 
 /// Captures a document, and prints the canonical script of what it captured.
 fn print_script<K: Sink>(alloc: Global, doc: &JsonDoc<'_>, out: &mut K) -> Result<(), SinkError>
-    requires { (input : List ℕ) × IsRead input (document_calls doc.now) × (length input < 2 ^ 64) }
-    ensures { (input : List ℕ) → IsRead input (document_calls doc.now) → length input < 2 ^ 64
+    requires { (input : List ℕ) × IsReadText input (document_calls doc.now) × (length input < 2 ^ 64) }
+    ensures { (input : List ℕ) → IsReadText input (document_calls doc.now) → length input < 2 ^ 64
         → WritesDueText K.told input Form.Calls result out.old out.new }
 {
     print_captured(alloc, doc.node_count(), doc, out)
@@ -57,8 +57,8 @@ fn write_document<K: Sink>(
     doc: &JsonDoc<'_>,
     out: &mut K,
 ) -> Result<(), SinkError>
-    requires { (input : List ℕ) × IsRead input (document_calls doc.now) × (length input < 2 ^ 64) }
-    ensures { (input : List ℕ) → IsRead input (document_calls doc.now) → length input < 2 ^ 64
+    requires { (input : List ℕ) × IsReadText input (document_calls doc.now) × (length input < 2 ^ 64) }
+    ensures { (input : List ℕ) → IsReadText input (document_calls doc.now) → length input < 2 ^ 64
         → WritesDueText K.told input form result out.old out.new }
 {
     match form {
@@ -154,7 +154,7 @@ pub fn run_read<I: Source, K: Sink, D: Sink>(
 
     // Each status comes only where it is so.
     ensures done { result ≡ DONE
-        → OnAsked words.now (I.told input.old) (WritesDue (K.told out.old) (K.told out.new)) }
+        → OnAsked words.now (I.told input.old) (WritesJsonText (K.told out.old) (K.told out.new)) }
     ensures not_utf8 { result ≡ NOT_UTF8 → OnAsked words.now (I.told input.old) IsNoUtf8 }
     ensures bad_json { result ≡ BAD_JSON → OnAsked words.now (I.told input.old) HasBadJson }
 

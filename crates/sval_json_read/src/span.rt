@@ -2,14 +2,14 @@
 
 ghost use Rattle.std.specs.Prelude.{◌≡◌, ◌+◌, ◌<◌, ◌^◌, map};
 ghost use Rattle.sval_json_read.specs.NodeSpans.{depth_behind, span};
-ghost use Rattle.sval_json_read.specs.SeenNodes.{node_of};
+ghost use Rattle.sval_json_read.specs.SeenNodes.{seen_node};
 
 use crate::node::Node;
 
 /// How many arrays and objects are open behind a node, where so many are before it.
 fn depth_behind(node: Node, depth: usize) -> usize
     requires { depth + 1 < 2 ^ 64 }
-    ensures { result ≡ depth_behind (node_of node).kept depth }
+    ensures { result ≡ depth_behind (seen_node node).kept depth }
 {
     match node {
         Node::BeginArray(_) | Node::BeginObject(_) => depth + 1,
@@ -21,7 +21,7 @@ fn depth_behind(node: Node, depth: usize) -> usize
 /// How many nodes the value has that these begin with.
 #[tactic(auto, using(crate::proofs::NodeStreams::here))]
 pub(crate) fn value_len(nodes: &[Node]) -> usize
-    ensures { result ≡ span 0 (map node_of nodes.now) }
+    ensures { result ≡ span 0 (map seen_node nodes.now) }
 {
     let mut depth = 0;
     let mut at = 0;

@@ -1,7 +1,7 @@
 //! What is open.
 
 ghost use Rattle.std.specs.Prelude.{◌≡◌, [], ◌∷◌, if◌then◌else◌, is_ok};
-ghost use Rattle.sval_json_read.specs.SeenOpened.{opened_of, TopIs, around};
+ghost use Rattle.sval_json_read.specs.SeenOpened.{opened_of, TopContainerIs, around_container};
 
 use std::alloc::Global;
 use std::marker::Model;
@@ -42,7 +42,7 @@ impl Stack {
 
     /// The innermost container.
     pub(crate) fn top(&self) -> Option<Opened>
-        ensures { TopIs result self.now }
+        ensures { TopContainerIs result self.now }
     {
         self.opened.last().copied()
     }
@@ -56,7 +56,7 @@ impl Stack {
 
     /// Closes the innermost container, if there is one.
     pub(crate) fn pop(&mut self)
-        ensures { self.new ≡ around self.old }
+        ensures { self.new ≡ around_container self.old }
     {
         self.opened.pop();
     }

@@ -61,7 +61,7 @@ fn escape(byte: u8) -> Option<Within>
 
 /// Where a byte leads, if it is one that may come.
 fn when(comes: bool, next: Within) -> Option<Within>
-    ensures { option_map within_of result ≡ machine.when comes (within_of next) }
+    ensures { option_map within_of result ≡ machine.within_when comes (within_of next) }
 {
     if comes { Some(next) } else { None }
 }

@@ -4,9 +4,9 @@ ghost use Rattle.std.specs.Prelude.{◌≡◌, ◌∷◌, [], map};
 ghost use Rattle.std.specs.Bool.{OnTrue};
 ghost use Rattle.sval_core.specs.Law.{Answers, Emits};
 ghost use Rattle.sval_core.specs.Values.{makes};
-ghost use Rattle.sval_json_read.specs.Calls.{run, text_calls, key_calls, piece_call, pieces};
+ghost use Rattle.sval_json_read.specs.Calls.{run, string_value_calls, key_calls, piece_call, pieces};
 ghost use Rattle.sval_json_read.specs.RawStrings.{IsRaw};
-ghost use Rattle.sval_json_read.specs.SeenPieces.{piece_of};
+ghost use Rattle.sval_json_read.specs.SeenPieces.{seen_piece};
 
 use crate::piece::{Piece, first_piece};
 use memchr::memchr;
@@ -14,7 +14,8 @@ use sval_core::{Lent, Result, Stream};
 
 /// Makes the call of a piece.
 fn stream_piece<'v, S: Stream<Lent<'v>>>(piece: Piece<'v>, stream: &mut S) -> Result
-    ensures { Answers S.law result (S.standing stream.old) (piece_call (piece_of piece.entry)) (S.standing stream.new) }
+    ensures { Answers S.law result (S.standing stream.old) (piece_call (seen_piece piece.entry))
+        (S.standing stream.new) }
 {
     match piece {
         Piece::Run(run) => stream.text_fragment(run),
@@ -53,7 +54,7 @@ pub(crate) fn is_one_run(raw: &str) -> bool
 pub(crate) fn stream_string<'v, S: Stream<Lent<'v>>>(raw: &'v str, stream: &mut S) -> Result
     requires { IsRaw raw.now }
     ensures { Emits S.law result
-        (S.standing stream.old) (makes (text_calls raw.now)) (S.standing stream.new) }
+        (S.standing stream.old) (makes (string_value_calls raw.now)) (S.standing stream.new) }
 {
     if is_one_run(raw) {
         return stream.whole_text(raw, None);

@@ -5,7 +5,7 @@ use Rattle.std.specs.Option.{option_or}
 use Rattle.std.proofs.Common.{◌∙◌, sym, arith, inl, inr}
 use Rattle.sval_label.specs.Calls.{Tag, Call}
 use Rattle.sval_core.specs.Law.{Law, Ran, HasCause, StoppedIn}
-use Rattle.sval_lower.specs.Readers.{last_of, only_of, found, says_no_tag, tag_of}
+use Rattle.sval_lower.specs.Readers.{last_of, only_of, found, says_no_tag, call_tag}
 use Rattle.sval_lower.specs.Reading.{holding, may_go_on, item_of, item_law, tag_law}
 use Rattle.sval_lower.specs.ReaderLaws.{IsFound, TagIsHeld}
 
@@ -136,12 +136,12 @@ item_is_found false read over = last_is_found read over
 
 -- ---- the tag
 
-tag_ran : (calls : List Call) (last : Option Tag) → Ran tag_law None calls last → last ≡ option_and_then tag_of (find (λ call. not (says_no_tag call)) calls)
+tag_ran : (calls : List Call) (last : Option Tag) → Ran tag_law None calls last → last ≡ option_and_then call_tag (find (λ call. not (says_no_tag call)) calls)
 tag_ran [] last e = e
 tag_ran (call ∷ calls) last r = let here = r.0 in rw here (tag_ran calls last r.1)
 
 tag_stopped : (calls : List Call) (old new : Option Tag) (refuses : Bool) → StoppedIn tag_law (holding old) (holding new) None calls refuses
-    → new ≡ option_and_then tag_of (find (λ call. not (says_no_tag call)) calls)
+    → new ≡ option_and_then call_tag (find (λ call. not (says_no_tag call)) calls)
 tag_stopped [] old new refuses p = p.1
 tag_stopped (call ∷ calls) old new refuses (inl p) = let here = not_true (says_no_tag call) (not_accepted tag_law None call old new p.0) in rw here p.1
 tag_stopped (call ∷ calls) old new refuses (inr p) = let here = p.0 in rw here (tag_stopped calls old new refuses p.1)

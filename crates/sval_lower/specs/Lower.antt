@@ -3,7 +3,7 @@ use Rattle.std.specs.Prelude.{ℤ, ℕ, pos, true, false, List, [], ◌∷◌, �
 use Rattle.std.specs.Fmt.{signed_decimal}
 use Rattle.sval_label.specs.Calls.{Tag, Label, Name, IntType, Head, Slot, Call}
 use Rattle.sval_label.specs.Ranges.{is_signed}
-use Rattle.sval_core.specs.Names.{number_tag, no_name, tag_alone, untagged, says_none}
+use Rattle.sval_core.specs.Names.{number_tag, no_name, tag_alone, untagged_offset, says_none}
 
 -- a label as a text, which is borrowed where it lives as long as the program
 abbrev pub label_calls : Label → List Call
@@ -62,8 +62,8 @@ end_calls (Head.RecordTuple name) = Call.End (Head.Record name) ∷ []
 -- a map is a sequence of pairs, a pair is a tuple of two, and a field is a pair of its label and its value
 abbrev pub part_begin_calls : Slot → List Call
 part_begin_calls Slot.Item = Call.PartBegin Slot.Item ∷ []
-part_begin_calls Slot.Key = Call.PartBegin Slot.Item ∷ Call.Begin (Head.Tuple no_name) (Some 2) ∷ Call.PartBegin (Slot.Place None (untagged 0)) ∷ []
-part_begin_calls Slot.Value = Call.PartBegin (Slot.Place None (untagged 1)) ∷ []
+part_begin_calls Slot.Key = Call.PartBegin Slot.Item ∷ Call.Begin (Head.Tuple no_name) (Some 2) ∷ Call.PartBegin (Slot.Place None (untagged_offset 0)) ∷ []
+part_begin_calls Slot.Value = Call.PartBegin (Slot.Place None (untagged_offset 1)) ∷ []
 part_begin_calls (Slot.Field tag label) = Call.PartBegin Slot.Key ∷ (label_calls label ++ (Call.PartEnd Slot.Key ∷ Call.PartBegin Slot.Value ∷ []))
 part_begin_calls (Slot.Place tag index) = Call.PartBegin Slot.Item ∷ []
 part_begin_calls (Slot.FieldPlace tag label index) = Call.PartBegin (Slot.Field tag label) ∷ []
@@ -71,8 +71,8 @@ part_begin_calls (Slot.FieldPlace tag label index) = Call.PartBegin (Slot.Field 
 -- a part's end ends what its begin began, but the item and the pair that a key's began end with its value
 abbrev pub part_end_calls : Slot → List Call
 part_end_calls Slot.Item = Call.PartEnd Slot.Item ∷ []
-part_end_calls Slot.Key = Call.PartEnd (Slot.Place None (untagged 0)) ∷ []
-part_end_calls Slot.Value = Call.PartEnd (Slot.Place None (untagged 1)) ∷ Call.End (Head.Tuple no_name) ∷ Call.PartEnd Slot.Item ∷ []
+part_end_calls Slot.Key = Call.PartEnd (Slot.Place None (untagged_offset 0)) ∷ []
+part_end_calls Slot.Value = Call.PartEnd (Slot.Place None (untagged_offset 1)) ∷ Call.End (Head.Tuple no_name) ∷ Call.PartEnd Slot.Item ∷ []
 part_end_calls (Slot.Field tag label) = Call.PartEnd Slot.Value ∷ []
 part_end_calls (Slot.Place tag index) = Call.PartEnd Slot.Item ∷ []
 part_end_calls (Slot.FieldPlace tag label index) = Call.PartEnd (Slot.Field tag label) ∷ []

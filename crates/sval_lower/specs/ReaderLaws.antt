@@ -2,7 +2,7 @@
 use Rattle.std.specs.Prelude.{◌≡◌, Bool, true, false, Option, None}
 use Rattle.sval_label.specs.Calls.{Tag, Call}
 use Rattle.sval_core.specs.Law.{Law, Emission, Streams, Stops}
-use Rattle.sval_lower.specs.Readers.{last_of, only_of, found, tag}
+use Rattle.sval_lower.specs.Readers.{last_of, only_of, found, first_tag}
 use Rattle.sval_lower.specs.Reading.{holding, item_law, tag_law}
 
 -- where the stream took all calls it holds what the reader finds, and where it was stopped the reader finds nothing
@@ -21,5 +21,5 @@ OnlyIsFound T = (read : Call → Option T) (over : Call → Bool) → IsFound (i
 -- the stream for tags holds the tag, whether it took all calls or was stopped
 abbrev pub TagIsHeld : Type 0
 TagIsHeld =
-    ((e : Emission) (held : Option Tag) → Streams tag_law (holding None) e (holding held) → held ≡ tag e)
-    × ((e : Emission) (held : Option Tag) → Stops tag_law (holding None) e (holding held) → held ≡ tag e)
+    ((e : Emission) (held : Option Tag) → Streams tag_law (holding None) e (holding held) → held ≡ first_tag e)
+    × ((e : Emission) (held : Option Tag) → Stops tag_law (holding None) e (holding held) → held ≡ first_tag e)

@@ -192,14 +192,14 @@ head_tag (Head.Tuple name) = name.tag
 head_tag (Head.RecordTuple name) = name.tag
 
 -- the tag that a call gives
-abbrev pub tag_of : Call → Option Tag
-tag_of (Call.EnumBegin name) = name.tag
-tag_of (Call.TaggedBegin name) = name.tag
-tag_of (Call.Begin head _) = head_tag head
-tag_of (Call.Standalone name) = name.tag
-tag_of (Call.Int _ _) = Some number_tag
-tag_of _ = None
+abbrev pub call_tag : Call → Option Tag
+call_tag (Call.EnumBegin name) = name.tag
+call_tag (Call.TaggedBegin name) = name.tag
+call_tag (Call.Begin head _) = head_tag head
+call_tag (Call.Standalone name) = name.tag
+call_tag (Call.Int _ _) = Some number_tag
+call_tag _ = None
 
 -- what the first call gives at which the tag is known, whether the value refuses or not
-abbrev pub tag : Emission → Option Tag
-tag e = option_and_then tag_of (find (λ call. not (says_no_tag call)) e.calls)
+abbrev pub first_tag : Emission → Option Tag
+first_tag e = option_and_then call_tag (find (λ call. not (says_no_tag call)) e.calls)

@@ -3,7 +3,7 @@ use Rattle.std.specs.Prelude.{◌≡◌, Bool, true, false, not, ◌||◌, List,
 use Rattle.std.specs.Option.{option_or}
 use Rattle.sval_label.specs.Calls.{Tag, Call}
 use Rattle.sval_core.specs.Law.{Law, Standing}
-use Rattle.sval_lower.specs.Readers.{last_of, only_of, says_no_tag, tag_of}
+use Rattle.sval_lower.specs.Readers.{last_of, only_of, says_no_tag, call_tag}
 
 -- a reader that holds this, and never counts a fault
 abbrev pub holding : {T : Type 0} → Option T → Standing (Option T)
@@ -32,5 +32,5 @@ abbrev pub tag_law : Law (Option Tag)
 tag_law = record {
   accepts = λ held call. says_no_tag call ≡ true;
   after = λ held call. held;
-  stopped = λ held call left. left ≡ tag_of call;
+  stopped = λ held call left. left ≡ call_tag call;
 }

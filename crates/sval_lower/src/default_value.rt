@@ -19,7 +19,7 @@ use sval_core::{Lent, Value};
 /// What begins an enum, a tagged value, a record, a tuple or a record tuple gives its tag, as a tag by itself does, and
 /// a whole number gives `NUMBER`. Any other call gives none. Whether the value refuses doesn't matter.
 pub fn tag<'v, T: GivenTag, V: Value<'v, Lent<'v>>>(value: &'v V) -> Option<T>
-    ensures { option_map T.text result ≡ read.tag (V.emission value.now) }
+    ensures { option_map T.text result ≡ read.first_tag (V.emission value.now) }
 {
     let mut first: FirstTag<T> = FirstTag { held: None };
     match value.stream(&mut first) {

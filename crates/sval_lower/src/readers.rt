@@ -14,7 +14,7 @@ pub trait Readers<'v>: Value<'v, Lent<'v>> {
     /// The tag that the value's first call gives, after hints, ends of tagged values and enums, and empty fragments of
     /// binaries, as [`default_value::tag`](crate::default_value::tag) finds it.
     final fn tag<T: GivenTag>(&'v self) -> Option<T>
-        ensures { option_map T.text result ≡ read.tag (Self.emission self.now) }
+        ensures { option_map T.text result ≡ read.first_tag (Self.emission self.now) }
     {
         default_value::tag(self)
     }

@@ -4,7 +4,7 @@ use Rattle.sval_io.specs.declared.input_error.InputError.{InputError}
 use Rattle.sval_io.specs.Sources.{Supply, Gives}
 use Rattle.sval_io.specs.WholeInputs.{IsShort, ReadsWhole, StopsReading}
 use Rattle.sval_script.specs.Lines.{lines}
-use Rattle.sval_script.specs.Readings.{Reading, answer_to, answer_with, TakesPiece}
+use Rattle.sval_script.specs.Readings.{ScriptReading, answer_to, answer_with, TakesPiece}
 use Rattle.sval_script.specs.declared.script.ScriptError.TheVariants as reading
 
 -- a fact on an input that is short, and on what is asked for of it
@@ -20,13 +20,13 @@ abbrev pub IsSpent : {A : Type 0} → Supply → List ℕ → A → Type 0
 IsSpent new input asked = new.left ≡ Some []
 
 -- so many bytes were read into the front of the buffer, and the reader was given them
-pub record GivesPart (count : ℕ) (old : Supply) (buffer : List ℕ) (new : Supply) (reader after : Reading) : Type 0 where
+pub record GivesPart (count : ℕ) (old : Supply) (buffer : List ℕ) (new : Supply) (reader after : ScriptReading) : Type 0 where
   pub gives : Gives count old buffer new
   pub takes : TakesPiece reader (take count buffer) after
   pub nothing : count ≡ 0 → after ≡ reader
 
 -- the input was read whole, and the reader answers as the script that it is asks for, or that memory was wanting
-pub record HasRead (old : Supply) (reader : Reading) (new : Supply) : Type 0 where
+pub record HasRead (old : Supply) (reader : ScriptReading) (new : Supply) : Type 0 where
   pub script : List ℕ
   pub reads : ReadsWhole old script new
   pub answer : (answer_with reader [] ≡ answer_to (lines script)) ⊎ ((answer_with reader [] ≡ Err reading.NoMemory) × (0 < length script))

@@ -13,7 +13,7 @@ use Rattle.sval_relay.specs.declared.relaying.RelayError.{RelayError}
 use Rattle.sval_relay.specs.declared.relaying.RelayError.TheVariants as answer
 use Rattle.sval_relay.specs.Verdict.{Asked, tree_text, tree_written, tree_due, due_of, with_text, texts, left}
 use Rattle.sval_relay.specs.Relays.{of_sink, IsMeant, AreMeant}
-use Rattle.sval_relay.specs.WrittenTrees.{IsWantOfTree, IsWantAmong, FailsFull, WritesTextOf, RefusesTree, IsCauseOf, StopsTree, WritesTree, WritesTexts, RefusesSome, IsCauseAmong, StopsAmong, WritesTrees}
+use Rattle.sval_relay.specs.WrittenTrees.{IsWantOfTree, IsWantAmong, FailsFull, WritesTextOf, RefusesTree, IsCauseOf, StopsTree, WritesTreeText, WritesTexts, RefusesSome, IsCauseAmong, StopsAmong, WritesTrees}
 use Rattle.sval_program.proofs.Growing.{lacks_more}
 
 -- ---- a tree in front of others
@@ -245,6 +245,6 @@ module _ {K : Type 0} (told : K → Told) (asked : Asked) (tree : Tree) where
       by_cause sink.NoMemory full c = want captured c
 
   -- one tree by itself, without an ending
-  pub alone : (captured : Bool) (old new : K) (result : Result (Unit {0}) RelayError) → WritesTree result captured told asked tree old new → WritesTrees result (IsWantOfTree captured told) told asked [] (tree ∷ []) old new
+  pub alone : (captured : Bool) (old new : K) (result : Result (Unit {0}) RelayError) → WritesTreeText result captured told asked tree old new → WritesTrees result (IsWantOfTree captured told) told asked [] (tree ∷ []) old new
   alone captured old new (Ok done) w = with_ending [] w (record { appends = appends_nothing (told new); steady = steady_alone (told new) })
   alone captured old new (Err why) s = stops_with (IsWantOfTree captured told) captured [] old new why (λ w. w) s

@@ -19,7 +19,7 @@ use Rattle.sval_relay.specs.declared.way.Task.{Task}
 use Rattle.sval_relay.specs.declared.way.Way.TheVariants.{Buffered}
 use Rattle.sval_relay.specs.declared.made.MadeError.{MadeError}
 use Rattle.sval_relay.specs.declared.made.MadeError.TheVariants as answer
-use Rattle.sval_relay.specs.Relays.{WritesText}
+use Rattle.sval_relay.specs.Relays.{WritesVerdictText}
 use Rattle.sval_relay.specs.Verdict.{Text, one_in, IsVerdict, asked_in}
 use Rattle.sval_relay.specs.Made.{made_script, made_calls, made_error, sizes_line, IsMadeLine, LacksRoomForLine, TellsMade}
 use Rattle.sval_relay.specs.MadeLaws.{made_json, OneMadeLine}
@@ -42,7 +42,7 @@ printed_whole calls {old} {new} s empty =
     same ∙ ap (λ bytes. bytes ++ printed calls) empty
 
 -- and memory that was empty holds the text that is the script's verdict
-pub served_whole : {old new : Taken} {script text : List ℕ} {task : Task} → WritesText (taken_told old) (taken_told new) script task → old.bytes ≡ []
+pub served_whole : {old new : Taken} {script text : List ℕ} {task : Task} → WritesVerdictText (taken_told old) (taken_told new) script task → old.bytes ≡ []
     → IsVerdict (Text text) script task → new.bytes ≡ text
 served_whole {old} {new} {script} {text} {task} wrote empty is =
     let taken : Some new.bytes ≡ Some (old.bytes ++ wrote.text) = wrote.appends.text in

@@ -26,7 +26,7 @@ use Rattle.sval_script.proofs.PrintedLines.{lines-printed}
 use Rattle.sval_relay.specs.declared.way.Way.TheVariants.{Buffered}
 use Rattle.sval_relay.specs.Verdict.{Text, JsonIn, IsVerdict, one_in, tree_written}
 use Rattle.sval_relay.proofs.Verdicts.{verdict_in}
-use Rattle.sval_relay.specs.Made.{field_label, id_calls, name_calls, record_calls, made_calls, made_script}
+use Rattle.sval_relay.specs.Made.{made_field_label, id_calls, name_calls, record_calls, made_calls, made_script}
 use Rattle.sval_relay.specs.Laws.{json_verdict}
 use Rattle.sval_relay.specs.MadeLaws.{record_tree, made_tree, record_items, made_json}
 
@@ -38,8 +38,8 @@ name_tells i = record { willing = refl; spells = (tt, (None, codes "n" ∷ decim
 record_tells : (i : ℕ) → Tells (makes (record_calls i)) (record_tree i)
 unfolding record_calls id_calls name_calls
 record_tells i =
-    let name = last_part_tells (Field None (field_label (codes "name"))) (name_tells i) in
-    let fields = part_calls_tell (Field None (field_label (codes "id"))) (int_call_tells U64 (pos i)) name in
+    let name = last_part_tells (Field None (made_field_label (codes "name"))) (name_tells i) in
+    let fields = part_calls_tell (Field None (made_field_label (codes "id"))) (int_call_tells U64 (pos i)) name in
     container_calls_tell (Record no_name) 2 fields (refl, (refl, tt)) refl
 
 pub made_tells : (count : ℕ) → Tells (makes (made_calls count)) (made_tree count)
@@ -72,10 +72,10 @@ is_u64 i small = grind (arith, nat_tests)
 word_is_text : (word : List ℕ) → list_all (λ byte. nat_lt byte 128) word ≡ true → is_utf8 word ≡ true
 word_is_text word ascii = is_utf8-from_IsUtf8 word (ascii_utf8 word ascii)
 
-id_printable : IsPrintableLabel (field_label (codes "id"))
+id_printable : IsPrintableLabel (made_field_label (codes "id"))
 id_printable = record { utf8 = word_is_text (codes "id") refl; hint = refl; not_static = refl }
 
-name_printable : IsPrintableLabel (field_label (codes "name"))
+name_printable : IsPrintableLabel (made_field_label (codes "name"))
 name_printable = record { utf8 = word_is_text (codes "name") refl; hint = refl; not_static = refl }
 
 no_name_printable : IsPrintableName no_name

@@ -11,7 +11,7 @@ use Rattle.sval_io.specs.Taken.{Taken, taken_told}
 use Rattle.sval_script.specs.declared.print_error.PrintError.{PrintError}
 use Rattle.sval_script.specs.declared.print_error.PrintError.TheVariants as error
 use Rattle.sval_script.specs.declared.printer.Printer.{Printer}
-use Rattle.sval_script.specs.Printing.{Printing, HasKnownTags, IsCutBy, last_error, printer_law, printer_standing, printing_of, whole_line, with_bytes}
+use Rattle.sval_script.specs.Printing.{Printing, HasKnownTags, IsCutBy, last_error, printer_law, printer_standing, printing_of, whole_line, with_printed}
 use Rattle.sval_script.specs.PrintedValues.{HaveKnownTags}
 use Rattle.sval_relay.specs.Made.{id_calls, name_calls, record_calls, made_calls}
 
@@ -52,7 +52,7 @@ stop_is_want : (old new : Standing Printing) (view : Printing) (calls : List Cal
     → StoppedIn printer_law old new view calls false → new.view.why ≡ Some error.NoMemory
 stop_is_want old new view [] known none still s = absurd (cc s.0)
 stop_is_want old new view (call ∷ calls) known none still (inl s) = cut_is_want new.view.why call view.told new.view.told known.0 none still s.1
-stop_is_want old new view (call ∷ calls) known none still (inr s) = stop_is_want old new (with_bytes (whole_line call) view) calls known.1 none still s.1
+stop_is_want old new view (call ∷ calls) known none still (inr s) = stop_is_want old new (with_printed (whole_line call) view) calls known.1 none still s.1
 
 -- a printer into memory that didn't take the calls of a made script wanted memory
 pub made_stop_is_want : (count : ℕ) {old new : Printer Taken} → Stops printer_law (printer_standing taken_told old) (makes (made_calls count)) (printer_standing taken_told new)

@@ -12,13 +12,13 @@ use Rattle.sval_io.proofs.Appending.{all_is_front, steady_both, steady_counts, c
 use Rattle.sval_io.specs.Sources.{Supply}
 use Rattle.sval_check.specs.declared.error.CheckError.{CheckError}
 use Rattle.sval_check.specs.declared.error.CheckError.TheVariants as checking
-use Rattle.sval_check.specs.Checks.{IsFirstBad, IsUnfinished}
+use Rattle.sval_check.specs.Checks.{IsFirstBadCall, IsUnfinished}
 use Rattle.sval_check.specs.ManyChecks.{IsFirstBadOfList, IsUnfinishedList}
 use Rattle.sval_json.specs.Number.{Refusal, InvalidKey, InvalidNumber}
 use Rattle.sval_script.specs.declared.script.ScriptError.{ScriptError}
 use Rattle.sval_script.specs.declared.script.ScriptError.TheVariants as reading
 use Rattle.sval_script.specs.Lines.{Lines, Good, Bad, lines}
-use Rattle.sval_script.specs.Readings.{Reading, answer_to, answer_with}
+use Rattle.sval_script.specs.Readings.{ScriptReading, answer_to, answer_with}
 use Rattle.sval_relay.specs.declared.way.Way.{Way}
 use Rattle.sval_relay.specs.declared.way.Task.{Task}
 use Rattle.sval_relay.specs.declared.relaying.RelayError.{RelayError}
@@ -26,7 +26,7 @@ use Rattle.sval_relay.specs.declared.relaying.RelayError.TheVariants as answer
 use Rattle.sval_program.specs.Inputs.{HasRead}
 use Rattle.sval_program.specs.Outputs.{Grows}
 use Rattle.sval_relay.specs.Verdict.{Verdict, BadLine, BadCall, Unfinished, Key, Number, Text, asked_in, ending, texts, left, text_verdict, one_in, all_in, SpellTrees, IsVerdict, OnVerdict}
-use Rattle.sval_relay.specs.Relays.{of_script, of_check, of_sink, is_of_script, WritesText, WritesMeant, MayLeave, LacksRoomFor, WritesValue, WritesUpTo, IsWantIn, IsAnswerTo, Relays}
+use Rattle.sval_relay.specs.Relays.{of_script, of_check, of_sink, is_of_script, WritesVerdictText, WritesMeant, MayLeave, LacksRoomFor, WritesValue, WritesUpTo, IsWantIn, IsAnswerTo, Relays}
 use Rattle.sval_relay.specs.WrittenTrees.{FailsFull, WritesTexts, RefusesSome, IsCauseAmong, WritesTrees}
 use Rattle.sval_relay.proofs.Verdicts.{of_each, one_spelled, verdict_bad_line, verdict_bad_call, verdict_unfinished, verdict_trees}
 use Rattle.sval_relay.proofs.LeftTexts.{texts_left}
@@ -35,7 +35,7 @@ use Rattle.sval_relay.proofs.Writing.{may_stay, value_kept, want_before, want_of
 
 -- ---- what each answer of the parts says of the script
 
-pub first_bad : (script : List ℕ) (way : Way) (calls : List Call) (at : ℕ) → length calls < 2 ^ 64 → lines script ≡ Good calls → IsFirstBad calls at → IsVerdict (BadCall at) script (one_in way)
+pub first_bad : (script : List ℕ) (way : Way) (calls : List Call) (at : ℕ) → length calls < 2 ^ 64 → lines script ≡ Good calls → IsFirstBadCall calls at → IsVerdict (BadCall at) script (one_in way)
 first_bad script way calls at small e bad =
     let size : length calls ≡ length bad.front + (length bad.rest + 1) = ap length bad.whole ∙ length-append bad.front (bad.call ∷ bad.rest) ∙ omega arith in
     let number : length bad.front + 1 ≡ at = omega (arith, bad.number) in
@@ -142,10 +142,10 @@ relays_unchecked told script task out checking.Refused why is bad unfinished = a
 
 -- ---- after the text was written
 
-all_may_stay : {old new : Told} {script : List ℕ} {task : Task} → WritesText old new script task → OnVerdict (MayLeave old new) script task
+all_may_stay : {old new : Told} {script : List ℕ} {task : Task} → WritesVerdictText old new script task → OnVerdict (MayLeave old new) script task
 all_may_stay {old} {new} {script} {task} w = of_each script task (Text w.text) (MayLeave old new) w.is (all_is_front w.text w.appends)
 
-relays_text : {K : Type 0} (told : K → Told) (script : List ℕ) (task : Task) (old new : K) → WritesText (told old) (told new) script task → WritesValue (told old) (told new) script task → IsSteady (told old) (told new)
+relays_text : {K : Type 0} (told : K → Told) (script : List ℕ) (task : Task) (old new : K) → WritesVerdictText (told old) (told new) script task → WritesValue (told old) (told new) script task → IsSteady (told old) (told new)
     → Relays told script task (Ok tt) old new
 relays_text told script task old new w v s = record {
   done = λ f. w;
@@ -174,7 +174,7 @@ module _ (script : List ℕ) (task : Task) (calls : List Call) (trees : List Tre
   verdict_of found e =
       subst (λ found. IsVerdict (text_verdict found (left (asked_in task.way) (ending (asked_in task.way) task.many) trees)) script task) e (verdict_trees script task calls trees is spell)
 
-  writes_text : {old new : Told} → WritesTexts (asked_in task.way) (ending (asked_in task.way) task.many) trees old new → WritesText old new script task
+  writes_text : {old new : Told} → WritesTexts (asked_in task.way) (ending (asked_in task.way) task.many) trees old new → WritesVerdictText old new script task
   writes_text w = record { text = w.text; is = verdict_of (Ok w.text) w.is; appends = w.appends }
 
   writes_value : {old new : Told} → WritesTexts (asked_in task.way) (ending (asked_in task.way) task.many) trees old new → WritesValue old new script task
@@ -257,7 +257,7 @@ relays_held told script task old mid new why r d =
 
 -- ---- what a reader answered
 
-module _ {reader : Reading} {old new : Supply} (h : HasRead old reader new) where
+module _ {reader : ScriptReading} {old new : Supply} (h : HasRead old reader new) where
   answered : (l : Lines) (a due : Result (List Call) ScriptError) → (a ≡ answer_to l) ⊎ ((a ≡ Err reading.NoMemory) × (0 < length h.script)) → due ≡ a
       → (due ≡ answer_to l) ⊎ ((due ≡ Err reading.NoMemory) × (0 < length h.script))
   answered l a due (inl is) e = inl (e ∙ is)

@@ -7,7 +7,7 @@ use Rattle.sval_io.specs.Sources.{Supply}
 use Rattle.sval_program.specs.declared.status.TheConstants.{DONE, USAGE, BAD_LINE, BAD_CALL, UNFINISHED, INVALID_KEY, INVALID_NUMBER, WRITE, READ, NO_MEMORY, TOO_LONG}
 use Rattle.sval_program.specs.Inputs.{OnShort, OnLong, IsSpent}
 use Rattle.sval_program.specs.Outputs.{Grows}
-use Rattle.sval_relay.specs.Relays.{WritesText, WritesValue, WritesUpTo, MayLeave}
+use Rattle.sval_relay.specs.Relays.{WritesVerdictText, WritesValue, WritesUpTo, MayLeave}
 use Rattle.sval_relay.specs.Runs.{IsWantOf, WritesMadeLine, BeginsMadeLine}
 use Rattle.sval_relay.specs.Statuses.{is_of_made, is_unwritten, is_read, IsStatusDue}
 use Rattle.sval_relay.specs.Verdict.{Unfinished, Key, Number, IsVerdict, HasBadLine, HasBadCall, OnVerdict}
@@ -20,7 +20,7 @@ OnMadeNamed words P = OnRecords (form_named words) P
 
 -- what a run says: when each status comes, what is left of the sink and the source, and their counts, and which line was told
 pub record RelayEnds (words : List (List ℕ)) (in_old in_new : Supply) (out_old out_new diag_old diag_new : Told) (status : ℕ) : Type 0 where
-  pub done : status ≡ DONE → OnNamed words in_old (WritesText out_old out_new)
+  pub done : status ≡ DONE → OnNamed words in_old (WritesVerdictText out_old out_new)
   pub denotes : status ≡ DONE → OnNamed words in_old (WritesValue out_old out_new)
   pub flushed : status ≡ DONE → HoldsNothing out_new
   pub bad_line : status ≡ BAD_LINE → OnNamed words in_old HasBadLine

@@ -18,17 +18,17 @@ use Rattle.sval_relay.specs.Verdict.{Text, one_in, IsVerdict}
 -- ---- the script
 
 -- the label of a field, as a script gives it: it stands in the program's text as a name
-abbrev pub field_label : List ℕ → Label
-field_label text = record { text = text; tag = Some ident_tag; is_static = false }
+abbrev pub made_field_label : List ℕ → Label
+made_field_label text = record { text = text; tag = Some ident_tag; is_static = false }
 
 -- the field `id`, which is a number
 unfoldable pub id_calls : ℕ → List Call
-id_calls i = part_calls (Field None (field_label (codes "id"))) (Int U64 (pos i) ∷ [])
+id_calls i = part_calls (Field None (made_field_label (codes "id"))) (Int U64 (pos i) ∷ [])
 
 -- the field `name`, which is `n` and the number's digits, in two fragments
 unfoldable pub name_calls : ℕ → List Call
 name_calls i =
-    part_calls (Field None (field_label (codes "name")))
+    part_calls (Field None (made_field_label (codes "name")))
     (TextBegin None ∷ TextFragment true (codes "n") ∷ TextFragment false (decimal i) ∷ TextEnd ∷ [])
 
 -- the record of a number

@@ -13,7 +13,7 @@ use Rattle.sval_json.specs.Shape.{json_in}
 use Rattle.sval_json.specs.declared.style.Variants.TheVariants.{Inside}
 use Rattle.sval_script.specs.Lines.{Good, lines}
 use Rattle.sval_relay.specs.declared.way.Way.TheVariants.{Buffered}
-use Rattle.sval_relay.specs.Made.{field_label, made_calls, made_script, IsMadeLine}
+use Rattle.sval_relay.specs.Made.{made_field_label, made_calls, made_script, IsMadeLine}
 use Rattle.sval_relay.specs.Verdict.{Text, one_in, IsVerdict}
 
 -- ---- the tree and its JSON
@@ -21,8 +21,8 @@ use Rattle.sval_relay.specs.Verdict.{Text, one_in, IsVerdict}
 abbrev pub record_tree : ℕ → Tree
 record_tree i =
     tree.Container (Record no_name)
-    (part (Field None (field_label (codes "id"))) (tree.Int U64 (pos i))
-    (part (Field None (field_label (codes "name"))) (tree.Text (codes "n" ++ decimal i)) none))
+    (part (Field None (made_field_label (codes "id"))) (tree.Int U64 (pos i))
+    (part (Field None (made_field_label (codes "name"))) (tree.Text (codes "n" ++ decimal i)) none))
 
 abbrev pub made_tree : ℕ → Tree
 made_tree count = seq_tree record_tree (range_with_len 0 count)

@@ -74,7 +74,7 @@ AreMeant asked end (tree ∷ trees) bytes =
 -- ---- what is left of a sink
 
 -- the verdict is a text, and exactly that was taken
-pub record WritesText (old new : Told) (script : List ℕ) (task : Task) : Type 0 where
+pub record WritesVerdictText (old new : Told) (script : List ℕ) (task : Task) : Type 0 where
   pub text : List ℕ
   pub is : IsVerdict (Text text) script task
   pub appends : Appends old text new
@@ -138,7 +138,7 @@ IsAnswerTo (Number written) result = result ≡ Err answer.InvalidNumber
 -- Each answer comes only where it is so. Where no fault of the sink is counted, the answer that is due comes, unless memory is wanting.
 -- A script that isn't whole leaves the sink as it was, and whatever comes, the sink begins with what it held, and no count falls.
 pub record Relays {K : Type 0} (told : K → Told) (script : List ℕ) (task : Task) (result : Result (Unit {0}) RelayError) (old new : K) : Type 0 where
-  pub done : result ≡ Ok tt → WritesText (told old) (told new) script task
+  pub done : result ≡ Ok tt → WritesVerdictText (told old) (told new) script task
   pub denotes : result ≡ Ok tt → WritesValue (told old) (told new) script task
   pub bad_line : (n : ℕ) → result ≡ Err (answer.BadLine n) → IsVerdict (BadLine n) script task
   pub bad_call : (n : ℕ) → result ≡ Err (answer.BadCall n) → IsVerdict (BadCall n) script task

@@ -67,13 +67,13 @@ pub record StopsTree {K : Type 0} (why : RelayError) (captured : Bool) (told : K
   pub counts : NoCountFell (told old) (told new)
 
 -- the tree's text was written, or a first part of what is due of it
-abbrev pub WritesTree : {K : Type 0} → Result (Unit {0}) RelayError → (captured : Bool) → (K → Told) → Asked → Tree → K → K → Type 0
-WritesTree (Ok done) captured told asked tree old new = WritesTextOf asked tree (told old) (told new)
-WritesTree (Err why) captured told asked tree old new = StopsTree why captured told asked tree old new
+abbrev pub WritesTreeText : {K : Type 0} → Result (Unit {0}) RelayError → (captured : Bool) → (K → Told) → Asked → Tree → K → K → Type 0
+WritesTreeText (Ok done) captured told asked tree old new = WritesTextOf asked tree (told old) (told new)
+WritesTreeText (Err why) captured told asked tree old new = StopsTree why captured told asked tree old new
 
 -- the same in a way
 abbrev pub WritesTreeBy : {K : Type 0} → Way → Result (Unit {0}) RelayError → (K → Told) → Tree → K → K → Type 0
-WritesTreeBy way result told tree old new = WritesTree result (is_captured way) told (asked_in way) tree old new
+WritesTreeBy way result told tree old new = WritesTreeText result (is_captured way) told (asked_in way) tree old new
 
 -- ---- trees one after another
 

@@ -8,7 +8,7 @@ ghost use Rattle.sval_program.specs.Inputs.{OnShort, OnLong, IsSpent};
 ghost use Rattle.sval_relay.specs.Ways.{form_of, takes_many, OnAsked, OnMade};
 ghost use Rattle.sval_relay.specs.Verdict.{Unfinished, Key, Number, IsVerdict, HasBadLine, HasBadCall, OnVerdict};
 ghost use Rattle.sval_program.specs.Outputs.{Grows};
-ghost use Rattle.sval_relay.specs.Relays.{WritesText, WritesValue, WritesUpTo, MayLeave};
+ghost use Rattle.sval_relay.specs.Relays.{WritesVerdictText, WritesValue, WritesUpTo, MayLeave};
 ghost use Rattle.sval_relay.specs.Statuses.{is_status, is_of_made, is_unwritten, is_read, IsStatusDue};
 ghost use Rattle.sval_relay.specs.Serves.{ServesScript, ServesMade, Serves};
 ghost use Rattle.sval_relay.specs.Runs.{IsWantAsked, WritesMadeLine, BeginsMadeLine};
@@ -134,7 +134,7 @@ pub fn run<I: Source, K: Sink, D: Sink>(
     // Each status comes only where it is so.
     ensures usage { (result ≡ USAGE) ↔ (form_of words.now ≡ None) }
     ensures done { result ≡ DONE
-        → OnAsked words.now (I.told input.old) (WritesText (K.told out.old) (K.told out.new)) }
+        → OnAsked words.now (I.told input.old) (WritesVerdictText (K.told out.old) (K.told out.new)) }
     ensures denotes { result ≡ DONE
         → OnAsked words.now (I.told input.old) (WritesValue (K.told out.old) (K.told out.new)) }
     ensures flushed { result ≡ DONE → HoldsNothing (K.told out.new) }

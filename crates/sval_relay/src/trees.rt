@@ -8,7 +8,7 @@ ghost use Rattle.sval_core.specs.Spells.{Spells};
 ghost use Rattle.sval_core.specs.Trees.{Tree};
 ghost use Rattle.sval_core.specs.Values.{makes};
 ghost use Rattle.sval_relay.specs.Verdict.{JsonIn, Script};
-ghost use Rattle.sval_relay.specs.WrittenTrees.{WritesTree, WritesTreeBy};
+ghost use Rattle.sval_relay.specs.WrittenTrees.{WritesTreeText, WritesTreeBy};
 
 use crate::relaying::RelayError;
 use crate::way::Way;
@@ -49,7 +49,7 @@ fn write_captured<K: Sink>(
 ) -> Result<(), RelayError>
     requires { (tree : Tree) × Spells lines.now tree }
     ensures { (tree : Tree) → Spells lines.now tree → IsReal tree
-        → WritesTree result true K.told (JsonIn variants) tree out.old out.new }
+        → WritesTreeText result true K.told (JsonIn variants) tree out.old out.new }
 {
     let captured = capture(alloc, lines)?;
     write_json(out, &captured, variants)
@@ -63,7 +63,7 @@ fn print_lines<K: Sink>(
 ) -> Result<(), RelayError>
     requires { (tree : Tree) × Spells lines.now tree × IsPrintable tree }
     ensures { (tree : Tree) → Spells lines.now tree → IsPrintable tree
-        → WritesTree result true K.told Script tree out.old out.new }
+        → WritesTreeText result true K.told Script tree out.old out.new }
 {
     match print_captured(alloc, most_parts(lines), lines, out) {
         Ok(()) => Ok(()),
@@ -101,7 +101,7 @@ fn write_json<'v, K: Sink, V: Value<'v, Lent<'v>>>(
 ) -> Result<(), RelayError>
     requires { (V.emission value.now).refuses ≡ false }
     ensures { (tree : Tree) → Spells (V.emission value.now).calls tree → IsReal tree
-        → WritesTree result false K.told (JsonIn variants) tree out.old out.new }
+        → WritesTreeText result false K.told (JsonIn variants) tree out.old out.new }
 {
     match stream_to_io_write_with(out, value, variants) {
         Ok(()) => Ok(()),

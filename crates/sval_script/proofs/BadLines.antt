@@ -8,7 +8,7 @@ use Rattle.sval_script.specs.Lines.{Good, Bad, line_of, lines_from, with_call, c
 use Rattle.sval_script.specs.Fields.{cut_line}
 use Rattle.sval_script.specs.LineCalls.{stored, Stored}
 use Rattle.sval_script.specs.Readings.{after_calls, lines_after, HasBadLineAt}
-use Rattle.sval_script.specs.ReadLines.{calls_of, lines_with, ReadsOn, IsFirstBad, NamesBadLine, IsRead, EndsIn, ReadsPiece}
+use Rattle.sval_script.specs.ReadLines.{line_calls, lines_with, ReadsLinesOn, IsFirstBadLine, NamesBadLine, AreReadLines, EndsIn, ReadsPiece}
 use Rattle.sval_script.specs.declared.reader.ReadLines.{ReadLines}
 use Rattle.sval_script.specs.declared.script.ScriptError.{ScriptError}
 use Rattle.sval_script.specs.declared.script.ScriptError.TheVariants.{BadLine, NoMemory}
@@ -99,7 +99,7 @@ none_ended bytes place none has =
     omega arith
 
 -- no byte ends no line
-pub reads_nothing : (read : ReadLines) (piece : List ℕ) → IsRead read → length piece ≡ 0 → ReadsPiece read piece read
+pub reads_nothing : (read : ReadLines) (piece : List ℕ) → AreReadLines read → length piece ≡ 0 → ReadsPiece read piece read
 reads_nothing read [] is empty = record {
   is_read = is;
   good = λ place has. none_ended read.begun.items place is.begun (rw (← append-nil read.begun.items) has);
@@ -116,17 +116,17 @@ none_bad calls made bytes tail place good none has =
 
 -- the piece is good where its lines were read, and what stands behind them has no line feed
 pub good_piece : (old mid : ReadLines) (whole behind tail piece : List ℕ) (new : List Line) (after : Stored) → EndsIn old whole behind mid
-    → ReadsOn mid.lines.items (stored mid.store) behind new after → whole ++ tail ≡ piece → cut_line tail ≡ None → (place : ℕ) → ¬ HasBadLineAt (old.begun.items ++ piece) place
+    → ReadsLinesOn mid.lines.items (stored mid.store) behind new after → whole ++ tail ≡ piece → cut_line tail ≡ None → (place : ℕ) → ¬ HasBadLineAt (old.begun.items ++ piece) place
 good_piece old mid whole behind tail piece new after ends reads same none place has =
-    let calls = calls_of old.lines.items (stored old.store) in
+    let calls = line_calls old.lines.items (stored old.store) in
     let begun = old.begun.items in
     let all : begun ++ piece ≡ (begun ++ whole) ++ tail = ap (λ bytes. begun ++ bytes) (sym same) ∙ sym (append_assoc begun whole tail) in
-    let good : lines_after calls (begun ++ whole) ≡ Good (calls_of new after ++ []) =
+    let good : lines_after calls (begun ++ whole) ≡ Good (line_calls new after ++ []) =
     ap (λ bytes. lines_with old bytes) (sym (append-nil whole)) ∙ sym (ends.goes_on []) ∙ reads.goes_on [] in
-    none_bad calls (calls_of new after ++ []) (begun ++ whole) tail place good none (rw (← all) has)
+    none_bad calls (line_calls new after ++ []) (begun ++ whole) tail place good none (rw (← all) has)
 
 -- a reader that finds the first bad line names that of the bytes
-names : (calls : List Call) (bytes : List ℕ) (why : ScriptError) → IsFirstBad calls bytes why → NamesBadLine calls bytes why
+names : (calls : List Call) (bytes : List ℕ) (why : ScriptError) → IsFirstBadLine calls bytes why → NamesBadLine calls bytes why
 names calls bytes NoMemory first place has = record { cause = inr refl }
 names calls bytes (BadLine n) first place has =
     let here : lines_after calls bytes ≡ Bad n = ap (lines_after calls) (sym (append-nil bytes)) ∙ first n [] refl in
@@ -135,6 +135,6 @@ names calls bytes (BadLine n) first place has =
     let number : n ≡ length calls + 1 + place = cc in
     record { cause = inl (ap (λ n. Some (BadLine n)) (omega arith)) }
 
-pub names_bad_line : (calls : List Call) (bytes : List ℕ) (result : Result (Unit {0}) ScriptError) → IfErr result (IsFirstBad calls bytes) → IfErr result (NamesBadLine calls bytes)
+pub names_bad_line : (calls : List Call) (bytes : List ℕ) (result : Result (Unit {0}) ScriptError) → IfErr result (IsFirstBadLine calls bytes) → IfErr result (NamesBadLine calls bytes)
 names_bad_line calls bytes (Ok done) first = tt
 names_bad_line calls bytes (Err why) first = names calls bytes why first

@@ -8,7 +8,7 @@ use Rattle.std.proofs.lemmas.Bool.{false_from_ne_true}
 use Rattle.sval_label.specs.Calls as call
 use Rattle.sval_label.specs.Tags.{is_tag_name}
 use Rattle.sval_label.specs.Ranges.{is_index}
-use Rattle.sval_script.specs.Lines.{cut_at, keep, integer, tag, tagged_parts}
+use Rattle.sval_script.specs.Lines.{cut_at, keep, signed_integer, tag_named, tagged_parts}
 use Rattle.sval_script.specs.Tags.{tag_of}
 use Rattle.sval_script.specs.FieldValues.{parts_of, part_and_tag}
 use Rattle.sval_script.specs.declared.tag.TagField.{TagField}
@@ -35,10 +35,10 @@ abbrev with_tag : List ℕ → call.Tag → List ℕ × Option call.Tag
 with_tag part t = (part, Some t)
 
 -- what stands behind the first `:` is the tag
-pub parts_behind : (part rest : List ℕ) → parts_of (part ∷ cut_at 58 rest) ≡ option_map (with_tag part) (tag rest)
+pub parts_behind : (part rest : List ℕ) → parts_of (part ∷ cut_at 58 rest) ≡ option_map (with_tag part) (tag_named rest)
 parts_behind part rest = by_clean (list_all (is_not 58) rest) refl
   where
-    by_clean : (clean : Bool) → list_all (is_not 58) rest ≡ clean → parts_of (part ∷ cut_at 58 rest) ≡ option_map (with_tag part) (tag rest)
+    by_clean : (clean : Bool) → list_all (is_not 58) rest ≡ clean → parts_of (part ∷ cut_at 58 rest) ≡ option_map (with_tag part) (tag_named rest)
     by_clean true is = rw (cut_none 58 rest is) refl
     by_clean false is =
         let (a, b, more, e) = two_parts 58 rest is in
@@ -68,7 +68,7 @@ swap make part (Some x) (Some t) read e = rw e refl
 tagged_parts_of : {A B : Type 0} (read : List ℕ → Option A) (make : A → Option call.Tag → B) (parts : List (List ℕ)) → tagged_parts read make parts ≡ of_parts read make (parts_of parts)
 tagged_parts_of read make [] = refl
 tagged_parts_of read make (part ∷ []) = refl
-tagged_parts_of read make (part ∷ name ∷ []) = swap make part (read part) (tag name) read refl
+tagged_parts_of read make (part ∷ name ∷ []) = swap make part (read part) (tag_named name) read refl
 tagged_parts_of read make (part ∷ name ∷ other ∷ more) = refl
 
 pub tagged_none : {A B : Type 0} (read : List ℕ → Option A) (make : A → Option call.Tag → B) (parts : List (List ℕ)) (r : Option (Bor (List ℕ) × TagField))
@@ -80,7 +80,7 @@ pub tagged_some : {A B : Type 0} (read : List ℕ → Option A) (make : A → Op
 tagged_some read make parts r found e is = tagged_parts_of read make parts ∙ ap (of_parts read make) (sym e) ∙ ap (λ w. of_parts read make (option_map part_and_tag w)) is
 
 abbrev pub index_text : List ℕ → Option ℤ
-index_text part = option_and_then (keep is_index) (integer part)
+index_text part = option_and_then (keep is_index) (signed_integer part)
 
 abbrev pub indexed : ℤ → Option call.Tag → call.Index
 indexed z hint = record { number = z; tag = hint }

@@ -8,7 +8,7 @@ use Rattle.sval_label.specs.Calls.{Call, Name, Label, Index, Tag}
 use Rattle.sval_script.specs.Lines as script
 use Rattle.sval_script.specs.Lines.{LineForm, forms, find_form, call_of_fields}
 use Rattle.sval_script.specs.Fields.{LineLeft, line_ahead}
-use Rattle.sval_script.specs.NextFields.{with_field, NoField, call_before, first_call, EndsBefore, NextIs, NoNext, ReadsNext, ReadsAs, ReadsWord}
+use Rattle.sval_script.specs.NextFields.{with_field, NoField, call_before, first_call, HasNoFieldsLeft, NextIs, NoNext, ReadsNext, ReadsAs, ReadsWord}
 use Rattle.sval_script.specs.NextFields.{StoresNextLabelField}
 use Rattle.sval_script.specs.Tags.{tag_of}
 use Rattle.sval_script.specs.FieldValues.{index_field_of}
@@ -52,8 +52,8 @@ read_as read seen first line rest (Some x) is said = field_is read first line re
 pub dash_size_read : (line rest : LineLeft) → line ≡ with_field (45 ∷ []) rest → ReadsNext script.size line rest (Some None)
 dash_size_read line rest is = field_is script.size (45 ∷ []) line rest None is refl
 
-pub dash_tag_read : (line rest : LineLeft) → line ≡ with_field (45 ∷ []) rest → ReadsAs (script.or_dash script.tag) tag_of line rest (Some tag_field.Absent)
-dash_tag_read line rest is = field_is (script.or_dash script.tag) (45 ∷ []) line rest None is refl
+pub dash_tag_read : (line rest : LineLeft) → line ≡ with_field (45 ∷ []) rest → ReadsAs (script.or_dash script.tag_named) tag_of line rest (Some tag_field.Absent)
+dash_tag_read line rest is = field_is (script.or_dash script.tag_named) (45 ∷ []) line rest None is refl
 
 pub dash_index_read : (line rest : LineLeft) → line ≡ with_field (45 ∷ []) rest → ReadsAs (script.or_dash script.index) index_field_of line rest (Some (index_field.Absent, 0))
 dash_index_read line rest is = field_is (script.or_dash script.index) (45 ∷ []) line rest None is refl
@@ -95,7 +95,7 @@ holds_read P {x = x} (Some other) why holds is =
     subst P same holds
 
 pub is_made : (script : List ℕ) {old new : Stored} {made : Line} (word : Word) (line rest : LineLeft) (read : Option Word) (end : Option (Bor (List ℕ))) (why : LineError) (left : Bor (List ℕ))
-    → ReadsWord (line_ahead script) line read → Ok word ≡ ok_or read why → MakesLine (form_of_word word) line rest old new made → EndsBefore rest end → Ok left ≡ ok_or end why
+    → ReadsWord (line_ahead script) line read → Ok word ≡ ok_or read why → MakesLine (form_of_word word) line rest old new made → HasNoFieldsLeft rest end → Ok left ≡ ok_or end why
     → IsMade (first_call script) left.now old new made
 is_made script word line rest None end why left reads is m ends found = cc is
 is_made script word line rest (Some other) None why left reads is m ends found = cc found
@@ -110,7 +110,7 @@ is_made script {made = made} word line rest (Some other) (Some behind) why left 
     }
 
 pub is_not_made : (script : List ℕ) {old new : Stored} {made : Line} (word : Word) (line rest : LineLeft) (read : Option Word) (end : Option (Bor (List ℕ))) (why error : LineError)
-    → ReadsWord (line_ahead script) line read → Ok word ≡ ok_or read why → MakesLine (form_of_word word) line rest old new made → EndsBefore rest end → Err error ≡ ok_or end why
+    → ReadsWord (line_ahead script) line read → Ok word ≡ ok_or read why → MakesLine (form_of_word word) line rest old new made → HasNoFieldsLeft rest end → Err error ≡ ok_or end why
     → first_call script ≡ None
 is_not_made script word line rest None end why error reads is m ends found = cc is
 is_not_made script word line rest (Some other) (Some behind) why error reads is m ends found = cc found
@@ -120,18 +120,18 @@ is_not_made script {made = made} word line rest (Some other) None why error read
 
 -- ---- names
 
-module _ (line at_label : LineLeft) (t : Option Tag) (tagged : NextIs (script.or_dash script.tag) line at_label t) (next : Name → LineForm) where
+module _ (line at_label : LineLeft) (t : Option Tag) (tagged : NextIs (script.or_dash script.tag_named) line at_label t) (next : Name → LineForm) where
   pub no_label : NoNext (script.or_dash script.label) at_label → call_before (script.name next) line ≡ None
-  no_label none = tagged (λ t. script.field (script.or_dash script.label) (λ l. script.field (script.or_dash script.index) (λ i. next (record { tag = t; label = l; index = i })))) ∙ none _
+  no_label none = tagged (λ t. script.field_then (script.or_dash script.label) (λ l. script.field_then (script.or_dash script.index) (λ i. next (record { tag = t; label = l; index = i })))) ∙ none _
 
   pub no_index : (at_index : LineLeft) (l : Option Label) → NextIs (script.or_dash script.label) at_label at_index l → NoNext (script.or_dash script.index) at_index → call_before (script.name next) line ≡ None
   no_index at_index l labelled none =
-      tagged (λ t. script.field (script.or_dash script.label) (λ l. script.field (script.or_dash script.index) (λ i. next (record { tag = t; label = l; index = i }))))
-      ∙ labelled (λ l. script.field (script.or_dash script.index) (λ i. next (record { tag = t; label = l; index = i }))) ∙ none _
+      tagged (λ t. script.field_then (script.or_dash script.label) (λ l. script.field_then (script.or_dash script.index) (λ i. next (record { tag = t; label = l; index = i }))))
+      ∙ labelled (λ l. script.field_then (script.or_dash script.index) (λ i. next (record { tag = t; label = l; index = i }))) ∙ none _
 
   pub name_says : (at_index rest : LineLeft) (l : Option Label) (i : Option Index) → NextIs (script.or_dash script.label) at_label at_index l → NextIs (script.or_dash script.index) at_index rest i
       → call_before (script.name next) line ≡ call_before (next (record { tag = t; label = l; index = i })) rest
   name_says at_index rest l i labelled indexed =
-      tagged (λ t. script.field (script.or_dash script.label) (λ l. script.field (script.or_dash script.index) (λ i. next (record { tag = t; label = l; index = i }))))
-      ∙ labelled (λ l. script.field (script.or_dash script.index) (λ i. next (record { tag = t; label = l; index = i })))
+      tagged (λ t. script.field_then (script.or_dash script.label) (λ l. script.field_then (script.or_dash script.index) (λ i. next (record { tag = t; label = l; index = i }))))
+      ∙ labelled (λ l. script.field_then (script.or_dash script.index) (λ i. next (record { tag = t; label = l; index = i })))
       ∙ indexed (λ i. next (record { tag = t; label = l; index = i }))

@@ -6,17 +6,17 @@ use Rattle.sval_label.specs.Calls.{Call}
 use Rattle.sval_label.specs.Calls as call
 use Rattle.sval_label.specs.declared.grouped.Int.{Int}
 use Rattle.sval_label.specs.Grouped.{int_number, int_type, int_call}
-use Rattle.sval_script.specs.Lines.{LineForm, complete, field, whole_number, whole_number_of}
+use Rattle.sval_script.specs.Lines.{LineForm, complete, field_then, whole_number, whole_number_of}
 use Rattle.sval_script.specs.Words.{type_of}
 use Rattle.sval_script.specs.declared.word.NumberType.{NumberType}
 use Rattle.sval_script.specs.declared.field.LineError.{LineError}
 use Rattle.sval_script.specs.Fields.{LineLeft}
 use Rattle.sval_script.specs.NextFields.{call_before, NextIs, StoresNext}
-use Rattle.sval_script.specs.LineCalls.{Stored, own_len, own_count, call_with, HasText}
+use Rattle.sval_script.specs.LineCalls.{Stored, own_len, own_count, call_with, IsUtf8Line}
 use Rattle.sval_script.specs.MadeLines.{Puts, MakesLine, StoresCall}
 use Rattle.sval_script.specs.declared.line.Line.{Line}
 
-puts_numbers : (numbers : List ℕ) (old new : Stored) (line : Line) → new.bytes ≡ old.bytes → new.numbers ≡ old.numbers ++ numbers → own_len line numbers ≡ 0 → length numbers ≡ own_count line → HasText line []
+puts_numbers : (numbers : List ℕ) (old new : Stored) (line : Line) → new.bytes ≡ old.bytes → new.numbers ≡ old.numbers ++ numbers → own_len line numbers ≡ 0 → length numbers ≡ own_count line → IsUtf8Line line []
     → Puts [] numbers old new line
 puts_numbers numbers old new line bytes put len count text = record {
   has_text = text;
@@ -26,24 +26,24 @@ puts_numbers numbers old new line bytes put len count text = record {
   has_count = count;
 }
 
-puts_nothing : (store : Stored) (line : Line) → own_len line [] ≡ 0 → own_count line ≡ 0 → HasText line [] → Puts [] [] store store line
+puts_nothing : (store : Stored) (line : Line) → own_len line [] ≡ 0 → own_count line ≡ 0 → IsUtf8Line line [] → Puts [] [] store store line
 puts_nothing store line len count text = puts_numbers [] store store line refl (sym (append-nil store.numbers)) len (sym count) text
 
 -- a line with nothing of its own in the store
-pub says_all : (call : Call) (store : Stored) (line : Line) → call_with [] [] line ≡ call → own_len line [] ≡ 0 → own_count line ≡ 0 → HasText line [] → StoresCall call store store line
+pub says_all : (call : Call) (store : Stored) (line : Line) → call_with [] [] line ≡ call → own_len line [] ≡ 0 → own_count line ≡ 0 → IsUtf8Line line [] → StoresCall call store store line
 says_all call store line says len count text = record { bytes = []; numbers = []; says = says; puts = puts_nothing store line len count text }
 
 -- a line with one number in the store
 pub says_number : (call : Call) (n : ℕ) (old new : Stored) (line : Line) → call_with [] (n ∷ []) line ≡ call → new.bytes ≡ old.bytes → new.numbers ≡ old.numbers ++ (n ∷ []) → own_len line (n ∷ []) ≡ 0
-    → own_count line ≡ 1 → HasText line [] → StoresCall call old new line
+    → own_count line ≡ 1 → IsUtf8Line line [] → StoresCall call old new line
 says_number call n old new line says bytes put len count text = record { bytes = []; numbers = n ∷ []; says = says; puts = puts_numbers (n ∷ []) old new line bytes put len (sym count) text }
 
 pub makes_number : (form : LineForm) (fields rest : LineLeft) (n : ℕ) (old new : Stored) (line : Line) → call_before form fields ≡ call_before (complete (call_with [] (n ∷ []) line)) rest → new.bytes ≡ old.bytes
-    → new.numbers ≡ old.numbers ++ (n ∷ []) → own_len line (n ∷ []) ≡ 0 → own_count line ≡ 1 → HasText line [] → MakesLine form fields rest old new line
+    → new.numbers ≡ old.numbers ++ (n ∷ []) → own_len line (n ∷ []) ≡ 0 → own_count line ≡ 1 → IsUtf8Line line [] → MakesLine form fields rest old new line
 makes_number form fields rest n old new line spells bytes put len count text = record { bytes = []; numbers = n ∷ []; spells = spells; puts = puts_numbers (n ∷ []) old new line bytes put len (sym count) text }
 
 pub makes_all : (form : LineForm) (fields rest : LineLeft) (store : Stored) (line : Line) → call_before form fields ≡ call_before (complete (call_with [] [] line)) rest → own_len line [] ≡ 0
-    → own_count line ≡ 0 → HasText line [] → MakesLine form fields rest store store line
+    → own_count line ≡ 0 → IsUtf8Line line [] → MakesLine form fields rest store store line
 makes_all form fields rest store line spells len count text = record { bytes = []; numbers = []; spells = spells; puts = puts_nothing store line len count text }
 
 pub number_made : (kind : NumberType) (fields rest : LineLeft) (n : Int) (old new : Stored) (r : Result Line LineError) → NextIs (whole_number_of (type_of kind)) fields rest (int_number n) → int_type n ≡ type_of kind
@@ -59,9 +59,9 @@ number_made kind fields rest n old new (Ok line) says of_type s = record {
 
 -- a line whose own bytes are a fragment
 pub fragment_made : {read : List ℕ → Option (List ℕ)} {IsGood : List ℕ → Type 0} {fields rest : LineLeft} {old new : List ℕ} {len : ℕ} (call : List ℕ → Call) (line : Line) (numbers : List ℕ)
-    → ((bytes : List ℕ) → call_with bytes [] line ≡ call bytes) → ((bytes : List ℕ) → IsGood bytes → HasText line bytes) → own_len line [] ≡ len → own_count line ≡ 0
+    → ((bytes : List ℕ) → call_with bytes [] line ≡ call bytes) → ((bytes : List ℕ) → IsGood bytes → IsUtf8Line line bytes) → own_len line [] ≡ len → own_count line ≡ 0
     → StoresNext read (λ bytes. bytes) IsGood fields rest old new len
-    → MakesLine (field read (λ bytes. complete (call bytes))) fields rest (record { bytes = old; numbers = numbers }) (record { bytes = new; numbers = numbers }) line
+    → MakesLine (field_then read (λ bytes. complete (call bytes))) fields rest (record { bytes = old; numbers = numbers }) (record { bytes = new; numbers = numbers }) line
 fragment_made {rest = rest} call line numbers says good size count s = record {
   bytes = s.bytes;
   numbers = [];

@@ -13,7 +13,7 @@ use Rattle.sval_script.specs.declared.field.IndexField.TheVariants as index_fiel
 use Rattle.sval_script.specs.declared.fields.NameRead.{NameRead}
 use Rattle.sval_script.specs.FieldValues.{IsLabelText, label_from, index_from}
 use Rattle.sval_script.specs.NextFields.{name_from}
-use Rattle.sval_script.specs.LineCalls.{Stored, own_len, own_count, HasText}
+use Rattle.sval_script.specs.LineCalls.{Stored, own_len, own_count, IsUtf8Line}
 use Rattle.sval_script.specs.MadeLines.{Puts}
 use Rattle.sval_script.specs.declared.line.Line.{Line}
 use Rattle.sval_script.specs.NameNumbers.{label_numbers, index_numbers, name_numbers, label_count, index_count, name_count, label_len, name_with}
@@ -61,7 +61,7 @@ behind_name name n = by_both name.parts.label name.parts.index
 
 -- a line with a name, whose numbers are the name's and these
 pub name_put : (name : NameRead) (text more : List ℕ) (old new : Stored) (line : Line) → IsLabelText name.parts.label text → length text ≡ name.len → new.bytes ≡ old.bytes ++ text → new.numbers ≡ old.numbers ++ name_numbers name ++ more
-    → ((numbers : List ℕ) → own_len line numbers ≡ label_len name.parts.label numbers) → own_count line ≡ name_count name.parts + length more → (IsUtf8 text → HasText line text)
+    → ((numbers : List ℕ) → own_len line numbers ≡ label_len name.parts.label numbers) → own_count line ≡ name_count name.parts + length more → (IsUtf8 text → IsUtf8Line line text)
     → Puts text (name_numbers name ++ more) old new line
 name_put name text more old new line t len bytes numbers own_len_is own_count_is has_text = record {
   has_text = has_text (is_text name.parts.label text t);

@@ -12,7 +12,7 @@ use Rattle.sval_label.specs.Calls as call
 use Rattle.sval_label.specs.Calls.{Call, IntType, Slot, Name, Tag}
 use Rattle.sval_label.specs.Tags.{is_tag_name, IsTagName}
 use Rattle.sval_label.specs.Ranges.{is_of_type, is_index}
-use Rattle.sval_script.specs.Lines.{cut_at, keep, integer, natural, whole_number_of, or_dash, size, bytes, text, truth, tag, tagged_parts, label, index, LineForm, complete, field, name, forms, find_form, call_of_fields, line_of, Lines, Good, Bad, with_call, lines_from, lines}
+use Rattle.sval_script.specs.Lines.{cut_at, keep, signed_integer, natural, whole_number_of, or_dash, size, bytes, text, truth, tag_named, tagged_parts, label, index, LineForm, complete, field_then, name, forms, find_form, call_of_fields, line_of, Lines, Good, Bad, with_call, lines_from, lines}
 use Rattle.sval_script.specs.Printed.{IsShortSize, IsPrintableLabel, IsPrintableIndex, IsPrintableName, IsPrintableSlot, IsPrintableCall, ArePrintable}
 use Rattle.sval_script.specs.declared.word.Word.{Word}
 use Rattle.sval_script.specs.declared.word.Word.TheVariants as word
@@ -26,7 +26,7 @@ use Rattle.sval_script.specs.declared.word.NamedOpening.{NamedOpening}
 use Rattle.sval_script.specs.declared.word.NamedOpening.TheVariants as named_opening
 use Rattle.sval_script.specs.declared.word.Side.{Side}
 use Rattle.sval_script.specs.declared.word.Side.TheVariants as side
-use Rattle.sval_script.specs.Words.{type_of, is_kept, alone_call, opening_call, named_call, head_of, part_call, form_of_word, word_table}
+use Rattle.sval_script.specs.Words.{type_of, is_kept, alone_call, opening_call, word_call, head_of, part_call, form_of_word, word_table}
 
 -- the bytes of texts and binaries that a call holds, and that calls hold
 abbrev pub held : Call → ℕ
@@ -96,7 +96,7 @@ size_reads =
     or_dash_reads (λ n. n < 2 ^ 64) _ (λ part. if_kept (λ n. n < 2 ^ 64) (λ n. nat_lt n (2 ^ 64)) (natural part) (λ n is. less n (2 ^ 64) is))
 
 whole_number_reads : (type : IntType) → Reads (whole_number_of type) (λ z. is_of_type type z ≡ true)
-whole_number_reads type part = if_kept (λ z. is_of_type type z ≡ true) (is_of_type type) (integer part) (λ z is. is)
+whole_number_reads type part = if_kept (λ z. is_of_type type z ≡ true) (is_of_type type) (signed_integer part) (λ z is. is)
 
 -- bytes take two digits each
 abbrev AreRead : List ℕ → List ℕ → Type 0
@@ -117,7 +117,7 @@ IsTextRead part content = (is_utf8 content ≡ true) × (length content ≤ leng
 text_read : (part : List ℕ) → IfSome (text part) (IsTextRead part)
 text_read part = if_then (AreRead part) (IsTextRead part) (keep is_utf8) (bytes part) (bytes_read part) (λ content h. kept (IsTextRead part) is_utf8 content (λ is. (is, h.1)))
 
-tag_reads : Reads tag (λ t. is_tag_name t ≡ true)
+tag_reads : Reads tag_named (λ t. is_tag_name t ≡ true)
 tag_reads part = kept (λ t. is_tag_name t ≡ true) is_tag_name part (λ is. is)
 
 tagged_parts_read : {A B : Type 0} (P : A → Type 0) (Q : B → Type 0) (read : List ℕ → Option A) (make : A → Option Tag → B)
@@ -125,8 +125,8 @@ tagged_parts_read : {A B : Type 0} (P : A → Type 0) (Q : B → Type 0) (read :
 tagged_parts_read P Q read make r m [] = tt
 tagged_parts_read P Q read make r m (part ∷ []) = if_mapped P Q (λ x. make x None) (read part) (r part) (λ x h. m x None h tt)
 tagged_parts_read P Q read make r m (part ∷ hint ∷ []) =
-    if_then P Q (λ x. option_map (λ t. make x (Some t)) (tag hint)) (read part) (r part)
-    (λ x h. if_mapped (λ t. is_tag_name t ≡ true) Q (λ t. make x (Some t)) (tag hint) (tag_reads hint) (λ t k. m x (Some t) h k))
+    if_then P Q (λ x. option_map (λ t. make x (Some t)) (tag_named hint)) (read part) (r part)
+    (λ x h. if_mapped (λ t. is_tag_name t ≡ true) Q (λ t. make x (Some t)) (tag_named hint) (tag_reads hint) (λ t k. m x (Some t) h k))
 tagged_parts_read P Q read make r m (part ∷ hint ∷ other ∷ more) = tt
 
 label_reads : Reads label IsPrintableLabel
@@ -140,8 +140,8 @@ index_reads part =
     tagged_parts_read (λ z. is_index z ≡ true) IsPrintableIndex _ (λ z hint. record { number = z; tag = hint }) read (λ z hint h k. record { range = h; hint = k })
     (cut_at 58 part)
   where
-    read : Reads (λ part. option_and_then (keep is_index) (integer part)) (λ z. is_index z ≡ true)
-    read part = if_kept (λ z. is_index z ≡ true) is_index (integer part) (λ z is. is)
+    read : Reads (λ part. option_and_then (keep is_index) (signed_integer part)) (λ z. is_index z ≡ true)
+    read part = if_kept (λ z. is_index z ≡ true) is_index (signed_integer part) (λ z is. is)
 
 -- ---- forms of lines
 
@@ -155,9 +155,9 @@ IsPrintedForm form = (fields : List (List ℕ)) → IfSome (form fields) (IsCall
 
 complete_form : (c : Call) → IsPrintableCall c → held c ≡ 0 → IsPrintedForm (complete c)
 complete_form c h e [] = (h, omega (arith, e))
-complete_form c h e (field ∷ fields) = tt
+complete_form c h e (field_then ∷ fields) = tt
 
-field_form : {A : Type 0} (P : A → Type 0) (read : List ℕ → Option A) (next : A → LineForm) → Reads read P → ((x : A) → P x → IsPrintedForm (next x)) → IsPrintedForm (field read next)
+field_form : {A : Type 0} (P : A → Type 0) (read : List ℕ → Option A) (next : A → LineForm) → Reads read P → ((x : A) → P x → IsPrintedForm (next x)) → IsPrintedForm (field_then read next)
 field_form P read next r n [] = tt
 field_form P read next r n (first ∷ fields) =
     if_then P (IsCallWithin (lengths (first ∷ fields))) (λ x. next x fields) (read first) (r first)
@@ -166,7 +166,7 @@ field_form P read next r n (first ∷ fields) =
 -- a fragment holds what its one field spells
 fragment_form : (P : List ℕ → List ℕ → Type 0) (read : List ℕ → Option (List ℕ)) (make : List ℕ → Call)
     → ((part : List ℕ) → IfSome (read part) (P part)) → ((part content : List ℕ) → P part content → IsCallWithin (length part) (make content))
-    → IsPrintedForm (field read (λ content. complete (make content)))
+    → IsPrintedForm (field_then read (λ content. complete (make content)))
 fragment_form P read make r m [] = tt
 fragment_form P read make r m (part ∷ []) =
     if_then (P part) (IsCallWithin (lengths (part ∷ []))) (λ content. Some (make content)) (read part) (r part)
@@ -176,7 +176,7 @@ fragment_form P read make r m (part ∷ other ∷ more) =
 
 name_form : (next : Name → LineForm) → ((n : Name) → IsPrintableName n → IsPrintedForm (next n)) → IsPrintedForm (name next)
 name_form next n =
-    field_form IsTagName (or_dash tag) _ (or_dash_reads (λ t. is_tag_name t ≡ true) tag tag_reads)
+    field_form IsTagName (or_dash tag_named) _ (or_dash_reads (λ t. is_tag_name t ≡ true) tag_named tag_reads)
     (λ t g. field_form (λ l. IfSome l IsPrintableLabel) (or_dash label) _ (or_dash_reads IsPrintableLabel label label_reads)
     (λ l h. field_form (λ i. IfSome i IsPrintableIndex) (or_dash index) _ (or_dash_reads IsPrintableIndex index index_reads)
     (λ i k. n (record { tag = t; label = l; index = i }) (record { tag = g; label = h; index = k }))))
@@ -205,7 +205,7 @@ opening_form opening.BinaryBegin n h = complete_form (call.BinaryBegin n) h refl
 opening_form opening.MapBegin n h = complete_form (call.Begin call.Map n) (tt, h) refl
 opening_form opening.SeqBegin n h = complete_form (call.Begin call.Seq n) (tt, h) refl
 
-named_form : (w : Named) (n : Name) → IsPrintableName n → IsPrintedForm (complete (named_call w n))
+named_form : (w : Named) (n : Name) → IsPrintableName n → IsPrintedForm (complete (word_call w n))
 named_form named.EnumBegin n h = complete_form (call.EnumBegin n) h refl
 named_form named.EnumEnd n h = complete_form (call.EnumEnd n) h refl
 named_form named.TaggedBegin n h = complete_form (call.TaggedBegin n) h refl
@@ -230,16 +230,16 @@ word_form (word.Opening w) = field_form IsShortSize size _ size_reads (opening_f
 word_form (word.TextFragment life) = fragment_form IsTextRead text (call.TextFragment (is_kept life)) text_read (λ part content h. h)
 word_form (word.BinaryFragment life) = fragment_form AreRead bytes (call.BinaryFragment (is_kept life)) bytes_read (λ part content h. h)
 word_form (word.Named w) = name_form _ (named_form w)
-word_form word.TagHint = field_form (λ t. is_tag_name t ≡ true) tag _ tag_reads (λ t h. complete_form (call.TagHint t) h refl)
+word_form word.TagHint = field_form (λ t. is_tag_name t ≡ true) tag_named _ tag_reads (λ t h. complete_form (call.TagHint t) h refl)
 word_form (word.NamedOpening w) = name_form _ (λ n h. field_form IsShortSize size _ size_reads (λ s k. named_opening_form w n s h k))
 word_form (word.Field s) =
-    field_form IsTagName (or_dash tag) _ (or_dash_reads (λ t. is_tag_name t ≡ true) tag tag_reads)
+    field_form IsTagName (or_dash tag_named) _ (or_dash_reads (λ t. is_tag_name t ≡ true) tag_named tag_reads)
     (λ t g. field_form IsPrintableLabel label _ label_reads (λ l h. slot_form s (call.Field t l) (g, h)))
 word_form (word.Place s) =
-    field_form IsTagName (or_dash tag) _ (or_dash_reads (λ t. is_tag_name t ≡ true) tag tag_reads)
+    field_form IsTagName (or_dash tag_named) _ (or_dash_reads (λ t. is_tag_name t ≡ true) tag_named tag_reads)
     (λ t g. field_form IsPrintableIndex index _ index_reads (λ i h. slot_form s (call.Place t i) (g, h)))
 word_form (word.FieldPlace s) =
-    field_form IsTagName (or_dash tag) _ (or_dash_reads (λ t. is_tag_name t ≡ true) tag tag_reads)
+    field_form IsTagName (or_dash tag_named) _ (or_dash_reads (λ t. is_tag_name t ≡ true) tag_named tag_reads)
     (λ t g. field_form IsPrintableLabel label _ label_reads
     (λ l h. field_form IsPrintableIndex index _ index_reads (λ i k. slot_form s (call.FieldPlace t l i) (g, h, k))))
 

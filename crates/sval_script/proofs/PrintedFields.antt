@@ -22,7 +22,7 @@ use Rattle.sval_label.specs.Tags.{tag_names, is_tag_name}
 use Rattle.sval_label.specs.Ranges.{is_index}
 use Rattle.sval_label.proofs.Decimals.{IsPlain, decimal_plain, is_decimal-plain, IsShort, short_index}
 use Rattle.sval_script.specs.Printed.{IsPrintableLabel, IsPrintableIndex, or_dash_field, size_field, hex_field, tag_field, hint_text, label_field, index_field}
-use Rattle.sval_script.specs.Lines.{keep, natural, negative, integer, or_dash, size, bytes, text, cut_at, tag, tagged_parts, label, index}
+use Rattle.sval_script.specs.Lines.{keep, natural, negative, signed_integer, or_dash, size, bytes, text, cut_at, tag_named, tagged_parts, label, index}
 use Rattle.sval_script.proofs.Cut.{not_true, is_not, cut_none, cut_first}
 
 -- ---- decimals
@@ -70,13 +70,13 @@ split_decimal n h = split-plain n (decimal n) (decimal_plain n h)
 
 -- ---- whole numbers with a sign
 
-pub integer-split : (digits : List ℕ) → IsSplitDecimal digits → integer digits ≡ option_map pos (natural digits)
+pub integer-split : (digits : List ℕ) → IsSplitDecimal digits → signed_integer digits ≡ option_map pos (natural digits)
 integer-split [] s = cc s.is
 integer-split (first ∷ rest) s =
     let e : (first == 45) ≡ false = let f : first ≡ s.first = cc s.is in rw f s.no_minus in
     rw e refl
 
-pub integer-signed : (z : ℤ) → IsShort z → integer (signed_decimal z) ≡ Some z
+pub integer-signed : (z : ℤ) → IsShort z → signed_integer (signed_decimal z) ≡ Some z
 integer-signed (pos n) h = integer-split (decimal n) (split_decimal n h) ∙ ap (option_map pos) (natural-decimal n h)
 integer-signed (negsuc n) h = ap (option_and_then negative) (natural-decimal (suc n) h)
 
@@ -98,16 +98,16 @@ clean-hex (x ∷ xs) =
     rw (at_each is_clean lower_digits (x / 16) refl refl, at_each is_clean lower_digits (x % 16) refl refl, clean-hex xs) refl
 
 -- what each of the names passes, a tag among them passes
-pub of_names : (test : List ℕ → Bool) (tag : Tag) (names : List Tag) → list_any (bytes_eq tag) names ≡ true → list_all test names ≡ true → test tag ≡ true
-of_names test tag [] h k = cc h
-of_names test tag (first ∷ names) h k =
+pub of_names : (test : List ℕ → Bool) (name : Tag) (names : List Tag) → list_any (bytes_eq name) names ≡ true → list_all test names ≡ true → test name ≡ true
+of_names test name [] h k = cc h
+of_names test name (first ∷ names) h k =
     let (a, b) = and_parts (test first) (list_all test names) k in
-    by_first (bytes_eq tag first) (λ e. let f = bytes_eq_same e in rw f a) (λ m. of_names test tag names m b) h
+    by_first (bytes_eq name first) (λ e. let f = bytes_eq_same e in rw f a) (λ m. of_names test name names m b) h
   where
-    bytes_eq_same : bytes_eq tag first ≡ true → tag ≡ first
-    bytes_eq_same e = (bytes_eq-Decides tag first).0 e
+    bytes_eq_same : bytes_eq name first ≡ true → name ≡ first
+    bytes_eq_same e = (bytes_eq-Decides name first).0 e
 
-    by_first : (b : Bool) → (b ≡ true → test tag ≡ true) → (list_any (bytes_eq tag) names ≡ true → test tag ≡ true) → (b || list_any (bytes_eq tag) names) ≡ true → test tag ≡ true
+    by_first : (b : Bool) → (b ≡ true → test name ≡ true) → (list_any (bytes_eq name) names ≡ true → test name ≡ true) → (b || list_any (bytes_eq name) names) ≡ true → test name ≡ true
     by_first true f g e = f refl
     by_first false f g e = g e
 
@@ -233,15 +233,15 @@ text-reads xs u = let h = bytes_of_text xs u in record {
   inner = (bytes-reads xs h).inner;
 }
 
-pub tag-reads : (t : Tag) → is_tag_name t ≡ true → ReadsApart tag t t
+pub tag-reads : (t : Tag) → is_tag_name t ≡ true → ReadsApart tag_named t t
 tag-reads t h = record {
   reads = record { as_value = rw h refl; inner = of_names (list_all is_inner) t tag_names h refl };
   no_dash = not_true (bytes_eq t (codes "-")) (of_names (λ name. not (bytes_eq name (codes "-"))) t tag_names h refl);
 }
 
-pub or_dash_tag-reads : (t : Option Tag) → IfSome t (λ name. is_tag_name name ≡ true) → ReadsField (or_dash tag) (tag_field t) t
-or_dash_tag-reads None h = or_dash-none tag
-or_dash_tag-reads (Some t) h = or_dash-some tag t t (tag-reads t h)
+pub or_dash_tag-reads : (t : Option Tag) → IfSome t (λ name. is_tag_name name ≡ true) → ReadsField (or_dash tag_named) (tag_field t) t
+or_dash_tag-reads None h = or_dash-none tag_named
+or_dash_tag-reads (Some t) h = or_dash-some tag_named t t (tag-reads t h)
 
 -- ---- labels, indexes and names
 
@@ -254,7 +254,7 @@ tagged-reads read make part x None e c h =
 tagged-reads read make part x (Some t) e c h =
     let own = cut_none 58 t (of_names (list_all (is_not 58)) t tag_names h refl) in
     ap (tagged_parts read make) (cut_first 58 part t (all_weaker is_clean (is_not 58) clean_colon part c) ∙ ap (λ rest. part ∷ rest) own)
-    ∙ ap (option_and_then (λ y. option_map (λ name. make y (Some name)) (tag t))) e
+    ∙ ap (option_and_then (λ y. option_map (λ name. make y (Some name)) (tag_named t))) e
     ∙ ap (option_map (λ name. make x (Some name))) (tag-reads t h).reads.as_value
 
 pub hint_inner : (hint : Option Tag) → IfSome hint (λ t. is_tag_name t ≡ true) → list_all is_inner (hint_text hint) ≡ true
@@ -283,11 +283,11 @@ index-no_dash (negsuc n) rest h = let s = split_decimal (suc n) h in rw s.is ref
 pub index-reads : (i : Index) → IsPrintableIndex i → ReadsApart index (index_field i) i
 index-reads i h =
     let short = short_index i.number h.range in
-    let e : option_and_then (keep is_index) (integer (signed_decimal i.number)) ≡ Some i.number =
+    let e : option_and_then (keep is_index) (signed_integer (signed_decimal i.number)) ≡ Some i.number =
     ap (option_and_then (keep is_index)) (integer-signed i.number short) ∙ rw h.range refl in
     record {
       reads = record {
-        as_value = tagged-reads (λ part. option_and_then (keep is_index) (integer part)) (λ z hint. record { number = z; tag = hint })
+        as_value = tagged-reads (λ part. option_and_then (keep is_index) (signed_integer part)) (λ z hint. record { number = z; tag = hint })
             (signed_decimal i.number) i.number i.tag e (clean-signed i.number short) h.hint;
         inner = both_inner (signed_decimal i.number) (hint_text i.tag) (clean-signed i.number short) (hint_inner i.tag h.hint);
       };

@@ -16,22 +16,22 @@ use Rattle.sval_label.specs.Tags.{IsTagName}
 use Rattle.sval_label.specs.Ranges.{is_of_type}
 use Rattle.sval_label.proofs.Decimals.{short_of_type}
 use Rattle.sval_script.specs.Printed.{IsShortSize, IsPrintableLabel, IsPrintableIndex, IsPrintableName, IsPrintableCall, ArePrintable, or_dash_field, size_field, hex_field, tag_field, label_field, index_field, name_fields, type_word, words_of, line, printed}
-use Rattle.sval_script.specs.Lines.{keep, integer, or_dash, size, bytes, text, LineForm, complete, field, whole_number, find_form, call_among, cut_at, Good, lines_from}
-use Rattle.sval_script.specs.Lines.{tag, label, index, name, record_part, tuple_part, record_tuple_part, forms, line_of, lines}
+use Rattle.sval_script.specs.Lines.{keep, signed_integer, or_dash, size, bytes, text, LineForm, complete, field_then, whole_number, find_form, call_among, cut_at, Good, lines_from}
+use Rattle.sval_script.specs.Lines.{tag_named, label, index, name, record_part, tuple_part, record_tuple_part, forms, line_of, lines}
 use Rattle.sval_script.proofs.Cut.{is_not, cut_first, cut-some, lines-first}
 use Rattle.sval_script.proofs.PrintedFields.{integer-signed, clean-signed, all_weaker, cut_joined, clean_inner, inner_space, inner_feed, ReadsField, size-reads, bytes-reads, text-reads, tag-reads, or_dash_tag-reads, label-reads, index-reads, or_dash_label-reads, or_dash_index-reads, is_clean, is_inner}
 
 -- ---- lines
 
 field-reads : {A : Type 0} (read : List ℕ → Option A) (next : A → LineForm) (part : List ℕ) (x : A) (fields : List (List ℕ))
-    → ReadsField read part x → field read next (part ∷ fields) ≡ next x fields
+    → ReadsField read part x → field_then read next (part ∷ fields) ≡ next x fields
 field-reads read next part x fields h = ap (option_and_then (λ y. next y fields)) h.as_value
 
 name-reads : (next : Name → LineForm) (n : Name) (fields : List (List ℕ)) → IsPrintableName n → name next (name_fields n ++ fields) ≡ next n fields
 name-reads next n fields h =
-    field-reads (or_dash tag) (λ t. field (or_dash label) (λ l. field (or_dash index) (λ i. next (record { tag = t; label = l; index = i }))))
+    field-reads (or_dash tag_named) (λ t. field_then (or_dash label) (λ l. field_then (or_dash index) (λ i. next (record { tag = t; label = l; index = i }))))
     (tag_field n.tag) n.tag (or_dash_field label_field n.label ∷ or_dash_field index_field n.index ∷ fields) (or_dash_tag-reads n.tag h.tag)
-    ∙ field-reads (or_dash label) (λ l. field (or_dash index) (λ i. next (record { tag = n.tag; label = l; index = i })))
+    ∙ field-reads (or_dash label) (λ l. field_then (or_dash index) (λ i. next (record { tag = n.tag; label = l; index = i })))
     (or_dash_field label_field n.label) n.label (or_dash_field index_field n.index ∷ fields) (or_dash_label-reads n.label h.label)
     ∙ field-reads (or_dash index) (λ i. next (record { tag = n.tag; label = n.label; index = i }))
     (or_dash_field index_field n.index) n.index fields (or_dash_index-reads n.index h.index)
@@ -49,7 +49,7 @@ pub record Spell (words : List (List ℕ)) (call : Call) : Type 0 where
   inner : are_inner words ≡ true
 
 sized-spell : (word : List ℕ) (make : Option ℕ → Call) (n : Option ℕ) → IsShortSize n → list_all is_inner word ≡ true
-    → find_form word forms ≡ Some (field size (λ k. complete (make k))) → Spell (word ∷ size_field n ∷ []) (make n)
+    → find_form word forms ≡ Some (field_then size (λ k. complete (make k))) → Spell (word ∷ size_field n ∷ []) (make n)
 sized-spell word make n h w e = record {
   as_call = ap (option_and_then (λ form. form (size_field n ∷ []))) e ∙ field-reads size (λ k. complete (make k)) (size_field n) n [] (size-reads n h);
   inner = rw (w, (size-reads n h).inner) refl;
@@ -63,23 +63,23 @@ named-spell word make n h w e = record {
 }
 
 head-spell : (word : List ℕ) (make : Name → Head) (n : Name) (s : Option ℕ) → IsPrintableName n → IsShortSize s → list_all is_inner word ≡ true
-    → find_form word forms ≡ Some (name (λ m. field size (λ k. complete (Begin (make m) k)))) → Spell (word ∷ (name_fields n ++ (size_field s ∷ []))) (Begin (make n) s)
+    → find_form word forms ≡ Some (name (λ m. field_then size (λ k. complete (Begin (make m) k)))) → Spell (word ∷ (name_fields n ++ (size_field s ∷ []))) (Begin (make n) s)
 head-spell word make n s h k w e = record {
   as_call = ap (option_and_then (λ form. form (name_fields n ++ (size_field s ∷ [])))) e
-      ∙ name-reads (λ m. field size (λ j. complete (Begin (make m) j))) n (size_field s ∷ []) h
+      ∙ name-reads (λ m. field_then size (λ j. complete (Begin (make m) j))) n (size_field s ∷ []) h
       ∙ field-reads size (λ j. complete (Begin (make n) j)) (size_field s) s [] (size-reads s k);
   inner = let sized : are_inner (size_field s ∷ []) ≡ true = rw (size-reads s k).inner refl in rw (w, name_inner n (size_field s ∷ []) h sized) refl;
 }
 
 text-spell : (word : List ℕ) (make : List ℕ → Call) (xs : List ℕ) → is_utf8 xs ≡ true → list_all is_inner word ≡ true
-    → find_form word forms ≡ Some (field text (λ t. complete (make t))) → Spell (word ∷ hex_field xs ∷ []) (make xs)
+    → find_form word forms ≡ Some (field_then text (λ t. complete (make t))) → Spell (word ∷ hex_field xs ∷ []) (make xs)
 text-spell word make xs u w e = record {
   as_call = ap (option_and_then (λ form. form (hex_field xs ∷ []))) e ∙ field-reads text (λ t. complete (make t)) (hex_field xs) xs [] (text-reads xs u);
   inner = rw (w, (text-reads xs u).inner) refl;
 }
 
 bytes-spell : (word : List ℕ) (make : List ℕ → Call) (xs : List ℕ) → IsBytes xs → list_all is_inner word ≡ true
-    → find_form word forms ≡ Some (field bytes (λ t. complete (make t))) → Spell (word ∷ hex_field xs ∷ []) (make xs)
+    → find_form word forms ≡ Some (field_then bytes (λ t. complete (make t))) → Spell (word ∷ hex_field xs ∷ []) (make xs)
 bytes-spell word make xs h w e = record {
   as_call = ap (option_and_then (λ form. form (hex_field xs ∷ []))) e ∙ field-reads bytes (λ t. complete (make t)) (hex_field xs) xs [] (bytes-reads xs h);
   inner = rw (w, (bytes-reads xs h).inner) refl;
@@ -89,7 +89,7 @@ int-spell : (word : List ℕ) (type : IntType) (z : ℤ) → is_of_type type z �
     → find_form word forms ≡ Some (whole_number type) → Spell (word ∷ signed_decimal z ∷ []) (Int type z)
 int-spell word type z h w e =
     let short = short_of_type type z h in
-    let r : ReadsField (λ part. option_and_then (keep (is_of_type type)) (integer part)) (signed_decimal z) z = record {
+    let r : ReadsField (λ part. option_and_then (keep (is_of_type type)) (signed_integer part)) (signed_decimal z) z = record {
       as_value = ap (option_and_then (keep (is_of_type type))) (integer-signed z short) ∙ rw h refl;
       inner = all_weaker is_clean is_inner clean_inner (signed_decimal z) (clean-signed z short);
     } in
@@ -115,7 +115,7 @@ field-spell : (word : List ℕ) (make : Slot → Call) (t : Option Tag) (l : Lab
     → find_form word forms ≡ Some (record_part make) → Spell (word ∷ tag_field t ∷ label_field l ∷ []) (make (Field t l))
 field-spell word make t l h k w e = record {
   as_call = ap (option_and_then (λ form. form (tag_field t ∷ label_field l ∷ []))) e
-      ∙ field-reads (or_dash tag) (λ u. field label (λ m. complete (make (Field u m)))) (tag_field t) t (label_field l ∷ []) (or_dash_tag-reads t h)
+      ∙ field-reads (or_dash tag_named) (λ u. field_then label (λ m. complete (make (Field u m)))) (tag_field t) t (label_field l ∷ []) (or_dash_tag-reads t h)
       ∙ field-reads label (λ m. complete (make (Field t m))) (label_field l) l [] (label-reads l k).reads;
   inner = rw (w, (or_dash_tag-reads t h).inner, (label-reads l k).reads.inner) refl;
 }
@@ -124,7 +124,7 @@ place-spell : (word : List ℕ) (make : Slot → Call) (t : Option Tag) (i : Ind
     → find_form word forms ≡ Some (tuple_part make) → Spell (word ∷ tag_field t ∷ index_field i ∷ []) (make (Place t i))
 place-spell word make t i h k w e = record {
   as_call = ap (option_and_then (λ form. form (tag_field t ∷ index_field i ∷ []))) e
-      ∙ field-reads (or_dash tag) (λ u. field index (λ j. complete (make (Place u j)))) (tag_field t) t (index_field i ∷ []) (or_dash_tag-reads t h)
+      ∙ field-reads (or_dash tag_named) (λ u. field_then index (λ j. complete (make (Place u j)))) (tag_field t) t (index_field i ∷ []) (or_dash_tag-reads t h)
       ∙ field-reads index (λ j. complete (make (Place t j))) (index_field i) i [] (index-reads i k).reads;
   inner = rw (w, (or_dash_tag-reads t h).inner, (index-reads i k).reads.inner) refl;
 }
@@ -134,8 +134,8 @@ field_place-spell : (word : List ℕ) (make : Slot → Call) (t : Option Tag) (l
     → Spell (word ∷ tag_field t ∷ label_field l ∷ index_field i ∷ []) (make (FieldPlace t l i))
 field_place-spell word make t l i h k j w e = record {
   as_call = ap (option_and_then (λ form. form (tag_field t ∷ label_field l ∷ index_field i ∷ []))) e
-      ∙ field-reads (or_dash tag) (λ u. field label (λ m. field index (λ y. complete (make (FieldPlace u m y))))) (tag_field t) t (label_field l ∷ index_field i ∷ []) (or_dash_tag-reads t h)
-      ∙ field-reads label (λ m. field index (λ y. complete (make (FieldPlace t m y)))) (label_field l) l (index_field i ∷ []) (label-reads l k).reads
+      ∙ field-reads (or_dash tag_named) (λ u. field_then label (λ m. field_then index (λ y. complete (make (FieldPlace u m y))))) (tag_field t) t (label_field l ∷ index_field i ∷ []) (or_dash_tag-reads t h)
+      ∙ field-reads label (λ m. field_then index (λ y. complete (make (FieldPlace t m y)))) (label_field l) l (index_field i ∷ []) (label-reads l k).reads
       ∙ field-reads index (λ y. complete (make (FieldPlace t l y))) (index_field i) i [] (index-reads i j).reads;
   inner = rw (w, (or_dash_tag-reads t h).inner, (label-reads l k).reads.inner, (index-reads i j).reads.inner) refl;
 }
@@ -149,7 +149,7 @@ spells (Truth false) h = record { as_call = refl; inner = refl }
 spells (Int type z) h = int_spells type z h
 spells (Standalone n) h = named-spell _ Standalone n h refl refl
 spells (TagHint t) h = record {
-  as_call = field-reads tag (λ u. complete (TagHint u)) t t [] (tag-reads t h).reads;
+  as_call = field-reads tag_named (λ u. complete (TagHint u)) t t [] (tag-reads t h).reads;
   inner = rw (tag-reads t h).reads.inner refl;
 }
 spells (TextBegin n) h = sized-spell _ TextBegin n h refl refl

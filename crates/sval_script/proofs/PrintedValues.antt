@@ -11,14 +11,14 @@ use Rattle.sval_io.proofs.Appending.{all_is_front, steady_counts, writes_nothing
 use Rattle.sval_script.specs.declared.print_error.PrintError.{PrintError}
 use Rattle.sval_script.specs.declared.print_error.PrintError.TheVariants as error
 use Rattle.sval_script.specs.Printed.{printed}
-use Rattle.sval_script.specs.Printing.{Printing, HasKnownTags, IsCutBy, MayPrint, whole_line, with_bytes, printer_law}
+use Rattle.sval_script.specs.Printing.{Printing, HasKnownTags, IsCutBy, MayPrint, whole_line, with_printed, printer_law}
 use Rattle.sval_script.specs.PrintedValues.{HaveKnownTags, ArePrinted, BeginsKnown, EndsUnknown, PrintsValue}
 use Rattle.sval_script.proofs.CanonicalScripts.{printed-append}
 use Rattle.sval_script.proofs.Printers.{stands}
 
 -- ---- from view to view
 
-first_line : (printing : Printing) (call : Call) → MayPrint printing call → WritesWhole printing.told (whole_line call) (with_bytes (whole_line call) printing).told
+first_line : (printing : Printing) (call : Call) → MayPrint printing call → WritesWhole printing.told (whole_line call) (with_printed (whole_line call) printing).told
 first_line printing call may = record { appends = record { fits = may.fits; text = refl; room = refl }; steady = record { faults = refl; wants = refl } }
 
 -- these calls were printed
@@ -31,7 +31,7 @@ printed_none : (printing : Printing) → HasPrinted [] printing printing
 unfolding printed
 printed_none printing = record { known = tt; whole = writes_nothing printing.told; why = refl }
 
-printed_then : {calls : List Call} {old new : Printing} (call : Call) → MayPrint old call → HasPrinted calls (with_bytes (whole_line call) old) new → HasPrinted (call ∷ calls) old new
+printed_then : {calls : List Call} {old new : Printing} (call : Call) → MayPrint old call → HasPrinted calls (with_printed (whole_line call) old) new → HasPrinted (call ∷ calls) old new
 unfolding printed
 printed_then {calls} {old} call may rest = record {
   known = (may.known, rest.known);
@@ -41,7 +41,7 @@ printed_then {calls} {old} call may rest = record {
 
 ran_prints : (calls : List Call) (old new : Printing) → Ran printer_law old calls new → HasPrinted calls old new
 ran_prints [] old new is = subst (HasPrinted [] old) (sym is) (printed_none old)
-ran_prints (call ∷ calls) old new (may, ran) = printed_then call may (ran_prints calls (with_bytes (whole_line call) old) new ran)
+ran_prints (call ∷ calls) old new (may, ran) = printed_then call may (ran_prints calls (with_printed (whole_line call) old) new ran)
 
 -- the calls before this one were printed, and it was refused
 pub record IsStoppedAt (calls : List Call) (old new : Printing) : Type 0 where
@@ -63,9 +63,9 @@ ending_of : (old new : Standing Printing) (calls : List Call) (refuses : Bool) (
 ending_of old new [] refuses view (r, is) = itself r (ran_prints [] view new.view is)
 ending_of old new (call ∷ calls) refuses view (inl (cause, cut)) =
     stopped (record { front = []; call = call; later = calls; are = refl; mid = view; has_printed = printed_none view; cut = cut })
-ending_of old new (call ∷ calls) refuses view (inr (may, rest)) = later (ending_of old new calls refuses (with_bytes (whole_line call) view) rest)
+ending_of old new (call ∷ calls) refuses view (inr (may, rest)) = later (ending_of old new calls refuses (with_printed (whole_line call) view) rest)
   where
-    later : Ending (with_bytes (whole_line call) view) (record { calls = calls; refuses = refuses }) new.view → Ending view (record { calls = call ∷ calls; refuses = refuses }) new.view
+    later : Ending (with_printed (whole_line call) view) (record { calls = calls; refuses = refuses }) new.view → Ending view (record { calls = call ∷ calls; refuses = refuses }) new.view
     later (itself r p) = itself r (printed_then call may p)
     later (stopped s) = stopped (record {
       front = call ∷ s.front;

@@ -13,7 +13,7 @@ use Rattle.sval_io.proofs.Appending.{appended-appended, appended-nothing, less_r
 use Rattle.sval_script.specs.declared.print_error.PrintError.{PrintError}
 use Rattle.sval_script.specs.declared.print_error.PrintError.TheVariants as error
 use Rattle.sval_script.specs.Printed.{printed}
-use Rattle.sval_script.specs.Printing.{Printing, HasKnownTags, IsCutBy, PrintsLine, print_error_of, whole_line, with_bytes, printer_law}
+use Rattle.sval_script.specs.Printing.{Printing, HasKnownTags, IsCutBy, PrintsLine, print_error_of, whole_line, with_printed, printer_law}
 
 -- what a sink tells but for what it holds back
 abbrev pub unheld : Told → Told
@@ -76,7 +76,7 @@ refuses_call old new before why call cut =
     record { cause = cut_cause old new before why call cut; left = cut_unheld old new why call cut; faults = counts.faults; wants = counts.wants }
 
 -- the sink after a line
-pub told_after : (old new : Told) (why : Option PrintError) (bytes : List ℕ) → WritesWhole old bytes new → (stands new why).view ≡ with_bytes bytes (stands old why).view
+pub told_after : (old new : Told) (why : Option PrintError) (bytes : List ℕ) → WritesWhole old bytes new → (stands new why).view ≡ with_printed bytes (stands old why).view
 told_after old new why bytes w =
     let text = w.appends.text in let room = w.appends.room in let faults = w.steady.faults in let wants = w.steady.wants in cc
 
@@ -94,19 +94,19 @@ takes_call old new why call known w = record {
 abbrev with_both : Printing → Option (List ℕ) → Option ℕ → Printing
 with_both printing text room = record printing { told = record printing.told { text = text; room = room } }
 
-with_bytes-nothing : (printing : Printing) → with_bytes [] printing ≡ printing
+with_bytes-nothing : (printing : Printing) → with_printed [] printing ≡ printing
 with_bytes-nothing printing =
     ap (λ text. with_both printing text (less_room printing.told.room 0)) (appended-nothing printing.told.text)
     ∙ ap (with_both printing printing.told.text) (less_room-zero printing.told.room)
 
-with_bytes-append : (printing : Printing) (xs ys : List ℕ) → with_bytes ys (with_bytes xs printing) ≡ with_bytes (xs ++ ys) printing
+with_bytes-append : (printing : Printing) (xs ys : List ℕ) → with_printed ys (with_printed xs printing) ≡ with_printed (xs ++ ys) printing
 with_bytes-append printing xs ys =
     ap (λ text. with_both printing text (less_room (less_room printing.told.room (length xs)) (length ys))) (appended-appended printing.told.text xs ys)
     ∙ ap (with_both printing (appended printing.told.text (xs ++ ys))) (less_room-less_room printing.told.room (length xs) (length ys) ∙ ap (less_room printing.told.room) (sym (length-append xs ys)))
 
-pub prints_all : (calls : List Call) (begun done : Printing) → Ran printer_law begun calls done → AllByRecursion HasKnownTags calls × (done ≡ with_bytes (printed calls) begun)
+pub prints_all : (calls : List Call) (begun done : Printing) → Ran printer_law begun calls done → AllByRecursion HasKnownTags calls × (done ≡ with_printed (printed calls) begun)
 unfolding printed
 prints_all [] begun done ran = (tt, ran ∙ sym (with_bytes-nothing begun))
 prints_all (call ∷ calls) begun done (may, ran) =
-    let (known, is) = prints_all calls (with_bytes (whole_line call) begun) done ran in
+    let (known, is) = prints_all calls (with_printed (whole_line call) begun) done ran in
     ((may.known, known), is ∙ with_bytes-append begun (whole_line call) (printed calls))

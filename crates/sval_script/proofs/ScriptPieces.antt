@@ -9,7 +9,7 @@ use Rattle.sval_script.specs.NextFields.{first_call}
 use Rattle.sval_script.specs.LineCalls.{Stored, stored, call_with}
 use Rattle.sval_script.specs.MadeLines.{IsMade}
 use Rattle.sval_script.specs.Readings.{after_calls, lines_after}
-use Rattle.sval_script.specs.ReadLines.{calls_of, lines_with, Holds, EndsLine, ReadsOn, IsFirstBad, EndsIn}
+use Rattle.sval_script.specs.ReadLines.{line_calls, lines_with, StoreHoldsLines, EndsLine, ReadsLinesOn, IsFirstBadLine, EndsIn}
 use Rattle.sval_script.specs.declared.reader.ReadLines.{ReadLines}
 use Rattle.sval_script.specs.declared.script.ScriptError.{ScriptError}
 use Rattle.sval_script.specs.declared.line.Line.{Line}
@@ -74,19 +74,19 @@ spells-none bytes more whole some e =
 
 -- some first lines were read, and the rest of the bytes is left
 pub record IsReadUpTo (old : List Call) (bytes rest : List ℕ) (store : Stored) (made : List Line) : Type 0 where
-  pub holds : Holds made store
+  pub holds : StoreHoldsLines made store
   pub whole : EndsLine rest
-  pub here : (more : List ℕ) → lines_after old (bytes ++ more) ≡ lines_after (calls_of made store) (rest ++ more)
+  pub here : (more : List ℕ) → lines_after old (bytes ++ more) ≡ lines_after (line_calls made store) (rest ++ more)
 
-pub read-start : (bytes : List ℕ) (store : Stored) (made : List Line) → Holds made store → EndsLine bytes → IsReadUpTo (calls_of made store) bytes bytes store made
+pub read-start : (bytes : List ℕ) (store : Stored) (made : List Line) → StoreHoldsLines made store → EndsLine bytes → IsReadUpTo (line_calls made store) bytes bytes store made
 read-start bytes store made holds whole = record { holds = holds; whole = whole; here = λ more. refl }
 
 pub read-step : {old : List Call} {bytes rest : List ℕ} {store : Stored} {made : List Line} (new : Stored) (line : Line) (behind : List ℕ) → IsReadUpTo old bytes rest store made
     → 0 < length rest → IsMade (first_call rest) behind store new line → IsReadUpTo old bytes behind new (made ++ (line ∷ []))
 read-step {old = old} {bytes = bytes} {rest = rest} {store = store} {made = made} new line behind r some m =
-    let calls = calls_of made store in
+    let calls = line_calls made store in
     let call = call_with m.bytes m.numbers line in
-    let more : calls_of (made ++ (line ∷ [])) new ≡ calls ++ (call ∷ []) =
+    let more : line_calls (made ++ (line ∷ [])) new ≡ calls ++ (call ∷ []) =
     rw (m.puts.bytes_stored, m.puts.numbers_stored) (calls-more m.bytes m.numbers line store.bytes store.numbers made r.holds m.puts.has_len m.puts.has_count) in
     record {
       holds = rw (m.puts.bytes_stored, m.puts.numbers_stored)
@@ -105,7 +105,7 @@ read-shorter rest store new line behind m = (at_call 1 rest behind (call_with m.
 pub read-bad : {old : List Call} {bytes rest : List ℕ} {store : Stored} {made : List Line} → IsReadUpTo old bytes rest store made → first_call rest ≡ None → 0 < length rest
     → (more : List ℕ) → lines_after old (bytes ++ more) ≡ Bad (length made + 1)
 read-bad {rest = rest} {store = store} {made = made} r none some more =
-    let calls = calls_of made store in
+    let calls = line_calls made store in
     let count : length calls ≡ length made = length-calls_with store.bytes store.numbers made in
     let longer : 0 < length (rest ++ more) = omega (arith, length-append rest more, some) in
     r.here more ∙ ap (after_calls calls) (at_none (length calls + 1) (rest ++ more) (spells-none rest more r.whole some none) longer) ∙ rw count refl
@@ -115,7 +115,7 @@ none [] h = refl
 none (byte ∷ bytes) h = absurd (omega arith)
 
 -- a line that is bad stays so, whatever follows
-pub bad-more : (calls : List Call) (a b : List ℕ) (why : ScriptError) → IsFirstBad calls a why → IsFirstBad calls (a ++ b) why
+pub bad-more : (calls : List Call) (a b : List ℕ) (why : ScriptError) → IsFirstBadLine calls a why → IsFirstBadLine calls (a ++ b) why
 bad-more calls a b why bad n more e = ap (lines_after calls) (append_assoc a b more) ∙ bad n (b ++ more) e
 
 -- the line that is begun goes on
@@ -124,16 +124,16 @@ begun-on calls begun piece more = ap (lines_after calls) (append_assoc begun pie
 
 -- whole lines, and the line that is begun behind them
 pub pieces-on : (old mid : ReadLines) (whole behind tail piece more : List ℕ) (new : List Line) (after : Stored) → EndsIn old whole behind mid
-    → ReadsOn mid.lines.items (stored mid.store) behind new after → whole ++ tail ≡ piece → lines_after (calls_of new after) (tail ++ more) ≡ lines_with old (piece ++ more)
+    → ReadsLinesOn mid.lines.items (stored mid.store) behind new after → whole ++ tail ≡ piece → lines_after (line_calls new after) (tail ++ more) ≡ lines_with old (piece ++ more)
 pieces-on old mid whole behind tail piece more new after ends reads same =
     sym (reads.goes_on (tail ++ more)) ∙ ends.goes_on (tail ++ more)
     ∙ ap (λ bytes. lines_with old bytes) (sym (append_assoc whole tail more) ∙ ap (λ bytes. bytes ++ more) same)
 
 -- a bad line behind the one that was begun
 pub bad-behind : (old mid : ReadLines) (whole behind tail piece : List ℕ) (why : ScriptError) → EndsIn old whole behind mid
-    → IsFirstBad (calls_of mid.lines.items (stored mid.store)) behind why → whole ++ tail ≡ piece → IsFirstBad (calls_of old.lines.items (stored old.store)) (old.begun.items ++ piece) why
+    → IsFirstBadLine (line_calls mid.lines.items (stored mid.store)) behind why → whole ++ tail ≡ piece → IsFirstBadLine (line_calls old.lines.items (stored old.store)) (old.begun.items ++ piece) why
 bad-behind old mid whole behind tail piece why ends bad same n more e =
-    begun-on (calls_of old.lines.items (stored old.store)) old.begun.items piece more
+    begun-on (line_calls old.lines.items (stored old.store)) old.begun.items piece more
     ∙ ap (λ bytes. lines_with old bytes) (ap (λ bytes. bytes ++ more) (sym same) ∙ append_assoc whole tail more)
     ∙ sym (ends.goes_on (tail ++ more)) ∙ bad n (tail ++ more) e
 

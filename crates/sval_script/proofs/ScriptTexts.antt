@@ -3,7 +3,7 @@ use Rattle.std.specs.Prelude.{◌≡◌, ℕ, List, [], ◌∷◌, ◌++◌, tak
 use Rattle.std.proofs.Common.{arith, ap}
 use Rattle.std.proofs.lemmas.List.{take-append-le, drop-append-le, take_all, length-append, length-drop}
 use Rattle.sval_script.specs.declared.line.Line.{Line}
-use Rattle.sval_script.specs.LineCalls.{own_len, own_count, next_len, call_with, calls_with, HasText, HoldsLines}
+use Rattle.sval_script.specs.LineCalls.{own_len, own_count, next_len, call_with, calls_with, IsUtf8Line, HoldsLines}
 
 pub take_whole : (n : ℕ) (xs : List ℕ) → length xs ≡ n → take n xs ≡ xs
 take_whole n xs e = take_all n xs (omega arith)
@@ -16,7 +16,7 @@ drop_whole n xs e = none (drop n xs) (omega (arith, length-drop n xs))
     none (x ∷ xs) h = absurd (omega arith)
 
 module _ (new_bytes new_numbers : List ℕ) (line : Line) where
-  pub holds-more : (bytes numbers : List ℕ) (lines : List Line) → HoldsLines bytes numbers lines → length new_bytes ≡ own_len line new_numbers → length new_numbers ≡ own_count line → HasText line new_bytes
+  pub holds-more : (bytes numbers : List ℕ) (lines : List Line) → HoldsLines bytes numbers lines → length new_bytes ≡ own_len line new_numbers → length new_numbers ≡ own_count line → IsUtf8Line line new_bytes
       → HoldsLines (bytes ++ new_bytes) (numbers ++ new_numbers) (lines ++ (line ∷ []))
   holds-more bytes numbers [] (h, k) e f u =
       rw (h, k, take_whole (own_count line) new_numbers f)

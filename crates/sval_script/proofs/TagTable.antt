@@ -15,7 +15,7 @@ use Rattle.sval_script.specs.Tags.{tag_of, tag_text, tag_table, texts_and_tags, 
 use Rattle.sval_script.proofs.Tables.{same_at, row_at, absent}
 
 -- each row's text is a tag's name, and the row's tag has it
-names_of_texts : map (λ row. line.tag row.0) tag_table ≡ map (λ row. Some (tag_text row.1)) tag_table
+names_of_texts : map (λ row. line.tag_named row.0) tag_table ≡ map (λ row. Some (tag_text row.1)) tag_table
 names_of_texts = refl
 
 tags_of_names : map (λ row. tag_of row.1) tag_table ≡ map (λ row. Some (tag_text row.1)) tag_table
@@ -28,10 +28,10 @@ none : List ℕ × TagField
 none = ([], Absent)
 
 pub named_at : (rows : List (Bor (List ℕ) × TagField)) (k : ℕ) (row : Bor (List ℕ) × TagField) → texts_and_tags rows ≡ tag_table → k < 16
-    → line.tag (get_or rows k row).0.now ≡ Some (tag_text (get_or rows k row).1)
+    → line.tag_named (get_or rows k row).0.now ≡ Some (tag_text (get_or rows k row).1)
 named_at rows k row e h =
     let (text, tag) = row_at rows tag_table k row none e h in
-    rw (text, tag) (same_at (λ (r : List ℕ × TagField). line.tag r.0) (λ (r : List ℕ × TagField). Some (tag_text r.1)) tag_table k none names_of_texts h)
+    rw (text, tag) (same_at (λ (r : List ℕ × TagField). line.tag_named r.0) (λ (r : List ℕ × TagField). Some (tag_text r.1)) tag_table k none names_of_texts h)
 
 pub tag_at : (rows : List (Bor (List ℕ) × TagField)) (k : ℕ) (row : Bor (List ℕ) × TagField) → texts_and_tags rows ≡ tag_table → k < 16
     → tag_of (get_or rows k row).1 ≡ Some (tag_text (get_or rows k row).1)
@@ -45,7 +45,7 @@ text_at rows k row e h =
     let (text, tag) = row_at rows tag_table k row none e h in
     text ∙ sym (get_or-map (λ (r : List ℕ × TagField). r.0) tag_table k none [] h)
 
-pub no_tag : (field text : List ℕ) → text ≡ tag_text_at (tag_place field) → bytes_eq text field ≡ false → line.tag field ≡ None
+pub no_tag : (field text : List ℕ) → text ≡ tag_text_at (tag_place field) → bytes_eq text field ≡ false → line.tag_named field ≡ None
 no_tag field text is other =
     let none : is_tag_name field ≡ false = absent (λ t. tag_text_at (tag_place t)) tag_names field texts_at_places (rw is at other) in
     rw none refl
@@ -55,7 +55,7 @@ and_false true = refl
 and_false false = refl
 
 -- no tag has so few bytes
-pub short : (field : List ℕ) → length field < 2 → line.tag field ≡ None
+pub short : (field : List ℕ) → length field < 2 → line.tag_named field ≡ None
 short [] h = refl
 short (byte ∷ []) h = rw one refl
   where

@@ -10,7 +10,7 @@ use Rattle.sval_script.specs.Lines.{LineForm, forms, find_form}
 use Rattle.sval_script.specs.declared.word.Word.{Word}
 use Rattle.sval_script.specs.declared.word.Word.TheVariants as word
 use Rattle.sval_script.specs.declared.word.TheConstants.{SLOTS}
-use Rattle.sval_script.specs.Words.{form_of_word, word_table, texts_and_words, place_of, word_text_at}
+use Rattle.sval_script.specs.Words.{form_of_word, word_table, texts_and_words, word_place, word_text_at}
 use Rattle.sval_script.proofs.Tables.{same_at, row_at, absent}
 
 -- each word's text has its form
@@ -19,7 +19,7 @@ unfolding forms
 forms_of_words = refl
 
 -- at each word's place stands its text
-texts_at_places : map (λ text. word_text_at (place_of text)) (map (λ row. row.0) forms) ≡ map (λ row. row.0) forms
+texts_at_places : map (λ text. word_text_at (word_place text)) (map (λ row. row.0) forms) ≡ map (λ row. row.0) forms
 unfolding forms
 texts_at_places = refl
 
@@ -58,8 +58,8 @@ no_form text (row ∷ rows) h = by_test (bytes_eq text row.0) refl (no_form text
     by_test true is later = let never : true ≡ false = rw is at h in cc never
     by_test false is later = rw is (later (rw is at h))
 
-pub no_word : (text name : List ℕ) → name ≡ word_text_at (place_of text) → bytes_eq name text ≡ false → find_form text forms ≡ None
-no_word text name is other = no_form text forms (absent (λ t. word_text_at (place_of t)) (map (λ row. row.0) forms) text texts_at_places (rw is at other))
+pub no_word : (text name : List ℕ) → name ≡ word_text_at (word_place text) → bytes_eq name text ≡ false → find_form text forms ≡ None
+no_word text name is other = no_form text forms (absent (λ t. word_text_at (word_place t)) (map (λ row. row.0) forms) text texts_at_places (rw is at other))
 
 pub no_text : find_form [] forms ≡ None
 unfolding forms

@@ -7,12 +7,12 @@ use Rattle.sval_io.specs.Sinks.{Told}
 use Rattle.sval_script.specs.declared.print_error.PrintError.{PrintError}
 use Rattle.sval_script.specs.declared.canon.CanonPrinter.{CanonPrinter}
 use Rattle.sval_script.specs.Printed.{canonical_call}
-use Rattle.sval_script.specs.Printing.{Printing, MayPrint, IsCutBy, whole_line, with_bytes}
+use Rattle.sval_script.specs.Printing.{Printing, MayPrint, IsCutBy, whole_line, with_printed}
 
 -- the printer after a call that is shown so
 abbrev pub after_shown : Printing → Option Call → Printing
 after_shown printing None = printing
-after_shown printing (Some call) = with_bytes (whole_line call) printing
+after_shown printing (Some call) = with_printed (whole_line call) printing
 
 -- what a refused call leaves, where it is shown so; one that isn't shown is never refused
 abbrev pub IsShownCut : Option Call → Printing → Printing → Type 0

@@ -21,7 +21,7 @@ use Rattle.sval_script.specs.declared.field.IndexField.TheVariants as index_fiel
 abbrev pub parts_of : List (List ℕ) → Option (List ℕ × Option Tag)
 parts_of [] = None
 parts_of (part ∷ []) = Some (part, None)
-parts_of (part ∷ name ∷ []) = option_map (λ t. (part, Some t)) (script.tag name)
+parts_of (part ∷ name ∷ []) = option_map (λ t. (part, Some t)) (script.tag_named name)
 parts_of (part ∷ name ∷ other ∷ more) = None
 
 -- what stands before the tag, and the tag, whose references are read

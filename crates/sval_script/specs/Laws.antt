@@ -11,7 +11,7 @@ use Rattle.sval_script.specs.Lines.{lines, Good}
 use Rattle.sval_core.specs.Spells.{Spells}
 use Rattle.sval_core.specs.ExactCalls.{AreExact}
 use Rattle.sval_script.specs.Printed.{printed, canonical_calls, printed_canonically, ArePrintable}
-use Rattle.sval_script.specs.Printing.{Printing, HasKnownTags, with_bytes, printer_law}
+use Rattle.sval_script.specs.Printing.{Printing, HasKnownTags, with_printed, printer_law}
 use Rattle.sval_script.specs.PrintedValues.{HaveKnownTags}
 use Rattle.sval_script.specs.Canon.{canon, canon_all}
 
@@ -22,7 +22,7 @@ PrintedLinesReadBack = (calls : List Call) → ArePrintable calls → lines (pri
 -- a printer that took these calls wrote their lines and nothing else, and knows their tags
 abbrev pub PrintersPrint : Type 0
 PrintersPrint =
-    (calls : List Call) (begun done : Printing) → Ran printer_law begun calls done → AllByRecursion HasKnownTags calls × (done ≡ with_bytes (printed calls) begun)
+    (calls : List Call) (begun done : Printing) → Ran printer_law begun calls done → AllByRecursion HasKnownTags calls × (done ≡ with_printed (printed calls) begun)
 
 -- the lines of a tree's canonical script spell its canonical calls
 abbrev pub CanonReadsBack : Type 0

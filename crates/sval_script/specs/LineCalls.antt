@@ -7,7 +7,7 @@ use Rattle.sval_label.specs.Calls.{Call}
 use Rattle.sval_script.specs.Tags.{tag_text, tag_of}
 use Rattle.sval_script.specs.FieldValues.{made_label, made_index}
 use Rattle.sval_script.specs.NameNumbers.{name_count, label_len, name_with}
-use Rattle.sval_script.specs.Words.{alone_call, opening_call, is_kept, named_call, head_of, part_call}
+use Rattle.sval_script.specs.Words.{alone_call, opening_call, is_kept, word_call, head_of, part_call}
 use Rattle.sval_script.specs.declared.line.Line.{Line}
 use Rattle.sval_script.specs.declared.line.Line.TheVariants as made
 use Rattle.sval_script.specs.declared.store.Store.{Store}
@@ -69,7 +69,7 @@ call_with bytes numbers (made.SizedOpening w) = opening_call w (Some (get_or num
 call_with bytes numbers (made.TextFragment life len) = call.TextFragment (is_kept life) bytes
 call_with bytes numbers (made.BinaryFragment life len) = call.BinaryFragment (is_kept life) bytes
 call_with bytes numbers (made.TagHint tag) = call.TagHint (tag_text tag)
-call_with bytes numbers (made.Named w parts) = named_call w (name_with parts bytes numbers)
+call_with bytes numbers (made.Named w parts) = word_call w (name_with parts bytes numbers)
 call_with bytes numbers (made.NamedOpening w parts) = call.Begin (head_of w (name_with parts bytes numbers)) None
 call_with bytes numbers (made.SizedNamedOpening w parts) = call.Begin (head_of w (name_with parts bytes numbers)) (Some (get_or numbers (name_count parts) 0))
 call_with bytes numbers (made.Field side tag label len) = part_call side (call.Field (tag_of tag) (made_label label bytes))
@@ -78,9 +78,9 @@ call_with bytes numbers (made.FieldPlace side tag label sign index) =
     part_call side (call.FieldPlace (tag_of tag) (made_label label bytes) (made_index sign index (get_or numbers 1 0)))
 
 -- the line's own bytes are UTF-8, unless they are a binary's
-abbrev pub HasText : Line → List ℕ → Type 0
-HasText (made.BinaryFragment life len) bytes = ⊤
-HasText line bytes = IsUtf8 bytes
+abbrev pub IsUtf8Line : Line → List ℕ → Type 0
+IsUtf8Line (made.BinaryFragment life len) bytes = ⊤
+IsUtf8Line line bytes = IsUtf8 bytes
 
 -- how many bytes at the front of the store are the line's own
 abbrev pub next_len : Line → List ℕ → ℕ
@@ -93,7 +93,7 @@ next_call bytes numbers line = call_with (take (next_len line numbers) bytes) (t
 -- the front of the store is the line's own, with texts in UTF-8
 abbrev pub HoldsNext : List ℕ → List ℕ → Line → Type 0
 HoldsNext bytes numbers line =
-    (own_count line ≤ length numbers) × (next_len line numbers ≤ length bytes) × HasText line (take (next_len line numbers) bytes)
+    (own_count line ≤ length numbers) × (next_len line numbers ≤ length bytes) × IsUtf8Line line (take (next_len line numbers) bytes)
 
 -- the calls of lines, of which each takes its bytes and numbers from the front of the store
 abbrev pub calls_with : List ℕ → List ℕ → List Line → List Call

@@ -26,7 +26,7 @@ keep test x = if test x then Some x else None
 
 -- the number of a decimal
 abbrev pub natural : List ℕ → Option ℕ
-natural field = option_map (digits_value 10) (keep is_decimal field)
+natural given = option_map (digits_value 10) (keep is_decimal given)
 
 -- the number below 0 that has this absolute value
 abbrev pub negative : ℕ → Option ℤ
@@ -34,21 +34,21 @@ negative zero = None
 negative (suc n) = Some (negsuc n)
 
 -- a decimal, after `-` where it is below 0
-abbrev pub integer : List ℕ → Option ℤ
-integer [] = None
-integer (first ∷ rest) = if first == 45 then option_and_then negative (natural rest) else option_map pos (natural (first ∷ rest))
+abbrev pub signed_integer : List ℕ → Option ℤ
+signed_integer [] = None
+signed_integer (first ∷ rest) = if first == 45 then option_and_then negative (natural rest) else option_map pos (natural (first ∷ rest))
 
 -- a decimal in the type's range
 abbrev pub whole_number_of : IntType → List ℕ → Option ℤ
-whole_number_of type part = option_and_then (keep (is_of_type type)) (integer part)
+whole_number_of type part = option_and_then (keep (is_of_type type)) (signed_integer part)
 
 -- `-` for none
 abbrev pub or_dash : {A : Type 0} → (List ℕ → Option A) → List ℕ → Option (Option A)
-or_dash read field = if bytes_eq field (codes "-") then Some None else option_map Some (read field)
+or_dash read given = if bytes_eq given (codes "-") then Some None else option_map Some (read given)
 
 -- a decimal of 64 bits, or `-` for no size
 abbrev pub size : List ℕ → Option (Option ℕ)
-size = or_dash (λ field. option_and_then (keep (λ n. nat_lt n (2 ^ 64))) (natural field))
+size = or_dash (λ given. option_and_then (keep (λ n. nat_lt n (2 ^ 64))) (natural given))
 
 -- `=` and an even number of hex digits, in either case
 abbrev pub bytes : List ℕ → Option (List ℕ)
@@ -57,29 +57,29 @@ bytes (first ∷ digits) = if first == 61 then result_ok (decode_of digits) else
 
 -- bytes that are UTF-8
 abbrev pub text : List ℕ → Option (List ℕ)
-text field = option_and_then (keep is_utf8) (bytes field)
+text given = option_and_then (keep is_utf8) (bytes given)
 
 -- `true` or `false`
 abbrev pub truth : List ℕ → Option Bool
-truth field = if bytes_eq field (codes "true") then Some true else if bytes_eq field (codes "false") then Some false else None
+truth given = if bytes_eq given (codes "true") then Some true else if bytes_eq given (codes "false") then Some false else None
 
 -- one of the ten names
-abbrev pub tag : List ℕ → Option Tag
-tag = keep is_tag_name
+abbrev pub tag_named : List ℕ → Option Tag
+tag_named = keep is_tag_name
 
 -- what is read of a field, and then perhaps `:` and a tag
 abbrev pub tagged_parts : {A B : Type 0} → (List ℕ → Option A) → (A → Option Tag → B) → List (List ℕ) → Option B
 tagged_parts read make (part ∷ []) = option_map (λ x. make x None) (read part)
-tagged_parts read make (part ∷ name ∷ []) = option_and_then (λ x. option_map (λ t. make x (Some t)) (tag name)) (read part)
+tagged_parts read make (part ∷ name ∷ []) = option_and_then (λ x. option_map (λ t. make x (Some t)) (tag_named name)) (read part)
 tagged_parts read make parts = None
 
 -- a label that is read is not static
 abbrev pub label : List ℕ → Option Label
-label field = tagged_parts text (λ t hint. record { text = t; tag = hint; is_static = false }) (cut_at 58 field)
+label given = tagged_parts text (λ t hint. record { text = t; tag = hint; is_static = false }) (cut_at 58 given)
 
 -- a decimal in the range of indexes, and perhaps a tag
 abbrev pub index : List ℕ → Option Index
-index field = tagged_parts (λ part. option_and_then (keep is_index) (integer part)) (λ z hint. record { number = z; tag = hint }) (cut_at 58 field)
+index given = tagged_parts (λ part. option_and_then (keep is_index) (signed_integer part)) (λ z hint. record { number = z; tag = hint }) (cut_at 58 given)
 
 -- ---- a line
 
@@ -90,37 +90,37 @@ LineForm = List (List ℕ) → Option Call
 -- no field more
 abbrev pub complete : Call → LineForm
 complete call [] = Some call
-complete call (field ∷ fields) = None
+complete call (given ∷ fields) = None
 
 -- one field, and then what follows
-abbrev pub field : {A : Type 0} → (List ℕ → Option A) → (A → LineForm) → LineForm
-field read next [] = None
-field read next (first ∷ fields) = option_and_then (λ x. next x fields) (read first)
+abbrev pub field_then : {A : Type 0} → (List ℕ → Option A) → (A → LineForm) → LineForm
+field_then read next [] = None
+field_then read next (first ∷ fields) = option_and_then (λ x. next x fields) (read first)
 
 -- a whole number in the type's range, and no field more
 abbrev pub whole_number : IntType → LineForm
-whole_number type = field (whole_number_of type) (λ z. complete (Int type z))
+whole_number type = field_then (whole_number_of type) (λ z. complete (Int type z))
 
 -- a tag, a label and an index, each where it is given
 abbrev pub name : (Name → LineForm) → LineForm
-name next = field (or_dash tag) (λ t. field (or_dash label) (λ l. field (or_dash index) (λ i. next (record { tag = t; label = l; index = i }))))
+name next = field_then (or_dash tag_named) (λ t. field_then (or_dash label) (λ l. field_then (or_dash index) (λ i. next (record { tag = t; label = l; index = i }))))
 
 -- a tag, where it is given, and a label
 abbrev pub record_part : (Slot → Call) → LineForm
-record_part make = field (or_dash tag) (λ t. field label (λ l. complete (make (Field t l))))
+record_part make = field_then (or_dash tag_named) (λ t. field_then label (λ l. complete (make (Field t l))))
 
 -- a tag, where it is given, and an index
 abbrev pub tuple_part : (Slot → Call) → LineForm
-tuple_part make = field (or_dash tag) (λ t. field index (λ i. complete (make (Place t i))))
+tuple_part make = field_then (or_dash tag_named) (λ t. field_then index (λ i. complete (make (Place t i))))
 
 -- a tag, where it is given, a label and an index
 abbrev pub record_tuple_part : (Slot → Call) → LineForm
-record_tuple_part make = field (or_dash tag) (λ t. field label (λ l. field index (λ i. complete (make (FieldPlace t l i)))))
+record_tuple_part make = field_then (or_dash tag_named) (λ t. field_then label (λ l. field_then index (λ i. complete (make (FieldPlace t l i)))))
 
 -- the 48 words, and the form of the fields behind each
 unfoldable pub forms : List (List ℕ × LineForm)
 forms = (codes "null", complete Null)
-    ∷ (codes "bool", field truth (λ b. complete (Truth b)))
+    ∷ (codes "bool", field_then truth (λ b. complete (Truth b)))
     ∷ (codes "u8", whole_number U8)
     ∷ (codes "u16", whole_number U16)
     ∷ (codes "u32", whole_number U32)
@@ -131,21 +131,21 @@ forms = (codes "null", complete Null)
     ∷ (codes "i32", whole_number I32)
     ∷ (codes "i64", whole_number I64)
     ∷ (codes "i128", whole_number I128)
-    ∷ (codes "text_begin", field size (λ n. complete (TextBegin n)))
-    ∷ (codes "text_fragment", field text (λ t. complete (TextFragment true t)))
-    ∷ (codes "text_fragment_computed", field text (λ t. complete (TextFragment false t)))
+    ∷ (codes "text_begin", field_then size (λ n. complete (TextBegin n)))
+    ∷ (codes "text_fragment", field_then text (λ t. complete (TextFragment true t)))
+    ∷ (codes "text_fragment_computed", field_then text (λ t. complete (TextFragment false t)))
     ∷ (codes "text_end", complete TextEnd)
-    ∷ (codes "binary_begin", field size (λ n. complete (BinaryBegin n)))
-    ∷ (codes "binary_fragment", field bytes (λ b. complete (BinaryFragment true b)))
-    ∷ (codes "binary_fragment_computed", field bytes (λ b. complete (BinaryFragment false b)))
+    ∷ (codes "binary_begin", field_then size (λ n. complete (BinaryBegin n)))
+    ∷ (codes "binary_fragment", field_then bytes (λ b. complete (BinaryFragment true b)))
+    ∷ (codes "binary_fragment_computed", field_then bytes (λ b. complete (BinaryFragment false b)))
     ∷ (codes "binary_end", complete BinaryEnd)
-    ∷ (codes "map_begin", field size (λ n. complete (Begin Map n)))
+    ∷ (codes "map_begin", field_then size (λ n. complete (Begin Map n)))
     ∷ (codes "map_key_begin", complete (PartBegin Key))
     ∷ (codes "map_key_end", complete (PartEnd Key))
     ∷ (codes "map_value_begin", complete (PartBegin Value))
     ∷ (codes "map_value_end", complete (PartEnd Value))
     ∷ (codes "map_end", complete (End Map))
-    ∷ (codes "seq_begin", field size (λ n. complete (Begin Seq n)))
+    ∷ (codes "seq_begin", field_then size (λ n. complete (Begin Seq n)))
     ∷ (codes "seq_value_begin", complete (PartBegin Item))
     ∷ (codes "seq_value_end", complete (PartEnd Item))
     ∷ (codes "seq_end", complete (End Seq))
@@ -154,16 +154,16 @@ forms = (codes "null", complete Null)
     ∷ (codes "tagged_begin", name (λ n. complete (TaggedBegin n)))
     ∷ (codes "tagged_end", name (λ n. complete (TaggedEnd n)))
     ∷ (codes "tag", name (λ n. complete (Standalone n)))
-    ∷ (codes "tag_hint", field tag (λ t. complete (TagHint t)))
-    ∷ (codes "record_begin", name (λ n. field size (λ s. complete (Begin (Record n) s))))
+    ∷ (codes "tag_hint", field_then tag_named (λ t. complete (TagHint t)))
+    ∷ (codes "record_begin", name (λ n. field_then size (λ s. complete (Begin (Record n) s))))
     ∷ (codes "record_value_begin", record_part PartBegin)
     ∷ (codes "record_value_end", record_part PartEnd)
     ∷ (codes "record_end", name (λ n. complete (End (Record n))))
-    ∷ (codes "tuple_begin", name (λ n. field size (λ s. complete (Begin (Tuple n) s))))
+    ∷ (codes "tuple_begin", name (λ n. field_then size (λ s. complete (Begin (Tuple n) s))))
     ∷ (codes "tuple_value_begin", tuple_part PartBegin)
     ∷ (codes "tuple_value_end", tuple_part PartEnd)
     ∷ (codes "tuple_end", name (λ n. complete (End (Tuple n))))
-    ∷ (codes "record_tuple_begin", name (λ n. field size (λ s. complete (Begin (RecordTuple n) s))))
+    ∷ (codes "record_tuple_begin", name (λ n. field_then size (λ s. complete (Begin (RecordTuple n) s))))
     ∷ (codes "record_tuple_value_begin", record_tuple_part PartBegin)
     ∷ (codes "record_tuple_value_end", record_tuple_part PartEnd)
     ∷ (codes "record_tuple_end", name (λ n. complete (End (RecordTuple n))))

@@ -4,7 +4,7 @@ use Rattle.sval_label.specs.Calls.{Call}
 use Rattle.sval_script.specs.Lines.{complete, LineForm}
 use Rattle.sval_script.specs.Fields.{LineLeft}
 use Rattle.sval_script.specs.NextFields.{call_before}
-use Rattle.sval_script.specs.LineCalls.{Stored, own_len, own_count, wide, call_with, HasText}
+use Rattle.sval_script.specs.LineCalls.{Stored, own_len, own_count, wide, call_with, IsUtf8Line}
 use Rattle.sval_script.specs.declared.line.Line.{Line}
 
 -- two numbers, which are the upper and the lower half of this one, were put behind those before them
@@ -16,7 +16,7 @@ pub record PutsWide (number : ℕ) (old new : List ℕ) : Type 0 where
 
 -- the line's own bytes and numbers were put behind those before them
 pub record Puts (bytes numbers : List ℕ) (old new : Stored) (line : Line) : Type 0 where
-  pub has_text : HasText line bytes
+  pub has_text : IsUtf8Line line bytes
   pub bytes_stored : new.bytes ≡ old.bytes ++ bytes
   pub numbers_stored : new.numbers ≡ old.numbers ++ numbers
   pub has_len : length bytes ≡ own_len line numbers

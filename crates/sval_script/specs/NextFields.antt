@@ -4,7 +4,7 @@ use Rattle.std.specs.Borrow.{Bor}
 use Rattle.std.specs.Str.{IsUtf8}
 use Rattle.sval_label.specs.Calls.{Call, Name}
 use Rattle.sval_script.specs.Lines as script
-use Rattle.sval_script.specs.Lines.{LineForm, field, complete, call_of_fields}
+use Rattle.sval_script.specs.Lines.{LineForm, field_then, complete, call_of_fields}
 use Rattle.sval_script.specs.Tags.{tag_of}
 use Rattle.sval_script.specs.FieldValues.{made_label, label_from, index_from, IsLabelText}
 use Rattle.sval_script.specs.declared.field.LabelRead.{LabelRead}
@@ -33,16 +33,16 @@ abbrev pub first_call : List ℕ → Option (Call × List ℕ)
 first_call bytes = call_before call_of_fields (line_ahead bytes)
 
 -- what stands behind a line without fields
-abbrev pub EndsBefore : LineLeft → Option (Bor (List ℕ)) → Type 0
-EndsBefore line behind = (call : Call) → call_before (complete call) line ≡ option_map (λ rest. (call, rest.now)) behind
+abbrev pub HasNoFieldsLeft : LineLeft → Option (Bor (List ℕ)) → Type 0
+HasNoFieldsLeft line behind = (call : Call) → call_before (complete call) line ≡ option_map (λ rest. (call, rest.now)) behind
 
 -- the next field says x, and this is left
 abbrev pub NextIs : {A : Type 0} → (List ℕ → Option A) → LineLeft → LineLeft → A → Type 0
-NextIs {A = A} read line rest x = (next : A → LineForm) → call_before (field read next) line ≡ call_before (next x) rest
+NextIs {A = A} read line rest x = (next : A → LineForm) → call_before (field_then read next) line ≡ call_before (next x) rest
 
 -- there is no next field, or it says nothing
 abbrev pub NoNext : {A : Type 0} → (List ℕ → Option A) → LineLeft → Type 0
-NoNext {A = A} read line = (next : A → LineForm) → call_before (field read next) line ≡ None
+NoNext {A = A} read line = (next : A → LineForm) → call_before (field_then read next) line ≡ None
 
 -- what was read of the next field
 abbrev pub ReadsNext : {A : Type 0} → (List ℕ → Option A) → LineLeft → LineLeft → Option A → Type 0

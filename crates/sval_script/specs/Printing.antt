@@ -75,8 +75,8 @@ pub record MayPrint (printing : Printing) (call : Call) : Type 0 where
   pub fits : HasRoom printing.told (whole_line call)
 
 -- the printer after its sink took these bytes
-abbrev pub with_bytes : List ℕ → Printing → Printing
-with_bytes bytes printing =
+abbrev pub with_printed : List ℕ → Printing → Printing
+with_printed bytes printing =
     record printing { told = record printing.told { text = appended printing.told.text bytes; room = less_room printing.told.room (length bytes) } }
 
 -- what a refused call leaves, by its cause: nothing of a call with an unknown tag, and else a first part of the line
@@ -96,7 +96,7 @@ PrintsLine (Err why) old call new = IsCutBy (Some why) call old new
 abbrev pub printer_law : Law Printing
 printer_law = record {
   accepts = λ printing call. MayPrint printing call;
-  after = λ printing call. with_bytes (whole_line call) printing;
+  after = λ printing call. with_printed (whole_line call) printing;
   stopped = λ printing call left. IsCutBy left.why call printing.told left.told;
 }
 

@@ -22,7 +22,7 @@ abbrev pub lines_after : List Call → List ℕ → Lines
 lines_after calls bytes = after_calls calls (lines_from line_of (length calls + 1) (cut_at 10 bytes))
 
 -- what a reader keeps: the calls of the lines, the bytes behind the last line feed, and why it stopped, if it did
-pub record Reading : Type 0 where
+pub record ScriptReading : Type 0 where
   pub calls : List Call
   pub begun : List ℕ
   pub stopped : Option ScriptError
@@ -33,11 +33,11 @@ answer_unless None lines = answer_to lines
 answer_unless (Some why) lines = Err why
 
 -- the answer of a reader, if it is given these bytes and then no more
-abbrev pub answer_with : Reading → List ℕ → Result (List Call) ScriptError
+abbrev pub answer_with : ScriptReading → List ℕ → Result (List Call) ScriptError
 answer_with reading more = answer_unless reading.stopped (lines_after reading.calls (reading.begun ++ more))
 
 -- the piece stands before all that follows, or memory was wanting
-abbrev pub TakesPiece : Reading → List ℕ → Reading → Type 0
+abbrev pub TakesPiece : ScriptReading → List ℕ → ScriptReading → Type 0
 TakesPiece old piece new =
     ((more : List ℕ) → answer_with new more ≡ answer_with old (piece ++ more)) ⊎ ((more : List ℕ) → answer_with new more ≡ Err NoMemory)
 
@@ -54,6 +54,6 @@ pub record IsStoppedAt (n : ℕ) (stopped : Option ScriptError) : Type 0 where
   pub cause : (stopped ≡ Some (BadLine n)) ⊎ (stopped ≡ Some NoMemory)
 
 -- where the piece ends a bad line, a reader that had not stopped stops at it; its number counts the lines of the script from 1
-abbrev pub StopsAtBadLine : Reading → List ℕ → Reading → Type 0
+abbrev pub StopsAtBadLine : ScriptReading → List ℕ → ScriptReading → Type 0
 StopsAtBadLine old piece new =
     (place : ℕ) → old.stopped ≡ None → HasBadLineAt (old.begun ++ piece) place → IsStoppedAt (length old.calls + place + 1) new.stopped

@@ -3,7 +3,7 @@ use Rattle.std.specs.Prelude.{ℕ, ◌+◌, ◌*◌, ◌/◌, ◌%◌, Bool, tru
 use Rattle.std.specs.Borrow.{Bor}
 use Rattle.sval_label.specs.Calls as call
 use Rattle.sval_label.specs.Calls.{Call, IntType, Head, Slot, Name}
-use Rattle.sval_script.specs.Lines.{LineForm, complete, field, whole_number, truth, size, text, bytes, name, tag, record_part, tuple_part, record_tuple_part}
+use Rattle.sval_script.specs.Lines.{LineForm, complete, field_then, whole_number, truth, size, text, bytes, name, tag_named, record_part, tuple_part, record_tuple_part}
 use Rattle.sval_script.specs.declared.word.Word.{Word}
 use Rattle.sval_script.specs.declared.word.Word.TheVariants as word
 use Rattle.sval_script.specs.declared.word.Alone.{Alone}
@@ -62,15 +62,15 @@ is_kept lifetime.Borrowed = true
 is_kept lifetime.Computed = false
 
 -- the call of a word and a name
-abbrev pub named_call : Named → Name → Call
-named_call named.EnumBegin n = call.EnumBegin n
-named_call named.EnumEnd n = call.EnumEnd n
-named_call named.TaggedBegin n = call.TaggedBegin n
-named_call named.TaggedEnd n = call.TaggedEnd n
-named_call named.Tag n = call.Standalone n
-named_call named.RecordEnd n = call.End (call.Record n)
-named_call named.TupleEnd n = call.End (call.Tuple n)
-named_call named.RecordTupleEnd n = call.End (call.RecordTuple n)
+abbrev pub word_call : Named → Name → Call
+word_call named.EnumBegin n = call.EnumBegin n
+word_call named.EnumEnd n = call.EnumEnd n
+word_call named.TaggedBegin n = call.TaggedBegin n
+word_call named.TaggedEnd n = call.TaggedEnd n
+word_call named.Tag n = call.Standalone n
+word_call named.RecordEnd n = call.End (call.Record n)
+word_call named.TupleEnd n = call.End (call.Tuple n)
+word_call named.RecordTupleEnd n = call.End (call.RecordTuple n)
 
 -- what a container of this name begins with
 abbrev pub head_of : NamedOpening → Name → Head
@@ -86,14 +86,14 @@ part_call side.End slot = call.PartEnd slot
 -- what fields make a call of the word
 abbrev pub form_of_word : Word → LineForm
 form_of_word (word.Alone w) = complete (alone_call w)
-form_of_word word.Bool = field truth (λ b. complete (call.Truth b))
+form_of_word word.Bool = field_then truth (λ b. complete (call.Truth b))
 form_of_word (word.Number type) = whole_number (type_of type)
-form_of_word (word.Opening w) = field size (λ n. complete (opening_call w n))
-form_of_word (word.TextFragment life) = field text (λ t. complete (call.TextFragment (is_kept life) t))
-form_of_word (word.BinaryFragment life) = field bytes (λ b. complete (call.BinaryFragment (is_kept life) b))
-form_of_word (word.Named w) = name (λ n. complete (named_call w n))
-form_of_word word.TagHint = field tag (λ t. complete (call.TagHint t))
-form_of_word (word.NamedOpening w) = name (λ n. field size (λ s. complete (call.Begin (head_of w n) s)))
+form_of_word (word.Opening w) = field_then size (λ n. complete (opening_call w n))
+form_of_word (word.TextFragment life) = field_then text (λ t. complete (call.TextFragment (is_kept life) t))
+form_of_word (word.BinaryFragment life) = field_then bytes (λ b. complete (call.BinaryFragment (is_kept life) b))
+form_of_word (word.Named w) = name (λ n. complete (word_call w n))
+form_of_word word.TagHint = field_then tag_named (λ t. complete (call.TagHint t))
+form_of_word (word.NamedOpening w) = name (λ n. field_then size (λ s. complete (call.Begin (head_of w n) s)))
 form_of_word (word.Field side) = record_part (part_call side)
 form_of_word (word.Place side) = tuple_part (part_call side)
 form_of_word (word.FieldPlace side) = record_tuple_part (part_call side)
@@ -107,8 +107,8 @@ abbrev pub word_table : List (List ℕ × Word)
 word_table = map (λ row. (row.0.now, row.1)) WORDS
 
 -- the place of a text, by its first byte, the one in its middle and its length
-abbrev pub place_of : List ℕ → ℕ
-place_of text = (5 * get_or text 0 0 + get_or text (length text / 2) 0 + 8 * (length text % 32)) % 256
+abbrev pub word_place : List ℕ → ℕ
+word_place text = (5 * get_or text 0 0 + get_or text (length text / 2) 0 + 8 * (length text % 32)) % 256
 
 -- the text of the word at a place
 abbrev pub word_text_at : ℕ → List ℕ

@@ -4,7 +4,7 @@ ghost use Rattle.std.specs.Prelude.{◌≡◌, ◌≤◌, None, OnOk, [], length
 ghost use Rattle.std.specs.Result.{result_ok};
 ghost use Rattle.hex.specs.Hex.{decode_of};
 ghost use Rattle.sval_script.specs.FieldValues.{Decodes};
-ghost use Rattle.sval_script.specs.SeenBytes.{Keeps};
+ghost use Rattle.sval_script.specs.SeenBytes.{KeepsFront};
 
 use crate::field::LineError;
 use std::alloc::Global;
@@ -37,7 +37,7 @@ impl Model for Bytes {
 /// Makes a vector at least as long as that, with room for more where it was shorter.
 #[inline(always)]
 fn lengthen(room: &mut Vec<u8>, len: usize) -> Result<(), LineError>
-    ensures same { Keeps room.old.items room.new.items }
+    ensures same { KeepsFront room.old.items room.new.items }
     ensures long { OnOk result (len ≤ length room.new.items) }
     ensures no_memory { ¬ (result ≡ Err LineError.Bad) }
 {

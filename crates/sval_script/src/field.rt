@@ -157,7 +157,8 @@ fn split_tag(field: &[u8]) -> Option<(&[u8], TagField)>
 /// The number of an index.
 #[inline(always)]
 fn index_of_digits(field: &[u8]) -> Option<(Sign, u64)>
-    ensures { option_map index_number result ≡ option_and_then (script.keep is_index) (script.integer field.now) }
+    ensures { option_map index_number result ≡ option_and_then (script.keep is_index)
+        (script.signed_integer field.now) }
 {
     match field {
         [b'-', ..] => Some((Sign::Signed, integer(field)?.cast_unsigned())),

@@ -8,7 +8,7 @@ ghost use Rattle.sval_script.specs.Tags.{tag_text, tag_of};
 ghost use Rattle.sval_script.specs.Words.{type_of};
 ghost use Rattle.sval_script.specs.Fields.{line_ahead};
 ghost use Rattle.sval_script.specs.FieldValues.{index_of, index_field_of};
-ghost use Rattle.sval_script.specs.NextFields.{NoField, with_field, EndsBefore, call_before};
+ghost use Rattle.sval_script.specs.NextFields.{NoField, with_field, HasNoFieldsLeft, call_before};
 ghost use Rattle.sval_script.specs.NextFields.{ReadsWord, ReadsNext, ReadsAs, NoNext};
 ghost use Rattle.sval_script.specs.NextFields.{StoresNextText, StoresNextBytes, StoresNextLabel, StoresNextLabelField, ReadsName};
 ghost use Rattle.sval_script.specs.NameNumbers.{label_count, name_count};
@@ -132,7 +132,7 @@ impl<'a> Fields<'a> {
     /// What stands behind the line, if all of its fields were read.
     #[inline(always)]
     pub(crate) fn end(&self) -> Option<&'a [u8]>
-        ensures { EndsBefore self.now result }
+        ensures { HasNoFieldsLeft self.now result }
     {
         if self.is_over { Some(self.rest) } else { None }
     }
@@ -182,7 +182,7 @@ impl<'a> Fields<'a> {
     #[tactic(auto, using(crate::proofs::FieldsRead::none_read, crate::proofs::FieldsRead::read_as))]
     #[inline(always)]
     pub(crate) fn tag(&mut self) -> Option<TagField>
-        ensures { ReadsAs script.tag tag_text self.old self.new result }
+        ensures { ReadsAs script.tag_named tag_text self.old self.new result }
     {
         TagField::read(self.next()?)
     }
@@ -191,7 +191,7 @@ impl<'a> Fields<'a> {
     #[tactic(auto, using(crate::proofs::FieldsRead::none_read, crate::proofs::FieldsRead::read_as, crate::proofs::FieldsRead::dash_tag_read))]
     #[inline(always)]
     pub(crate) fn tag_or_dash(&mut self) -> Option<TagField>
-        ensures { ReadsAs (script.or_dash script.tag) tag_of self.old self.new result }
+        ensures { ReadsAs (script.or_dash script.tag_named) tag_of self.old self.new result }
     {
         if let Some(behind) = self.behind_dash() {
             *self = behind;

@@ -10,7 +10,7 @@ ghost use Rattle.sval_core.specs.Law.{Answers};
 ghost use Rattle.sval_script.specs.Tags.{tag_of, tag_text};
 ghost use Rattle.sval_script.specs.FieldValues.{index_of, made_label, index_from, label_from};
 ghost use Rattle.sval_script.specs.NextFields.{name_from};
-ghost use Rattle.sval_script.specs.Words.{alone_call, opening_call, is_kept, named_call, head_of, part_call};
+ghost use Rattle.sval_script.specs.Words.{alone_call, opening_call, is_kept, word_call, head_of, part_call};
 ghost use Rattle.sval_script.specs.LineCalls.{own_count, next_len, next_call, HoldsNext};
 
 use crate::field::{IndexField, IndexRead, LabelField, Sign};
@@ -61,7 +61,7 @@ impl Named {
     /// The call with this name.
     fn call<'c, T, B>(self, name: Name<'c>) -> AnyCall<'c, T, B>
         ensures { (text : T → List ℕ) (bytes : B → List ℕ)
-            → call_of text bytes result ≡ named_call self (seen_name name.entry) }
+            → call_of text bytes result ≡ word_call self (seen_name name.entry) }
     {
         match self {
             Named::EnumBegin => AnyCall::EnumBegin(name),
@@ -206,7 +206,7 @@ fn make_tag_hint<L: Lending, S: Stream<L>>(tag: TagField, stream: &mut S) -> Res
 /// Makes the call with this name.
 fn make_named<L: Lending, S: Stream<L>>(word: Named, name: NameLeft<'_>, stream: &mut S) -> Result
     ensures { Answers S.law result (S.standing stream.old)
-        (named_call word (name_from name.entry.parts name.entry.text.now name.entry.number)) (S.standing stream.new) }
+        (word_call word (name_from name.entry.parts name.entry.text.now name.entry.number)) (S.standing stream.new) }
 {
     let tag = name.parts.tag.tag();
     let label = name.parts.label.label(name.text);

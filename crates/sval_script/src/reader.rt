@@ -4,7 +4,7 @@ ghost use Rattle.std.specs.Prelude.{◌≡◌, [], ℕ, List, ◌++◌, ◌<◌,
 ghost use Rattle.sval_script.specs.Lines.{lines};
 ghost use Rattle.sval_script.specs.LineCalls.{stored};
 ghost use Rattle.sval_script.specs.Readings.{answer_to, answer_with, TakesPiece, StopsAtBadLine};
-ghost use Rattle.sval_script.specs.ReadLines.{calls_of, lines_with, Holds, EndsLine, ReadsOn, IsFirstBad, IsRead, EndsIn, ReadsPiece};
+ghost use Rattle.sval_script.specs.ReadLines.{line_calls, lines_with, StoreHoldsLines, EndsLine, ReadsLinesOn, IsFirstBadLine, AreReadLines, EndsIn, ReadsPiece};
 ghost use Rattle.sval_script.specs.ReadLines.{NamesBadLine};
 
 use crate::field::LineError;
@@ -26,11 +26,11 @@ pub(crate) struct ReadLines {
 
 /// Reads whole lines behind those that were read.
 fn read_lines(lines: &mut Vec<Line>, store: &mut Store, bytes: &[u8]) -> Result<(), ScriptError>
-    requires holds { Holds lines.old.items (stored store.old) }
+    requires holds { StoreHoldsLines lines.old.items (stored store.old) }
     requires whole { EndsLine bytes.now }
-    ensures read { OnOk result (ReadsOn lines.old.items (stored store.old) bytes.now
+    ensures read { OnOk result (ReadsLinesOn lines.old.items (stored store.old) bytes.now
         lines.new.items (stored store.new)) }
-    ensures bad { IfErr result (IsFirstBad (calls_of lines.old.items (stored store.old)) bytes.now) }
+    ensures bad { IfErr result (IsFirstBadLine (line_calls lines.old.items (stored store.old)) bytes.now) }
 {
     let mut rest = bytes;
     while !rest.is_empty() {
@@ -63,11 +63,11 @@ impl ReadLines {
 
     /// Ends the line that is begun, if one is, with the first of whole lines, and answers what stands behind it.
     fn end_line<'a>(&mut self, whole: &'a [u8]) -> Result<&'a [u8], ScriptError>
-        requires read { IsRead self.old }
+        requires read { AreReadLines self.old }
         requires whole { EndsLine whole.now }
         requires some { 0 < length whole.now }
         ensures ended { IfOk result (λ behind. EndsIn self.old whole.now behind.now self.new) }
-        ensures bad { IfErr result (IsFirstBad (calls_of self.old.lines.items (stored self.old.store))
+        ensures bad { IfErr result (IsFirstBadLine (line_calls self.old.lines.items (stored self.old.store))
             (self.old.begun.items ++ whole.now)) }
     {
         if self.begun.is_empty() {
@@ -85,9 +85,9 @@ impl ReadLines {
 
     /// Reads the bytes of the next piece.
     fn take(&mut self, piece: &[u8]) -> Result<(), ScriptError>
-        requires { IsRead self.old }
+        requires { AreReadLines self.old }
         ensures taken { OnOk result (ReadsPiece self.old piece.now self.new) }
-        ensures bad { IfErr result (IsFirstBad (calls_of self.old.lines.items (stored self.old.store))
+        ensures bad { IfErr result (IsFirstBadLine (line_calls self.old.lines.items (stored self.old.store))
             (self.old.begun.items ++ piece.now)) }
     {
         let Some(feed) = memrchr(b'\n', piece) else {
@@ -103,11 +103,11 @@ impl ReadLines {
 
     /// Reads the next piece, which may have no byte, and names the first bad line that it ends.
     fn take_piece(&mut self, piece: &[u8]) -> Result<(), ScriptError>
-        requires { IsRead self.old }
+        requires { AreReadLines self.old }
         ensures taken { OnOk result (ReadsPiece self.old piece.now self.new) }
-        ensures bad { IfErr result (IsFirstBad (calls_of self.old.lines.items (stored self.old.store))
+        ensures bad { IfErr result (IsFirstBadLine (line_calls self.old.lines.items (stored self.old.store))
             (self.old.begun.items ++ piece.now)) }
-        ensures names { IfErr result (NamesBadLine (calls_of self.old.lines.items (stored self.old.store))
+        ensures names { IfErr result (NamesBadLine (line_calls self.old.lines.items (stored self.old.store))
             (self.old.begun.items ++ piece.now)) }
         ensures ok { piece.now ≡ [] → IsOk result }
         ensures nothing { piece.now ≡ [] → self.new ≡ self.old }
@@ -140,19 +140,19 @@ pub struct ScriptReader {
 
 impl Model for ScriptReader {
     ghost use Rattle.std.specs.Prelude.{◌≡◌, None};
-    ghost use Rattle.sval_script.specs.Readings.{Reading};
+    ghost use Rattle.sval_script.specs.Readings.{ScriptReading};
     ghost use Rattle.sval_script.specs.LineCalls.{stored};
-    ghost use Rattle.sval_script.specs.ReadLines.{calls_of, IsRead};
+    ghost use Rattle.sval_script.specs.ReadLines.{line_calls, AreReadLines};
 
-    ghost Value = { Reading };
+    ghost Value = { ScriptReading };
 
     ghost view = { λ reader. record {
-      calls = calls_of reader.read.lines.items (stored reader.read.store);
+      calls = line_calls reader.read.lines.items (stored reader.read.store);
       begun = reader.read.begun.items;
       stopped = reader.stopped;
     } };
 
-    ghost invariant = { λ reader. reader.stopped ≡ None → IsRead reader.read };
+    ghost invariant = { λ reader. reader.stopped ≡ None → AreReadLines reader.read };
 }
 
 impl ScriptReader {

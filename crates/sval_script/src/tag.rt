@@ -64,7 +64,7 @@ fn tags() -> &'static [(&'static [u8], TagField); 16]
 fn row(place: usize) -> (&'static [u8], TagField)
     requires { place < 16 }
     ensures text { result.0.now ≡ tag_text_at place }
-    ensures named { script.tag result.0.now ≡ Some (tag_text result.1) }
+    ensures named { script.tag_named result.0.now ≡ Some (tag_text result.1) }
     ensures tag { tag_of result.1 ≡ Some (tag_text result.1) }
 {
     let row = &tags()[place];
@@ -75,8 +75,8 @@ impl TagField {
     /// The tag with this text.
     #[inline(never)]
     pub(crate) fn read(field: &[u8]) -> Option<TagField>
-        ensures named { option_map tag_text result ≡ script.tag field.now }
-        ensures tag { option_map tag_of result ≡ option_map Some (script.tag field.now) }
+        ensures named { option_map tag_text result ≡ script.tag_named field.now }
+        ensures tag { option_map tag_of result ≡ option_map Some (script.tag_named field.now) }
     {
         if field.len() < 2 {
             return None;
@@ -88,7 +88,7 @@ impl TagField {
     /// The tag with this text, or none for `-`.
     #[inline(always)]
     pub(crate) fn read_or_dash(field: &[u8]) -> Option<TagField>
-        ensures { option_map tag_of result ≡ script.or_dash script.tag field.now }
+        ensures { option_map tag_of result ≡ script.or_dash script.tag_named field.now }
     {
         match field {
             b"-" => Some(TagField::Absent),

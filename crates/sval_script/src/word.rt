@@ -2,7 +2,7 @@
 
 ghost use Rattle.std.specs.Prelude.{◌≡◌, ◌<◌, length, option_map};
 ghost use Rattle.sval_script.specs.Lines.{forms, find_form};
-ghost use Rattle.sval_script.specs.Words.{form_of_word, word_table, texts_and_words, place_of, word_text_at};
+ghost use Rattle.sval_script.specs.Words.{form_of_word, word_table, texts_and_words, word_place, word_text_at};
 
 use crate::short::same;
 
@@ -192,7 +192,7 @@ static SLOTS: [u8; 256] = [
 /// The place of a text: another for each word.
 fn place(text: &[u8]) -> usize
     requires { 0 < length text.now }
-    ensures { result ≡ place_of text.now }
+    ensures { result ≡ word_place text.now }
 {
     let first = text[0] as usize;
     let middle = text[text.len() / 2] as usize;

@@ -4,11 +4,11 @@ use Rattle.std.specs.Fmt.{digits}
 use Rattle.sval_label.specs.Calls.{Name, U16, U128, I32, I64, I128, Seq, Map, Record, Item, Key, Value, Field}
 use Rattle.sval_core.specs.Trees.{Tree, Null, Truth, Int, Text, Binary, Tagged, Enum, Container, none, part}
 use Rattle.sval_json.specs.Json.{escaped_key, null, truth, number, text, array, object, Items, no_item, item, no_pair, pair}
-use Rattle.sval_cbor.specs.Packs.{PackRefusal, BadKey, BadNumber, RawJson, NotInteger, map_ok, pack_of}
+use Rattle.sval_cbor.specs.Packs.{PackRefusal, BadKey, BadNumber, RawJson, NotInteger, map_packed, pack_of}
 use Rattle.sval_cbor.specs.Cbor.{head_bytes, without_zero_bytes, short_bytes, cbor}
 
 abbrev bytes_of_tree : Tree → Result (List ℕ) PackRefusal
-bytes_of_tree tree = map_ok cbor (pack_of tree)
+bytes_of_tree tree = map_packed cbor (pack_of tree)
 
 abbrev named : List ℕ → Name
 named bytes = record { tag = None; label = Some (record { text = bytes; tag = None; is_static = false }); index = None }

@@ -4,7 +4,7 @@ use Rattle.std.specs.Fmt.{digits}
 use Rattle.sval_label.specs.Calls.{Call, Name, I32, Map, Key, Value}
 use Rattle.sval_cbor.specs.Packs.{BadKey, RawJson}
 use Rattle.sval_cbor.specs.Cbor.{head_bytes}
-use Rattle.sval_cbor.specs.Writing.{NoText, written, are_whole}
+use Rattle.sval_cbor.specs.Writing.{NoText, written_cbor, are_whole}
 
 abbrev tagged : List ℕ → Name
 tagged tag = record { tag = Some tag; label = None; index = None }
@@ -12,18 +12,18 @@ tagged tag = record { tag = Some tag; label = None; index = None }
 abbrev named : List ℕ → Name
 named bytes = record { tag = None; label = Some (record { text = bytes; tag = None; is_static = false }); index = None }
 
-map_of_two : written (Call.Begin Map (Some 2)
+map_of_two : written_cbor (Call.Begin Map (Some 2)
     ∷ Call.PartBegin Key ∷ Call.Int I32 (pos 0) ∷ Call.PartEnd Key ∷ Call.PartBegin Value ∷ Call.Truth false ∷ Call.PartEnd Value
     ∷ Call.PartBegin Key ∷ Call.Int I32 (pos 1) ∷ Call.PartEnd Key ∷ Call.PartBegin Value ∷ Call.Truth true ∷ Call.PartEnd Value ∷ Call.End Map ∷ [])
     ≡ Ok (0xbf ∷ 0x61 ∷ 0x30 ∷ 0xf4 ∷ 0x61 ∷ 0x31 ∷ 0xf5 ∷ 0xff ∷ [])
 unfolding head_bytes digits
 map_of_two = refl
 
-hinted_binary : written (Call.BinaryBegin (Some 2) ∷ Call.TagHint (codes "x") ∷ Call.BinaryFragment true (0x00 ∷ 0xff ∷ []) ∷ Call.BinaryEnd ∷ []) ≡ Ok (0x9f ∷ 0x00 ∷ 0x18 ∷ 0xff ∷ 0xff ∷ [])
+hinted_binary : written_cbor (Call.BinaryBegin (Some 2) ∷ Call.TagHint (codes "x") ∷ Call.BinaryFragment true (0x00 ∷ 0xff ∷ []) ∷ Call.BinaryEnd ∷ []) ≡ Ok (0x9f ∷ 0x00 ∷ 0x18 ∷ 0xff ∷ 0xff ∷ [])
 unfolding head_bytes digits
 hinted_binary = refl
 
-variant_number : written (Call.EnumBegin (named (codes "E")) ∷ Call.TaggedBegin (record { tag = Some (codes "NUMBER"); label = (named (codes "N")).label; index = None })
+variant_number : written_cbor (Call.EnumBegin (named (codes "E")) ∷ Call.TaggedBegin (record { tag = Some (codes "NUMBER"); label = (named (codes "N")).label; index = None })
     ∷ Call.TextBegin (Some 2) ∷ Call.TextFragment true (codes "01") ∷ Call.TextEnd
     ∷ Call.TaggedEnd (record { tag = Some (codes "NUMBER"); label = (named (codes "N")).label; index = None }) ∷ Call.EnumEnd (named (codes "E")) ∷ [])
     ≡ Ok (0xbf ∷ 0x61 ∷ 0x4e ∷ 0x01 ∷ 0xff ∷ [])
@@ -31,23 +31,23 @@ unfolding head_bytes digits
 variant_number = refl
 
 -- an enum that holds nothing, in an enum
-variant_of_variant : written (Call.EnumBegin (named (codes "E1")) ∷ Call.EnumBegin (named (codes "E2")) ∷ Call.EnumEnd (named (codes "E2")) ∷ Call.EnumEnd (named (codes "E1")) ∷ [])
+variant_of_variant : written_cbor (Call.EnumBegin (named (codes "E1")) ∷ Call.EnumBegin (named (codes "E2")) ∷ Call.EnumEnd (named (codes "E2")) ∷ Call.EnumEnd (named (codes "E1")) ∷ [])
     ≡ Ok (0xbf ∷ 0x62 ∷ 0x45 ∷ 0x32 ∷ 0x62 ∷ 0x45 ∷ 0x32 ∷ 0xff ∷ [])
 unfolding head_bytes
 variant_of_variant = refl
 
 -- the outer enum's end ends no map where the inner enum has no name
-nameless_inside : written (Call.EnumBegin (named (codes "E")) ∷ Call.EnumBegin (record { tag = None; label = None; index = None }) ∷ Call.TaggedBegin (named (codes "V"))
+nameless_inside : written_cbor (Call.EnumBegin (named (codes "E")) ∷ Call.EnumBegin (record { tag = None; label = None; index = None }) ∷ Call.TaggedBegin (named (codes "V"))
     ∷ Call.Int I32 (pos 1) ∷ Call.TaggedEnd (named (codes "V")) ∷ Call.EnumEnd (record { tag = None; label = None; index = None }) ∷ Call.EnumEnd (named (codes "E")) ∷ [])
     ≡ Ok (0xbf ∷ 0x61 ∷ 0x56 ∷ 0x01 ∷ 0xff ∷ [])
 unfolding head_bytes digits
 nameless_inside = refl
 
-raw_text_key : written (Call.Begin Map (Some 1) ∷ Call.PartBegin Key ∷ Call.TaggedBegin (tagged (codes "JSON_TEXT")) ∷ Call.TextBegin None ∷ Call.TextFragment true [] ∷ Call.TextEnd
+raw_text_key : written_cbor (Call.Begin Map (Some 1) ∷ Call.PartBegin Key ∷ Call.TaggedBegin (tagged (codes "JSON_TEXT")) ∷ Call.TextBegin None ∷ Call.TextFragment true [] ∷ Call.TextEnd
     ∷ Call.TaggedEnd (tagged (codes "JSON_TEXT")) ∷ Call.PartEnd Key ∷ Call.PartBegin Value ∷ Call.Null ∷ Call.PartEnd Value ∷ Call.End Map ∷ []) ≡ Err RawJson
 raw_text_key = refl
 
-raw_value_key : written (Call.Begin Map (Some 1) ∷ Call.PartBegin Key ∷ Call.TaggedBegin (tagged (codes "JSON_VALUE")) ∷ Call.TextBegin None ∷ Call.TextFragment true [] ∷ Call.TextEnd
+raw_value_key : written_cbor (Call.Begin Map (Some 1) ∷ Call.PartBegin Key ∷ Call.TaggedBegin (tagged (codes "JSON_VALUE")) ∷ Call.TextBegin None ∷ Call.TextFragment true [] ∷ Call.TextEnd
     ∷ Call.TaggedEnd (tagged (codes "JSON_VALUE")) ∷ Call.PartEnd Key ∷ Call.PartBegin Value ∷ Call.Null ∷ Call.PartEnd Value ∷ Call.End Map ∷ []) ≡ Err BadKey
 raw_value_key = refl
 

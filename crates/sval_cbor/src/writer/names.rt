@@ -4,12 +4,12 @@ ghost use Rattle.std.specs.Prelude.{◌≡◌, [], ◌∷◌, ◌++◌, true, fa
 ghost use Rattle.sval_label.specs.Calls.{EnumEnd, TaggedBegin, Standalone};
 ghost use Rattle.sval_label.specs.SeenName.{name_of};
 ghost use Rattle.sval_json.specs.Shape.{handle_of, own, number_or_null};
-ghost use Rattle.sval_cbor.specs.Packs.{on_ok, RawJson};
+ghost use Rattle.sval_cbor.specs.Packs.{on_packed, RawJson};
 ghost use Rattle.sval_cbor.specs.Cbor.{string};
-ghost use Rattle.sval_cbor.specs.Writing.{Elsewhere, Begun, writes, opening, after_handle, enum_end, step};
+ghost use Rattle.sval_cbor.specs.Writing.{Elsewhere, Begun, writes, opening, after_handle, enum_end_bytes, cbor_step};
 ghost use Rattle.sval_json.specs.Marks.{seen_option_index, seen_handle};
 ghost use Rattle.sval_cbor.specs.SeenWriter.{seen_place};
-ghost use Rattle.sval_cbor.specs.WriterLaw.{Does, json_bytes, writer_state, writer_target, writer_view};
+ghost use Rattle.sval_cbor.specs.WriterLaw.{CborDoes, json_bytes, cbor_writer_state, writer_target, cbor_writer_view};
 
 use crate::error::Refusal;
 use crate::writer::{BREAK, MAP, Place, Writer};
@@ -31,8 +31,8 @@ pub(crate) fn place_after(label: Option<&Label>, index: Option<&Index>) -> Place
 impl<'k, K: Sink> Writer<'k, K> {
     /// Begins a map, up to its first value.
     fn write_pair(&mut self, key: &[u8]) -> Result
-        ensures { Does (writes (0xbf ∷ string 3 key.now) (writer_state self.old)) result
-            (writer_target K.told self.old) (writer_view K.told self.new) }
+        ensures { CborDoes (writes (0xbf ∷ string 3 key.now) (cbor_writer_state self.old)) result
+            (writer_target K.told self.old) (cbor_writer_view K.told self.new) }
     {
         self.write(MAP)?;
         self.write_text(key)
@@ -40,9 +40,9 @@ impl<'k, K: Sink> Writer<'k, K> {
 
     /// Opens the map of one pair that a value stands in, or refuses it in a key.
     fn open_pair(&mut self, key: &[u8]) -> Result
-        ensures { let state = writer_state self.old in
-            Does (on_ok (opening (Some key.now) Begun state.in_key) (λ front. writes front state)) result
-            (writer_target K.told self.old) (writer_view K.told self.new) }
+        ensures { let state = cbor_writer_state self.old in
+            CborDoes (on_packed (opening (Some key.now) Begun state.in_key) (λ front. writes front state)) result
+            (writer_target K.told self.old) (cbor_writer_view K.told self.new) }
     {
         if self.in_key {
             return self.refuse(Refusal::Key);
@@ -52,9 +52,10 @@ impl<'k, K: Sink> Writer<'k, K> {
 
     /// Opens the map of one pair that a value stands in directly in an enum.
     fn open_variant(&mut self, handle: &[u8]) -> Result
-        ensures { let state = writer_state self.old in
-            Does (on_ok (opening (Some handle.now) state.place state.in_key) (λ front. writes front state)) result
-            (writer_target K.told self.old) (writer_view K.told self.new) }
+        ensures { let state = cbor_writer_state self.old in
+            CborDoes (on_packed (opening (Some handle.now) state.place state.in_key)
+            (λ front. writes front state)) result
+            (writer_target K.told self.old) (cbor_writer_view K.told self.new) }
     {
         match self.place {
             Place::Begun => self.open_pair(handle),
@@ -64,10 +65,10 @@ impl<'k, K: Sink> Writer<'k, K> {
 
     /// Opens the map that a value of this name stands in, where that is due.
     fn open_handle(&mut self, label: Option<&Label>, index: Option<&Index>) -> Result
-        ensures { let state = writer_state self.old in
-            Does (on_ok (opening (seen_handle label.entry index.entry) state.place state.in_key)
+        ensures { let state = cbor_writer_state self.old in
+            CborDoes (on_packed (opening (seen_handle label.entry index.entry) state.place state.in_key)
             (λ front. writes front state)) result
-            (writer_target K.told self.old) (writer_view K.told self.new) }
+            (writer_target K.told self.old) (cbor_writer_view K.told self.new) }
     {
         if let Some(label) = label {
             return self.open_variant(label.as_str().as_bytes());
@@ -85,10 +86,10 @@ impl<'k, K: Sink> Writer<'k, K> {
         index: Option<&Index>,
         mark: &[u8],
     ) -> Result
-        ensures { let state = writer_state self.old in
-            Does (on_ok (opening (seen_handle label.entry index.entry) state.place state.in_key)
+        ensures { let state = cbor_writer_state self.old in
+            CborDoes (on_packed (opening (seen_handle label.entry index.entry) state.place state.in_key)
             (λ front. writes (front ++ mark.now) (record state { place = Elsewhere }))) result
-            (writer_target K.told self.old) (writer_view K.told self.new) }
+            (writer_target K.told self.old) (cbor_writer_view K.told self.new) }
     {
         self.open_handle(label, index)?;
         self.place = Place::Elsewhere;
@@ -97,10 +98,10 @@ impl<'k, K: Sink> Writer<'k, K> {
 
     /// Refuses raw JSON, after what its name refuses.
     fn refuse_raw(&mut self, label: Option<&Label>, index: Option<&Index>) -> Result
-        ensures { let state = writer_state self.old in
-            Does (on_ok (opening (seen_handle label.entry index.entry) state.place state.in_key)
+        ensures { let state = cbor_writer_state self.old in
+            CborDoes (on_packed (opening (seen_handle label.entry index.entry) state.place state.in_key)
             (λ front. Err RawJson)) result
-            (writer_target K.told self.old) (writer_view K.told self.new) }
+            (writer_target K.told self.old) (cbor_writer_view K.told self.new) }
     {
         match self.place {
             Place::Begun if self.in_key && has_handle(label, index) => self.refuse(Refusal::Key),
@@ -110,10 +111,10 @@ impl<'k, K: Sink> Writer<'k, K> {
 
     /// Writes the number of an index, or `null`.
     fn write_index(&mut self, index: Option<&Index>) -> Result
-        ensures { Does
+        ensures { CborDoes
             (writes (json_bytes self.old.in_key (number_or_null (handle_of None (seen_option_index index.entry))))
-            (writer_state self.old))
-            result (writer_target K.told self.old) (writer_view K.told self.new) }
+            (cbor_writer_state self.old))
+            result (writer_target K.told self.old) (cbor_writer_view K.told self.new) }
     {
         match number_of(index) {
             Some(number) => self.write_int(Int::I64(number)),
@@ -128,8 +129,8 @@ impl<'k, K: Sink> Writer<'k, K> {
         label: Option<&Label>,
         index: Option<&Index>,
     ) -> Result
-        ensures { Does (writes (json_bytes self.old.in_key (own (name_of tag.entry label.entry index.entry)))
-            (writer_state self.old)) result (writer_target K.told self.old) (writer_view K.told self.new) }
+        ensures { CborDoes (writes (json_bytes self.old.in_key (own (name_of tag.entry label.entry index.entry)))
+            (cbor_writer_state self.old)) result (writer_target K.told self.old) (cbor_writer_view K.told self.new) }
     {
         if is_none(tag) {
             return self.write_simple(b"null", b"\xf6");
@@ -148,8 +149,9 @@ impl<'k, K: Sink> Writer<'k, K> {
         label: Option<&Label>,
         index: Option<&Index>,
     ) -> Result
-        ensures { Does (step (Standalone (name_of tag.entry label.entry index.entry)) (writer_state self.old)) result
-            (writer_target K.told self.old) (writer_view K.told self.new) }
+        ensures { CborDoes (cbor_step (Standalone (name_of tag.entry label.entry index.entry))
+            (cbor_writer_state self.old)) result
+            (writer_target K.told self.old) (cbor_writer_view K.told self.new) }
     {
         self.place = Place::Elsewhere;
         self.write_own(tag, label, index)
@@ -158,10 +160,10 @@ impl<'k, K: Sink> Writer<'k, K> {
     /// Begins an enum.
     #[inline(never)]
     pub(crate) fn begin_enum(&mut self, label: Option<&Label>, index: Option<&Index>) -> Result
-        ensures { let state = writer_state self.old in
-            Does (on_ok (opening (seen_handle label.entry index.entry) state.place state.in_key)
+        ensures { let state = cbor_writer_state self.old in
+            CborDoes (on_packed (opening (seen_handle label.entry index.entry) state.place state.in_key)
             (λ front. writes (front ++ []) (record state { place = Begun }))) result
-            (writer_target K.told self.old) (writer_view K.told self.new) }
+            (writer_target K.told self.old) (cbor_writer_view K.told self.new) }
     {
         self.open_named(label, index, b"")?;
         self.place = Place::Begun;
@@ -170,9 +172,9 @@ impl<'k, K: Sink> Writer<'k, K> {
 
     /// Ends the map of one pair that a value stands in, which it doesn't in a key.
     fn close_pair(&mut self) -> Result
-        ensures { let state = writer_state self.old in
-            Does (writes (if state.in_key then [] else 0xff ∷ []) state) result
-            (writer_target K.told self.old) (writer_view K.told self.new) }
+        ensures { let state = cbor_writer_state self.old in
+            CborDoes (writes (if state.in_key then [] else 0xff ∷ []) state) result
+            (writer_target K.told self.old) (cbor_writer_view K.told self.new) }
     {
         if self.in_key {
             return Ok(());
@@ -189,9 +191,10 @@ impl<'k, K: Sink> Writer<'k, K> {
         label: Option<&Label>,
         index: Option<&Index>,
     ) -> Result
-        ensures { let state = writer_state self.old in
-            Does (writes (enum_end (seen_place place) state.in_key (own (name_of tag.entry label.entry index.entry))) state) result
-            (writer_target K.told self.old) (writer_view K.told self.new) }
+        ensures { let state = cbor_writer_state self.old in
+            CborDoes (writes (enum_end_bytes (seen_place place) state.in_key
+            (own (name_of tag.entry label.entry index.entry))) state) result
+            (writer_target K.told self.old) (cbor_writer_view K.told self.new) }
     {
         match place {
             Place::Begun => self.write_own(tag, label, index),
@@ -208,8 +211,9 @@ impl<'k, K: Sink> Writer<'k, K> {
         label: Option<&Label>,
         index: Option<&Index>,
     ) -> Result
-        ensures { Does (step (EnumEnd (name_of tag.entry label.entry index.entry)) (writer_state self.old)) result
-            (writer_target K.told self.old) (writer_view K.told self.new) }
+        ensures { CborDoes (cbor_step (EnumEnd (name_of tag.entry label.entry index.entry))
+            (cbor_writer_state self.old)) result
+            (writer_target K.told self.old) (cbor_writer_view K.told self.new) }
     {
         let place = self.place;
         self.place = place_after(label, index);
@@ -224,8 +228,9 @@ impl<'k, K: Sink> Writer<'k, K> {
         label: Option<&Label>,
         index: Option<&Index>,
     ) -> Result
-        ensures { Does (step (TaggedBegin (name_of tag.entry label.entry index.entry)) (writer_state self.old)) result
-            (writer_target K.told self.old) (writer_view K.told self.new) }
+        ensures { CborDoes (cbor_step (TaggedBegin (name_of tag.entry label.entry index.entry))
+            (cbor_writer_state self.old)) result
+            (writer_target K.told self.old) (cbor_writer_view K.told self.new) }
     {
         match text_kind(tag) {
             TextKind::Ordinary => self.open_named(label, index, b""),
@@ -238,10 +243,10 @@ impl<'k, K: Sink> Writer<'k, K> {
 
     /// Begins a number that comes as text.
     fn begin_number(&mut self, label: Option<&Label>, index: Option<&Index>) -> Result
-        ensures { let state = writer_state self.old in
-            Does (on_ok (opening (seen_handle label.entry index.entry) state.place state.in_key)
+        ensures { let state = cbor_writer_state self.old in
+            CborDoes (on_packed (opening (seen_handle label.entry index.entry) state.place state.in_key)
             (λ front. writes (front ++ []) (record state { place = Elsewhere; in_number = true }))) result
-            (writer_target K.told self.old) (writer_view K.told self.new) }
+            (writer_target K.told self.old) (cbor_writer_view K.told self.new) }
     {
         self.open_named(label, index, b"")?;
         self.in_number = true;
@@ -251,9 +256,12 @@ impl<'k, K: Sink> Writer<'k, K> {
     /// Ends a tagged value.
     #[inline(never)]
     pub(crate) fn end_tagged(&mut self, label: Option<&Label>, index: Option<&Index>) -> Result
-        ensures { let state = writer_state self.old in
-            Does (writes [] (record state { place = after_handle (seen_handle label.entry index.entry); in_number = false }))
-            result (writer_target K.told self.old) (writer_view K.told self.new) }
+        ensures { let state = cbor_writer_state self.old in
+            CborDoes (writes [] (record state {
+              place = after_handle (seen_handle label.entry index.entry);
+              in_number = false;
+            }))
+            result (writer_target K.told self.old) (cbor_writer_view K.told self.new) }
     {
         self.place = place_after(label, index);
         self.in_number = false;

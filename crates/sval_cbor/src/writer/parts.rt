@@ -2,11 +2,11 @@
 
 ghost use Rattle.std.specs.Prelude.{◌++◌, [], ◌∷◌};
 ghost use Rattle.sval_label.specs.Grouped.{seen_head, seen_slot};
-ghost use Rattle.sval_cbor.specs.Packs.{on_ok};
+ghost use Rattle.sval_cbor.specs.Packs.{on_packed};
 ghost use Rattle.sval_json.specs.Marks.{seen_handle};
 ghost use Rattle.sval_cbor.specs.Writing.{Elsewhere, writes, unless_key, opening, after_handle};
-ghost use Rattle.sval_cbor.specs.Writing.{container_begins, container_ends, part_begins, part_ends};
-ghost use Rattle.sval_cbor.specs.WriterLaw.{Does, writer_state, writer_target, writer_view};
+ghost use Rattle.sval_cbor.specs.Writing.{cbor_container_begins, cbor_container_ends, cbor_part_begins, cbor_part_ends};
+ghost use Rattle.sval_cbor.specs.WriterLaw.{CborDoes, cbor_writer_state, writer_target, cbor_writer_view};
 
 use crate::error::Refusal;
 use crate::writer::names::place_after;
@@ -17,9 +17,9 @@ use sval_io::Sink;
 impl<'k, K: Sink> Writer<'k, K> {
     /// Opens a container without a name, which can't stand in a key.
     pub(crate) fn open(&mut self, mark: &[u8]) -> Result
-        ensures { let state = writer_state self.old in
-            Does (unless_key state (writes mark.now (record state { place = Elsewhere }))) result
-            (writer_target K.told self.old) (writer_view K.told self.new) }
+        ensures { let state = cbor_writer_state self.old in
+            CborDoes (unless_key state (writes mark.now (record state { place = Elsewhere }))) result
+            (writer_target K.told self.old) (cbor_writer_view K.told self.new) }
     {
         if self.in_key {
             return self.refuse(Refusal::Key);
@@ -36,10 +36,11 @@ impl<'k, K: Sink> Writer<'k, K> {
         index: Option<&Index>,
         mark: &[u8],
     ) -> Result
-        ensures { let state = writer_state self.old in
-            Does (unless_key state (on_ok (opening (seen_handle label.entry index.entry) state.place state.in_key)
+        ensures { let state = cbor_writer_state self.old in
+            CborDoes (unless_key state (on_packed (opening (seen_handle label.entry index.entry) state.place
+            state.in_key)
             (λ front. writes (front ++ mark.now) (record state { place = Elsewhere })))) result
-            (writer_target K.told self.old) (writer_view K.told self.new) }
+            (writer_target K.told self.old) (cbor_writer_view K.told self.new) }
     {
         if self.in_key {
             return self.refuse(Refusal::Key);
@@ -49,9 +50,9 @@ impl<'k, K: Sink> Writer<'k, K> {
 
     /// Closes a container without a name.
     fn close(&mut self) -> Result
-        ensures { let state = writer_state self.old in
-            Does (writes (0xff ∷ []) (record state { place = Elsewhere })) result
-            (writer_target K.told self.old) (writer_view K.told self.new) }
+        ensures { let state = cbor_writer_state self.old in
+            CborDoes (writes (0xff ∷ []) (record state { place = Elsewhere })) result
+            (writer_target K.told self.old) (cbor_writer_view K.told self.new) }
     {
         self.place = Place::Elsewhere;
         self.write(BREAK)
@@ -60,9 +61,10 @@ impl<'k, K: Sink> Writer<'k, K> {
     /// Closes a container with a name.
     #[inline(never)]
     fn close_named(&mut self, label: Option<&Label>, index: Option<&Index>) -> Result
-        ensures { let state = writer_state self.old in
-            Does (writes (0xff ∷ []) (record state { place = after_handle (seen_handle label.entry index.entry) })) result
-            (writer_target K.told self.old) (writer_view K.told self.new) }
+        ensures { let state = cbor_writer_state self.old in
+            CborDoes (writes (0xff ∷ []) (record state
+            { place = after_handle (seen_handle label.entry index.entry) })) result
+            (writer_target K.told self.old) (cbor_writer_view K.told self.new) }
     {
         self.place = place_after(label, index);
         self.write(BREAK)
@@ -71,8 +73,8 @@ impl<'k, K: Sink> Writer<'k, K> {
     /// Begins a container.
     #[inline(always)]
     pub(crate) fn begin_container(&mut self, head: Head) -> Result
-        ensures { Does (container_begins (seen_head head.entry) (writer_state self.old)) result
-            (writer_target K.told self.old) (writer_view K.told self.new) }
+        ensures { CborDoes (cbor_container_begins (seen_head head.entry) (cbor_writer_state self.old)) result
+            (writer_target K.told self.old) (cbor_writer_view K.told self.new) }
     {
         match head {
             Head::Seq => self.open(ARRAY),
@@ -86,8 +88,8 @@ impl<'k, K: Sink> Writer<'k, K> {
     /// Ends a container.
     #[inline(always)]
     pub(crate) fn end_container(&mut self, head: Head) -> Result
-        ensures { Does (container_ends (seen_head head.entry) (writer_state self.old)) result
-            (writer_target K.told self.old) (writer_view K.told self.new) }
+        ensures { CborDoes (cbor_container_ends (seen_head head.entry) (cbor_writer_state self.old)) result
+            (writer_target K.told self.old) (cbor_writer_view K.told self.new) }
     {
         match head {
             Head::Seq | Head::Map => self.close(),
@@ -100,8 +102,8 @@ impl<'k, K: Sink> Writer<'k, K> {
     /// Begins a part of a container: a field's label is a key.
     #[inline(always)]
     pub(crate) fn begin_part(&mut self, slot: Slot) -> Result
-        ensures { Does (part_begins (seen_slot slot.entry) (writer_state self.old)) result
-            (writer_target K.told self.old) (writer_view K.told self.new) }
+        ensures { CborDoes (cbor_part_begins (seen_slot slot.entry) (cbor_writer_state self.old)) result
+            (writer_target K.told self.old) (cbor_writer_view K.told self.new) }
     {
         self.place = Place::Elsewhere;
         match slot {
@@ -118,8 +120,8 @@ impl<'k, K: Sink> Writer<'k, K> {
     /// Ends a part of a container.
     #[inline(always)]
     pub(crate) fn end_part(&mut self, slot: Slot) -> Result
-        ensures { Does (part_ends (seen_slot slot.entry) (writer_state self.old)) result
-            (writer_target K.told self.old) (writer_view K.told self.new) }
+        ensures { CborDoes (cbor_part_ends (seen_slot slot.entry) (cbor_writer_state self.old)) result
+            (writer_target K.told self.old) (cbor_writer_view K.told self.new) }
     {
         self.place = Place::Elsewhere;
         if let Slot::Key = slot {

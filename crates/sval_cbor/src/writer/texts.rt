@@ -4,12 +4,12 @@ ghost use Rattle.std.specs.Prelude.{◌≡◌, ◌++◌, false, true, Ok};
 ghost use Rattle.sval_json.specs.Digits.{has_digit};
 ghost use Rattle.sval_json.specs.Number.{normal, sign};
 ghost use Rattle.sval_json.specs.Shape.{byte_items};
-ghost use Rattle.sval_cbor.specs.Packs.{on_ok};
+ghost use Rattle.sval_cbor.specs.Packs.{on_packed};
 ghost use Rattle.sval_cbor.specs.Cbor.{string, integer, cbor_items};
 ghost use Rattle.sval_cbor.specs.SeenNumber.{IsUnsigned};
 ghost use Rattle.sval_cbor.specs.SeenWriter.{seen_normal};
 ghost use Rattle.sval_cbor.specs.Writing.{Elsewhere, writes, text_bytes, number_bytes};
-ghost use Rattle.sval_cbor.specs.WriterLaw.{Does, writer_state, writer_target, writer_view};
+ghost use Rattle.sval_cbor.specs.WriterLaw.{CborDoes, cbor_writer_state, writer_target, cbor_writer_view};
 
 use crate::error::{Refusal, Stop};
 use crate::head::write_joined;
@@ -29,8 +29,8 @@ fn sign(negative: bool) -> &'static [u8]
 impl<'k, K: Sink> Writer<'k, K> {
     /// Writes a text of two pieces.
     fn write_joined(&mut self, first: &[u8], second: &[u8]) -> Result
-        ensures { Does (writes (string 3 (first.now ++ second.now)) (writer_state self.old)) result
-            (writer_target K.told self.old) (writer_view K.told self.new) }
+        ensures { CborDoes (writes (string 3 (first.now ++ second.now)) (cbor_writer_state self.old)) result
+            (writer_target K.told self.old) (cbor_writer_view K.told self.new) }
     {
         match write_joined(self.sink, first, second) {
             Ok(()) => Ok(()),
@@ -44,9 +44,10 @@ impl<'k, K: Sink> Writer<'k, K> {
     /// Writes a whole text, or what it stands for.
     #[inline(never)]
     pub(crate) fn write_fragment(&mut self, text: &str) -> Result
-        ensures { let state = writer_state self.old in
-            Does (on_ok (text_bytes state text.now) (λ made. writes made (record state { place = Elsewhere }))) result
-            (writer_target K.told self.old) (writer_view K.told self.new) }
+        ensures { let state = cbor_writer_state self.old in
+            CborDoes (on_packed (text_bytes state text.now)
+            (λ made. writes made (record state { place = Elsewhere }))) result
+            (writer_target K.told self.old) (cbor_writer_view K.told self.new) }
     {
         self.place = Place::Elsewhere;
         if self.in_number {
@@ -58,9 +59,9 @@ impl<'k, K: Sink> Writer<'k, K> {
     /// Writes the number that a text stands for, by its digits in a key.
     #[tactic(auto, using(crate::proofs::Combined::bad_number))]
     fn write_number(&mut self, text: &[u8]) -> Result
-        ensures { let state = writer_state self.old in
-            Does (on_ok (number_bytes state.in_key (normal text.now)) (λ made. writes made state)) result
-            (writer_target K.told self.old) (writer_view K.told self.new) }
+        ensures { let state = cbor_writer_state self.old in
+            CborDoes (on_packed (number_bytes state.in_key (normal text.now)) (λ made. writes made state)) result
+            (writer_target K.told self.old) (cbor_writer_view K.told self.new) }
     {
         let Some(found) = normal(text) else {
             return self.refuse(Refusal::Number);
@@ -73,8 +74,8 @@ impl<'k, K: Sink> Writer<'k, K> {
 
     /// Writes the digits of a number as a text.
     fn write_digits(&mut self, found: NormalForm) -> Result
-        ensures { Does (writes (string 3 (seen_normal found.entry)) (writer_state self.old)) result
-            (writer_target K.told self.old) (writer_view K.told self.new) }
+        ensures { CborDoes (writes (string 3 (seen_normal found.entry)) (cbor_writer_state self.old)) result
+            (writer_target K.told self.old) (cbor_writer_view K.told self.new) }
     {
         match found {
             NormalForm::Null => self.write_text(b"null"),
@@ -88,9 +89,9 @@ impl<'k, K: Sink> Writer<'k, K> {
     /// Writes a number that is whole, or `null`.
     fn write_packed(&mut self, found: NormalForm) -> Result
         requires { IsUnsigned found }
-        ensures { let state = writer_state self.old in
-            Does (on_ok (number_bytes false (Ok (seen_normal found.entry))) (λ made. writes made state)) result
-            (writer_target K.told self.old) (writer_view K.told self.new) }
+        ensures { let state = cbor_writer_state self.old in
+            CborDoes (on_packed (number_bytes false (Ok (seen_normal found.entry))) (λ made. writes made state)) result
+            (writer_target K.told self.old) (cbor_writer_view K.told self.new) }
     {
         match found {
             NormalForm::Null => self.write(b"\xf6"),
@@ -101,9 +102,10 @@ impl<'k, K: Sink> Writer<'k, K> {
     /// Writes a number that is whole.
     fn write_whole(&mut self, negative: bool, unsigned: &[u8]) -> Result
         requires { has_digit unsigned.now ≡ true }
-        ensures { let state = writer_state self.old in
-            Does (on_ok (number_bytes false (Ok (sign negative ++ unsigned.now))) (λ made. writes made state)) result
-            (writer_target K.told self.old) (writer_view K.told self.new) }
+        ensures { let state = cbor_writer_state self.old in
+            CborDoes (on_packed (number_bytes false (Ok (sign negative ++ unsigned.now)))
+            (λ made. writes made state)) result
+            (writer_target K.told self.old) (cbor_writer_view K.told self.new) }
     {
         match whole(negative, unsigned) {
             Some(number) => self.write_integer(number),
@@ -114,8 +116,8 @@ impl<'k, K: Sink> Writer<'k, K> {
     /// Writes bytes as items of an array.
     #[inline(never)]
     pub(crate) fn write_bytes(&mut self, bytes: &[u8]) -> Result
-        ensures { Does (writes (cbor_items (byte_items bytes.now)) (writer_state self.old)) result
-            (writer_target K.told self.old) (writer_view K.told self.new) }
+        ensures { CborDoes (writes (cbor_items (byte_items bytes.now)) (cbor_writer_state self.old)) result
+            (writer_target K.told self.old) (cbor_writer_view K.told self.new) }
     {
         let mut rest = bytes;
         while let Some((byte, after)) = rest.split_first() {

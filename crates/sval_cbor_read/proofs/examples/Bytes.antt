@@ -10,8 +10,8 @@ use Rattle.sval_json.specs.Json.{compact}
 use Rattle.sval_json.specs.Number.{InvalidKey}
 use Rattle.sval_json.specs.Shape.{map_ok, json_of}
 use Rattle.sval_cbor_read.proofs.OneTree.{no_head_127, one_item, same_heads, moved_body, simple_body}
-use Rattle.sval_cbor_read.specs.Document.{document_calls}
-use Rattle.sval_cbor_read.specs.Items.{head_of, IsString, string, break, piece, definite, IsItem, by_head, texts_in_pieces, seq_to_break, map_to_break, falsehood, truth, null, IsBody, unsigned, negative, text, seq, map, big, negative_big, tagged, no_items, no_pairs, a_pair, items_end, items_go_on, entries_end, entries_go_on, IsItemOf}
+use Rattle.sval_cbor_read.specs.Document.{cbor_document_calls}
+use Rattle.sval_cbor_read.specs.Items.{head_of, IsDefiniteString, string, break, piece, definite, IsItem, by_head, texts_in_pieces, seq_to_break, map_to_break, falsehood, truth, null, IsBody, unsigned, negative, text, seq, map, big, negative_big, tagged, no_items, no_pairs, a_pair, items_end, items_go_on, entries_end, entries_go_on, IsItemOf}
 
 map_up_to_break : IsItemOf (0xbf ∷ 0x61 ∷ 0x30 ∷ 0xf4 ∷ 0x61 ∷ 0x31 ∷ 0xf5 ∷ 0xff ∷ [])
     (Container Map (part Key (Text (codes "0")) (part Value (Truth false) (part Key (Text (codes "1")) (part Value (Truth true) none)))))
@@ -52,20 +52,20 @@ empty_bignum = by_head refl (negative_big (definite (string refl (omega arith) r
 
 -- ---- documents
 
-pieces_document : document_calls text_pieces ≡ Call.TextBegin None ∷ Call.TextFragment true (codes "a") ∷ Call.TextFragment true (codes "b") ∷ Call.TextEnd ∷ []
+pieces_document : cbor_document_calls text_pieces ≡ Call.TextBegin None ∷ Call.TextFragment true (codes "a") ∷ Call.TextFragment true (codes "b") ∷ Call.TextEnd ∷ []
 unfolding text_pieces
 pieces_document = refl
 
-tagged_document : document_calls wide_and_tagged ≡ Call.Int U64 (pos 5) ∷ []
+tagged_document : cbor_document_calls wide_and_tagged ≡ Call.Int U64 (pos 5) ∷ []
 unfolding wide_and_tagged
 tagged_document = refl
 
-definite_document : document_calls map_with_sequence_key
+definite_document : cbor_document_calls map_with_sequence_key
     ≡ Call.Begin Map (Some 1) ∷ Call.PartBegin Key ∷ Call.Begin Seq (Some 0) ∷ Call.End Seq ∷ Call.PartEnd Key ∷ Call.PartBegin Value ∷ Call.Null ∷ Call.PartEnd Value ∷ Call.End Map ∷ []
 unfolding map_with_sequence_key
 definite_document = refl
 
-indefinite_document : document_calls map_up_to_break
+indefinite_document : cbor_document_calls map_up_to_break
     ≡ Call.Begin Map None
     ∷ Call.PartBegin Key ∷ Call.TextBegin (Some 1) ∷ Call.TextFragment true (codes "0") ∷ Call.TextEnd ∷ Call.PartEnd Key ∷ Call.PartBegin Value ∷ Call.Truth false ∷ Call.PartEnd Value
     ∷ Call.PartBegin Key ∷ Call.TextBegin (Some 1) ∷ Call.TextFragment true (codes "1") ∷ Call.TextEnd ∷ Call.PartEnd Key ∷ Call.PartBegin Value ∷ Call.Truth true ∷ Call.PartEnd Value ∷ Call.End Map ∷ []
@@ -118,7 +118,7 @@ unfolding head_of
 cut_text tree rest (by_head e b) = cut_body (moved_body (same_heads refl e) b)
 
 -- a piece of a text is UTF-8 by itself
-cut_piece : {content rest : List ℕ} → IsString 3 (0x61 ∷ 0xc3 ∷ 0x61 ∷ 0xa9 ∷ 0xff ∷ []) content rest → ⊥
+cut_piece : {content rest : List ℕ} → IsDefiniteString 3 (0x61 ∷ 0xc3 ∷ 0x61 ∷ 0xa9 ∷ 0xff ∷ []) content rest → ⊥
 unfolding head_of is_utf8 chars encode_utf8
 cut_piece (string {number = n} {after = after} e l k) =
     let (same, number, left) = same_heads refl e in

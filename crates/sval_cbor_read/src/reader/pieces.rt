@@ -1,10 +1,10 @@
 //! Strings in pieces.
 
 ghost use Rattle.std.specs.Prelude.{◌≡◌, ◌≢◌, ◌<◌, ◌≤◌, IfOk, IfErr, length, get_or};
-ghost use Rattle.sval_cbor_read.specs.Steps.{Makes};
-ghost use Rattle.sval_cbor_read.specs.SeenNodes.{node_of};
-ghost use Rattle.sval_cbor_read.specs.SeenFrames.{place_in};
-ghost use Rattle.sval_cbor_read.specs.SeenReader.{spot_of, Adds, EndsItem, piece_of, end_of, ReadsOn};
+ghost use Rattle.sval_cbor_read.specs.Steps.{MakesSomeCall};
+ghost use Rattle.sval_cbor_read.specs.SeenNodes.{item_node};
+ghost use Rattle.sval_cbor_read.specs.SeenFrames.{item_place_in};
+ghost use Rattle.sval_cbor_read.specs.SeenReader.{spot_of, AddsItemNode, EndsItem, chunk_kind_of, end_kind_of, ReadsItemsOn};
 ghost use Rattle.sval_cbor_read.specs.declared.item.Medium.TheVariants as medium;
 ghost use Rattle.sval_cbor_read.specs.declared.reader.Expected.TheVariants as expected;
 
@@ -18,8 +18,9 @@ impl Reader {
     /// Keeps a piece of a string, up to this place.
     #[inline(always)]
     fn add_piece(&mut self, medium: Medium, next: usize) -> Result<(), NoMemory>
-        ensures { IfOk result (λ done. Adds self.old
-            (node_of (piece_of medium) (place_in self.old.opened) self.old.at) next (expected.APiece medium) self.new) }
+        ensures { IfOk result (λ done. AddsItemNode self.old
+            (item_node (chunk_kind_of medium) (item_place_in self.old.opened) self.old.at) next
+            (expected.APiece medium) self.new) }
     {
         let place = self.place();
         match medium {
@@ -46,8 +47,8 @@ impl Reader {
         requires at_in { self.old.at < length bytes.now }
         requires no_break { get_or bytes.now self.old.at 0 ≢ 255 }
         requires is { self.old.expected ≡ expected.APiece medium.Text }
-        ensures goes { IfOk result (ReadsOn bytes.now self.old self.new) }
-        ensures no_memory { IfErr result (λ error. Makes (spot_of bytes.now self.old)) }
+        ensures goes { IfOk result (ReadsItemsOn bytes.now self.old self.new) }
+        ensures no_memory { IfErr result (λ error. MakesSomeCall (spot_of bytes.now self.old)) }
     {
         match text_at(bytes, self.at) {
             None => Ok(false),
@@ -64,8 +65,8 @@ impl Reader {
         requires at_in { self.old.at < length bytes.now }
         requires no_break { get_or bytes.now self.old.at 0 ≢ 255 }
         requires is { self.old.expected ≡ expected.APiece medium.Binary }
-        ensures goes { IfOk result (ReadsOn bytes.now self.old self.new) }
-        ensures no_memory { IfErr result (λ error. Makes (spot_of bytes.now self.old)) }
+        ensures goes { IfOk result (ReadsItemsOn bytes.now self.old self.new) }
+        ensures no_memory { IfErr result (λ error. MakesSomeCall (spot_of bytes.now self.old)) }
     {
         match binary_at(bytes, self.at) {
             None => Ok(false),
@@ -80,7 +81,7 @@ impl Reader {
     #[inline(always)]
     fn end_pieces(&mut self, medium: Medium, next: usize) -> Result<(), NoMemory>
         ensures { IfOk result (λ done. EndsItem self.old.opened self.old
-            (node_of (end_of medium) (place_in self.old.opened) self.old.at) next self.new) }
+            (item_node (end_kind_of medium) (item_place_in self.old.opened) self.old.at) next self.new) }
     {
         let place = self.place();
         match medium {
@@ -94,8 +95,8 @@ impl Reader {
     pub(super) fn piece(&mut self, medium: Medium, bytes: &[u8]) -> Result<bool, NoMemory>
         requires within { self.old.at ≤ length bytes.now }
         requires is { self.old.expected ≡ expected.APiece medium }
-        ensures goes { IfOk result (ReadsOn bytes.now self.old self.new) }
-        ensures no_memory { IfErr result (λ error. Makes (spot_of bytes.now self.old)) }
+        ensures goes { IfOk result (ReadsItemsOn bytes.now self.old self.new) }
+        ensures no_memory { IfErr result (λ error. MakesSomeCall (spot_of bytes.now self.old)) }
     {
         if self.at >= bytes.len() {
             return Ok(false);

@@ -10,7 +10,7 @@ ghost use Rattle.sval_label.specs.Grouped.{seen_head, seen_slot};
 ghost use Rattle.sval_core.specs.Trees.{first_kind, plain_head, plain_name};
 ghost use Rattle.sval_core.specs.Checker.{InContainer};
 ghost use Rattle.sval_core.specs.CheckerSteps.{Variant, at_top, begin, end, form_of_head, next, part_begin, part_end, value};
-ghost use Rattle.sval_check.specs.Checks.{opens};
+ghost use Rattle.sval_check.specs.Checks.{has_own_end};
 ghost use Rattle.sval_check.specs.Kept.{value_frame};
 ghost use Rattle.sval_check.specs.Frames.{begun_form, begun_frame, seen_form};
 ghost use Rattle.sval_check.specs.Tops.{content_end, content_fragment};
@@ -31,7 +31,7 @@ impl Machine {
         call: AnyCall<'_, L::Text, L::Bytes>,
     ) -> Result<(), Refusal>
         ensures { let call = call_of L.text L.bytes call.entry in
-            StepsTo (opens call) (next self.old call) self.new result }
+            StepsTo (has_own_end call) (next self.old call) self.new result }
     {
         match call.grouped() {
             GroupedCall::Null | GroupedCall::Bool(_) | GroupedCall::Int(_) => {

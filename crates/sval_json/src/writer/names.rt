@@ -7,7 +7,7 @@ ghost use Rattle.sval_json.specs.Actions.{write, when, ◌then◌, ◌sets◌, s
 ghost use Rattle.sval_json.specs.Escape.{escaped};
 ghost use Rattle.sval_json.specs.Shape.{handle_of, is_none_tag};
 ghost use Rattle.sval_json.specs.Steps.{refuse_in_key, opens_handle, name_step, closes};
-ghost use Rattle.sval_json.specs.Steps.{label_step, own_step, standalone_step, step};
+ghost use Rattle.sval_json.specs.Steps.{label_step, own_step, standalone_step, writer_step};
 ghost use Rattle.sval_json.specs.Marks.{seen_option_index, seen_handle};
 ghost use Rattle.sval_json.specs.WriterLaw.{Does, writer_view};
 
@@ -163,7 +163,7 @@ impl<'k, K: Sink> Writer<'k, K> {
         label: Option<&Label>,
         index: Option<&Index>,
     ) -> Result
-        ensures { Does (step self.old.variants (EnumEnd (name_of tag.entry label.entry index.entry))) result
+        ensures { Does (writer_step self.old.variants (EnumEnd (name_of tag.entry label.entry index.entry))) result
             (writer_view K.told self.old) (writer_view K.told self.new) }
     {
         self.write_name_if_empty(tag, label, index)?;

@@ -4,7 +4,7 @@ ghost use Rattle.std.specs.Prelude.{◌≡◌, ◌++◌};
 ghost use Rattle.std.specs.Bool.{OnTrue};
 ghost use Rattle.sval_json.specs.Escape.{escaped};
 ghost use Rattle.sval_json.specs.SeenWriter.{quoted_text};
-ghost use Rattle.sval_json.specs.Steps.{label_text};
+ghost use Rattle.sval_json.specs.Steps.{key_label_text};
 
 use crate::escape::is_all_plain;
 use crate::marks::is_ident;
@@ -63,7 +63,7 @@ impl<'a> Quoted<'a> {
     /// The text of a label in a key.
     #[inline(always)]
     pub(crate) fn label(label: &'a Label) -> Self
-        ensures { quoted_text result ≡ label_text label.now }
+        ensures { quoted_text result ≡ key_label_text label.now }
     {
         Quoted {
             text: label.as_str(),

@@ -4,7 +4,7 @@ ghost use Rattle.std.specs.Prelude.{option_map};
 ghost use Rattle.sval_label.specs.Calls.{TaggedBegin, TaggedEnd};
 ghost use Rattle.sval_label.specs.SeenName.{name_of};
 ghost use Rattle.sval_json.specs.Marks.{seen_kind};
-ghost use Rattle.sval_json.specs.Steps.{step, refuses_key, begins_tagged, ends_tagged, number_is_over, number_ends};
+ghost use Rattle.sval_json.specs.Steps.{writer_step, refuses_key, begins_tagged, ends_tagged, number_is_over, number_ends};
 ghost use Rattle.sval_json.specs.WriterLaw.{Does, IsOnlySet, writer_view};
 
 use crate::error::Refusal;
@@ -99,7 +99,7 @@ impl<'k, K: Sink> Writer<'k, K> {
         label: Option<&Label>,
         index: Option<&Index>,
     ) -> Result
-        ensures { Does (step self.old.variants (TaggedBegin (name_of tag.entry label.entry index.entry))) result
+        ensures { Does (writer_step self.old.variants (TaggedBegin (name_of tag.entry label.entry index.entry))) result
             (writer_view K.told self.old) (writer_view K.told self.new) }
     {
         let kind = text_kind(tag);
@@ -118,7 +118,7 @@ impl<'k, K: Sink> Writer<'k, K> {
         label: Option<&Label>,
         index: Option<&Index>,
     ) -> Result
-        ensures { Does (step self.old.variants (TaggedEnd (name_of tag.entry label.entry index.entry))) result
+        ensures { Does (writer_step self.old.variants (TaggedEnd (name_of tag.entry label.entry index.entry))) result
             (writer_view K.told self.old) (writer_view K.told self.new) }
     {
         self.end_kind(text_kind(tag))?;

@@ -6,10 +6,10 @@ use Rattle.std.proofs.Common.{subst}
 use Rattle.std.proofs.lemmas.Str.{is_utf8-from_IsUtf8}
 use Rattle.sval_json.specs.Fronts.{FailsAt}
 use Rattle.sval_json.proofs.NumberTexts.{ascii_utf8}
-use Rattle.sval_json_read.specs.Reader.{taken}
+use Rattle.sval_json_read.specs.Reader.{bytes_taken}
 use Rattle.sval_json_read.proofs.Fails.{stops-fails}
 
-fails : (bytes : List ℕ) (n : ℕ) → IsUtf8 bytes → taken bytes ≡ n → FailsAt bytes n
+fails : (bytes : List ℕ) (n : ℕ) → IsUtf8 bytes → bytes_taken bytes ≡ n → FailsAt bytes n
 fails bytes n u e = subst (FailsAt bytes) e (stops-fails bytes u)
 
 at_nothing : FailsAt [] 0

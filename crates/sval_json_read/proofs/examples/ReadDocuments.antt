@@ -9,9 +9,9 @@ use Rattle.sval_json.specs.Grammar as json
 use Rattle.sval_json.specs.Grammar.{JsonValue, no_values, a_value, no_members, a_member, close, unescaped, unit, IsValue, number, string, array, last_value, more_values, object, last_member}
 use Rattle.sval_json.proofs.NumberGrammar.{run_value}
 use Rattle.sval_json_read.specs.Trees.{number_name, tree_of, settled}
-use Rattle.sval_json_read.specs.Tokens.{Alone, Item, Key, Value, Placed, at, Null, Truth, Number, Text, BeginArray, EndArray, BeginObject, EndObject, tokens_of}
-use Rattle.sval_json_read.specs.Calls.{run, escape, pieces, text_calls, document_calls}
-use Rattle.sval_json_read.specs.Reader.{read}
+use Rattle.sval_json_read.specs.Tokens.{Alone, Item, Key, Value, Placed, placed_at, Null, Truth, Number, Text, BeginArray, EndArray, BeginObject, EndObject, tokens_of}
+use Rattle.sval_json_read.specs.Calls.{run, escape, pieces, string_value_calls, document_calls}
+use Rattle.sval_json_read.specs.Reader.{tokens_read}
 
 -- ---- a text of every kind
 
@@ -20,10 +20,10 @@ mixed = codes " {\"a\" : [1, -0, 1.50e+3, \"x\\u0041\\n\"]}"
 
 abbrev mixed_tokens : List Placed
 mixed_tokens =
-    at Alone BeginObject ∷ at Key (Text (codes "a")) ∷ at Value BeginArray ∷ at Item (Number (codes "1")) ∷ at Item (Number (codes "-0"))
-    ∷ at Item (Number (codes "1.50e+3")) ∷ at Item (Text (codes "x\\u0041\\n")) ∷ at Value EndArray ∷ at Alone EndObject ∷ []
+    placed_at Alone BeginObject ∷ placed_at Key (Text (codes "a")) ∷ placed_at Value BeginArray ∷ placed_at Item (Number (codes "1")) ∷ placed_at Item (Number (codes "-0"))
+    ∷ placed_at Item (Number (codes "1.50e+3")) ∷ placed_at Item (Text (codes "x\\u0041\\n")) ∷ placed_at Value EndArray ∷ placed_at Alone EndObject ∷ []
 
-mixed_read : read mixed ≡ Some mixed_tokens
+mixed_read : tokens_read mixed ≡ Some mixed_tokens
 mixed_read = refl
 
 mixed_calls : document_calls mixed_tokens
@@ -71,52 +71,52 @@ mixed_settled = refl
 abbrev too_large : List ℕ
 too_large = codes "9223372036854775808"
 
-too_large_read : read too_large ≡ Some (at Alone (Number too_large) ∷ [])
+too_large_read : tokens_read too_large ≡ Some (placed_at Alone (Number too_large) ∷ [])
 too_large_read = refl
 
-too_large_calls : document_calls (at Alone (Number too_large) ∷ [])
+too_large_calls : document_calls (placed_at Alone (Number too_large) ∷ [])
     ≡ Call.TaggedBegin number_name ∷ Call.TextBegin (Some 19) ∷ Call.TextFragment true too_large ∷ Call.TextEnd ∷ Call.TaggedEnd number_name ∷ []
 too_large_calls = refl
 
-least_calls : document_calls (at Alone (Number (codes "-9223372036854775808")) ∷ []) ≡ Call.Int I64 (negsuc 9223372036854775807) ∷ []
+least_calls : document_calls (placed_at Alone (Number (codes "-9223372036854775808")) ∷ []) ≡ Call.Int I64 (negsuc 9223372036854775807) ∷ []
 least_calls = refl
 
-largest_calls : document_calls (at Alone (Number (codes "9223372036854775807")) ∷ []) ≡ Call.Int I64 (pos 9223372036854775807) ∷ []
+largest_calls : document_calls (placed_at Alone (Number (codes "9223372036854775807")) ∷ []) ≡ Call.Int I64 (pos 9223372036854775807) ∷ []
 largest_calls = refl
 
 -- a fraction or an exponent makes no `i64`
-fraction_calls : document_calls (at Alone (Number (codes "1.0")) ∷ []) ≡ Call.TaggedBegin number_name ∷ Call.TextBegin (Some 3) ∷ Call.TextFragment true (codes "1.0") ∷ Call.TextEnd ∷ Call.TaggedEnd number_name ∷ []
+fraction_calls : document_calls (placed_at Alone (Number (codes "1.0")) ∷ []) ≡ Call.TaggedBegin number_name ∷ Call.TextBegin (Some 3) ∷ Call.TextFragment true (codes "1.0") ∷ Call.TextEnd ∷ Call.TaggedEnd number_name ∷ []
 fraction_calls = refl
 
-exponent_calls : document_calls (at Alone (Number (codes "1E2")) ∷ []) ≡ Call.TaggedBegin number_name ∷ Call.TextBegin (Some 3) ∷ Call.TextFragment true (codes "1E2") ∷ Call.TextEnd ∷ Call.TaggedEnd number_name ∷ []
+exponent_calls : document_calls (placed_at Alone (Number (codes "1E2")) ∷ []) ≡ Call.TaggedBegin number_name ∷ Call.TextBegin (Some 3) ∷ Call.TextFragment true (codes "1E2") ∷ Call.TextEnd ∷ Call.TaggedEnd number_name ∷ []
 exponent_calls = refl
 
 negative_zeros_written : map_ok compact (json_of (tree_of (json.Array (a_value (json.Number (codes "-0")) (a_value (json.Number (codes "-0.0")) (a_value (json.Number (codes "-0e1")) no_values)))))) ≡ Ok (codes "[0,-0.0,-0e1]")
 unfolding digits
 negative_zeros_written = refl
 
-number_at_end : read (codes "-12.5e-07 ") ≡ Some (at Alone (Number (codes "-12.5e-07")) ∷ [])
+number_at_end : tokens_read (codes "-12.5e-07 ") ≡ Some (placed_at Alone (Number (codes "-12.5e-07")) ∷ [])
 number_at_end = refl
 
 -- ---- words, arrays and objects
 
-words_read : read (codes "[null,true,false]") ≡ Some (at Alone BeginArray ∷ at Item Null ∷ at Item (Truth true) ∷ at Item (Truth false) ∷ at Alone EndArray ∷ [])
+words_read : tokens_read (codes "[null,true,false]") ≡ Some (placed_at Alone BeginArray ∷ placed_at Item Null ∷ placed_at Item (Truth true) ∷ placed_at Item (Truth false) ∷ placed_at Alone EndArray ∷ [])
 words_read = refl
 
-empty_read : read (codes "[[ ],{ }]") ≡ Some (at Alone BeginArray ∷ at Item BeginArray ∷ at Item EndArray ∷ at Item BeginObject ∷ at Item EndObject ∷ at Alone EndArray ∷ [])
+empty_read : tokens_read (codes "[[ ],{ }]") ≡ Some (placed_at Alone BeginArray ∷ placed_at Item BeginArray ∷ placed_at Item EndArray ∷ placed_at Item BeginObject ∷ placed_at Item EndObject ∷ placed_at Alone EndArray ∷ [])
 empty_read = refl
 
-empty_calls : document_calls (at Alone BeginObject ∷ at Alone EndObject ∷ []) ≡ Call.Begin Head.Map None ∷ Call.End Head.Map ∷ []
+empty_calls : document_calls (placed_at Alone BeginObject ∷ placed_at Alone EndObject ∷ []) ≡ Call.Begin Head.Map None ∷ Call.End Head.Map ∷ []
 empty_calls = refl
 
 -- equal keys stay, and an empty text has no fragment
-equal_keys_read : read (codes "{\"\":1,\"\":2}") ≡ Some (at Alone BeginObject ∷ at Key (Text []) ∷ at Value (Number (codes "1")) ∷ at Key (Text []) ∷ at Value (Number (codes "2")) ∷ at Alone EndObject ∷ [])
+equal_keys_read : tokens_read (codes "{\"\":1,\"\":2}") ≡ Some (placed_at Alone BeginObject ∷ placed_at Key (Text []) ∷ placed_at Value (Number (codes "1")) ∷ placed_at Key (Text []) ∷ placed_at Value (Number (codes "2")) ∷ placed_at Alone EndObject ∷ [])
 equal_keys_read = refl
 
-empty_text_calls : text_calls [] ≡ Call.TextBegin None ∷ Call.TextEnd ∷ []
+empty_text_calls : string_value_calls [] ≡ Call.TextBegin None ∷ Call.TextEnd ∷ []
 empty_text_calls = refl
 
-refused : (read (codes "[1,]") ≡ None) × (read (codes "01") ≡ None) × (read [] ≡ None) × (read (codes "\"\\ud800\"") ≡ None)
+refused : (tokens_read (codes "[1,]") ≡ None) × (tokens_read (codes "01") ≡ None) × (tokens_read [] ≡ None) × (tokens_read (codes "\"\\ud800\"") ≡ None)
 refused = (refl, refl, refl, refl)
 
 -- ---- the pieces of texts

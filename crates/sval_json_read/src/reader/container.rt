@@ -4,7 +4,7 @@ ghost use Rattle.std.specs.Prelude.{◌≡◌, ◌+◌, ◌<◌, [], IfOk, IfErr
 ghost use Rattle.sval_json.specs.Grammar.{is_space};
 ghost use Rattle.sval_json_read.specs.Strings.{Plain};
 ghost use Rattle.sval_json_read.specs.Reader as machine;
-ghost use Rattle.sval_json_read.specs.SeenReader.{state_of, Gives, KeepsAt, Opens, ReadsIn};
+ghost use Rattle.sval_json_read.specs.SeenReader.{seen_state, GivesState, KeepsAt, OpensContainer, ReadsIn};
 ghost use Rattle.sval_json_read.specs.declared.node.Node.TheVariants as node;
 ghost use Rattle.sval_json_read.specs.declared.stack.Opened.TheVariants as opened;
 ghost use Rattle.sval_json_read.specs.declared.reader.Expected.TheVariants as expected;
@@ -23,12 +23,12 @@ impl Reader {
     fn goes_on(&mut self, bytes: &[u8], at: usize) -> Result<bool, NoMemory>
         requires at_in { at < length bytes.now }
         requires reads { ReadsIn bytes.now at self.old.from self.old.nodes.items }
-        ensures gives { IfOk result (Gives
-            (machine.goes_on (state_of bytes.now at self.old) self.old.opened (get_or bytes.now at 0))
-            (state_of bytes.now (at + 1) self.new)) }
+        ensures gives { IfOk result (GivesState
+            (machine.comma_or_close (seen_state bytes.now at self.old) self.old.opened (get_or bytes.now at 0))
+            (seen_state bytes.now (at + 1) self.new)) }
         ensures reads { IfOk result (λ taken. ReadsIn bytes.now (at + 1) self.new.from self.new.nodes.items) }
-        ensures no_memory { IfErr result (λ error. KeepsAt (state_of bytes.now at self.old)
-            (machine.goes_on (state_of bytes.now at self.old) self.old.opened (get_or bytes.now at 0))) }
+        ensures no_memory { IfErr result (λ error. KeepsAt (seen_state bytes.now at self.old)
+            (machine.comma_or_close (seen_state bytes.now at self.old) self.old.opened (get_or bytes.now at 0))) }
     {
         match (self.opened.top(), bytes[at]) {
             (Some(Opened::Array), b',') => self.expected = Expected::AValue,
@@ -53,11 +53,12 @@ impl Reader {
     pub(crate) fn follows(&mut self, bytes: &[u8], at: usize) -> Result<bool, NoMemory>
         requires at_in { at < length bytes.now }
         requires reads { ReadsIn bytes.now at self.old.from self.old.nodes.items }
-        ensures gives { IfOk result (Gives (machine.follows (state_of bytes.now at self.old) (get_or bytes.now at 0))
-            (state_of bytes.now (at + 1) self.new)) }
+        ensures gives { IfOk result (GivesState (machine.follows (seen_state bytes.now at self.old)
+            (get_or bytes.now at 0))
+            (seen_state bytes.now (at + 1) self.new)) }
         ensures reads { IfOk result (λ taken. ReadsIn bytes.now (at + 1) self.new.from self.new.nodes.items) }
-        ensures no_memory { IfErr result (λ error. KeepsAt (state_of bytes.now at self.old)
-            (machine.follows (state_of bytes.now at self.old) (get_or bytes.now at 0))) }
+        ensures no_memory { IfErr result (λ error. KeepsAt (seen_state bytes.now at self.old)
+            (machine.follows (seen_state bytes.now at self.old) (get_or bytes.now at 0))) }
     {
         if is_white(bytes[at]) {
             self.expected = Expected::Next;
@@ -68,7 +69,8 @@ impl Reader {
 
     /// Begins an array.
     fn begin_array(&mut self) -> Result<(), NoMemory>
-        ensures { IfOk result (λ done. Opens self.old opened.Array node.BeginArray expected.FirstItem self.new) }
+        ensures { IfOk result (λ done. OpensContainer self.old opened.Array node.BeginArray expected.FirstItem
+            self.new) }
     {
         let place = self.place();
         self.add(Node::BeginArray(place), Expected::FirstItem)?;
@@ -77,7 +79,8 @@ impl Reader {
 
     /// Begins an object.
     fn begin_object(&mut self) -> Result<(), NoMemory>
-        ensures { IfOk result (λ done. Opens self.old opened.Object node.BeginObject expected.FirstKey self.new) }
+        ensures { IfOk result (λ done. OpensContainer self.old opened.Object node.BeginObject
+            expected.FirstKey self.new) }
     {
         let place = self.place();
         self.add(Node::BeginObject(place), Expected::FirstKey)?;
@@ -90,8 +93,8 @@ impl Reader {
         requires at_in { at < length bytes.now }
         requires reads { ReadsIn bytes.now at self.old.from self.old.nodes.items }
         requires quote { get_or bytes.now at 0 ≡ 34 }
-        ensures begins { state_of bytes.now (at + 1) self.new
-            ≡ machine.expects (state_of bytes.now at self.old) (machine.InString is_key Plain []) }
+        ensures begins { seen_state bytes.now (at + 1) self.new
+            ≡ machine.expects (seen_state bytes.now at self.old) (machine.InString is_key Plain []) }
         ensures reads { ReadsIn bytes.now (at + 1) self.new.from self.new.nodes.items }
     {
         self.from = at + 1;
@@ -103,11 +106,12 @@ impl Reader {
     fn begins(&mut self, bytes: &[u8], at: usize) -> Result<bool, NoMemory>
         requires at_in { at < length bytes.now }
         requires reads { ReadsIn bytes.now at self.old.from self.old.nodes.items }
-        ensures gives { IfOk result (Gives (machine.begins (state_of bytes.now at self.old) (get_or bytes.now at 0))
-            (state_of bytes.now (at + 1) self.new)) }
+        ensures gives { IfOk result (GivesState (machine.begins (seen_state bytes.now at self.old)
+            (get_or bytes.now at 0))
+            (seen_state bytes.now (at + 1) self.new)) }
         ensures reads { IfOk result (λ taken. ReadsIn bytes.now (at + 1) self.new.from self.new.nodes.items) }
-        ensures no_memory { IfErr result (λ error. KeepsAt (state_of bytes.now at self.old)
-            (machine.begins (state_of bytes.now at self.old) (get_or bytes.now at 0))) }
+        ensures no_memory { IfErr result (λ error. KeepsAt (seen_state bytes.now at self.old)
+            (machine.begins (seen_state bytes.now at self.old) (get_or bytes.now at 0))) }
     {
         let byte = bytes[at];
         match byte {
@@ -142,8 +146,8 @@ impl Reader {
     fn begins_key(&mut self, bytes: &[u8], at: usize) -> bool
         requires at_in { at < length bytes.now }
         requires reads { ReadsIn bytes.now at self.old.from self.old.nodes.items }
-        ensures gives { Gives (machine.begins_key (state_of bytes.now at self.old) (get_or bytes.now at 0))
-            (state_of bytes.now (at + 1) self.new) result }
+        ensures gives { GivesState (machine.begins_key (seen_state bytes.now at self.old) (get_or bytes.now at 0))
+            (seen_state bytes.now (at + 1) self.new) result }
         ensures reads { ReadsIn bytes.now (at + 1) self.new.from self.new.nodes.items }
     {
         if bytes[at] != b'"' {
@@ -159,11 +163,12 @@ impl Reader {
         requires at_in { at < length bytes.now }
         requires reads { ReadsIn bytes.now at self.old.from self.old.nodes.items }
         requires is { self.old.expected ≡ expected.AValue }
-        ensures gives { IfOk result (Gives (machine.step (state_of bytes.now at self.old) (get_or bytes.now at 0))
-            (state_of bytes.now (at + 1) self.new)) }
+        ensures gives { IfOk result (GivesState (machine.reader_step (seen_state bytes.now at self.old)
+            (get_or bytes.now at 0))
+            (seen_state bytes.now (at + 1) self.new)) }
         ensures reads { IfOk result (λ taken. ReadsIn bytes.now (at + 1) self.new.from self.new.nodes.items) }
-        ensures no_memory { IfErr result (λ error. KeepsAt (state_of bytes.now at self.old)
-            (machine.step (state_of bytes.now at self.old) (get_or bytes.now at 0))) }
+        ensures no_memory { IfErr result (λ error. KeepsAt (seen_state bytes.now at self.old)
+            (machine.reader_step (seen_state bytes.now at self.old) (get_or bytes.now at 0))) }
     {
         if is_white(bytes[at]) {
             return Ok(true);
@@ -177,11 +182,12 @@ impl Reader {
         requires at_in { at < length bytes.now }
         requires reads { ReadsIn bytes.now at self.old.from self.old.nodes.items }
         requires is { self.old.expected ≡ expected.FirstItem }
-        ensures gives { IfOk result (Gives (machine.step (state_of bytes.now at self.old) (get_or bytes.now at 0))
-            (state_of bytes.now (at + 1) self.new)) }
+        ensures gives { IfOk result (GivesState (machine.reader_step (seen_state bytes.now at self.old)
+            (get_or bytes.now at 0))
+            (seen_state bytes.now (at + 1) self.new)) }
         ensures reads { IfOk result (λ taken. ReadsIn bytes.now (at + 1) self.new.from self.new.nodes.items) }
-        ensures no_memory { IfErr result (λ error. KeepsAt (state_of bytes.now at self.old)
-            (machine.step (state_of bytes.now at self.old) (get_or bytes.now at 0))) }
+        ensures no_memory { IfErr result (λ error. KeepsAt (seen_state bytes.now at self.old)
+            (machine.reader_step (seen_state bytes.now at self.old) (get_or bytes.now at 0))) }
     {
         if is_white(bytes[at]) {
             return Ok(true);
@@ -198,11 +204,12 @@ impl Reader {
         requires at_in { at < length bytes.now }
         requires reads { ReadsIn bytes.now at self.old.from self.old.nodes.items }
         requires is { self.old.expected ≡ expected.FirstKey }
-        ensures gives { IfOk result (Gives (machine.step (state_of bytes.now at self.old) (get_or bytes.now at 0))
-            (state_of bytes.now (at + 1) self.new)) }
+        ensures gives { IfOk result (GivesState (machine.reader_step (seen_state bytes.now at self.old)
+            (get_or bytes.now at 0))
+            (seen_state bytes.now (at + 1) self.new)) }
         ensures reads { IfOk result (λ taken. ReadsIn bytes.now (at + 1) self.new.from self.new.nodes.items) }
-        ensures no_memory { IfErr result (λ error. KeepsAt (state_of bytes.now at self.old)
-            (machine.step (state_of bytes.now at self.old) (get_or bytes.now at 0))) }
+        ensures no_memory { IfErr result (λ error. KeepsAt (seen_state bytes.now at self.old)
+            (machine.reader_step (seen_state bytes.now at self.old) (get_or bytes.now at 0))) }
     {
         if is_white(bytes[at]) {
             return Ok(true);
@@ -219,8 +226,8 @@ impl Reader {
         requires at_in { at < length bytes.now }
         requires reads { ReadsIn bytes.now at self.old.from self.old.nodes.items }
         requires is { self.old.expected ≡ expected.NextKey }
-        ensures gives { Gives (machine.step (state_of bytes.now at self.old) (get_or bytes.now at 0))
-            (state_of bytes.now (at + 1) self.new) result }
+        ensures gives { GivesState (machine.reader_step (seen_state bytes.now at self.old) (get_or bytes.now at 0))
+            (seen_state bytes.now (at + 1) self.new) result }
         ensures reads { ReadsIn bytes.now (at + 1) self.new.from self.new.nodes.items }
     {
         is_white(bytes[at]) || self.begins_key(bytes, at)
@@ -232,8 +239,8 @@ impl Reader {
         requires at_in { at < length bytes.now }
         requires reads { ReadsIn bytes.now at self.old.from self.old.nodes.items }
         requires is { self.old.expected ≡ expected.Colon }
-        ensures gives { Gives (machine.step (state_of bytes.now at self.old) (get_or bytes.now at 0))
-            (state_of bytes.now (at + 1) self.new) result }
+        ensures gives { GivesState (machine.reader_step (seen_state bytes.now at self.old) (get_or bytes.now at 0))
+            (seen_state bytes.now (at + 1) self.new) result }
         ensures reads { ReadsIn bytes.now (at + 1) self.new.from self.new.nodes.items }
     {
         if is_white(bytes[at]) {

@@ -5,8 +5,8 @@ ghost use Rattle.std.specs.List.{between};
 ghost use Rattle.sval_json.specs.Digits.{is_number_byte};
 ghost use Rattle.sval_json_read.specs.Reader as machine;
 ghost use Rattle.sval_json_read.specs.Nodes.{tokens_in};
-ghost use Rattle.sval_json_read.specs.SeenNodes.{node_of};
-ghost use Rattle.sval_json_read.specs.SeenReader.{state_of, expected_of, Gives, HasToken, KeepsAt, Ends, ReadsIn};
+ghost use Rattle.sval_json_read.specs.SeenNodes.{seen_node};
+ghost use Rattle.sval_json_read.specs.SeenReader.{seen_state, expected_of, GivesState, HasToken, KeepsAt, EndsText, ReadsIn};
 ghost use Rattle.sval_json_read.specs.declared.reader.Expected.TheVariants.{Letter, InNumber, InString};
 
 use super::{Expected, Reader};
@@ -24,8 +24,9 @@ impl Reader {
     pub(crate) fn letter(&mut self, word: Word, bytes: &[u8], at: usize) -> bool
         requires at_in { at < length bytes.now }
         requires reads { ReadsIn bytes.now at self.old.from self.old.nodes.items }
-        ensures gives { Gives (machine.step_in (expected_of bytes.now self.old.from at (Letter word))
-            (state_of bytes.now at self.old) (get_or bytes.now at 0)) (state_of bytes.now (at + 1) self.new) result }
+        ensures gives { GivesState (machine.step_in (expected_of bytes.now self.old.from at (Letter word))
+            (seen_state bytes.now at self.old) (get_or bytes.now at 0))
+            (seen_state bytes.now (at + 1) self.new) result }
         ensures reads { ReadsIn bytes.now (at + 1) self.new.from self.new.nodes.items }
     {
         match word.after(bytes[at]) {
@@ -61,8 +62,9 @@ impl Reader {
         requires reads { ReadsIn bytes.now at self.old.from self.old.nodes.items }
         requires before { self.old.from ≤ at }
         requires is_of_numbers { is_number_byte (get_or bytes.now at 0) ≡ true }
-        ensures gives { Gives (machine.step_in (expected_of bytes.now self.old.from at (InNumber phase))
-            (state_of bytes.now at self.old) (get_or bytes.now at 0)) (state_of bytes.now (at + 1) self.new) result }
+        ensures gives { GivesState (machine.step_in (expected_of bytes.now self.old.from at (InNumber phase))
+            (seen_state bytes.now at self.old) (get_or bytes.now at 0))
+            (seen_state bytes.now (at + 1) self.new) result }
         ensures reads { ReadsIn bytes.now (at + 1) self.new.from self.new.nodes.items }
     {
         match next_phase(phase, bytes[at]) {
@@ -79,8 +81,8 @@ impl Reader {
     fn end_number(&mut self, bytes: &[u8], at: usize) -> Result<(), NoMemory>
         requires at_in { at ≤ length bytes.now }
         requires reads { ReadsIn bytes.now at self.old.from self.old.nodes.items }
-        ensures ends { IfOk result (λ done. state_of bytes.now at self.new
-            ≡ machine.number_ends (state_of bytes.now at self.old) (between self.old.from at bytes.now)) }
+        ensures ends { IfOk result (λ done. seen_state bytes.now at self.new
+            ≡ machine.number_is_ended (seen_state bytes.now at self.old) (between self.old.from at bytes.now)) }
         ensures reads { IfOk result (λ done. ReadsIn bytes.now at self.new.from self.new.nodes.items) }
     {
         let length = self.length(at)?;
@@ -95,12 +97,13 @@ impl Reader {
         requires reads { ReadsIn bytes.now at self.old.from self.old.nodes.items }
         requires is { self.old.expected ≡ InNumber phase }
         requires is_of_no_number { is_number_byte (get_or bytes.now at 0) ≡ false }
-        ensures gives { IfOk result (Gives (machine.step_in (expected_of bytes.now self.old.from at (InNumber phase))
-            (state_of bytes.now at self.old) (get_or bytes.now at 0)) (state_of bytes.now (at + 1) self.new)) }
+        ensures gives { IfOk result (GivesState (machine.step_in
+            (expected_of bytes.now self.old.from at (InNumber phase))
+            (seen_state bytes.now at self.old) (get_or bytes.now at 0)) (seen_state bytes.now (at + 1) self.new)) }
         ensures reads { IfOk result (λ taken. ReadsIn bytes.now (at + 1) self.new.from self.new.nodes.items) }
-        ensures no_memory { IfErr result (λ error. KeepsAt (state_of bytes.now at self.old)
+        ensures no_memory { IfErr result (λ error. KeepsAt (seen_state bytes.now at self.old)
             (machine.step_in (expected_of bytes.now self.old.from at (InNumber phase))
-            (state_of bytes.now at self.old) (get_or bytes.now at 0))) }
+            (seen_state bytes.now at self.old) (get_or bytes.now at 0))) }
     {
         if !may_end(phase) {
             return Ok(false);
@@ -114,12 +117,13 @@ impl Reader {
         requires at_in { at < length bytes.now }
         requires reads { ReadsIn bytes.now at self.old.from self.old.nodes.items }
         requires is { self.old.expected ≡ InNumber phase }
-        ensures gives { IfOk result (Gives (machine.step_in (expected_of bytes.now self.old.from at (InNumber phase))
-            (state_of bytes.now at self.old) (get_or bytes.now at 0)) (state_of bytes.now (at + 1) self.new)) }
+        ensures gives { IfOk result (GivesState (machine.step_in
+            (expected_of bytes.now self.old.from at (InNumber phase))
+            (seen_state bytes.now at self.old) (get_or bytes.now at 0)) (seen_state bytes.now (at + 1) self.new)) }
         ensures reads { IfOk result (λ taken. ReadsIn bytes.now (at + 1) self.new.from self.new.nodes.items) }
-        ensures no_memory { IfErr result (λ error. KeepsAt (state_of bytes.now at self.old)
+        ensures no_memory { IfErr result (λ error. KeepsAt (seen_state bytes.now at self.old)
             (machine.step_in (expected_of bytes.now self.old.from at (InNumber phase))
-            (state_of bytes.now at self.old) (get_or bytes.now at 0))) }
+            (seen_state bytes.now at self.old) (get_or bytes.now at 0))) }
     {
         if is_of_numbers(bytes[at]) {
             Ok(self.digit(phase, bytes, at))
@@ -133,11 +137,11 @@ impl Reader {
         requires reads { ReadsIn bytes.now (length bytes.now) self.old.from self.old.nodes.items }
         requires alone { self.old.opened ≡ [] }
         requires is { self.old.expected ≡ InNumber phase }
-        ensures ends { IfOk result (Ends (machine.at_end (state_of bytes.now (length bytes.now) self.old))
-            (tokens_in bytes.now (map node_of self.new.nodes.items))) }
+        ensures ends { IfOk result (EndsText (machine.tokens_at_end (seen_state bytes.now (length bytes.now) self.old))
+            (tokens_in bytes.now (map seen_node self.new.nodes.items))) }
         ensures reads { IfOk result (λ whole.
             ReadsIn bytes.now (length bytes.now) self.new.from self.new.nodes.items) }
-        ensures no_memory { IfErr result (λ error. HasToken (state_of bytes.now (length bytes.now) self.old)) }
+        ensures no_memory { IfErr result (λ error. HasToken (seen_state bytes.now (length bytes.now) self.old)) }
     {
         if !may_end(phase) {
             return Ok(false);
@@ -152,8 +156,8 @@ impl Reader {
         requires at_in { at < length bytes.now }
         requires reads { ReadsIn bytes.now at self.old.from self.old.nodes.items }
         requires quote { get_or bytes.now at 0 ≡ 34 }
-        ensures ends { IfOk result (λ done. state_of bytes.now (at + 1) self.new
-            ≡ machine.string_ends (state_of bytes.now at self.old) is_key (between self.old.from at bytes.now)) }
+        ensures ends { IfOk result (λ done. seen_state bytes.now (at + 1) self.new
+            ≡ machine.string_ends (seen_state bytes.now at self.old) is_key (between self.old.from at bytes.now)) }
         ensures reads { IfOk result (λ done. ReadsIn bytes.now (at + 1) self.new.from self.new.nodes.items) }
     {
         let length = self.length(at)?;
@@ -169,8 +173,8 @@ impl Reader {
         requires at_in { at ≤ length bytes.now }
         requires before { self.now.from ≤ at }
         ensures within { at + result ≤ length bytes.now }
-        ensures passes { machine.after (state_of bytes.now at self.now) (take result (drop at bytes.now))
-            ≡ Some (state_of bytes.now (at + result) self.now) }
+        ensures passes { machine.after_bytes (seen_state bytes.now at self.now) (take result (drop at bytes.now))
+            ≡ Some (seen_state bytes.now (at + result) self.now) }
     {
         match self.expected {
             Expected::InString(_, Within::Plain) => first_escape(&bytes[at..]),
@@ -190,13 +194,13 @@ impl Reader {
         requires at_in { at < length bytes.now }
         requires reads { ReadsIn bytes.now at self.old.from self.old.nodes.items }
         requires before { self.old.from ≤ at }
-        ensures gives { IfOk result (Gives (machine.step_in
+        ensures gives { IfOk result (GivesState (machine.step_in
             (expected_of bytes.now self.old.from at (InString is_key within))
-            (state_of bytes.now at self.old) (get_or bytes.now at 0)) (state_of bytes.now (at + 1) self.new)) }
+            (seen_state bytes.now at self.old) (get_or bytes.now at 0)) (seen_state bytes.now (at + 1) self.new)) }
         ensures reads { IfOk result (λ taken. ReadsIn bytes.now (at + 1) self.new.from self.new.nodes.items) }
-        ensures no_memory { IfErr result (λ error. KeepsAt (state_of bytes.now at self.old)
+        ensures no_memory { IfErr result (λ error. KeepsAt (seen_state bytes.now at self.old)
             (machine.step_in (expected_of bytes.now self.old.from at (InString is_key within))
-            (state_of bytes.now at self.old) (get_or bytes.now at 0))) }
+            (seen_state bytes.now at self.old) (get_or bytes.now at 0))) }
     {
         let byte = bytes[at];
         if within == Within::Plain && byte == b'"' {

@@ -4,7 +4,7 @@ use Rattle.std.specs.Fmt.{digits}
 use Rattle.sval_label.specs.Calls.{IntType, Head, Slot, Label, Name, Call}
 use Rattle.sval_core.specs.Trees as tree
 use Rattle.sval_core.specs.Trees.{none, part}
-use Rattle.sval_core.specs.Names.{number_tag, tag_alone, no_name, untagged, some_name, none_name}
+use Rattle.sval_core.specs.Names.{number_tag, tag_alone, no_name, untagged_offset, some_name, none_name}
 use Rattle.sval_lower.specs.BaseTrees.{base_tree}
 use Rattle.sval_lower.specs.Lower.{lower}
 use Rattle.sval_lower.specs.Lowered.{is_base, is_for_texts, is_for_binaries, lowered, lowered_within}
@@ -16,10 +16,10 @@ abbrev named : List ℕ → Name
 named text = record { tag = None; label = Some (label text); index = None }
 
 -- a map's key begins a pair
-key_begins : lower (Call.PartBegin Slot.Key) ≡ Call.PartBegin Slot.Item ∷ Call.Begin (Head.Tuple no_name) (Some 2) ∷ Call.PartBegin (Slot.Place None (untagged 0)) ∷ []
+key_begins : lower (Call.PartBegin Slot.Key) ≡ Call.PartBegin Slot.Item ∷ Call.Begin (Head.Tuple no_name) (Some 2) ∷ Call.PartBegin (Slot.Place None (untagged_offset 0)) ∷ []
 key_begins = refl
 
-value_ends : lower (Call.PartEnd Slot.Value) ≡ Call.PartEnd (Slot.Place None (untagged 1)) ∷ Call.End (Head.Tuple no_name) ∷ Call.PartEnd Slot.Item ∷ []
+value_ends : lower (Call.PartEnd Slot.Value) ≡ Call.PartEnd (Slot.Place None (untagged_offset 1)) ∷ Call.End (Head.Tuple no_name) ∷ Call.PartEnd Slot.Item ∷ []
 value_ends = refl
 
 -- the numbers around the range of 64 bits with a sign

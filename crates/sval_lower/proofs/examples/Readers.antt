@@ -4,7 +4,7 @@ use Rattle.sval_label.specs.Calls.{IntType, Call, Head}
 use Rattle.sval_core.specs.Law.{Emission}
 use Rattle.sval_core.specs.Names.{unit_tag, number_tag, tag_alone, some_name, none_name, no_name}
 use Rattle.sval_core.specs.Values.{makes, fails_after}
-use Rattle.sval_lower.specs.Readers.{tag, to_bool, to_i8, to_i32, to_i64, to_i128, to_u8, to_u16, to_u64, to_u128, to_text, to_binary}
+use Rattle.sval_lower.specs.Readers.{first_tag, to_bool, to_i8, to_i32, to_i64, to_i128, to_u8, to_u16, to_u64, to_u128, to_text, to_binary}
 
 abbrev int : IntType → ℕ → Emission
 int type n = makes (Call.Int type (pos n) ∷ [])
@@ -58,9 +58,9 @@ binaries :
 binaries = (refl, refl, refl, refl)
 
 tags :
-    (tag (makes (Call.Standalone (tag_alone unit_tag) ∷ [])) ≡ Some unit_tag) × (tag (int IntType.U8 5) ≡ Some number_tag)
-    × (tag (makes (Call.TextBegin (Some 1) ∷ Call.TextFragment true (codes "x") ∷ Call.TextEnd ∷ [])) ≡ None)
-    × (tag (makes (Call.TagHint number_tag ∷ Call.Begin (Head.Tuple (tag_alone unit_tag)) None ∷ [])) ≡ Some unit_tag)
-    × (tag (fails_after (Call.BinaryFragment true [] ∷ Call.EnumBegin no_name ∷ Call.TaggedBegin (tag_alone unit_tag) ∷ [])) ≡ None)
-    × (tag (fails_after (Call.EnumEnd no_name ∷ Call.TaggedBegin some_name ∷ [])) ≡ some_name.tag)
+    (first_tag (makes (Call.Standalone (tag_alone unit_tag) ∷ [])) ≡ Some unit_tag) × (first_tag (int IntType.U8 5) ≡ Some number_tag)
+    × (first_tag (makes (Call.TextBegin (Some 1) ∷ Call.TextFragment true (codes "x") ∷ Call.TextEnd ∷ [])) ≡ None)
+    × (first_tag (makes (Call.TagHint number_tag ∷ Call.Begin (Head.Tuple (tag_alone unit_tag)) None ∷ [])) ≡ Some unit_tag)
+    × (first_tag (fails_after (Call.BinaryFragment true [] ∷ Call.EnumBegin no_name ∷ Call.TaggedBegin (tag_alone unit_tag) ∷ [])) ≡ None)
+    × (first_tag (fails_after (Call.EnumEnd no_name ∷ Call.TaggedBegin some_name ∷ [])) ≡ some_name.tag)
 tags = (refl, refl, refl, refl, refl, refl)

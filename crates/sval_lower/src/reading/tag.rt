@@ -5,7 +5,7 @@ ghost use Rattle.sval_label.specs.Made.{lent_call};
 ghost use Rattle.sval_label.specs.Calls as call;
 ghost use Rattle.sval_label.specs.SeenTags.{seen_tag};
 ghost use Rattle.sval_core.specs.Law.{Answers};
-ghost use Rattle.sval_lower.specs.Readers.{says_no_tag, tag_of};
+ghost use Rattle.sval_lower.specs.Readers.{says_no_tag, call_tag};
 ghost use Rattle.sval_lower.specs.Reading.{holding, tag_law};
 
 use sval_core::{AnyCall, Call, GroupedCall, Head, Lent, Name, Result, Stream, Tag, refusal, tags};
@@ -73,7 +73,7 @@ fn says_no_tag(call: Call<'_, '_>) -> bool
 
 /// The tag that a call gives.
 fn tag_of(call: Call<'_, '_>) -> Option<Tag>
-    ensures { option_map seen_tag result ≡ tag_of (lent_call call.entry) }
+    ensures { option_map seen_tag result ≡ call_tag (lent_call call.entry) }
 {
     match call.grouped() {
         GroupedCall::EnumBegin(name) => name.tag.copied(),

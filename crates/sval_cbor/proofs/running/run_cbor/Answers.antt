@@ -7,7 +7,7 @@ use Rattle.sval_program.specs.Runs as runs
 use Rattle.sval_program.proofs.JobRuns.{on_both}
 use Rattle.sval_cbor.specs.Forms.{form_of}
 use Rattle.sval_cbor.specs.Packs.{BadKey, BadNumber, RawJson, NotInteger}
-use Rattle.sval_cbor.specs.Serves.{cbor_terms, WritesBytes, WritesValue, MayLeave}
+use Rattle.sval_cbor.specs.Serves.{cbor_terms, WritesBytes, WritesCborValue, MayLeave}
 use Rattle.sval_cbor.specs.Statuses.{IsStatusDue}
 use Rattle.sval_cbor.specs.Verdict.{Unfinished, Whole, HasVerdict, HasBadLine, HasBadCall, OnVerdict}
 use Rattle.sval_cbor.proofs.RunAnswers as answers
@@ -22,7 +22,7 @@ pub returns-clause-writes : goal.returns-clause-writes
 returns-clause-writes g c = λ e.
     let old = g.K.Sink.told c.args.out.now in
     let new = g.K.Sink.told c.run.new.out in
-    on_both (form_of c.args.words.now) (g.I.Source.told c.args.input.now).left (runs.TakesDue cbor_terms None old new) (WritesValue old new) (λ script asked t. answers.writes_value old new script asked (answers.writes_bytes t)) (c.run.ensures.ends.done e)
+    on_both (form_of c.args.words.now) (g.I.Source.told c.args.input.now).left (runs.TakesDue cbor_terms None old new) (WritesCborValue old new) (λ script asked t. answers.writes_value old new script asked (answers.writes_bytes t)) (c.run.ensures.ends.done e)
 
 pub returns-clause-bad_line : goal.returns-clause-bad_line
 returns-clause-bad_line g c = λ e.

@@ -1,7 +1,7 @@
 use Rattle.std.proofs.Common.{refl, rules, false, None, subst, Option}
 use Rattle.sval_cbor.specs.declared.error.Stop.{Stop}
 use Rattle.sval_cbor.specs.declared.writer.Place.TheVariants.{Elsewhere}
-use Rattle.sval_cbor.specs.Writing.{written}
+use Rattle.sval_cbor.specs.Writing.{written_cbor}
 use Rattle.sval_cbor.proofs.Streaming.{IsHaltedBy, after_streams, after_stops}
 use Rattle.sval_cbor.proofs.to_cbor.write_calls.Goals as goal
 
@@ -14,10 +14,10 @@ returns-in-Ok g c =
 pub returns-in-Some : goal.returns-in-Some
 returns-in-Some g c =
     let after = after_stops g.K.Sink.told (g.V.Value.emission c.args.v.now) (record { sink = record c.args.out { ghost_name = _ }; place = Elsewhere; in_key = false; in_number = false; why = None }) c.stream-streamed.new.stream refl c.requires c.in-Err.ensures in
-    let halted = subst (λ (why : Option Stop). IsHaltedBy why (written (g.V.Value.emission c.args.v.now).calls) (g.K.Sink.told c.args.out.now) (g.K.Sink.told c.stream-streamed.new.stream.sink.now)) c.in-Some.is after.halted in
+    let halted = subst (λ (why : Option Stop). IsHaltedBy why (written_cbor (g.V.Value.emission c.args.v.now).calls) (g.K.Sink.told c.args.out.now) (g.K.Sink.told c.stream-streamed.new.stream.sink.now)) c.in-Some.is after.halted in
     search rules
 
 pub unreachable-requires : goal.unreachable-requires
 unreachable-requires g c =
     let after = after_stops g.K.Sink.told (g.V.Value.emission c.args.v.now) (record { sink = record c.args.out { ghost_name = _ }; place = Elsewhere; in_key = false; in_number = false; why = None }) c.stream-streamed.new.stream refl c.requires c.in-Err.ensures in
-    subst (λ (why : Option Stop). IsHaltedBy why (written (g.V.Value.emission c.args.v.now).calls) (g.K.Sink.told c.args.out.now) (g.K.Sink.told c.stream-streamed.new.stream.sink.now)) c.in-None.is after.halted
+    subst (λ (why : Option Stop). IsHaltedBy why (written_cbor (g.V.Value.emission c.args.v.now).calls) (g.K.Sink.told c.args.out.now) (g.K.Sink.told c.stream-streamed.new.stream.sink.now)) c.in-None.is after.halted

@@ -1,5 +1,5 @@
 use Rattle.std.proofs.Common.{sym, subst, arith}
-use Rattle.sval_cbor_read.specs.SeenNodes.{AreKept}
+use Rattle.sval_cbor_read.specs.SeenNodes.{NodesStand}
 use Rattle.sval_cbor_read.specs.SeenReader.{spot_of}
 use Rattle.sval_cbor_read.proofs.Loop.{reached_by, nearer_by, reached_first, makes_some, more_is_bad, all_is_read}
 use Rattle.sval_cbor_read.proofs.document.read_nodes.Goals as goal
@@ -8,7 +8,7 @@ pub loop-reader-init : goal.loop-reader-init
 loop-reader-init c = record {
   reached = reached_first c.args.bytes.now _ (c.new-reader.ensures.starts c.args.bytes.now);
   within = let e = c.new-reader.ensures.at in omega arith;
-  kept = subst (AreKept c.args.bytes.now) (sym c.new-reader.ensures.nodes) tt;
+  kept = subst (NodesStand c.args.bytes.now) (sym c.new-reader.ensures.nodes) tt;
 }
 
 pub loop-reader-preserved : goal.loop-reader-preserved

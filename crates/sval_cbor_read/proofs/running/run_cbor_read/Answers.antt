@@ -5,14 +5,14 @@ use Rattle.sval_program.specs.Inputs.{OnShort}
 use Rattle.sval_program.specs.Runs as runs
 use Rattle.sval_program.proofs.JobRuns.{on_both}
 use Rattle.sval_cbor_read.specs.Forms.{form_of}
-use Rattle.sval_cbor_read.specs.Serves.{read_terms, WritesDue, WritesUpToKey, MayLeave, IsNoItem}
+use Rattle.sval_cbor_read.specs.Serves.{read_terms, WritesItemText, WritesUpToKey, MayLeave, IsNoItem}
 use Rattle.sval_cbor_read.specs.Statuses.{IsStatusDue}
 use Rattle.sval_cbor_read.proofs.RunAnswers as answers
 use Rattle.sval_cbor_read.proofs.running.run_cbor_read.Goals as goal
 
 pub returns-clause-done : goal.returns-clause-done
 returns-clause-done g c = λ e.
-    on_both (form_of c.args.words.now) (g.I.Source.told c.args.input.now).left (runs.TakesDue read_terms None (g.K.Sink.told c.args.out.now) (g.K.Sink.told c.run.new.out)) (WritesDue (g.K.Sink.told c.args.out.now) (g.K.Sink.told c.run.new.out)) (λ input asked t. answers.writes_due t)
+    on_both (form_of c.args.words.now) (g.I.Source.told c.args.input.now).left (runs.TakesDue read_terms None (g.K.Sink.told c.args.out.now) (g.K.Sink.told c.run.new.out)) (WritesItemText (g.K.Sink.told c.args.out.now) (g.K.Sink.told c.run.new.out)) (λ input asked t. answers.writes_due t)
     (c.run.ensures.ends.done e)
 
 pub returns-clause-invalid_key : goal.returns-clause-invalid_key

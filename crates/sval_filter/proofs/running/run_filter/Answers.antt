@@ -6,7 +6,7 @@ use Rattle.sval_program.specs.Inputs.{OnShort}
 use Rattle.sval_program.specs.Runs as runs
 use Rattle.sval_program.proofs.JobRuns.{on_both}
 use Rattle.sval_filter.specs.Forms.{form_of}
-use Rattle.sval_filter.specs.Serves.{filter_terms, WritesText, WritesUpToRefusal, MayLeave}
+use Rattle.sval_filter.specs.Serves.{filter_terms, WritesFilteredText, WritesUpToRefusal, MayLeave}
 use Rattle.sval_filter.specs.Statuses.{IsStatusDue}
 use Rattle.sval_filter.specs.Verdict.{Unfinished, IsVerdict, HasBadLine, HasBadCall, OnVerdict}
 use Rattle.sval_filter.proofs.RunAnswers as answers
@@ -14,7 +14,7 @@ use Rattle.sval_filter.proofs.running.run_filter.Goals as goal
 
 pub returns-clause-done : goal.returns-clause-done
 returns-clause-done g c = λ e.
-    on_both (form_of c.args.words.now) (g.I.Source.told c.args.input.now).left (runs.TakesDue filter_terms None (g.K.Sink.told c.args.out.now) (g.K.Sink.told c.run.new.out)) (WritesText (g.K.Sink.told c.args.out.now) (g.K.Sink.told c.run.new.out)) (λ script asked t. answers.writes_text t)
+    on_both (form_of c.args.words.now) (g.I.Source.told c.args.input.now).left (runs.TakesDue filter_terms None (g.K.Sink.told c.args.out.now) (g.K.Sink.told c.run.new.out)) (WritesFilteredText (g.K.Sink.told c.args.out.now) (g.K.Sink.told c.run.new.out)) (λ script asked t. answers.writes_text t)
     (c.run.ensures.ends.done e)
 
 pub returns-clause-bad_line : goal.returns-clause-bad_line

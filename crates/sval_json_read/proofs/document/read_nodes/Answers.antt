@@ -1,8 +1,8 @@
 use Rattle.std.proofs.Common.{◌≡◌, ℕ, ◌≤◌, length, take, Some, List, sym, ap, subst, ◌∙◌, arith, take_all}
 use Rattle.sval_json_read.specs.Documents.{IsBadJson}
-use Rattle.sval_json_read.specs.ReadErrors.{IsReadError}
-use Rattle.sval_json_read.specs.SeenReader.{state_of}
-use Rattle.sval_json_read.specs.Reader.{start, after}
+use Rattle.sval_json_read.specs.ReadErrors.{IsJsonReadError}
+use Rattle.sval_json_read.specs.SeenReader.{seen_state}
+use Rattle.sval_json_read.specs.Reader.{reader_start, after_bytes}
 use Rattle.sval_json_read.specs.declared.reader.Reader.{Reader}
 use Rattle.sval_json_read.proofs.Loop.{refused-at, ended-bad, ended-document}
 use Rattle.sval_json_read.proofs.PlainRuns.{byte_and_run, reads_behind}
@@ -11,11 +11,11 @@ use Rattle.sval_json_read.proofs.KeptTokens.{kept_at, kept_end}
 use Rattle.sval_json_read.proofs.document.read_nodes.Goals as goal
 
 -- at the end all bytes were taken
-all_taken : (bytes : List ℕ) (at : ℕ) (reader : Reader) → length bytes ≤ at → at ≤ length bytes → after start (take at bytes) ≡ Some (state_of bytes at reader)
-    → after start bytes ≡ Some (state_of bytes (length bytes) reader)
+all_taken : (bytes : List ℕ) (at : ℕ) (reader : Reader) → length bytes ≤ at → at ≤ length bytes → after_bytes reader_start (take at bytes) ≡ Some (seen_state bytes at reader)
+    → after_bytes reader_start bytes ≡ Some (seen_state bytes (length bytes) reader)
 all_taken bytes at reader l w e =
     let s : at ≡ length bytes = omega arith in
-    ap (after start) (sym (take_all at bytes l)) ∙ subst (λ n. after start (take at bytes) ≡ Some (state_of bytes n reader)) s e
+    ap (after_bytes reader_start) (sym (take_all at bytes l)) ∙ subst (λ n. after_bytes reader_start (take at bytes) ≡ Some (seen_state bytes n reader)) s e
 
 pub loop-at-init : goal.loop-at-init
 loop-at-init c = record {
@@ -26,7 +26,7 @@ loop-at-init c = record {
 
 pub returns-in-Ok-false-clause-err : goal.returns-in-Ok-false-clause-err
 returns-in-Ok-false-clause-err c =
-    refused-at c.args.bytes.now c.loop-at.at (state_of c.args.bytes.now c.loop-at.at c.loop-at.reader) c.loop-at-test.true c.loop-at.invariant.reached
+    refused-at c.args.bytes.now c.loop-at.at (seen_state c.args.bytes.now c.loop-at.at c.loop-at.reader) c.loop-at-test.true c.loop-at.invariant.reached
     (rw c.in-Ok-false.field-0-test at c.in-Ok-false.ensures.gives) c.requires
 
 pub loop-at-preserved : goal.loop-at-preserved
@@ -35,14 +35,14 @@ loop-at-preserved c =
     record {
       within = omega (arith, c.plain_run.ensures.within);
       reached =
-          byte_and_run bytes c.loop-at.at c.plain_run.result (state_of bytes c.loop-at.at c.loop-at.reader) c.step.new.self c.loop-at-test.true c.loop-at.invariant.reached
+          byte_and_run bytes c.loop-at.at c.plain_run.result (seen_state bytes c.loop-at.at c.loop-at.reader) c.step.new.self c.loop-at-test.true c.loop-at.invariant.reached
           (rw c.in-Ok-true.field-0-test at c.in-Ok-true.ensures.gives) c.plain_run.ensures.passes;
       reads = reads_behind bytes c.loop-at.at c.plain_run.result c.in-Ok-true.ensures.reads;
     }
 
 pub returns-in-Ok-true-finish-clause-ok : goal.returns-in-Ok-true-finish-clause-ok
 returns-in-Ok-true-finish-clause-ok c =
-    ended-document c.args.bytes.now (state_of c.args.bytes.now (length c.args.bytes.now) c.loop-at.reader) c.requires
+    ended-document c.args.bytes.now (seen_state c.args.bytes.now (length c.args.bytes.now) c.loop-at.reader) c.requires
     (all_taken c.args.bytes.now c.loop-at.at c.loop-at.reader c.loop-at-test.false c.loop-at.invariant.within c.loop-at.invariant.reached)
     _ (rw c.in-Ok-true-finish.field-0-test at c.in-Ok-true-finish.ensures.ends)
 
@@ -50,19 +50,19 @@ pub returns-in-Ok-false-finish-clause-err : goal.returns-in-Ok-false-finish-clau
 returns-in-Ok-false-finish-clause-err c =
     let s : length c.args.bytes.now ≡ c.loop-at.at = omega (arith, c.loop-at-test.false, c.loop-at.invariant.within) in
     subst (IsBadJson c.args.bytes.now) s
-    (ended-bad c.args.bytes.now (state_of c.args.bytes.now (length c.args.bytes.now) c.loop-at.reader) c.requires
+    (ended-bad c.args.bytes.now (seen_state c.args.bytes.now (length c.args.bytes.now) c.loop-at.reader) c.requires
     (all_taken c.args.bytes.now c.loop-at.at c.loop-at.reader c.loop-at-test.false c.loop-at.invariant.within c.loop-at.invariant.reached)
     (rw c.in-Ok-false-finish.field-0-test at c.in-Ok-false-finish.ensures.ends))
 
 pub returns-in-Err-clause-err : goal.returns-in-Err-clause-err
 returns-in-Err-clause-err c =
-    subst (IsReadError c.args.bytes.now) (sym c.from.ensures)
-    (c.requires, kept_at c.args.bytes.now c.loop-at.at (state_of c.args.bytes.now c.loop-at.at c.loop-at.reader) c.loop-at-test.true c.loop-at.invariant.reached c.in-Err.ensures.no_memory)
+    subst (IsJsonReadError c.args.bytes.now) (sym c.from.ensures)
+    (c.requires, kept_at c.args.bytes.now c.loop-at.at (seen_state c.args.bytes.now c.loop-at.at c.loop-at.reader) c.loop-at-test.true c.loop-at.invariant.reached c.in-Err.ensures.no_memory)
 
 pub returns-in-Err-finish-clause-err : goal.returns-in-Err-finish-clause-err
 returns-in-Err-finish-clause-err c =
-    subst (IsReadError c.args.bytes.now) (sym c.from-in-Err-finish.ensures) (
+    subst (IsJsonReadError c.args.bytes.now) (sym c.from-in-Err-finish.ensures) (
       c.requires,
-      kept_end c.args.bytes.now (state_of c.args.bytes.now (length c.args.bytes.now) c.loop-at.reader)
+      kept_end c.args.bytes.now (seen_state c.args.bytes.now (length c.args.bytes.now) c.loop-at.reader)
           (all_taken c.args.bytes.now c.loop-at.at c.loop-at.reader c.loop-at-test.false c.loop-at.invariant.within c.loop-at.invariant.reached) c.in-Err-finish.ensures.no_memory,
     )

@@ -2,7 +2,7 @@ use Rattle.std.proofs.Common.{sym, ap, subst}
 use Rattle.std.proofs.lemmas.Result.{err_from_is_err_and}
 use Rattle.circular_buffer.specs.Buffer.{Buffer}
 use Rattle.sval_buffer.specs.FlatForest.{FlatForest}
-use Rattle.event_log.specs.Logs.{Log, AreLines, Keeps}
+use Rattle.event_log.specs.Logs.{Log, AreLines, KeepsEvent}
 use Rattle.event_log.proofs.Captured.{has_line, kept, lines_pushed, only_no_memory}
 use Rattle.event_log.proofs.log.AnyEventLog.record.Goals as goal
 
@@ -28,5 +28,5 @@ returns-in-Ok-clause-kept g c =
     let new : Log = record { events = c.push_back.new.self.items; capacity = c.push_back.new.self.capacity } in
     let events = ap (λ (ring : Buffer FlatForest). ring.items) c.push_back.ensures.items in
     let capacity = ap (λ (ring : Buffer FlatForest). ring.capacity) c.push_back.ensures.items in
-    subst (λ (old : Log). Keeps e old new) c.self.view_is
+    subst (λ (old : Log). KeepsEvent e old new) c.self.view_is
     (kept e c.in-Ok.captured c.in_ok-check_event.ensures.ok c.in-Ok.ensures.keeps_the_tree c.in-Ok.ensures.ok events capacity)

@@ -1,7 +1,7 @@
 use Rattle.std.specs.Prelude.{Err}
 use Rattle.std.proofs.Common.{sym, subst}
 use Rattle.sval_buffer.specs.Capture.{IsNoAlloc}
-use Rattle.sval_buffer.specs.Collected.{IsDue, binary_collected}
+use Rattle.sval_buffer.specs.Collected.{IsHeldDue, binary_collected}
 use Rattle.sval_buffer.specs.SeenCollectors.{binary_collecting}
 use Rattle.sval_buffer.proofs.CallSteps.{binary_stream}
 use Rattle.sval_buffer.proofs.binary_buf.BinaryBuf.collect.Goals as goal
@@ -13,7 +13,7 @@ returns-in-Ok-clause-due g c =
 pub returns-clause-due : goal.returns-clause-due
 returns-clause-due g c =
     let e = g.V.Value.emission c.args.value.now in
-    subst (λ why. IsDue (binary_collected e) (Err why)) (sym c.cause.ensures)
+    subst (λ why. IsHeldDue (binary_collected e) (Err why)) (sym c.cause.ensures)
     (binary_stream.on_err e (binary_collecting c.new-collector.result) (binary_collecting c.stream.new.stream) c.new-collector.ensures c.in-Err.ensures)
 
 pub returns-clause-memory : goal.returns-clause-memory

@@ -3,7 +3,7 @@ use Rattle.sval_label.specs.Calls.{Call}
 use Rattle.sval_buffer.specs.Forest.{Becomes}
 use Rattle.sval_buffer.specs.Flat.{flat_part, flat_node}
 use Rattle.sval_buffer.specs.Holders.{holders_node}
-use Rattle.sval_buffer.specs.SeenParts.{no_fragments, no_fragments_yet, flat_kind, holds_of, IsKept}
+use Rattle.sval_buffer.specs.SeenParts.{no_fragments, no_fragments_yet, flat_kind, holds_of, IsKeptCall}
 use Rattle.sval_buffer.specs.declared.part.Part.{Part}
 use Rattle.sval_buffer.specs.declared.part.Keeping.{Keeping}
 use Rattle.sval_buffer.specs.declared.part.Medium.{Medium}
@@ -21,7 +21,7 @@ own : (m : Medium) (k : Keeping) (place : ℕ) (o : _) → holders_node place o 
 own medium.Text k place o = refl
 own medium.Binary k place o = refl
 
-kept : (n : ℕ) (m : Medium) (k : Keeping) → IsKept n (no_fragments_yet m k)
+kept : (n : ℕ) (m : Medium) (k : Keeping) → IsKeptCall n (no_fragments_yet m k)
 kept n medium.Text k = tt
 kept n medium.Binary k = tt
 

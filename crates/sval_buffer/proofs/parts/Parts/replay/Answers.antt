@@ -3,7 +3,7 @@ use Rattle.std.proofs.lemmas.Bool.Decides.{nat_tests}
 use Rattle.sval_core.specs.Law.{Emits}
 use Rattle.sval_buffer.specs.Replay.{pass}
 use Rattle.sval_core.specs.Values.{makes}
-use Rattle.sval_buffer.specs.SeenParts.{stored, seen_parts, AllKept}
+use Rattle.sval_buffer.specs.SeenParts.{flat_part_of, seen_parts, AllKept}
 use Rattle.sval_buffer.specs.Nested.{IsNested}
 use Rattle.sval_buffer.specs.declared.part.Part.{Part}
 use Rattle.sval_buffer.specs.FlatForest.{forest_in}
@@ -37,5 +37,5 @@ returns g c =
     let some : 0 < length c.self.inside.parts.items = grind (arith, nat_tests, c.if-is_empty.ensures) in
     let size = seen_length calls c.self.inside.parts.items in
     let some_seen : 0 < length seen = omega arith in
-    let e = ap (λ (ps : List Part). pass 0 [] (map stored (seen_parts calls ps))) c.as_slice.ensures.value ∙ replay_some seen c.self.inside.places.items (forest_in c.args.self.now) (tells_it h.is) some_seen in
+    let e = ap (λ (ps : List Part). pass 0 [] (map flat_part_of (seen_parts calls ps))) c.as_slice.ensures.value ∙ replay_some seen c.self.inside.places.items (forest_in c.args.self.now) (tells_it h.is) some_seen in
     subst (λ calls. Emits g.S.Stream.law c.replay_parts.result (g.S.Stream.standing c.args.stream.now) (makes calls) (g.S.Stream.standing c.replay_parts.new.stream)) e c.replay_parts.ensures

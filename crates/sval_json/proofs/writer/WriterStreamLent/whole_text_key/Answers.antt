@@ -1,6 +1,6 @@
 use Rattle.std.proofs.Common.{rules, sym, ap, subst, ◌∙◌, ◌≡◌, ◌++◌, ◌-◌, codes, drop, take, length, take_all, length-drop, List, ℕ, true, false, refl, arith}
 use Rattle.sval_core.specs.Values.{makes, whole_key_calls}
-use Rattle.sval_json.specs.Actions.{State, write}
+use Rattle.sval_json.specs.Actions.{WriterState, write}
 use Rattle.sval_json.specs.WriterLaw.{Does, writer_state, writer_view}
 use Rattle.std.specs.Prelude.{IsUtf8}
 use Rattle.sval_json.proofs.Passing.{emits_passed}
@@ -25,10 +25,10 @@ returns-then-push_plain g c =
     let whole : take (length joined - c.if-self.no_comma) left ≡ left =
     take_all (length joined - c.if-self.no_comma) left (omega (arith, length-drop c.if-self.no_comma joined)) in
     let bytes_are : take (length joined - c.if-self.no_comma) left ≡ bytes = whole ∙ ap (drop c.if-self.no_comma) is ∙ skipped in
-    let last : State = record { named = false; empty = false; quoted = true; handler = (writer_state w).handler } in
+    let last : WriterState = record { named = false; empty = false; quoted = true; handler = (writer_state w).handler } in
     let state_is : writer_state w ≡ escaping w.named w.empty w.quoted = rw c.if-escapes.ensures refl in
     let joins : JoinsAs w.variants (writer_state w) calls bytes last =
-    subst (λ (s : State). JoinsAs w.variants s calls bytes (record { named = false; empty = false; quoted = true; handler = s.handler })) (sym state_is)
+    subst (λ (s : WriterState). JoinsAs w.variants s calls bytes (record { named = false; empty = false; quoted = true; handler = s.handler })) (sym state_is)
     (key_joins w.variants w.named w.empty w.quoted c.args.size text c.if-push_plain.ensures.plain) in
     let u : IsUtf8 text = c.text_is_real.ensures in
     emits_passed c.write_joined.result _ _ (makes calls) ((tt, tt), ((tt, tt), ((u, tt), ((tt, tt), ((tt, tt), tt))))) (emits_joined g.K.Sink.told w c.write_joined.new.self c.write_joined.result calls bytes last joins

@@ -1,7 +1,7 @@
 use Rattle.std.proofs.Common.{sym, ap, subst, ◌∙◌, ◌∷◌, map, drop}
-use Rattle.sval_json_read.specs.Lookups.{listed}
+use Rattle.sval_json_read.specs.Lookups.{values_listed}
 use Rattle.sval_json_read.specs.Nodes.{tokens_in}
-use Rattle.sval_json_read.specs.SeenNodes.{node_of}
+use Rattle.sval_json_read.specs.SeenNodes.{seen_node}
 use Rattle.sval_json_read.specs.SeenValues.{value_in, values_in}
 use Rattle.sval_json_read.specs.ValueNodes.{AreOfValue, AreOfValues}
 use Rattle.sval_json_read.proofs.NextNodes.{first_item_by}
@@ -24,5 +24,5 @@ pub returns : goal.returns
 returns c =
     let bytes = c.self.inside.text.now in
     let item = first_item_by bytes c.self.inside.nodes.now c.value_len.result c.self.invariant c.if-is_empty.ensures c.value_len.ensures in
-    let first = c.new.ensures ∙ ap (λ nodes. value_in (tokens_in bytes (map node_of nodes))) c.split_at.ensures.front in
-    sym c.self.view_is ∙ item.is ∙ ap (λ value. value ∷ listed (values_in (tokens_in bytes (map node_of (drop c.value_len.result c.self.inside.nodes.now))))) (sym first) ∙ ap (λ nodes. c.new.result ∷ listed (values_in (tokens_in bytes (map node_of nodes)))) (sym c.split_at.ensures.back)
+    let first = c.new.ensures ∙ ap (λ nodes. value_in (tokens_in bytes (map seen_node nodes))) c.split_at.ensures.front in
+    sym c.self.view_is ∙ item.is ∙ ap (λ value. value ∷ values_listed (values_in (tokens_in bytes (map seen_node (drop c.value_len.result c.self.inside.nodes.now))))) (sym first) ∙ ap (λ nodes. c.new.result ∷ values_listed (values_in (tokens_in bytes (map seen_node nodes)))) (sym c.split_at.ensures.back)

@@ -1,7 +1,7 @@
 use Rattle.std.proofs.Common.{Some, sym, ap, subst, ◌∙◌, map}
-use Rattle.sval_json_read.specs.Lookups.{listed, items_of}
+use Rattle.sval_json_read.specs.Lookups.{values_listed, items_of}
 use Rattle.sval_json_read.specs.Nodes.{tokens_in}
-use Rattle.sval_json_read.specs.SeenNodes.{node_of}
+use Rattle.sval_json_read.specs.SeenNodes.{seen_node}
 use Rattle.sval_json_read.specs.SeenValues.{values_in}
 use Rattle.sval_json_read.specs.ValueNodes.{AreOfValues}
 use Rattle.sval_json_read.proofs.FirstNodes.{some_nodes, no_items}
@@ -26,7 +26,7 @@ pub returns-in-BeginArray : goal.returns-in-BeginArray
 returns-in-BeginArray c =
     let within = array_within c.self.inside.text.now c.self.inside.nodes.now c.self.invariant c.in-BeginArray.field-0 c.in-BeginArray.is
     (some_nodes c.self.inside.text.now c.self.inside.nodes.now c.self.invariant) in
-    ap Some (c.new.ensures ∙ ap (λ nodes. listed (values_in (tokens_in c.self.inside.text.now (map node_of nodes)))) c.between_ends.ensures)
+    ap Some (c.new.ensures ∙ ap (λ nodes. values_listed (values_in (tokens_in c.self.inside.text.now (map seen_node nodes)))) c.between_ends.ensures)
     ∙ ap items_of (sym within.is ∙ c.self.view_is)
 
 pub returns-in_default : goal.returns-in_default

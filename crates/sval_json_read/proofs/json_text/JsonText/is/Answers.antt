@@ -2,14 +2,14 @@ use Rattle.std.proofs.Common.{◌++◌, rules, sym, ap, ◌∙◌, map}
 use Rattle.std.specs.Str.{bytes_eq}
 use Rattle.std.specs.List.{concat}
 use Rattle.sval_json_read.specs.Calls.{piece_bytes}
-use Rattle.sval_json_read.specs.SeenPieces.{piece_of}
+use Rattle.sval_json_read.specs.SeenPieces.{seen_piece}
 use Rattle.sval_json_read.specs.SeenValues.{text_in}
 use Rattle.sval_json_read.proofs.SameTexts.{behind_front}
 use Rattle.sval_json_read.proofs.json_text.JsonText.is.Goals as goal
 
 pub loop-rest-preserved : goal.loop-rest-preserved
 loop-rest-preserved c =
-    let front = piece_bytes (piece_of c.first_piece.result.0) in (
+    let front = piece_bytes (seen_piece c.first_piece.result.0) in (
       search rules,
       c.first_piece.ensures.is_raw,
       sym (behind_front front (text_in c.first_piece.result.1.now) c.in-Some.more.now)

@@ -3,7 +3,7 @@ use Rattle.std.proofs.lemmas.List.{take-append-drop}
 use Rattle.std.proofs.lemmas.Result.{err_from_is_err_and}
 use Rattle.sval_script.specs.LineCalls.{stored}
 use Rattle.sval_script.specs.Readings.{lines_after}
-use Rattle.sval_script.specs.ReadLines.{calls_of}
+use Rattle.sval_script.specs.ReadLines.{line_calls}
 use Rattle.sval_script.proofs.ScriptPieces.{bad-more}
 use Rattle.sval_script.proofs.WholeLines.{up_to_feed, has_feed, ends-drop, ends-more}
 use Rattle.sval_script.proofs.reader.ReadLines.end_line.Goals as goal
@@ -20,7 +20,7 @@ read_lines-requires-clause-whole c =
 pub returns-in_err-read_lines-clause-bad : goal.returns-in_err-read_lines-clause-bad
 returns-in_err-read_lines-clause-bad c =
     let p = err_from_is_err_and c.from_residual-in_err-read_lines.result c.from_residual-in_err-read_lines.ensures.1 in
-    let calls = calls_of c.args.self.now.lines.items (stored c.args.self.now.store) in
+    let calls = line_calls c.args.self.now.lines.items (stored c.args.self.now.store) in
     let begun = c.args.self.now.begun.items in
     let last : c.deref.result.now ≡ begun ++ take (c.in-Some.feed + 1) c.args.whole.now =
     c.deref.ensures.value ∙ c.in_ok-extend_from_slice.ensures.items ∙ ap (λ first. begun ++ first) c.split_at.ensures.front in
@@ -38,7 +38,7 @@ returns-clause-ended c = record {
       let begun = c.args.self.now.begun.items in
       let first = take (c.in-Some.feed + 1) c.args.whole.now in
       let rest = drop (c.in-Some.feed + 1) c.args.whole.now in
-      let calls = calls_of c.args.self.now.lines.items (stored c.args.self.now.store) in
+      let calls = line_calls c.args.self.now.lines.items (stored c.args.self.now.store) in
       let last : c.deref.result.now ≡ begun ++ first = c.deref.ensures.value ∙ c.in_ok-extend_from_slice.ensures.items ∙ ap (λ first. begun ++ first) c.split_at.ensures.front in
       rw c.split_at.ensures.back (
       sym (c.in_ok-read_lines.ensures.read.goes_on (rest ++ more)) ∙ ap (λ bytes. lines_after calls (bytes ++ (rest ++ more))) last

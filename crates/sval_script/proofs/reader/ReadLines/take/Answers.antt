@@ -2,7 +2,7 @@ use Rattle.std.proofs.Common.{◌≡◌, ◌+◌, ◌++◌, ◌∙◌, append_as
 use Rattle.std.proofs.lemmas.List.{take-append-drop}
 use Rattle.std.proofs.lemmas.Result.{err_from_is_err_and}
 use Rattle.sval_script.specs.LineCalls.{stored}
-use Rattle.sval_script.specs.ReadLines.{calls_of}
+use Rattle.sval_script.specs.ReadLines.{line_calls}
 use Rattle.sval_script.proofs.ScriptPieces.{bad-more, begun-on, pieces-on, bad-behind}
 use Rattle.sval_script.proofs.BadLines.{none_ended, good_piece}
 use Rattle.sval_script.proofs.WholeLines.{up_to_feed, without_feed, behind_last, begun-more}
@@ -16,7 +16,7 @@ returns-in_default-clause-taken c =
     record {
       is_read = record { holds = c.requires.holds; begun = rw c.in_ok-extend_from_slice.ensures.items none };
       good = λ place. none_ended (begun ++ piece) place none;
-      goes_on = λ more. rw c.in_ok-extend_from_slice.ensures.items (begun-on (calls_of c.args.self.now.lines.items (stored c.args.self.now.store)) begun piece more);
+      goes_on = λ more. rw c.in_ok-extend_from_slice.ensures.items (begun-on (line_calls c.args.self.now.lines.items (stored c.args.self.now.store)) begun piece more);
     }
 
 pub end_line-requires-clause-whole : goal.end_line-requires-clause-whole
@@ -25,7 +25,7 @@ end_line-requires-clause-whole c = rw c.split_at.ensures.front (up_to_feed c.arg
 pub returns-in_err-behind-clause-bad : goal.returns-in_err-behind-clause-bad
 returns-in_err-behind-clause-bad c =
     let p = err_from_is_err_and c.from_residual-in_err-behind.result c.from_residual-in_err-behind.ensures.1 in
-    let calls = calls_of c.args.self.now.lines.items (stored c.args.self.now.store) in
+    let calls = line_calls c.args.self.now.lines.items (stored c.args.self.now.store) in
     let begun = c.args.self.now.begun.items in
     let first = take (c.in-Some.feed + 1) c.args.piece.now in
     let rest = drop (c.in-Some.feed + 1) c.args.piece.now in

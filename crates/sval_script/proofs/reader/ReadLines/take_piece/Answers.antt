@@ -1,6 +1,6 @@
 use Rattle.std.proofs.Common.{rules, ◌≡◌, ◌++◌, length}
 use Rattle.sval_script.specs.LineCalls.{stored}
-use Rattle.sval_script.specs.ReadLines.{calls_of}
+use Rattle.sval_script.specs.ReadLines.{line_calls}
 use Rattle.sval_script.proofs.BadLines.{reads_nothing, names_bad_line}
 use Rattle.sval_script.proofs.reader.ReadLines.take_piece.Goals as goal
 
@@ -12,4 +12,4 @@ returns-then-is_empty-clause-taken c =
 pub returns-clause-names : goal.returns-clause-names
 returns-clause-names c =
     let read = c.args.self.now in
-    names_bad_line (calls_of read.lines.items (stored read.store)) (read.begun.items ++ c.args.piece.now) c.take.result c.take.ensures.bad
+    names_bad_line (line_calls read.lines.items (stored read.store)) (read.begun.items ++ c.args.piece.now) c.take.result c.take.ensures.bad
