@@ -1,5 +1,5 @@
 -- What is due of a script, and what writing it leaves of a sink.
-use Rattle.std.specs.Prelude.{◌≡◌, ℕ, false, List, [], ◌∷◌, Option, Some, None, Ok, Err, codes}
+use Rattle.std.specs.Prelude.{◌≡◌, ℕ, true, false, List, [], ◌∷◌, Option, Some, None, Ok, Err, codes}
 use Rattle.sval_label.specs.Calls.{Call}
 use Rattle.sval_core.specs.Spells.{Spells}
 use Rattle.sval_core.specs.Trees.{Tree}
@@ -39,6 +39,8 @@ abbrev pub cbor_terms : Terms (Unit {0})
 cbor_terms = record {
   form_named = form_named;
   Due = Due;
+  reads = λ form. true;
+  partly = λ form. false;
   faults = BAD_LINE ∷ BAD_CALL ∷ UNFINISHED ∷ INVALID_KEY ∷ INVALID_NUMBER ∷ RAW ∷ NOT_INTEGER ∷ [];
   written = [];
   usage = codes "usage: sval_cbor\n";

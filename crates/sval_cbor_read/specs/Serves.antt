@@ -1,5 +1,5 @@
 -- What is due of an input, and what writing it leaves of a sink.
-use Rattle.std.specs.Prelude.{◌≡◌, ◌<◌, ◌^◌, ℕ, List, [], ◌∷◌, length, Option, Some, None, Ok, Err, codes}
+use Rattle.std.specs.Prelude.{◌≡◌, ◌<◌, ◌^◌, ℕ, true, false, List, [], ◌∷◌, length, Option, Some, None, Ok, Err, codes}
 use Rattle.sval_core.specs.Real.{AreBytes}
 use Rattle.sval_core.specs.Trees.{Tree, calls_of}
 use Rattle.sval_io.specs.Sinks.{Told, Appends, AppendsFront}
@@ -89,7 +89,15 @@ failure_of reading.NoMemory = failure.NoMemory
 
 -- what the program does
 abbrev pub read_terms : Terms Form
-read_terms = record { form_named = form_named; Due = Due; faults = INVALID_KEY ∷ BAD_CBOR ∷ []; written = INVALID_KEY ∷ []; usage = codes "usage: sval_cbor_read json|calls\n" }
+read_terms = record {
+  form_named = form_named;
+  Due = Due;
+  reads = λ form. true;
+  partly = λ form. false;
+  faults = INVALID_KEY ∷ BAD_CBOR ∷ [];
+  written = INVALID_KEY ∷ [];
+  usage = codes "usage: sval_cbor_read json|calls\n";
+}
 
 -- what is written of an item at most: in JSON what the steps write of the document's calls, which is the text that is due where a key
 -- isn't refused

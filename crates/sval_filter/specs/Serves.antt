@@ -1,5 +1,5 @@
 -- What is due of a script, and what writing it leaves of a sink.
-use Rattle.std.specs.Prelude.{◌≡◌, ℕ, false, List, [], ◌∷◌, Option, Some, None, codes}
+use Rattle.std.specs.Prelude.{◌≡◌, ℕ, true, false, List, [], ◌∷◌, Option, Some, None, codes}
 use Rattle.sval_label.specs.Calls.{Call}
 use Rattle.sval_core.specs.Values.{makes}
 use Rattle.sval_io.specs.Sinks.{Told, Appends, AppendsFront}
@@ -35,6 +35,8 @@ abbrev pub filter_terms : Terms Asked
 filter_terms = record {
   form_named = rule_and_paths;
   Due = Due;
+  reads = λ form. true;
+  partly = λ form. false;
   faults = BAD_LINE ∷ BAD_CALL ∷ UNFINISHED ∷ INVALID_KEY ∷ INVALID_NUMBER ∷ [];
   written = INVALID_KEY ∷ INVALID_NUMBER ∷ [];
   usage = codes "usage: sval_filter drop|keep PATH...\n";

@@ -1,5 +1,5 @@
 -- What is due of an input, and what writing it makes of the sink.
-use Rattle.std.specs.Prelude.{◌≡◌, ℕ, List, [], ◌∷◌, Option, Some, None, Result, Ok, IsUtf8, codes}
+use Rattle.std.specs.Prelude.{◌≡◌, ℕ, true, false, List, [], ◌∷◌, Option, Some, None, Result, Ok, IsUtf8, codes}
 use Rattle.sval_core.specs.Trees.{calls_of}
 use Rattle.sval_io.specs.Sinks.{Told, Appends, AppendsFront}
 use Rattle.sval_io.specs.declared.sink.SinkError.{SinkError}
@@ -62,7 +62,15 @@ failure_of reading.NoMemory = failure.NoMemory
 
 -- what the program does
 abbrev pub read_terms : Terms Form
-read_terms = record { form_named = form_named; Due = Due; faults = NOT_UTF8 ∷ BAD_JSON ∷ []; written = []; usage = codes "usage: sval_json_read json|calls\n" }
+read_terms = record {
+  form_named = form_named;
+  Due = Due;
+  reads = λ form. true;
+  partly = λ form. false;
+  faults = NOT_UTF8 ∷ BAD_JSON ∷ [];
+  written = [];
+  usage = codes "usage: sval_json_read json|calls\n";
+}
 
 -- ---- writing what is due of a value
 

@@ -1,11 +1,12 @@
 -- What is left of a sink that is as it was, and of one that grew.
-use Rattle.std.specs.Prelude.{◌≡◌, ℕ, List, [], ◌++◌}
-use Rattle.std.proofs.Common.{◌∙◌, arith, inr}
+use Rattle.std.specs.Prelude.{◌≡◌, ℕ, Bool, true, false, List, [], ◌++◌}
+use Rattle.std.proofs.Common.{sym, subst, ◌∙◌, arith, inl, inr}
+use Rattle.sval_core.specs.Law.{Rose}
 use Rattle.sval_io.specs.declared.sink.SinkError.{SinkError}
 use Rattle.sval_io.specs.declared.sink.SinkError.TheVariants.{Failed, NoMemory}
-use Rattle.sval_io.specs.Sinks.{Told, NoCountFell, IsCounted, LacksRoom, Appends, AppendsFront, WritesWhole, PassesOn, Declines}
+use Rattle.sval_io.specs.Sinks.{Told, IsSteady, NoCountFell, IsCounted, LacksRoom, Appends, AppendsFront, WritesWhole, PassesOn, Declines}
 use Rattle.sval_io.proofs.Appending.{appends_nothing, all_is_front, lacks_both, steady_alone, steady_both, steady_counts, counts_since, counted_since}
-use Rattle.sval_program.specs.Outputs.{Grows, IsStopCause, StopsWithin}
+use Rattle.sval_program.specs.Outputs.{Grows, IsOwnWant, IsWantBetween, IsWantIf, IsStopCause, StopsWithin, StopsIf}
 
 -- ---- one that is as it was
 
@@ -48,3 +49,45 @@ held_back {K} told {text} old mid new why w d = record {
     by_cause : (e : SinkError) → IsCounted e (told old) (told new) → IsStopCause e told old new
     by_cause Failed c = c
     by_cause NoMemory c = inr c
+
+-- ---- why writing stopped
+
+-- nothing was written
+pub want_before : {K : Type 0} (partly : Bool) (told : K → Told) {old new : K} → new ≡ old → IsWantIf partly told old new
+want_before false told same = inl same
+want_before true told {old = old} same = inl (subst (λ out. IsSteady (told old) (told out)) (sym same) (steady_alone (told old)))
+
+module _ {K : Type 0} (told : K → Told) (text : List ℕ) (old new : K) where
+  pub stop_is_fault : (partly : Bool) → StopsIf partly Failed told text old new → Rose (told old).faults (told new).faults
+  stop_is_fault false s = s.cause
+  stop_is_fault true s = s.cause
+
+  pub stop_is_want : (partly : Bool) → StopsIf partly NoMemory told text old new → IsWantIf partly told old new
+  stop_is_want false s = s.cause
+  stop_is_want true s = s.cause
+
+  pub stop_begins : (partly : Bool) (why : SinkError) → StopsIf partly why told text old new → AppendsFront (told old) text (told new)
+  stop_begins false why s = s.begins
+  stop_begins true why s = s.begins
+
+  pub stop_counts : (partly : Bool) (why : SinkError) → StopsIf partly why told text old new → NoCountFell (told old) (told new)
+  stop_counts false why s = s.counts
+  stop_counts true why s = s.counts
+
+  pub stopped_by_fault : (partly : Bool) → Rose (told old).faults (told new).faults → AppendsFront (told old) text (told new) → NoCountFell (told old) (told new) → StopsIf partly Failed told text old new
+  stopped_by_fault false rose front counts = record { cause = rose; begins = front; counts = counts }
+  stopped_by_fault true rose front counts = record { cause = rose; begins = front; counts = counts }
+
+  pub stopped_by_want : (partly : Bool) → IsWantIf partly told old new → AppendsFront (told old) text (told new) → NoCountFell (told old) (told new) → StopsIf partly NoMemory told text old new
+  stopped_by_want false want front counts = record { cause = want; begins = front; counts = counts }
+  stopped_by_want true want front counts = record { cause = want; begins = front; counts = counts }
+
+  -- where it may stop between two parts, it may also stop as elsewhere
+  pub stops_if : (partly : Bool) (why : SinkError) → StopsWithin why told text old new → StopsIf partly why told text old new
+  stops_if false why s = s
+  stops_if true Failed s = record { cause = s.cause; begins = s.begins; counts = s.counts }
+  stops_if true NoMemory s = record { cause = between s.cause; begins = s.begins; counts = s.counts }
+    where
+      between : IsOwnWant told old new → IsWantBetween told old new
+      between (inl same) = want_before true told same
+      between (inr rose) = inr rose

@@ -1,16 +1,17 @@
 -- From what serving the words says to what is so of the whole run.
-use Rattle.std.specs.Prelude.{ℕ, List, Option, Some, None, Result, Ok, Err, refl}
+use Rattle.std.specs.Prelude.{ℕ, Bool, true, false, List, Option, Some, None, Result, Ok, Err, refl}
 use Rattle.sval_io.specs.Sinks.{Told, Declines, PassesOn}
 use Rattle.sval_io.specs.declared.sink.SinkError.{SinkError}
 use Rattle.sval_io.specs.Sources.{Supply}
 use Rattle.sval_program.specs.declared.failure.Failure.{Failure}
 use Rattle.sval_program.specs.declared.failure.Failure.TheVariants.{Write}
 use Rattle.sval_program.specs.Failures.{status_of}
-use Rattle.sval_program.specs.Jobs.{Terms, Serves, ServesForm, Works}
+use Rattle.sval_program.specs.Jobs.{Terms, WritesAllDue, StopsWithinDue, Serves, ServesIf, ServesForm, Works}
 use Rattle.sval_program.specs.Runs.{Ends}
-use Rattle.sval_program.proofs.Growing.{passed_on, held_back}
+use Rattle.sval_program.proofs.Growing.{passed_on, held_back, stops_if}
 use Rattle.sval_program.proofs.JobRuns.{Case, Ran}
 use Rattle.sval_program.proofs.JobRuns as answers
+use Rattle.sval_program.proofs.JobStatuses as statuses
 use Rattle.sval_program.proofs.JobLeaves as leaves
 
 by_case : {Form I K : Type 0} (k : Case Form I K) (words : List (List ℕ)) (ended : Result (Unit {0}) Failure) → Works k.terms k.source k.sink words ended k.before k.after k.old k.new
@@ -19,8 +20,8 @@ by_case k words ended works =
     let form = k.terms.form_named words in
     let ran : Ran k form ended = works.serves in
     record {
-      known = answers.known k form ended ran;
-      usage = answers.usage k form ended ran;
+      known = statuses.known k form ended ran;
+      usage = statuses.usage k form ended ran;
       done = answers.done k form ended ran;
       flushed = answers.flushed k form ended ran works.flushed;
       finds = answers.finds k form ended ran;
@@ -37,6 +38,7 @@ by_case k words ended works =
       leaves_long = leaves.leaves_long k form ended ran;
       grows = leaves.grows k form ended ran;
       nothing_read = leaves.nothing_read k form ended ran;
+      unread = leaves.unread k form ended ran;
       nothing_written = leaves.nothing_written k form ended ran;
       spent = leaves.spent k form ended ran;
       short = leaves.stays_short k form ended ran;
@@ -55,20 +57,26 @@ ends_of terms source sink words before after old new = by_case (record { terms =
 stops_at_flush : {Form I K : Type 0} (terms : Terms Form) (source : I → Supply) (told : K → Told) (before after : I) (old mid new : K) (form : Option Form) (why : SinkError)
     → ServesForm terms source told form (Ok tt) before after old mid → Declines why (told mid) (told new) → ServesForm terms source told form (Err (Write why)) before after old new
 stops_at_flush terms source told before after old mid new None why s d = let never = s.usage in absurd (cc never)
-stops_at_flush terms source told before after old mid new (Some asked) why s d = record {
-  input = s.input;
-  reads = s.reads;
-  serves = record { found = None; bytes = s.serves.bytes; due = s.serves.due; may = refl; stops = held_back told old mid new why s.serves.writes d };
-}
+stops_at_flush terms source told before after old mid new (Some asked) why s d = by_reads (terms.reads (Some asked)) s
+  where
+    stops : {input : List ℕ} → WritesAllDue terms asked input None (told old) (told mid) → StopsWithinDue terms told asked input why old new
+    stops w = record { found = None; bytes = w.bytes; due = w.due; may = refl; stops = stops_if told w.bytes old new (terms.partly (Some asked)) why (held_back told old mid new why w.writes d) }
+
+    by_reads : (reads : Bool) → ServesIf reads terms source told asked (Ok tt) before after old mid → ServesIf reads terms source told asked (Err (Write why)) before after old new
+    by_reads true s = record { input = s.input; reads = s.reads; serves = stops s.serves }
+    by_reads false s = record { input = s.input; serves = stops s.serves }
 
 passes_on : {Form I K : Type 0} (terms : Terms Form) (source : I → Supply) (told : K → Told) (before after : I) (old mid new : K) (form : Option Form)
     → ServesForm terms source told form (Ok tt) before after old mid → PassesOn (told mid) (told new) → ServesForm terms source told form (Ok tt) before after old new
 passes_on terms source told before after old mid new None s p = let never = s.usage in absurd (cc never)
-passes_on terms source told before after old mid new (Some asked) s p = record {
-  input = s.input;
-  reads = s.reads;
-  serves = record { bytes = s.serves.bytes; due = s.serves.due; writes = passed_on s.serves.writes p };
-}
+passes_on terms source told before after old mid new (Some asked) s p = by_reads (terms.reads (Some asked)) s
+  where
+    all : {input : List ℕ} → WritesAllDue terms asked input None (told old) (told mid) → WritesAllDue terms asked input None (told old) (told new)
+    all w = record { bytes = w.bytes; due = w.due; writes = passed_on w.writes p }
+
+    by_reads : (reads : Bool) → ServesIf reads terms source told asked (Ok tt) before after old mid → ServesIf reads terms source told asked (Ok tt) before after old new
+    by_reads true s = record { input = s.input; reads = s.reads; serves = all s.serves }
+    by_reads false s = record { input = s.input; serves = all s.serves }
 
 pub stops_work : {Form I K : Type 0} (terms : Terms Form) (source : I → Supply) (sink : K → Told) (words : List (List ℕ)) (before after : I) (old mid new : K) (why : SinkError) → Serves terms source sink words (Ok tt) before after old mid
     → Declines why (sink mid) (sink new) → Works terms source sink words (Err (Write why)) before after old new

@@ -1,6 +1,6 @@
 -- From what serving the words says to what is left of the devices.
 use Rattle.std.specs.Prelude.{◌≡◌, ◌⊎◌, ℕ, ◌==◌, ◌≤◌, Bool, true, false, not, ◌||◌, List, Option, Some, None, Ok, Err, refl}
-use Rattle.std.proofs.Common.{sym, ap, subst, arith, inl, inr}
+use Rattle.std.proofs.Common.{sym, ap, subst, ◌∙◌, arith, inl, inr}
 use Rattle.sval_core.specs.Law.{Rose}
 use Rattle.sval_io.specs.Sinks.{IsSteady, NoCountFell}
 use Rattle.sval_io.specs.declared.sink.SinkError.{SinkError}
@@ -9,18 +9,18 @@ use Rattle.sval_io.proofs.Appending.{all_is_front, steady_counts}
 use Rattle.sval_io.specs.declared.input_error.InputError.{InputError}
 use Rattle.sval_io.specs.declared.input_error.InputError.TheVariants as input
 use Rattle.sval_io.specs.WholeInputs.{StaysShort}
-use Rattle.sval_io.proofs.ReadParts.{read_nothing, read_all}
+use Rattle.sval_io.proofs.ReadParts.{read_nothing}
 use Rattle.sval_program.specs.declared.failure.Fault.{Fault}
 use Rattle.sval_program.specs.declared.failure.Failure.TheVariants.{Input, Fault as Found, NoMemory, Write}
 use Rattle.sval_program.specs.declared.status.TheConstants.{DONE, USAGE, WRITE, NO_MEMORY, TOO_LONG}
 use Rattle.sval_program.specs.Failures.{status_of_fault, status_of_failure, status_of, is_read}
-use Rattle.sval_program.specs.Inputs.{OnShort, OnLong, IsSpent}
+use Rattle.sval_program.specs.Inputs.{OnShort, OnLong, IsSpentIf}
 use Rattle.sval_program.specs.Jobs.{Terms, may_write, FindsFault}
 use Rattle.sval_program.specs.Outputs.{Grows}
 use Rattle.sval_program.specs.Runs.{is_unwritten, MayLeave, HasFault}
 use Rattle.sval_program.specs.Statuses.{is_among}
-use Rattle.sval_program.proofs.Growing.{counts_stay, grows_by_nothing, grows_by_front}
-use Rattle.sval_program.proofs.JobRuns.{Case, Ended, Ran, Served, Unread, OnInput, on_input, on_served, by_end, no_fault, unread_status, stopped_status, spent_served}
+use Rattle.sval_program.proofs.Growing.{counts_stay, grows_by_nothing, grows_by_front, stop_begins, stop_counts}
+use Rattle.sval_program.proofs.JobRuns.{Case, Ended, Ran, Served, Unread, OnInput, on_unread, on_served, by_end, no_fault, unread_status, stopped_status, spent_served}
 
 -- ---- what is left of the sink
 
@@ -60,11 +60,11 @@ leaves k = by_end k (λ form r. OnInput k form (OnShort (MayLeave k.terms k.sink
     (λ input out. tt)
     (λ asked s. on_served k asked (OnShort (MayLeave k.terms k.sink k.old k.new)) s (λ short.
     inr (record { found = None; bytes = s.serves.bytes; due = s.serves.due; may = refl; front = all_is_front s.serves.bytes s.serves.writes.appends })))
-    (λ asked why u. on_input asked (k.source k.before).left (OnShort (MayLeave k.terms k.sink k.old k.new)) (λ input told short. inl u.out))
+    (λ asked why u. on_unread k asked (OnShort (MayLeave k.terms k.sink k.old k.new)) u (λ input told short. inl u.out))
     (λ asked why s. on_served k asked (OnShort (MayLeave k.terms k.sink k.old k.new)) s (λ short. left_by_fault k asked s.input why s.serves))
     (λ asked s. on_served k asked (OnShort (MayLeave k.terms k.sink k.old k.new)) s (λ short. inl s.serves))
     (λ asked why s. on_served k asked (OnShort (MayLeave k.terms k.sink k.old k.new)) s (λ short.
-    inr (record { found = s.serves.found; bytes = s.serves.bytes; due = s.serves.due; may = s.serves.may; front = s.serves.stops.begins })))
+    inr (record { found = s.serves.found; bytes = s.serves.bytes; due = s.serves.due; may = s.serves.may; front = stop_begins k.sink s.serves.bytes k.old k.new (k.terms.partly (Some asked)) why s.serves.stops })))
 
 grows_same : {Form I K : Type 0} (k : Case Form I K) → k.new ≡ k.old → Grows (k.sink k.old) (k.sink k.new)
 grows_same k same = subst (λ out. Grows (k.sink k.old) (k.sink out)) (sym same) (grows_by_nothing (k.sink k.old))
@@ -76,21 +76,21 @@ grows k = by_end k (λ form r. Grows (k.sink k.old) (k.sink k.new))
     (λ asked why u. grows_same k u.out)
     (λ asked why s. (_, s.serves.all.writes.appends))
     (λ asked s. grows_same k s.serves)
-    (λ asked why s. grows_by_front s.serves.stops.begins)
+    (λ asked why s. grows_by_front (stop_begins k.sink s.serves.bytes k.old k.new (k.terms.partly (Some asked)) why s.serves.stops))
 
 -- ---- an input that is too long, and one that was read whole
 
 long_served : {Form I K : Type 0} (k : Case Form I K) (asked : Form) {r : Ended} (P : Type 0) → Served k asked r → OnInput k (Some asked) (OnLong P)
-long_served k asked P s = on_served k asked (OnLong P) s (λ long. absurd (omega (arith, long, s.reads.short)))
+long_served k asked P s = on_served k asked (OnLong P) s (λ long. absurd (omega (arith, long, s.short)))
 
 abbrev IsLongStatus : ℕ → Type 0
 IsLongStatus status = (status ≡ TOO_LONG) ⊎ (status ≡ NO_MEMORY)
 
-long_unread : {Form I K : Type 0} (k : Case Form I K) (asked : Form) (why : InputError) → Unread k why → (Rose (k.source k.before).faults (k.source k.after).faults → ⊥)
+long_unread : {Form I K : Type 0} (k : Case Form I K) (asked : Form) (why : InputError) → Unread k asked why → (Rose (k.source k.before).faults (k.source k.after).faults → ⊥)
     → OnInput k (Some asked) (OnLong (IsLongStatus (status_of (Err (Input why)))))
 long_unread k asked input.ReadFault u quiet = absurd (quiet (u.stops.fault refl))
-long_unread k asked input.TooLong u quiet = on_input asked (k.source k.before).left (OnLong (IsLongStatus TOO_LONG)) (λ input told long. inl refl)
-long_unread k asked input.NoMemory u quiet = on_input asked (k.source k.before).left (OnLong (IsLongStatus NO_MEMORY)) (λ input told long. inr refl)
+long_unread k asked input.TooLong u quiet = on_unread k asked (OnLong (IsLongStatus TOO_LONG)) u (λ input told long. inl refl)
+long_unread k asked input.NoMemory u quiet = on_unread k asked (OnLong (IsLongStatus NO_MEMORY)) u (λ input told long. inr refl)
 
 pub long_comes : {Form I K : Type 0} (k : Case Form I K) (form : Option Form) (r : Ended) → Ran k form r → (Rose (k.source k.before).faults (k.source k.after).faults → ⊥)
     → OnInput k form (OnLong ((status_of r ≡ TOO_LONG) ⊎ (status_of r ≡ NO_MEMORY)))
@@ -107,7 +107,7 @@ pub leaves_long : {Form I K : Type 0} (k : Case Form I K) (form : Option Form) (
 leaves_long k = by_end k (λ form r. OnInput k form (OnLong (k.new ≡ k.old)))
     (λ input out. tt)
     (λ asked s. long_served k asked (k.new ≡ k.old) s)
-    (λ asked why u. on_input asked (k.source k.before).left (OnLong (k.new ≡ k.old)) (λ input told long. u.out))
+    (λ asked why u. on_unread k asked (OnLong (k.new ≡ k.old)) u (λ input told long. u.out))
     (λ asked why s. long_served k asked (k.new ≡ k.old) s)
     (λ asked s. long_served k asked (k.new ≡ k.old) s)
     (λ asked why s. long_served k asked (k.new ≡ k.old) s)
@@ -123,6 +123,16 @@ nothing_read k = by_end k (λ form r. status_of r ≡ USAGE → k.after ≡ k.be
     (λ asked s e. absurd (omega (arith, e)))
     (λ asked why s e. absurd ((stopped_status why).3 e))
 
+-- a form that isn't read
+pub unread : {Form I K : Type 0} (k : Case Form I K) (form : Option Form) (r : Ended) → Ran k form r → k.terms.reads form ≡ false → k.after ≡ k.before
+unread k = by_end k (λ form r. k.terms.reads form ≡ false → k.after ≡ k.before)
+    (λ input out e. input)
+    (λ asked s e. s.unread e)
+    (λ asked why u e. absurd (let never : true ≡ false = sym u.reads ∙ e in cc never))
+    (λ asked why s e. s.unread e)
+    (λ asked s e. s.unread e)
+    (λ asked why s e. s.unread e)
+
 pub nothing_written : {Form I K : Type 0} (k : Case Form I K) (form : Option Form) (r : Ended) → Ran k form r → status_of r ≡ USAGE → k.new ≡ k.old
 nothing_written k = by_end k (λ form r. status_of r ≡ USAGE → k.new ≡ k.old)
     (λ input out e. out)
@@ -132,8 +142,8 @@ nothing_written k = by_end k (λ form r. status_of r ≡ USAGE → k.new ≡ k.o
     (λ asked s e. absurd (omega (arith, e)))
     (λ asked why s e. absurd ((stopped_status why).3 e))
 
-pub spent : {Form I K : Type 0} (k : Case Form I K) (form : Option Form) (r : Ended) → Ran k form r → is_read (status_of r) ≡ true → OnInput k form (IsSpent (k.source k.after))
-spent k = by_end k (λ form r. is_read (status_of r) ≡ true → OnInput k form (IsSpent (k.source k.after)))
+pub spent : {Form I K : Type 0} (k : Case Form I K) (form : Option Form) (r : Ended) → Ran k form r → is_read (status_of r) ≡ true → OnInput k form (IsSpentIf (k.terms.reads form) (k.source k.after))
+spent k = by_end k (λ form r. is_read (status_of r) ≡ true → OnInput k form (IsSpentIf (k.terms.reads form) (k.source k.after)))
     (λ input out e. tt)
     (λ asked s e. spent_served k asked s)
     (λ asked why u e. absurd ((unread_status why).1 e))
@@ -148,11 +158,11 @@ short_same k same = subst (λ after. StaysShort (k.source k.before) (k.source af
 pub stays_short : {Form I K : Type 0} (k : Case Form I K) (form : Option Form) (r : Ended) → Ran k form r → (status_of r ≡ TOO_LONG → ⊥) → StaysShort (k.source k.before) (k.source k.after)
 stays_short k = by_end k (λ form r. (status_of r ≡ TOO_LONG → ⊥) → StaysShort (k.source k.before) (k.source k.after))
     (λ input out no. short_same k input)
-    (λ asked s no. read_all s.reads)
+    (λ asked s no. s.at_most)
     (λ asked why u no. u.stops.short (λ e. no (ap (λ w. status_of_failure (Input w)) e)))
-    (λ asked why s no. read_all s.reads)
-    (λ asked s no. read_all s.reads)
-    (λ asked why s no. read_all s.reads)
+    (λ asked why s no. s.at_most)
+    (λ asked s no. s.at_most)
+    (λ asked why s no. s.at_most)
 
 -- ---- the counts
 
@@ -162,9 +172,9 @@ Steady k = ((k.source k.after).faults ≡ (k.source k.before).faults) × IsStead
 pub steady : {Form I K : Type 0} (k : Case Form I K) (form : Option Form) (r : Ended) → Ran k form r → is_read (status_of r) ≡ true → ((k.source k.after).faults ≡ (k.source k.before).faults) × IsSteady (k.sink k.old) (k.sink k.new)
 steady k = by_end k (λ form r. is_read (status_of r) ≡ true → Steady k)
     (λ input out e. absurd (cc e))
-    (λ asked s e. (s.reads.faults, s.serves.writes.steady))
+    (λ asked s e. (s.faults, s.serves.writes.steady))
     (λ asked why u e. absurd ((unread_status why).1 e))
-    (λ asked why s e. (s.reads.faults, s.serves.all.writes.steady))
+    (λ asked why s e. (s.faults, s.serves.all.writes.steady))
     (λ asked s e. absurd (cc e))
     (λ asked why s e. absurd ((stopped_status why).1 e))
 
@@ -180,11 +190,11 @@ counts_same k same = subst (λ out. NoCountFell (k.sink k.old) (k.sink out)) (sy
 pub counts : {Form I K : Type 0} (k : Case Form I K) (form : Option Form) (r : Ended) → Ran k form r → ((k.source k.before).faults ≤ (k.source k.after).faults) × NoCountFell (k.sink k.old) (k.sink k.new)
 counts k = by_end k (λ form r. Counts k)
     (λ input out. (count_stays (ap (λ source. (k.source source).faults) input), counts_same k out))
-    (λ asked s. (count_stays s.reads.faults, steady_counts s.serves.writes.steady))
+    (λ asked s. (count_stays s.faults, steady_counts s.serves.writes.steady))
     (λ asked why u. (u.stops.faults, counts_same k u.out))
-    (λ asked why s. (count_stays s.reads.faults, steady_counts s.serves.all.writes.steady))
-    (λ asked s. (count_stays s.reads.faults, counts_same k s.serves))
-    (λ asked why s. (count_stays s.reads.faults, s.serves.stops.counts))
+    (λ asked why s. (count_stays s.faults, steady_counts s.serves.all.writes.steady))
+    (λ asked s. (count_stays s.faults, counts_same k s.serves))
+    (λ asked why s. (count_stays s.faults, stop_counts k.sink s.serves.bytes k.old k.new (k.terms.partly (Some asked)) why s.serves.stops))
 
 -- ---- what is told
 

@@ -1,5 +1,5 @@
 -- From what serving the words says to what each status says.
-use Rattle.std.specs.Prelude.{◌≡◌, ◌↔◌, ℕ, ◌==◌, ◌<◌, Bool, true, false, ◌||◌, List, ◌∷◌, Option, Some, None, Result, Ok, Err, IfSome, OnOk, refl}
+use Rattle.std.specs.Prelude.{◌≡◌, ℕ, ◌<◌, Bool, true, false, List, [], Option, Some, None, Result, Ok, Err, IfSome, OnOk, refl}
 use Rattle.std.proofs.Common.{sym, ap, subst, ◌∙◌, arith, inl, inr}
 use Rattle.sval_core.specs.Law.{Rose}
 use Rattle.sval_io.specs.Sinks.{Told}
@@ -7,19 +7,20 @@ use Rattle.sval_io.specs.declared.sink.SinkError.{SinkError}
 use Rattle.sval_io.specs.declared.sink.SinkError.TheVariants as sink
 use Rattle.sval_io.specs.declared.input_error.InputError.{InputError}
 use Rattle.sval_io.specs.declared.input_error.InputError.TheVariants as input
-use Rattle.sval_io.specs.WholeInputs.{ReadsWhole, IsTooLong, TakesAll, TakesOneMore}
+use Rattle.sval_io.specs.WholeInputs.{IsShort, ReadsWhole, IsTooLong, TakesAll, TakesOneMore, StaysShort, StaysBelow, StopsReading}
 use Rattle.sval_io.specs.Sources.{Supply}
+use Rattle.sval_io.proofs.ReadParts.{read_nothing, read_all, below_nothing}
 use Rattle.sval_program.specs.declared.failure.Fault.{Fault}
 use Rattle.sval_program.specs.declared.failure.Fault.TheVariants as fault
 use Rattle.sval_program.specs.declared.failure.Failure.{Failure}
 use Rattle.sval_program.specs.declared.failure.Failure.TheVariants.{Usage, Input, Fault as Found, NoMemory, Write}
 use Rattle.sval_program.specs.declared.status.TheConstants.{DONE, USAGE, WRITE, READ, NO_MEMORY, TOO_LONG}
 use Rattle.sval_program.specs.Failures.{status_of_fault, status_of_failure, status_of, is_fault, is_read}
-use Rattle.sval_program.specs.Inputs.{OnShort, OnBoth, IsSpent, IsUnread}
-use Rattle.sval_program.specs.Jobs.{Terms, WritesAllDue, ServesBytes, IsServed, ServesInput, ServesForm}
-use Rattle.sval_program.specs.Outputs.{IsOwnWant}
-use Rattle.sval_program.specs.Runs.{is_status, TakesDue, TakesFault, IsStatusDue, AreQuiet, TakesAllOrLess}
-use Rattle.sval_program.specs.Statuses.{is_among}
+use Rattle.sval_program.specs.Inputs.{OnShort, OnBoth, IsSpent, IsSpentIf, input_if}
+use Rattle.sval_program.specs.Jobs.{Terms, WritesAllDue, ServesBytes, IsServed, ServesInput, ServesNothing, ServesIf, ServesForm}
+use Rattle.sval_program.specs.Outputs.{IsWantIf}
+use Rattle.sval_program.specs.Runs.{TakesDue, TakesFault, IsStatusDue, AreQuiet, TakesAllOrLess}
+use Rattle.sval_program.proofs.Growing.{want_before, stop_is_fault, stop_is_want}
 
 abbrev pub Ended : Type 0
 Ended = Result (Unit {0}) Failure
@@ -37,15 +38,31 @@ pub record Case (Form I K : Type 0) : Type 1 where
 abbrev pub Ran : {Form I K : Type 0} → Case Form I K → Option Form → Result (Unit {0}) Failure → Type 0
 Ran k form result = ServesForm k.terms k.source k.sink form result k.before k.after k.old k.new
 
-abbrev pub Served : {Form I K : Type 0} → Case Form I K → Form → Result (Unit {0}) Failure → Type 0
-Served k asked result = IsServed k.terms k.source k.sink asked result k.before k.after k.old k.new
+-- the bytes that are served
+abbrev pub input_of : {Form I K : Type 0} → Case Form I K → Option Form → Option (List ℕ)
+input_of k form = input_if (k.terms.reads form) (k.source k.before)
 
-abbrev pub Unread : {Form I K : Type 0} → Case Form I K → InputError → Type 0
-Unread k why = IsUnread k.source why k.before k.after k.old k.new
-
--- a fact where the words are a form, and the source told what it had
+-- a fact where the words are a form, and the source told what it had, or it isn't read
 abbrev pub OnInput : {Form I K : Type 0} → Case Form I K → Option Form → (List ℕ → Form → Type 0) → Type 0
-OnInput k form P = OnBoth form (k.source k.before).left P
+OnInput k form P = OnBoth form (input_of k form) P
+
+-- bytes were served, which are all that the source had, or none where it isn't read
+pub record Served {Form I K : Type 0} (k : Case Form I K) (asked : Form) (result : Result (Unit {0}) Failure) : Type 0 where
+  pub input : List ℕ
+  pub serves : ServesBytes k.terms k.sink asked input result k.old k.new
+  pub all : IfSome (input_of k (Some asked)) (λ whole. input ≡ whole)
+  pub spent : IfSome (input_of k (Some asked)) (λ whole. IsSpentIf (k.terms.reads (Some asked)) (k.source k.after) whole asked)
+  pub want : IfSome (input_of k (Some asked)) (λ whole. TakesAllOrLess (k.source k.before) (k.source k.after) whole asked)
+  pub unread : k.terms.reads (Some asked) ≡ false → k.after ≡ k.before
+  pub short : IsShort input
+  pub at_most : StaysShort (k.source k.before) (k.source k.after)
+  pub faults : (k.source k.after).faults ≡ (k.source k.before).faults
+
+-- the input is one to be read, and wasn't
+pub record Unread {Form I K : Type 0} (k : Case Form I K) (asked : Form) (why : InputError) : Type 0 where
+  pub reads : k.terms.reads (Some asked) ≡ true
+  pub stops : StopsReading why (k.source k.before) (k.source k.after)
+  pub out : k.new ≡ k.old
 
 -- ---- an input that was read and served
 
@@ -65,11 +82,18 @@ pub on_input : {Form : Type 0} (asked : Form) (left : Option (List ℕ)) (P : Li
 on_input asked None P f = tt
 on_input asked (Some input) P f = f input refl
 
+-- one that is so of what the source may have told
+pub on_some : {Form : Type 0} (asked : Form) (left : Option (List ℕ)) (Q : List ℕ → Type 0) (P : List ℕ → Form → Type 0) → ((input : List ℕ) → Q input → P input asked) → IfSome left Q → OnBoth (Some asked) left P
+on_some asked None Q P f h = tt
+on_some asked (Some input) Q P f h = f input h
+
 -- one that holds of the input that was served
 pub on_served : {Form I K : Type 0} (k : Case Form I K) (asked : Form) {r : Ended} (P : List ℕ → Form → Type 0) (s : Served k asked r) → P s.input asked → OnInput k (Some asked) P
-on_served k asked P s p = on_input asked (k.source k.before).left P (λ input told.
-    let all : TakesAll input s.input (k.source k.after).left = subst (λ left. IfSome left (λ all. TakesAll all s.input (k.source k.after).left)) told s.reads.taken in
-    subst (λ input. P input asked) all.all p)
+on_served k asked P s p = on_some asked (input_of k (Some asked)) (λ whole. s.input ≡ whole) P (λ input all. subst (λ input. P input asked) all p) s.all
+
+-- one that holds of each input that wasn't read
+pub on_unread : {Form I K : Type 0} (k : Case Form I K) (asked : Form) {why : InputError} (P : List ℕ → Form → Type 0) (u : Unread k asked why) → ((input : List ℕ) → (k.source k.before).left ≡ Some input → P input asked) → OnInput k (Some asked) P
+on_unread k asked P u f = subst (λ reads. OnBoth (Some asked) (input_if reads (k.source k.before)) P) (sym u.reads) (on_input asked (k.source k.before).left P f)
 
 -- one that follows from another
 pub on_both : {Form : Type 0} (form : Option Form) (left : Option (List ℕ)) (P Q : List ℕ → Form → Type 0) → ((input : List ℕ) (asked : Form) → P input asked → Q input asked) → OnBoth form left P → OnBoth form left Q
@@ -79,22 +103,89 @@ on_both (Some asked) (Some input) P Q f h = f input asked h
 
 -- ---- how it ended
 
+-- the source is as it was
+stays_short : {I : Type 0} (source : I → Supply) (before after : I) → after ≡ before → StaysShort (source before) (source after)
+stays_short source before after same = subst (λ now. StaysShort (source before) (source now)) (sym same) (read_nothing (source before).left)
+
+stays_below : {I : Type 0} (source : I → Supply) (before after : I) → after ≡ before → StaysBelow (source before) (source after)
+stays_below source before after same = subst (λ now. StaysBelow (source before) (source now)) (sym same) (below_nothing (source before))
+
+if_some : (left : Option (List ℕ)) (P Q : List ℕ → Type 0) → ((input : List ℕ) → P input → Q input) → IfSome left P → IfSome left Q
+if_some None P Q f h = tt
+if_some (Some input) P Q f h = f input h
+
+-- the input was read whole
+was_read : {Form I K : Type 0} (k : Case Form I K) (asked : Form) {r : Ended} → k.terms.reads (Some asked) ≡ true → IsServed k.terms k.source k.sink asked r k.before k.after k.old k.new → Served k asked r
+was_read k asked reads s =
+    let Taken : List ℕ → Type 0 = λ whole. TakesAll whole s.input (k.source k.after).left in
+    record {
+      input = s.input;
+      serves = s.serves;
+      all = subst (λ b. IfSome (input_if b (k.source k.before)) (λ whole. s.input ≡ whole)) (sym reads) (if_some (k.source k.before).left Taken (λ whole. s.input ≡ whole) (λ whole t. t.all) s.reads.taken);
+      spent = subst (λ b. IfSome (input_if b (k.source k.before)) (λ whole. IsSpentIf b (k.source k.after) whole asked)) (sym reads) (if_some (k.source k.before).left Taken (λ whole. IsSpent (k.source k.after) whole asked) (λ whole t. t.left) s.reads.taken);
+      want = subst (λ b. IfSome (input_if b (k.source k.before)) (λ whole. TakesAllOrLess (k.source k.before) (k.source k.after) whole asked)) (sym reads)
+          (if_some (k.source k.before).left Taken (λ whole. TakesAllOrLess (k.source k.before) (k.source k.after) whole asked) (λ whole t. inl t.left) s.reads.taken);
+      unread = λ e. absurd (let never : true ≡ false = sym reads ∙ e in cc never);
+      short = s.reads.short;
+      at_most = read_all s.reads;
+      faults = s.reads.faults;
+    }
+
+-- nothing was read
+was_unread : {Form I K : Type 0} (k : Case Form I K) (asked : Form) {r : Ended} → k.terms.reads (Some asked) ≡ false → ServesNothing k.terms k.sink asked r k.before k.after k.old k.new → Served k asked r
+was_unread k asked reads s = record {
+  input = [];
+  serves = s.serves;
+  all = subst (λ b. IfSome (input_if b (k.source k.before)) (λ whole. [] ≡ whole)) (sym reads) refl;
+  spent = subst (λ b. IfSome (input_if b (k.source k.before)) (λ whole. IsSpentIf b (k.source k.after) whole asked)) (sym reads) tt;
+  want = subst (λ b. IfSome (input_if b (k.source k.before)) (λ whole. TakesAllOrLess (k.source k.before) (k.source k.after) whole asked)) (sym reads) (inr (stays_below k.source k.before k.after s.input));
+  unread = λ never. s.input;
+  short = omega arith;
+  at_most = stays_short k.source k.before k.after s.input;
+  faults = ap (λ source. (k.source source).faults) s.input;
+}
+
+-- how a form was served
+abbrev Answered : {Form I K : Type 0} → Case Form I K → Form → Ended → Type 0
+Answered k asked (Err (Input why)) = Unread k asked why
+Answered k asked r = Served k asked r
+
+answered : {Form I K : Type 0} (k : Case Form I K) (asked : Form) (r : Ended) (reads : Bool) → k.terms.reads (Some asked) ≡ reads → ServesIf reads k.terms k.source k.sink asked r k.before k.after k.old k.new → Answered k asked r
+answered k asked (Ok u) true e s = was_read k asked e s
+answered k asked (Err Usage) true e s = was_read k asked e s
+answered k asked (Err (Input why)) true e s = record { reads = e; stops = s.stops; out = s.out }
+answered k asked (Err (Found why)) true e s = was_read k asked e s
+answered k asked (Err NoMemory) true e s = was_read k asked e s
+answered k asked (Err (Write why)) true e s = was_read k asked e s
+answered k asked (Ok u) false e s = was_unread k asked e s
+answered k asked (Err Usage) false e s = was_unread k asked e s
+answered k asked (Err (Input why)) false e s = absurd s.serves
+answered k asked (Err (Found why)) false e s = was_unread k asked e s
+answered k asked (Err NoMemory) false e s = was_unread k asked e s
+answered k asked (Err (Write why)) false e s = was_unread k asked e s
+
 -- a fact on each way to end
 pub by_end : {Form I K : Type 0} (k : Case Form I K) (P : Option Form → Ended → Type 0)
     → (k.after ≡ k.before → k.new ≡ k.old → P None (Err Usage))
     → ((asked : Form) → Served k asked (Ok tt) → P (Some asked) (Ok tt))
-    → ((asked : Form) (why : InputError) → Unread k why → P (Some asked) (Err (Input why)))
+    → ((asked : Form) (why : InputError) → Unread k asked why → P (Some asked) (Err (Input why)))
     → ((asked : Form) (why : Fault) → Served k asked (Err (Found why)) → P (Some asked) (Err (Found why)))
     → ((asked : Form) → Served k asked (Err NoMemory) → P (Some asked) (Err NoMemory))
     → ((asked : Form) (why : SinkError) → Served k asked (Err (Write why)) → P (Some asked) (Err (Write why)))
     → (form : Option Form) (r : Ended) → Ran k form r → P form r
-by_end k P none done unread found want stopped None r ran = subst (P None) (sym ran.usage) (none ran.input ran.out)
-by_end k P none done unread found want stopped (Some asked) (Ok u) ran = done asked ran
-by_end k P none done unread found want stopped (Some asked) (Err Usage) ran = absurd ran.serves
-by_end k P none done unread found want stopped (Some asked) (Err (Input why)) ran = unread asked why ran
-by_end k P none done unread found want stopped (Some asked) (Err (Found why)) ran = found asked why ran
-by_end k P none done unread found want stopped (Some asked) (Err NoMemory) ran = want asked ran
-by_end k P none done unread found want stopped (Some asked) (Err (Write why)) ran = stopped asked why ran
+by_end {Form} k P none done unread found want stopped = by_form
+  where
+    by_result : (asked : Form) (r : Ended) → Answered k asked r → P (Some asked) r
+    by_result asked (Ok u) a = done asked a
+    by_result asked (Err Usage) a = absurd a.serves
+    by_result asked (Err (Input why)) a = unread asked why a
+    by_result asked (Err (Found why)) a = found asked why a
+    by_result asked (Err NoMemory) a = want asked a
+    by_result asked (Err (Write why)) a = stopped asked why a
+
+    by_form : (form : Option Form) (r : Ended) → Ran k form r → P form r
+    by_form None r ran = subst (P None) (sym ran.usage) (none ran.input ran.out)
+    by_form (Some asked) r ran = by_result asked r (answered k asked r (k.terms.reads (Some asked)) refl ran)
 
 -- ---- which status is whose
 
@@ -133,42 +224,6 @@ the_fault (Err (Input why)) e = absurd ((unread_status why).0 e)
 the_fault (Err (Found why)) e = (why, refl)
 the_fault (Err NoMemory) e = absurd (cc e)
 the_fault (Err (Write why)) e = absurd ((stopped_status why).0 e)
-
--- ---- the statuses there are
-
-or_more : (s : ℕ) (statuses : List ℕ) (status : ℕ) → is_among status statuses ≡ true → is_among status (s ∷ statuses) ≡ true
-or_more s statuses status e = either (s == status) e
-  where
-    either : (b : Bool) → is_among status statuses ≡ true → (b || is_among status statuses) ≡ true
-    either true e = refl
-    either false e = e
-
-pub known : {Form I K : Type 0} (k : Case Form I K) (form : Option Form) (r : Ended) → Ran k form r → is_status k.terms (status_of r) ≡ true
-known k = by_end k (λ form r. is_status k.terms (status_of r) ≡ true)
-    (λ input out. refl)
-    (λ asked s. refl)
-    (λ asked why u. of_input why)
-    (λ asked why s. of_fault (status_of_fault why) s.serves.known)
-    (λ asked s. refl)
-    (λ asked why s. of_sink why)
-  where
-    of_input : (why : InputError) → is_status k.terms (status_of (Err (Input why))) ≡ true
-    of_input input.ReadFault = refl
-    of_input input.TooLong = refl
-    of_input input.NoMemory = refl
-
-    of_sink : (why : SinkError) → is_status k.terms (status_of (Err (Write why))) ≡ true
-    of_sink sink.Failed = refl
-    of_sink sink.NoMemory = refl
-
-    of_fault : (status : ℕ) → is_among status k.terms.faults ≡ true → is_status k.terms status ≡ true
-    of_fault status e =
-        or_more DONE (USAGE ∷ WRITE ∷ READ ∷ NO_MEMORY ∷ TOO_LONG ∷ k.terms.faults) status
-        (or_more USAGE (WRITE ∷ READ ∷ NO_MEMORY ∷ TOO_LONG ∷ k.terms.faults) status
-        (or_more WRITE (READ ∷ NO_MEMORY ∷ TOO_LONG ∷ k.terms.faults) status
-        (or_more READ (NO_MEMORY ∷ TOO_LONG ∷ k.terms.faults) status
-        (or_more NO_MEMORY (TOO_LONG ∷ k.terms.faults) status
-        (or_more TOO_LONG k.terms.faults status e)))))
 
 -- ---- what each status says
 
@@ -213,7 +268,7 @@ write {Form} k = by_end k (λ form r. status_of r ≡ WRITE → Rose (k.sink k.o
     (λ asked why s. rose asked why s)
   where
     rose : (asked : Form) (why : SinkError) → Served k asked (Err (Write why)) → status_of_failure (Write why) ≡ WRITE → Rose (k.sink k.old).faults (k.sink k.new).faults
-    rose asked sink.Failed s e = s.serves.stops.cause
+    rose asked sink.Failed s e = stop_is_fault k.sink s.serves.bytes k.old k.new (k.terms.partly (Some asked)) s.serves.stops
     rose asked sink.NoMemory s e = absurd (omega (arith, e))
 
 pub read : {Form I K : Type 0} (k : Case Form I K) (form : Option Form) (r : Ended) → Ran k form r → status_of r ≡ READ → Rose (k.source k.before).faults (k.source k.after).faults
@@ -225,31 +280,32 @@ read {Form} k = by_end k (λ form r. status_of r ≡ READ → Rose (k.source k.b
     (λ asked s e. absurd (omega (arith, e)))
     (λ asked why s e. absurd ((stopped_status why).4 e))
   where
-    rose : (asked : Form) (why : InputError) → Unread k why → status_of_failure (Input why) ≡ READ → Rose (k.source k.before).faults (k.source k.after).faults
+    rose : (asked : Form) (why : InputError) → Unread k asked why → status_of_failure (Input why) ≡ READ → Rose (k.source k.before).faults (k.source k.after).faults
     rose asked input.ReadFault u e = u.stops.fault refl
     rose asked input.TooLong u e = absurd (omega (arith, e))
     rose asked input.NoMemory u e = absurd (omega (arith, e))
 
-pub own_want : {Form I K : Type 0} (k : Case Form I K) (form : Option Form) (r : Ended) → Ran k form r → status_of r ≡ NO_MEMORY → IsOwnWant k.sink k.old k.new
-own_want {Form} k = by_end k (λ form r. status_of r ≡ NO_MEMORY → IsOwnWant k.sink k.old k.new)
-    (λ input out e. inl out)
+pub own_want : {Form I K : Type 0} (k : Case Form I K) (form : Option Form) (r : Ended) → Ran k form r → status_of r ≡ NO_MEMORY → IsWantIf (k.terms.partly form) k.sink k.old k.new
+own_want {Form} k = by_end k (λ form r. status_of r ≡ NO_MEMORY → IsWantIf (k.terms.partly form) k.sink k.old k.new)
+    (λ input out e. want_before (k.terms.partly None) k.sink out)
     (λ asked s e. absurd (omega (arith, e)))
-    (λ asked why u e. inl u.out)
+    (λ asked why u e. want_before (k.terms.partly (Some asked)) k.sink u.out)
     (λ asked why s e. absurd (no_fault why NO_MEMORY refl e))
-    (λ asked s e. inl s.serves)
+    (λ asked s e. want_before (k.terms.partly (Some asked)) k.sink s.serves)
     (λ asked why s. want asked why s)
   where
-    want : (asked : Form) (why : SinkError) → Served k asked (Err (Write why)) → status_of_failure (Write why) ≡ NO_MEMORY → IsOwnWant k.sink k.old k.new
+    want : (asked : Form) (why : SinkError) → Served k asked (Err (Write why)) → status_of_failure (Write why) ≡ NO_MEMORY → IsWantIf (k.terms.partly (Some asked)) k.sink k.old k.new
     want asked sink.Failed s e = absurd (omega (arith, e))
-    want asked sink.NoMemory s e = s.serves.stops.cause
+    want asked sink.NoMemory s e = stop_is_want k.sink s.serves.bytes k.old k.new (k.terms.partly (Some asked)) s.serves.stops
 
-pub spent_served : {Form I K : Type 0} (k : Case Form I K) (asked : Form) {r : Ended} → Served k asked r → OnInput k (Some asked) (IsSpent (k.source k.after))
-spent_served k asked s = on_input asked (k.source k.before).left (IsSpent (k.source k.after)) (λ input told.
-    let all : TakesAll input s.input (k.source k.after).left = subst (λ left. IfSome left (λ all. TakesAll all s.input (k.source k.after).left)) told s.reads.taken in
-    all.left)
+pub spent_served : {Form I K : Type 0} (k : Case Form I K) (asked : Form) {r : Ended} → Served k asked r → OnInput k (Some asked) (IsSpentIf (k.terms.reads (Some asked)) (k.source k.after))
+spent_served k asked s =
+    let Spent : List ℕ → Type 0 = λ whole. IsSpentIf (k.terms.reads (Some asked)) (k.source k.after) whole asked in
+    on_some asked (input_of k (Some asked)) Spent (IsSpentIf (k.terms.reads (Some asked)) (k.source k.after)) (λ input spent. spent) s.spent
 
 spent_or_less : {Form I K : Type 0} (k : Case Form I K) (asked : Form) {r : Ended} → Served k asked r → OnInput k (Some asked) (TakesAllOrLess (k.source k.before) (k.source k.after))
-spent_or_less k asked s = on_both (Some asked) (k.source k.before).left (IsSpent (k.source k.after)) (TakesAllOrLess (k.source k.before) (k.source k.after)) (λ input asked spent. inl spent) (spent_served k asked s)
+spent_or_less k asked s =
+    on_some asked (input_of k (Some asked)) (λ whole. TakesAllOrLess (k.source k.before) (k.source k.after) whole asked) (TakesAllOrLess (k.source k.before) (k.source k.after)) (λ input less. less) s.want
 
 pub want : {Form I K : Type 0} (k : Case Form I K) (form : Option Form) (r : Ended) → Ran k form r → status_of r ≡ NO_MEMORY → OnInput k form (TakesAllOrLess (k.source k.before) (k.source k.after))
 want {Form} k = by_end k (λ form r. status_of r ≡ NO_MEMORY → OnInput k form (TakesAllOrLess (k.source k.before) (k.source k.after)))
@@ -260,10 +316,10 @@ want {Form} k = by_end k (λ form r. status_of r ≡ NO_MEMORY → OnInput k for
     (λ asked s e. spent_or_less k asked s)
     (λ asked why s e. spent_or_less k asked s)
   where
-    less : (asked : Form) (why : InputError) → Unread k why → status_of_failure (Input why) ≡ NO_MEMORY → OnInput k (Some asked) (TakesAllOrLess (k.source k.before) (k.source k.after))
+    less : (asked : Form) (why : InputError) → Unread k asked why → status_of_failure (Input why) ≡ NO_MEMORY → OnInput k (Some asked) (TakesAllOrLess (k.source k.before) (k.source k.after))
     less asked input.ReadFault u e = absurd (omega (arith, e))
     less asked input.TooLong u e = absurd (omega (arith, e))
-    less asked input.NoMemory u e = on_input asked (k.source k.before).left (TakesAllOrLess (k.source k.before) (k.source k.after)) (λ input told. inr (u.stops.want refl))
+    less asked input.NoMemory u e = on_unread k asked (TakesAllOrLess (k.source k.before) (k.source k.after)) u (λ input told. inr (u.stops.want refl))
 
 pub long : {Form I K : Type 0} (k : Case Form I K) (form : Option Form) (r : Ended) → Ran k form r → status_of r ≡ TOO_LONG → IsTooLong (k.source k.before) (k.source k.after)
 long {Form} k = by_end k (λ form r. status_of r ≡ TOO_LONG → IsTooLong (k.source k.before) (k.source k.after))
@@ -274,7 +330,7 @@ long {Form} k = by_end k (λ form r. status_of r ≡ TOO_LONG → IsTooLong (k.s
     (λ asked s e. absurd (omega (arith, e)))
     (λ asked why s e. absurd ((stopped_status why).5 e))
   where
-    too_long : (asked : Form) (why : InputError) → Unread k why → status_of_failure (Input why) ≡ TOO_LONG → IsTooLong (k.source k.before) (k.source k.after)
+    too_long : (asked : Form) (why : InputError) → Unread k asked why → status_of_failure (Input why) ≡ TOO_LONG → IsTooLong (k.source k.before) (k.source k.after)
     too_long asked input.ReadFault u e = absurd (omega (arith, e))
     too_long asked input.TooLong u e = u.stops.long refl
     too_long asked input.NoMemory u e = absurd (omega (arith, e))
@@ -283,28 +339,28 @@ long {Form} k = by_end k (λ form r. status_of r ≡ TOO_LONG → IsTooLong (k.s
 pub read_comes : {Form I K : Type 0} (k : Case Form I K) (form : Option Form) (r : Ended) → Ran k form r → (k.source k.before).faults < (k.source k.after).faults → status_of r ≡ READ
 read_comes k = by_end k (λ form r. (k.source k.before).faults < (k.source k.after).faults → status_of r ≡ READ)
     (λ input out moved. absurd (stays (ap (λ source. (k.source source).faults) input) moved))
-    (λ asked s moved. absurd (stays s.reads.faults moved))
+    (λ asked s moved. absurd (stays s.faults moved))
     (λ asked why u moved. ap (λ why. status_of_failure (Input why)) (u.stops.moved moved))
-    (λ asked why s moved. absurd (stays s.reads.faults moved))
-    (λ asked s moved. absurd (stays s.reads.faults moved))
-    (λ asked why s moved. absurd (stays s.reads.faults moved))
+    (λ asked why s moved. absurd (stays s.faults moved))
+    (λ asked s moved. absurd (stays s.faults moved))
+    (λ asked why s moved. absurd (stays s.faults moved))
   where
     stays : (k.source k.after).faults ≡ (k.source k.before).faults → (k.source k.before).faults < (k.source k.after).faults → ⊥
     stays e moved = omega (arith, e, moved)
 
 -- ---- the status that is due
 
-due_unread : {Form I K : Type 0} (k : Case Form I K) (asked : Form) (why : InputError) → Unread k why → (Rose (k.source k.before).faults (k.source k.after).faults → ⊥)
+due_unread : {Form I K : Type 0} (k : Case Form I K) (asked : Form) (why : InputError) → Unread k asked why → (Rose (k.source k.before).faults (k.source k.after).faults → ⊥)
     → OnInput k (Some asked) (OnShort (IsStatusDue k.terms (status_of (Err (Input why)))))
 due_unread k asked input.ReadFault u quiet = absurd (quiet (u.stops.fault refl))
-due_unread k asked input.TooLong u quiet = on_input asked (k.source k.before).left (OnShort (IsStatusDue k.terms TOO_LONG)) (λ input told short.
+due_unread k asked input.TooLong u quiet = on_unread k asked (OnShort (IsStatusDue k.terms TOO_LONG)) u (λ input told short.
     let long : TakesOneMore input (k.source k.after).left = subst (λ left. IfSome left (λ all. TakesOneMore all (k.source k.after).left)) told (u.stops.long refl) in absurd (omega (arith, short, long.long)))
-due_unread k asked input.NoMemory u quiet = on_input asked (k.source k.before).left (OnShort (IsStatusDue k.terms NO_MEMORY)) (λ input told short. inr refl)
+due_unread k asked input.NoMemory u quiet = on_unread k asked (OnShort (IsStatusDue k.terms NO_MEMORY)) u (λ input told short. inr refl)
 
 due_stopped : {Form I K : Type 0} (k : Case Form I K) (asked : Form) (why : SinkError) → Served k asked (Err (Write why)) → (Rose (k.sink k.old).faults (k.sink k.new).faults → ⊥)
     → OnInput k (Some asked) (OnShort (IsStatusDue k.terms (status_of (Err (Write why)))))
-due_stopped k asked sink.Failed s quiet = absurd (quiet s.serves.stops.cause)
-due_stopped k asked sink.NoMemory s quiet = on_input asked (k.source k.before).left (OnShort (IsStatusDue k.terms NO_MEMORY)) (λ input told short. inr refl)
+due_stopped k asked sink.Failed s quiet = absurd (quiet (stop_is_fault k.sink s.serves.bytes k.old k.new (k.terms.partly (Some asked)) s.serves.stops))
+due_stopped k asked sink.NoMemory s quiet = on_input asked (input_of k (Some asked)) (OnShort (IsStatusDue k.terms NO_MEMORY)) (λ input told short. inr refl)
 
 pub comes : {Form I K : Type 0} (k : Case Form I K) (form : Option Form) (r : Ended) → Ran k form r → AreQuiet k.source k.sink k.before k.after k.old k.new → OnInput k form (OnShort (IsStatusDue k.terms (status_of r)))
 comes k form r ran quiet = by_end k (λ form r. OnInput k form (OnShort (IsStatusDue k.terms (status_of r))))
@@ -315,20 +371,3 @@ comes k form r ran quiet = by_end k (λ form r. OnInput k form (OnShort (IsStatu
     (λ asked s. on_served k asked (OnShort (IsStatusDue k.terms NO_MEMORY)) s (λ short. inr refl))
     (λ asked why s. due_stopped k asked why s quiet.out)
     form r ran
-
--- ---- words that are no form
-
-pub usage : {Form I K : Type 0} (k : Case Form I K) (form : Option Form) (r : Ended) → Ran k form r → (status_of r ≡ USAGE) ↔ (form ≡ None)
-usage k = by_end k (λ form r. (status_of r ≡ USAGE) ↔ (form ≡ None))
-    (λ input out. both (λ e. refl) (λ e. refl))
-    (λ asked s. neither (λ e. omega (arith, e)))
-    (λ asked why u. neither ((unread_status why).3))
-    (λ asked why s. neither (no_fault why USAGE refl))
-    (λ asked s. neither (λ e. omega (arith, e)))
-    (λ asked why s. neither ((stopped_status why).3))
-  where
-    both : {A B : Type 0} → (A → B) → (B → A) → A ↔ B
-    both f g = (f, g)
-
-    neither : {A : Type 0} {F : Type 0} {x : F} → (A → ⊥) → A ↔ (Some x ≡ None)
-    neither never = both (λ a. absurd (never a)) (λ e. absurd (cc e))

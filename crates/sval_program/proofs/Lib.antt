@@ -5,6 +5,7 @@ pub mod PrintedTrees
 pub mod FoundCalls
 mod CapturedMemory
 pub mod JobRuns
+pub mod JobStatuses
 pub mod JobLeaves
 pub mod JobEnds
 pub mod ToldRuns

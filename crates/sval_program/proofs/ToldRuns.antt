@@ -1,5 +1,5 @@
 -- What a run says of its devices, as a fact on what they tell.
-use Rattle.std.specs.Prelude.{◌≡◌, ℕ, List, Option, Some, None, Result, Ok, Err}
+use Rattle.std.specs.Prelude.{◌≡◌, ℕ, Bool, true, false, List, [], Option, Some, None, Result, Ok, Err}
 use Rattle.std.proofs.Common.{ap, inl, inr}
 use Rattle.sval_io.specs.Sinks.{Told}
 use Rattle.sval_io.specs.declared.sink.SinkError.{SinkError}
@@ -7,10 +7,10 @@ use Rattle.sval_io.specs.declared.sink.SinkError.TheVariants as cause
 use Rattle.sval_io.specs.Sources.{Supply}
 use Rattle.sval_program.specs.declared.failure.Failure.{Failure}
 use Rattle.sval_program.specs.declared.failure.Failure.TheVariants.{Usage, Input, Fault as Found, NoMemory, Write}
-use Rattle.sval_program.specs.Inputs.{OnShort, OnLong}
-use Rattle.sval_program.specs.Jobs.{Terms, ServesBytes, ServesInput, ServesForm, Works}
-use Rattle.sval_program.specs.Outputs.{IsOwnWant, IsStopCause}
-use Rattle.sval_program.specs.Runs.{Ends, Reports, ToldEnds, MayLeave}
+use Rattle.sval_program.specs.Inputs.{OnShort, OnLong, input_if}
+use Rattle.sval_program.specs.Jobs.{Terms, ServesBytes, ServesInput, ServesIf, ServesForm, Works}
+use Rattle.sval_program.specs.Outputs.{IsOwnWant, IsWantIf, IsStopCause, StopsIf}
+use Rattle.sval_program.specs.Runs.{reads, Ends, Reports, ToldEnds, MayLeave}
 use Rattle.sval_program.proofs.JobRuns.{on_both}
 
 -- a device that is what it tells
@@ -25,11 +25,20 @@ may_leave : {Form K : Type 0} (terms : Terms Form) (sink : K → Told) (old new 
 may_leave terms sink old new input asked (inl same) = inl (ap sink same)
 may_leave terms sink old new input asked (inr front) = inr front
 
+want_if : {K : Type 0} (partly : Bool) (sink : K → Told) (old new : K) → IsWantIf partly sink old new → IsWantIf partly as_told (sink old) (sink new)
+want_if false sink old new want = own_want sink old new want
+want_if true sink old new want = want
+
 -- ---- the work
 
 stop_cause : {K : Type 0} (sink : K → Told) (old new : K) (why : SinkError) → IsStopCause why sink old new → IsStopCause why as_told (sink old) (sink new)
 stop_cause sink old new cause.Failed h = h
 stop_cause sink old new cause.NoMemory h = own_want sink old new h
+
+stops_if : {K : Type 0} (partly : Bool) (sink : K → Told) (text : List ℕ) (old new : K) (why : SinkError) → StopsIf partly why sink text old new → StopsIf partly why as_told text (sink old) (sink new)
+stops_if false sink text old new why s = record { cause = stop_cause sink old new why s.cause; begins = s.begins; counts = s.counts }
+stops_if true sink text old new cause.Failed s = record { cause = s.cause; begins = s.begins; counts = s.counts }
+stops_if true sink text old new cause.NoMemory s = record { cause = s.cause; begins = s.begins; counts = s.counts }
 
 told_bytes : {Form K : Type 0} (terms : Terms Form) (sink : K → Told) (asked : Form) (input : List ℕ) (ended : Result (Unit {0}) Failure) (old new : K)
     → ServesBytes terms sink asked input ended old new → ServesBytes terms as_told asked input ended (sink old) (sink new)
@@ -43,7 +52,7 @@ told_bytes terms sink asked input (Err (Write why)) old new s = record {
   bytes = s.bytes;
   due = s.due;
   may = s.may;
-  stops = record { cause = stop_cause sink old new why s.stops.cause; begins = s.stops.begins; counts = s.stops.counts };
+  stops = stops_if (terms.partly (Some asked)) sink s.bytes old new why s.stops;
 }
 
 told_input : {Form I K : Type 0} (terms : Terms Form) (source : I → Supply) (sink : K → Told) (asked : Form) (ended : Result (Unit {0}) Failure) (before after : I) (old new : K)
@@ -55,10 +64,15 @@ told_input terms source sink asked (Err (Found why)) before after old new s = re
 told_input terms source sink asked (Err NoMemory) before after old new s = record { input = s.input; reads = s.reads; serves = told_bytes terms sink asked s.input (Err NoMemory) old new s.serves }
 told_input terms source sink asked (Err (Write why)) before after old new s = record { input = s.input; reads = s.reads; serves = told_bytes terms sink asked s.input (Err (Write why)) old new s.serves }
 
+told_if : {Form I K : Type 0} (reads : Bool) (terms : Terms Form) (source : I → Supply) (sink : K → Told) (asked : Form) (ended : Result (Unit {0}) Failure) (before after : I) (old new : K)
+    → ServesIf reads terms source sink asked ended before after old new → ServesIf reads terms as_told as_told asked ended (source before) (source after) (sink old) (sink new)
+told_if true terms source sink asked ended before after old new s = told_input terms source sink asked ended before after old new s
+told_if false terms source sink asked ended before after old new s = record { input = ap source s.input; serves = told_bytes terms sink asked [] ended old new s.serves }
+
 told_form : {Form I K : Type 0} (terms : Terms Form) (source : I → Supply) (sink : K → Told) (form : Option Form) (ended : Result (Unit {0}) Failure) (before after : I) (old new : K)
     → ServesForm terms source sink form ended before after old new → ServesForm terms as_told as_told form ended (source before) (source after) (sink old) (sink new)
 told_form terms source sink None ended before after old new n = record { usage = n.usage; input = ap source n.input; out = ap sink n.out }
-told_form terms source sink (Some asked) ended before after old new s = told_input terms source sink asked ended before after old new s
+told_form terms source sink (Some asked) ended before after old new s = told_if (terms.reads (Some asked)) terms source sink asked ended before after old new s
 
 told_works : {Form I K : Type 0} (terms : Terms Form) (source : I → Supply) (sink : K → Told) (words : List (List ℕ)) (ended : Result (Unit {0}) Failure) (before after : I) (old new : K)
     → Works terms source sink words ended before after old new → Works terms as_told as_told words ended (source before) (source after) (sink old) (sink new)
@@ -76,17 +90,18 @@ told_run {terms = terms} {source = source} {sink = sink} {words = words} {before
   finds = e.finds;
   write = e.write;
   read = e.read;
-  own_want = λ is. own_want sink old new (e.own_want is);
+  own_want = λ is. want_if (terms.partly (terms.form_named words)) sink old new (e.own_want is);
   want = e.want;
   long = e.long;
   read_comes = e.read_comes;
   comes = λ quiet. e.comes (record { input = quiet.input; out = quiet.out });
   long_comes = e.long_comes;
   untouched = λ is. ap sink (e.untouched is);
-  leaves = on_both (terms.form_named words) (source before).left (OnShort (MayLeave terms sink old new)) (OnShort (MayLeave terms as_told (sink old) (sink new))) (λ input asked left short. may_leave terms sink old new input asked (left short)) e.leaves;
-  leaves_long = on_both (terms.form_named words) (source before).left (OnLong (new ≡ old)) (OnLong (sink new ≡ sink old)) (λ input asked left long. ap sink (left long)) e.leaves_long;
+  leaves = on_both (terms.form_named words) (input_if (reads terms words) (source before)) (OnShort (MayLeave terms sink old new)) (OnShort (MayLeave terms as_told (sink old) (sink new))) (λ input asked left short. may_leave terms sink old new input asked (left short)) e.leaves;
+  leaves_long = on_both (terms.form_named words) (input_if (reads terms words) (source before)) (OnLong (new ≡ old)) (OnLong (sink new ≡ sink old)) (λ input asked left long. ap sink (left long)) e.leaves_long;
   grows = e.grows;
   nothing_read = λ is. ap source (e.nothing_read is);
+  unread = λ is. ap source (e.unread is);
   nothing_written = λ is. ap sink (e.nothing_written is);
   spent = e.spent;
   short = e.short;

@@ -1,5 +1,5 @@
 -- What programs ask of an input, and what reading a script makes of its source.
-use Rattle.std.specs.Prelude.{◌≡◌, ◌⊎◌, ℕ, ◌<◌, ◌^◌, List, [], take, length, Option, Some, Err, ⊤}
+use Rattle.std.specs.Prelude.{◌≡◌, ◌⊎◌, ℕ, ◌<◌, ◌^◌, Bool, true, false, List, [], take, length, Option, Some, Err, ⊤}
 use Rattle.sval_io.specs.declared.input_error.InputError.{InputError}
 use Rattle.sval_io.specs.Sources.{Supply, Gives}
 use Rattle.sval_io.specs.WholeInputs.{IsShort, ReadsWhole, StopsReading}
@@ -18,6 +18,16 @@ OnLong P input asked = 2 ^ 24 < length input → P
 -- nothing of the input is left
 abbrev pub IsSpent : {A : Type 0} → Supply → List ℕ → A → Type 0
 IsSpent new input asked = new.left ≡ Some []
+
+-- the same of an input that is read
+abbrev pub IsSpentIf : {A : Type 0} → (reads : Bool) → Supply → List ℕ → A → Type 0
+IsSpentIf true new input asked = IsSpent new input asked
+IsSpentIf false new input asked = ⊤
+
+-- the bytes that are served: those that are left, where the source tells them, and none where it isn't read
+abbrev pub input_if : (reads : Bool) → Supply → Option (List ℕ)
+input_if true old = old.left
+input_if false old = Some []
 
 -- so many bytes were read into the front of the buffer, and the reader was given them
 pub record GivesPart (count : ℕ) (old : Supply) (buffer : List ℕ) (new : Supply) (reader after : ScriptReading) : Type 0 where

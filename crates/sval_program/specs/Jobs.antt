@@ -1,5 +1,5 @@
 -- What a program does: its words, what is due of an input, and what serving it makes of the devices.
-use Rattle.std.specs.Prelude.{◌≡◌, ℕ, Bool, true, false, List, Option, Some, None, Result, Ok, Err, OnOk}
+use Rattle.std.specs.Prelude.{◌≡◌, ℕ, Bool, true, false, List, [], Option, Some, None, Result, Ok, Err, OnOk}
 use Rattle.sval_io.specs.Sinks.{Told, HoldsNothing, WritesWhole}
 use Rattle.sval_io.specs.declared.sink.SinkError.{SinkError}
 use Rattle.sval_io.specs.WholeInputs.{ReadsWhole}
@@ -9,7 +9,7 @@ use Rattle.sval_program.specs.declared.failure.Failure.{Failure}
 use Rattle.sval_program.specs.declared.failure.Failure.TheVariants as failure
 use Rattle.sval_program.specs.Failures.{status_of_fault}
 use Rattle.sval_program.specs.Inputs.{IsUnread}
-use Rattle.sval_program.specs.Outputs.{StopsWithin}
+use Rattle.sval_program.specs.Outputs.{StopsIf}
 use Rattle.sval_program.specs.Statuses.{is_among}
 
 -- what a program does
@@ -18,6 +18,10 @@ pub record Terms (Form : Type 0) : Type 1 where
   pub form_named : List (List ℕ) → Option Form
   -- what is due of an input: a fault, if it has one, and the bytes that are written, which with a fault are those before it
   pub Due : Form → List ℕ → Option Fault → List ℕ → Type 0
+  -- whether the input is read for what words ask for; what is due where it isn't is what is due of no bytes
+  pub reads : Option Form → Bool
+  -- whether memory may be wanting for it between two parts of what is written
+  pub partly : Option Form → Bool
   -- the statuses of the faults that it may find, and of these the ones before which it may write
   pub faults : List ℕ
   pub written : List ℕ
@@ -49,7 +53,7 @@ pub record StopsWithinDue {Form K : Type 0} (terms : Terms Form) (told : K → T
   pub bytes : List ℕ
   pub due : terms.Due asked input found bytes
   pub may : may_write terms found ≡ true
-  pub stops : StopsWithin why told bytes old new
+  pub stops : StopsIf (terms.partly (Some asked)) why told bytes old new
 
 -- by how it ended; where memory was wanting before anything was written the sink is as it was
 abbrev pub ServesBytes : {Form K : Type 0} → Terms Form → (K → Told) → Form → List ℕ → Result (Unit {0}) Failure → K → K → Type 0
@@ -78,9 +82,19 @@ abbrev pub ServesInput : {Form I K : Type 0} → Terms Form → (I → Supply) �
 ServesInput terms source told asked (Err (failure.Input why)) before after old new = IsUnread source why before after old new
 ServesInput terms source told asked result before after old new = IsServed terms source told asked result before after old new
 
+-- nothing was read, and what is due of no bytes was served
+pub record ServesNothing {Form I K : Type 0} (terms : Terms Form) (told : K → Told) (asked : Form) (result : Result (Unit {0}) Failure) (before after : I) (old new : K) : Type 0 where
+  pub input : after ≡ before
+  pub serves : ServesBytes terms told asked [] result old new
+
+-- by whether the input is read
+abbrev pub ServesIf : {Form I K : Type 0} → Bool → Terms Form → (I → Supply) → (K → Told) → Form → Result (Unit {0}) Failure → I → I → K → K → Type 0
+ServesIf true terms source told asked result before after old new = ServesInput terms source told asked result before after old new
+ServesIf false terms source told asked result before after old new = ServesNothing terms told asked result before after old new
+
 abbrev pub ServesForm : {Form I K : Type 0} → Terms Form → (I → Supply) → (K → Told) → Option Form → Result (Unit {0}) Failure → I → I → K → K → Type 0
 ServesForm terms source told None result before after old new = IsNoForm result before after old new
-ServesForm terms source told (Some asked) result before after old new = ServesInput terms source told asked result before after old new
+ServesForm terms source told (Some asked) result before after old new = ServesIf (terms.reads (Some asked)) terms source told asked result before after old new
 
 -- the form that the words are was served, if they are one
 abbrev pub Serves : {Form I K : Type 0} → Terms Form → (I → Supply) → (K → Told) → List (List ℕ) → Result (Unit {0}) Failure → I → I → K → K → Type 0

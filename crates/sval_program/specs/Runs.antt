@@ -1,5 +1,5 @@
 -- What a run says: when each status comes, what is left of the devices, and which line was told.
-use Rattle.std.specs.Prelude.{◌≡◌, ◌⊎◌, ◌↔◌, ℕ, ◌<◌, ◌≤◌, Bool, true, not, List, [], ◌∷◌, Option, None, Some, Result, Err}
+use Rattle.std.specs.Prelude.{◌≡◌, ◌⊎◌, ◌↔◌, ℕ, ◌<◌, ◌≤◌, Bool, true, false, not, List, [], ◌∷◌, Option, None, Some, Result, Err}
 use Rattle.sval_core.specs.Law.{Rose}
 use Rattle.sval_io.specs.Sinks.{Told, HoldsNothing, IsSteady, NoCountFell, Appends, AppendsFront}
 use Rattle.sval_io.specs.WholeInputs.{IsTooLong, StaysShort, StaysBelow}
@@ -9,9 +9,9 @@ use Rattle.sval_program.specs.declared.failure.Failure.{Failure}
 use Rattle.sval_program.specs.declared.failure.Failure.TheVariants as failure
 use Rattle.sval_program.specs.declared.status.TheConstants.{DONE, USAGE, WRITE, READ, NO_MEMORY, TOO_LONG}
 use Rattle.sval_program.specs.Failures.{status_of_fault, status_of_found, status_of, line_of, is_fault, is_read}
-use Rattle.sval_program.specs.Inputs.{OnBoth, OnShort, OnLong, IsSpent}
+use Rattle.sval_program.specs.Inputs.{OnBoth, OnShort, OnLong, IsSpentIf, input_if}
 use Rattle.sval_program.specs.Jobs.{Terms, may_write, Works}
-use Rattle.sval_program.specs.Outputs.{Grows, IsOwnWant}
+use Rattle.sval_program.specs.Outputs.{Grows, IsWantIf}
 use Rattle.sval_program.specs.Reports.{TellsLine}
 use Rattle.sval_program.specs.Statuses.{is_among}
 
@@ -27,9 +27,13 @@ is_unwritten terms status = not (is_among status (DONE ∷ WRITE ∷ NO_MEMORY �
 
 -- ---- facts on the input, and on what is asked for of it
 
--- a fact where the words are a form, and the source tells its bytes
+-- whether the input is read for these words
+abbrev pub reads : {Form : Type 0} → Terms Form → List (List ℕ) → Bool
+reads terms words = terms.reads (terms.form_named words)
+
+-- a fact where the words are a form, and the source tells its bytes; of no bytes, where it isn't read
 abbrev pub OnNamed : {Form : Type 0} → Terms Form → List (List ℕ) → Supply → (List ℕ → Form → Type 0) → Type 0
-OnNamed terms words input P = OnBoth (terms.form_named words) input.left P
+OnNamed terms words input P = OnBoth (terms.form_named words) (input_if (reads terms words) input) P
 
 -- exactly the bytes that are due were taken
 pub record TakesDue {Form : Type 0} (terms : Terms Form) (found : Option Fault) (old new : Told) (input : List ℕ) (asked : Form) : Type 0 where
@@ -91,7 +95,7 @@ pub record Ends {Form I K : Type 0} (terms : Terms Form) (source : I → Supply)
   pub finds : is_fault status ≡ true → OnNamed terms words (source before) (TakesFault terms status (sink old) (sink new))
   pub write : status ≡ WRITE → Rose (sink old).faults (sink new).faults
   pub read : status ≡ READ → Rose (source before).faults (source after).faults
-  pub own_want : status ≡ NO_MEMORY → IsOwnWant sink old new
+  pub own_want : status ≡ NO_MEMORY → IsWantIf (terms.partly (terms.form_named words)) sink old new
   pub want : status ≡ NO_MEMORY → OnNamed terms words (source before) (TakesAllOrLess (source before) (source after))
   pub long : status ≡ TOO_LONG → IsTooLong (source before) (source after)
   -- a fault of the source that was counted means READ
@@ -106,8 +110,9 @@ pub record Ends {Form I K : Type 0} (terms : Terms Form) (source : I → Supply)
   pub grows : Grows (sink old) (sink new)
   -- what is left of the source
   pub nothing_read : status ≡ USAGE → after ≡ before
+  pub unread : reads terms words ≡ false → after ≡ before
   pub nothing_written : status ≡ USAGE → new ≡ old
-  pub spent : is_read status ≡ true → OnNamed terms words (source before) (IsSpent (source after))
+  pub spent : is_read status ≡ true → OnNamed terms words (source before) (IsSpentIf (reads terms words) (source after))
   pub short : (status ≡ TOO_LONG → ⊥) → StaysShort (source before) (source after)
   -- the counts
   pub steady : is_read status ≡ true → ((source after).faults ≡ (source before).faults) × IsSteady (sink old) (sink new)

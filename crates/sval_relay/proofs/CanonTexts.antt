@@ -1,5 +1,5 @@
 -- What printing a captured tree answers, as what writing a tree does.
-use Rattle.std.specs.Prelude.{◌≡◌, true, refl}
+use Rattle.std.specs.Prelude.{true, refl}
 use Rattle.sval_core.specs.Real.{IsPrintable}
 use Rattle.sval_core.specs.Trees.{Tree}
 use Rattle.sval_io.specs.Sinks.{Told, WritesWhole}

@@ -6,6 +6,7 @@ pub mod ListTexts
 pub mod CanonTexts
 pub mod ListSteps
 pub mod Served
+pub mod DueTrees
 pub mod RelayAnswers
 pub mod RecordCounts
 pub mod ServeAnswers
@@ -15,4 +16,3 @@ pub mod MadeAnswers
 pub mod MadeWants
 pub mod MadeStreams
 mod examples
-pub mod ToldWants

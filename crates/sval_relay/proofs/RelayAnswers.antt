@@ -5,10 +5,8 @@ use Rattle.std.proofs.lemmas.List.{length-append}
 use Rattle.sval_label.specs.Calls.{Call}
 use Rattle.sval_core.specs.Law.{Emission, Rose}
 use Rattle.sval_core.specs.Trees.{Tree}
-use Rattle.sval_io.specs.declared.sink.SinkError.{SinkError}
-use Rattle.sval_io.specs.declared.sink.SinkError.TheVariants as sink
-use Rattle.sval_io.specs.Sinks.{Told, IsSteady, NoCountFell, LacksRoom, AppendsFront, IsCounted, PassesOn, Declines}
-use Rattle.sval_io.proofs.Appending.{all_is_front, steady_both, steady_counts, counts_since, counted_since}
+use Rattle.sval_io.specs.Sinks.{Told, IsSteady, NoCountFell, LacksRoom, AppendsFront}
+use Rattle.sval_io.proofs.Appending.{all_is_front, steady_counts}
 use Rattle.sval_io.specs.Sources.{Supply}
 use Rattle.sval_check.specs.declared.error.CheckError.{CheckError}
 use Rattle.sval_check.specs.declared.error.CheckError.TheVariants as checking
@@ -26,12 +24,12 @@ use Rattle.sval_relay.specs.declared.relaying.RelayError.TheVariants as answer
 use Rattle.sval_program.specs.Inputs.{HasRead}
 use Rattle.sval_program.specs.Outputs.{Grows}
 use Rattle.sval_relay.specs.Verdict.{Verdict, BadLine, BadCall, Unfinished, Key, Number, Text, asked_in, ending, texts, left, text_verdict, one_in, all_in, SpellTrees, IsVerdict, OnVerdict}
-use Rattle.sval_relay.specs.Relays.{of_script, of_check, of_sink, is_of_script, WritesVerdictText, WritesMeant, MayLeave, LacksRoomFor, WritesValue, WritesUpTo, IsWantIn, IsAnswerTo, Relays}
+use Rattle.sval_relay.specs.Relays.{of_script, of_check, is_of_script, WritesVerdictText, WritesMeant, MayLeave, LacksRoomFor, WritesValue, WritesUpTo, IsWantIn, IsAnswerTo, Relays}
 use Rattle.sval_relay.specs.WrittenTrees.{FailsFull, WritesTexts, RefusesSome, IsCauseAmong, WritesTrees}
 use Rattle.sval_relay.proofs.Verdicts.{of_each, one_spelled, verdict_bad_line, verdict_bad_call, verdict_unfinished, verdict_trees}
 use Rattle.sval_relay.proofs.LeftTexts.{texts_left}
-use Rattle.sval_program.proofs.Growing.{counts_stay, grows_by_nothing, grows_by_front, appends_kept}
-use Rattle.sval_relay.proofs.Writing.{may_stay, value_kept, want_before, want_of_sink}
+use Rattle.sval_program.proofs.Growing.{counts_stay, grows_by_nothing, grows_by_front}
+use Rattle.sval_relay.proofs.Writing.{may_stay, want_before}
 
 -- ---- what each answer of the parts says of the script
 
@@ -169,7 +167,7 @@ relays_text told script task old new w v s = record {
 
 module _ (script : List ℕ) (task : Task) (calls : List Call) (trees : List Tree) (is : lines script ≡ Good calls) (spell : SpellTrees task.many calls trees) where
   -- the verdict, where the trees' texts are so
-  verdict_of : (found : Result (List ℕ) Refusal) → texts (asked_in task.way) (ending (asked_in task.way) task.many) trees ≡ found
+  pub verdict_of : (found : Result (List ℕ) Refusal) → texts (asked_in task.way) (ending (asked_in task.way) task.many) trees ≡ found
       → IsVerdict (text_verdict found (left (asked_in task.way) (ending (asked_in task.way) task.many) trees)) script task
   verdict_of found e =
       subst (λ found. IsVerdict (text_verdict found (left (asked_in task.way) (ending (asked_in task.way) task.many) trees)) script task) e (verdict_trees script task calls trees is spell)
@@ -235,25 +233,6 @@ module _ (script : List ℕ) (task : Task) (calls : List Call) (trees : List Tre
       let cause : FailsFull (left (asked_in task.way) (ending (asked_in task.way) task.many) trees) (told old) (told new) =
       subst (λ why. IsCauseAmong why Want told (asked_in task.way) (ending (asked_in task.way) task.many) trees old new) same w.cause in
       full_for_due (told old) cause.full
-
--- ---- what flushing answered after that
-
-pub relays_flushed : {K : Type 0} (told : K → Told) (script : List ℕ) (task : Task) (old mid new : K) → Relays told script task (Ok tt) old mid → PassesOn (told mid) (told new) → Relays told script task (Ok tt) old new
-relays_flushed told script task old mid new r p =
-    let w = r.done refl in
-    relays_text told script task old new (record { text = w.text; is = w.is; appends = appends_kept w.appends p.text p.room }) (value_kept script task (r.denotes refl) p.text p.room) (steady_both (r.steady refl) p.steady)
-
-pub relays_held : {K : Type 0} (told : K → Told) (script : List ℕ) (task : Task) (old mid new : K) (why : SinkError) → Relays told script task (Ok tt) old mid → Declines why (told mid) (told new)
-    → Relays told script task (Err (of_sink why)) old new
-relays_held told script task old mid new why r d =
-    let w = r.done refl in
-    let all = appends_kept w.appends d.text d.room in
-    relays_stopped told script task old new (of_sink why) (by_cause why (counted_since (told new) why (r.steady refl) d.cause))
-    (all_may_stay (record { text = w.text; is = w.is; appends = all })) (w.text, all) (counts_since (r.steady refl) d.counts)
-  where
-    by_cause : (e : SinkError) → IsCounted e (told old) (told new) → IsReason (of_sink e) told script task old new
-    by_cause sink.Failed c = c
-    by_cause sink.NoMemory c = want_of_sink task told old new c
 
 -- ---- what a reader answered
 

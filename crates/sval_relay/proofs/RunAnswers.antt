@@ -1,211 +1,292 @@
--- From what serving a form says to what each status says.
-use Rattle.std.specs.Prelude.{◌≡◌, ℕ, ◌≤◌, ◌⊎◌, List, Option, Some, None, Result, Ok, Err, IfSome, refl}
-use Rattle.std.proofs.Common.{sym, ap, subst, arith, inl, inr}
+-- What the facts on a run say of the script's verdict, and of a made script.
+use Rattle.std.specs.Prelude.{◌≡◌, ℕ, ◌≤◌, ◌⊎◌, nat_le, Bool, true, false, List, [], ◌∷◌, codes, bytes_eq, Option, Some, None, option_map, option_and_then, if◌then◌else◌, Result, Ok, Err, refl}
+use Rattle.std.proofs.Common.{sym, ap, subst, ◌∙◌, arith, inl, inr}
+use Rattle.std.proofs.lemmas.Bool.Decides.{nat_tests}
 use Rattle.sval_core.specs.Law.{Rose}
-use Rattle.sval_io.specs.Sinks.{Told, HoldsNothing}
+use Rattle.sval_io.specs.Sinks.{Told, IsSteady, Appends, AppendsFront}
+use Rattle.sval_io.specs.declared.sink.SinkError.{SinkError}
+use Rattle.sval_io.specs.declared.sink.SinkError.TheVariants as sink
 use Rattle.sval_io.specs.declared.input_error.InputError.{InputError}
-use Rattle.sval_io.specs.declared.input_error.InputError.TheVariants.{ReadFault, TooLong}
-use Rattle.sval_io.specs.declared.input_error.InputError.TheVariants as reading
+use Rattle.sval_io.specs.declared.input_error.InputError.TheVariants as input
 use Rattle.sval_io.specs.Sources.{Supply}
-use Rattle.sval_io.specs.WholeInputs.{TakesAll, TakesOneMore, StaysShort}
-use Rattle.sval_io.proofs.ReadParts.{read_nothing, read_all}
-use Rattle.sval_program.specs.declared.status.TheConstants.{BAD_LINE, BAD_CALL, READ, NO_MEMORY, TOO_LONG}
+use Rattle.sval_program.specs.declared.failure.Fault.{Fault}
+use Rattle.sval_program.specs.declared.failure.Fault.TheVariants as fault
+use Rattle.sval_program.specs.declared.failure.Failure.{Failure}
+use Rattle.sval_program.specs.declared.failure.Failure.TheVariants as failure
+use Rattle.sval_program.specs.declared.status.TheConstants.{DONE, BAD_LINE, BAD_CALL, UNFINISHED, INVALID_KEY, INVALID_NUMBER, NO_MEMORY}
+use Rattle.sval_program.specs.Failures.{is_fault, status_of_fault, status_of_found, status_of, line_of}
+use Rattle.sval_program.specs.Inputs.{OnBoth, OnShort, input_if}
+use Rattle.sval_program.specs.Jobs.{may_write, ServesBytes, ServesForm}
+use Rattle.sval_program.specs.Reports.{TellsLine}
+use Rattle.sval_program.specs.Runs as runs
+use Rattle.sval_program.proofs.Growing.{front_of_nothing}
+use Rattle.sval_program.proofs.JobRuns.{by_end, the_fault}
+use Rattle.sval_script.specs.Lines.{keep, natural}
+use Rattle.sval_relay.specs.declared.way.Way.{Way}
 use Rattle.sval_relay.specs.declared.way.Task.{Task}
 use Rattle.sval_relay.specs.declared.way.Form.{Form}
 use Rattle.sval_relay.specs.declared.way.Form.TheVariants.{Serve, Made}
-use Rattle.sval_relay.specs.declared.relaying.RelayError.{RelayError}
-use Rattle.sval_relay.specs.declared.relaying.RelayError.TheVariants as answer
-use Rattle.sval_relay.specs.declared.made.MadeError.{MadeError}
-use Rattle.sval_relay.specs.declared.made.MadeError.TheVariants as made
-use Rattle.sval_relay.specs.declared.failure.Failure.{Failure}
-use Rattle.sval_relay.specs.declared.failure.Failure.TheVariants.{Usage, Input, Relay}
-use Rattle.sval_program.specs.Inputs.{OnShort, OnBoth, IsUnread}
-use Rattle.sval_relay.specs.Ways.{task_in}
-use Rattle.sval_relay.specs.Verdict.{Verdict, BadLine, BadCall, Unfinished, Key, Number, Text, HasBadLine, HasBadCall, OnVerdict}
-use Rattle.sval_program.specs.Outputs.{Grows}
-use Rattle.sval_relay.specs.Relays.{MayLeave, IsAnswerTo}
-use Rattle.sval_relay.specs.Statuses.{IsStatusOf, IsStatusDue, status_of_relayed, status_of}
-use Rattle.sval_relay.specs.Made.{TellsMade}
-use Rattle.sval_relay.specs.Serves.{IsServed, Serves}
-use Rattle.sval_program.proofs.Growing.{grows_by_nothing, grows_by_front}
+use Rattle.sval_relay.specs.Made.{IsMadeLine}
+use Rattle.sval_relay.specs.Relays.{WritesVerdictText, WritesValue, WritesUpTo, MayLeave}
+use Rattle.sval_relay.specs.Reports.{report, Reports}
+use Rattle.sval_relay.specs.Runs.{WritesMadeLine, BeginsMadeLine}
+use Rattle.sval_relay.specs.Serves.{Due, a_text, is_bad_line, is_bad_call, is_unfinished, up_to_key, up_to_number, a_made_line, relay_terms}
+use Rattle.sval_relay.specs.Statuses.{is_of_made, IsStatusDue}
+use Rattle.sval_relay.specs.Verdict.{Verdict, BadLine, BadCall, Unfinished, Key, Number, Text, IsVerdict, HasBadLine, HasBadCall, OnVerdict}
+use Rattle.sval_relay.specs.Ways.{form_named, served_in, way_alone, way_beside, is_read_for, task_in, takes_many, OnNamed, OnRecords}
+use Rattle.sval_relay.proofs.MadeAnswers.{one_made_line}
+use Rattle.sval_relay.proofs.Verdicts.{of_each}
 use Rattle.sval_relay.proofs.Writing.{may_stay}
-
--- the devices of a run
-pub record Case (I K : Type 0) : Type 0 where
-  pub source : I → Supply
-  pub sink : K → Told
-  pub before : I
-  pub after : I
-  pub old : K
-  pub new : K
-
-abbrev pub Ran : {I K : Type 0} → Case I K → Option Form → Result (Unit {0}) Failure → Type 0
-Ran k form result = Serves k.source k.sink form result k.before k.after k.old k.new
-
-abbrev Served : {I K : Type 0} → Case I K → Task → Result (Unit {0}) RelayError → Type 0
-Served k task result = IsServed k.source k.sink task result k.before k.after k.old k.new
-
-abbrev Unread : {I K : Type 0} → Case I K → InputError → Type 0
-Unread k why = IsUnread k.source why k.before k.after k.old k.new
-
-abbrev ToldMade : {I K : Type 0} → Case I K → ℕ → Result (Unit {0}) MadeError → Type 0
-ToldMade k count result = TellsMade k.sink count result k.old k.new
-
--- a fact where the form is one of a script, and the source told what it had
-abbrev OnInput : {I K : Type 0} → Case I K → Option Form → (List ℕ → Task → Type 0) → Type 0
-OnInput k form P = OnBoth (task_in form) (k.source k.before).left P
 
 -- ---- a fact on what was asked for
 
--- one that holds of each script that the source may have told
-on_script : (task : Task) (left : Option (List ℕ)) (P : List ℕ → Task → Type 0) → ((script : List ℕ) → left ≡ Some script → P script task) → OnBoth (Some task) left P
-on_script task None P f = tt
-on_script task (Some script) P f = f script refl
+-- of a script
+pub on_task : (form : Option Form) (input : Supply) (P : List ℕ → Form → Type 0) (Q : List ℕ → Task → Type 0) → ((script : List ℕ) (task : Task) → P script (Serve task) → Q script task) → OnBoth form (input_if (is_read_for form) input) P
+    → OnBoth (task_in form) input.left Q
+on_task None input P Q f h = tt
+on_task (Some (Made count)) input P Q f h = tt
+on_task (Some (Serve task)) input P Q f h = by_left input.left h
+  where
+    by_left : (left : Option (List ℕ)) → OnBoth (Some (Serve task)) left P → OnBoth (Some task) left Q
+    by_left None h = tt
+    by_left (Some script) h = f script task h
 
--- one that holds of the script that was served
-on_served : {I K : Type 0} (k : Case I K) (task : Task) {r : Result (Unit {0}) RelayError} (P : List ℕ → Task → Type 0) (s : Served k task r) → P s.script task → OnInput k (Some (Serve task)) P
-on_served k task P s p = on_script task (k.source k.before).left P (λ script told.
-    let all : TakesAll script s.script (k.source k.after).left = subst (λ left. IfSome left (λ all. TakesAll all s.script (k.source k.after).left)) told s.reads.taken in
-    subst (λ script. P script task) all.all p)
+-- of a made script
+pub on_records : (form : Option Form) (input : Supply) (P : List ℕ → Form → Type 0) (Q : ℕ → Type 0) → ((count : ℕ) → P [] (Made count) → Q count) → OnBoth form (input_if (is_read_for form) input) P → OnRecords form Q
+on_records None input P Q f h = tt
+on_records (Some (Serve task)) input P Q f h = tt
+on_records (Some (Made count)) input P Q f h = f count h
 
--- ---- how it ended
+-- ---- what each status says
 
--- a fact on each way to end
-by_end : {I K : Type 0} (k : Case I K) (P : Option Form → Result (Unit {0}) Failure → Type 0)
-    → (k.after ≡ k.before → k.new ≡ k.old → P None (Err Usage))
-    → ((task : Task) → Served k task (Ok tt) → HoldsNothing (k.sink k.new) → P (Some (Serve task)) (Ok tt))
-    → ((task : Task) (why : InputError) → Unread k why → P (Some (Serve task)) (Err (Input why)))
-    → ((task : Task) (why : RelayError) → Served k task (Err why) → P (Some (Serve task)) (Err (Relay why)))
-    → ((count : ℕ) → k.after ≡ k.before → ToldMade k count (Ok tt) → HoldsNothing (k.sink k.new) → P (Some (Made count)) (Ok tt))
-    → ((count : ℕ) → k.after ≡ k.before → ToldMade k count (Err made.Write) → P (Some (Made count)) (Err (Relay answer.Write)))
-    → ((count : ℕ) → k.after ≡ k.before → ToldMade k count (Err made.NoMemory) → P (Some (Made count)) (Err (Relay answer.NoMemory)))
-    → (form : Option Form) (r : Result (Unit {0}) Failure) → Ran k form r → P form r
-by_end k P none done unread stopped told write want None r ran = subst (P None) (sym ran.usage) (none ran.input ran.out)
-by_end k P none done unread stopped told write want (Some (Serve task)) (Ok u) ran = done task ran.0 ran.1
-by_end k P none done unread stopped told write want (Some (Serve task)) (Err Usage) ran = absurd ran
-by_end k P none done unread stopped told write want (Some (Serve task)) (Err (Input why)) ran = unread task why ran
-by_end k P none done unread stopped told write want (Some (Serve task)) (Err (Relay why)) ran = stopped task why ran
-by_end k P none done unread stopped told write want (Some (Made count)) (Ok u) ran = told count ran.0 ran.1.0 ran.1.1
-by_end k P none done unread stopped told write want (Some (Made count)) (Err Usage) ran = absurd ran.1
-by_end k P none done unread stopped told write want (Some (Made count)) (Err (Input why)) ran = absurd ran.1
-by_end k P none done unread stopped told write want (Some (Made count)) (Err (Relay (answer.BadLine n))) ran = absurd ran.1
-by_end k P none done unread stopped told write want (Some (Made count)) (Err (Relay (answer.BadCall n))) ran = absurd ran.1
-by_end k P none done unread stopped told write want (Some (Made count)) (Err (Relay answer.Unfinished)) ran = absurd ran.1
-by_end k P none done unread stopped told write want (Some (Made count)) (Err (Relay answer.InvalidKey)) ran = absurd ran.1
-by_end k P none done unread stopped told write want (Some (Made count)) (Err (Relay answer.InvalidNumber)) ran = absurd ran.1
-by_end k P none done unread stopped told write want (Some (Made count)) (Err (Relay answer.Write)) ran = write count ran.0 ran.1
-by_end k P none done unread stopped told write want (Some (Made count)) (Err (Relay answer.NoMemory)) ran = want count ran.0 ran.1
+pub writes_text : {old new : Told} (script : List ℕ) (task : Task) → runs.TakesDue relay_terms None old new script (Serve task) → WritesVerdictText old new script task
+writes_text {old} {new} script task t = of_due t.due t.appends
+  where
+    of_due : {bytes : List ℕ} → Due (Serve task) script None bytes → Appends old bytes new → WritesVerdictText old new script task
+    of_due {bytes} (a_text is means) appends = record { text = bytes; is = is; appends = appends }
 
--- ---- what a bad line and a bad call say of the script
+pub writes_value : {old new : Told} (script : List ℕ) (task : Task) → runs.TakesDue relay_terms None old new script (Serve task) → WritesValue old new script task
+writes_value {old} {new} script task t = of_due t.due t.appends
+  where
+    of_due : {bytes : List ℕ} → Due (Serve task) script None bytes → Appends old bytes new → WritesValue old new script task
+    of_due {bytes} (a_text is means) appends calls trees good spell = record { bytes = bytes; are = means calls trees good spell; appends = appends }
 
--- reading answers no status of a script
-from_read : (why : InputError) → READ ≤ status_of (Err (Input why))
-from_read ReadFault = omega arith
-from_read TooLong = omega arith
-from_read reading.NoMemory = omega arith
+-- the line that a fault names, if it names one
+abbrev pub line_named : Fault → ℕ
+line_named (fault.BadLine line) = line
+line_named (fault.BadCall line) = line
+line_named _ = 0
 
-has_bad_line : {I K : Type 0} (k : Case I K) (task : Task) (why : RelayError) (s : Served k task (Err why)) → status_of_relayed (Err why) ≡ BAD_LINE → HasBadLine s.script task
-has_bad_line k task (answer.BadLine n) s e = (n, s.relays.bad_line n refl)
-has_bad_line k task (answer.BadCall n) s e = absurd (omega arith)
-has_bad_line k task answer.Unfinished s e = absurd (omega arith)
-has_bad_line k task answer.InvalidKey s e = absurd (omega arith)
-has_bad_line k task answer.InvalidNumber s e = absurd (omega arith)
-has_bad_line k task answer.Write s e = absurd (omega arith)
-has_bad_line k task answer.NoMemory s e = absurd (omega arith)
+pub names_bad_line : {script bytes : List ℕ} {task : Task} (why : Fault) → BAD_LINE ≡ status_of_fault why → Due (Serve task) script (Some why) bytes → IsVerdict (BadLine (line_named why)) script task
+names_bad_line _ e (is_bad_line is) = is
+names_bad_line _ e (is_bad_call is) = absurd (omega (arith, e))
+names_bad_line _ e (is_unfinished is) = absurd (omega (arith, e))
+names_bad_line _ e (up_to_key is) = absurd (omega (arith, e))
+names_bad_line _ e (up_to_number is) = absurd (omega (arith, e))
 
-has_bad_call : {I K : Type 0} (k : Case I K) (task : Task) (why : RelayError) (s : Served k task (Err why)) → status_of_relayed (Err why) ≡ BAD_CALL → HasBadCall s.script task
-has_bad_call k task (answer.BadLine n) s e = absurd (omega arith)
-has_bad_call k task (answer.BadCall n) s e = (n, s.relays.bad_call n refl)
-has_bad_call k task answer.Unfinished s e = absurd (omega arith)
-has_bad_call k task answer.InvalidKey s e = absurd (omega arith)
-has_bad_call k task answer.InvalidNumber s e = absurd (omega arith)
-has_bad_call k task answer.Write s e = absurd (omega arith)
-has_bad_call k task answer.NoMemory s e = absurd (omega arith)
+pub names_bad_call : {script bytes : List ℕ} {task : Task} (why : Fault) → BAD_CALL ≡ status_of_fault why → Due (Serve task) script (Some why) bytes → IsVerdict (BadCall (line_named why)) script task
+names_bad_call _ e (is_bad_line is) = absurd (omega (arith, e))
+names_bad_call _ e (is_bad_call is) = is
+names_bad_call _ e (is_unfinished is) = absurd (omega (arith, e))
+names_bad_call _ e (up_to_key is) = absurd (omega (arith, e))
+names_bad_call _ e (up_to_number is) = absurd (omega (arith, e))
 
-pub bad_line : {I K : Type 0} (k : Case I K) (form : Option Form) (r : Result (Unit {0}) Failure) → Ran k form r → status_of r ≡ BAD_LINE → OnInput k form HasBadLine
-bad_line k = by_end k (λ form r. status_of r ≡ BAD_LINE → OnInput k form HasBadLine)
-    (λ input out e. tt)
-    (λ task s held e. absurd (omega arith))
-    (λ task why u e. absurd (omega (arith, e, from_read why)))
-    (λ task why s e. on_served k task HasBadLine s (has_bad_line k task why s e))
-    (λ count input t held e. tt) (λ count input t e. tt) (λ count input t e. tt)
+is_not_whole : {script bytes : List ℕ} {task : Task} (why : Fault) → UNFINISHED ≡ status_of_fault why → Due (Serve task) script (Some why) bytes → IsVerdict Unfinished script task
+is_not_whole _ e (is_bad_line is) = absurd (omega (arith, e))
+is_not_whole _ e (is_bad_call is) = absurd (omega (arith, e))
+is_not_whole _ e (is_unfinished is) = is
+is_not_whole _ e (up_to_key is) = absurd (omega (arith, e))
+is_not_whole _ e (up_to_number is) = absurd (omega (arith, e))
 
-pub bad_call : {I K : Type 0} (k : Case I K) (form : Option Form) (r : Result (Unit {0}) Failure) → Ran k form r → status_of r ≡ BAD_CALL → OnInput k form HasBadCall
-bad_call k = by_end k (λ form r. status_of r ≡ BAD_CALL → OnInput k form HasBadCall)
-    (λ input out e. tt)
-    (λ task s held e. absurd (omega arith))
-    (λ task why u e. absurd (omega (arith, e, from_read why)))
-    (λ task why s e. on_served k task HasBadCall s (has_bad_call k task why s e))
-    (λ count input t held e. tt) (λ count input t e. tt) (λ count input t e. tt)
+up_to_a_key : {script bytes : List ℕ} {task : Task} (why : Fault) → INVALID_KEY ≡ status_of_fault why → Due (Serve task) script (Some why) bytes → IsVerdict (Key bytes) script task
+up_to_a_key _ e (is_bad_line is) = absurd (omega (arith, e))
+up_to_a_key _ e (is_bad_call is) = absurd (omega (arith, e))
+up_to_a_key _ e (is_unfinished is) = absurd (omega (arith, e))
+up_to_a_key _ e (up_to_key is) = is
+up_to_a_key _ e (up_to_number is) = absurd (omega (arith, e))
+
+up_to_a_number : {script bytes : List ℕ} {task : Task} (why : Fault) → INVALID_NUMBER ≡ status_of_fault why → Due (Serve task) script (Some why) bytes → IsVerdict (Number bytes) script task
+up_to_a_number _ e (is_bad_line is) = absurd (omega (arith, e))
+up_to_a_number _ e (is_bad_call is) = absurd (omega (arith, e))
+up_to_a_number _ e (is_unfinished is) = absurd (omega (arith, e))
+up_to_a_number _ e (up_to_key is) = absurd (omega (arith, e))
+up_to_a_number _ e (up_to_number is) = is
+
+-- what a fault of a status says of the script, with what was taken before it
+module _ {old new : Told} {status : ℕ} (script : List ℕ) (task : Task) (t : runs.TakesFault relay_terms status old new script (Serve task)) where
+  pub has_bad_line : status ≡ BAD_LINE → HasBadLine script task
+  has_bad_line e = (line_named t.why, names_bad_line t.why (sym e ∙ t.is) t.takes.due)
+
+  pub has_bad_call : status ≡ BAD_CALL → HasBadCall script task
+  has_bad_call e = (line_named t.why, names_bad_call t.why (sym e ∙ t.is) t.takes.due)
+
+  pub has_no_end : status ≡ UNFINISHED → IsVerdict Unfinished script task
+  has_no_end e = is_not_whole t.why (sym e ∙ t.is) t.takes.due
+
+  pub writes_to_key : status ≡ INVALID_KEY → IsSteady old new → WritesUpTo Key old new script task
+  writes_to_key e steady = record { written = t.takes.bytes; is = up_to_a_key t.why (sym e ∙ t.is) t.takes.due; appends = t.takes.appends; steady = steady }
+
+  pub writes_to_number : status ≡ INVALID_NUMBER → IsSteady old new → WritesUpTo Number old new script task
+  writes_to_number e steady = record { written = t.takes.bytes; is = up_to_a_number t.why (sym e ∙ t.is) t.takes.due; appends = t.takes.appends; steady = steady }
 
 -- ---- the status that is due
 
-answered : (found : Verdict) (result : Result (Unit {0}) RelayError) → IsAnswerTo found result → IsStatusOf found (status_of_relayed result)
-answered (BadLine n) result h = ap status_of_relayed h
-answered (BadCall n) result h = ap status_of_relayed h
-answered Unfinished result h = ap status_of_relayed h
-answered (Text text) result h = ap status_of_relayed h
-answered (Key written) result h = ap status_of_relayed h
-answered (Number written) result h = ap status_of_relayed h
+status_of_due : {script bytes : List ℕ} {task : Task} {status : ℕ} (found : Option Fault) → status ≡ status_of_found found → Due (Serve task) script found bytes → OnVerdict (IsStatusDue status) script task
+status_of_due {script} {bytes} {task} {status} _ e (a_text is means) = of_each script task (Text bytes) (IsStatusDue status) is (inl e)
+status_of_due {script} {task = task} {status = status} _ e (is_bad_line {line = line} is) = of_each script task (BadLine line) (IsStatusDue status) is (inl e)
+status_of_due {script} {task = task} {status = status} _ e (is_bad_call {line = line} is) = of_each script task (BadCall line) (IsStatusDue status) is (inl e)
+status_of_due {script} {task = task} {status = status} _ e (is_unfinished is) = of_each script task Unfinished (IsStatusDue status) is (inl e)
+status_of_due {script} {bytes} {task} {status} _ e (up_to_key is) = of_each script task (Key bytes) (IsStatusDue status) is (inl e)
+status_of_due {script} {bytes} {task} {status} _ e (up_to_number is) = of_each script task (Number bytes) (IsStatusDue status) is (inl e)
 
-answered_or : (found : Verdict) (result : Result (Unit {0}) RelayError) → IsAnswerTo found result ⊎ (result ≡ Err answer.NoMemory) → IsStatusDue (status_of_relayed result) found
-answered_or found result (inl h) = inl (answered found result h)
-answered_or found result (inr h) = inr (ap status_of_relayed h)
-
-due_of_served : {I K : Type 0} (k : Case I K) (task : Task) {r : Result (Unit {0}) RelayError} → Served k task r → (Rose (k.sink k.old).faults (k.sink k.new).faults → ⊥)
-    → OnInput k (Some (Serve task)) (OnShort (OnVerdict (IsStatusDue (status_of_relayed r))))
-due_of_served k task {r} s quiet = on_served k task (OnShort (OnVerdict (IsStatusDue (status_of_relayed r)))) s (λ short found is. answered_or found r (s.relays.comes quiet found is))
-
-due_unread : {I K : Type 0} (k : Case I K) (task : Task) (why : InputError) → Unread k why → (Rose (k.source k.before).faults (k.source k.after).faults → ⊥)
-    → OnInput k (Some (Serve task)) (OnShort (OnVerdict (IsStatusDue (status_of (Err (Input why))))))
-due_unread k task ReadFault u quiet = absurd (quiet (u.stops.fault refl))
-due_unread k task TooLong u quiet = on_script task (k.source k.before).left (OnShort (OnVerdict (IsStatusDue TOO_LONG))) (λ script told short.
-    let long : TakesOneMore script (k.source k.after).left = subst (λ left. IfSome left (λ all. TakesOneMore all (k.source k.after).left)) told (u.stops.long refl) in absurd (omega (arith, short, long.long)))
-due_unread k task reading.NoMemory u quiet = on_script task (k.source k.before).left (OnShort (OnVerdict (IsStatusDue NO_MEMORY))) (λ script told short found is. inr refl)
-
-pub comes : {I K : Type 0} (k : Case I K) (form : Option Form) (r : Result (Unit {0}) Failure) → Ran k form r → (Rose (k.source k.before).faults (k.source k.after).faults → ⊥)
-    → (Rose (k.sink k.old).faults (k.sink k.new).faults → ⊥) → OnInput k form (OnShort (OnVerdict (IsStatusDue (status_of r))))
-comes k form r ran quiet_read quiet_write = by_end k (λ form r. OnInput k form (OnShort (OnVerdict (IsStatusDue (status_of r)))))
-    (λ input out. tt)
-    (λ task s held. due_of_served k task s quiet_write)
-    (λ task why u. due_unread k task why u quiet_read)
-    (λ task why s. due_of_served k task s quiet_write)
-    (λ count input t held. tt) (λ count input t. tt) (λ count input t. tt) form r ran
+pub status_due : {status : ℕ} (script : List ℕ) (task : Task) → runs.IsStatusDue relay_terms status script (Serve task) → OnVerdict (IsStatusDue status) script task
+status_due script task (inl s) = status_of_due s.found s.is s.due
+status_due script task (inr e) = λ answer is. inr e
 
 -- ---- what is left of the sink
 
-pub leaves : {I K : Type 0} (k : Case I K) (form : Option Form) (r : Result (Unit {0}) Failure) → Ran k form r → OnInput k form (OnShort (OnVerdict (MayLeave (k.sink k.old) (k.sink k.new))))
-leaves k = by_end k (λ form r. OnInput k form (OnShort (OnVerdict (MayLeave (k.sink k.old) (k.sink k.new)))))
-    (λ input out. tt)
-    (λ task s held. on_served k task (OnShort (OnVerdict (MayLeave (k.sink k.old) (k.sink k.new)))) s (λ short. s.relays.leaves))
-    (λ task why u. on_script task (k.source k.before).left _ (λ script told short found is. subst (λ out. MayLeave (k.sink k.old) (k.sink out) found) (sym u.out) (may_stay (k.sink k.old) found)))
-    (λ task why s. on_served k task (OnShort (OnVerdict (MayLeave (k.sink k.old) (k.sink k.new)))) s (λ short. s.relays.leaves))
-    (λ count input t held. tt) (λ count input t. tt) (λ count input t. tt)
+-- a first part of the bytes that are due, which are the only ones
+may_begin : {old new : Told} {script bytes : List ℕ} {task : Task} (found : Option Fault) → may_write relay_terms found ≡ true → Due (Serve task) script found bytes → AppendsFront old bytes new → OnVerdict (MayLeave old new) script task
+may_begin {old} {new} {script} {bytes} {task} _ may (a_text is means) front = of_each script task (Text bytes) (MayLeave old new) is front
+may_begin _ may (is_bad_line is) front = absurd (cc may)
+may_begin _ may (is_bad_call is) front = absurd (cc may)
+may_begin _ may (is_unfinished is) front = absurd (cc may)
+may_begin {old} {new} {script} {bytes} {task} _ may (up_to_key is) front = of_each script task (Key bytes) (MayLeave old new) is front
+may_begin {old} {new} {script} {bytes} {task} _ may (up_to_number is) front = of_each script task (Number bytes) (MayLeave old new) is front
 
-grows_same : {I K : Type 0} (k : Case I K) → k.new ≡ k.old → Grows (k.sink k.old) (k.sink k.new)
-grows_same k same = subst (λ out. Grows (k.sink k.old) (k.sink out)) (sym same) (grows_by_nothing (k.sink k.old))
+pub may_leave : {K : Type 0} (told : K → Told) (old new : K) (script : List ℕ) (task : Task) → runs.MayLeave relay_terms told old new script (Serve task) → OnVerdict (MayLeave (told old) (told new)) script task
+may_leave told old new script task (inl same) = λ answer is. subst (λ out. MayLeave (told old) (told out) answer) (sym same) (may_stay (told old) answer)
+may_leave told old new script task (inr f) = may_begin f.found f.may f.due f.front
 
-pub grows : {I K : Type 0} (k : Case I K) (form : Option Form) (r : Result (Unit {0}) Failure) → Ran k form r → Grows (k.sink k.old) (k.sink k.new)
-grows k = by_end k (λ form r. Grows (k.sink k.old) (k.sink k.new))
-    (λ input out. grows_same k out)
-    (λ task s held. s.relays.grows)
-    (λ task why u. grows_same k u.out)
-    (λ task why s. s.relays.grows)
-    (λ count input t held. grows_by_front t.front) (λ count input t. grows_by_front t.front) (λ count input t. grows_by_front t.front)
+-- ---- a made script
 
--- ---- what is left of the source
+-- what is due of it is a line
+made_due : {count : ℕ} {script bytes : List ℕ} (found : Option Fault) → Due (Made count) script found bytes → (found ≡ None) × IsMadeLine count bytes
+made_due _ (a_made_line is) = (refl, is)
 
--- a source that is as it was
-short_same : {I K : Type 0} (k : Case I K) → k.after ≡ k.before → StaysShort (k.source k.before) (k.source k.after)
-short_same k same = subst (λ after. StaysShort (k.source k.before) (k.source after)) (sym same) (read_nothing (k.source k.before).left)
+pub writes_line : {old new : Told} (count : ℕ) → runs.TakesDue relay_terms None old new [] (Made count) → WritesMadeLine old new count
+writes_line count t = record { line = t.bytes; is = (made_due None t.due).1; appends = t.appends }
 
--- no more than the limit was taken, unless the input is too long
-pub stays_short : {I K : Type 0} (k : Case I K) (form : Option Form) (r : Result (Unit {0}) Failure) → Ran k form r → (status_of r ≡ TOO_LONG → ⊥) → StaysShort (k.source k.before) (k.source k.after)
-stays_short k = by_end k (λ form r. (status_of r ≡ TOO_LONG → ⊥) → StaysShort (k.source k.before) (k.source k.after))
-    (λ input out no. short_same k input)
-    (λ task s held no. read_all s.reads)
-    (λ task why u no. u.stops.short (λ e. no (ap (λ w. status_of (Err (Input w))) e)))
-    (λ task why s no. read_all s.reads)
-    (λ count input told held no. short_same k input)
-    (λ count input told no. short_same k input)
-    (λ count input told no. short_same k input)
+-- words ask for no more than 50,000 records
+few_kept : (n : Option ℕ) → OnRecords (option_map Made (option_and_then (keep (λ n. nat_le n 50000)) n)) (λ count. count ≤ 50000)
+few_kept None = tt
+few_kept (Some n) = by_test (nat_le n 50000) refl
+  where
+    by_test : (b : Bool) → nat_le n 50000 ≡ b → OnRecords (option_map Made (if b then Some n else None)) (λ count. count ≤ 50000)
+    by_test true e = let few : n ≤ 50000 = grind (arith, nat_tests, e) in few
+    by_test false e = tt
+
+abbrev pub IsFew : Option Form → Type 0
+IsFew form = OnRecords form (λ count. count ≤ 50000)
+
+no_records : (many : Bool) (way : Option Way) → IsFew (served_in many way)
+no_records many None = tt
+no_records many (Some way) = tt
+
+either : (b : Bool) {first second : Option Form} → IsFew first → IsFew second → IsFew (if b then first else second)
+either true f s = f
+either false f s = s
+
+pub few_records : (words : List (List ℕ)) → IsFew (form_named words)
+few_records [] = tt
+few_records (word ∷ []) = no_records false (way_alone word)
+few_records (word ∷ last ∷ []) =
+    either (bytes_eq word (codes "made")) (few_kept (natural last))
+    (either (bytes_eq last (codes "lines")) (no_records true (way_alone word)) (either (bytes_eq last (codes "beside")) (no_records false (way_beside word)) tt))
+few_records (word ∷ middle ∷ last ∷ []) =
+    either (bytes_eq middle (codes "beside")) (either (bytes_eq last (codes "lines")) (no_records true (way_beside word)) tt) tt
+few_records (a ∷ b ∷ c ∷ d ∷ words) = tt
+
+begins_line : {K : Type 0} (told : K → Told) (old new : K) (count : ℕ) → count ≤ 50000 → runs.MayLeave relay_terms told old new [] (Made count) → BeginsMadeLine (told old) (told new) count
+begins_line told old new count few (inl same) =
+    let due = one_made_line count (omega (arith, few)) in
+    record { line = due.0; is = due.1; front = subst (λ out. AppendsFront (told old) due.0 (told out)) (sym same) (front_of_nothing (told old) due.0) }
+begins_line told old new count few (inr f) = record { line = f.bytes; is = (made_due f.found f.due).1; front = f.front }
+
+pub begins : {K : Type 0} (told : K → Told) (old new : K) (input : Supply) (form : Option Form) → IsFew form
+    → OnBoth form (input_if (is_read_for form) input) (OnShort (runs.MayLeave relay_terms told old new)) → OnRecords form (BeginsMadeLine (told old) (told new))
+begins told old new input None few h = tt
+begins told old new input (Some (Serve task)) few h = tt
+begins told old new input (Some (Made count)) few h = begins_line told old new count few (h (omega arith))
+
+-- how the line's program ends
+made_ends : {K : Type 0} (told : K → Told) (old new : K) (count : ℕ) (r : Result (Unit {0}) Failure) → ServesBytes relay_terms told (Made count) [] r old new
+    → (is_of_made (status_of r) ≡ true) × ((Rose (told old).faults (told new).faults → ⊥) → (status_of r ≡ DONE) ⊎ (status_of r ≡ NO_MEMORY))
+made_ends told old new count (Ok done) s = (refl, λ quiet. inl refl)
+made_ends told old new count (Err failure.Usage) s = absurd s
+made_ends told old new count (Err (failure.Input why)) s = absurd s
+made_ends told old new count (Err (failure.Fault why)) s = let never : Some why ≡ None = (made_due (Some why) s.all.due).0 in absurd (cc never)
+made_ends told old new count (Err failure.NoMemory) s = (refl, λ quiet. inr refl)
+made_ends told old new count (Err (failure.Write sink.Failed)) s = (refl, λ quiet. absurd (quiet s.stops.cause))
+made_ends told old new count (Err (failure.Write sink.NoMemory)) s = (refl, λ quiet. inr refl)
+
+pub made_status : {I K : Type 0} (source : I → Supply) (told : K → Told) (before after : I) (old new : K) (form : Option Form) (r : Result (Unit {0}) Failure) → ServesForm relay_terms source told form r before after old new
+    → OnRecords form (λ _. is_of_made (status_of r) ≡ true)
+made_status source told before after old new None r s = tt
+made_status source told before after old new (Some (Serve task)) r s = tt
+made_status source told before after old new (Some (Made count)) r s = (made_ends told old new count r s.serves).0
+
+pub made_comes : {I K : Type 0} (source : I → Supply) (told : K → Told) (before after : I) (old new : K) (form : Option Form) (r : Result (Unit {0}) Failure) → ServesForm relay_terms source told form r before after old new
+    → (Rose (told old).faults (told new).faults → ⊥) → OnRecords form (λ _. (status_of r ≡ DONE) ⊎ (status_of r ≡ NO_MEMORY))
+made_comes source told before after old new None r s quiet = tt
+made_comes source told before after old new (Some (Serve task)) r s quiet = tt
+made_comes source told before after old new (Some (Made count)) r s quiet = (made_ends told old new count r s.serves).1 quiet
+
+pub made_unread : {I : Type 0} (before after : I) (form : Option Form) → (is_read_for form ≡ false → after ≡ before) → OnRecords form (λ _. after ≡ before)
+made_unread before after None same = tt
+made_unread before after (Some (Serve task)) same = tt
+made_unread before after (Some (Made count)) same = same refl
+
+-- ---- the line that is told
+
+-- the line of the script that is named
+abbrev named : Result (Unit {0}) Failure → ℕ
+named (Err (failure.Fault why)) = line_named why
+named _ = 0
+
+-- a fault that is due has its status's line
+due_line : {script bytes : List ℕ} (asked : Form) (why : Fault) → Due asked script (Some why) bytes → line_of relay_terms.usage (Err (failure.Fault why)) ≡ report (takes_many (Some asked)) (status_of_fault why) (line_named why)
+due_line _ _ (is_bad_line is) = refl
+due_line _ _ (is_bad_call is) = refl
+due_line _ _ (is_unfinished is) = refl
+due_line _ _ (up_to_key is) = refl
+due_line _ _ (up_to_number is) = refl
+
+input_line : (many : Bool) (why : InputError) → line_of relay_terms.usage (Err (failure.Input why)) ≡ report many (status_of (Err (failure.Input why))) 0
+input_line many input.ReadFault = refl
+input_line many input.TooLong = refl
+input_line many input.NoMemory = refl
+
+sink_line : (many : Bool) (why : SinkError) → line_of relay_terms.usage (Err (failure.Write why)) ≡ report many (status_of (Err (failure.Write why))) 0
+sink_line many sink.Failed = refl
+sink_line many sink.NoMemory = refl
+
+-- so has each failure
+told_line : {I K : Type 0} (source : I → Supply) (told : K → Told) (before after : I) (old new : K) (form : Option Form) (r : Result (Unit {0}) Failure) → ServesForm relay_terms source told form r before after old new
+    → line_of relay_terms.usage r ≡ report (takes_many form) (status_of r) (named r)
+told_line source told before after old new =
+    by_end (record { terms = relay_terms; source = source; sink = told; before = before; after = after; old = old; new = new }) (λ form r. line_of relay_terms.usage r ≡ report (takes_many form) (status_of r) (named r))
+    (λ input out. refl)
+    (λ asked s. refl)
+    (λ asked why u. input_line (takes_many (Some asked)) why)
+    (λ asked why s. due_line asked why s.serves.all.due)
+    (λ asked s. refl)
+    (λ asked why s. sink_line (takes_many (Some asked)) why)
+
+module _ {I K : Type 0} {source : I → Supply} {told : K → Told} {words : List (List ℕ)} {before after : I} {out_old out_new : K} {old new : Told} {status : ℕ} (r : runs.Reports relay_terms source told words before after out_old out_new old new status) where
+  -- where the status is one of a fault, the verdict names the line that is named
+  names_line : (wanted : ℕ) (answer : ℕ → Verdict) → is_fault wanted ≡ true → ((script bytes : List ℕ) (task : Task) (why : Fault) → wanted ≡ status_of_fault why → Due (Serve task) script (Some why) bytes → IsVerdict (answer (line_named why)) script task)
+      → status ≡ wanted → OnNamed words (source before) (IsVerdict (answer (named r.ended)))
+  names_line wanted answer is_one names e =
+      let (why, is) = the_fault r.ended (ap is_fault (sym r.is ∙ e) ∙ is_one) in
+      let of_why : wanted ≡ status_of_fault why = sym e ∙ r.is ∙ ap status_of is in
+      subst (λ ended. OnNamed words (source before) (IsVerdict (answer (named ended)))) (sym is)
+      (on_task (form_named words) (source before) (runs.HasFault relay_terms why) (IsVerdict (answer (line_named why))) (λ script task f. names script f.0 task why of_why f.1) (r.found why is))
+
+  pub reports : Reports words (source before) status old new
+  reports = record {
+    line = named r.ended;
+    bad_line = names_line BAD_LINE BadLine refl (λ script bytes task why. names_bad_line why);
+    bad_call = names_line BAD_CALL BadCall refl (λ script bytes task why. names_bad_call why);
+    tells = subst (λ line. TellsLine old line new) (told_line source told before after out_old out_new (form_named words) r.ended r.works.serves ∙ ap (λ status. report (takes_many (form_named words)) status (named r.ended)) (sym r.is)) r.tells;
+  }

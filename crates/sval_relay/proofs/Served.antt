@@ -36,11 +36,11 @@ no_ending Calls = refl
 no_ending DirectBeside = refl
 no_ending BufferedBeside = refl
 
-want_of_one : {K : Type 0} (captured : Bool) (told : K → Told) (old new : K) → IsWantOfTree captured told old new → IsWantFor captured false told old new
+pub want_of_one : {K : Type 0} (captured : Bool) (told : K → Told) (old new : K) → IsWantOfTree captured told old new → IsWantFor captured false told old new
 want_of_one false told old new want = inr want
 want_of_one true told old new want = want
 
-as_list : {K : Type 0} (told : K → Told) (way : Way) (tree : Tree) (old new : K) (result : Result (Unit {0}) RelayError) → WritesTreeBy way result told tree old new
+pub as_list : {K : Type 0} (told : K → Told) (way : Way) (tree : Tree) (old new : K) (result : Result (Unit {0}) RelayError) → WritesTreeBy way result told tree old new
     → WritesTrees result (IsWantOfTree (is_captured way) told) told (asked_in way) (ending (asked_in way) false) (tree ∷ []) old new
 as_list told way tree old new result w =
     subst (λ end. WritesTrees result (IsWantOfTree (is_captured way) told) told (asked_in way) end (tree ∷ []) old new) (no_ending way)
@@ -91,7 +91,7 @@ pub some_of_ends : (calls : List Call) (ends : List ℕ) → AreValues (makes ca
 some_of_ends calls ends found some =
     some_call 0 calls found.trees found.ends found.end_there (omega (arith, some, ap length found.are_kept, length-map found.ends as_kept))
 
-want_among_many : {K : Type 0} (captured : Bool) (told : K → Told) (old new : K) → IsWantAmong captured told old new → IsWantFor captured true told old new
+pub want_among_many : {K : Type 0} (captured : Bool) (told : K → Told) (old new : K) → IsWantAmong captured told old new → IsWantFor captured true told old new
 want_among_many false told old new want = inr want
 want_among_many true told old new want = want
 

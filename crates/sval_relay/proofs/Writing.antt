@@ -1,9 +1,7 @@
 -- What writing leaves of a sink, step by step.
-use Rattle.std.specs.Prelude.{◌≡◌, ℕ, Bool, true, false, List, [], ◌++◌, Result, Ok, Err, refl}
-use Rattle.std.proofs.Common.{◌∙◌, ap, sym, subst, arith, inl, inr}
+use Rattle.std.specs.Prelude.{◌≡◌, Bool, true, false, List, Result, Ok, Err, refl}
+use Rattle.std.proofs.Common.{◌∙◌, ap, sym, subst, inl}
 use Rattle.sval_label.specs.Calls.{Call}
-use Rattle.sval_core.specs.Law.{Rose}
-use Rattle.sval_core.specs.Real.{IsReal}
 use Rattle.sval_core.specs.Spells.{Spells}
 use Rattle.sval_core.specs.Trees.{Tree, IsGood, calls_of}
 use Rattle.sval_core.proofs.Spellings.{calls_of-spells}
@@ -22,8 +20,8 @@ use Rattle.sval_json.proofs.WritingPlain.{spelling_written}
 use Rattle.sval_relay.specs.declared.way.Task.{Task}
 use Rattle.sval_relay.specs.Ways.{is_captured}
 use Rattle.sval_relay.specs.Verdict.{Verdict, BadLine, BadCall, Unfinished, Key, Number, Text, JsonIn, tree_written, due_of, tree_due}
-use Rattle.sval_program.proofs.Growing.{front_of_nothing, appends_kept}
-use Rattle.sval_relay.specs.Relays.{WritesValue, MayLeave, IsWantFor, IsWantIn}
+use Rattle.sval_program.proofs.Growing.{front_of_nothing}
+use Rattle.sval_relay.specs.Relays.{MayLeave, IsWantFor, IsWantIn}
 use Rattle.sval_relay.specs.WrittenTrees.{WritesTextOf, RefusesTree}
 
 -- ---- what may be left
@@ -36,11 +34,6 @@ may_stay told (Key written) = front_of_nothing told written
 may_stay told (Number written) = front_of_nothing told written
 may_stay told (Text text) = front_of_nothing told text
 
-pub value_kept : {old mid new : Told} (script : List ℕ) (task : Task) → WritesValue old mid script task → new.text ≡ mid.text → new.room ≡ mid.room → WritesValue old new script task
-value_kept script task v text room calls trees is spell =
-    let w = v calls trees is spell in
-    record { bytes = w.bytes; are = w.are; appends = appends_kept w.appends text room }
-
 -- ---- want of memory
 
 -- nothing was written
@@ -51,15 +44,6 @@ want_before {K} task told out = go (is_captured task.way) task.many
     go true true = inl (steady_alone (told out))
     go true false = inl refl
     go false many = inl refl
-
--- the sink's own count rose
-pub want_of_sink : {K : Type 0} (task : Task) (told : K → Told) (old new : K) → Rose (told old).wants (told new).wants → IsWantIn task told old new
-want_of_sink {K} task told old new rose = go (is_captured task.way) task.many
-  where
-    go : (captured many : Bool) → IsWantFor captured many told old new
-    go true true = inr rose
-    go true false = inr rose
-    go false many = inr rose
 
 -- ---- what is written of a tree
 

@@ -11,4 +11,3 @@ pub mod Runs
 pub mod MadeLaws
 pub mod Laws
 pub mod ErrorTexts
-pub mod Ends

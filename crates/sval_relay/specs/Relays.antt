@@ -14,14 +14,14 @@ use Rattle.sval_json.specs.Shape.{json_in}
 use Rattle.sval_json.specs.Grammar.{JsonValue}
 use Rattle.sval_json.specs.Promises.{KeepsPromises}
 use Rattle.sval_json.specs.Laws.{IsTheValueOf}
-use Rattle.sval_program.specs.Outputs.{Grows, IsOwnWant}
+use Rattle.sval_program.specs.Outputs.{Grows, IsWantIf}
 use Rattle.sval_script.specs.Lines.{Good, lines}
 use Rattle.sval_script.specs.declared.script.ScriptError.{ScriptError}
 use Rattle.sval_script.specs.declared.script.ScriptError.TheVariants as reading
 use Rattle.sval_relay.specs.declared.way.Task.{Task}
 use Rattle.sval_relay.specs.declared.relaying.RelayError.{RelayError}
 use Rattle.sval_relay.specs.declared.relaying.RelayError.TheVariants as answer
-use Rattle.sval_relay.specs.Ways.{is_captured}
+use Rattle.sval_relay.specs.Ways.{is_captured, is_partly}
 use Rattle.sval_relay.specs.Verdict.{Verdict, BadLine, BadCall, Unfinished, Key, Number, Text, Asked, JsonIn, Script, asked_in, ending, SpellTrees, IsVerdict, OnVerdict}
 
 -- ---- the errors
@@ -71,6 +71,11 @@ AreMeant asked end [] bytes = bytes ≡ []
 AreMeant asked end (tree ∷ trees) bytes =
     (text : List ℕ) × (later : List ℕ) × (bytes ≡ text ++ (end ++ later)) × IsMeant asked tree text × AreMeant asked end trees later
 
+-- the text is what the trees that the script spells mean
+abbrev pub MeansAll : List ℕ → List ℕ → Task → Type 0
+MeansAll text script task =
+    (calls : List Call) (trees : List Tree) → lines script ≡ Good calls → SpellTrees task.many calls trees → AreMeant (asked_in task.way) (ending (asked_in task.way) task.many) trees text
+
 -- ---- what is left of a sink
 
 -- the verdict is a text, and exactly that was taken
@@ -112,14 +117,9 @@ LacksRoomFor old (Key written) = LacksRoom old written
 LacksRoomFor old (Number written) = LacksRoom old written
 LacksRoomFor old _ = ⊥
 
--- memory was wanting for the sink itself, or for a value among many that are captured one by one: then no count of the sink moved
-abbrev pub IsWantBetween : {K : Type 0} → (K → Told) → K → K → Type 0
-IsWantBetween told old new = IsSteady (told old) (told new) ⊎ Rose (told old).wants (told new).wants
-
 -- where each of many values is captured by itself, what those before it are may have been taken already
 abbrev pub IsWantFor : {K : Type 0} → (captured many : Bool) → (K → Told) → K → K → Type 0
-IsWantFor true true told old new = IsWantBetween told old new
-IsWantFor captured many told old new = IsOwnWant told old new
+IsWantFor captured many told old new = IsWantIf (is_partly captured many) told old new
 
 abbrev pub IsWantIn : {K : Type 0} → Task → (K → Told) → K → K → Type 0
 IsWantIn task told old new = IsWantFor (is_captured task.way) task.many told old new

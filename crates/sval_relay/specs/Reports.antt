@@ -1,15 +1,11 @@
 -- What the third device is told.
-use Rattle.std.specs.Prelude.{◌≡◌, ℕ, Bool, List, [], ◌∷◌, ◌++◌, Result, Ok, Err, codes}
+use Rattle.std.specs.Prelude.{◌≡◌, ℕ, Bool, List, [], ◌∷◌, ◌++◌, codes}
 use Rattle.sval_io.specs.Sinks.{Told}
 use Rattle.sval_io.specs.Sources.{Supply}
 use Rattle.sval_program.specs.declared.status.TheConstants.{USAGE, BAD_LINE, BAD_CALL}
-use Rattle.sval_relay.specs.declared.relaying.RelayError.TheVariants as answer
-use Rattle.sval_relay.specs.declared.failure.Failure.{Failure}
-use Rattle.sval_relay.specs.declared.failure.Failure.TheVariants as failure
 use Rattle.sval_program.specs.Reports.{TellsLine, script_reports, device_reports, report_among}
 use Rattle.sval_relay.specs.Ways.{OnNamed, form_named, takes_many}
 use Rattle.sval_relay.specs.Verdict.{BadLine, BadCall, IsVerdict}
-use Rattle.sval_relay.specs.Statuses.{status_of_failure}
 
 -- the line of the program's words
 abbrev pub usage : List ℕ
@@ -22,21 +18,6 @@ reports many number = ((USAGE, usage) ∷ []) ++ script_reports many number ++ d
 -- the status's line; none for the other statuses
 abbrev pub report : Bool → ℕ → ℕ → List ℕ
 report many status number = report_among status (reports many number)
-
--- the line of the script that a failure names, if it names one
-abbrev pub line_named : Failure → ℕ
-line_named (failure.Relay (answer.BadLine n)) = n
-line_named (failure.Relay (answer.BadCall n)) = n
-line_named _ = 0
-
--- a failure's line
-abbrev pub report_of : Bool → Failure → List ℕ
-report_of many why = report many (status_of_failure why) (line_named why)
-
--- the line that is told: a failure's, and none where there is no failure
-abbrev pub line_of_result : Bool → Result (Unit {0}) Failure → List ℕ
-line_of_result many (Ok done) = []
-line_of_result many (Err why) = report_of many why
 
 -- the status's line was told, which for the statuses 3 and 4 names the line that the verdict names
 pub record Reports (words : List (List ℕ)) (input : Supply) (status : ℕ) (old new : Told) : Type 0 where

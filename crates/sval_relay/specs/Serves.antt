@@ -1,8 +1,14 @@
--- What serving a form says of the devices, by how it ended.
-use Rattle.std.specs.Prelude.{◌≡◌, List, Option, Some, None, Result, Ok, Err, ℕ}
-use Rattle.sval_io.specs.Sinks.{Told, HoldsNothing}
-use Rattle.sval_io.specs.Sources.{Supply}
-use Rattle.sval_io.specs.WholeInputs.{ReadsWhole}
+-- What is due of a form, and the failures where it wasn't written.
+use Rattle.std.specs.Prelude.{ℕ, Bool, List, [], ◌∷◌, Option, Some, None, Result, Ok, Err}
+use Rattle.sval_io.specs.declared.sink.SinkError.TheVariants as sink
+use Rattle.sval_check.specs.declared.error.CheckError.{CheckError}
+use Rattle.sval_check.specs.declared.error.CheckError.TheVariants as checking
+use Rattle.sval_program.specs.declared.failure.Fault.{Fault}
+use Rattle.sval_program.specs.declared.failure.Fault.TheVariants as fault
+use Rattle.sval_program.specs.declared.failure.Failure.{Failure}
+use Rattle.sval_program.specs.declared.failure.Failure.TheVariants as failure
+use Rattle.sval_program.specs.declared.status.TheConstants.{BAD_LINE, BAD_CALL, UNFINISHED, INVALID_KEY, INVALID_NUMBER}
+use Rattle.sval_program.specs.Jobs.{Terms}
 use Rattle.sval_relay.specs.declared.way.Task.{Task}
 use Rattle.sval_relay.specs.declared.way.Form.{Form}
 use Rattle.sval_relay.specs.declared.way.Form.TheVariants.{Serve, Made}
@@ -10,55 +16,61 @@ use Rattle.sval_relay.specs.declared.relaying.RelayError.{RelayError}
 use Rattle.sval_relay.specs.declared.relaying.RelayError.TheVariants as answer
 use Rattle.sval_relay.specs.declared.made.MadeError.{MadeError}
 use Rattle.sval_relay.specs.declared.made.MadeError.TheVariants as made
-use Rattle.sval_relay.specs.declared.failure.Failure.{Failure}
-use Rattle.sval_relay.specs.declared.failure.Failure.TheVariants.{Usage, Input, Relay}
-use Rattle.sval_program.specs.Inputs.{IsUnread}
-use Rattle.sval_relay.specs.Relays.{Relays}
-use Rattle.sval_relay.specs.Made.{TellsMade}
+use Rattle.sval_relay.specs.Made.{IsMadeLine}
+use Rattle.sval_relay.specs.Relays.{MeansAll}
+use Rattle.sval_relay.specs.Reports.{usage}
+use Rattle.sval_relay.specs.Verdict.{BadLine, BadCall, Unfinished, Key, Number, Text, IsVerdict}
+use Rattle.sval_relay.specs.Ways.{form_named, is_read_for, is_partly_for}
+
+-- ---- what is due
+
+-- of a script by its verdict: its text, what is written up to a refusal, or no bytes before a fault of the script; and the line of a made script
+pub data Due : Form → List ℕ → Option Fault → List ℕ → Type 0 where
+  a_text : {task : Task} {script text : List ℕ} → IsVerdict (Text text) script task → MeansAll text script task → Due (Serve task) script None text
+  is_bad_line : {task : Task} {script : List ℕ} {line : ℕ} → IsVerdict (BadLine line) script task → Due (Serve task) script (Some (fault.BadLine line)) []
+  is_bad_call : {task : Task} {script : List ℕ} {line : ℕ} → IsVerdict (BadCall line) script task → Due (Serve task) script (Some (fault.BadCall line)) []
+  is_unfinished : {task : Task} {script : List ℕ} → IsVerdict Unfinished script task → Due (Serve task) script (Some (fault.Unfinished task.many)) []
+  up_to_key : {task : Task} {script written : List ℕ} → IsVerdict (Key written) script task → Due (Serve task) script (Some fault.InvalidKey) written
+  up_to_number : {task : Task} {script written : List ℕ} → IsVerdict (Number written) script task → Due (Serve task) script (Some fault.InvalidNumber) written
+  a_made_line : {count : ℕ} {script line : List ℕ} → IsMadeLine count line → Due (Made count) script None line
+
+-- what the program does
+abbrev pub relay_terms : Terms Form
+relay_terms = record {
+  form_named = form_named;
+  Due = Due;
+  reads = is_read_for;
+  partly = is_partly_for;
+  faults = BAD_LINE ∷ BAD_CALL ∷ UNFINISHED ∷ INVALID_KEY ∷ INVALID_NUMBER ∷ [];
+  written = INVALID_KEY ∷ INVALID_NUMBER ∷ [];
+  usage = usage;
+}
 
 -- ---- the failures
 
--- the failure where the line of a made script wasn't written whole
+-- what checking found, which never is a refusal, where many values may come or not
+abbrev pub failure_of_check : (many : Bool) → CheckError → Option Failure
+failure_of_check many (checking.BadCall n) = Some (failure.Fault (fault.BadCall n))
+failure_of_check many checking.Unfinished = Some (failure.Fault (fault.Unfinished many))
+failure_of_check many checking.NoMemory = Some failure.NoMemory
+failure_of_check many checking.Refused = None
+
+-- why values weren't written, or not whole
+abbrev pub failure_of : (many : Bool) → RelayError → Failure
+failure_of many (answer.BadLine n) = failure.Fault (fault.BadLine n)
+failure_of many (answer.BadCall n) = failure.Fault (fault.BadCall n)
+failure_of many answer.Unfinished = failure.Fault (fault.Unfinished many)
+failure_of many answer.InvalidKey = failure.Fault fault.InvalidKey
+failure_of many answer.InvalidNumber = failure.Fault fault.InvalidNumber
+failure_of many answer.Write = failure.Write sink.Failed
+failure_of many answer.NoMemory = failure.Write sink.NoMemory
+
+-- how writing them ended
+abbrev pub ended_by : (many : Bool) → Result (Unit {0}) RelayError → Result (Unit {0}) Failure
+ended_by many (Ok done) = Ok done
+ended_by many (Err why) = Err (failure_of many why)
+
+-- why the line of a made script wasn't written whole
 abbrev pub failure_of_made : MadeError → Failure
-failure_of_made made.Write = Relay answer.Write
-failure_of_made made.NoMemory = Relay answer.NoMemory
-
--- ---- no form
-
--- both devices are as they were
-pub record IsNoForm {I K : Type 0} (result : Result (Unit {0}) Failure) (before after : I) (old new : K) : Type 0 where
-  pub usage : result ≡ Err Usage
-  pub input : after ≡ before
-  pub out : new ≡ old
-
--- ---- a script that is served
-
--- the input was read whole, and the script that it is was served
-pub record IsServed {I K : Type 0} (source : I → Supply) (sink : K → Told) (task : Task) (result : Result (Unit {0}) RelayError) (before after : I) (old new : K) : Type 0 where
-  pub script : List ℕ
-  pub reads : ReadsWhole (source before) script (source after)
-  pub relays : Relays sink script task result old new
-
--- by how it ended, one of these; after Ok the sink holds back nothing
-abbrev pub ServesScript : {I K : Type 0} → (I → Supply) → (K → Told) → Task → Result (Unit {0}) Failure → I → I → K → K → Type 0
-ServesScript source sink task (Ok done) before after old new = IsServed source sink task (Ok tt) before after old new × HoldsNothing (sink new)
-ServesScript source sink task (Err Usage) before after old new = ⊥
-ServesScript source sink task (Err (Input why)) before after old new = IsUnread source why before after old new
-ServesScript source sink task (Err (Relay why)) before after old new = IsServed source sink task (Err why) before after old new
-
--- ---- a script that is made
-
--- the line that is due was told; after Ok the sink holds back nothing
-abbrev pub ServesMade : {K : Type 0} → (K → Told) → ℕ → Result (Unit {0}) Failure → K → K → Type 0
-ServesMade sink count (Ok done) old new = TellsMade sink count (Ok tt) old new × HoldsNothing (sink new)
-ServesMade sink count (Err (Relay answer.Write)) old new = TellsMade sink count (Err made.Write) old new
-ServesMade sink count (Err (Relay answer.NoMemory)) old new = TellsMade sink count (Err made.NoMemory) old new
-ServesMade sink count _ old new = ⊥
-
--- ---- any form
-
--- a made script leaves the input as it was
-abbrev pub Serves : {I K : Type 0} → (I → Supply) → (K → Told) → Option Form → Result (Unit {0}) Failure → I → I → K → K → Type 0
-Serves source sink None result before after old new = IsNoForm result before after old new
-Serves source sink (Some (Serve task)) result before after old new = ServesScript source sink task result before after old new
-Serves source sink (Some (Made count)) result before after old new = (after ≡ before) × ServesMade sink count result old new
+failure_of_made made.Write = failure.Write sink.Failed
+failure_of_made made.NoMemory = failure.Write sink.NoMemory

@@ -60,6 +60,21 @@ abbrev pub task_in : Option Form → Option Task
 task_in (Some (Serve task)) = Some task
 task_in _ = None
 
+-- whether the input is read: it isn't for a made script
+abbrev pub is_read_for : Option Form → Bool
+is_read_for (Some (Made count)) = false
+is_read_for _ = true
+
+-- whether memory may be wanting between two values, each of which is captured by itself
+abbrev pub is_partly : (captured many : Bool) → Bool
+is_partly true true = true
+is_partly true false = false
+is_partly false many = false
+
+abbrev pub is_partly_for : Option Form → Bool
+is_partly_for (Some (Serve task)) = is_partly (is_captured task.way) task.many
+is_partly_for _ = false
+
 -- a fact on the input and what is asked for of it, by the words' bytes
 abbrev pub OnNamed : List (List ℕ) → Supply → (List ℕ → Task → Type 0) → Type 0
 OnNamed words input P = OnBoth (task_in (form_named words)) input.left P

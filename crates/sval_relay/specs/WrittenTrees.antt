@@ -14,8 +14,8 @@ use Rattle.sval_relay.specs.declared.relaying.RelayError.{RelayError}
 use Rattle.sval_relay.specs.declared.relaying.RelayError.TheVariants as answer
 use Rattle.sval_relay.specs.Ways.{is_captured}
 use Rattle.sval_relay.specs.Verdict.{Asked, tree_text, tree_written, tree_due, texts, left, asked_in, ending}
-use Rattle.sval_program.specs.Outputs.{IsOwnWant}
-use Rattle.sval_relay.specs.Relays.{IsMeant, AreMeant, IsWantBetween}
+use Rattle.sval_program.specs.Outputs.{IsOwnWant, IsWantBetween}
+use Rattle.sval_relay.specs.Relays.{IsMeant, AreMeant}
 
 -- ---- want of memory
 

@@ -7,7 +7,6 @@
 //! [`relay_made`] makes a script, serves it in memory, and tells how long it and its JSON are.
 #![tactic(auto)]
 
-mod failure;
 pub mod laws;
 mod lists;
 mod made;

@@ -8,7 +8,7 @@ ghost use Rattle.sval_relay.specs.WrittenTrees.{IsOfScript};
 
 use crate::lists::write_list;
 use crate::trees::write_tree;
-use crate::way::{Task, Way};
+use crate::way::Way;
 use std::alloc::Global;
 use std::error::Error;
 use std::fmt;
@@ -172,25 +172,6 @@ fn found(error: CheckError) -> RelayError
         CheckError::Unfinished => RelayError::Unfinished,
         CheckError::NoMemory => RelayError::NoMemory,
         CheckError::Refused => unreachable!("a script doesn't refuse"),
-    }
-}
-
-/// Serves a script that was read. The clause holds of all bytes whose lines are its calls.
-pub(crate) fn serve_script<K: Sink>(
-    alloc: Global,
-    script: &Script,
-    task: Task,
-    out: &mut K,
-) -> Result<(), RelayError>
-    requires few { length script.now < 2 ^ 64 }
-    requires read { IsOfScript script.now }
-    ensures { (bytes : List ℕ) → length bytes < 2 ^ 64 → lines bytes ≡ Good script.now
-        → Relays K.told bytes task result out.old out.new }
-{
-    if task.many {
-        serve_list(alloc, script, task.way, out)
-    } else {
-        serve_one(alloc, script, task.way, out)
     }
 }
 

@@ -1,30 +1,129 @@
 //! The whole program, over any words and devices.
 
-ghost use Rattle.std.specs.Prelude.{◌≡◌, ◌⊎◌, ◌<◌, ◌≤◌, ◌↔◌, true, None, map, string_bytes};
+ghost use Rattle.std.specs.Prelude.{◌≡◌, ◌⊎◌, ◌<◌, ◌^◌, ℕ, List, [], true, false, Some, length, map, string_bytes};
 ghost use Rattle.sval_core.specs.Law.{Rose};
-ghost use Rattle.sval_io.specs.Sinks.{HoldsNothing, IsSteady, NoCountFell};
-ghost use Rattle.sval_io.specs.WholeInputs.{IsTooLong, StaysShort};
-ghost use Rattle.sval_program.specs.Inputs.{OnShort, OnLong, IsSpent};
-ghost use Rattle.sval_relay.specs.Ways.{form_of, takes_many, OnAsked, OnMade};
-ghost use Rattle.sval_relay.specs.Verdict.{Unfinished, Key, Number, IsVerdict, HasBadLine, HasBadCall, OnVerdict};
-ghost use Rattle.sval_program.specs.Outputs.{Grows};
+ghost use Rattle.sval_program.specs.Inputs.{OnShort};
+ghost use Rattle.sval_program.specs.Jobs.{ServesBytes, ServesInput, Serves};
+ghost use Rattle.sval_program.specs.Runs.{Ends};
+ghost use Rattle.sval_program.specs.Runs as runs;
+ghost use Rattle.sval_script.specs.Lines.{lines, Good};
+ghost use Rattle.sval_relay.specs.declared.way.Form.TheVariants.{Serve, Made};
 ghost use Rattle.sval_relay.specs.Relays.{WritesVerdictText, WritesValue, WritesUpTo, MayLeave};
-ghost use Rattle.sval_relay.specs.Statuses.{is_status, is_of_made, is_unwritten, is_read, IsStatusDue};
-ghost use Rattle.sval_relay.specs.Serves.{ServesScript, ServesMade, Serves};
-ghost use Rattle.sval_relay.specs.Runs.{IsWantAsked, WritesMadeLine, BeginsMadeLine};
 ghost use Rattle.sval_relay.specs.Reports.{Reports};
+ghost use Rattle.sval_relay.specs.Runs.{WritesMadeLine, BeginsMadeLine};
+ghost use Rattle.sval_relay.specs.Serves.{relay_terms, failure_of_check, failure_of, ended_by};
+ghost use Rattle.sval_relay.specs.Statuses.{is_status, is_of_made, IsStatusDue};
+ghost use Rattle.sval_relay.specs.Verdict.{Unfinished, Key, Number, one_in, all_in, IsVerdict, HasBadLine, HasBadCall, OnVerdict};
+ghost use Rattle.sval_relay.specs.Ways.{OnAsked, OnMade};
+ghost use Rattle.sval_relay.specs.WrittenTrees.{IsOfScript};
 
-use crate::failure::{Failure, conclude};
+use crate::lists::write_list;
 use crate::made::relay_made;
-use crate::relaying::serve_script;
-use crate::way::{Form, Task, named_form};
+use crate::relaying::RelayError;
+use crate::streams::Relay;
+use crate::trees::write_tree;
+use crate::way::{Form, Task, Way, named_form};
 use std::alloc::Global;
-use sval_io::{Sink, Source};
-use sval_program::read_script;
+use sval_check::{CheckError, check, check_all};
+use sval_io::{Sink, SinkError, Source};
 use sval_program::status::{
-    BAD_CALL, BAD_LINE, DONE, INVALID_KEY, INVALID_NUMBER, NO_MEMORY, READ, TOO_LONG, UNFINISHED,
-    USAGE, WRITE,
+    BAD_CALL, BAD_LINE, DONE, INVALID_KEY, INVALID_NUMBER, NO_MEMORY, UNFINISHED,
 };
+use sval_program::{Failure, Fault, job, read_script};
+use sval_script::Script;
+
+/// What checking the calls of a script found, which never refuses, where many values may come or not.
+fn found(error: CheckError, many: bool) -> Failure
+    requires { error ≡ CheckError.Refused → ⊥ }
+    ensures { failure_of_check many error ≡ Some result }
+{
+    match error {
+        CheckError::BadCall { at } => Failure::Fault(Fault::BadCall { line: at }),
+        CheckError::Unfinished => Failure::Fault(Fault::Unfinished { many }),
+        CheckError::NoMemory => Failure::NoMemory,
+        CheckError::Refused => unreachable!("a script doesn't refuse"),
+    }
+}
+
+/// Why values weren't written, or not whole, where many may come or not.
+fn unwritten(error: RelayError, many: bool) -> Failure
+    ensures { result ≡ failure_of many error }
+{
+    match error {
+        RelayError::BadLine { line } => Failure::Fault(Fault::BadLine { line }),
+        RelayError::BadCall { line } => Failure::Fault(Fault::BadCall { line }),
+        RelayError::Unfinished => Failure::Fault(Fault::Unfinished { many }),
+        RelayError::InvalidKey => Failure::Fault(Fault::InvalidKey),
+        RelayError::InvalidNumber => Failure::Fault(Fault::InvalidNumber),
+        RelayError::Write => Failure::Write(SinkError::Failed),
+        RelayError::NoMemory => Failure::Write(SinkError::NoMemory),
+    }
+}
+
+/// How writing values ended, where many may come or not.
+fn ended(written: Result<(), RelayError>, many: bool) -> Result<(), Failure>
+    ensures { result ≡ ended_by many written }
+{
+    match written {
+        Ok(()) => Ok(()),
+        Err(error) => Err(unwritten(error, many)),
+    }
+}
+
+/// Serves a script that has to spell one value. The clause holds of all bytes whose lines are its calls.
+fn serve_value<K: Sink>(
+    alloc: Global,
+    script: &Script,
+    way: Way,
+    out: &mut K,
+) -> Result<(), Failure>
+    requires few { length script.now < 2 ^ 64 }
+    requires read { IsOfScript script.now }
+    ensures { (bytes : List ℕ) → length bytes < 2 ^ 64 → lines bytes ≡ Good script.now
+        → ServesBytes relay_terms K.told (Serve (one_in way)) bytes result out.old out.new }
+{
+    match check(alloc, script) {
+        Ok(()) => ended(write_tree(alloc, &script.as_slice(), way, out), false),
+        Err(error) => Err(found(error, false)),
+    }
+}
+
+/// Serves a script that may spell many values, as [`serve_value`] does one.
+fn serve_values<K: Sink>(
+    alloc: Global,
+    script: &Script,
+    way: Way,
+    out: &mut K,
+) -> Result<(), Failure>
+    requires few { length script.now < 2 ^ 64 }
+    requires read { IsOfScript script.now }
+    ensures { (bytes : List ℕ) → length bytes < 2 ^ 64 → lines bytes ≡ Good script.now
+        → ServesBytes relay_terms K.told (Serve (all_in way)) bytes result out.old out.new }
+{
+    match check_all(alloc, script) {
+        Ok(ends) => ended(write_list(alloc, script.as_slice(), &ends, way, out), true),
+        Err(error) => Err(found(error, true)),
+    }
+}
+
+/// Serves a script that was read.
+fn serve_script<K: Sink>(
+    alloc: Global,
+    script: &Script,
+    task: Task,
+    out: &mut K,
+) -> Result<(), Failure>
+    requires few { length script.now < 2 ^ 64 }
+    requires read { IsOfScript script.now }
+    ensures { (bytes : List ℕ) → length bytes < 2 ^ 64 → lines bytes ≡ Good script.now
+        → ServesBytes relay_terms K.told (Serve task) bytes result out.old out.new }
+{
+    if task.many {
+        serve_values(alloc, script, task.way, out)
+    } else {
+        serve_value(alloc, script, task.way, out)
+    }
+}
 
 /// Reads the input whole, and serves the script that it is.
 fn serve_input<I: Source, K: Sink>(
@@ -33,44 +132,35 @@ fn serve_input<I: Source, K: Sink>(
     input: &mut I,
     out: &mut K,
 ) -> Result<(), Failure>
-    ensures { ServesScript I.told K.told task result input.old input.new out.old out.new }
+    ensures { ServesInput relay_terms I.told K.told (Serve task) result input.old input.new out.old out.new }
 {
     let reader = read_script(alloc, input)?;
     let script = reader.finish()?;
-    serve_script(alloc, &script, task, out)?;
-    out.flush()?;
-    Ok(())
+    serve_script(alloc, &script, task, out)
 }
 
-/// Tells the sizes of a script that is made of so many records, and of its JSON.
+/// Writes the sizes of a script that is made of so many records, and of its JSON.
 fn serve_made<K: Sink>(alloc: Global, count: u32, out: &mut K) -> Result<(), Failure>
-    ensures { ServesMade K.told count result out.old out.new }
+    ensures { ServesBytes relay_terms K.told (Made count) [] result out.old out.new }
 {
-    relay_made(alloc, count, out)?;
-    Ok(out.flush()?)
+    Ok(relay_made(alloc, count, out)?)
 }
 
-/// Serves a form.
-fn serve<I: Source, K: Sink>(
+/// Serves the form that the words are, if they are one.
+pub(crate) fn serve<I: Source, K: Sink>(
     alloc: Global,
-    form: Option<Form>,
+    words: &[String],
     input: &mut I,
     out: &mut K,
 ) -> Result<(), Failure>
-    ensures { Serves I.told K.told form result input.old input.new out.old out.new }
+    ensures { Serves relay_terms I.told K.told (map string_bytes words.now) result
+        input.old input.new out.old out.new }
 {
-    match form {
+    match named_form(words) {
         None => Err(Failure::Usage),
         Some(Form::Serve(task)) => serve_input(alloc, task, input, out),
         Some(Form::Made(count)) => serve_made(alloc, count, out),
     }
-}
-
-/// Whether a form is one of many values.
-fn takes_many(form: Option<Form>) -> bool
-    ensures { result ≡ takes_many form }
-{
-    matches!(form, Some(Form::Serve(Task { many: true, .. })))
 }
 
 /// Runs the program on its words, its devices and an allocator, and answers its status, one of those of
@@ -90,7 +180,7 @@ fn takes_many(form: Option<Form>) -> bool
 /// The script is the input, which it reads to its end, at most 16,777,216 bytes and one more to see that there are too
 /// many. For `made N`, where `N` is a decimal up to 50,000, it reads nothing: what is due is what
 /// [`relay_made`](crate::relay_made) writes. Where the status isn't [`DONE`], it writes one line to `diag` that says
-/// why; what `diag` answers changes nothing.
+/// why. What `diag` answers changes neither the status nor what is left of the input and the output.
 ///
 /// | status | comes |
 /// |---|---|
@@ -130,14 +220,18 @@ pub fn run<I: Source, K: Sink, D: Sink>(
     diag: &mut D,
 ) -> u8
     ensures known { is_status result ≡ true }
+    ensures ends { Ends relay_terms I.told K.told (map string_bytes words.now) input.old input.new
+        out.old out.new result }
+
+    // Nothing but its line depends on what the third device answers.
+    ensures apart { runs.Reports relay_terms I.told K.told (map string_bytes words.now) input.old input.new
+        out.old out.new (D.told diag.old) (D.told diag.new) result }
 
     // Each status comes only where it is so.
-    ensures usage { (result ≡ USAGE) ↔ (form_of words.now ≡ None) }
     ensures done { result ≡ DONE
         → OnAsked words.now (I.told input.old) (WritesVerdictText (K.told out.old) (K.told out.new)) }
     ensures denotes { result ≡ DONE
         → OnAsked words.now (I.told input.old) (WritesValue (K.told out.old) (K.told out.new)) }
-    ensures flushed { result ≡ DONE → HoldsNothing (K.told out.new) }
     ensures bad_line { result ≡ BAD_LINE → OnAsked words.now (I.told input.old) HasBadLine }
     ensures bad_call { result ≡ BAD_CALL → OnAsked words.now (I.told input.old) HasBadCall }
     ensures unfinished { result ≡ UNFINISHED → OnAsked words.now (I.told input.old) (IsVerdict Unfinished) }
@@ -145,38 +239,15 @@ pub fn run<I: Source, K: Sink, D: Sink>(
         → OnAsked words.now (I.told input.old) (WritesUpTo Key (K.told out.old) (K.told out.new)) }
     ensures invalid_number { result ≡ INVALID_NUMBER
         → OnAsked words.now (I.told input.old) (WritesUpTo Number (K.told out.old) (K.told out.new)) }
-    ensures write { result ≡ WRITE → Rose (K.told out.old).faults (K.told out.new).faults }
-    ensures read { result ≡ READ → Rose (I.told input.old).faults (I.told input.new).faults }
-    ensures own_want { result ≡ NO_MEMORY → IsWantAsked words.now K.told out.old out.new }
-    ensures long { result ≡ TOO_LONG → IsTooLong (I.told input.old) (I.told input.new) }
-
-    // A fault of the source that was counted means READ.
-    ensures read_comes { (I.told input.old).faults < (I.told input.new).faults → result ≡ READ }
 
     // Where the devices don't fail, the status is the one that is due, or memory was wanting.
     ensures comes { ¬ Rose (I.told input.old).faults (I.told input.new).faults
         → ¬ Rose (K.told out.old).faults (K.told out.new).faults
         → OnAsked words.now (I.told input.old) (OnShort (OnVerdict (IsStatusDue result))) }
-    ensures long_comes { ¬ Rose (I.told input.old).faults (I.told input.new).faults
-        → OnAsked words.now (I.told input.old) (OnLong ((result ≡ TOO_LONG) ⊎ (result ≡ NO_MEMORY))) }
 
     // What is left of the sink.
-    ensures untouched { is_unwritten result ≡ true → out.new ≡ out.old }
     ensures leaves { OnAsked words.now (I.told input.old)
         (OnShort (OnVerdict (MayLeave (K.told out.old) (K.told out.new)))) }
-    ensures leaves_long { OnAsked words.now (I.told input.old) (OnLong (out.new ≡ out.old)) }
-    ensures grows { Grows (K.told out.old) (K.told out.new) }
-
-    // What is left of the source.
-    ensures nothing_read { result ≡ USAGE → input.new ≡ input.old }
-    ensures spent { is_read result ≡ true → OnAsked words.now (I.told input.old) (IsSpent (I.told input.new)) }
-    ensures short { ¬ (result ≡ TOO_LONG) → StaysShort (I.told input.old) (I.told input.new) }
-
-    // The counts.
-    ensures steady { is_read result ≡ true → ((I.told input.new).faults ≡ (I.told input.old).faults)
-        × IsSteady (K.told out.old) (K.told out.new) }
-    ensures counts { ((I.told input.old).faults ≤ (I.told input.new).faults)
-        × NoCountFell (K.told out.old) (K.told out.new) }
 
     // Where the words ask for a made script.
     ensures made_status { OnMade words.now (λ _. is_of_made result ≡ true) }
@@ -190,7 +261,5 @@ pub fn run<I: Source, K: Sink, D: Sink>(
     ensures reports { Reports (map string_bytes words.now) (I.told input.old) result
         (D.told diag.old) (D.told diag.new) }
 {
-    let form = named_form(words);
-    let served = serve(alloc, form, input, out);
-    conclude(served, takes_many(form), diag)
+    job::run::<Relay, I, K, D>(alloc, words, input, out, diag)
 }

@@ -1,49 +1,60 @@
 //! The whole program, over std's readers and writers.
 
-ghost use Rattle.std.specs.Prelude.{◌≡◌, ◌↔◌, true, None, refl};
-ghost use Rattle.sval_relay.specs.Ends.{RelayEnds};
+ghost use Rattle.std.specs.Prelude.{◌≡◌, ◌↔◌, true, None};
+ghost use Rattle.sval_relay.specs.Serves.{relay_terms};
 ghost use Rattle.sval_relay.specs.Statuses.{is_status};
-ghost use Rattle.sval_relay.specs.Ways.{form_of, form_named};
+ghost use Rattle.sval_relay.specs.Ways.{form_of};
 
-use crate::running::run;
+use crate::made::MadeError;
+use crate::running::serve;
 use crate::way::named_form;
 use std::alloc::Global;
 use std::io::{Read, Write};
-use sval_io::{Sink, Source};
+use sval_io::{Sink, SinkError, Source};
 use sval_program::status::USAGE;
-use sval_program::{Program, run_streams};
+use sval_program::{Failure, Job, Line, run_streams};
 
-/// The program, as [`run_process`](sval_program::run_process) runs it: what it does is [`run`], and its `Ends` are the
-/// clauses of `run` on what the source and the sink tell.
+impl From<MadeError> for Failure {
+    ghost use Rattle.sval_relay.specs.Serves.{failure_of_made};
+
+    ghost from_gives = { λ error failure. failure ≡ failure_of_made error };
+
+    fn from(error: MadeError) -> Failure {
+        match error {
+            MadeError::Write => Failure::Write(SinkError::Failed),
+            MadeError::NoMemory => Failure::Write(SinkError::NoMemory),
+        }
+    }
+}
+
+/// The program, as [`run_process`](sval_program::run_process) and [`run_streams`] run it: [`run`](crate::run) says more
+/// of its runs.
 pub struct Relay;
 
-impl Program for Relay {
+impl Job for Relay {
     ghost use Rattle.sval_relay.specs.declared.way.Form.{Form};
 
     ghost Form = { Form };
 
-    ghost form_named = { form_named };
+    ghost terms = { relay_terms };
 
-    ghost is_status = { is_status };
-
-    ghost Ends = { RelayEnds };
-
-    ghost has_usage = { refl };
-
-    ghost has_no_memory = { refl };
+    fn usage() -> Line {
+        Line::text(
+            "usage: sval_relay direct [beside] [lines]|buffered [beside] [lines]|calls [lines]|made N\n",
+        )
+    }
 
     fn takes(words: &[String]) -> bool {
         named_form(words).is_some()
     }
 
-    fn run<I: Source, K: Sink, D: Sink>(
+    fn serve<I: Source, K: Sink>(
         alloc: Global,
         words: &[String],
         input: &mut I,
         out: &mut K,
-        diag: &mut D,
-    ) -> u8 {
-        run(alloc, words, input, out, diag)
+    ) -> Result<(), Failure> {
+        serve(alloc, words, input, out)
     }
 }
 

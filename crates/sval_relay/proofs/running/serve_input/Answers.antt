@@ -1,6 +1,11 @@
+use Rattle.std.specs.Prelude.{Err}
 use Rattle.std.proofs.lemmas.Result.{err_from_is_err_and}
-use Rattle.sval_relay.proofs.RelayAnswers.{relays_unread, relays_flushed, relays_held, read_good, read_bad}
-use Rattle.sval_relay.proofs.ServeAnswers.{served, counted}
+use Rattle.sval_program.specs.Failures.{failure_of_script}
+use Rattle.sval_program.proofs.JobRuns.{served}
+use Rattle.sval_relay.specs.declared.way.Form.TheVariants.{Serve}
+use Rattle.sval_relay.specs.Serves.{relay_terms}
+use Rattle.sval_relay.proofs.RelayAnswers.{read_good, read_bad}
+use Rattle.sval_relay.proofs.ServeAnswers.{script_unread, counted}
 use Rattle.sval_relay.proofs.running.serve_input.Goals as goal
 
 pub returns-in_err-script : goal.returns-in_err-script
@@ -9,31 +14,12 @@ returns-in_err-script g c =
     let read = c.in_ok-reader.ensures.ok in
     let why = c.in_err-script.field-0.0 in
     rw (p.1, p.2)
-    (served read.reads (relays_unread g.K.Sink.told read.script c.args.task c.args.out.now why (read_bad read why c.in_err-script.ensures.answer)))
-
-pub returns-in_err-serve_script : goal.returns-in_err-serve_script
-returns-in_err-serve_script g c =
-    let p = err_from_is_err_and c.from_residual-in_err-serve_script.result c.from_residual-in_err-serve_script.ensures.1 in
-    let read = c.in_ok-reader.ensures.ok in
-    let good = read_good read c.in_ok-script.script c.in_ok-script.ensures.answer in
-    rw (p.1, p.2) (served read.reads (c.in_err-serve_script.ensures read.script (counted read.reads) good))
-
-pub returns-in_err-flush : goal.returns-in_err-flush
-returns-in_err-flush g c =
-    let p = err_from_is_err_and c.from_residual-in_err-flush.result c.from_residual-in_err-flush.ensures.1 in
-    let read = c.in_ok-reader.ensures.ok in
-    let good = read_good read c.in_ok-script.script c.in_ok-script.ensures.answer in
-    rw (p.1, p.2)
-    (served read.reads
-    (relays_held g.K.Sink.told read.script c.args.task c.args.out.now c.serve_script.new.out c.flush.new.self c.in_err-flush.field-0.0
-    (c.in_ok-serve_script.ensures read.script (counted read.reads) good) c.in_err-flush.ensures))
+    (served relay_terms g.I.Source.told g.K.Sink.told c.args.input.now c.read_script.new.input c.args.out.now c.args.out.now (Serve c.args.task) (Err (failure_of_script why)) read.reads
+    (script_unread g.K.Sink.told read.script c.args.task c.args.out.now why (read_bad read why c.in_err-script.ensures.answer)))
 
 pub returns : goal.returns
 returns g c =
     let read = c.in_ok-reader.ensures.ok in
-    let good = read_good read c.in_ok-script.script c.in_ok-script.ensures.answer in (
-      served read.reads
-          (relays_flushed g.K.Sink.told read.script c.args.task c.args.out.now c.serve_script.new.out c.flush.new.self
-          (c.in_ok-serve_script.ensures read.script (counted read.reads) good) c.in_ok-flush.ensures),
-      c.in_ok-flush.ensures.flushed,
-    )
+    let good = read_good read c.in_ok-script.script c.in_ok-script.ensures.answer in
+    served relay_terms g.I.Source.told g.K.Sink.told c.args.input.now c.read_script.new.input c.args.out.now c.serve_script.new.out (Serve c.args.task) c.serve_script.result read.reads
+    (c.serve_script.ensures read.script (counted read.reads) good)
