@@ -21,6 +21,5 @@ mod Verdicts
 mod LeftTexts
 mod ScriptAnswers
 mod RunAnswers
-mod WordSteps
 mod examples
 mod TakenCalls

@@ -1,5 +1,5 @@
 -- What the program keeps of paths and of how calls are treated is.
-use Rattle.std.specs.Prelude.{ℕ, Bool, true, false, List, [], Option}
+use Rattle.std.specs.Prelude.{ℕ, Bool, true, false, List, [], reverse, map, Option}
 use Rattle.sval_filter.specs.Paths.{Path, Rule, Fate, LeftOut, Stays, Within}
 use Rattle.sval_filter.specs.SeenPaths.{paths_in, rests_in}
 use Rattle.sval_filter.specs.Layers as layers
@@ -31,6 +31,10 @@ seen_mode (mode.By fate) = layers.By (seen_fate fate)
 -- what has begun
 abbrev pub seen_layer : made_layer.Layer → layers.Layer
 seen_layer layer = record { mode = seen_mode layer.mode; entry = seen_fate layer.entry }
+
+-- all that has begun, the innermost first
+abbrev pub innermost_first : List made_layer.Layer → List layers.Layer
+innermost_first layers = reverse (map seen_layer layers)
 
 -- ---- what is asked of them
 

@@ -1,11 +1,11 @@
 //! All that has begun and has no end yet.
 
-ghost use Rattle.std.specs.Prelude.{◌≡◌, ◌&&◌, not, [], ◌∷◌, is_ok, if◌then◌else◌, reverse, map};
+ghost use Rattle.std.specs.Prelude.{◌≡◌, ◌&&◌, not, [], ◌∷◌, is_ok, if◌then◌else◌};
 ghost use Rattle.std.specs.Option.{unwrap_or};
 ghost use Rattle.sval_core.specs.Stacks.{top_of, below};
 ghost use Rattle.sval_filter.specs.Layers.{layer, mode_in, entry_in, with_entry};
 ghost use Rattle.sval_filter.specs.SeenPaths.{paths_in};
-ghost use Rattle.sval_filter.specs.SeenLayers.{seen_fate, seen_mode, seen_layer, is_holding};
+ghost use Rattle.sval_filter.specs.SeenLayers.{seen_fate, seen_mode, seen_layer, innermost_first, is_holding};
 
 use crate::layer::{Fate, Layer, Mode};
 use crate::tails::Tails;
@@ -23,30 +23,29 @@ pub(crate) struct Layers<'p> {
 }
 
 impl<'p> Model for Layers<'p> {
-    ghost use Rattle.std.specs.Prelude.{◌≡◌, reverse, map};
+    ghost use Rattle.std.specs.Prelude.{◌≡◌};
     ghost use Rattle.sval_filter.specs.Paths.{Within};
     ghost use Rattle.sval_filter.specs.Layers.{By, layer};
     ghost use Rattle.sval_filter.specs.SeenPaths.{paths_in};
-    ghost use Rattle.sval_filter.specs.SeenLayers.{Layered, seen_layer};
+    ghost use Rattle.sval_filter.specs.SeenLayers.{Layered, seen_layer, innermost_first};
 
     ghost Value = { Layered };
 
-    ghost view = { λ all. record { paths = paths_in all.paths.now; layers = reverse (map seen_layer all.layers.items) } };
+    ghost view = { λ all. record { paths = paths_in all.paths.now; layers = innermost_first all.layers.items } };
 
     ghost invariant = { λ all. seen_layer all.outside ≡ layer (By (Within (paths_in all.paths.now))) };
 }
 
 /// The innermost layer, or the one that all is in where there is none.
 fn innermost<'a, 'p>(layers: &'a [Layer<'p>], outside: &'a Layer<'p>) -> &'a Layer<'p>
-    ensures { let layers = reverse (map seen_layer layers.now) in
-        seen_layer result.now ≡ unwrap_or (top_of layers) (seen_layer outside.now) }
+    ensures { seen_layer result.now ≡ unwrap_or (top_of (innermost_first layers.now)) (seen_layer outside.now) }
 {
     layers.last().unwrap_or(outside)
 }
 
 /// The layers around the innermost one.
 fn around<'a, 'p>(layers: &'a [Layer<'p>]) -> &'a [Layer<'p>]
-    ensures { reverse (map seen_layer result.now) ≡ below (reverse (map seen_layer layers.now)) }
+    ensures { innermost_first result.now ≡ below (innermost_first layers.now) }
 {
     let count = layers.len().saturating_sub(1);
     &layers[..count]

@@ -36,9 +36,10 @@ fn make_room(bytes: &mut Vec<u8>, filled: usize) -> Result<(), AllocError>
 /// # Errors
 ///
 /// [`InputError::ReadFault`] comes only where the source failed, and wherever its count of faults moved.
-/// [`InputError::TooLong`] comes only where there were more bytes, of which one more was taken. After a fault at most
-/// 16,777,216 bytes were taken. [`InputError::NoMemory`] comes where there was no memory for what is read, and only
-/// where fewer than 16,777,216 bytes were taken: an input that was read to the limit is not told as want of memory.
+/// [`InputError::TooLong`] comes only where there were more than 16,777,216 bytes. One byte more than that was taken.
+/// After a fault at most 16,777,216 bytes were taken. [`InputError::NoMemory`] comes where there was no memory for what
+/// is read, and only where fewer than 16,777,216 bytes were taken: an input that was read to the limit is not told as
+/// want of memory.
 pub fn read_input<I: Source>(alloc: Global, input: &mut I) -> Result<Vec<u8>, InputError>
     ensures ok { IfOk result (λ bytes. ReadsWhole (I.told input.old) bytes.items (I.told input.new)) }
     ensures err { IfErr result (λ why. StopsReading why (I.told input.old) (I.told input.new)) }

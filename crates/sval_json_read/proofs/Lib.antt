@@ -15,7 +15,6 @@ pub mod SettledNumbers
 pub mod SettledTrees
 pub mod Documents
 pub mod Loop
-pub mod Scans
 pub mod ParsedNumbers
 pub mod RawStrings
 pub mod KeptNodes
