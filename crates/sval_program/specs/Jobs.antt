@@ -28,6 +28,12 @@ pub record Terms (Form : Type 0) : Type 1 where
   -- the line for words that are no form
   pub usage : List ℕ
 
+-- of an input at most one thing is due: one fault, or none, and the same bytes
+abbrev pub OneDue : {Form : Type 0} → Terms Form → Type 0
+OneDue {Form} terms =
+    (asked : Form) (input : List ℕ) (found other : Option Fault) (bytes others : List ℕ)
+    → terms.Due asked input found bytes → terms.Due asked input other others → (found ≡ other) × (bytes ≡ others)
+
 -- bytes may be written where this is found
 abbrev pub may_write : {Form : Type 0} → Terms Form → Option Fault → Bool
 may_write terms None = true

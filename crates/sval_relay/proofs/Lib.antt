@@ -10,9 +10,9 @@ pub mod DueTrees
 pub mod RelayAnswers
 pub mod RecordCounts
 pub mod ServeAnswers
-pub mod RunAnswers
 pub mod MadeScripts
 pub mod MadeAnswers
 pub mod MadeWants
 pub mod MadeStreams
+pub mod OneDue
 mod examples

@@ -28,7 +28,7 @@ use Rattle.sval_relay.proofs.Verdicts.{one_of_lines}
 use Rattle.sval_program.proofs.Growing.{counts_stay, front_of_nothing}
 
 -- a script has one text
-one_text : (script : List ℕ) (task : Task) {text other : List ℕ} → IsVerdict (Text text) script task → IsVerdict (Text other) script task → text ≡ other
+pub one_text : (script : List ℕ) (task : Task) {text other : List ℕ} → IsVerdict (Text text) script task → IsVerdict (Text other) script task → text ≡ other
 one_text script task {text} {other} is also =
     let verdict : Text text ≡ Text other = one_of_lines (lines script) (asked_in task.way) task.many (Text text) (Text other) is also in cc verdict
 

@@ -3,11 +3,8 @@ pub mod Verdict
 pub mod Leavings
 pub mod Relays
 pub mod WrittenTrees
-pub mod Statuses
-pub mod Reports
 pub mod Made
 pub mod Serves
-pub mod Runs
 pub mod MadeLaws
 pub mod Laws
 pub mod ErrorTexts

@@ -1,5 +1,5 @@
 -- What is due of a form, and the failures where it wasn't written.
-use Rattle.std.specs.Prelude.{ℕ, Bool, List, [], ◌∷◌, Option, Some, None, Result, Ok, Err}
+use Rattle.std.specs.Prelude.{ℕ, Bool, List, [], ◌∷◌, Option, Some, None, Result, Ok, Err, codes}
 use Rattle.sval_io.specs.declared.sink.SinkError.TheVariants as sink
 use Rattle.sval_check.specs.declared.error.CheckError.{CheckError}
 use Rattle.sval_check.specs.declared.error.CheckError.TheVariants as checking
@@ -18,7 +18,6 @@ use Rattle.sval_relay.specs.declared.made.MadeError.{MadeError}
 use Rattle.sval_relay.specs.declared.made.MadeError.TheVariants as made
 use Rattle.sval_relay.specs.Made.{IsMadeLine}
 use Rattle.sval_relay.specs.Relays.{MeansAll}
-use Rattle.sval_relay.specs.Reports.{usage}
 use Rattle.sval_relay.specs.Verdict.{BadLine, BadCall, Unfinished, Key, Number, Text, IsVerdict}
 use Rattle.sval_relay.specs.Ways.{form_named, is_read_for, is_partly_for}
 
@@ -43,7 +42,7 @@ relay_terms = record {
   partly = is_partly_for;
   faults = BAD_LINE ∷ BAD_CALL ∷ UNFINISHED ∷ INVALID_KEY ∷ INVALID_NUMBER ∷ [];
   written = INVALID_KEY ∷ INVALID_NUMBER ∷ [];
-  usage = usage;
+  usage = codes "usage: sval_relay direct [beside] [lines]|buffered [beside] [lines]|calls [lines]|made N\n";
 }
 
 -- ---- the failures

@@ -132,14 +132,6 @@ all_in way = record { way = way; many = true }
 abbrev pub IsVerdict : Verdict → List ℕ → Task → Type 0
 IsVerdict answer script task = IsVerdictOn answer script (asked_in task.way) task.many
 
--- the verdict is that a line is bad, the first one of the script
-abbrev pub HasBadLine : List ℕ → Task → Type 0
-HasBadLine script task = (line : ℕ) × IsVerdict (BadLine line) script task
-
--- the verdict is that no value goes on with a call, the first such one of the script
-abbrev pub HasBadCall : List ℕ → Task → Type 0
-HasBadCall script task = (line : ℕ) × IsVerdict (BadCall line) script task
-
 -- a fact on the script's verdict
 abbrev pub OnVerdict : (Verdict → Type 0) → List ℕ → Task → Type 0
 OnVerdict P script task = (answer : Verdict) → IsVerdict answer script task → P answer

@@ -1,13 +1,10 @@
 -- The ways to serve a script, and the words that name them.
-use Rattle.std.specs.Prelude.{ℕ, nat_le, Bool, true, false, List, [], ◌∷◌, codes, bytes_eq, map, string_bytes, String, Option, Some, None, option_map, option_and_then, if◌then◌else◌, ⊤}
-use Rattle.sval_io.specs.Sources.{Supply}
+use Rattle.std.specs.Prelude.{ℕ, nat_le, Bool, true, false, List, [], ◌∷◌, codes, bytes_eq, Option, Some, None, option_map, option_and_then, if◌then◌else◌}
 use Rattle.sval_script.specs.Lines.{keep, natural}
 use Rattle.sval_relay.specs.declared.way.Way.{Way}
 use Rattle.sval_relay.specs.declared.way.Way.TheVariants.{Direct, Buffered, Calls, DirectBeside, BufferedBeside}
-use Rattle.sval_relay.specs.declared.way.Task.{Task}
 use Rattle.sval_relay.specs.declared.way.Form.{Form}
 use Rattle.sval_relay.specs.declared.way.Form.TheVariants.{Serve, Made}
-use Rattle.sval_program.specs.Inputs.{OnBoth}
 
 -- whether it captures the value before it writes
 abbrev pub is_captured : Way → Bool
@@ -51,15 +48,6 @@ form_named (word ∷ middle ∷ last ∷ []) =
     if bytes_eq middle (codes "beside") then (if bytes_eq last (codes "lines") then served_in true (way_beside word) else None) else None
 form_named words = None
 
--- the same of the program's words, which are those after its name
-abbrev pub form_of : {A : Type 0} → List (String A) → Option Form
-form_of words = form_named (map string_bytes words)
-
--- what a form asks for of a script, if it does
-abbrev pub task_in : Option Form → Option Task
-task_in (Some (Serve task)) = Some task
-task_in _ = None
-
 -- whether the input is read: it isn't for a made script
 abbrev pub is_read_for : Option Form → Bool
 is_read_for (Some (Made count)) = false
@@ -74,25 +62,3 @@ is_partly false many = false
 abbrev pub is_partly_for : Option Form → Bool
 is_partly_for (Some (Serve task)) = is_partly (is_captured task.way) task.many
 is_partly_for _ = false
-
--- a fact on the input and what is asked for of it, by the words' bytes
-abbrev pub OnNamed : List (List ℕ) → Supply → (List ℕ → Task → Type 0) → Type 0
-OnNamed words input P = OnBoth (task_in (form_named words)) input.left P
-
--- a fact on the script and what is asked for of it: where the words ask for something of a script, and the source tells its bytes
-abbrev pub OnAsked : {A : Type 0} → List (String A) → Supply → (List ℕ → Task → Type 0) → Type 0
-OnAsked words input P = OnBoth (task_in (form_of words)) input.left P
-
--- whether many values may come
-abbrev pub takes_many : Option Form → Bool
-takes_many (Some (Serve task)) = task.many
-takes_many _ = false
-
--- a fact on the number of records, where there is one
-abbrev pub OnRecords : Option Form → (ℕ → Type 0) → Type 0
-OnRecords (Some (Made count)) P = P count
-OnRecords _ P = ⊤
-
--- the same of the program: where the words ask for a made script
-abbrev pub OnMade : {A : Type 0} → List (String A) → (ℕ → Type 0) → Type 0
-OnMade words P = OnRecords (form_of words) P

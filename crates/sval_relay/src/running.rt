@@ -1,20 +1,12 @@
 //! The whole program, over any words and devices.
 
-ghost use Rattle.std.specs.Prelude.{◌≡◌, ◌⊎◌, ◌<◌, ◌^◌, ℕ, List, [], true, false, Some, length, map, string_bytes};
-ghost use Rattle.sval_core.specs.Law.{Rose};
-ghost use Rattle.sval_program.specs.Inputs.{OnShort};
+ghost use Rattle.std.specs.Prelude.{◌≡◌, ◌<◌, ◌^◌, ℕ, List, [], Some, length, map, string_bytes};
 ghost use Rattle.sval_program.specs.Jobs.{ServesBytes, ServesInput, Serves};
-ghost use Rattle.sval_program.specs.Runs.{Ends};
-ghost use Rattle.sval_program.specs.Runs as runs;
+ghost use Rattle.sval_program.specs.Runs.{Ends, Reports};
 ghost use Rattle.sval_script.specs.Lines.{lines, Good};
 ghost use Rattle.sval_relay.specs.declared.way.Form.TheVariants.{Serve, Made};
-ghost use Rattle.sval_relay.specs.Relays.{WritesVerdictText, WritesValue, WritesUpTo, MayLeave};
-ghost use Rattle.sval_relay.specs.Reports.{Reports};
-ghost use Rattle.sval_relay.specs.Runs.{WritesMadeLine, BeginsMadeLine};
 ghost use Rattle.sval_relay.specs.Serves.{relay_terms, failure_of_check, failure_of, ended_by};
-ghost use Rattle.sval_relay.specs.Statuses.{is_status, is_of_made, IsStatusDue};
-ghost use Rattle.sval_relay.specs.Verdict.{Unfinished, Key, Number, one_in, all_in, IsVerdict, HasBadLine, HasBadCall, OnVerdict};
-ghost use Rattle.sval_relay.specs.Ways.{OnAsked, OnMade};
+ghost use Rattle.sval_relay.specs.Verdict.{one_in, all_in};
 ghost use Rattle.sval_relay.specs.WrittenTrees.{IsOfScript};
 
 use crate::lists::write_list;
@@ -26,9 +18,6 @@ use crate::way::{Form, Task, Way, named_form};
 use std::alloc::Global;
 use sval_check::{CheckError, check, check_all};
 use sval_io::{Sink, SinkError, Source};
-use sval_program::status::{
-    BAD_CALL, BAD_LINE, DONE, INVALID_KEY, INVALID_NUMBER, NO_MEMORY, UNFINISHED,
-};
 use sval_program::{Failure, Fault, job, read_script};
 use sval_script::Script;
 
@@ -179,8 +168,13 @@ pub(crate) fn serve<I: Source, K: Sink>(
 ///
 /// The script is the input, which it reads to its end, at most 16,777,216 bytes and one more to see that there are too
 /// many. For `made N`, where `N` is a decimal up to 50,000, it reads nothing: what is due is what
-/// [`relay_made`](crate::relay_made) writes. Where the status isn't [`DONE`], it writes one line to `diag` that says
-/// why. What `diag` answers changes neither the status nor what is left of the input and the output.
+/// [`relay_made`](crate::relay_made) writes. Where the status isn't 0, it writes one line to `diag` that says why. What
+/// `diag` answers changes neither the status nor what is left of the input and the output: all three are as
+/// [`work`](sval_program::job::work) may give them, which has no `diag`.
+///
+/// What is due is `Due` of `relay_terms`, and of an input it is one thing
+/// ([`verdict_laws`](crate::laws::verdict_laws)). `Ends` says when each status comes and what is left of the devices, and
+/// `Reports` which line is told.
 ///
 /// | status | comes |
 /// |---|---|
@@ -219,47 +213,10 @@ pub fn run<I: Source, K: Sink, D: Sink>(
     out: &mut K,
     diag: &mut D,
 ) -> u8
-    ensures known { is_status result ≡ true }
     ensures ends { Ends relay_terms I.told K.told (map string_bytes words.now) input.old input.new
         out.old out.new result }
-
-    // Nothing but its line depends on what the third device answers.
-    ensures apart { runs.Reports relay_terms I.told K.told (map string_bytes words.now) input.old input.new
+    ensures reports { Reports relay_terms I.told K.told (map string_bytes words.now) input.old input.new
         out.old out.new (D.told diag.old) (D.told diag.new) result }
-
-    // Each status comes only where it is so.
-    ensures done { result ≡ DONE
-        → OnAsked words.now (I.told input.old) (WritesVerdictText (K.told out.old) (K.told out.new)) }
-    ensures denotes { result ≡ DONE
-        → OnAsked words.now (I.told input.old) (WritesValue (K.told out.old) (K.told out.new)) }
-    ensures bad_line { result ≡ BAD_LINE → OnAsked words.now (I.told input.old) HasBadLine }
-    ensures bad_call { result ≡ BAD_CALL → OnAsked words.now (I.told input.old) HasBadCall }
-    ensures unfinished { result ≡ UNFINISHED → OnAsked words.now (I.told input.old) (IsVerdict Unfinished) }
-    ensures invalid_key { result ≡ INVALID_KEY
-        → OnAsked words.now (I.told input.old) (WritesUpTo Key (K.told out.old) (K.told out.new)) }
-    ensures invalid_number { result ≡ INVALID_NUMBER
-        → OnAsked words.now (I.told input.old) (WritesUpTo Number (K.told out.old) (K.told out.new)) }
-
-    // Where the devices don't fail, the status is the one that is due, or memory was wanting.
-    ensures comes { ¬ Rose (I.told input.old).faults (I.told input.new).faults
-        → ¬ Rose (K.told out.old).faults (K.told out.new).faults
-        → OnAsked words.now (I.told input.old) (OnShort (OnVerdict (IsStatusDue result))) }
-
-    // What is left of the sink.
-    ensures leaves { OnAsked words.now (I.told input.old)
-        (OnShort (OnVerdict (MayLeave (K.told out.old) (K.told out.new)))) }
-
-    // Where the words ask for a made script.
-    ensures made_status { OnMade words.now (λ _. is_of_made result ≡ true) }
-    ensures made_line { result ≡ DONE → OnMade words.now (WritesMadeLine (K.told out.old) (K.told out.new)) }
-    ensures made_begins { OnMade words.now (BeginsMadeLine (K.told out.old) (K.told out.new)) }
-    ensures made_comes { ¬ Rose (K.told out.old).faults (K.told out.new).faults
-        → OnMade words.now (λ _. (result ≡ DONE) ⊎ (result ≡ NO_MEMORY)) }
-    ensures made_reads_nothing { OnMade words.now (λ _. input.new ≡ input.old) }
-
-    // What the third device is told.
-    ensures reports { Reports (map string_bytes words.now) (I.told input.old) result
-        (D.told diag.old) (D.told diag.new) }
 {
     job::run::<Relay, I, K, D>(alloc, words, input, out, diag)
 }

@@ -1,9 +1,9 @@
 //! The whole program, over std's readers and writers.
 
-ghost use Rattle.std.specs.Prelude.{◌≡◌, ◌↔◌, true, None};
+ghost use Rattle.std.specs.Prelude.{◌≡◌, ◌↔◌, true, None, map, string_bytes};
+ghost use Rattle.sval_program.specs.Runs.{is_status};
 ghost use Rattle.sval_relay.specs.Serves.{relay_terms};
-ghost use Rattle.sval_relay.specs.Statuses.{is_status};
-ghost use Rattle.sval_relay.specs.Ways.{form_of};
+ghost use Rattle.sval_relay.specs.Ways.{form_named};
 
 use crate::made::MadeError;
 use crate::running::serve;
@@ -80,8 +80,8 @@ pub fn relay_streams<R: Read + Drop, W: Write + Drop, D: Write + Drop>(
     stdout: W,
     stderr: D,
 ) -> u8
-    ensures known { is_status result ≡ true }
-    ensures usage { (result ≡ USAGE) ↔ (form_of words.now ≡ None) }
+    ensures known { is_status relay_terms result ≡ true }
+    ensures usage { (result ≡ USAGE) ↔ (form_named (map string_bytes words.now) ≡ None) }
 {
     run_streams::<Relay, R, W, D>(alloc, words, stdin, stdout, stderr)
 }

@@ -1,16 +1,19 @@
 -- Scripts and the JSON that they give, as they compute.
-use Rattle.std.specs.Prelude.{◌≡◌, ℕ, negsuc, List, [], ◌∷◌, Some, None, codes, refl, true, false}
+use Rattle.std.specs.Prelude.{◌≡◌, ℕ, negsuc, List, [], ◌∷◌, Some, None, Ok, Err, codes, refl, true, false}
 use Rattle.std.specs.Str.{is_utf8, chars}
 use Rattle.std.specs.Char.{encode_utf8}
 use Rattle.std.specs.Fmt.{digits}
 use Rattle.hex.specs.Hex.{decode_pairs}
 use Rattle.sval_label.specs.Calls.{Call, Int, I64, TextBegin, TextFragment, TextEnd, Begin, End, PartBegin, PartEnd, Seq, Item}
 use Rattle.sval_json.specs.declared.style.Variants.TheVariants.{Beside}
+use Rattle.sval_program.specs.declared.failure.Fault.TheVariants as fault
+use Rattle.sval_program.specs.declared.failure.Failure.TheVariants as failure
+use Rattle.sval_program.specs.Failures as failures
 use Rattle.sval_json.specs.Steps.{written, written_in}
 use Rattle.sval_script.specs.Lines.{Good, lines, line_of, forms}
 use Rattle.sval_relay.specs.declared.way.Way.TheVariants.{Direct, Buffered, Calls, DirectBeside, BufferedBeside}
 use Rattle.sval_relay.specs.declared.way.Form.TheVariants.{Serve, Made}
-use Rattle.sval_relay.specs.Reports.{report}
+use Rattle.sval_relay.specs.Serves.{relay_terms}
 use Rattle.sval_relay.specs.Ways.{form_named}
 use Rattle.sval_relay.specs.Verdict.{one_in, all_in}
 
@@ -67,15 +70,17 @@ no_forms = (refl, refl, refl, refl, refl, refl, refl)
 
 -- ---- what the third device is told
 
-usage : report false 2 0 ≡ codes "usage: sval_relay direct [beside] [lines]|buffered [beside] [lines]|calls [lines]|made N\n"
+usage : failures.line_of relay_terms.usage (Err failure.Usage) ≡ codes "usage: sval_relay direct [beside] [lines]|buffered [beside] [lines]|calls [lines]|made N\n"
 usage = refl
 
-lines_that_are_named : (report false 3 1 ≡ codes "line 1: not a call\n") × (report true 4 120 ≡ codes "line 120: no value goes on with this call\n")
+lines_that_are_named : (failures.line_of [] (Err (failure.Fault (fault.BadLine 1))) ≡ codes "line 1: not a call\n")
+    × (failures.line_of [] (Err (failure.Fault (fault.BadCall 120))) ≡ codes "line 120: no value goes on with this call\n")
 unfolding digits
 lines_that_are_named = (refl, refl)
 
-not_whole : (report false 5 0 ≡ codes "the calls are not one whole value\n") × (report true 5 0 ≡ codes "the calls are not whole values\n")
+not_whole : (failures.line_of [] (Err (failure.Fault (fault.Unfinished false))) ≡ codes "the calls are not one whole value\n")
+    × (failures.line_of [] (Err (failure.Fault (fault.Unfinished true))) ≡ codes "the calls are not whole values\n")
 not_whole = (refl, refl)
 
-nothing_is_told : report true 0 7 ≡ []
+nothing_is_told : failures.line_of [] (Ok tt) ≡ []
 nothing_is_told = refl
