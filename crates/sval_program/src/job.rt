@@ -1,4 +1,4 @@
-//! Programs that read an input whole and write what is due of it: a program says what, and its run is the same for all.
+//! Programs that write what is due of an input: a program says what, and its run is the same for all.
 
 ghost use Rattle.std.specs.Prelude.{◌≡◌, ◌↔◌, true, None, map, string_bytes};
 ghost use Rattle.sval_program.specs.Failures.{status_of, line_of, line_of_failure};
@@ -14,7 +14,7 @@ use crate::status::DONE;
 use std::alloc::Global;
 use sval_io::{Sink, SinkError, Source};
 
-/// A program that reads an input whole and writes what is due of it.
+/// A program that writes what is due of an input, which it reads whole where its words ask for it.
 pub trait Job {
     ghost use Rattle.std.specs.Option.{is_some};
     ghost use Rattle.sval_program.specs.Jobs.{Terms};
@@ -33,7 +33,8 @@ pub trait Job {
     fn takes(words: &[String]) -> bool
         ensures { result ≡ is_some (terms.form_named (map string_bytes words.now)) };
 
-    /// Reads the input to its end, and writes what is due of it, if the words are a form. The sink isn't flushed.
+    /// Writes what is due, if the words are a form. Where they ask for the input, it is read to its end. The sink need
+    /// not be flushed: [`work`] does that.
     fn serve<I: Source, K: Sink>(
         alloc: Global,
         words: &[String],
@@ -47,8 +48,8 @@ pub trait Job {
 /// Does all of a program's work but telling why it failed, and answers how it ended. The third device has no part in
 /// it.
 ///
-/// [`run`] tells that device how it ended, and answers the status. So nothing that the device answers changes the status,
-/// or what is left of the source and the sink.
+/// [`run`] tells that device how it ended, and answers the status. So the status, and what is left of the source and the
+/// sink, are such as `work` may give.
 ///
 /// # Errors
 ///
@@ -98,9 +99,9 @@ fn conclude<J: Job, D: Sink>(ended: Result<(), Failure>, diag: &mut D) -> u8
 
 /// Runs a program on its words, its devices and an allocator, and answers its status.
 ///
-/// The input is read to its end, at most 16,777,216 bytes and one more to see that there are too many. Where the status
-/// isn't 0, one line is written to `diag` that says why. What `diag` answers changes neither the status nor what is left
-/// of the input and the output: all three are as [`work`] may give them, which has no `diag`.
+/// Where the words ask for the input, it is read to its end, at most 16,777,216 bytes and one more to see that there are
+/// too many. Where the status isn't 0, one line is written to `diag` that says why. Whatever `diag` answers, the status
+/// and what is left of the input and the output are such as [`work`] may give, which has no `diag`.
 pub fn run<J: Job, I: Source, K: Sink, D: Sink>(
     alloc: Global,
     words: &[String],

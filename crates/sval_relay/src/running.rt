@@ -168,9 +168,9 @@ pub(crate) fn serve<I: Source, K: Sink>(
 ///
 /// The script is the input, which it reads to its end, at most 16,777,216 bytes and one more to see that there are too
 /// many. For `made N`, where `N` is a decimal up to 50,000, it reads nothing: what is due is what
-/// [`relay_made`](crate::relay_made) writes. Where the status isn't 0, it writes one line to `diag` that says why. What
-/// `diag` answers changes neither the status nor what is left of the input and the output: all three are as
-/// [`work`](sval_program::job::work) may give them, which has no `diag`.
+/// [`relay_made`](crate::relay_made) writes. Where the status isn't 0, it writes one line to `diag` that says why.
+/// Whatever `diag` answers, the status and what is left of the input and the output are such as
+/// [`work`](sval_program::job::work) may give, which has no `diag`.
 ///
 /// What is due is `Due` of `relay_terms`, and of an input it is one thing
 /// ([`verdict_laws`](crate::laws::verdict_laws)). `Ends` says when each status comes and what is left of the devices, and
@@ -178,7 +178,7 @@ pub(crate) fn serve<I: Source, K: Sink>(
 ///
 /// | status | comes |
 /// |---|---|
-/// | 0 | the sink took exactly what is due, and holds back nothing of it |
+/// | 0 | the sink took exactly what is due, and holds back nothing of it, as far as it says so |
 /// | 2 | the words are no form; nothing is read |
 /// | 3 | a line is no call |
 /// | 4 | no value, or with `lines` no list of values, goes on with the call of a line |
@@ -194,9 +194,10 @@ pub(crate) fn serve<I: Source, K: Sink>(
 /// stays, and neither comes with `calls`. With `made N` only 0, 8 and 10 come.
 ///
 /// Where the words ask for a script and neither device fails, the status is the one that the input's verdict asks for,
-/// or 10. After 10 the sink is as it was, unless its own count of wants rose. Only with `lines` after `buffered`,
-/// `buffered beside` or `calls`, where each value is captured by itself, those before may have been written; then too no
-/// count of the sink moved, unless its count of wants rose.
+/// or 10; of an input that is too long, 11 or 10. After 10 the sink is as it was, unless its own count of wants rose.
+/// Only with `lines` after `buffered`, `buffered beside` or `calls`, where each value is captured by itself, a first part
+/// of what is due may have been taken, even all of it. Then too no count of the sink moved, unless its count of wants
+/// rose.
 ///
 /// ```
 /// let mut out = VecSink::new(alloc);

@@ -58,9 +58,9 @@ impl Job for Relay {
     }
 }
 
-/// Runs the program on its words over a reader and two writers, and answers its status, as [`run`] does over any
-/// devices: the forms of the words are those of `run`, and so are the statuses and what each leaves. With `lines` after
-/// the words of a form many values may come, and for `made N` the reader isn't read.
+/// Runs the program on its words over a reader and two writers, and answers its status. The forms of the words and the
+/// statuses are those of [`run`], and tests show that it serves as `run` does over any devices. With `lines` after the
+/// words of a form many values may come, and for `made N` the reader isn't read.
 ///
 /// The output is held back in a buffer of 65,536 bytes until it is full. What is left of it is passed on before status
 /// 0 is answered, and with any other status at the end, where a failure isn't told. Memory for that buffer is asked
