@@ -1,4 +1,5 @@
 pub mod Appending
 pub mod Pieces
+pub mod Buffering
 pub mod FaultyWrites
 pub mod ReadParts

@@ -5,6 +5,8 @@ pub mod Counted
 pub mod FaultPlans
 pub mod Faulty
 pub mod OverWriter
+pub mod OverBuffer
+pub mod Known
 pub mod Sources
 pub mod FaultySources
 pub mod OverReader

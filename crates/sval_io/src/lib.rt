@@ -7,6 +7,7 @@
 //! [`TrickleSink`] takes one byte a call.
 #![tactic(auto)]
 
+mod buffered;
 mod count;
 mod fault_plan;
 mod faulty;
@@ -19,8 +20,11 @@ mod real;
 mod real_source;
 mod sink;
 mod source;
+mod tells;
 mod trickle;
+mod watched;
 
+pub use buffered::{BufferedSink, KnownSource};
 pub use count::CountSink;
 pub use fault_plan::FaultPlan;
 pub use faulty::FaultySink;
@@ -33,4 +37,6 @@ pub use real::RealSink;
 pub use real_source::RealSource;
 pub use sink::{Sink, SinkError, VecSink, write_all, write_in_place};
 pub use source::{MemSource, Source, SourceError};
+pub use tells::{Tells, TellsLeft};
 pub use trickle::TrickleSink;
+pub use watched::{Watch, WatchedReader, WatchedWriter};

@@ -32,6 +32,13 @@ impl<W> Patient<W> {
     {
         Patient { writer }
     }
+
+    /// The writer.
+    pub fn into_writer(self) -> W
+        ensures { result ≡ self }
+    {
+        self.writer
+    }
 }
 
 /// The error of a call that was interrupted too often.

@@ -1,0 +1,8 @@
+use Rattle.std.proofs.Common.{refl}
+use Rattle.sval_io.proofs.Buffering.{keeps_behind, declines_since}
+use Rattle.sval_io.proofs.buffered.BufferedSinkSink.flush.Goals as goal
+
+pub returns-in-Err : goal.returns-in-Err
+returns-in-Err g c =
+    let same = keeps_behind g.W.Write.contents g.W.Tells.tells g.met.W.Tells.always_or_never c.args.self.now.writer c.flush.new.self c.in-Err.ensures.bytes in
+    declines_since _ same refl (record { faults = refl; wants = refl }) c.fault.ensures.declines

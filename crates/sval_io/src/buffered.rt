@@ -1,0 +1,129 @@
+//! A sink over a buffer of std, and a source over a reader, that tell their bytes.
+
+ghost use Rattle.std.specs.Prelude.{◌≡◌, [], IfOk, IfErr};
+ghost use Rattle.std.specs.Io.Buffered.{writer_buffer, writer_contents};
+ghost use Rattle.std.specs.IoError.{error_kind};
+ghost use Rattle.sval_core.specs.Law.{one_more};
+ghost use Rattle.sval_io.specs.Known.{IsPassedOn};
+ghost use Rattle.sval_io.specs.OverBuffer.{buffered_told, known_supply};
+ghost use Rattle.sval_io.specs.Sinks.{Declines};
+
+use crate::patient::Patient;
+use crate::real_source::RealSource;
+use crate::sink::{Sink, SinkError};
+use crate::source::{Source, SourceError};
+use crate::tells::{Tells, TellsLeft};
+use std::alloc::Global;
+use std::io;
+use std::io::{BufWriter, ErrorKind, Write};
+
+/// A sink over a writer, which holds back what it took until its buffer is full, or is flushed. It tells what it took
+/// where the writer tells what it holds.
+///
+/// Each error of the writer is one fault. A call of the writer that is interrupted is made again, and has failed where
+/// that happened 1,000 times in a row. A writer that takes nothing of a piece that isn't empty has failed.
+///
+/// ```
+/// let mut bytes = Vec::new(alloc);
+/// let mut sink = BufferedSink::with_capacity(alloc, 512, &mut bytes)?;
+/// write_all(&mut sink, b"null")?;
+/// sink.flush()?;
+/// ```
+#[derive(Drop)]
+pub struct BufferedSink<W: Write + Drop> {
+    writer: BufWriter<Patient<W>>,
+    faults: u64,
+}
+
+impl<W: Write + Drop> BufferedSink<W> {
+    /// A sink over this writer with a buffer of so many bytes. Where there is no memory for it the writer is dropped.
+    #[tactic(auto, using(crate::proofs::Buffering::nothing_behind))]
+    pub fn with_capacity(alloc: Global, capacity: usize, writer: W) -> io::Result<Self>
+        ensures contents { IfOk result (λ sink. writer_contents W.contents sink.writer ≡ W.contents writer) }
+        ensures empty { IfOk result (λ sink. writer_buffer sink.writer ≡ []) }
+        ensures faults { IfOk result (λ sink. sink.faults ≡ 0) }
+        ensures err { IfErr result (λ error. error_kind error ≡ ErrorKind.OutOfMemory) }
+    {
+        Ok(BufferedSink {
+            writer: BufWriter::with_capacity(alloc, capacity, Patient::new(writer))?,
+            faults: 0,
+        })
+    }
+
+    /// Passes on what is held back, and gives the writer back. Where the writer fails, the rest is lost, and that isn't
+    /// told.
+    pub fn into_writer(self) -> W
+        ensures { IsPassedOn (writer_contents W.contents self.writer) (writer_buffer self.writer) (W.contents result) }
+    {
+        if self.writer.buffer().is_empty() {
+            let (patient, _) = self.writer.into_parts();
+            return patient.into_writer();
+        }
+        match self.writer.into_inner() {
+            Ok(patient) => patient.into_writer(),
+            Err(error) => {
+                let (patient, _) = error.into_inner().into_parts();
+                patient.into_writer()
+            }
+        }
+    }
+
+    /// Counts a fault.
+    #[cold]
+    fn fault(&mut self) -> SinkError
+        ensures failed { result ≡ SinkError.Failed }
+        ensures declines { Declines result
+            (buffered_told (writer_contents W.contents self.old.writer) (writer_buffer self.old.writer) self.old.faults)
+            (buffered_told (writer_contents W.contents self.new.writer) (writer_buffer self.new.writer) self.new.faults) }
+        ensures counted { self.new ≡ record self.old { faults = one_more self.old.faults } }
+    {
+        self.faults = self.faults.saturating_add(1);
+        SinkError::Failed
+    }
+}
+
+impl<W: Tells + Drop> Sink for BufferedSink<W> {
+    ghost told = { λ sink. buffered_told (writer_contents W.contents sink.writer) (writer_buffer sink.writer) sink.faults };
+
+    #[inline(always)]
+    fn write(&mut self, piece: &[u8]) -> Result<usize, SinkError> {
+        match self.writer.write(piece) {
+            Ok(0) if !piece.is_empty() => Err(self.fault()),
+            Ok(count) => Ok(count),
+            Err(_) => Err(self.fault()),
+        }
+    }
+
+    fn flush(&mut self) -> Result<(), SinkError> {
+        match self.writer.flush() {
+            Ok(()) => Ok(()),
+            Err(_) => Err(self.fault()),
+        }
+    }
+}
+
+/// A source over a reader, which tells what it has left where the reader does. Its calls are those of a
+/// [`RealSource`].
+#[derive(Drop)]
+pub struct KnownSource<R> {
+    source: RealSource<R>,
+}
+
+impl<R> KnownSource<R> {
+    /// A source over this reader, with no fault.
+    pub fn new(reader: R) -> Self
+        ensures { result.source ≡ record { reader = reader; faults = 0 } }
+    {
+        KnownSource {
+            source: RealSource::new(reader),
+        }
+    }
+}
+
+impl<R: TellsLeft> Source for KnownSource<R> {
+    ghost told = { λ known. known_supply (R.remaining known.source.reader) known.source.faults };
+
+    fn read(&mut self, buffer: &mut [u8]) -> Result<usize, SourceError> {
+        self.source.read(buffer)
+    }
+}
