@@ -11,5 +11,10 @@ use sval_program::run_process;
 
 // The types say which stream is which.
 fn main(rt: HostRuntime) -> ExitCode {
-    run_process::<ReadCbor, _, Stdin, Stdout, Stderr>(&rt, rt.stdin(), rt.stdout(), rt.stderr())
+    run_process::<ReadCbor, _, Stdin, Stdout, Stderr>(
+        &rt,
+        rt.stdin(),
+        &mut rt.stdout(),
+        rt.stderr(),
+    )
 }

@@ -10,5 +10,10 @@ use sval_program::run_process;
 
 // The types say which stream is which.
 fn main(rt: HostRuntime) -> ExitCode {
-    run_process::<FilterFields, _, Stdin, Stdout, Stderr>(&rt, rt.stdin(), rt.stdout(), rt.stderr())
+    run_process::<FilterFields, _, Stdin, Stdout, Stderr>(
+        &rt,
+        rt.stdin(),
+        &mut rt.stdout(),
+        rt.stderr(),
+    )
 }

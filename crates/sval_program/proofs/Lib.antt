@@ -9,3 +9,4 @@ pub mod JobStatuses
 pub mod JobLeaves
 pub mod JobEnds
 pub mod ToldRuns
+pub mod Streaming

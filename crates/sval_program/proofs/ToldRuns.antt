@@ -10,11 +10,11 @@ use Rattle.sval_program.specs.declared.failure.Failure.TheVariants.{Usage, Input
 use Rattle.sval_program.specs.Inputs.{OnShort, OnLong, input_if}
 use Rattle.sval_program.specs.Jobs.{Terms, ServesBytes, ServesInput, ServesIf, ServesForm, Works}
 use Rattle.sval_program.specs.Outputs.{IsOwnWant, IsWantIf, IsStopCause, StopsIf}
-use Rattle.sval_program.specs.Runs.{reads, Ends, Reports, ToldEnds, MayLeave}
+use Rattle.sval_program.specs.Runs.{reads, Ends, MayLeave}
 use Rattle.sval_program.proofs.JobRuns.{on_both}
 
 -- a device that is what it tells
-abbrev as_told : {T : Type 0} → T → T
+abbrev pub as_told : {T : Type 0} → T → T
 as_told told = told
 
 own_want : {K : Type 0} (sink : K → Told) (old new : K) → IsOwnWant sink old new → IsOwnWant as_told (sink old) (sink new)
@@ -80,7 +80,7 @@ told_works terms source sink words ended before after old new w = record { serve
 
 -- ---- the run
 
-told_run : {Form I K : Type 0} {terms : Terms Form} {source : I → Supply} {sink : K → Told} {words : List (List ℕ)} {before after : I} {old new : K} {status : ℕ} → Ends terms source sink words before after old new status
+pub told_run : {Form I K : Type 0} {terms : Terms Form} {source : I → Supply} {sink : K → Told} {words : List (List ℕ)} {before after : I} {old new : K} {status : ℕ} → Ends terms source sink words before after old new status
     → Ends terms as_told as_told words (source before) (source after) (sink old) (sink new) status
 told_run {terms = terms} {source = source} {sink = sink} {words = words} {before = before} {old = old} {new = new} e = record {
   known = e.known;
@@ -107,11 +107,4 @@ told_run {terms = terms} {source = source} {sink = sink} {words = words} {before
   short = e.short;
   steady = e.steady;
   counts = e.counts;
-}
-
-pub told_ends : {Form I K : Type 0} {terms : Terms Form} {source : I → Supply} {sink : K → Told} {words : List (List ℕ)} {before after : I} {old new : K} {diag_old diag_new : Told} {status : ℕ} → Ends terms source sink words before after old new status
-    → Reports terms source sink words before after old new diag_old diag_new status → ToldEnds terms words (source before) (source after) (sink old) (sink new) diag_old diag_new status
-told_ends {terms = terms} {source = source} {sink = sink} {words = words} {before = before} {after = after} {old = old} {new = new} e r = record {
-  ends = told_run e;
-  reports = record { ended = r.ended; works = told_works terms source sink words r.ended before after old new r.works; is = r.is; found = r.found; tells = r.tells };
 }

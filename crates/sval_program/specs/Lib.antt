@@ -6,3 +6,4 @@ pub mod Reports
 pub mod Failures
 pub mod Jobs
 pub mod Runs
+pub mod Streams

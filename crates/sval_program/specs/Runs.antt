@@ -128,8 +128,3 @@ pub record Reports {Form I K : Type 0} (terms : Terms Form) (source : I → Supp
   pub found : (why : Fault) → ended ≡ Err (failure.Fault why) → OnNamed terms words (source before) (HasFault terms why)
   -- the one fact that names the device
   pub tells : TellsLine diag_old (line_of terms.usage ended) diag_new
-
--- the same of what the source and the sink tell alone
-pub record ToldEnds {Form : Type 0} (terms : Terms Form) (words : List (List ℕ)) (in_old in_new : Supply) (out_old out_new diag_old diag_new : Told) (status : ℕ) : Type 0 where
-  pub ends : Ends terms (λ (told : Supply). told) (λ (told : Told). told) words in_old in_new out_old out_new status
-  pub reports : Reports terms (λ (told : Supply). told) (λ (told : Told). told) words in_old in_new out_old out_new diag_old diag_new status

@@ -1,6 +1,6 @@
 //! Programs that write what is due of an input: a program says what, and its run is the same for all.
 
-ghost use Rattle.std.specs.Prelude.{◌≡◌, ◌↔◌, true, None, map, string_bytes};
+ghost use Rattle.std.specs.Prelude.{◌≡◌, map, string_bytes};
 ghost use Rattle.sval_program.specs.Failures.{status_of, line_of, line_of_failure};
 ghost use Rattle.sval_program.specs.Jobs.{Serves, Works};
 ghost use Rattle.sval_program.specs.Reports.{TellsLine};
@@ -9,7 +9,6 @@ ghost use Rattle.sval_program.specs.Runs.{Ends, Reports};
 use crate::failure::Failure;
 use crate::line::{Line, tell};
 use crate::lines;
-use crate::program::Program;
 use crate::status::DONE;
 use std::alloc::Global;
 use sval_io::{Sink, SinkError, Source};
@@ -116,37 +115,4 @@ pub fn run<J: Job, I: Source, K: Sink, D: Sink>(
 {
     let ended = work::<J, I, K>(alloc, words, input, out);
     conclude::<J, D>(ended, diag)
-}
-
-/// A job is a program, as [`run_streams`](crate::run_streams) and [`run_process`](crate::run_process) run it. Its `Ends`
-/// are those of its [`run`], on what the source and the sink tell.
-impl<J: Job> Program for J {
-    ghost use Rattle.std.specs.Prelude.{refl};
-    ghost use Rattle.sval_program.specs.Runs.{is_status, ToldEnds};
-
-    ghost Form = { J.Form };
-
-    ghost form_named = { J.terms.form_named };
-
-    ghost is_status = { is_status J.terms };
-
-    ghost Ends = { ToldEnds J.terms };
-
-    ghost has_usage = { refl };
-
-    ghost has_no_memory = { refl };
-
-    fn takes(words: &[String]) -> bool {
-        <J as Job>::takes(words)
-    }
-
-    fn run<I: Source, K: Sink, D: Sink>(
-        alloc: Global,
-        words: &[String],
-        input: &mut I,
-        out: &mut K,
-        diag: &mut D,
-    ) -> u8 {
-        run::<J, I, K, D>(alloc, words, input, out, diag)
-    }
 }

@@ -1,6 +1,6 @@
 //! What the programs of this repository have in common.
 //!
-//! A [`Program`] reads an input from a [`Source`], as [`read_script`] or [`read_input`] does, writes to one sink, and tells
+//! A [`Job`] reads an input from a [`Source`], as [`read_script`] or [`read_input`] does, writes to one sink, and tells
 //! another one by a [`Line`] why it failed. It ends with one of the numbers of [`status`]. [`run_streams`] runs it over
 //! std's readers and writers, and [`run_process`] in a process.
 #![tactic(auto)]
@@ -21,7 +21,7 @@ pub use failure::{Failure, Fault};
 pub use job::Job;
 pub use line::{Line, tell};
 pub use process::{run_process, status_without_words};
-pub use program::{Program, run_streams};
+pub use program::run_streams;
 pub use reading::read_script;
 pub use sval_io::{
     FaultySource, InputError, MemSource, RealSource, Source, SourceError, read_input,

@@ -4,8 +4,11 @@ ghost use Rattle.std.specs.Prelude.{◌≡◌, ◌≢◌, ◌⊎◌, true, drop,
 ghost use Rattle.std.specs.IoError.{error_kind};
 ghost use Rattle.std.specs.Process.{exit_status};
 ghost use Rattle.std.specs.Vec.Iter.{into_iter_items};
+ghost use Rattle.sval_program.specs.Runs.{is_status};
+ghost use Rattle.sval_program.specs.Streams.{ProcessEnd};
 
-use crate::program::{Program, run_streams};
+use crate::job::Job;
+use crate::program::run_streams;
 use crate::status::{NO_MEMORY, NO_WORDS};
 use std::alloc::{AllocError, Global};
 use std::env::Args;
@@ -19,6 +22,7 @@ use std::{env, io};
 pub fn status_without_words(error: &io::Error) -> u8
     ensures no_memory { error_kind error.now ≡ ErrorKind.OutOfMemory → result ≡ NO_MEMORY }
     ensures no_words { error_kind error.now ≢ ErrorKind.OutOfMemory → result ≡ NO_WORDS }
+    ensures either { (result ≡ NO_WORDS) ⊎ (result ≡ NO_MEMORY) }
 {
     match error.kind() {
         ErrorKind::OutOfMemory => NO_MEMORY,
@@ -44,20 +48,23 @@ fn words<E: Env + AllocGlobal>(env: &E) -> io::Result<Vec<String>> {
 ///
 /// ```
 /// fn main(rt: HostRuntime) -> ExitCode {
-///     run_process::<Relay, _, Stdin, Stdout, Stderr>(&rt, rt.stdin(), rt.stdout(), rt.stderr())
+///     run_process::<Relay, _, Stdin, Stdout, Stderr>(&rt, rt.stdin(), &mut rt.stdout(), rt.stderr())
 /// }
 /// ```
-pub fn run_process<
-    P: Program,
-    E: Env + AllocGlobal,
-    R: Read + Drop,
-    W: Write + Drop,
-    D: Write + Drop,
->(env: &E, stdin: R, stdout: W, stderr: D) -> ExitCode
-    ensures { (P.is_status (exit_status result) ≡ true) ⊎ (exit_status result ≡ NO_WORDS) }
+pub fn run_process<J: Job, E: Env + AllocGlobal, R: Read + Drop, W: Write + Drop, D: Write + Drop>(
+    env: &E,
+    stdin: R,
+    stdout: &mut W,
+    stderr: D,
+) -> ExitCode
+    ensures known { (is_status J.terms (exit_status result) ≡ true) ⊎ (exit_status result ≡ NO_WORDS) }
+    ensures ends { ProcessEnd J.terms (R.remaining stdin) (W.contents stdout.old) (W.contents stdout.new) (exit_status result) }
 {
-    ExitCode::from(match words(env) {
-        Ok(words) => run_streams::<P, R, W, D>(env.alloc(), &words, stdin, stdout, stderr),
-        Err(error) => status_without_words(&error),
-    })
+    match words(env) {
+        Ok(words) => {
+            let status = run_streams::<J, R, W, D>(env.alloc(), &words, stdin, stdout, stderr);
+            ExitCode::from(status)
+        }
+        Err(error) => ExitCode::from(status_without_words(&error)),
+    }
 }

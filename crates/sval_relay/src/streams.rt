@@ -1,7 +1,9 @@
 //! The whole program, over std's readers and writers.
 
 ghost use Rattle.std.specs.Prelude.{◌≡◌, ◌↔◌, true, None, map, string_bytes};
-ghost use Rattle.sval_program.specs.Runs.{is_status};
+ghost use Rattle.std.specs.Io.KnownBytes.{Keeps};
+ghost use Rattle.sval_program.specs.Runs.{is_status, is_unwritten};
+ghost use Rattle.sval_program.specs.Streams.{StreamsEnd, AppendsAllDue};
 ghost use Rattle.sval_relay.specs.Serves.{relay_terms};
 ghost use Rattle.sval_relay.specs.Ways.{form_named};
 
@@ -11,7 +13,7 @@ use crate::way::named_form;
 use std::alloc::Global;
 use std::io::{Read, Write};
 use sval_io::{Sink, SinkError, Source};
-use sval_program::status::USAGE;
+use sval_program::status::{DONE, USAGE};
 use sval_program::{Failure, Job, Line, run_streams};
 
 impl From<MadeError> for Failure {
@@ -59,8 +61,11 @@ impl Job for Relay {
 }
 
 /// Runs the program on its words over a reader and two writers, and answers its status. The forms of the words and the
-/// statuses are those of [`run`], and tests show that it serves as `run` does over any devices. With `lines` after the
-/// words of a form many values may come, and for `made N` the reader isn't read.
+/// statuses are those of [`run`]. With `lines` after the words of a form many values may come, and for `made N` the reader
+/// isn't read.
+///
+/// Where the reader tells what it has left, and the output what it holds, as a slice and a `Vec` do: at status 0 exactly
+/// the bytes that are due of the script were appended to the output.
 ///
 /// The output is held back in a buffer of 65,536 bytes until it is full. What is left of it is passed on before status
 /// 0 is answered, and with any other status at the end, where a failure isn't told. Memory for that buffer is asked
@@ -77,11 +82,17 @@ pub fn relay_streams<R: Read + Drop, W: Write + Drop, D: Write + Drop>(
     alloc: Global,
     words: &[String],
     stdin: R,
-    stdout: W,
+    stdout: &mut W,
     stderr: D,
 ) -> u8
     ensures known { is_status relay_terms result ≡ true }
     ensures usage { (result ≡ USAGE) ↔ (form_named (map string_bytes words.now) ≡ None) }
+    ensures ends { StreamsEnd relay_terms (map string_bytes words.now) (R.remaining stdin)
+        (W.contents stdout.old) (W.contents stdout.new) result }
+    ensures done { result ≡ DONE → AppendsAllDue relay_terms (map string_bytes words.now) (R.remaining stdin)
+        (W.contents stdout.old) (W.contents stdout.new) }
+    ensures unwritten { is_unwritten relay_terms result ≡ true → Keeps (W.contents stdout.old) (W.contents stdout.new) }
+    ensures nothing_written { result ≡ USAGE → stdout.new ≡ stdout.old }
 {
     run_streams::<Relay, R, W, D>(alloc, words, stdin, stdout, stderr)
 }

@@ -12,5 +12,5 @@ use sval_relay::Relay;
 
 // The types say which stream is which.
 fn main(rt: HostRuntime) -> ExitCode {
-    run_process::<Relay, _, Stdin, Stdout, Stderr>(&rt, rt.stdin(), rt.stdout(), rt.stderr())
+    run_process::<Relay, _, Stdin, Stdout, Stderr>(&rt, rt.stdin(), &mut rt.stdout(), rt.stderr())
 }

@@ -9,7 +9,7 @@ use std::process::Abort;
 use std::str::from_utf8;
 use std::test::Fail;
 use sval_io::{FaultySource, MemSource, RealSink, Source};
-use sval_program::Program;
+use sval_program::{Job, job};
 
 /// What is told of an output that fails.
 const WRITE_FAULT: &'static [u8] = b"write fault\n";
@@ -43,7 +43,7 @@ struct Ran {
 }
 
 /// Runs a program over a source and two writers, each of which fails at a call, if one is given.
-fn run<P: Program, I: Source>(
+fn run<J: Job, I: Source>(
     trial: &Trial<'_>,
     input: &mut I,
     out: Option<usize>,
@@ -51,7 +51,7 @@ fn run<P: Program, I: Source>(
 ) -> Ran {
     let mut out = Failing::new(trial.alloc, trial.part, out);
     let mut diag = Failing::new(trial.alloc, trial.part, diag);
-    let status = P::run(
+    let status = job::run::<J, I, _, _>(
         trial.alloc,
         trial.words,
         input,
@@ -82,13 +82,13 @@ fn front(bytes: &[u8], count: usize) -> &[u8] {
 
 /// The row over an output with a fault at each of the calls that it gets without one, where so many bytes were taken, the
 /// flush too, which comes after status 0 alone: what was taken before stays, and the status is 8.
-fn try_writes<P: Program>(rt: &impl Abort, trial: &Trial<'_>, marks: &[usize]) {
+fn try_writes<J: Job>(rt: &impl Abort, trial: &Trial<'_>, marks: &[usize]) {
     let row = trial.row;
     let flushes = usize::from(row.status == 0);
     assert!(rt; trial.part > 1 || marks.len() == row.written.as_slice().len() + flushes);
     for (at, mark) in marks.iter().enumerate() {
         let mut input = MemSource::new(row.input.as_slice());
-        let ran = run::<P, _>(trial, &mut input, Some(at), None);
+        let ran = run::<J, _>(trial, &mut input, Some(at), None);
         let taken = front(row.written.as_slice(), *mark);
         compare(rt, trial, at, &ran, (8, taken, WRITE_FAULT));
     }
@@ -96,13 +96,13 @@ fn try_writes<P: Program>(rt: &impl Abort, trial: &Trial<'_>, marks: &[usize]) {
 
 /// The row with a fault at each call of the third device, the flush too, which is the last: it has what it took before,
 /// and all else is as if it took its whole line.
-fn try_reports<P: Program>(rt: &impl Abort, trial: &Trial<'_>, marks: &[usize]) {
+fn try_reports<J: Job>(rt: &impl Abort, trial: &Trial<'_>, marks: &[usize]) {
     let row = trial.row;
     let told = marks.last().copied().unwrap_or(0);
     assert!(rt; told == row.line.as_slice().len());
     for (at, mark) in marks.iter().enumerate() {
         let mut input = MemSource::new(row.input.as_slice());
-        let ran = run::<P, _>(trial, &mut input, None, Some(at));
+        let ran = run::<J, _>(trial, &mut input, None, Some(at));
         let taken = front(row.line.as_slice(), *mark);
         compare(
             rt,
@@ -116,7 +116,7 @@ fn try_reports<P: Program>(rt: &impl Abort, trial: &Trial<'_>, marks: &[usize]) 
 
 /// A fault at each call of a source that gives 7 bytes a call, that which sees the end too, before an output that would
 /// fail: nothing is written, and the status is 9. One behind that isn't met; where the words are no form, none is.
-fn try_reads<P: Program>(rt: &impl Abort, trial: &Trial<'_>) {
+fn try_reads<J: Job>(rt: &impl Abort, trial: &Trial<'_>) {
     let row = trial.row;
     let parts = row.input.as_slice().len().div_ceil(PART);
     let calls = if row.status == 2 { 0 } else { parts + 1 };
@@ -124,7 +124,7 @@ fn try_reads<P: Program>(rt: &impl Abort, trial: &Trial<'_>) {
         let failing = [at as u64 + 1];
         let mut input = FaultySource::new(row.input.as_slice(), PART, &failing);
         let out = if at < calls { Some(0) } else { None };
-        let ran = run::<P, _>(trial, &mut input, out, None);
+        let ran = run::<J, _>(trial, &mut input, out, None);
         let due = if at < calls {
             (9, b"".as_slice(), READ_FAULT)
         } else {
@@ -135,16 +135,16 @@ fn try_reads<P: Program>(rt: &impl Abort, trial: &Trial<'_>) {
 }
 
 /// The row over devices that don't fail, and then with a fault at each call of each writer.
-fn try_trial<P: Program>(rt: &impl Abort, trial: &Trial<'_>)
+fn try_trial<J: Job>(rt: &impl Abort, trial: &Trial<'_>)
     requires { 1 ≤ trial.now.part }
 {
     let row = trial.row;
     let mut input = FaultySource::new(row.input.as_slice(), trial.part, &[]);
-    let plain = run::<P, _>(trial, &mut input, None, None);
+    let plain = run::<J, _>(trial, &mut input, None, None);
     let due = (row.status, row.written.as_slice(), row.line.as_slice());
     compare(rt, trial, 0, &plain, due);
-    try_writes::<P>(rt, trial, plain.out.marks.as_slice());
-    try_reports::<P>(rt, trial, plain.diag.marks.as_slice());
+    try_writes::<J>(rt, trial, plain.out.marks.as_slice());
+    try_reports::<J>(rt, trial, plain.diag.marks.as_slice());
 }
 
 /// The words behind the program's name.
@@ -158,11 +158,7 @@ fn words_of(alloc: Global, row: &Row) -> Result<Vec<String>, Fail> {
 
 /// A fault at each call of each writer, where devices give and take 1 byte, 7 and 1000 bytes a call at most, and at each
 /// call of a source that gives 7.
-pub(crate) fn try_faults<P: Program>(
-    rt: &impl Abort,
-    alloc: Global,
-    row: &Row,
-) -> Result<(), Fail> {
+pub(crate) fn try_faults<J: Job>(rt: &impl Abort, alloc: Global, row: &Row) -> Result<(), Fail> {
     let owned = words_of(alloc, row)?;
     let words = owned.as_slice();
     let bytes = Trial {
@@ -171,28 +167,28 @@ pub(crate) fn try_faults<P: Program>(
         words,
         part: 1,
     };
-    try_trial::<P>(rt, &bytes);
+    try_trial::<J>(rt, &bytes);
     let pieces = Trial {
         alloc,
         row,
         words,
         part: PART,
     };
-    try_trial::<P>(rt, &pieces);
-    try_reads::<P>(rt, &pieces);
+    try_trial::<J>(rt, &pieces);
+    try_reads::<J>(rt, &pieces);
     let wide = Trial {
         alloc,
         row,
         words,
         part: 1000,
     };
-    try_trial::<P>(rt, &wide);
+    try_trial::<J>(rt, &wide);
     Ok(())
 }
 
 /// The row's words over an input of one byte more than is read, from a source that fails at the call that sees that there
 /// is more, or behind it: the output, which would fail, isn't written.
-pub(crate) fn try_long<P: Program>(rt: &impl Abort, alloc: Global, row: &Row) -> Result<(), Fail> {
+pub(crate) fn try_long<J: Job>(rt: &impl Abort, alloc: Global, row: &Row) -> Result<(), Fail> {
     let bytes = vec![in alloc; b' '; LIMIT + 1]?;
     let words = words_of(alloc, row)?;
     let trial = Trial {
@@ -208,7 +204,7 @@ pub(crate) fn try_long<P: Program>(rt: &impl Abort, alloc: Global, row: &Row) ->
     ] {
         let failing = [call];
         let mut input = FaultySource::new(bytes.as_slice(), ASKED, &failing);
-        let ran = run::<P, _>(&trial, &mut input, Some(0), None);
+        let ran = run::<J, _>(&trial, &mut input, Some(0), None);
         assert!(rt; ran.out.marks.is_empty());
         compare(rt, &trial, 0, &ran, (status, b"".as_slice(), line));
     }

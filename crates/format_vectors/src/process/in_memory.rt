@@ -5,7 +5,7 @@ use std::alloc::Global;
 use std::env::FillError;
 use std::process::{Abort, ExitCode};
 use std::rt::Env;
-use sval_program::{Program, run_process};
+use sval_program::{Job, run_process};
 
 /// A process with these words, the program's name first.
 #[derive(Drop)]
@@ -36,13 +36,13 @@ impl<'a> Env for Process<'a> {
 }
 
 /// Runs a program in a process, and compares what comes of it with the row.
-pub(crate) fn try_process<P: Program>(rt: &impl Abort, alloc: Global, row: &Row) {
+pub(crate) fn try_process<J: Job>(rt: &impl Abort, alloc: Global, row: &Row) {
     let mut stdout = Vec::new(alloc);
     let mut stderr = Vec::new(alloc);
     let words = row.words.as_slice();
     let input = row.input.as_slice();
     let env = (Process { words }, alloc);
-    let status = run_process::<P, _, _, _, _>(&env, input, &mut stdout, &mut stderr);
+    let status = run_process::<J, _, _, _, _>(&env, input, &mut stdout, &mut stderr);
     assert!(rt;
         status == ExitCode::from(row.status)
             && stdout.as_slice() == row.written.as_slice()

@@ -7,20 +7,16 @@ use crate::process::row::Row;
 use std::alloc::Global;
 use std::process::Abort;
 use std::test::Fail;
-use sval_program::Program;
+use sval_program::Job;
 
 /// Tries each row of a table.
-pub(crate) fn try_rows<P: Program>(
-    rt: &impl Abort,
-    alloc: Global,
-    table: &str,
-) -> Result<(), Fail> {
+pub(crate) fn try_rows<J: Job>(rt: &impl Abort, alloc: Global, table: &str) -> Result<(), Fail> {
     let mut row = Row::new(alloc);
     for line in table.lines() {
         let (mark, text) = line.split_once(' ').unwrap_or((line, ""));
         if mark == "=" || mark == "~" || mark == "*" {
             row.status = text.parse::<u8>()?;
-            try_row::<P>(rt, alloc, mark, &row)?;
+            try_row::<J>(rt, alloc, mark, &row)?;
         } else {
             row.take(alloc, mark, text)?;
         }
@@ -29,13 +25,13 @@ pub(crate) fn try_rows<P: Program>(
 }
 
 /// Tries a row as its mark says.
-fn try_row<P: Program>(rt: &impl Abort, alloc: Global, mark: &str, row: &Row) -> Result<(), Fail> {
+fn try_row<J: Job>(rt: &impl Abort, alloc: Global, mark: &str, row: &Row) -> Result<(), Fail> {
     if mark == "*" {
-        return try_long::<P>(rt, alloc, row);
+        return try_long::<J>(rt, alloc, row);
     }
-    try_process::<P>(rt, alloc, row);
+    try_process::<J>(rt, alloc, row);
     if mark == "=" {
-        try_faults::<P>(rt, alloc, row)?;
+        try_faults::<J>(rt, alloc, row)?;
     }
     Ok(())
 }
