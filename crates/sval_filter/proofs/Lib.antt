@@ -20,6 +20,5 @@ mod PruneWants
 mod Verdicts
 mod LeftTexts
 mod ScriptAnswers
-mod RunAnswers
 mod examples
 mod TakenCalls

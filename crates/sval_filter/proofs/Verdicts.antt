@@ -1,5 +1,5 @@
--- Each script has one verdict.
-use Rattle.std.specs.Prelude.{◌≡◌, ℕ, List, length, Option, Some, None, Result, Ok, Err, refl}
+-- Each script has one verdict, and one thing is due of it.
+use Rattle.std.specs.Prelude.{◌≡◌, ℕ, false, List, [], length, Option, Some, None, Result, Ok, Err, refl}
 use Rattle.std.proofs.Common.{sym, ap, ◌∙◌, subst, arith}
 use Rattle.sval_label.specs.Calls.{Call}
 use Rattle.sval_core.specs.Spells.{Spells}
@@ -8,16 +8,20 @@ use Rattle.sval_core.proofs.FirstBad.{one_first_bad, none_bad}
 use Rattle.sval_core.proofs.Spellings.{spells_one, spelling_is_viable}
 use Rattle.sval_check.specs.Checks.{IsFirstBadCall}
 use Rattle.sval_json.specs.Json.{Json, compact}
-use Rattle.sval_json.specs.Number.{Refusal}
+use Rattle.sval_json.specs.Number.{Refusal, InvalidKey, InvalidNumber}
 use Rattle.sval_json.specs.Shape.{json_of}
 use Rattle.sval_json.specs.Steps.{written_in}
 use Rattle.sval_json.specs.declared.style.Variants.TheVariants.{Inside}
+use Rattle.sval_program.specs.declared.failure.Fault.{Fault}
+use Rattle.sval_program.specs.declared.failure.Fault.TheVariants as fault
+use Rattle.sval_program.specs.Jobs.{OneDue}
 use Rattle.sval_program.proofs.FoundCalls.{Found, found_bad, found_open, found_whole, found}
 use Rattle.sval_script.specs.Lines.{Lines, Good, Bad, lines}
 use Rattle.sval_filter.specs.Forms.{Asked}
 use Rattle.sval_filter.specs.Laws.{OneVerdict}
 use Rattle.sval_filter.specs.Pruned.{pruned}
-use Rattle.sval_filter.specs.Verdict.{Verdict, BadLine, BadCall, Unfinished, Whole, IsWritten, AreUnfinished, SpellWhole, IsOfCalls, OfCalls, IsVerdict, OnVerdict}
+use Rattle.sval_filter.specs.Serves.{Due, a_text, is_bad_line, is_bad_call, is_unfinished, up_to_key, up_to_number, filter_terms}
+use Rattle.sval_filter.specs.Verdict.{Verdict, BadLine, BadCall, Unfinished, Whole, IsWritten, AreUnfinished, SpellWhole, IsOfCalls, OfCalls, IsVerdict}
 
 -- ---- of a tree
 
@@ -82,7 +86,7 @@ one_bad e f = let both = sym e ∙ f in cc both
 one_of_lines : (v w : Verdict) (script : List ℕ) (asked : Asked) → OfCalls v script asked → OfCalls w script asked → v ≡ w
 one_of_lines v w script asked a b = one_of_calls v w asked a.calls a.is (subst (IsOfCalls w asked) (same_calls a.good b.good) b.is)
 
-pub one_verdict : (v w : Verdict) (script : List ℕ) (asked : Asked) → IsVerdict v script asked → IsVerdict w script asked → v ≡ w
+one_verdict : (v w : Verdict) (script : List ℕ) (asked : Asked) → IsVerdict v script asked → IsVerdict w script asked → v ≡ w
 one_verdict (BadLine n) (BadLine m) script asked a b = ap BadLine (one_bad a b)
 one_verdict (BadLine n) (BadCall m) script asked a b = absurd (bad_or_good a b.good)
 one_verdict (BadLine n) Unfinished script asked a b = absurd (bad_or_good a b.good)
@@ -124,6 +128,37 @@ some_of_lines script asked (Good calls) good = some_of_calls script asked calls 
 pub each_one : OneVerdict
 each_one script asked = let some = some_of_lines script asked (lines script) refl in (some.0, some.1, λ other is. one_verdict some.0 other script asked some.1 is)
 
--- what holds of the verdict found holds of each
-pub of_each : (script : List ℕ) (asked : Asked) (found : Verdict) (P : Verdict → Type 0) → IsVerdict found script asked → P found → OnVerdict P script asked
-of_each script asked found P v p answer w = subst P (one_verdict found answer script asked v w) p
+-- ---- one thing is due
+
+-- the fault that a verdict asks for, if it asks for one, and the bytes that are written
+abbrev due_of : Verdict → Option Fault × List ℕ
+due_of (BadLine n) = (Some (fault.BadLine n), [])
+due_of (BadCall n) = (Some (fault.BadCall n), [])
+due_of Unfinished = (Some (fault.Unfinished false), [])
+due_of (Whole None text) = (None, text)
+due_of (Whole (Some InvalidKey) written) = (Some fault.InvalidKey, written)
+due_of (Whole (Some InvalidNumber) written) = (Some fault.InvalidNumber, written)
+
+-- they are those that a verdict of the script asks for
+record HasVerdictFor (asked : Asked) (script : List ℕ) (found : Option Fault) (bytes : List ℕ) : Type 0 where
+  pub answer : Verdict
+  pub is : IsVerdict answer script asked
+  pub same_fault : found ≡ (due_of answer).0
+  pub same_bytes : bytes ≡ (due_of answer).1
+
+verdict_for : {asked : Asked} {script bytes : List ℕ} (found : Option Fault) → Due asked script found bytes → HasVerdictFor asked script found bytes
+verdict_for _ (a_text {text = text} is) = record { answer = Whole None text; is = is; same_fault = refl; same_bytes = refl }
+verdict_for _ (is_bad_line {line = line} is) = record { answer = BadLine line; is = is; same_fault = refl; same_bytes = refl }
+verdict_for _ (is_bad_call {line = line} is) = record { answer = BadCall line; is = is; same_fault = refl; same_bytes = refl }
+verdict_for _ (is_unfinished is) = record { answer = Unfinished; is = is; same_fault = refl; same_bytes = refl }
+verdict_for _ (up_to_key {written = written} is) = record { answer = Whole (Some InvalidKey) written; is = is; same_fault = refl; same_bytes = refl }
+verdict_for _ (up_to_number {written = written} is) = record { answer = Whole (Some InvalidNumber) written; is = is; same_fault = refl; same_bytes = refl }
+
+pub one_due : OneDue filter_terms
+one_due asked script found other bytes others due also =
+    let first = verdict_for found due in
+    let second = verdict_for other also in
+    let same : first.answer ≡ second.answer = one_verdict first.answer second.answer script asked first.is second.is in (
+      first.same_fault ∙ ap (λ (answer : Verdict). (due_of answer).0) same ∙ sym second.same_fault,
+      first.same_bytes ∙ ap (λ (answer : Verdict). (due_of answer).1) same ∙ sym second.same_bytes,
+    )

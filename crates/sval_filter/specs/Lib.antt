@@ -17,6 +17,4 @@ pub mod ErrorTexts
 pub mod Words
 pub mod Forms
 pub mod Verdict
-pub mod Statuses
-pub mod Reports
 pub mod Serves

@@ -1,12 +1,11 @@
--- What is due of a script, and what writing it leaves of a sink.
+-- What is due of a script, the program's terms, and facts on writing what is due.
 use Rattle.std.specs.Prelude.{◌≡◌, ℕ, true, false, List, [], ◌∷◌, Option, Some, None, codes}
 use Rattle.sval_label.specs.Calls.{Call}
 use Rattle.sval_core.specs.Values.{makes}
-use Rattle.sval_io.specs.Sinks.{Told, Appends, AppendsFront}
 use Rattle.sval_buffer.specs.Forest.{Forest}
 use Rattle.sval_check.specs.declared.error.CheckError.{CheckError}
 use Rattle.sval_check.specs.declared.error.CheckError.TheVariants as check
-use Rattle.sval_json.specs.Number.{Refusal, InvalidKey, InvalidNumber}
+use Rattle.sval_json.specs.Number.{InvalidKey, InvalidNumber}
 use Rattle.sval_program.specs.declared.failure.Fault.{Fault}
 use Rattle.sval_program.specs.declared.failure.Fault.TheVariants as fault
 use Rattle.sval_program.specs.declared.failure.Failure.{Failure}
@@ -16,7 +15,7 @@ use Rattle.sval_program.specs.Jobs.{Terms}
 use Rattle.sval_script.specs.Lines.{Good, lines}
 use Rattle.sval_filter.specs.Forms.{Asked}
 use Rattle.sval_filter.specs.Pruning.{IsPruned}
-use Rattle.sval_filter.specs.Verdict.{Verdict, BadLine, BadCall, Unfinished, Whole, IsVerdict}
+use Rattle.sval_filter.specs.Verdict.{BadLine, BadCall, Unfinished, Whole, IsVerdict}
 use Rattle.sval_filter.specs.Words.{rule_and_paths}
 
 -- ---- what is due of a script
@@ -56,24 +55,3 @@ failure_of_check (check.BadCall n) = Some (failure.Fault (fault.BadCall n))
 failure_of_check check.Unfinished = Some (failure.Fault (fault.Unfinished false))
 failure_of_check check.NoMemory = Some failure.NoMemory
 failure_of_check check.Refused = None
-
--- ---- what is left of a sink
-
--- the verdict is these bytes, whole or up to a refusal, and exactly they were taken
-pub record WritesFilteredUpTo (refused : Option Refusal) (old new : Told) (script : List ℕ) (asked : Asked) : Type 0 where
-  pub bytes : List ℕ
-  pub is : IsVerdict (Whole refused bytes) script asked
-  pub appends : Appends old bytes new
-
--- the verdict is this text, and exactly it was taken
-abbrev pub WritesFilteredText : Told → Told → List ℕ → Asked → Type 0
-WritesFilteredText old new script asked = WritesFilteredUpTo None old new script asked
-
--- the verdict is a refusal, and exactly what stands before it was taken
-abbrev pub WritesUpToRefusal : Refusal → Told → Told → List ℕ → Asked → Type 0
-WritesUpToRefusal why old new script asked = WritesFilteredUpTo (Some why) old new script asked
-
--- what may be left: a first part of the bytes that are the verdict; and nothing where there are none
-abbrev pub MayLeave : Told → Told → Verdict → Type 0
-MayLeave old new (Whole refused bytes) = AppendsFront old bytes new
-MayLeave old new _ = new ≡ old

@@ -65,15 +65,3 @@ pub record OfCalls (answer : Verdict) (script : List ℕ) (asked : Asked) : Type
 abbrev pub IsVerdict : Verdict → List ℕ → Asked → Type 0
 IsVerdict (BadLine n) script asked = lines script ≡ Bad n
 IsVerdict answer script asked = OfCalls answer script asked
-
--- the verdict is that a line is bad, the first one of the script
-abbrev pub HasBadLine : List ℕ → Asked → Type 0
-HasBadLine script asked = (line : ℕ) × IsVerdict (BadLine line) script asked
-
--- the verdict is that no value goes on with a call, the first such one of the script
-abbrev pub HasBadCall : List ℕ → Asked → Type 0
-HasBadCall script asked = (line : ℕ) × IsVerdict (BadCall line) script asked
-
--- a fact on the script's verdict
-abbrev pub OnVerdict : (Verdict → Type 0) → List ℕ → Asked → Type 0
-OnVerdict P script asked = (answer : Verdict) → IsVerdict answer script asked → P answer

@@ -1,7 +1,9 @@
 //! The laws of pruning, of the filter and of verdicts, each as a clause that is proved.
 
+ghost use Rattle.sval_program.specs.Jobs.{OneDue};
 ghost use Rattle.sval_filter.specs.Laws.{PrunedIsGood, PrunedIsReal, DueCallsSpellPruned, NothingDropped};
 ghost use Rattle.sval_filter.specs.Laws.{InnerTakesPruned, TakesTrees, RefusesWithCause, OneVerdict, StandsForTaken};
+ghost use Rattle.sval_filter.specs.Serves.{filter_terms};
 
 use sval_core::Stream;
 use sval_label::Lending;
@@ -22,7 +24,8 @@ pub fn stream_laws<L: Lending, S: Stream<L>>()
     ensures stands_for_taken { StandsForTaken S.law }
 {}
 
-/// What holds of the verdict on every script.
+/// What holds of the verdict on every script, and of what is due of it.
 pub fn verdict_laws()
-    ensures { OneVerdict }
+    ensures one_verdict { OneVerdict }
+    ensures one_due { OneDue filter_terms }
 {}

@@ -9,7 +9,7 @@ use sval_io::{Sink, Source};
 use sval_program::{Failure, Job, Line};
 
 /// The program, as [`run_process`](sval_program::run_process) and [`run_streams`](sval_program::run_streams) run it:
-/// [`run_filter`](crate::run_filter) says more of its runs.
+/// [`run_filter`](crate::run_filter) lists its statuses.
 pub struct FilterFields;
 
 impl Job for FilterFields {

@@ -4,18 +4,12 @@ ghost use Rattle.std.specs.Prelude.{◌≡◌, ℕ, List, Some, IfOk, IfErr, map
 ghost use Rattle.sval_core.specs.Values.{makes};
 ghost use Rattle.sval_buffer.specs.FlatForest.{forest_in};
 ghost use Rattle.sval_check.specs.Checks.{IsOneValue};
-ghost use Rattle.sval_json.specs.Number.{InvalidKey, InvalidNumber};
-ghost use Rattle.sval_program.specs.Inputs.{OnShort};
 ghost use Rattle.sval_program.specs.Jobs.{ServesBytes, ServesInput, Serves};
-ghost use Rattle.sval_program.specs.Runs.{AreQuiet, Ends};
-ghost use Rattle.sval_program.specs.Runs as runs;
+ghost use Rattle.sval_program.specs.Runs.{Ends, Reports};
 ghost use Rattle.sval_script.specs.Lines.{lines, Good};
-ghost use Rattle.sval_filter.specs.Forms.{Asked, OnAsked};
+ghost use Rattle.sval_filter.specs.Forms.{Asked};
 ghost use Rattle.sval_filter.specs.Pruning.{IsPruned, IsPruneWant};
-ghost use Rattle.sval_filter.specs.Reports.{Reports};
-ghost use Rattle.sval_filter.specs.Serves.{filter_terms, IsLeftOf, WritesFilteredText, WritesUpToRefusal, MayLeave, failure_of_check};
-ghost use Rattle.sval_filter.specs.Statuses.{IsStatusDue};
-ghost use Rattle.sval_filter.specs.Verdict.{Unfinished, IsVerdict, HasBadLine, HasBadCall, OnVerdict};
+ghost use Rattle.sval_filter.specs.Serves.{filter_terms, IsLeftOf, failure_of_check};
 
 use crate::form::{Form, named_form, paths_of};
 use crate::program::FilterFields;
@@ -26,7 +20,6 @@ use sval_check::{CheckError, check};
 use sval_io::{Sink, SinkError, Source};
 use sval_json::{ErrorKind, stream_to_io_write};
 use sval_program::job::run;
-use sval_program::status::{BAD_CALL, BAD_LINE, DONE, INVALID_KEY, INVALID_NUMBER, UNFINISHED};
 use sval_program::{Failure, Fault, read_script};
 use sval_script::Script;
 
@@ -163,6 +156,10 @@ pub(crate) fn serve<I: Source, K: Sink>(
 /// After 10 the sink is as it was, unless its own count of wants rose. After 8, and after 10 where that count rose, a
 /// first part of what 0, 6 or 7 leave may have been taken.
 ///
+/// The clause `ends` says when each status comes and what is left of the input and the output, and `reports` what `diag`
+/// is told. Of an input one thing is due: a fault or none, and the bytes to write
+/// ([`verdict_laws`](crate::laws::verdict_laws)).
+///
 /// ```
 /// let mut out = VecSink::new(alloc);
 /// let mut diag = VecSink::new(alloc);
@@ -181,33 +178,8 @@ pub fn run_filter<I: Source, K: Sink, D: Sink>(
 ) -> u8
     ensures ends { Ends filter_terms I.told K.told (map string_bytes words.now) input.old input.new
         out.old out.new result }
-
-    // Nothing but its line depends on what the third device answers.
-    ensures apart { runs.Reports filter_terms I.told K.told (map string_bytes words.now) input.old input.new
+    ensures reports { Reports filter_terms I.told K.told (map string_bytes words.now) input.old input.new
         out.old out.new (D.told diag.old) (D.told diag.new) result }
-
-    // Each status comes only where it is so.
-    ensures done { result ≡ DONE
-        → OnAsked words.now (I.told input.old) (WritesFilteredText (K.told out.old) (K.told out.new)) }
-    ensures bad_line { result ≡ BAD_LINE → OnAsked words.now (I.told input.old) HasBadLine }
-    ensures bad_call { result ≡ BAD_CALL → OnAsked words.now (I.told input.old) HasBadCall }
-    ensures unfinished { result ≡ UNFINISHED → OnAsked words.now (I.told input.old) (IsVerdict Unfinished) }
-    ensures invalid_key { result ≡ INVALID_KEY
-        → OnAsked words.now (I.told input.old) (WritesUpToRefusal InvalidKey (K.told out.old) (K.told out.new)) }
-    ensures invalid_number { result ≡ INVALID_NUMBER
-        → OnAsked words.now (I.told input.old) (WritesUpToRefusal InvalidNumber (K.told out.old) (K.told out.new)) }
-
-    // Where the devices don't fail, the status is the one that is due, or memory was wanting.
-    ensures comes { AreQuiet I.told K.told input.old input.new out.old out.new
-        → OnAsked words.now (I.told input.old) (OnShort (OnVerdict (IsStatusDue result))) }
-
-    // What is left of the sink.
-    ensures leaves { OnAsked words.now (I.told input.old)
-        (OnShort (OnVerdict (MayLeave (K.told out.old) (K.told out.new)))) }
-
-    // What the third device is told.
-    ensures reports { Reports (map string_bytes words.now) (I.told input.old) result
-        (D.told diag.old) (D.told diag.new) }
 {
     run::<FilterFields, I, K, D>(alloc, words, input, out, diag)
 }
