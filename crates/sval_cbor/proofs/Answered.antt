@@ -55,7 +55,7 @@ stop_leaves (stop.Sink sink.NoMemory) due old new ok halted own = own
 
 -- ---- trees and their bytes
 
-pub packed_by : (found : Result Json PackRefusal) (bytes : List ℕ) → Ok bytes ≡ map_packed cbor found → (json : Json) × (found ≡ Ok json) × (bytes ≡ cbor json)
+packed_by : (found : Result Json PackRefusal) (bytes : List ℕ) → Ok bytes ≡ map_packed cbor found → (json : Json) × (found ≡ Ok json) × (bytes ≡ cbor json)
 packed_by (Ok json) bytes e = (json, refl, cc e)
 packed_by (Err why) bytes e = cc e
 

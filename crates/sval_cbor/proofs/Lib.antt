@@ -18,5 +18,4 @@ pub mod Streaming
 pub mod Answered
 pub mod Verdicts
 pub mod ScriptAnswers
-pub mod RunAnswers
 mod examples

@@ -1,5 +1,5 @@
--- Each script has one verdict.
-use Rattle.std.specs.Prelude.{◌≡◌, ℕ, List, length, Result, refl}
+-- Each script has one verdict, and one thing is due of it.
+use Rattle.std.specs.Prelude.{◌≡◌, ℕ, false, List, [], length, Option, Some, None, Result, Ok, Err, refl}
 use Rattle.std.proofs.Common.{sym, ap, ◌∙◌, subst, arith}
 use Rattle.sval_label.specs.Calls.{Call}
 use Rattle.sval_core.specs.Spells.{Spells}
@@ -7,12 +7,16 @@ use Rattle.sval_core.specs.Trees.{Tree}
 use Rattle.sval_core.proofs.FirstBad.{one_first_bad, none_bad}
 use Rattle.sval_core.proofs.Spellings.{spells_one, spelling_is_viable}
 use Rattle.sval_check.specs.Checks.{IsFirstBadCall}
+use Rattle.sval_program.specs.declared.failure.Fault.{Fault}
+use Rattle.sval_program.specs.declared.failure.Fault.TheVariants as fault
+use Rattle.sval_program.specs.Jobs.{OneDue}
 use Rattle.sval_program.proofs.FoundCalls.{Found, found_bad, found_open, found_whole, found}
 use Rattle.sval_script.specs.Lines.{Lines, Good, Bad, lines}
 use Rattle.sval_cbor.specs.Cbor.{cbor}
 use Rattle.sval_cbor.specs.Laws.{OneVerdict}
-use Rattle.sval_cbor.specs.Packs.{PackRefusal, map_packed, pack_of}
-use Rattle.sval_cbor.specs.Verdict.{Verdict, BadLine, BadCall, Unfinished, Whole, AreUnfinished, SpellWhole, IsOfCalls, OfCalls, IsVerdict, OnVerdict}
+use Rattle.sval_cbor.specs.Packs.{PackRefusal, BadKey, BadNumber, RawJson, NotInteger, map_packed, pack_of}
+use Rattle.sval_cbor.specs.Serves.{Due, of_value, of_bad_line, of_bad_call, of_unfinished, of_bad_key, of_bad_number, of_raw, of_no_integer, cbor_terms}
+use Rattle.sval_cbor.specs.Verdict.{Verdict, BadLine, BadCall, Unfinished, Whole, AreUnfinished, SpellWhole, IsOfCalls, OfCalls, IsVerdict}
 
 -- ---- of calls
 
@@ -27,8 +31,8 @@ not_viable calls n a u = none_bad calls a.front a.rest a.call a.whole u.viable a
 not_whole : (calls : List Call) (n : ℕ) (tree : Tree) → IsFirstBadCall calls n → Spells calls tree → ⊥
 not_whole calls n tree a s = none_bad calls a.front a.rest a.call a.whole (spelling_is_viable calls tree s) a.bad
 
-one_due : (calls : List Call) (due other : Result (List ℕ) PackRefusal) → SpellWhole due calls → SpellWhole other calls → due ≡ other
-one_due calls due other a b = a.is ∙ ap (λ tree. map_packed cbor (pack_of tree)) (spells_one calls a.tree b.tree a.spells b.spells) ∙ sym b.is
+one_whole : (calls : List Call) (due other : Result (List ℕ) PackRefusal) → SpellWhole due calls → SpellWhole other calls → due ≡ other
+one_whole calls due other a b = a.is ∙ ap (λ tree. map_packed cbor (pack_of tree)) (spells_one calls a.tree b.tree a.spells b.spells) ∙ sym b.is
 
 one_of_calls : (v w : Verdict) (calls : List Call) → IsOfCalls v calls → IsOfCalls w calls → v ≡ w
 one_of_calls (BadLine n) w calls a b = absurd a
@@ -41,7 +45,7 @@ one_of_calls Unfinished Unfinished calls a b = refl
 one_of_calls Unfinished (Whole due) calls a b = absurd (a.no_tree b.tree b.spells)
 one_of_calls (Whole due) (BadCall n) calls a b = absurd (not_whole calls n a.tree b a.spells)
 one_of_calls (Whole due) Unfinished calls a b = absurd (b.no_tree a.tree a.spells)
-one_of_calls (Whole due) (Whole other) calls a b = ap Whole (one_due calls due other a b)
+one_of_calls (Whole due) (Whole other) calls a b = ap Whole (one_whole calls due other a b)
 
 -- ---- of scripts
 
@@ -57,7 +61,7 @@ one_bad e f = let both = sym e ∙ f in cc both
 one_of_lines : (v w : Verdict) (script : List ℕ) → OfCalls v script → OfCalls w script → v ≡ w
 one_of_lines v w script a b = one_of_calls v w a.calls a.is (subst (IsOfCalls w) (same_calls a.good b.good) b.is)
 
-pub one_verdict : (v w : Verdict) (script : List ℕ) → IsVerdict v script → IsVerdict w script → v ≡ w
+one_verdict : (v w : Verdict) (script : List ℕ) → IsVerdict v script → IsVerdict w script → v ≡ w
 one_verdict (BadLine n) (BadLine m) script a b = ap BadLine (one_bad a b)
 one_verdict (BadLine n) (BadCall m) script a b = absurd (bad_or_good a b.good)
 one_verdict (BadLine n) Unfinished script a b = absurd (bad_or_good a b.good)
@@ -92,6 +96,45 @@ some_of_lines script (Good calls) good = some_of_calls script calls good (found 
 pub each_one : OneVerdict
 each_one script = let some = some_of_lines script (lines script) refl in (some.0, some.1, λ other is. one_verdict some.0 other script some.1 is)
 
--- what holds of the verdict found holds of each
-pub of_each : (script : List ℕ) (found : Verdict) (P : Verdict → Type 0) → IsVerdict found script → P found → OnVerdict P script tt
-of_each script found P v p answer w = subst P (one_verdict found answer script v w) p
+-- ---- one thing is due
+
+-- the fault where a value doesn't pack
+abbrev fault_of : PackRefusal → Fault
+fault_of BadKey = fault.InvalidKey
+fault_of BadNumber = fault.InvalidNumber
+fault_of RawJson = fault.Raw
+fault_of NotInteger = fault.NotInteger
+
+-- the fault that a verdict asks for, if it asks for one, and the bytes that are written
+abbrev due_of : Verdict → Option Fault × List ℕ
+due_of (BadLine n) = (Some (fault.BadLine n), [])
+due_of (BadCall n) = (Some (fault.BadCall n), [])
+due_of Unfinished = (Some (fault.Unfinished false), [])
+due_of (Whole (Ok bytes)) = (None, bytes)
+due_of (Whole (Err why)) = (Some (fault_of why), [])
+
+-- they are those that a verdict of the script asks for
+record HasVerdictFor (script : List ℕ) (found : Option Fault) (bytes : List ℕ) : Type 0 where
+  pub answer : Verdict
+  pub is : IsVerdict answer script
+  pub same_fault : found ≡ (due_of answer).0
+  pub same_bytes : bytes ≡ (due_of answer).1
+
+verdict_for : {asked : Unit {0}} {script bytes : List ℕ} (found : Option Fault) → Due asked script found bytes → HasVerdictFor script found bytes
+verdict_for _ (of_value {bytes = bytes} is) = record { answer = Whole (Ok bytes); is = is; same_fault = refl; same_bytes = refl }
+verdict_for _ (of_bad_line {line = line} is) = record { answer = BadLine line; is = is; same_fault = refl; same_bytes = refl }
+verdict_for _ (of_bad_call {line = line} is) = record { answer = BadCall line; is = is; same_fault = refl; same_bytes = refl }
+verdict_for _ (of_unfinished is) = record { answer = Unfinished; is = is; same_fault = refl; same_bytes = refl }
+verdict_for _ (of_bad_key is) = record { answer = Whole (Err BadKey); is = is; same_fault = refl; same_bytes = refl }
+verdict_for _ (of_bad_number is) = record { answer = Whole (Err BadNumber); is = is; same_fault = refl; same_bytes = refl }
+verdict_for _ (of_raw is) = record { answer = Whole (Err RawJson); is = is; same_fault = refl; same_bytes = refl }
+verdict_for _ (of_no_integer is) = record { answer = Whole (Err NotInteger); is = is; same_fault = refl; same_bytes = refl }
+
+pub one_due : OneDue cbor_terms
+one_due asked script why other bytes others due also =
+    let first = verdict_for why due in
+    let second = verdict_for other also in
+    let same : first.answer ≡ second.answer = one_verdict first.answer second.answer script first.is second.is in (
+      first.same_fault ∙ ap (λ (answer : Verdict). (due_of answer).0) same ∙ sym second.same_fault,
+      first.same_bytes ∙ ap (λ (answer : Verdict). (due_of answer).1) same ∙ sym second.same_bytes,
+    )

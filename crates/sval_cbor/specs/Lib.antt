@@ -10,6 +10,4 @@ pub mod ErrorTexts
 pub mod Streamed
 pub mod Forms
 pub mod Verdict
-pub mod Statuses
-pub mod Reports
 pub mod Serves

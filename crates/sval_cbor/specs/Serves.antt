@@ -1,11 +1,6 @@
--- What is due of a script, and what writing it leaves of a sink.
-use Rattle.std.specs.Prelude.{◌≡◌, ℕ, true, false, List, [], ◌∷◌, Option, Some, None, Ok, Err, codes}
-use Rattle.sval_label.specs.Calls.{Call}
-use Rattle.sval_core.specs.Spells.{Spells}
-use Rattle.sval_core.specs.Trees.{Tree}
-use Rattle.sval_io.specs.Sinks.{Told, Appends, AppendsFront}
+-- What is due of a script, the program's terms, and its errors as failures.
+use Rattle.std.specs.Prelude.{ℕ, true, false, List, [], ◌∷◌, Option, Some, None, Ok, Err, codes}
 use Rattle.sval_io.specs.declared.sink.SinkError.TheVariants as sink
-use Rattle.sval_script.specs.Lines.{Good, lines}
 use Rattle.sval_program.specs.declared.failure.Fault.{Fault}
 use Rattle.sval_program.specs.declared.failure.Fault.TheVariants as fault
 use Rattle.sval_program.specs.declared.failure.Failure.{Failure}
@@ -18,8 +13,7 @@ use Rattle.sval_cbor.specs.declared.error.CborError.{CborError}
 use Rattle.sval_cbor.specs.declared.error.CborError.TheVariants as error
 use Rattle.sval_cbor.specs.Forms.{form_named}
 use Rattle.sval_cbor.specs.Packs.{BadKey, BadNumber, RawJson, NotInteger}
-use Rattle.sval_cbor.specs.Streamed.{WritesCborTree}
-use Rattle.sval_cbor.specs.Verdict.{Verdict, BadLine, BadCall, Unfinished, Whole, IsVerdict}
+use Rattle.sval_cbor.specs.Verdict.{BadLine, BadCall, Unfinished, Whole, IsVerdict}
 
 -- ---- what is due of a script
 
@@ -45,23 +39,6 @@ cbor_terms = record {
   written = [];
   usage = codes "usage: sval_cbor\n";
 }
-
--- ---- what is left of a sink
-
--- the verdict is these bytes, and exactly they were taken
-pub record WritesBytes (old new : Told) (script : List ℕ) (asked : Unit {0}) : Type 0 where
-  pub bytes : List ℕ
-  pub is : IsVerdict (Whole (Ok bytes)) script
-  pub appends : Appends old bytes new
-
--- the tree that the script spells packs, and exactly its bytes were taken
-abbrev pub WritesCborValue : Told → Told → List ℕ → Unit {0} → Type 0
-WritesCborValue old new script asked = (calls : List Call) (tree : Tree) → lines script ≡ Good calls → Spells calls tree → WritesCborTree tree old new
-
--- what may be left: a first part of the bytes that are the verdict; and nothing where there are none
-abbrev pub MayLeave : Told → Told → Verdict → Type 0
-MayLeave old new (Whole (Ok bytes)) = AppendsFront old bytes new
-MayLeave old new _ = new ≡ old
 
 -- ---- the errors as failures
 

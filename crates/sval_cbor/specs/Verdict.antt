@@ -44,19 +44,3 @@ pub record OfCalls (answer : Verdict) (script : List ℕ) : Type 0 where
 abbrev pub IsVerdict : Verdict → List ℕ → Type 0
 IsVerdict (BadLine n) script = lines script ≡ Bad n
 IsVerdict answer script = OfCalls answer script
-
--- the verdict is so
-abbrev pub HasVerdict : Verdict → List ℕ → Unit {0} → Type 0
-HasVerdict answer script asked = IsVerdict answer script
-
--- the verdict is that a line is bad, the first one of the script
-abbrev pub HasBadLine : List ℕ → Unit {0} → Type 0
-HasBadLine script asked = (line : ℕ) × IsVerdict (BadLine line) script
-
--- the verdict is that no value goes on with a call, the first such one of the script
-abbrev pub HasBadCall : List ℕ → Unit {0} → Type 0
-HasBadCall script asked = (line : ℕ) × IsVerdict (BadCall line) script
-
--- a fact on the script's verdict
-abbrev pub OnVerdict : (Verdict → Type 0) → List ℕ → Unit {0} → Type 0
-OnVerdict P script asked = (answer : Verdict) → IsVerdict answer script → P answer

@@ -1,7 +1,9 @@
 //! The laws of packed shapes, of their bytes and of verdicts, each as a clause that is proved.
 
+ghost use Rattle.sval_program.specs.Jobs.{OneDue};
 ghost use Rattle.sval_cbor.specs.Laws.{CborIsBytes, PacksAsWritten, WholeSpellingsAreWritten, CanonicalCallsAreWhole};
 ghost use Rattle.sval_cbor.specs.Laws.{CapturedIsWritten, TakenCallsAreWritten, RefusedCallRefuses, OneVerdict};
+ghost use Rattle.sval_cbor.specs.Serves.{cbor_terms};
 
 /// What holds of all trees that CBOR can hold.
 pub fn packing_laws()
@@ -18,7 +20,8 @@ pub fn writing_laws()
     ensures refused_call_refuses { RefusedCallRefuses }
 {}
 
-/// What holds of the verdict on every script.
+/// What holds of the verdict on every script, and of what is due of it.
 pub fn verdict_laws()
-    ensures { OneVerdict }
+    ensures one_verdict { OneVerdict }
+    ensures one_due { OneDue cbor_terms }
 {}

@@ -8,7 +8,7 @@ use sval_io::{Sink, Source};
 use sval_program::{Failure, Job, Line};
 
 /// The program, as [`run_process`](sval_program::run_process) and [`run_streams`](sval_program::run_streams) run it:
-/// [`run_cbor`](crate::run_cbor) says more of its runs.
+/// [`run_cbor`](crate::run_cbor) lists its statuses.
 pub struct WriteCbor;
 
 impl Job for WriteCbor {

@@ -1,24 +1,18 @@
 //! The whole program, over any words and devices.
 
-ghost use Rattle.std.specs.Prelude.{◌≡◌, ℕ, List, false, Some, Err, map, string_bytes};
+ghost use Rattle.std.specs.Prelude.{◌≡◌, ℕ, List, false, Some, map, string_bytes};
 ghost use Rattle.sval_core.specs.Values.{makes};
-ghost use Rattle.sval_program.specs.Inputs.{OnShort};
 ghost use Rattle.sval_program.specs.Jobs.{ServesBytes, ServesInput, Serves};
-ghost use Rattle.sval_program.specs.Runs.{AreQuiet, Ends};
-ghost use Rattle.sval_program.specs.Runs as runs;
+ghost use Rattle.sval_program.specs.Runs.{Ends, Reports};
 ghost use Rattle.sval_script.specs.Lines.{lines, Good};
-ghost use Rattle.sval_cbor.specs.Forms.{form_of, OnAsked};
-ghost use Rattle.sval_cbor.specs.Packs.{BadKey, BadNumber, RawJson, NotInteger};
-ghost use Rattle.sval_cbor.specs.Reports.{Reports};
-ghost use Rattle.sval_cbor.specs.Serves.{cbor_terms, WritesBytes, WritesCborValue, MayLeave, failure_of_check, failure_of_cbor};
-ghost use Rattle.sval_cbor.specs.Statuses.{IsStatusDue};
+ghost use Rattle.sval_cbor.specs.Forms.{form_of};
+ghost use Rattle.sval_cbor.specs.Serves.{cbor_terms, failure_of_check, failure_of_cbor};
 ghost use Rattle.sval_cbor.specs.Streamed.{IsChecked};
-ghost use Rattle.sval_cbor.specs.Verdict.{Unfinished, Whole, IsVerdict, HasVerdict, HasBadLine, HasBadCall, OnVerdict};
+ghost use Rattle.sval_cbor.specs.Verdict.{Whole, IsVerdict};
 ghost use Rattle.sval_cbor.specs.Writing.{written_cbor};
 
 use crate::error::CborError;
 use crate::program::WriteCbor;
-use crate::status::{NOT_INTEGER, RAW};
 use crate::to_cbor::write_value;
 use std::alloc::Global;
 use sval_buffer::{ErrorKind, ValueBuf};
@@ -26,7 +20,6 @@ use sval_check::{CheckError, check};
 use sval_core::{Lent, Value};
 use sval_io::{Sink, SinkError, Source};
 use sval_program::job::run;
-use sval_program::status::{BAD_CALL, BAD_LINE, DONE, INVALID_KEY, INVALID_NUMBER, UNFINISHED};
 use sval_program::{Failure, Fault, read_script};
 use sval_script::Script;
 
@@ -163,6 +156,10 @@ pub(crate) fn serve<I: Source, K: Sink>(
 /// after 10 too, unless its own count of wants rose. After 8, and after 10 where that count rose, a first part of the
 /// bytes may have been taken.
 ///
+/// The clause `ends` says when each status comes and what is left of the input and the output, and `reports` what `diag`
+/// is told. Of an input one thing is due: a fault or none, and the bytes to write
+/// ([`verdict_laws`](crate::laws::verdict_laws)).
+///
 /// ```
 /// let mut out = VecSink::new(alloc);
 /// let mut diag = VecSink::new(alloc);
@@ -179,39 +176,8 @@ pub fn run_cbor<I: Source, K: Sink, D: Sink>(
 ) -> u8
     ensures ends { Ends cbor_terms I.told K.told (map string_bytes words.now) input.old input.new
         out.old out.new result }
-
-    // Nothing but its line depends on what the third device answers.
-    ensures apart { runs.Reports cbor_terms I.told K.told (map string_bytes words.now) input.old input.new
+    ensures reports { Reports cbor_terms I.told K.told (map string_bytes words.now) input.old input.new
         out.old out.new (D.told diag.old) (D.told diag.new) result }
-
-    // Each status comes only where it is so.
-    ensures done { result ≡ DONE
-        → OnAsked words.now (I.told input.old) (WritesBytes (K.told out.old) (K.told out.new)) }
-    ensures writes { result ≡ DONE
-        → OnAsked words.now (I.told input.old) (WritesCborValue (K.told out.old) (K.told out.new)) }
-    ensures bad_line { result ≡ BAD_LINE → OnAsked words.now (I.told input.old) HasBadLine }
-    ensures bad_call { result ≡ BAD_CALL → OnAsked words.now (I.told input.old) HasBadCall }
-    ensures unfinished { result ≡ UNFINISHED → OnAsked words.now (I.told input.old) (HasVerdict Unfinished) }
-    ensures invalid_key { result ≡ INVALID_KEY
-        → OnAsked words.now (I.told input.old) (HasVerdict (Whole (Err BadKey))) }
-    ensures invalid_number { result ≡ INVALID_NUMBER
-        → OnAsked words.now (I.told input.old) (HasVerdict (Whole (Err BadNumber))) }
-    ensures raw { result ≡ RAW
-        → OnAsked words.now (I.told input.old) (HasVerdict (Whole (Err RawJson))) }
-    ensures not_integer { result ≡ NOT_INTEGER
-        → OnAsked words.now (I.told input.old) (HasVerdict (Whole (Err NotInteger))) }
-
-    // Where the devices don't fail, the status is the one that is due, or memory was wanting.
-    ensures comes { AreQuiet I.told K.told input.old input.new out.old out.new
-        → OnAsked words.now (I.told input.old) (OnShort (OnVerdict (IsStatusDue result))) }
-
-    // What is left of the sink.
-    ensures leaves { OnAsked words.now (I.told input.old)
-        (OnShort (OnVerdict (MayLeave (K.told out.old) (K.told out.new)))) }
-
-    // What the third device is told.
-    ensures reports { Reports (map string_bytes words.now) (I.told input.old) result
-        (D.told diag.old) (D.told diag.new) }
 {
     run::<WriteCbor, I, K, D>(alloc, words, input, out, diag)
 }
