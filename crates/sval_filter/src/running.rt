@@ -136,11 +136,12 @@ pub(crate) fn serve<I: Source, K: Sink>(
 /// between dots, none of them empty. They are tested before any path is made. The input is a script of calls, and is
 /// read to its end, at most 16,777,216 bytes and one more to see that there are too many. What the rule and the paths
 /// leave of the value that its calls spell, as [`prune`](crate::prune) does, is written as JSON without white space.
-/// Where the status isn't 0, one line is written to `diag` that says why; what `diag` answers changes nothing.
+/// Where the status isn't 0, one line is written to `diag` that says why. Whatever `diag` answers, the status and what is
+/// left of the input and the output are such as [`work`](sval_program::job::work) may give, which has no `diag`.
 ///
 /// | status | comes |
 /// |---|---|
-/// | 0 | the sink took exactly the JSON of what is left of the value that the script's calls spell, and holds back nothing |
+/// | 0 | the sink took exactly the JSON of what is left of the value that the script's calls spell, and holds back nothing, as far as it says so |
 /// | 2 | the words are no form; nothing is read |
 /// | 3 | a line is no call |
 /// | 4 | no value goes on with the call of a line |
@@ -152,9 +153,9 @@ pub(crate) fn serve<I: Source, K: Sink>(
 /// | 10 | memory was wanting |
 /// | 11 | the input is longer than is kept |
 ///
-/// Where the words are a form and neither device fails, the status is the one that the script's verdict asks for, or 10.
-/// After 10 the sink is as it was, unless its own count of wants rose. After 8, and after 10 where that count rose, a
-/// first part of what 0, 6 or 7 leave may have been taken.
+/// Where the words are a form and neither device fails, the status is the one that the script's verdict asks for, or
+/// 10; of a script that is too long, 11 or 10. After 10 the sink is as it was, unless its own count of wants rose.
+/// After 8, and after 10 where that count rose, a first part of what 0, 6 or 7 leave may have been taken.
 ///
 /// The clause `ends` says when each status comes and what is left of the input and the output, and `reports` what `diag`
 /// is told. Of an input one thing is due: a fault or none, and the bytes to write
