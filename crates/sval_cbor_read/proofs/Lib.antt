@@ -19,6 +19,6 @@ pub mod NodeStreams
 pub mod Loop
 pub mod ItemTrees
 pub mod DueTexts
-pub mod RunAnswers
+pub mod OneDue
 mod examples
 mod AsciiLanes

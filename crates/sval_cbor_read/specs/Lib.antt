@@ -14,6 +14,4 @@ pub mod SeenReader
 pub mod ReadErrors
 pub mod ErrorTexts
 pub mod Forms
-pub mod Statuses
-pub mod Reports
 pub mod Serves

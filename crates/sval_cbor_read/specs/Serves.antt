@@ -1,8 +1,7 @@
--- What is due of an input, and what writing it leaves of a sink.
+-- What is due of an input.
 use Rattle.std.specs.Prelude.{◌≡◌, ◌<◌, ◌^◌, ℕ, true, false, List, [], ◌∷◌, length, Option, Some, None, Ok, Err, codes}
 use Rattle.sval_core.specs.Real.{AreBytes}
 use Rattle.sval_core.specs.Trees.{Tree, calls_of}
-use Rattle.sval_io.specs.Sinks.{Told, Appends, AppendsFront}
 use Rattle.sval_json.specs.Grammar.{JsonValue}
 use Rattle.sval_json.specs.Json.{Json, compact}
 use Rattle.sval_json.specs.Laws.{IsTheValueOf}
@@ -104,24 +103,3 @@ read_terms = record {
 abbrev pub most_of : Form → {input : List ℕ} {tree : Tree} → IsItemOf input tree → List ℕ
 most_of form.Json item = (written_in Inside (cbor_document_calls item)).written
 most_of form.Calls {tree = tree} item = canon tree
-
--- ---- what is left of a sink
-
--- exactly the text that is due was taken, and it is what is meant
-pub record WritesItemText (old new : Told) (input : List ℕ) (asked : Form) : Type 0 where
-  pub text : List ℕ
-  pub due : IsItemTextDue text input asked
-  pub meant : IsMeantByItem asked due.tree text
-  pub appends : Appends old text new
-
--- exactly what is written up to a key that is refused was taken
-pub record WritesUpToKey (old new : Told) (input : List ℕ) (asked : Form) : Type 0 where
-  pub written : List ℕ
-  pub is : IsWrittenUpToKey written input asked
-  pub appends : Appends old written new
-
--- what may be left: a first part of the text that is due or of what is written up to a key, and nothing where the input is no item
-pub record MayLeave (old new : Told) (input : List ℕ) (asked : Form) : Type 0 where
-  pub begins : (text : List ℕ) → IsItemTextDue text input asked → AppendsFront old text new
-  pub up_to_key : (written : List ℕ) → IsWrittenUpToKey written input asked → AppendsFront old written new
-  pub nothing : IsNoItem input asked → new ≡ old

@@ -1,6 +1,8 @@
 //! The laws of CBOR's items, each as a clause that is proved.
 
+ghost use Rattle.sval_program.specs.Jobs.{OneDue};
 ghost use Rattle.sval_cbor_read.specs.Laws.{ItemHasOneTree, ItemsAreReal, ItemsAreRefusedByKey, CborDocumentsSpell, ItemsAreRead, ReadIsItem, ReadInOneWay, ReadingEndsWell, ReadingStopsAtBadBytes, LargeNumbersAreBadBytes, StepsComeNearer, HeadsAreRead, HeadsAreShortest, WrittenIsReadBack};
+ghost use Rattle.sval_cbor_read.specs.Serves.{read_terms};
 
 /// What holds of all bytes.
 pub fn item_laws()
@@ -11,8 +13,9 @@ pub fn item_laws()
     ensures heads_are_shortest { HeadsAreShortest }
 {}
 
-/// What holds of the reader's steps.
+/// What holds of the reader's steps. Whatever the words ask for, at most one thing is due of an input (`one_due`).
 pub fn reading_laws()
+    ensures one_due { OneDue read_terms }
     ensures documents_spell { CborDocumentsSpell }
     ensures items_are_read { ItemsAreRead }
     ensures read_is_item { ReadIsItem }

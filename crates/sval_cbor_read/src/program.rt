@@ -24,7 +24,7 @@ impl From<CborReadError> for Failure {
 }
 
 /// The program, as [`run_process`](sval_program::run_process) and [`run_streams`](sval_program::run_streams) run it:
-/// [`run_cbor_read`](crate::run_cbor_read) says more of its runs.
+/// [`run_cbor_read`](crate::run_cbor_read) says when each status comes.
 pub struct ReadCbor;
 
 impl Job for ReadCbor {
