@@ -28,14 +28,14 @@ use Rattle.sval_json_read.proofs.SettledTrees.{denoted-settles}
 use Rattle.sval_json_read.proofs.WritableTrees.{denoted-printable}
 
 -- an input has one text that is due
-pub one_due : (input : List ℕ) (asked : Form) (text other : List ℕ) → IsJsonTextDue text input asked → IsJsonTextDue other input asked → text ≡ other
-one_due input form.Json text other d e =
+pub one_text : (input : List ℕ) (asked : Form) (text other : List ℕ) → IsJsonTextDue text input asked → IsJsonTextDue other input asked → text ≡ other
+one_text input form.Json text other d e =
     let same = denotes_one input d.value e.value d.denotes e.denotes in
     let shape : json_of (tree_of d.value) ≡ Ok e.is.json = ap (λ value. json_of (tree_of value)) same ∙ e.is.shape in
     let json : Ok d.is.json ≡ Ok e.is.json = sym d.is.shape ∙ shape in
     let one : d.is.json ≡ e.is.json = cc json in
     d.is.is_text ∙ ap compact one ∙ sym e.is.is_text
-one_due input form.Calls text other d e =
+one_text input form.Calls text other d e =
     d.is.is_text ∙ ap (λ value. canon (tree_of value)) (denotes_one input d.value e.value d.denotes e.denotes) ∙ sym e.is.is_text
 
 -- ---- a document in JSON

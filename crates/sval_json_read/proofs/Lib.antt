@@ -30,7 +30,7 @@ pub mod KeptTokens
 pub mod PlainRuns
 mod examples
 pub mod DueTexts
-pub mod RunAnswers
+pub mod OneDue
 mod SpanTokens
 mod SeenValues
 mod FirstNodes

@@ -17,9 +17,7 @@ pub mod ErrorTexts
 pub mod SeenPieces
 pub mod NodeCalls
 pub mod Forms
-pub mod Statuses
 pub mod Serves
-pub mod Reports
 pub mod SeenValues
 pub mod Lookups
 pub mod NodeSpans

@@ -1,7 +1,7 @@
 -- What is due of an input, and what writing it makes of the sink.
 use Rattle.std.specs.Prelude.{◌≡◌, ℕ, true, false, List, [], ◌∷◌, Option, Some, None, Result, Ok, IsUtf8, codes}
 use Rattle.sval_core.specs.Trees.{calls_of}
-use Rattle.sval_io.specs.Sinks.{Told, Appends, AppendsFront}
+use Rattle.sval_io.specs.Sinks.{Told}
 use Rattle.sval_io.specs.declared.sink.SinkError.{SinkError}
 use Rattle.sval_json.specs.Grammar.{JsonValue, Denotes}
 use Rattle.sval_json.specs.Json.{Json, compact}
@@ -79,26 +79,3 @@ pub record WritesDueText {K : Type 0} (told : K → Told) (input : List ℕ) (as
   pub text : List ℕ
   pub due : IsJsonTextDue text input asked
   pub writes : WritesText result told text old new
-
--- ---- what is left of a sink
-
--- exactly the text that is due was taken
-pub record WritesJsonText (old new : Told) (input : List ℕ) (asked : Form) : Type 0 where
-  pub text : List ℕ
-  pub due : IsJsonTextDue text input asked
-  pub appends : Appends old text new
-
--- what may be left: a first part of the text that is due, and nothing where the input denotes no value
-pub record MayLeave (old new : Told) (input : List ℕ) (asked : Form) : Type 0 where
-  pub begins : (text : List ℕ) → IsJsonTextDue text input asked → AppendsFront old text new
-  pub nothing : ((value : JsonValue) → Denotes input value → ⊥) → new ≡ old
-
--- ---- what a status says of the input
-
--- it isn't UTF-8
-abbrev pub IsNoUtf8 : {A : Type 0} → List ℕ → A → Type 0
-IsNoUtf8 input asked = IsUtf8 input → ⊥
-
--- it is UTF-8, denotes no value, and fails somewhere
-abbrev pub HasBadJson : {A : Type 0} → List ℕ → A → Type 0
-HasBadJson input asked = (at : ℕ) × IsBadJson input at

@@ -1,7 +1,7 @@
 //! The forms of the program's words.
 
-ghost use Rattle.std.specs.Prelude.{◌≡◌};
-ghost use Rattle.sval_json_read.specs.Forms.{form_by, form_of};
+ghost use Rattle.std.specs.Prelude.{◌≡◌, map, string_bytes};
+ghost use Rattle.sval_json_read.specs.Forms.{form_by, form_named};
 
 /// What is written of the value that an input denotes.
 #[derive(Clone, Copy)]
@@ -25,7 +25,7 @@ fn named(word: &str) -> Option<Form>
 
 /// The form that the program's words are, if they are one.
 pub(crate) fn named_form(words: &[String]) -> Option<Form>
-    ensures { result ≡ form_of words.now }
+    ensures { result ≡ form_named (map string_bytes words.now) }
 {
     match words {
         [word] => named(word.as_str()),

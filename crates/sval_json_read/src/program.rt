@@ -25,7 +25,7 @@ impl From<ReadError> for Failure {
 }
 
 /// The program, as [`run_process`](sval_program::run_process) and [`run_streams`](sval_program::run_streams) run it:
-/// [`run_read`](crate::run_read) says more of its runs.
+/// [`run_read`](crate::run_read) says when each status comes.
 pub struct ReadJson;
 
 impl Job for ReadJson {

@@ -1,26 +1,19 @@
 //! The whole program, over any words and devices.
 
-ghost use Rattle.std.specs.Prelude.{◌≡◌, ◌<◌, ◌^◌, ℕ, List, length, map, string_bytes};
-ghost use Rattle.sval_program.specs.Inputs.{OnShort};
+ghost use Rattle.std.specs.Prelude.{◌<◌, ◌^◌, ℕ, List, length, map, string_bytes};
 ghost use Rattle.sval_program.specs.Jobs.{ServesBytes, ServesInput, Serves};
-ghost use Rattle.sval_program.specs.Runs.{AreQuiet, Ends};
-ghost use Rattle.sval_program.specs.Runs as runs;
+ghost use Rattle.sval_program.specs.Runs.{Ends, Reports};
 ghost use Rattle.sval_json_read.specs.Calls.{document_calls};
-ghost use Rattle.sval_json_read.specs.Forms.{OnAsked};
 ghost use Rattle.sval_json_read.specs.ReadErrors.{IsReadText};
-ghost use Rattle.sval_json_read.specs.Reports.{Reports};
-ghost use Rattle.sval_json_read.specs.Serves.{read_terms, WritesJsonText, MayLeave, WritesDueText, IsNoUtf8, HasBadJson};
-ghost use Rattle.sval_json_read.specs.Statuses.{IsStatusDue};
+ghost use Rattle.sval_json_read.specs.Serves.{read_terms, WritesDueText};
 
 use crate::document::JsonDoc;
 use crate::form::{Form, named_form};
 use crate::program::ReadJson;
-use crate::status::{BAD_JSON, NOT_UTF8};
 use std::alloc::Global;
 use sval_io::{Sink, SinkError, Source, read_input};
 use sval_json::{ErrorKind, stream_to_io_write};
 use sval_program::job::run;
-use sval_program::status::DONE;
 use sval_program::{Failure, print_captured};
 
 /// Writes the JSON of a document.
@@ -112,12 +105,16 @@ pub(crate) fn serve<I: Source, K: Sink>(
 /// 16,777,216 bytes and one more to see that there are too many, and as a text of JSON (RFC 8259). With `json` the JSON
 /// of the value that it denotes is written, without white space; it denotes the same value, with `0` for each number
 /// `-0`. With `calls` the canonical script of the value's calls is written, after it was captured. Where the status
-/// isn't 0, one line is written to `diag` that says why. What `diag` answers changes neither the status nor what is left
-/// of the input and the output.
+/// isn't 0, one line is written to `diag` that says why. Whatever `diag` answers, the status and what is left of the
+/// input and the output are such as [`work`](sval_program::job::work) may give, which has no `diag`.
+///
+/// What is due is `Due` of `read_terms`, and of an input it is one thing at most
+/// ([`reading_laws`](crate::laws::reading_laws)). `Ends` says when each status comes and what is left of the devices, and
+/// `Reports` which line is told.
 ///
 /// | status | comes |
 /// |---|---|
-/// | 0 | the input denotes a value, and the sink took exactly what is due of it, and holds back nothing |
+/// | 0 | the input denotes a value; the sink took exactly what is due, and holds back nothing of it, as far as it says so |
 /// | 2 | the words are no form; nothing is read |
 /// | 8 | only where the output failed |
 /// | 9 | only where the input failed, and wherever its count of faults moved |
@@ -126,9 +123,9 @@ pub(crate) fn serve<I: Source, K: Sink>(
 /// | 12 | the input is not UTF-8 |
 /// | 13 | it is UTF-8 and denotes no value; the line names the byte at which it fails |
 ///
-/// Where the words are a form and neither device fails, the status is the one that the input asks for, or 10. After 10
-/// the sink is as it was, unless its own count of wants rose. After 8, and after 10 where that count rose, a first part
-/// of what is due may have been taken.
+/// Where the words are a form and neither device fails, the status is the one that the input asks for, or 10; of an input
+/// that is too long, 11 or 10. After 10 the sink is as it was, unless its own count of wants rose. After 8, and after 10
+/// where that count rose, a first part of what is due may have been taken.
 ///
 /// ```
 /// let mut out = VecSink::new(alloc);
@@ -147,28 +144,8 @@ pub fn run_read<I: Source, K: Sink, D: Sink>(
 ) -> u8
     ensures ends { Ends read_terms I.told K.told (map string_bytes words.now) input.old input.new
         out.old out.new result }
-
-    // Nothing but its line depends on what the third device answers.
-    ensures apart { runs.Reports read_terms I.told K.told (map string_bytes words.now) input.old input.new
+    ensures reports { Reports read_terms I.told K.told (map string_bytes words.now) input.old input.new
         out.old out.new (D.told diag.old) (D.told diag.new) result }
-
-    // Each status comes only where it is so.
-    ensures done { result ≡ DONE
-        → OnAsked words.now (I.told input.old) (WritesJsonText (K.told out.old) (K.told out.new)) }
-    ensures not_utf8 { result ≡ NOT_UTF8 → OnAsked words.now (I.told input.old) IsNoUtf8 }
-    ensures bad_json { result ≡ BAD_JSON → OnAsked words.now (I.told input.old) HasBadJson }
-
-    // Where the devices don't fail, the status is the one that is due, or memory was wanting.
-    ensures comes { AreQuiet I.told K.told input.old input.new out.old out.new
-        → OnAsked words.now (I.told input.old) (OnShort (IsStatusDue result)) }
-
-    // What is left of the sink.
-    ensures leaves { OnAsked words.now (I.told input.old)
-        (OnShort (MayLeave (K.told out.old) (K.told out.new))) }
-
-    // What the third device is told.
-    ensures reports { Reports (map string_bytes words.now) (I.told input.old) result
-        (D.told diag.old) (D.told diag.new) }
 {
     run::<ReadJson, I, K, D>(alloc, words, input, out, diag)
 }

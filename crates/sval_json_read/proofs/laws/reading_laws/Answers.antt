@@ -1,6 +1,10 @@
 use Rattle.sval_json_read.proofs.laws.reading_laws.Goals as goal
 use Rattle.sval_json_read.proofs.Documents.{document-read, read-document, refused-bad, read-or-bad, not-both}
 use Rattle.sval_json_read.proofs.Fails.{stops-fails, fails-once}
+use Rattle.sval_json_read.proofs.OneDue.{one_due}
+
+pub returns-clause-one_due : goal.returns-clause-one_due
+returns-clause-one_due c = one_due
 
 pub returns-clause-reads_the_documents : goal.returns-clause-reads_the_documents
 returns-clause-reads_the_documents c = λ bytes tokens. (document-read bytes tokens, read-document bytes tokens)

@@ -1,6 +1,33 @@
+use Rattle.std.specs.Prelude.{ℕ, List, [], Some, None, Ok, Err, refl}
 use Rattle.std.proofs.lemmas.Result.{err_from_is_err_and}
-use Rattle.sval_json_read.proofs.RunAnswers.{unread, writes_all, stops_within}
+use Rattle.sval_io.specs.Sinks.{Told}
+use Rattle.sval_io.specs.declared.sink.SinkError.{SinkError}
+use Rattle.sval_io.proofs.Appending.{writes_nothing}
+use Rattle.sval_program.specs.declared.failure.Fault.{Fault}
+use Rattle.sval_program.specs.declared.failure.Failure.TheVariants as failure
+use Rattle.sval_program.specs.Jobs.{ServesBytes, WritesAllDue}
+use Rattle.sval_json_read.specs.declared.document.ReadError.{ReadError}
+use Rattle.sval_json_read.specs.declared.document.ReadError.TheVariants as reading
+use Rattle.sval_json_read.specs.declared.form.Form.{Form}
+use Rattle.sval_json_read.specs.ReadErrors.{IsJsonReadError}
+use Rattle.sval_json_read.specs.Serves.{Due, a_text, no_utf8, no_json, read_terms, failure_of, WritesDueText}
 use Rattle.sval_json_read.proofs.running.serve_bytes.Goals as goal
+
+-- nothing is written before a fault
+faulty : {input : List ℕ} {asked : Form} {why : Fault} (told : Told) → Due asked input (Some why) [] → WritesAllDue read_terms asked input (Some why) told told
+faulty told d = record { bytes = []; due = d; writes = writes_nothing told }
+
+unread : {K : Type 0} (told : K → Told) (input : List ℕ) (asked : Form) (old : K) (why : ReadError) → IsJsonReadError input why → ServesBytes read_terms told asked input (Err (failure_of why)) old old
+unread told input asked old reading.NotUtf8 cause = record { all = faulty (told old) (no_utf8 cause); known = refl; untouched = λ e. refl }
+unread told input asked old (reading.BadJson at) cause = record { all = faulty (told old) (no_json cause); known = refl; untouched = λ e. refl }
+unread told input asked old reading.NoMemory cause = refl
+
+writes_all : {K : Type 0} (told : K → Told) (input : List ℕ) (asked : Form) (old new : K) → WritesDueText told input asked (Ok tt) old new → ServesBytes read_terms told asked input (Ok tt) old new
+writes_all told input asked old new w = record { bytes = w.text; due = a_text w.due; writes = w.writes }
+
+stops_within : {K : Type 0} (told : K → Told) (input : List ℕ) (asked : Form) (old new : K) (why : SinkError) → WritesDueText told input asked (Err why) old new
+    → ServesBytes read_terms told asked input (Err (failure.Write why)) old new
+stops_within told input asked old new why w = record { found = None; bytes = w.text; due = a_text w.due; may = refl; stops = w.writes.stops }
 
 pub returns-in_err-doc : goal.returns-in_err-doc
 returns-in_err-doc g c =
