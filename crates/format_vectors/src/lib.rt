@@ -9,8 +9,12 @@ mod cbor;
 #[cfg(test)]
 mod filter;
 #[cfg(test)]
+mod inputs;
+#[cfg(test)]
 mod json;
 #[cfg(test)]
 mod levels;
 #[cfg(test)]
 mod process;
+#[cfg(test)]
+mod rows;

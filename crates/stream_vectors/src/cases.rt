@@ -4,7 +4,7 @@ use crate::checked::{answers, passed};
 use crate::collected::{binary_of, text_of};
 use crate::replayed::{captured, replayed};
 use crate::written::written;
-use std::alloc::Global;
+use std::alloc::{AllocError, Global};
 use std::process::Abort;
 use std::test::Fail;
 use sval_check::check;
@@ -46,20 +46,66 @@ fn look_at(alloc: Global, look: Look, script: &Script) -> Result<String, Fail> {
 
 /// Looks at each case of a table.
 ///
-/// A case is the lines of a script, a line `--` and what is to be seen of the calls. An empty line stands between two.
+/// A case is the lines of a script and, behind `= `, what is to be seen of its calls. The next line begins another script. A
+/// blank line says nothing. A line that ends with `␄` has no newline, and `␊` stands for one in what is to be seen.
 pub(crate) fn agree(
     rt: &impl Abort,
     alloc: Global,
     look: Look,
     table: &'static str,
 ) -> Result<(), Fail> {
-    for case in table.split("\n\n") {
-        let (lines, want) = case.split_once("--\n").ok_or("a case has no line `--`")?;
-        let script = Script::read(alloc, lines.as_bytes())?;
-        let seen = look_at(alloc, look, &script)?;
-        assert_eq!(rt; seen.as_str(), want, "of {lines}");
+    let mut lines = String::new(alloc);
+    let mut is_whole = false;
+    for line in table.lines() {
+        if line.is_empty() {
+            continue;
+        }
+        if let Some(want) = line.strip_prefix("= ") {
+            try_case(rt, alloc, look, &lines, want)?;
+            is_whole = true;
+        } else {
+            if is_whole {
+                lines.clear();
+                is_whole = false;
+            }
+            add_line(&mut lines, line)?;
+        }
     }
+    assert!(rt; is_whole, "nothing is to be seen of {lines}");
     Ok(())
+}
+
+/// Compares what is seen of a script with what is to be seen.
+fn try_case(
+    rt: &impl Abort,
+    alloc: Global,
+    look: Look,
+    lines: &str,
+    want: &str,
+) -> Result<(), Fail> {
+    let script = Script::read(alloc, lines.as_bytes())?;
+    let seen = look_at(alloc, look, &script)?;
+    let want = plain_text(alloc, want)?;
+    assert_eq!(rt; seen.as_str(), want.as_str(), "of {lines}");
+    Ok(())
+}
+
+/// Adds a line of a table to a script: with a newline, unless it ends with `␄`.
+fn add_line(lines: &mut String, line: &str) -> Result<(), AllocError> {
+    if let Some((text, _behind)) = line.split_once('␄') {
+        return lines.push_str(text);
+    }
+    lines.push_str(line)?;
+    lines.push('\n')
+}
+
+/// A text of a table, with newlines in the places of their pictures.
+fn plain_text(alloc: Global, shown: &str) -> Result<String, AllocError> {
+    let mut text = String::new(alloc);
+    for letter in shown.chars() {
+        text.push(if letter == '␊' { '\n' } else { letter })?;
+    }
+    Ok(text)
 }
 
 /// Asserts that this is what is to be seen.

@@ -85,27 +85,25 @@ pub(crate) fn answers(alloc: Global, script: &Script, room: usize) -> Result<Str
 }
 
 /// Texts of two bytes, and a sequence without an end.
-const SPELLED: &'static str = r#"text_begin 2
+const SPELLED: &'static str = r#"
+text_begin 2
 text_fragment_computed =6162
 text_end
---
-Ok(())
+= Ok(())
 
 text_begin 1
 text_fragment_computed =6162
 text_end
---
-Err(BadCall { at: 2 })
+= Err(BadCall { at: 2 })
 
 text_begin 3
 text_fragment_computed =6162
 text_end
---
-Err(BadCall { at: 3 })
+= Err(BadCall { at: 3 })
 
 seq_begin -
---
-Err(Unfinished)"#;
+= Err(Unfinished)
+"#;
 
 #[test]
 fn gives_each_answer(rt: HostRuntime) -> Result<(), Fail> {
@@ -114,12 +112,12 @@ fn gives_each_answer(rt: HostRuntime) -> Result<(), Fail> {
 
 /// Bytes and entries are counted, labels compared by their texts and indexes by their numbers, and enums and tagged
 /// values looked into.
-const COMPLETED: &'static str = r#"binary_begin 2
+const COMPLETED: &'static str = r#"
+binary_begin 2
 binary_fragment_computed =0102
 binary_end
 null
---
-whole: true, passed on: 3
+= whole: true, passed on: 3
 
 map_begin 1
 map_key_begin
@@ -129,48 +127,42 @@ map_value_begin
 u8 1
 map_value_end
 map_end
---
-whole: true, passed on: 8
+= whole: true, passed on: 8
 
 map_begin -
 map_key_begin
 null
 map_key_end
 map_end
---
-whole: false, passed on: 4
+= whole: false, passed on: 4
 
 record_begin - - - 1
 record_value_begin - =6669656c64:VALUE_IDENT
 null
 record_value_end - =6669656c64
 record_end - - -
---
-whole: true, passed on: 5
+= whole: true, passed on: 5
 
 record_begin - - - 1
 record_value_begin - =6669656c64:VALUE_IDENT
 null
 record_value_end - =6f74686572
 record_end - - -
---
-whole: false, passed on: 3
+= whole: false, passed on: 3
 
 tuple_begin - - 1 1
 tuple_value_begin - 1
 null
 tuple_value_end - 1:VALUE_OFFSET
 tuple_end - - 1
---
-whole: true, passed on: 5
+= whole: true, passed on: 5
 
 tuple_begin - - 1 1
 tuple_value_begin - 1
 null
 tuple_value_end - 2
 tuple_end - - 1
---
-whole: false, passed on: 3
+= whole: false, passed on: 3
 
 enum_begin NUMBER - -
 tag_hint NUMBER
@@ -179,23 +171,20 @@ text_begin -
 text_end
 tagged_end NUMBER - -
 enum_end NUMBER - -
---
-whole: true, passed on: 7
+= whole: true, passed on: 7
 
 tagged_begin NUMBER - -
 null
---
-whole: false, passed on: 1
+= whole: false, passed on: 1
 
 enum_begin NUMBER - -
 seq_begin -
---
-whole: false, passed on: 1
+= whole: false, passed on: 1
 
 enum_begin NUMBER - -
 tag NUMBER - -
---
-whole: false, passed on: 2"#;
+= whole: false, passed on: 2
+"#;
 
 #[test]
 fn passes_on_what_can_be_completed(rt: HostRuntime) -> Result<(), Fail> {
@@ -203,23 +192,18 @@ fn passes_on_what_can_be_completed(rt: HostRuntime) -> Result<(), Fail> {
 }
 
 /// A text with calls between that no value has, and no call.
-const VIABLE: &'static str = r#"text_end
+const VIABLE: &'static str = r#"
+text_end
 text_begin 2
 null
 text_fragment =6162
 text_fragment_computed =63
 text_end
---
-taken: false, why: Some(NotViable), whole: false
-taken: true, why: Some(NotViable), whole: false
-taken: false, why: Some(NotViable), whole: false
-taken: true, why: Some(NotViable), whole: false
-taken: false, why: Some(NotViable), whole: false
-taken: true, why: Some(NotViable), whole: true
-whole: true, passed on: 3
+= taken: false, why: Some(NotViable), whole: false␊taken: true, why: Some(NotViable), whole: false␊taken: false, why: Some(NotViable), whole: false␊taken: true, why: Some(NotViable), whole: false␊taken: false, why: Some(NotViable), whole: false␊taken: true, why: Some(NotViable), whole: true␊whole: true, passed on: 3
 
---
-whole: false, passed on: 0"#;
+␄
+= whole: false, passed on: 0
+"#;
 
 #[test]
 fn goes_on_after_a_call_that_is_not_viable(rt: HostRuntime) -> Result<(), Fail> {
@@ -227,16 +211,13 @@ fn goes_on_after_a_call_that_is_not_viable(rt: HostRuntime) -> Result<(), Fail> 
 }
 
 /// A map whose key the inner stream has no room for.
-const REFUSED_INSIDE: &'static str = r#"map_begin 1
+const REFUSED_INSIDE: &'static str = r#"
+map_begin 1
 map_key_begin
 null
 map_key_begin
---
-taken: true, why: None, whole: false
-taken: false, why: Some(Inner), whole: false
-taken: false, why: Some(NotViable), whole: false
-taken: false, why: Some(Inner), whole: false
-whole: false, passed on: 1"#;
+= taken: true, why: None, whole: false␊taken: false, why: Some(Inner), whole: false␊taken: false, why: Some(NotViable), whole: false␊taken: false, why: Some(Inner), whole: false␊whole: false, passed on: 1
+"#;
 
 #[test]
 fn is_as_before_after_a_refusal_inside(rt: HostRuntime) -> Result<(), Fail> {

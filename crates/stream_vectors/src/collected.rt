@@ -23,48 +23,39 @@ pub(crate) fn binary_of(alloc: Global, value: &ValueBuf<'_>) -> Result<String, A
 }
 
 /// Texts, integers that no `i64` is, labels, and what no text is collected of.
-const TEXTS: &'static str = r#"text_begin -
+const TEXTS: &'static str = r#"
+text_begin -
 text_end
---
-"" true
+= "" true
 
 text_begin 8
 text_fragment =6120737472696e67
 text_end
---
-"a string" true
+= "a string" true
 
 u128 340282366920938463463374607431768211455
---
-"340282366920938463463374607431768211455" false
+= "340282366920938463463374607431768211455" false
 
 u64 9223372036854775808
---
-"9223372036854775808" false
+= "9223372036854775808" false
 
 i128 -9223372036854775809
---
-"-9223372036854775809" false
+= "-9223372036854775809" false
 
 u64 9223372036854775807
---
-unexpected integer, expected text
+= unexpected integer, expected text
 
 u8 1
---
-unexpected integer, expected text
+= unexpected integer, expected text
 
 bool true
---
-unexpected boolean, expected text
+= unexpected boolean, expected text
 
 map_begin -
---
-unexpected sequence, expected text
+= unexpected sequence, expected text
 
 binary_begin -
---
-unexpected sequence, expected text
+= unexpected sequence, expected text
 
 tagged_begin CONSTANT_SIZE - -
 text_begin -
@@ -72,12 +63,11 @@ text_fragment =61
 text_fragment_computed =62
 text_end
 tagged_end CONSTANT_SIZE - -
---
-"ab" false
+= "ab" false
 
 tag - =7769647468 -
---
-"width" false"#;
+= "width" false
+"#;
 
 #[test]
 fn collects_texts(rt: HostRuntime) -> Result<(), Fail> {
@@ -108,7 +98,8 @@ fn collects_static_labels(rt: HostRuntime) -> Result<(), Fail> {
 }
 
 /// Binaries, bytes alone and in a sequence, and what no binary is collected of.
-const BINARIES: &'static str = r#"tagged_begin CONSTANT_SIZE - -
+const BINARIES: &'static str = r#"
+tagged_begin CONSTANT_SIZE - -
 seq_begin 2
 seq_value_begin
 u8 97
@@ -118,38 +109,31 @@ u8 32
 seq_value_end
 seq_end
 tagged_end CONSTANT_SIZE - -
---
-[97, 32] false
+= [97, 32] false
 
 binary_begin -
 binary_fragment =6162
 binary_end
---
-[97, 98] true
+= [97, 98] true
 
 u8 7
---
-[7] false
+= [7] false
 
 bool true
---
-unexpected boolean, expected binary
+= unexpected boolean, expected binary
 
 u16 7
---
-unexpected integer, expected binary
+= unexpected integer, expected binary
 
 u64 9223372036854775808
---
-unexpected text, expected binary
+= unexpected text, expected binary
 
 text_begin -
---
-unexpected text, expected binary
+= unexpected text, expected binary
 
 map_begin -
---
-unexpected map, expected binary"#;
+= unexpected map, expected binary
+"#;
 
 #[test]
 fn collects_binaries(rt: HostRuntime) -> Result<(), Fail> {

@@ -65,74 +65,42 @@ pub(crate) fn replayed(alloc: Global, script: &Script) -> Result<String, Fail> {
 }
 
 /// Calls that are no value's, or not whole: what can be is made again with its ends, and without what was refused.
-const CALLS: &'static str = r#"--
-null
-complete: false, lent alike: true
+const CALLS: &'static str = r#"
+␄
+= null␊complete: false, lent alike: true
 
 seq_end
---
-null
-complete: false, lent alike: true
-InvalidValue { reason: Unbalanced }: the value is invalid: unbalanced calls to `begin` and `end`
+= null␊complete: false, lent alike: true␊InvalidValue { reason: Unbalanced }: the value is invalid: unbalanced calls to `begin` and `end`
 
 text_fragment =61
---
-null
-complete: false, lent alike: true
-OutsideContainer { method: Text }: expected a fragment while buffering text
+= null␊complete: false, lent alike: true␊OutsideContainer { method: Text }: expected a fragment while buffering text
 
 binary_fragment =61
---
-null
-complete: false, lent alike: true
-OutsideContainer { method: Binary }: expected a fragment while buffering binary
+= null␊complete: false, lent alike: true␊OutsideContainer { method: Binary }: expected a fragment while buffering binary
 
 seq_begin -
 seq_value_end
---
-seq_begin -
-seq_end
-complete: true, lent alike: true
+= seq_begin -␊seq_end␊complete: true, lent alike: true
 
 seq_begin -
 null
---
-seq_begin -
-seq_end
-null
-complete: false, lent alike: true
+= seq_begin -␊seq_end␊null␊complete: false, lent alike: true
 
 seq_begin -
 seq_value_begin
 bool true
---
-seq_begin -
-seq_end
-seq_value_begin
-seq_value_end
-bool true
-complete: false, lent alike: true
+= seq_begin -␊seq_end␊seq_value_begin␊seq_value_end␊bool true␊complete: false, lent alike: true
 
 text_begin -
 text_fragment =61
 text_end
 text_fragment =62
---
-text_begin 2
-text_fragment_computed =6162
-text_end
-complete: true, lent alike: true
+= text_begin 2␊text_fragment_computed =6162␊text_end␊complete: true, lent alike: true
 
 text_begin -
 null
 text_fragment =61
---
-text_begin 0
-text_fragment =
-text_end
-null
-complete: false, lent alike: true
-OutsideContainer { method: Text }: expected a fragment while buffering text
+= text_begin 0␊text_fragment =␊text_end␊null␊complete: false, lent alike: true␊OutsideContainer { method: Text }: expected a fragment while buffering text
 
 seq_begin 2
 seq_value_begin
@@ -145,9 +113,7 @@ text_fragment =61
 text_end
 seq_value_end
 seq_end
---
-the same
-complete: true, lent alike: true
+= the same␊complete: true, lent alike: true
 
 seq_begin -
 seq_value_begin
@@ -155,14 +121,7 @@ i64 -7
 seq_value_end
 seq_end
 seq_end
---
-seq_begin -
-seq_value_begin
-i64 -7
-seq_value_end
-seq_end
-complete: true, lent alike: true
-InvalidValue { reason: Unbalanced }: the value is invalid: unbalanced calls to `begin` and `end`
+= seq_begin -␊seq_value_begin␊i64 -7␊seq_value_end␊seq_end␊complete: true, lent alike: true␊InvalidValue { reason: Unbalanced }: the value is invalid: unbalanced calls to `begin` and `end`
 
 seq_begin -
 seq_value_begin
@@ -173,22 +132,11 @@ text_fragment =63
 text_end
 seq_value_end
 seq_end
---
-seq_begin -
-seq_value_begin
-text_begin 3
-text_fragment_computed =616263
-text_end
-seq_value_end
-seq_end
-complete: true, lent alike: true
+= seq_begin -␊seq_value_begin␊text_begin 3␊text_fragment_computed =616263␊text_end␊seq_value_end␊seq_end␊complete: true, lent alike: true
 
 tagged_begin RUST_UNIT =6b696e64 -
 seq_end
---
-tagged_begin RUST_UNIT =6b696e64 -
-tagged_end RUST_UNIT =6b696e64 -
-complete: true, lent alike: true
+= tagged_begin RUST_UNIT =6b696e64 -␊tagged_end RUST_UNIT =6b696e64 -␊complete: true, lent alike: true
 
 seq_begin 2
 seq_value_begin
@@ -198,9 +146,7 @@ seq_value_begin
 bool true
 seq_value_end
 seq_end
---
-the same
-complete: true, lent alike: true
+= the same␊complete: true, lent alike: true
 
 map_begin 2
 map_key_begin
@@ -216,9 +162,7 @@ map_value_begin
 bool true
 map_value_end
 map_end
---
-the same
-complete: true, lent alike: true
+= the same␊complete: true, lent alike: true
 
 enum_begin - =456e756d -
 enum_end - =456e756d -
@@ -226,19 +170,14 @@ record_begin - =5265636f7264 - 0
 record_end - =5265636f7264 -
 tuple_begin - =5475706c65 - 0
 tuple_end - =5475706c65 -
---
-the same
-complete: true, lent alike: true
+= the same␊complete: true, lent alike: true
 
 binary_begin -
 tag_hint NUMBER
 binary_fragment =6162
 binary_end
---
-binary_begin 2
-binary_fragment =6162
-binary_end
-complete: true, lent alike: true"#;
+= binary_begin 2␊binary_fragment =6162␊binary_end␊complete: true, lent alike: true
+"#;
 
 #[test]
 fn captures_calls(rt: HostRuntime) -> Result<(), Fail> {
@@ -247,7 +186,8 @@ fn captures_calls(rt: HostRuntime) -> Result<(), Fail> {
 
 /// Calls that are made again as they came: numbers, the containers with names, and calls with names that differ in one
 /// thing each, in turns.
-const NAMES: &'static str = r#"u8 255
+const NAMES: &'static str = r#"
+u8 255
 u16 65535
 u32 4294967295
 u64 18446744073709551615
@@ -259,9 +199,7 @@ i32 -2147483648
 i64 -9223372036854775808
 i128 -1
 i128 -170141183460469231731687303715884105728
---
-the same
-complete: true, lent alike: true
+= the same␊complete: true, lent alike: true
 
 tuple_begin RUST_UNIT =7769647468 18446744073709551615 -
 tuple_value_begin - 18446744073709551615
@@ -280,9 +218,7 @@ record_tuple_value_begin - =7769647468 18446744073709551615
 null
 record_tuple_value_end - =7769647468 18446744073709551615
 record_tuple_end RUST_UNIT =7769647468 18446744073709551615
---
-the same
-complete: true, lent alike: true
+= the same␊complete: true, lent alike: true
 
 tag - =6964 -
 tag RUST_UNIT =6964 -
@@ -296,9 +232,7 @@ tag - =6164 -
 tag - =6964 -
 tag - =6964:VALUE_IDENT -
 tag - =6964:VALUE_IDENT -
---
-the same
-complete: true, lent alike: true
+= the same␊complete: true, lent alike: true
 
 tag - =6964 0
 tag - =6964 -
@@ -309,9 +243,7 @@ tag - =6964 1
 tag - =6964 0
 tag - =6964 0:VALUE_OFFSET
 tag - =6964 0:VALUE_OFFSET
---
-the same
-complete: true, lent alike: true
+= the same␊complete: true, lent alike: true
 
 enum_begin - =6964 -
 enum_end - =6964 -
@@ -322,9 +254,8 @@ tuple_begin - =6964 - -
 tuple_end - =6964 -
 tuple_begin - =6964 - 1
 tuple_end - =6964 -
---
-the same
-complete: true, lent alike: true"#;
+= the same␊complete: true, lent alike: true
+"#;
 
 #[test]
 fn makes_calls_again(rt: HostRuntime) -> Result<(), Fail> {

@@ -29,111 +29,98 @@ pub(crate) fn written(
 
 /// A binary, fields, a variant, empty enums, texts by their tags, and what is refused: numbers that are none and a
 /// binary as a key.
-const INSIDE: &'static str = r#"binary_begin -
+const INSIDE: &'static str = r#"
+binary_begin -
 binary_fragment =00ff
 binary_end
---
-[0,255]
+= [0,255]
 
 record_begin - - - -
 record_value_begin - =612262
 null
 record_value_end - =612262
 record_end - - -
---
-{"a\"b":null}
+= {"a\"b":null}
 
 record_begin - - - -
 record_value_begin - =632264:VALUE_IDENT
 null
 record_value_end - =632264:VALUE_IDENT
 record_end - - -
---
-{"c"d":null}
+= {"c"d":null}
 
 enum_begin - - -
 tuple_begin - =56 -7 -
 tuple_end - =56 -7
 enum_end - - -
---
-{"V":[]}
+= {"V":[]}
 
 enum_begin - - -
 enum_begin - - -7
 enum_end - - -7
 enum_end - - -
---
-{"-7":-7}
+= {"-7":-7}
 
 enum_begin - - -
 enum_begin - - 9223372036854775808
 enum_end - - 9223372036854775808
 enum_end - - -
---
-null
+= null
 
 tagged_begin NUMBER - -
 text_begin -
 text_fragment =2d30
 text_end
 tagged_end NUMBER - -
---
-0
+= 0
 
 tagged_begin JSON_VALUE - -
 text_begin -
 text_fragment =5b312c20325d
 text_end
 tagged_end JSON_VALUE - -
---
-[1, 2]
+= [1, 2]
 
 tagged_begin JSON_TEXT - -
 text_begin -
 text_fragment =5c6e
 text_end
 tagged_end JSON_TEXT - -
---
-"\n"
+= "\n"
 
 tagged_begin JSON_NUMBER - -
 text_begin -
 text_fragment =314535
 text_end
 tagged_end JSON_NUMBER - -
---
-1E5
+= 1E5
 
 tagged_begin RUST_UNIT - -
 text_begin -
 text_fragment =0a
 text_end
 tagged_end RUST_UNIT - -
---
-"\n"
+= "\n"
 
 tagged_begin NUMBER - -
 text_begin -
 text_fragment =312e
 text_end
 tagged_end NUMBER - -
---
-InvalidNumber: attempt to serialize an invalid number, after `1.`
+= InvalidNumber: attempt to serialize an invalid number, after `1.`
 
 tagged_begin NUMBER - -
 text_begin -
 text_fragment =312232
 text_end
 tagged_end NUMBER - -
---
-InvalidNumber: attempt to serialize an invalid number, after `1`
+= InvalidNumber: attempt to serialize an invalid number, after `1`
 
 tagged_begin NUMBER - -
 text_begin -
 text_end
 tagged_end NUMBER - -
---
-InvalidNumber: attempt to serialize an invalid number, after ``
+= InvalidNumber: attempt to serialize an invalid number, after ``
 
 map_begin -
 map_key_begin
@@ -144,8 +131,8 @@ map_value_begin
 null
 map_value_end
 map_end
---
-InvalidKey: attempt to serialize a non-string key, after `{"`"#;
+= InvalidKey: attempt to serialize a non-string key, after `{"`
+"#;
 
 #[test]
 fn writes_json(rt: HostRuntime) -> Result<(), Fail> {
@@ -153,12 +140,13 @@ fn writes_json(rt: HostRuntime) -> Result<(), Fail> {
 }
 
 /// A variant without a label.
-const BESIDE: &'static str = r#"enum_begin - - -
+const BESIDE: &'static str = r#"
+enum_begin - - -
 tuple_begin - - -7 -
 tuple_end - - -7
 enum_end - - -
---
-{"variant":"-7","value":[]}"#;
+= {"variant":"-7","value":[]}
+"#;
 
 #[test]
 fn writes_variants_beside_their_names(rt: HostRuntime) -> Result<(), Fail> {

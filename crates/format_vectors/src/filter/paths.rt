@@ -5,22 +5,18 @@ use std::alloc::Global;
 use std::test::Fail;
 use sval_filter::{PathError, Paths};
 
-/// Calls of paths, and what they answer and leave.
+/// Calls of paths, one a line, and behind `paths` what they answer and leave.
 struct Made;
 
 impl Case for Made {
-    const BETWEEN: &'static str = "\n";
-
-    const ARROW: &'static str = " -> ";
-
-    fn seen(alloc: Global, input: &str) -> Result<String, Fail> {
+    fn seen(alloc: Global, input: &str, _due: &str) -> Result<String, Fail> {
         let mut paths = Paths::new(alloc);
         let mut answers = Vec::new(alloc);
-        for call in input.split("; ") {
+        for call in input.lines() {
             let (name, label) = call.split_once(' ').unwrap_or((call, ""));
             answers.push(answer(&mut paths, name, label))?;
         }
-        Ok(format!(in alloc; "{answers:?} {:?}", paths.as_slice())?)
+        Ok(format!(in alloc; "paths {answers:?} {:?}", paths.as_slice())?)
     }
 }
 
@@ -34,10 +30,30 @@ fn answer(paths: &mut Paths, name: &str, label: &str) -> Result<(), PathError> {
 }
 
 /// Calls by the front of their names, each with its label or word, what they answer, and the paths.
-const MADE: &'static str = r#"extend b -> [Err(NoPath)] []
-extend b; new a; extend b.c; push user.password; extend -> [Err(NoPath), Ok(()), Ok(()), Ok(()), Ok(())] [["a", "b.c"], ["user", "password", ""]]
-push; push .; push a.; push .a; push a..b -> [Err(BadWord), Err(BadWord), Err(BadWord), Err(BadWord), Err(BadWord)] []
-extend b; new a; extend b; push a..b -> [Err(NoPath), Ok(()), Ok(()), Err(BadWord)] [["a", "b"]]"#;
+const MADE: &'static str = r#"
+extend b
+= paths [Err(NoPath)] []
+
+extend b
+new a
+extend b.c
+push user.password
+extend
+= paths [Err(NoPath), Ok(()), Ok(()), Ok(()), Ok(())] [["a", "b.c"], ["user", "password", ""]]
+
+push
+push .
+push a.
+push .a
+push a..b
+= paths [Err(BadWord), Err(BadWord), Err(BadWord), Err(BadWord), Err(BadWord)] []
+
+extend b
+new a
+extend b
+push a..b
+= paths [Err(NoPath), Ok(()), Ok(()), Err(BadWord)] [["a", "b"]]
+"#;
 
 #[test]
 fn paths_by_labels_and_words(rt: HostRuntime) -> Result<(), Fail> {

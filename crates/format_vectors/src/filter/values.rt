@@ -1,15 +1,16 @@
 //! Values that are pruned.
 
+use crate::cases::{Case, try_cases};
 use std::alloc::Global;
-use std::process::Abort;
 use std::test::Fail;
 use sval_filter::{Paths, PruneError, Rule, prune};
 use sval_json::stream_to_string;
 use sval_script::Script;
 
-/// Scripts, and below each, behind arrows, words and what they leave of its value as JSON, or why nothing is left. Words
-/// are those of the program: a rule, and paths.
-const LEFT: &'static str = r#"record_begin - - - 3
+/// Scripts with words, and what these leave of its value as JSON, or why nothing is left. Words are those of the program: a
+/// rule, and paths.
+const LEFT: &'static str = r#"
+record_begin - - - 3
 record_value_begin - =6669656c645f30
 i64 1
 record_value_end - =6669656c645f30
@@ -22,12 +23,12 @@ text_fragment =736f6d652074657874
 text_end
 record_value_end - =6669656c645f32
 record_end - - -
--> drop field_1: {"field_0":1,"field_2":"some text"}
--> keep field_2: {"field_2":"some text"}
--> keep none: {}
--> drop field: {"field_0":1,"field_1":true,"field_2":"some text"}
--> drop field_0.a: {"field_0":1,"field_1":true,"field_2":"some text"}
--> drop: {"field_0":1,"field_1":true,"field_2":"some text"}
+= drop field_1: {"field_0":1,"field_2":"some text"}
+= keep field_2: {"field_2":"some text"}
+= keep none: {}
+= drop field: {"field_0":1,"field_1":true,"field_2":"some text"}
+= drop field_0.a: {"field_0":1,"field_1":true,"field_2":"some text"}
+= drop: {"field_0":1,"field_1":true,"field_2":"some text"}
 
 enum_begin - - -
 record_begin - =56 - 1
@@ -36,8 +37,8 @@ i64 1
 record_value_end - =61
 record_end - =56 -
 enum_end - - -
--> drop a: {"V":{}}
--> drop a.b: {"V":{"a":1}}
+= drop a: {"V":{}}
+= drop a.b: {"V":{"a":1}}
 
 map_begin 1
 map_key_begin
@@ -53,8 +54,8 @@ record_value_end - =61
 record_end - - -
 map_value_end
 map_end
--> drop k: {}
--> drop k.a: {"k":{}}
+= drop k: {}
+= drop k.a: {"k":{}}
 
 map_begin 1
 map_key_begin
@@ -68,20 +69,22 @@ record_value_end - =61
 record_end - - -
 map_value_end
 map_end
--> drop k: {"k":{"a":1}}
--> keep k: {}
+= drop k: {"k":{"a":1}}
+= keep k: {}
 
--> drop: NotATree
+␄
+= drop: NotATree
 
 seq_begin -
--> drop: NotATree
+= drop: NotATree
 
 null
 null
--> drop: NotATree
+= drop: NotATree
 
 seq_end
--> drop: NotATree"#;
+= drop: NotATree
+"#;
 
 /// What words leave of the value of a script.
 fn left(alloc: Global, lines: &str, words: &str) -> Result<String, Fail> {
@@ -108,22 +111,18 @@ fn rule_and_paths(alloc: Global, words: &str) -> Result<(Rule, Paths), Fail> {
     Ok((rule, paths))
 }
 
-/// Tries the words below a script.
-fn try_script(rt: &impl Abort, alloc: Global, part: &str) -> Result<(), Fail> {
-    let mut pieces = part.split("-> ");
-    let script = pieces.next().unwrap_or("");
-    for piece in pieces {
-        let (words, wanted) = piece.trim_end().split_once(": ").ok_or("no colon")?;
-        let left = left(alloc, script, words)?;
-        assert_eq!(rt; left.as_str(), wanted, "{words}");
+/// A script, and behind words and a colon what they leave of its value.
+struct Pruned;
+
+impl Case for Pruned {
+    fn seen(alloc: Global, input: &str, due: &str) -> Result<String, Fail> {
+        let (words, _json) = due.split_once(": ").ok_or("a row without a colon")?;
+        let left = left(alloc, input, words)?;
+        Ok(format!(in alloc; "{words}: {left}")?)
     }
-    Ok(())
 }
 
 #[test]
 fn values_that_are_pruned(rt: HostRuntime) -> Result<(), Fail> {
-    for part in LEFT.split("\n\n") {
-        try_script(&rt, rt.alloc(), part)?;
-    }
-    Ok(())
+    try_cases::<Pruned>(&rt, rt.alloc(), LEFT)
 }

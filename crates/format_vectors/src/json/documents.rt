@@ -8,34 +8,26 @@ use sval_json::stream_to_string;
 use sval_json_read::JsonDoc;
 use sval_ref::stream_ref;
 
-/// A text, and what is written of it or why it isn't read.
+/// A text, and behind `json` what is written of it, or behind `error` why it isn't read.
 struct Written;
 
 impl Case for Written {
-    const BETWEEN: &'static str = "\n\n";
-
-    const ARROW: &'static str = "\n-> ";
-
-    fn seen(alloc: Global, input: &str) -> Result<String, Fail> {
+    fn seen(alloc: Global, input: &str, _due: &str) -> Result<String, Fail> {
         match JsonDoc::read(alloc, input.as_bytes()) {
-            Ok(doc) => Ok(stream_to_string(alloc, &doc)?),
-            Err(error) => Ok(format!(in alloc; "{error:?}")?),
+            Ok(doc) => Ok(format!(in alloc; "json {}", stream_to_string(alloc, &doc)?)?),
+            Err(error) => Ok(format!(in alloc; "error {error:?}")?),
         }
     }
 }
 
-/// A text, and its calls.
+/// A text, and behind `calls` its calls.
 struct Calls;
 
 impl Case for Calls {
-    const BETWEEN: &'static str = "\n";
-
-    const ARROW: &'static str = " -> ";
-
-    fn seen(alloc: Global, input: &str) -> Result<String, Fail> {
+    fn seen(alloc: Global, input: &str, _due: &str) -> Result<String, Fail> {
         let calls = kept(alloc, input.as_bytes())?;
         let tokens = calls.as_tokens();
-        let seen = format!(in alloc; "{tokens:?}")?;
+        let seen = format!(in alloc; "calls {tokens:?}")?;
         Ok(seen)
     }
 }
@@ -48,31 +40,31 @@ fn kept(alloc: Global, bytes: &[u8]) -> Result<TokenBuf<'_>, Fail> {
     Ok(calls)
 }
 
-/// Texts, the first of no bytes, and behind an arrow what comes of them. The longest two are the examples of RFC 8259,
-/// section 13.
+/// Texts, the first of no bytes. The longest two are the examples of RFC 8259, section 13.
 const WRITTEN: &'static str = r#"
--> BadJson { at: 0 }
+␄
+= error BadJson { at: 0 }
 
-01
--> BadJson { at: 1 }
+01␄
+= error BadJson { at: 1 }
 
-[1,]
--> BadJson { at: 3 }
+[1,]␄
+= error BadJson { at: 3 }
 
-"\ud800"
--> BadJson { at: 7 }
+"\ud800"␄
+= error BadJson { at: 7 }
 
-{"a" 1}
--> BadJson { at: 5 }
+{"a" 1}␄
+= error BadJson { at: 5 }
 
-1 2
--> BadJson { at: 2 }
+1 2␄
+= error BadJson { at: 2 }
 
-nul
--> BadJson { at: 3 }
+nul␄
+= error BadJson { at: 3 }
 
- {"a" : [1, -0, 1.50e+3, "x\u0041\n"]}
--> {"a":[1,0,1.50e+3,"xA\n"]}
+ {"a" : [1, -0, 1.50e+3, "x\u0041\n"]}␄
+= json {"a":[1,0,1.50e+3,"xA\n"]}
 
 {
   "Image": {
@@ -87,8 +79,8 @@ nul
     "Animated" : false,
     "IDs": [116, 943, 234, 38793]
   }
-}
--> {"Image":{"Width":800,"Height":600,"Title":"View from 15th Floor","Thumbnail":{"Url":"http://www.example.com/image/481989943","Height":125,"Width":100},"Animated":false,"IDs":[116,943,234,38793]}}
+}␄
+= json {"Image":{"Width":800,"Height":600,"Title":"View from 15th Floor","Thumbnail":{"Url":"http://www.example.com/image/481989943","Height":125,"Width":100},"Animated":false,"IDs":[116,943,234,38793]}}
 
 [
   {
@@ -101,25 +93,29 @@ nul
     "Zip":       "94107",
     "Country":   "US"
   }
-]
--> [{"precision":"zip","Latitude":37.7668,"Longitude":-122.3959,"Address":"","City":"SAN FRANCISCO","State":"CA","Zip":"94107","Country":"US"}]
+]␄
+= json [{"precision":"zip","Latitude":37.7668,"Longitude":-122.3959,"Address":"","City":"SAN FRANCISCO","State":"CA","Zip":"94107","Country":"US"}]
 
-"Hello world!"
--> "Hello world!"
+"Hello world!"␄
+= json "Hello world!"
 
-42
--> 42
+42␄
+= json 42
 
-true
--> true
+true␄
+= json true
 
-[null,[],{},false]
--> [null,[],{},false]"#;
+[null,[],{},false]␄
+= json [null,[],{},false]
+"#;
 
-/// Texts, and their calls. A number that fits no `i64` is text.
-const CALLS: &'static str =
-    r#"9223372036854775808 -> [TaggedBegin(TokenName { tag: Some(Tag { text: "NUMBER" }), label: None, index: None }), TextBegin(Some(19)), TextFragment("9223372036854775808"), TextEnd, TaggedEnd(TokenName { tag: Some(Tag { text: "NUMBER" }), label: None, index: None })]
-["a", 2] -> [SeqBegin(None), SeqValueBegin, TextBegin(None), TextFragment("a"), TextEnd, SeqValueEnd, SeqValueBegin, I64(2), SeqValueEnd, SeqEnd]"#;
+/// A number that fits no `i64` is text.
+const CALLS: &'static str = r#"
+9223372036854775808␄
+= calls [TaggedBegin(TokenName { tag: Some(Tag { text: "NUMBER" }), label: None, index: None }), TextBegin(Some(19)), TextFragment("9223372036854775808"), TextEnd, TaggedEnd(TokenName { tag: Some(Tag { text: "NUMBER" }), label: None, index: None })]
+["a", 2]␄
+= calls [SeqBegin(None), SeqValueBegin, TextBegin(None), TextFragment("a"), TextEnd, SeqValueEnd, SeqValueBegin, I64(2), SeqValueEnd, SeqEnd]
+"#;
 
 #[test]
 fn texts_and_their_calls(rt: HostRuntime) -> Result<(), Fail> {

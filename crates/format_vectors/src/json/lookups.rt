@@ -5,37 +5,29 @@ use std::alloc::Global;
 use std::test::Fail;
 use sval_json_read::{JsonDoc, JsonRef};
 
-/// A text, and what its value is taken for, item by item and member by member.
+/// A text, and behind `parts` what its value is taken for, item by item and member by member.
 struct Parts;
 
 impl Case for Parts {
-    const BETWEEN: &'static str = "\n";
-
-    const ARROW: &'static str = " -> ";
-
-    fn seen(alloc: Global, input: &str) -> Result<String, Fail> {
-        let mut seen = String::new(alloc);
+    fn seen(alloc: Global, input: &str, _due: &str) -> Result<String, Fail> {
+        let mut seen = String::from_str(alloc, "parts ")?;
         let doc = JsonDoc::read(alloc, input.as_bytes())?;
         push_parts(alloc, &doc.root(), &mut seen)?;
         Ok(seen)
     }
 }
 
-/// A text, and what the last member of it with the name `a` and a line feed is as an `i64`.
+/// A text, and behind `member` what the last member of it with the name `a` and a line feed is as an `i64`.
 struct Member;
 
 impl Case for Member {
-    const BETWEEN: &'static str = "\n";
-
-    const ARROW: &'static str = " -> ";
-
-    fn seen(alloc: Global, input: &str) -> Result<String, Fail> {
+    fn seen(alloc: Global, input: &str, _due: &str) -> Result<String, Fail> {
         let doc = JsonDoc::read(alloc, input.as_bytes())?;
         let number = match doc.root().get("a\n") {
             Some(value) => value.as_i64(),
             None => None,
         };
-        Ok(format!(in alloc; "{number:?}")?)
+        Ok(format!(in alloc; "member {number:?}")?)
     }
 }
 
@@ -79,28 +71,53 @@ fn push_parts(alloc: Global, value: &JsonRef<'_>, seen: &mut String) -> Result<(
     Ok(())
 }
 
-const PARTS: &'static str = r#"null -> Null None None None None
- true  -> Bool Some(true) None None None
--0 -> Number None Some(0) None Some("-0")
-1.0 -> Number None None None Some("1.0")
-18446744073709551615 -> Number None None Some(18446744073709551615) Some("18446744073709551615")
-18446744073709551616 -> Number None None None Some("18446744073709551616")
--9223372036854775808 -> Number None Some(-9223372036854775808) None Some("-9223372036854775808")
-"" -> Text None None None None Some("") "" true
-"ab" -> Text None None None None Some("ab") "ab" true
-"a\u0062" -> Text None None None None None "ab" true
-[] -> Array None None None None
-[[1,[2]],{"a":3},4] -> Array None None None None; Array None None None None; Object None None None None; Number None Some(4) Some(4) Some("4")
-{} -> Object None None None None
-{"a":[{"b":1}],"\u0063":2} -> Object None None None None; "a" Array None None None None; "c" Number None Some(2) Some(2) Some("2")"#;
+const PARTS: &'static str = r#"
+null␄
+= parts Null None None None None
+ true ␄
+= parts Bool Some(true) None None None
+-0␄
+= parts Number None Some(0) None Some("-0")
+1.0␄
+= parts Number None None None Some("1.0")
+18446744073709551615␄
+= parts Number None None Some(18446744073709551615) Some("18446744073709551615")
+18446744073709551616␄
+= parts Number None None None Some("18446744073709551616")
+-9223372036854775808␄
+= parts Number None Some(-9223372036854775808) None Some("-9223372036854775808")
+""␄
+= parts Text None None None None Some("") "" true
+"ab"␄
+= parts Text None None None None Some("ab") "ab" true
+"a\u0062"␄
+= parts Text None None None None None "ab" true
+[]␄
+= parts Array None None None None
+[[1,[2]],{"a":3},4]␄
+= parts Array None None None None; Array None None None None; Object None None None None; Number None Some(4) Some(4) Some("4")
+{}␄
+= parts Object None None None None
+{"a":[{"b":1}],"\u0063":2}␄
+= parts Object None None None None; "a" Array None None None None; "c" Number None Some(2) Some(2) Some("2")
+"#;
 
-const MEMBERS: &'static str = r#"1 -> None
-[1] -> None
-{} -> None
-{"a":1} -> None
-{"a\n":1} -> Some(1)
-{"a\u000a":1,"b":{"a\n":3},"a\n":2,"a":4} -> Some(2)
-{"a\n":1,"a\n":"x"} -> None"#;
+const MEMBERS: &'static str = r#"
+1␄
+= member None
+[1]␄
+= member None
+{}␄
+= member None
+{"a":1}␄
+= member None
+{"a\n":1}␄
+= member Some(1)
+{"a\u000a":1,"b":{"a\n":3},"a\n":2,"a":4}␄
+= member Some(2)
+{"a\n":1,"a\n":"x"}␄
+= member None
+"#;
 
 #[test]
 fn what_values_are(rt: HostRuntime) -> Result<(), Fail> {

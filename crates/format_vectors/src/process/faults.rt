@@ -3,7 +3,7 @@
 ghost use Rattle.std.specs.Prelude.{◌≤◌};
 
 use crate::process::devices::Failing;
-use crate::process::row::Row;
+use crate::process::row::ProgramRow;
 use std::alloc::Global;
 use std::process::Abort;
 use std::str::from_utf8;
@@ -29,7 +29,7 @@ const ASKED: usize = 65_536;
 #[derive(Drop)]
 struct Trial<'a> {
     alloc: Global,
-    row: &'a Row,
+    row: &'a ProgramRow,
     words: &'a [String],
     part: usize,
 }
@@ -148,7 +148,7 @@ fn try_trial<J: Job>(rt: &impl Abort, trial: &Trial<'_>)
 }
 
 /// The words behind the program's name.
-fn words_of(alloc: Global, row: &Row) -> Result<Vec<String>, Fail> {
+fn words_of(alloc: Global, row: &ProgramRow) -> Result<Vec<String>, Fail> {
     let mut words = Vec::new(alloc);
     for word in row.words.iter().skip(1) {
         words.push(String::from_str(alloc, from_utf8(word.as_slice())?)?)?;
@@ -158,7 +158,11 @@ fn words_of(alloc: Global, row: &Row) -> Result<Vec<String>, Fail> {
 
 /// A fault at each call of each writer, where devices give and take 1 byte, 7 and 1000 bytes a call at most, and at each
 /// call of a source that gives 7.
-pub(crate) fn try_faults<J: Job>(rt: &impl Abort, alloc: Global, row: &Row) -> Result<(), Fail> {
+pub(crate) fn try_faults<J: Job>(
+    rt: &impl Abort,
+    alloc: Global,
+    row: &ProgramRow,
+) -> Result<(), Fail> {
     let owned = words_of(alloc, row)?;
     let words = owned.as_slice();
     let bytes = Trial {
@@ -188,7 +192,11 @@ pub(crate) fn try_faults<J: Job>(rt: &impl Abort, alloc: Global, row: &Row) -> R
 
 /// The row's words over an input of one byte more than is read, from a source that fails at the call that sees that there
 /// is more, or behind it: the output, which would fail, isn't written.
-pub(crate) fn try_long<J: Job>(rt: &impl Abort, alloc: Global, row: &Row) -> Result<(), Fail> {
+pub(crate) fn try_long<J: Job>(
+    rt: &impl Abort,
+    alloc: Global,
+    row: &ProgramRow,
+) -> Result<(), Fail> {
     let bytes = vec![in alloc; b' '; LIMIT + 1]?;
     let words = words_of(alloc, row)?;
     let trial = Trial {

@@ -1,6 +1,6 @@
 //! A process whose words and streams are in memory.
 
-use crate::process::row::Row;
+use crate::process::row::ProgramRow;
 use std::alloc::Global;
 use std::env::FillError;
 use std::process::{Abort, ExitCode};
@@ -36,7 +36,7 @@ impl<'a> Env for Process<'a> {
 }
 
 /// Runs a program in a process, and compares what comes of it with the row.
-pub(crate) fn try_process<J: Job>(rt: &impl Abort, alloc: Global, row: &Row) {
+pub(crate) fn try_process<J: Job>(rt: &impl Abort, alloc: Global, row: &ProgramRow) {
     let mut stdout = Vec::new(alloc);
     let mut stderr = Vec::new(alloc);
     let words = row.words.as_slice();

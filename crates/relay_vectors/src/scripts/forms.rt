@@ -3,23 +3,6 @@
 /// Rows as [`try_rows`](crate::rows::try_rows) reads them.
 pub(super) const ROWS: &'static str = r#"
 # Canonical scripts, letter for letter.
-map_begin 1
-map_key_begin
-tagged_begin RUST_OPTION_SOME =536f6d65:VALUE_IDENT 1:VALUE_OFFSET
-text_begin 1
-text_fragment =6b
-text_end
-tagged_end RUST_OPTION_SOME =536f6d65 1
-map_key_end
-map_value_begin
-record_begin - =52 - -
-record_value_begin - =61
-i32 1
-record_value_end - =61
-record_end - =52 -
-map_value_end
-map_end
-= run calls: 0 map_begin -␊map_key_begin␊tagged_begin RUST_OPTION_SOME =536f6d65:VALUE_IDENT 1:VALUE_OFFSET␊text_begin 1␊text_fragment =6b␊text_end␊tagged_end RUST_OPTION_SOME =536f6d65:VALUE_IDENT 1:VALUE_OFFSET␊map_key_end␊map_value_begin␊record_begin - =52 - -␊record_value_begin - =61␊i32 1␊record_value_end - =61␊record_end - =52 -␊map_value_end␊map_end␊|
 tagged_begin NUMBER - -
 text_begin -
 text_fragment =2d30

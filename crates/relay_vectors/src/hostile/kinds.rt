@@ -3,19 +3,17 @@
 use crate::pictures::{add_line, plain_text};
 use std::alloc::{AllocError, Global};
 
-/// The kinds, with a blank line between two: the lines of a script; its JSON, behind `= json`, or else behind `= inside`
-/// with variants under their names and behind `= beside` with variants beside their names; and its canonical script,
-/// each line behind `> `. A line behind `# ` says nothing, and `␡` stands for a delete.
-const KINDS: &'static str = r#"# Text.
+/// The kinds, with a blank line between two, as rows that [`try_rows`](crate::rows::try_rows) could read: the lines of a
+/// script, its JSON, and its canonical script.
+const KINDS: &'static str = r#"
+# Text.
 text_begin 8
 text_fragment =225c00
 text_fragment =
 text_fragment_computed =0a1f7fc3a9
 text_end
 = json "\"\\\u0000\n\u001f␡é"
-> text_begin 8
-> text_fragment =225c000a1f7fc3a9
-> text_end
+= canon text_begin 8␊text_fragment =225c000a1f7fc3a9␊text_end␊
 
 # Binary.
 binary_begin 3
@@ -23,9 +21,7 @@ binary_fragment =00
 binary_fragment_computed =80FF
 binary_end
 = json [0,128,255]
-> binary_begin 3
-> binary_fragment =0080ff
-> binary_end
+= canon binary_begin 3␊binary_fragment =0080ff␊binary_end␊
 
 # Numbers.
 seq_begin 4
@@ -48,24 +44,7 @@ bool true
 seq_value_end
 seq_end
 = json [255,-170141183460469231731687303715884105728,7.50,true]
-> seq_begin -
-> seq_value_begin
-> u8 255
-> seq_value_end
-> seq_value_begin
-> i128 -170141183460469231731687303715884105728
-> seq_value_end
-> seq_value_begin
-> tagged_begin NUMBER - -
-> text_begin 6
-> text_fragment =2b30372e3530
-> text_end
-> tagged_end NUMBER - -
-> seq_value_end
-> seq_value_begin
-> bool true
-> seq_value_end
-> seq_end
+= canon seq_begin -␊seq_value_begin␊u8 255␊seq_value_end␊seq_value_begin␊i128 -170141183460469231731687303715884105728␊seq_value_end␊seq_value_begin␊tagged_begin NUMBER - -␊text_begin 6␊text_fragment =2b30372e3530␊text_end␊tagged_end NUMBER - -␊seq_value_end␊seq_value_begin␊bool true␊seq_value_end␊seq_end␊
 
 # Sequence.
 seq_begin 3
@@ -85,22 +64,7 @@ seq_end
 seq_value_end
 seq_end
 = json [[],null,[false]]
-> seq_begin -
-> seq_value_begin
-> seq_begin -
-> seq_end
-> seq_value_end
-> seq_value_begin
-> null
-> seq_value_end
-> seq_value_begin
-> seq_begin -
-> seq_value_begin
-> bool false
-> seq_value_end
-> seq_end
-> seq_value_end
-> seq_end
+= canon seq_begin -␊seq_value_begin␊seq_begin -␊seq_end␊seq_value_end␊seq_value_begin␊null␊seq_value_end␊seq_value_begin␊seq_begin -␊seq_value_begin␊bool false␊seq_value_end␊seq_end␊seq_value_end␊seq_end␊
 
 # Map.
 map_begin 2
@@ -121,23 +85,7 @@ map_end
 map_value_end
 map_end
 = json {"k":null,"-1":{}}
-> map_begin -
-> map_key_begin
-> text_begin 1
-> text_fragment =6b
-> text_end
-> map_key_end
-> map_value_begin
-> null
-> map_value_end
-> map_key_begin
-> i8 -1
-> map_key_end
-> map_value_begin
-> map_begin -
-> map_end
-> map_value_end
-> map_end
+= canon map_begin -␊map_key_begin␊text_begin 1␊text_fragment =6b␊text_end␊map_key_end␊map_value_begin␊null␊map_value_end␊map_key_begin␊i8 -1␊map_key_end␊map_value_begin␊map_begin -␊map_end␊map_value_end␊map_end␊
 
 # Record.
 record_begin - =52:VALUE_IDENT - 2
@@ -149,14 +97,7 @@ null
 record_value_end RUST_UNIT =2261
 record_end - =52 -
 = json {"id":7,"\"a":null}
-> record_begin - =52:VALUE_IDENT - -
-> record_value_begin - =6964:VALUE_IDENT
-> u64 7
-> record_value_end - =6964:VALUE_IDENT
-> record_value_begin RUST_UNIT =2261
-> null
-> record_value_end RUST_UNIT =2261
-> record_end - =52:VALUE_IDENT -
+= canon record_begin - =52:VALUE_IDENT - -␊record_value_begin - =6964:VALUE_IDENT␊u64 7␊record_value_end - =6964:VALUE_IDENT␊record_value_begin RUST_UNIT =2261␊null␊record_value_end RUST_UNIT =2261␊record_end - =52:VALUE_IDENT -␊
 
 # Tuple.
 tuple_begin - =54 3 2
@@ -168,14 +109,7 @@ bool true
 tuple_value_end - 1:NUMBER
 tuple_end - =54 3
 = json [1,true]
-> tuple_begin - =54 3 -
-> tuple_value_begin - 0:VALUE_OFFSET
-> u8 1
-> tuple_value_end - 0:VALUE_OFFSET
-> tuple_value_begin - 1
-> bool true
-> tuple_value_end - 1
-> tuple_end - =54 3
+= canon tuple_begin - =54 3 -␊tuple_value_begin - 0:VALUE_OFFSET␊u8 1␊tuple_value_end - 0:VALUE_OFFSET␊tuple_value_begin - 1␊bool true␊tuple_value_end - 1␊tuple_end - =54 3␊
 
 # Record tuple.
 record_tuple_begin - =5254 - 1
@@ -184,11 +118,7 @@ i16 -300
 record_tuple_value_end - =61 0
 record_tuple_end - =5254 -
 = json {"a":-300}
-> record_tuple_begin - =5254 - -
-> record_tuple_value_begin - =61:VALUE_IDENT 0:VALUE_OFFSET
-> i16 -300
-> record_tuple_value_end - =61:VALUE_IDENT 0:VALUE_OFFSET
-> record_tuple_end - =5254 -
+= canon record_tuple_begin - =5254 - -␊record_tuple_value_begin - =61:VALUE_IDENT 0:VALUE_OFFSET␊i16 -300␊record_tuple_value_end - =61:VALUE_IDENT 0:VALUE_OFFSET␊record_tuple_end - =5254 -␊
 
 # Variant.
 enum_begin - =45 -
@@ -200,13 +130,7 @@ enum_end - =46 -
 enum_end - =45 -
 = inside {"F":{"V":1}}
 = beside {"variant":"F","value":{"variant":"V","value":1}}
-> enum_begin - =45 -
-> enum_begin - =46 -
-> tagged_begin - =56 -
-> i32 1
-> tagged_end - =56 -
-> enum_end - =46 -
-> enum_end - =45 -
+= canon enum_begin - =45 -␊enum_begin - =46 -␊tagged_begin - =56 -␊i32 1␊tagged_end - =56 -␊enum_end - =46 -␊enum_end - =45 -␊
 
 # Empty enum.
 enum_begin - =45 -
@@ -215,19 +139,14 @@ enum_end - =4c:NUMBER -
 enum_end - =45 -
 = inside {"L":"L"}
 = beside {"variant":"L","value":"L"}
-> enum_begin - =45 -
-> enum_begin - =4c -
-> enum_end - =4c -
-> enum_end - =45 -
+= canon enum_begin - =45 -␊enum_begin - =4c -␊enum_end - =4c -␊enum_end - =45 -␊
 
 # Option.
 tagged_begin RUST_OPTION_SOME =536f6d65:VALUE_IDENT 1:VALUE_OFFSET
 tag RUST_OPTION_NONE =4e 0
 tagged_end RUST_OPTION_SOME =536f6d65 1
 = json null
-> tagged_begin RUST_OPTION_SOME =536f6d65:VALUE_IDENT 1:VALUE_OFFSET
-> tag RUST_OPTION_NONE =4e 0
-> tagged_end RUST_OPTION_SOME =536f6d65:VALUE_IDENT 1:VALUE_OFFSET
+= canon tagged_begin RUST_OPTION_SOME =536f6d65:VALUE_IDENT 1:VALUE_OFFSET␊tag RUST_OPTION_NONE =4e 0␊tagged_end RUST_OPTION_SOME =536f6d65:VALUE_IDENT 1:VALUE_OFFSET␊
 
 # Hints.
 tag_hint NUMBER
@@ -243,13 +162,7 @@ seq_value_end
 tag_hint NUMBER
 seq_end
 = json ["ab"]
-> seq_begin -
-> seq_value_begin
-> text_begin 2
-> text_fragment =6162
-> text_end
-> seq_value_end
-> seq_end
+= canon seq_begin -␊seq_value_begin␊text_begin 2␊text_fragment =6162␊text_end␊seq_value_end␊seq_end␊
 
 # Raw text.
 tagged_begin JSON_VALUE - -
@@ -259,11 +172,7 @@ text_fragment =20325d
 text_end
 tagged_end JSON_VALUE - -
 = json [1, 2]
-> tagged_begin JSON_VALUE - -
-> text_begin 6
-> text_fragment =5b312c20325d
-> text_end
-> tagged_end JSON_VALUE - -
+= canon tagged_begin JSON_VALUE - -␊text_begin 6␊text_fragment =5b312c20325d␊text_end␊tagged_end JSON_VALUE - -␊
 "#;
 
 /// A script, and what is written of the value that it spells.
@@ -290,20 +199,20 @@ impl Kind {
 
     /// Adds a line of the table.
     fn add(&mut self, alloc: Global, line: &str) -> Result<(), AllocError> {
-        let text = plain_text(alloc, line)?;
-        let (mark, rest) = text.split_once(' ').unwrap_or(("", ""));
-        match mark {
-            "#" => Ok(()),
-            "=" => self.add_json(rest),
-            ">" => add_line(&mut self.canonical, rest),
-            _ => add_line(&mut self.script, line),
+        if line.is_empty() || line.starts_with("# ") {
+            return Ok(());
+        }
+        match line.strip_prefix("= ") {
+            Some(due) => self.add_due(&plain_text(alloc, due)?),
+            None => add_line(&mut self.script, line),
         }
     }
 
-    /// Adds what is written in JSON.
-    fn add_json(&mut self, due: &str) -> Result<(), AllocError> {
-        let (style, text) = due.split_once(' ').unwrap_or(("", ""));
-        match style {
+    /// Adds what is due.
+    fn add_due(&mut self, due: &str) -> Result<(), AllocError> {
+        let (kind, text) = due.split_once(' ').unwrap_or((due, ""));
+        match kind {
+            "canon" => self.canonical.push_str(text),
             "inside" => self.inside.push_str(text),
             "beside" => self.beside.push_str(text),
             _ => {

@@ -20,6 +20,7 @@ record_end - =52 -
 map_value_end
 map_end
 = json {"k":{"a":1}}
+= run calls: 0 map_begin -␊map_key_begin␊tagged_begin RUST_OPTION_SOME =536f6d65:VALUE_IDENT 1:VALUE_OFFSET␊text_begin 1␊text_fragment =6b␊text_end␊tagged_end RUST_OPTION_SOME =536f6d65:VALUE_IDENT 1:VALUE_OFFSET␊map_key_end␊map_value_begin␊record_begin - =52 - -␊record_value_begin - =61␊i32 1␊record_value_end - =61␊record_end - =52 -␊map_value_end␊map_end␊|
 map_begin -
 map_key_begin
 null

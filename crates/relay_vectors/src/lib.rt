@@ -1,6 +1,6 @@
-//! The tests that cross crates: scripts and what is answered for them, the program over any devices, sinks, and hostile
-//! use: devices that give and take little, or fail at any call; inputs at the limit of what is read; long and deep
-//! values; and calls that no value goes on with.
+//! Tests of `sval_relay` and of what it does with scripts: what is answered for them, the program over any devices,
+//! sinks, and hostile use: devices that give and take little, or fail at any call; inputs at the limit of what is read;
+//! long and deep values; and calls that no value goes on with.
 #![tactic(auto)]
 
 #[cfg(test)]
