@@ -8,7 +8,7 @@ use Rattle.sval_core.specs.Spells.{entries}
 use Rattle.sval_core.specs.Values.{container_emission, tag_emission}
 use Rattle.sval_core.specs.ValueTrees.{Tells, TellsParts}
 use Rattle.sval_core.proofs.ToldTrees.{part_tells, container_tells, no_part_tells, enum_tells, enums_tell}
-use Rattle.sval.specs.Structs.{Field, type_name, variant_name, placed_emission}
+use Rattle.sval.specs.Structs.{Field, type_name, variant_name, placed_emission, struct_emission, unit_variant_emission, struct_variant_emission}
 use Rattle.sval.specs.StructTrees.{NamedTree, placed_parts, FieldsTell, StructsTell, UnitVariantsTell, StructVariantsTell}
 
 placed_tell : (i : ℕ) (fs : List Field) (ts : List NamedTree) → FieldsTell fs ts → TellsParts (placed_emission i fs) (placed_parts i ts)
@@ -35,13 +35,16 @@ named_tells name fs ts each =
     container_tells (Head.RecordTuple name) (length fs) (placed_emission 0 fs) (placed_parts 0 ts) (placed_tell 0 fs ts each) (in_order 0 ts) (counted 0 fs ts each)
 
 pub structs_tell : StructsTell
+unfolding struct_emission
 structs_tell name fs ts each = named_tells (type_name name) fs ts each
 
 pub unit_variants_tell : UnitVariantsTell
+unfolding unit_variant_emission
 unit_variants_tell type variant place =
     enum_tells (type_name type) (tag_emission (variant_name variant place)) _ tt (enums_tell.tag (variant_name variant place))
 
 pub struct_variants_tell : StructVariantsTell
+unfolding struct_variant_emission
 struct_variants_tell type variant place fs ts each =
     enum_tells (type_name type) (container_emission (Head.RecordTuple (variant_name variant place)) (length fs) (placed_emission 0 fs)) _ tt
     (named_tells (variant_name variant place) fs ts each)

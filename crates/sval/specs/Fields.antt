@@ -6,9 +6,9 @@ use Rattle.std.specs.Prelude as std
 use Rattle.sval_label.specs.Calls.{U8, U16, U32, U64, U128, I8, I16, I32, I64, I128}
 use Rattle.sval_core.specs.Law.{Emission}
 use Rattle.sval_core.specs.Values.{truth_emission, int_emission, str_emission, seq_emission}
-use Rattle.sval.specs.Structs.{Field, struct_emission, unit_variant_emission, value_variant_emission, struct_variant_emission}
+use Rattle.sval.specs.Structs.{Field, struct_emission, unit_struct_emission, newtype_emission, tuple_struct_emission, unit_variant_emission, value_variant_emission, tuple_variant_emission, struct_variant_emission}
 pub use Rattle.std.specs.Prelude.{[], ◌∷◌}
-pub use Rattle.sval_core.specs.Values.{option_emission, char_emission, tuple_emission}
+pub use Rattle.sval_core.specs.Values.{option_emission, char_emission, tuple_emission, map_emission, binary_emission}
 
 -- ---- the types of fields
 
@@ -67,6 +67,18 @@ field name value = record { name = codes name; value = value }
 abbrev pub a_struct : Literal → List Field → Emission
 a_struct name fields = struct_emission (codes name) fields
 
+-- a struct of this name that holds nothing: what `stream_unit_struct` streams
+abbrev pub unit_struct : Literal → Emission
+unit_struct name = unit_struct_emission (codes name)
+
+-- a struct of this name that holds one value: what `stream_newtype` streams
+abbrev pub newtype : Literal → Emission → Emission
+newtype name value = newtype_emission (codes name) value
+
+-- a tuple struct of this name: what `stream_tuple_struct` streams
+abbrev pub tuple_struct : Literal → List Emission → Emission
+tuple_struct name fields = tuple_struct_emission (codes name) fields
+
 -- a variant of this type, name and number, which holds nothing: what `stream_unit_variant` streams
 abbrev pub unit_variant : (type variant : Literal) → ℕ → Emission
 unit_variant type variant number = unit_variant_emission (codes type) (codes variant) number
@@ -74,6 +86,10 @@ unit_variant type variant number = unit_variant_emission (codes type) (codes var
 -- a variant that holds one value: what `stream_value_variant` streams
 abbrev pub value_variant : (type variant : Literal) → ℕ → Emission → Emission
 value_variant type variant number value = value_variant_emission (codes type) (codes variant) number value
+
+-- a tuple variant: what `stream_tuple_variant` streams
+abbrev pub tuple_variant : (type variant : Literal) → ℕ → List Emission → Emission
+tuple_variant type variant number fields = tuple_variant_emission (codes type) (codes variant) number fields
 
 -- a variant that holds fields: what `stream_struct_variant` streams
 abbrev pub struct_variant : (type variant : Literal) → ℕ → List Field → Emission

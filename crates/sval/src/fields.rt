@@ -16,6 +16,9 @@ use sval_core::{Index, Label, Lending, Result, Stream, Value, tags};
 ///
 /// `fields!(self, id, title)` are the fields `id` and `title` of `self` under these names, and
 /// `fields!("id" => self.id, "title" => self.title)` are the same.
+///
+/// `fields!(self, 0, 1)` are the fields of a tuple struct, which have no names: [`TupleFields`](crate::TupleFields) for
+/// [`stream_tuple_struct`](crate::stream_tuple_struct).
 #[macro_export]
 macro_rules! fields {
     () => { () };
@@ -25,6 +28,13 @@ macro_rules! fields {
     (@more $owner:ident) => { () };
     (@more $owner:ident, $name:ident $(, $names:ident)*) => {
         (stringify!($name), &$owner.$name, $crate::fields!(@more $owner $(, $names)*))
+    };
+    ($owner:ident, $index:tt $(, $indexes:tt)* $(,)?) => {
+        (&$owner.$index, $crate::fields!(@tuple $owner $(, $indexes)*))
+    };
+    (@tuple $owner:ident) => { () };
+    (@tuple $owner:ident, $index:tt $(, $indexes:tt)*) => {
+        (&$owner.$index, $crate::fields!(@tuple $owner $(, $indexes)*))
     };
     ($name:expr => $first:expr $(, $names:expr => $others:expr)* $(,)?) => {
         ($name, &$first, $crate::fields!($($names => $others),*))

@@ -16,6 +16,8 @@ mod shown;
 mod std_display;
 mod streaming;
 mod structs;
+mod tuple_fields;
+mod tuple_structs;
 
 pub use binary_array::BinaryArray;
 pub use binary_slice::{BinarySlice, stream_binary};
@@ -33,3 +35,7 @@ pub use sval_core::{
     Name, NoMemory, Null, Result, Slot, Stream, Tag, Value, refusal, stream_seq, stream_str, tags,
 };
 pub use sval_lower::{GivenTag, Readers, default_stream, default_value};
+pub use tuple_fields::TupleFields;
+pub use tuple_structs::{
+    stream_newtype, stream_tuple_struct, stream_tuple_variant, stream_unit_struct,
+};

@@ -14,7 +14,7 @@ use sval_core::{Lending, Result, Stream, Value};
 /// # Errors
 ///
 /// It refuses where a field refuses by itself, after its calls, or at the first call that the stream refuses.
-#[tactic(auto, using(sval_core::proofs::ValueProofs::of_between))]
+#[tactic(auto, using(sval_core::proofs::ValueProofs::of_between), unfolding(crate::specs::Structs::record_emission))]
 pub fn stream_record<'v, L: Lending, F: Fields<'v, L>, S: Stream<L>>(
     stream: &mut S,
     fields: F,
@@ -62,7 +62,7 @@ fn end_struct<L: Lending, N: Named, S: Stream<L>>(stream: &mut S, name: N) -> Re
 /// # Errors
 ///
 /// Those of [`stream_record`].
-#[tactic(auto, using(sval_core::proofs::ValueProofs::of_between))]
+#[tactic(auto, using(sval_core::proofs::ValueProofs::of_between), unfolding(crate::specs::Structs::struct_emission))]
 pub fn stream_struct<'v, L: Lending, N: Named, F: Fields<'v, L>, S: Stream<L>>(
     stream: &mut S,
     name: N,
@@ -78,7 +78,7 @@ pub fn stream_struct<'v, L: Lending, N: Named, F: Fields<'v, L>, S: Stream<L>>(
 }
 
 /// Begins an enum of this name.
-fn begin_enum<L: Lending, N: Named, S: Stream<L>>(stream: &mut S, name: N) -> Result
+pub(crate) fn begin_enum<L: Lending, N: Named, S: Stream<L>>(stream: &mut S, name: N) -> Result
     ensures { Answers S.law result (S.standing stream.old)
         (EnumBegin (type_name (N.text name))) (S.standing stream.new) }
 {
@@ -86,7 +86,7 @@ fn begin_enum<L: Lending, N: Named, S: Stream<L>>(stream: &mut S, name: N) -> Re
 }
 
 /// Ends an enum of this name.
-fn end_enum<L: Lending, N: Named, S: Stream<L>>(stream: &mut S, name: N) -> Result
+pub(crate) fn end_enum<L: Lending, N: Named, S: Stream<L>>(stream: &mut S, name: N) -> Result
     ensures { Answers S.law result (S.standing stream.old) (EnumEnd (type_name (N.text name))) (S.standing stream.new) }
 {
     stream.enum_end(None, Some(&identifier(name)), None)
@@ -110,7 +110,7 @@ fn stream_name<L: Lending, N: Named, S: Stream<L>>(
 /// # Errors
 ///
 /// It refuses at the first call that the stream refuses.
-#[tactic(auto, using(sval_core::proofs::ValueProofs::of_between))]
+#[tactic(auto, using(sval_core::proofs::ValueProofs::of_between), unfolding(crate::specs::Structs::unit_variant_emission))]
 pub fn stream_unit_variant<L: Lending, N: Named, M: Named, S: Stream<L>>(
     stream: &mut S,
     name: N,
@@ -170,7 +170,7 @@ fn stream_tagged<'v, L: Lending, N: Named, T: Value<'v, L>, S: Stream<L>>(
 /// # Errors
 ///
 /// It refuses where the value refuses by itself, after its calls, or at the first call that the stream refuses.
-#[tactic(auto, using(sval_core::proofs::ValueProofs::of_between))]
+#[tactic(auto, using(sval_core::proofs::ValueProofs::of_between), unfolding(crate::specs::Structs::value_variant_emission))]
 pub fn stream_value_variant<'v, L: Lending, N: Named, M: Named, T: Value<'v, L>, S: Stream<L>>(
     stream: &mut S,
     name: N,
@@ -240,7 +240,7 @@ fn stream_variant_fields<'v, L: Lending, N: Named, F: Fields<'v, L>, S: Stream<L
 /// # Errors
 ///
 /// Those of [`stream_record`].
-#[tactic(auto, using(sval_core::proofs::ValueProofs::of_between))]
+#[tactic(auto, using(sval_core::proofs::ValueProofs::of_between), unfolding(crate::specs::Structs::struct_variant_emission))]
 pub fn stream_struct_variant<'v, L: Lending, N: Named, M: Named, F: Fields<'v, L>, S: Stream<L>>(
     stream: &mut S,
     name: N,

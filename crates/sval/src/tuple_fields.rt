@@ -1,0 +1,88 @@
+//! The fields of tuple structs and of tuple variants.
+
+ghost use Rattle.std.specs.Prelude.{◌≡◌, ◌+◌, ◌^◌, ◌<◌, List, [], ◌∷◌, length, None};
+ghost use Rattle.sval_label.specs.Calls.{PartBegin, PartEnd, Place};
+ghost use Rattle.sval_core.specs.Law.{Emission, Answers, Emits};
+ghost use Rattle.sval_core.specs.Names.{offset};
+ghost use Rattle.sval_core.specs.Values.{part_emission, places_emission};
+
+use crate::fields::place;
+use sval_core::{Lending, Result, Stream, Value};
+
+/// References to the fields of a tuple struct or a tuple variant, in nested pairs: `()` for no field, and
+/// `(&first, others)` for one before the others.
+///
+/// The macro [`fields!`](crate::fields) writes those of a tuple struct: `fields!(self, 0, 1)` for `self.0` and `self.1`.
+pub trait TupleFields<'v, L: Lending>: Copy {
+    /// What the value of each field emits.
+    ghost listed: { Self → List Emission };
+
+    /// The number of fields.
+    fn count(self) -> usize
+        requires { length (listed self) < 2 ^ 64 }
+        ensures { result ≡ length (listed self) };
+
+    /// Streams the fields of a tuple. `first` is the index of the first field.
+    fn stream_fields<S: Stream<L>>(self, stream: &mut S, first: usize) -> Result
+        requires { first + length (listed self) < 2 ^ 64 }
+        ensures { Emits S.law result
+            (S.standing stream.old) (places_emission first (listed self)) (S.standing stream.new) };
+}
+
+impl<'v, L: Lending> TupleFields<'v, L> for () {
+    ghost listed = { λ _. [] };
+
+    fn count(self) -> usize {
+        0
+    }
+
+    #[tactic(auto, unfolding(sval_core::specs::Law::silent))]
+    fn stream_fields<S: Stream<L>>(self, _stream: &mut S, _first: usize) -> Result {
+        Ok(())
+    }
+}
+
+impl<'v, L: Lending, T: Value<'v, L>, F: TupleFields<'v, L>> TupleFields<'v, L> for (&'v T, F) {
+    ghost listed = { λ fields. T.emission fields.0.now ∷ F.listed fields.1 };
+
+    fn count(self) -> usize {
+        1 + self.1.count()
+    }
+
+    #[tactic(auto, using(sval_core::proofs::ValueProofs::of_emissions))]
+    fn stream_fields<S: Stream<L>>(self, stream: &mut S, first: usize) -> Result {
+        stream_field(stream, first, self.0)?;
+        self.1.stream_fields(stream, first + 1)
+    }
+}
+
+/// Begins the field of a tuple with the index `number`.
+fn begin_field<L: Lending, S: Stream<L>>(stream: &mut S, number: usize) -> Result
+    ensures { Answers S.law result
+        (S.standing stream.old) (PartBegin (Place None (offset number))) (S.standing stream.new) }
+{
+    stream.tuple_value_begin(None, &place(number))
+}
+
+/// Ends the field of a tuple with the index `number`.
+fn end_field<L: Lending, S: Stream<L>>(stream: &mut S, number: usize) -> Result
+    ensures { Answers S.law result
+        (S.standing stream.old) (PartEnd (Place None (offset number))) (S.standing stream.new) }
+{
+    stream.tuple_value_end(None, &place(number))
+}
+
+/// Streams a value as the field of a tuple with the index `number`.
+#[tactic(auto, using(sval_core::proofs::ValueProofs::of_between))]
+fn stream_field<'v, L: Lending, T: Value<'v, L>, S: Stream<L>>(
+    stream: &mut S,
+    number: usize,
+    value: &'v T,
+) -> Result
+    ensures { Emits S.law result (S.standing stream.old)
+        (part_emission (Place None (offset number)) (T.emission value.now)) (S.standing stream.new) }
+{
+    begin_field(stream, number)?;
+    value.stream(stream)?;
+    end_field(stream, number)
+}
