@@ -2,14 +2,44 @@
 use Rattle.std.specs.Prelude.{◌≡◌, ℕ, ◌+◌, List, [], ◌∷◌, length, None, refl}
 use Rattle.std.proofs.Common.{arith, subst}
 use Rattle.sval_label.specs.Calls.{Head, Slot, Name}
-use Rattle.sval_core.specs.Names.{ident, offset}
-use Rattle.sval_core.specs.Trees.{Container, FieldPlace, part, plain_slot, plain_head, AreInOrder}
+use Rattle.sval_core.specs.Law.{Emission}
+use Rattle.sval_core.specs.Names.{ident, offset, no_name}
+use Rattle.sval_core.specs.Trees as tree
+use Rattle.sval_core.specs.Trees.{Tree, Container, FieldPlace, part, plain_slot, plain_head, AreInOrder}
 use Rattle.sval_core.specs.Spells.{entries}
-use Rattle.sval_core.specs.Values.{container_emission, tag_emission}
-use Rattle.sval_core.specs.ValueTrees.{Tells, TellsParts}
-use Rattle.sval_core.proofs.ToldTrees.{part_tells, container_tells, no_part_tells, enum_tells, enums_tell}
-use Rattle.sval.specs.Structs.{Field, type_name, variant_name, placed_emission, struct_emission, unit_variant_emission, struct_variant_emission}
-use Rattle.sval.specs.StructTrees.{NamedTree, placed_parts, FieldsTell, StructsTell, UnitVariantsTell, StructVariantsTell}
+use Rattle.sval_core.specs.Values.{container_emission, tag_emission, tagged_emission, places_emission}
+use Rattle.sval_core.specs.ValueTrees.{Tells, TellsParts, place_parts}
+use Rattle.sval_core.specs.ValueLaws.{TellEach}
+use Rattle.sval_core.proofs.ToldTrees.{part_tells, container_tells, no_part_tells, tagged_tells, enum_tells, enums_tell}
+use Rattle.sval.specs.Structs.{Field, field_label, type_name, variant_name, fields_emission, placed_emission, record_emission, struct_emission, unit_struct_emission, newtype_emission, tuple_struct_emission, unit_variant_emission, value_variant_emission, struct_variant_emission, tuple_variant_emission}
+use Rattle.sval.specs.StructTrees.{NamedTree, named_parts, placed_parts, FieldsTell, RecordsTell, StructsTell, UnitStructsTell, NewtypesTell, TupleStructsTell, UnitVariantsTell, ValueVariantsTell, TupleVariantsTell, StructVariantsTell}
+
+-- ---- fields under their names
+
+named_tell : (fs : List Field) (ts : List NamedTree) → FieldsTell fs ts → TellsParts (fields_emission fs) (named_parts ts)
+named_tell [] [] each = no_part_tells
+named_tell [] (t ∷ ts) each = absurd each
+named_tell (f ∷ fs) [] each = absurd each
+named_tell (f ∷ fs) (t ∷ ts) each =
+    subst (λ n. TellsParts (fields_emission (f ∷ fs)) (part (plain_slot (Slot.Field None (field_label n))) t.tree (named_parts ts))) each.0.0
+    (part_tells (Slot.Field None (field_label f.name)) f.value (fields_emission fs) t.tree (named_parts ts) each.0.1 (named_tell fs ts each.1))
+
+named_in_order : (ts : List NamedTree) → AreInOrder tree.Field (named_parts ts)
+named_in_order [] = tt
+named_in_order (t ∷ ts) = (refl, named_in_order ts)
+
+named_counted : (fs : List Field) (ts : List NamedTree) → FieldsTell fs ts → entries (named_parts ts) ≡ length fs
+named_counted [] [] each = refl
+named_counted [] (t ∷ ts) each = absurd each
+named_counted (f ∷ fs) [] each = absurd each
+named_counted (f ∷ fs) (t ∷ ts) each = let more = named_counted fs ts each.1 in omega arith
+
+pub records_tell : RecordsTell
+unfolding record_emission
+records_tell fs ts each =
+    container_tells (Head.Record no_name) (length fs) (fields_emission fs) (named_parts ts) (named_tell fs ts each) (named_in_order ts) (named_counted fs ts each)
+
+-- ---- fields under their names and places
 
 placed_tell : (i : ℕ) (fs : List Field) (ts : List NamedTree) → FieldsTell fs ts → TellsParts (placed_emission i fs) (placed_parts i ts)
 placed_tell i [] [] each = no_part_tells
@@ -38,10 +68,60 @@ pub structs_tell : StructsTell
 unfolding struct_emission
 structs_tell name fs ts each = named_tells (type_name name) fs ts each
 
+-- ---- fields under their places
+
+places_tell : (i : ℕ) (es : List Emission) (ts : List Tree) → TellEach es ts → TellsParts (places_emission i es) (place_parts i ts)
+places_tell i [] [] each = no_part_tells
+places_tell i [] (t ∷ ts) each = absurd each
+places_tell i (e ∷ es) [] each = absurd each
+places_tell i (e ∷ es) (t ∷ ts) each = part_tells (Slot.Place None (offset i)) e (places_emission (i + 1) es) t (place_parts (i + 1) ts) each.0 (places_tell (i + 1) es ts each.1)
+
+places_in_order : (i : ℕ) (ts : List Tree) → AreInOrder tree.Place (place_parts i ts)
+places_in_order i [] = tt
+places_in_order i (t ∷ ts) = (refl, places_in_order (i + 1) ts)
+
+places_counted : (i : ℕ) (es : List Emission) (ts : List Tree) → TellEach es ts → entries (place_parts i ts) ≡ length es
+places_counted i [] [] each = refl
+places_counted i [] (t ∷ ts) each = absurd each
+places_counted i (e ∷ es) [] each = absurd each
+places_counted i (e ∷ es) (t ∷ ts) each = let more = places_counted (i + 1) es ts each.1 in omega arith
+
+tuples_tell : (name : Name) (es : List Emission) (ts : List Tree) → TellEach es ts
+    → Tells (container_emission (Head.Tuple name) (length es) (places_emission 0 es)) (Container (plain_head (Head.Tuple name)) (place_parts 0 ts))
+tuples_tell name es ts each =
+    container_tells (Head.Tuple name) (length es) (places_emission 0 es) (place_parts 0 ts) (places_tell 0 es ts each) (places_in_order 0 ts) (places_counted 0 es ts each)
+
+pub tuple_structs_tell : TupleStructsTell
+unfolding tuple_struct_emission
+tuple_structs_tell name es ts each = tuples_tell (type_name name) es ts each
+
+-- ---- structs that hold nothing or one value
+
+pub unit_structs_tell : UnitStructsTell
+unfolding unit_struct_emission
+unit_structs_tell name = enums_tell.tag (type_name name)
+
+pub newtypes_tell : NewtypesTell
+unfolding newtype_emission
+newtypes_tell name e t tells = tagged_tells (type_name name) e t tt tells
+
+-- ---- variants
+
 pub unit_variants_tell : UnitVariantsTell
 unfolding unit_variant_emission
 unit_variants_tell type variant place =
     enum_tells (type_name type) (tag_emission (variant_name variant place)) _ tt (enums_tell.tag (variant_name variant place))
+
+pub value_variants_tell : ValueVariantsTell
+unfolding value_variant_emission
+value_variants_tell type variant place e t tells =
+    enum_tells (type_name type) (tagged_emission (variant_name variant place) e) _ tt (tagged_tells (variant_name variant place) e t tt tells)
+
+pub tuple_variants_tell : TupleVariantsTell
+unfolding tuple_variant_emission
+tuple_variants_tell type variant place es ts each =
+    enum_tells (type_name type) (container_emission (Head.Tuple (variant_name variant place)) (length es) (places_emission 0 es)) _ tt
+    (tuples_tell (variant_name variant place) es ts each)
 
 pub struct_variants_tell : StructVariantsTell
 unfolding struct_variant_emission
