@@ -5,8 +5,14 @@ mod event;
 mod level;
 mod my_record;
 mod order;
+mod pair;
+mod request;
+mod shapes;
 
 pub use event::Event;
 pub use level::Level;
 pub use my_record::MyRecord;
 pub use order::{Item, Order, Payment};
+pub use pair::{Interval, Pair};
+pub use request::{Body, Headers, Request};
+pub use shapes::{Metres, Origin, Point, Shape};
