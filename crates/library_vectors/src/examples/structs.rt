@@ -164,7 +164,7 @@ fn variants_stand_in_their_enum(rt: HostRuntime) -> std::result::Result<(), Fail
 /// The JSON and the calls of a struct without fields, of one that holds one value, of tuple structs and of a struct.
 const STRUCTS: [(&str, &str); 5] = [
     // Origin
-    ("\"Origin\"", "tag - =4f726967696e:VALUE_IDENT -\n"),
+    (r#""Origin""#, "tag - =4f726967696e:VALUE_IDENT -\n"),
     // Metres(3)
     (
         "3",
