@@ -8,7 +8,7 @@ use std::test::Fail;
 
 /// A kind of case.
 pub(crate) trait Case {
-    /// What is seen of an input. It is said as it stands behind `= `, of which the first word says what is looked at.
+    /// What is seen of an input, as the text behind `= ` has it. The first word of that text says what is looked at.
     fn seen(alloc: Global, input: &str, due: &str) -> Result<String, Fail>;
 }
 

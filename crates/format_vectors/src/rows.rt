@@ -9,7 +9,7 @@
 //! ```
 //!
 //! A blank line says nothing, and neither does one that begins with `# `. A line of an input that ends with `␄` has no
-//! newline, and `␀`, `␉`, `␊`, `␍`, `␠` and `␡` stand for the letters of which they are pictures. Between two `¦` stands
+//! newline, and `␀`, `␉`, `␊`, `␍`, `␠` and `␡` are pictures of the letters that they stand for. Between two `¦` stands
 //! what no picture shows, in hex: `¦c328¦` is two bytes, and `¦600*33¦` is one byte 600 times.
 
 use crate::inputs::lines_of;

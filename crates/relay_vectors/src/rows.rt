@@ -20,7 +20,7 @@
 //! ```
 //!
 //! A blank line says nothing, and neither does one that begins with `# `. A script's line that ends with `␄` has no
-//! newline, and `␀`, `␉`, `␊`, `␍`, `␠` and `␡` stand for the letters of which they are pictures.
+//! newline, and `␀`, `␉`, `␊`, `␍`, `␠` and `␡` are pictures of the letters that they stand for.
 
 use crate::captured::{try_captured, try_captured_json};
 use crate::forms::{EACH_WAY, LISTS, run_over, words_of};

@@ -24,10 +24,9 @@ use std::io::{BufWriter, ErrorKind, Write};
 /// that happened 1,000 times in a row. A writer that takes nothing of a piece that isn't empty has failed.
 ///
 /// ```
-/// let mut bytes = Vec::new(alloc);
-/// let mut sink = BufferedSink::with_capacity(alloc, 512, &mut bytes)?;
+/// let mut sink = BufferedSink::with_capacity(alloc, 512, Vec::new(alloc))?;
 /// write_all(&mut sink, b"null")?;
-/// sink.flush()?;
+/// assert_eq!(rt; sink.into_writer().as_slice(), b"null".as_slice());
 /// ```
 #[derive(Drop)]
 pub struct BufferedSink<W: Write + Drop> {
@@ -36,7 +35,8 @@ pub struct BufferedSink<W: Write + Drop> {
 }
 
 impl<W: Write + Drop> BufferedSink<W> {
-    /// A sink over this writer with a buffer of so many bytes. Where there is no memory for it the writer is dropped.
+    /// A sink over this writer, with a buffer of `capacity` bytes. Where there is no memory for the buffer, the writer is
+    /// dropped.
     #[tactic(auto, using(crate::proofs::Buffering::nothing_behind))]
     pub fn with_capacity(alloc: Global, capacity: usize, writer: W) -> io::Result<Self>
         ensures contents { IfOk result (λ sink. writer_contents W.contents sink.writer ≡ W.contents writer) }
@@ -83,7 +83,8 @@ impl<W: Write + Drop> BufferedSink<W> {
 }
 
 impl<W: Tells + Drop> Sink for BufferedSink<W> {
-    ghost told = { λ sink. buffered_told (writer_contents W.contents sink.writer) (writer_buffer sink.writer) sink.faults };
+    ghost told = { λ sink.
+        buffered_told (writer_contents W.contents sink.writer) (writer_buffer sink.writer) sink.faults };
 
     #[inline(always)]
     fn write(&mut self, piece: &[u8]) -> Result<usize, SinkError> {

@@ -2,8 +2,10 @@
 //!
 //! A [`Sink`] takes bytes, and a [`Source`] gives them. Both count their faults, and tell what they took and have left
 //! where they know it. [`VecSink`] and [`MemSource`] stand in memory, a [`FixedSink`] over a buffer, [`RealSink`] and
-//! [`RealSource`] over std's writers and readers. [`write_all`] writes a piece whole, and [`read_input`] reads a source
-//! to its end. For tests, a [`FaultySink`] and a [`FaultySource`] fail where a [`FaultPlan`] says so, and a
+//! [`RealSource`] over std's writers and readers. A [`BufferedSink`] and a [`KnownSource`] stand over those of which is
+//! settled whether they tell their bytes, as [`Tells`] and [`TellsLeft`] say; a [`WatchedWriter`] and a
+//! [`WatchedReader`] make any of them one of those. [`write_all`] writes a piece whole, and [`read_input`] reads a
+//! source to its end. For tests, a [`FaultySink`] and a [`FaultySource`] fail where a [`FaultPlan`] says so, and a
 //! [`TrickleSink`] takes one byte a call.
 #![tactic(auto)]
 

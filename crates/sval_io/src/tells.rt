@@ -55,7 +55,9 @@ impl<W: Tells + Drop, A: Allocator> Tells for BufWriter<W, A> {
 
     ghost tells = { W.tells };
 
-    ghost always_or_never = { λ writer. told_behind (W.contents (writer_inner writer)) (writer_buffer writer) (W.always_or_never (writer_inner writer)) };
+    ghost always_or_never = { λ writer.
+        told_behind (W.contents (writer_inner writer)) (writer_buffer writer)
+        (W.always_or_never (writer_inner writer)) };
 }
 
 impl Tells for Stdout {

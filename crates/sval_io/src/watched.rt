@@ -1,4 +1,4 @@
-//! A writer and a reader of which is settled, when they are lent, whether they tell their bytes.
+//! A writer and a reader that are lent, with what a proof knows of them then: whether they tell their bytes.
 
 ghost use Rattle.std.specs.Prelude.{◌≡◌, true};
 ghost use Rattle.std.specs.Option.{is_some};

@@ -46,8 +46,8 @@ pub fn refusal<T>() -> Result<T>
 
 /// Memory was wanting, in a call that can fail in no other way.
 ///
-/// It is made only [`From`] an answer of std's allocator, since its field is private. `checks/memory` lists the few
-/// functions that write such an answer themselves.
+/// Its field is private, so it is made only [`From`] an [`AllocError`] or an [`AllocFailed`]. Those are std's answers,
+/// but for the few functions that write one themselves, which `checks/memory` lists.
 #[derive(Clone, Copy, Debug, PartialEq, Eq)]
 pub struct NoMemory {
     cause: AllocError,

@@ -58,7 +58,8 @@ pub fn run_process<J: Job, E: Env + AllocGlobal, R: Read + Drop, W: Write + Drop
     stderr: D,
 ) -> ExitCode
     ensures known { (is_status J.terms (exit_status result) ≡ true) ⊎ (exit_status result ≡ NO_WORDS) }
-    ensures ends { ProcessEnd J.terms (R.remaining stdin) (W.contents stdout.old) (W.contents stdout.new) (exit_status result) }
+    ensures ends { ProcessEnd J.terms (R.remaining stdin)
+        (W.contents stdout.old) (W.contents stdout.new) (exit_status result) }
 {
     match words(env) {
         Ok(words) => {

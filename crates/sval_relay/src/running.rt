@@ -128,7 +128,7 @@ fn serve_input<I: Source, K: Sink>(
     serve_script(alloc, &script, task, out)
 }
 
-/// Writes the sizes of a script that is made of so many records, and of its JSON.
+/// Writes the sizes of a script of `count` records, and of its JSON.
 fn serve_made<K: Sink>(alloc: Global, count: u32, out: &mut K) -> Result<(), Failure>
     ensures { ServesBytes relay_terms K.told (Made count) [] result out.old out.new }
 {

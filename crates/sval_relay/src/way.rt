@@ -32,7 +32,7 @@ pub(crate) struct Task {
 pub(crate) enum Form {
     /// The script that the input is, served.
     Serve(Task),
-    /// The sizes of a script that is made of so many records, and of its JSON.
+    /// The sizes of a script of this number of records, and of its JSON.
     Made(u32),
 }
 
