@@ -1,11 +1,16 @@
 -- What is kept of a line that was read.
-use Rattle.std.specs.Prelude.{◌≡◌, ℕ, List, ◌++◌, Option, Some, length}
+use Rattle.std.specs.Prelude.{◌≡◌, ℕ, List, ◌++◌, Option, Some, None, Result, Err, IfOk, length}
 use Rattle.sval_label.specs.Calls.{Call}
 use Rattle.sval_script.specs.Lines.{complete, LineForm}
 use Rattle.sval_script.specs.Fields.{LineLeft}
 use Rattle.sval_script.specs.NextFields.{call_before}
-use Rattle.sval_script.specs.LineCalls.{Stored, own_len, own_count, wide, call_with, IsUtf8Line}
+use Rattle.sval_script.specs.LineCalls.{Stored, stored, own_len, own_count, wide, call_with, IsUtf8Line}
+use Rattle.sval_script.specs.Words.{form_of_word}
+use Rattle.sval_script.specs.declared.field.LineError.{LineError}
+use Rattle.sval_script.specs.declared.field.LineError.TheVariants.{Bad}
 use Rattle.sval_script.specs.declared.line.Line.{Line}
+use Rattle.sval_script.specs.declared.store.Store.{Store}
+use Rattle.sval_script.specs.declared.word.Word.{Word}
 
 -- two numbers, which are the upper and the lower half of this one, were put behind those before them
 pub record PutsWide (number : ℕ) (old new : List ℕ) : Type 0 where
@@ -28,6 +33,14 @@ pub record MakesLine (form : LineForm) (fields rest : LineLeft) (old new : Store
   pub numbers : List ℕ
   pub spells : call_before form fields ≡ call_before (complete (call_with bytes numbers line)) rest
   pub puts : Puts bytes numbers old new line
+
+-- the line that was read, if one was, is made by the fields behind this word, which leave these
+abbrev pub ReadsFieldsOf : Word → LineLeft → LineLeft → Store → Store → Result Line LineError → Type 0
+ReadsFieldsOf word fields rest old new result = IfOk result (λ line. MakesLine (form_of_word word) fields rest (stored old) (stored new) line)
+
+-- what was read is told bad only where the fields behind this word spell no call
+abbrev pub TellsBad : Word → LineLeft → Result Line LineError → Type 0
+TellsBad word fields result = result ≡ Err Bad → call_before (form_of_word word) fields ≡ None
 
 -- the line makes the call, and its own was put behind what stood before it
 pub record StoresCall (call : Call) (old new : Stored) (line : Line) : Type 0 where

@@ -1,10 +1,9 @@
 //! The lines of a script.
 
 ghost use Rattle.std.specs.Prelude.{◌≡◌, None, IfOk};
-ghost use Rattle.sval_script.specs.NextFields.{call_before, first_call};
-ghost use Rattle.sval_script.specs.Words.{form_of_word};
+ghost use Rattle.sval_script.specs.NextFields.{first_call};
 ghost use Rattle.sval_script.specs.LineCalls.{stored};
-ghost use Rattle.sval_script.specs.MadeLines.{MakesLine, IsMade};
+ghost use Rattle.sval_script.specs.MadeLines.{ReadsFieldsOf, TellsBad, IsMade};
 ghost use Rattle.sval_script.specs.declared.word.Word.TheVariants as word;
 
 use crate::field::{LineError, Sign};
@@ -69,9 +68,8 @@ pub(crate) enum Line {
 /// Reads a truth value.
 #[inline(always)]
 fn read_truth(store: &mut Store, fields: &mut Fields) -> Result<Line, LineError>
-    ensures made { IfOk result (λ line.
-        MakesLine (form_of_word word.Bool) fields.old fields.new (stored store.old) (stored store.new) line) }
-    ensures bad { result ≡ Err LineError.Bad → call_before (form_of_word word.Bool) fields.old ≡ None }
+    ensures made { ReadsFieldsOf word.Bool fields.old fields.new store.old store.new result }
+    ensures bad { TellsBad word.Bool fields.old result }
 {
     let value = fields.truth().ok_or(LineError::Bad)?;
     Ok(Line::Bool(value))
@@ -80,11 +78,8 @@ fn read_truth(store: &mut Store, fields: &mut Fields) -> Result<Line, LineError>
 /// Reads a whole number.
 #[inline(always)]
 fn read_number(kind: NumberType, store: &mut Store, fields: &mut Fields) -> Result<Line, LineError>
-    ensures made { IfOk result (λ line.
-        MakesLine (form_of_word (word.Number kind)) fields.old fields.new
-        (stored store.old) (stored store.new) line) }
-    ensures bad { result ≡ Err LineError.Bad
-        → call_before (form_of_word (word.Number kind)) fields.old ≡ None }
+    ensures made { ReadsFieldsOf (word.Number kind) fields.old fields.new store.old store.new result }
+    ensures bad { TellsBad (word.Number kind) fields.old result }
 {
     let number = fields.number(kind).ok_or(LineError::Bad)?;
     store.put_number(number)
@@ -93,11 +88,8 @@ fn read_number(kind: NumberType, store: &mut Store, fields: &mut Fields) -> Resu
 /// Reads a size.
 #[inline(always)]
 fn read_opening(opening: Opening, store: &mut Store, fields: &mut Fields) -> Result<Line, LineError>
-    ensures made { IfOk result (λ line.
-        MakesLine (form_of_word (word.Opening opening)) fields.old fields.new
-        (stored store.old) (stored store.new) line) }
-    ensures bad { result ≡ Err LineError.Bad
-        → call_before (form_of_word (word.Opening opening)) fields.old ≡ None }
+    ensures made { ReadsFieldsOf (word.Opening opening) fields.old fields.new store.old store.new result }
+    ensures bad { TellsBad (word.Opening opening) fields.old result }
 {
     let Some(size) = fields.size().ok_or(LineError::Bad)? else {
         return Ok(Line::Opening(opening));
@@ -109,11 +101,8 @@ fn read_opening(opening: Opening, store: &mut Store, fields: &mut Fields) -> Res
 /// Reads a text.
 #[inline(always)]
 fn read_text(life: Lifetime, store: &mut Store, fields: &mut Fields) -> Result<Line, LineError>
-    ensures made { IfOk result (λ line.
-        MakesLine (form_of_word (word.TextFragment life)) fields.old fields.new
-        (stored store.old) (stored store.new) line) }
-    ensures bad { result ≡ Err LineError.Bad
-        → call_before (form_of_word (word.TextFragment life)) fields.old ≡ None }
+    ensures made { ReadsFieldsOf (word.TextFragment life) fields.old fields.new store.old store.new result }
+    ensures bad { TellsBad (word.TextFragment life) fields.old result }
 {
     let len = fields.text(&mut store.bytes)?;
     Ok(Line::TextFragment(life, len))
@@ -122,11 +111,8 @@ fn read_text(life: Lifetime, store: &mut Store, fields: &mut Fields) -> Result<L
 /// Reads bytes.
 #[inline(always)]
 fn read_binary(life: Lifetime, store: &mut Store, fields: &mut Fields) -> Result<Line, LineError>
-    ensures made { IfOk result (λ line.
-        MakesLine (form_of_word (word.BinaryFragment life)) fields.old fields.new
-        (stored store.old) (stored store.new) line) }
-    ensures bad { result ≡ Err LineError.Bad
-        → call_before (form_of_word (word.BinaryFragment life)) fields.old ≡ None }
+    ensures made { ReadsFieldsOf (word.BinaryFragment life) fields.old fields.new store.old store.new result }
+    ensures bad { TellsBad (word.BinaryFragment life) fields.old result }
 {
     let len = fields.bytes(&mut store.bytes)?;
     Ok(Line::BinaryFragment(life, len))
@@ -135,9 +121,8 @@ fn read_binary(life: Lifetime, store: &mut Store, fields: &mut Fields) -> Result
 /// Reads a tag alone.
 #[inline(always)]
 fn read_tag_hint(store: &mut Store, fields: &mut Fields) -> Result<Line, LineError>
-    ensures made { IfOk result (λ line.
-        MakesLine (form_of_word word.TagHint) fields.old fields.new (stored store.old) (stored store.new) line) }
-    ensures bad { result ≡ Err LineError.Bad → call_before (form_of_word word.TagHint) fields.old ≡ None }
+    ensures made { ReadsFieldsOf word.TagHint fields.old fields.new store.old store.new result }
+    ensures bad { TellsBad word.TagHint fields.old result }
 {
     let tag = fields.tag().ok_or(LineError::Bad)?;
     Ok(Line::TagHint(tag))
@@ -146,11 +131,8 @@ fn read_tag_hint(store: &mut Store, fields: &mut Fields) -> Result<Line, LineErr
 /// Reads a name.
 #[inline(always)]
 fn read_named(named: Named, store: &mut Store, fields: &mut Fields) -> Result<Line, LineError>
-    ensures made { IfOk result (λ line.
-        MakesLine (form_of_word (word.Named named)) fields.old fields.new
-        (stored store.old) (stored store.new) line) }
-    ensures bad { result ≡ Err LineError.Bad
-        → call_before (form_of_word (word.Named named)) fields.old ≡ None }
+    ensures made { ReadsFieldsOf (word.Named named) fields.old fields.new store.old store.new result }
+    ensures bad { TellsBad (word.Named named) fields.old result }
 {
     let name = fields.name(&mut store.bytes)?;
     store.push_name(name)?;
@@ -164,11 +146,8 @@ fn read_named_opening(
     store: &mut Store,
     fields: &mut Fields,
 ) -> Result<Line, LineError>
-    ensures made { IfOk result (λ line.
-        MakesLine (form_of_word (word.NamedOpening opening)) fields.old fields.new
-        (stored store.old) (stored store.new) line) }
-    ensures bad { result ≡ Err LineError.Bad
-        → call_before (form_of_word (word.NamedOpening opening)) fields.old ≡ None }
+    ensures made { ReadsFieldsOf (word.NamedOpening opening) fields.old fields.new store.old store.new result }
+    ensures bad { TellsBad (word.NamedOpening opening) fields.old result }
 {
     let name = fields.name(&mut store.bytes)?;
     store.push_name(name)?;
@@ -182,11 +161,8 @@ fn read_named_opening(
 /// Reads a tag and a label.
 #[inline(always)]
 fn read_field(side: Side, store: &mut Store, fields: &mut Fields) -> Result<Line, LineError>
-    ensures made { IfOk result (λ line.
-        MakesLine (form_of_word (word.Field side)) fields.old fields.new
-        (stored store.old) (stored store.new) line) }
-    ensures bad { result ≡ Err LineError.Bad
-        → call_before (form_of_word (word.Field side)) fields.old ≡ None }
+    ensures made { ReadsFieldsOf (word.Field side) fields.old fields.new store.old store.new result }
+    ensures bad { TellsBad (word.Field side) fields.old result }
 {
     let tag = fields.tag_or_dash().ok_or(LineError::Bad)?;
     let label = fields.label(&mut store.bytes)?;
@@ -196,11 +172,8 @@ fn read_field(side: Side, store: &mut Store, fields: &mut Fields) -> Result<Line
 /// Reads a tag and an index.
 #[inline(always)]
 fn read_place(side: Side, store: &mut Store, fields: &mut Fields) -> Result<Line, LineError>
-    ensures made { IfOk result (λ line.
-        MakesLine (form_of_word (word.Place side)) fields.old fields.new
-        (stored store.old) (stored store.new) line) }
-    ensures bad { result ≡ Err LineError.Bad
-        → call_before (form_of_word (word.Place side)) fields.old ≡ None }
+    ensures made { ReadsFieldsOf (word.Place side) fields.old fields.new store.old store.new result }
+    ensures bad { TellsBad (word.Place side) fields.old result }
 {
     let tag = fields.tag_or_dash().ok_or(LineError::Bad)?;
     let index = fields.index().ok_or(LineError::Bad)?;
@@ -211,11 +184,8 @@ fn read_place(side: Side, store: &mut Store, fields: &mut Fields) -> Result<Line
 /// Reads a tag, a label and an index.
 #[inline(always)]
 fn read_field_place(side: Side, store: &mut Store, fields: &mut Fields) -> Result<Line, LineError>
-    ensures made { IfOk result (λ line.
-        MakesLine (form_of_word (word.FieldPlace side)) fields.old fields.new
-        (stored store.old) (stored store.new) line) }
-    ensures bad { result ≡ Err LineError.Bad
-        → call_before (form_of_word (word.FieldPlace side)) fields.old ≡ None }
+    ensures made { ReadsFieldsOf (word.FieldPlace side) fields.old fields.new store.old store.new result }
+    ensures bad { TellsBad (word.FieldPlace side) fields.old result }
 {
     let tag = fields.tag_or_dash().ok_or(LineError::Bad)?;
     let label = fields.label(&mut store.bytes)?;
@@ -228,9 +198,8 @@ impl Word {
     /// Reads the fields behind the word.
     #[inline(always)]
     fn read_fields(self, store: &mut Store, fields: &mut Fields) -> Result<Line, LineError>
-        ensures made { IfOk result (λ line.
-            MakesLine (form_of_word self) fields.old fields.new (stored store.old) (stored store.new) line) }
-        ensures bad { result ≡ Err LineError.Bad → call_before (form_of_word self) fields.old ≡ None }
+        ensures made { ReadsFieldsOf self fields.old fields.new store.old store.new result }
+        ensures bad { TellsBad self fields.old result }
     {
         match self {
             Word::Alone(word) => Ok(Line::Alone(word)),
