@@ -54,8 +54,8 @@ class Statement:
 
     @property
     def paths(self):
-        """The files that the line names, or else those above its list."""
-        return [code for code in self.codes if code.endswith((".rt", ".antt"))] or self.files
+        """The files of src/ that the line names, or else those above its list."""
+        return [code for code in self.codes if code.endswith(".rt")] or self.files
 
 
 def crate_names():
