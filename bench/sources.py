@@ -147,7 +147,7 @@ class Reader:
         between = self.text[begin : head.start()]
         docs = re.findall(r"^\s*/// ?(.*)$", between, re.M)
         attributes = one_line(LITERAL.sub("", between))
-        public = bool(head["pub"]) and not head["only"]
+        public = bool(head["pub"]) and not head["only"] or kind == "macro_rules!" and "#[macro_export]" in between
         line = self.line(head.start())
         shown = one_line(self.text[head.start() : stop])
         return Item(kind, head["name"] or "", public, self.path, line, docs, attributes, shown, body, clauses, items), end
@@ -221,9 +221,10 @@ def find_public(files, modules):
                         public += named(files, modules, found, module, seen)
                     else:
                         again.append((module, path, name))
-            elif item.public and item.kind != "mod" and id(item) not in seen:
+            elif item.public and item.kind not in ("mod", "macro_rules!") and id(item) not in seen:
                 seen.add(id(item))
                 public.append((module, item))
+    public += [((), item) for items in files.values() for item in items if item.kind == "macro_rules!" and item.public]
     return public, again
 
 
@@ -308,6 +309,11 @@ class Function:
     name: str
     item: Item
     scope: list
+
+    @property
+    def uses(self):
+        """The `ghost use` lines that its clauses see."""
+        return "\n".join(item.head + ";" for items in self.scope for item in items if item.kind == "ghost use")
 
 
 def is_open(crate, items, written):
