@@ -117,7 +117,7 @@ def declared(crate):
 
 @functools.lru_cache(None)
 def crates_below(crate):
-    """A crate and those that it stands on."""
+    """A crate and those that it depends on."""
     for line in (TOP / "crates.txt").read_text().splitlines():
         if line.startswith(crate + ":"):
             return {crate}.union(name for name in line.split(":")[1].split() if name in crate_names())
@@ -215,7 +215,7 @@ def bad_codes(statement):
 
 
 def parentheses(statement):
-    """What stands in backquotes in each parentheses of a statement of PROVED: clauses, facts, definitions and files."""
+    """The codes in each parentheses of a statement of PROVED: clauses, facts, definitions and files."""
     if statement.page == "docs/PROVED.md" and statement.crate:
         yield from (CODE.findall(text) for text in PARENTHESES.findall(LINK.sub("]", statement.text)))
 
@@ -244,7 +244,7 @@ def misplaced(statement):
         files = [names_in(code, statement) for code in codes if code.endswith((".rt", ".antt"))]
         for name in filter(NAME.fullmatch, codes):
             if not any(WORD.findall(name)[-1] in names for names in files):
-                yield f"{name} is in none of the files that stand beside it"
+                yield f"{name} is in none of the files beside it"
 
 
 def fences(page):

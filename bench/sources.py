@@ -73,7 +73,7 @@ def closing(mask, at):
 
 
 def until(mask, at, stops):
-    """The first place from `at` on, outside brackets, where one of the stops stands; brackets that are stops stop."""
+    """The first place from `at` on, outside brackets, of one of the stops. A bracket that is a stop ends the search too."""
     while at < len(mask):
         if mask[at] in stops:
             return at
@@ -251,7 +251,7 @@ def read_crate(name):
 
 
 def libraries():
-    """The names of the libraries, those of tests left out, in the order in which they stand on each other."""
+    """The names of the libraries, those of tests left out, each after those that it depends on."""
     below = {}
     for line in (TOP / "crates.txt").read_text().splitlines():
         name, colon, rest = line.partition(":")
