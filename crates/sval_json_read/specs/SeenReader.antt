@@ -1,6 +1,7 @@
 -- What the reader of the code stands for: a state of the machine after some first bytes.
-use Rattle.std.specs.Prelude.{◌≡◌, ℕ, ◌<◌, ◌≤◌, ◌⊎◌, length, Bool, true, false, List, [], ◌∷◌, ◌++◌, map, Option, Some, None, IsUtf8, IsCharBoundary}
+use Rattle.std.specs.Prelude.{◌≡◌, ℕ, ◌+◌, ◌<◌, ◌≤◌, ◌⊎◌, length, get_or, Bool, true, false, List, [], ◌∷◌, ◌++◌, map, Option, Some, None, Result, IfOk, IfErr, IsUtf8, IsCharBoundary}
 use Rattle.std.specs.List.{between, AllByRecursion}
+use Rattle.sval_label.specs.declared.error.NoMemory.{NoMemory}
 use Rattle.sval_json_read.specs.declared.node.Place.{Place}
 use Rattle.sval_json_read.specs.declared.node.Node.{Node}
 use Rattle.sval_json_read.specs.declared.number.Phase as made_phase
@@ -119,3 +120,29 @@ KeepsToken (Some state) = 0 < length state.tokens
 -- a token is kept before a byte or behind it
 abbrev pub KeepsAt : machine.ReaderState → Option machine.ReaderState → Type 0
 KeepsAt state next = HasToken state ⊎ KeepsToken next
+
+-- what the reader keeps stands in the bytes up to this place
+abbrev pub IsReadTo : List ℕ → ℕ → Reader → Type 0
+IsReadTo bytes upto reader = ReadsIn bytes upto reader.from reader.nodes.items
+
+-- ---- reading a byte
+
+-- a step of the machine
+abbrev pub MachineStep : Type 0
+MachineStep = machine.ReaderState → ℕ → Option machine.ReaderState
+
+-- what a step gives for the byte at this place, of the state before it
+abbrev pub stepped : MachineStep → List ℕ → ℕ → Reader → Option machine.ReaderState
+stepped step bytes at reader = step (seen_state bytes at reader) (get_or bytes at 0)
+
+-- the byte at this place was taken or refused as by this step
+abbrev pub TakesByte : MachineStep → List ℕ → ℕ → Reader → Result Bool NoMemory → Reader → Type 0
+TakesByte step bytes at old result new = IfOk result (GivesState (stepped step bytes at old) (seen_state bytes (at + 1) new))
+
+-- where memory sufficed, what is kept stands in the bytes up to this place
+abbrev pub KeepsRead : {A : Type 0} → List ℕ → ℕ → Result A NoMemory → Reader → Type 0
+KeepsRead bytes upto result new = IfOk result (λ _. IsReadTo bytes upto new)
+
+-- memory was wanting only where a token is kept, before the byte at this place or by this step
+abbrev pub WantsOnlyFor : MachineStep → List ℕ → ℕ → Reader → Result Bool NoMemory → Type 0
+WantsOnlyFor step bytes at old result = IfErr result (λ _. KeepsAt (seen_state bytes at old) (stepped step bytes at old))

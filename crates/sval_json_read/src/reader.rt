@@ -1,10 +1,10 @@
 //! The machine that reads JSON byte by byte.
 
-ghost use Rattle.std.specs.Prelude.{◌≡◌, ◌+◌, ◌<◌, ℕ, List, [], IfOk, IfErr, length, get_or, map};
+ghost use Rattle.std.specs.Prelude.{◌≡◌, ◌+◌, ◌<◌, ℕ, List, [], IfOk, IfErr, length, map};
 ghost use Rattle.sval_json_read.specs.Reader as machine;
 ghost use Rattle.sval_json_read.specs.Nodes.{tokens_in};
 ghost use Rattle.sval_json_read.specs.SeenNodes.{node_place, seen_node, StandsIn};
-ghost use Rattle.sval_json_read.specs.SeenReader.{seen_state, GivesState, HasToken, KeepsAt, EndsText, AddsNode, ReadsIn};
+ghost use Rattle.sval_json_read.specs.SeenReader.{seen_state, HasToken, EndsText, AddsNode, TakesByte, KeepsRead, WantsOnlyFor, IsReadTo};
 
 mod container;
 mod scalar;
@@ -83,13 +83,10 @@ impl Reader {
     /// Reads one byte. Whether it was taken: if it wasn't, no text that denotes a value goes on with it.
     pub(crate) fn step(&mut self, bytes: &[u8], at: usize) -> Result<bool, NoMemory>
         requires at_in { at < length bytes.now }
-        requires reads { ReadsIn bytes.now at self.old.from self.old.nodes.items }
-        ensures gives { IfOk result (GivesState (machine.reader_step (seen_state bytes.now at self.old)
-            (get_or bytes.now at 0))
-            (seen_state bytes.now (at + 1) self.new)) }
-        ensures reads { IfOk result (λ taken. ReadsIn bytes.now (at + 1) self.new.from self.new.nodes.items) }
-        ensures no_memory { IfErr result (λ error. KeepsAt (seen_state bytes.now at self.old)
-            (machine.reader_step (seen_state bytes.now at self.old) (get_or bytes.now at 0))) }
+        requires reads { IsReadTo bytes.now at self.old }
+        ensures gives { TakesByte machine.reader_step bytes.now at self.old result self.new }
+        ensures reads { KeepsRead bytes.now (at + 1) result self.new }
+        ensures no_memory { WantsOnlyFor machine.reader_step bytes.now at self.old result }
     {
         match self.expected {
             Expected::AValue => self.value(bytes, at),
@@ -106,11 +103,10 @@ impl Reader {
 
     /// Whether all bytes were a text that denotes a value.
     pub(crate) fn finish(&mut self, bytes: &[u8]) -> Result<bool, NoMemory>
-        requires { ReadsIn bytes.now (length bytes.now) self.old.from self.old.nodes.items }
+        requires { IsReadTo bytes.now (length bytes.now) self.old }
         ensures ends { IfOk result (EndsText (machine.tokens_at_end (seen_state bytes.now (length bytes.now) self.old))
             (tokens_in bytes.now (map seen_node self.new.nodes.items))) }
-        ensures reads { IfOk result (λ whole.
-            ReadsIn bytes.now (length bytes.now) self.new.from self.new.nodes.items) }
+        ensures reads { KeepsRead bytes.now (length bytes.now) result self.new }
         ensures no_memory { IfErr result (λ error. HasToken (seen_state bytes.now (length bytes.now) self.old)) }
     {
         if self.opened.top().is_some() {

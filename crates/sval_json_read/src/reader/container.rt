@@ -1,10 +1,10 @@
 //! Where values begin and what follows them.
 
-ghost use Rattle.std.specs.Prelude.{◌≡◌, ◌+◌, ◌<◌, [], IfOk, IfErr, length, get_or};
+ghost use Rattle.std.specs.Prelude.{◌≡◌, ◌+◌, ◌<◌, [], IfOk, length, get_or};
 ghost use Rattle.sval_json.specs.Grammar.{is_space};
 ghost use Rattle.sval_json_read.specs.Strings.{Plain};
 ghost use Rattle.sval_json_read.specs.Reader as machine;
-ghost use Rattle.sval_json_read.specs.SeenReader.{seen_state, GivesState, KeepsAt, OpensContainer, ReadsIn};
+ghost use Rattle.sval_json_read.specs.SeenReader.{seen_state, GivesState, OpensContainer, TakesByte, KeepsRead, WantsOnlyFor, IsReadTo};
 ghost use Rattle.sval_json_read.specs.declared.node.Node.TheVariants as node;
 ghost use Rattle.sval_json_read.specs.declared.stack.Opened.TheVariants as opened;
 ghost use Rattle.sval_json_read.specs.declared.reader.Expected.TheVariants as expected;
@@ -22,13 +22,12 @@ impl Reader {
     #[tactic(auto, using(crate::proofs::ReaderPlaces::of_places, crate::proofs::KeptTokens::of_tokens))]
     fn goes_on(&mut self, bytes: &[u8], at: usize) -> Result<bool, NoMemory>
         requires at_in { at < length bytes.now }
-        requires reads { ReadsIn bytes.now at self.old.from self.old.nodes.items }
-        ensures gives { IfOk result (GivesState
-            (machine.comma_or_close (seen_state bytes.now at self.old) self.old.opened (get_or bytes.now at 0))
-            (seen_state bytes.now (at + 1) self.new)) }
-        ensures reads { IfOk result (λ taken. ReadsIn bytes.now (at + 1) self.new.from self.new.nodes.items) }
-        ensures no_memory { IfErr result (λ error. KeepsAt (seen_state bytes.now at self.old)
-            (machine.comma_or_close (seen_state bytes.now at self.old) self.old.opened (get_or bytes.now at 0))) }
+        requires reads { IsReadTo bytes.now at self.old }
+        ensures gives { TakesByte (λ state. machine.comma_or_close state self.old.opened)
+            bytes.now at self.old result self.new }
+        ensures reads { KeepsRead bytes.now (at + 1) result self.new }
+        ensures no_memory { WantsOnlyFor (λ state. machine.comma_or_close state self.old.opened)
+            bytes.now at self.old result }
     {
         match (self.opened.top(), bytes[at]) {
             (Some(Opened::Array), b',') => self.expected = Expected::AValue,
@@ -52,13 +51,10 @@ impl Reader {
     #[tactic(auto, using(crate::proofs::ReaderPlaces::of_places, crate::proofs::KeptTokens::of_tokens))]
     pub(crate) fn follows(&mut self, bytes: &[u8], at: usize) -> Result<bool, NoMemory>
         requires at_in { at < length bytes.now }
-        requires reads { ReadsIn bytes.now at self.old.from self.old.nodes.items }
-        ensures gives { IfOk result (GivesState (machine.follows (seen_state bytes.now at self.old)
-            (get_or bytes.now at 0))
-            (seen_state bytes.now (at + 1) self.new)) }
-        ensures reads { IfOk result (λ taken. ReadsIn bytes.now (at + 1) self.new.from self.new.nodes.items) }
-        ensures no_memory { IfErr result (λ error. KeepsAt (seen_state bytes.now at self.old)
-            (machine.follows (seen_state bytes.now at self.old) (get_or bytes.now at 0))) }
+        requires reads { IsReadTo bytes.now at self.old }
+        ensures gives { TakesByte machine.follows bytes.now at self.old result self.new }
+        ensures reads { KeepsRead bytes.now (at + 1) result self.new }
+        ensures no_memory { WantsOnlyFor machine.follows bytes.now at self.old result }
     {
         if is_white(bytes[at]) {
             self.expected = Expected::Next;
@@ -91,11 +87,11 @@ impl Reader {
     #[tactic(auto, using(crate::proofs::KeptNodes::between_nothing))]
     fn begin_string(&mut self, is_key: bool, bytes: &[u8], at: usize)
         requires at_in { at < length bytes.now }
-        requires reads { ReadsIn bytes.now at self.old.from self.old.nodes.items }
+        requires reads { IsReadTo bytes.now at self.old }
         requires quote { get_or bytes.now at 0 ≡ 34 }
         ensures begins { seen_state bytes.now (at + 1) self.new
             ≡ machine.expects (seen_state bytes.now at self.old) (machine.InString is_key Plain []) }
-        ensures reads { ReadsIn bytes.now (at + 1) self.new.from self.new.nodes.items }
+        ensures reads { IsReadTo bytes.now (at + 1) self.new }
     {
         self.from = at + 1;
         self.expected = Expected::InString(is_key, Within::Plain);
@@ -105,13 +101,10 @@ impl Reader {
     #[tactic(auto, using(crate::proofs::ReaderPlaces::of_places, crate::proofs::KeptTokens::of_tokens))]
     fn begins(&mut self, bytes: &[u8], at: usize) -> Result<bool, NoMemory>
         requires at_in { at < length bytes.now }
-        requires reads { ReadsIn bytes.now at self.old.from self.old.nodes.items }
-        ensures gives { IfOk result (GivesState (machine.begins (seen_state bytes.now at self.old)
-            (get_or bytes.now at 0))
-            (seen_state bytes.now (at + 1) self.new)) }
-        ensures reads { IfOk result (λ taken. ReadsIn bytes.now (at + 1) self.new.from self.new.nodes.items) }
-        ensures no_memory { IfErr result (λ error. KeepsAt (seen_state bytes.now at self.old)
-            (machine.begins (seen_state bytes.now at self.old) (get_or bytes.now at 0))) }
+        requires reads { IsReadTo bytes.now at self.old }
+        ensures gives { TakesByte machine.begins bytes.now at self.old result self.new }
+        ensures reads { KeepsRead bytes.now (at + 1) result self.new }
+        ensures no_memory { WantsOnlyFor machine.begins bytes.now at self.old result }
     {
         let byte = bytes[at];
         match byte {
@@ -145,10 +138,10 @@ impl Reader {
     #[tactic(auto, using(crate::proofs::ReaderPlaces::of_places, crate::proofs::KeptTokens::of_tokens))]
     fn begins_key(&mut self, bytes: &[u8], at: usize) -> bool
         requires at_in { at < length bytes.now }
-        requires reads { ReadsIn bytes.now at self.old.from self.old.nodes.items }
+        requires reads { IsReadTo bytes.now at self.old }
         ensures gives { GivesState (machine.begins_key (seen_state bytes.now at self.old) (get_or bytes.now at 0))
             (seen_state bytes.now (at + 1) self.new) result }
-        ensures reads { ReadsIn bytes.now (at + 1) self.new.from self.new.nodes.items }
+        ensures reads { IsReadTo bytes.now (at + 1) self.new }
     {
         if bytes[at] != b'"' {
             return false;
@@ -161,14 +154,11 @@ impl Reader {
     #[tactic(auto, using(crate::proofs::ReaderPlaces::of_places, crate::proofs::KeptTokens::of_tokens))]
     pub(crate) fn value(&mut self, bytes: &[u8], at: usize) -> Result<bool, NoMemory>
         requires at_in { at < length bytes.now }
-        requires reads { ReadsIn bytes.now at self.old.from self.old.nodes.items }
+        requires reads { IsReadTo bytes.now at self.old }
         requires is { self.old.expected ≡ expected.AValue }
-        ensures gives { IfOk result (GivesState (machine.reader_step (seen_state bytes.now at self.old)
-            (get_or bytes.now at 0))
-            (seen_state bytes.now (at + 1) self.new)) }
-        ensures reads { IfOk result (λ taken. ReadsIn bytes.now (at + 1) self.new.from self.new.nodes.items) }
-        ensures no_memory { IfErr result (λ error. KeepsAt (seen_state bytes.now at self.old)
-            (machine.reader_step (seen_state bytes.now at self.old) (get_or bytes.now at 0))) }
+        ensures gives { TakesByte machine.reader_step bytes.now at self.old result self.new }
+        ensures reads { KeepsRead bytes.now (at + 1) result self.new }
+        ensures no_memory { WantsOnlyFor machine.reader_step bytes.now at self.old result }
     {
         if is_white(bytes[at]) {
             return Ok(true);
@@ -180,14 +170,11 @@ impl Reader {
     #[tactic(auto, using(crate::proofs::ReaderPlaces::of_places, crate::proofs::KeptTokens::of_tokens))]
     pub(crate) fn first_item(&mut self, bytes: &[u8], at: usize) -> Result<bool, NoMemory>
         requires at_in { at < length bytes.now }
-        requires reads { ReadsIn bytes.now at self.old.from self.old.nodes.items }
+        requires reads { IsReadTo bytes.now at self.old }
         requires is { self.old.expected ≡ expected.FirstItem }
-        ensures gives { IfOk result (GivesState (machine.reader_step (seen_state bytes.now at self.old)
-            (get_or bytes.now at 0))
-            (seen_state bytes.now (at + 1) self.new)) }
-        ensures reads { IfOk result (λ taken. ReadsIn bytes.now (at + 1) self.new.from self.new.nodes.items) }
-        ensures no_memory { IfErr result (λ error. KeepsAt (seen_state bytes.now at self.old)
-            (machine.reader_step (seen_state bytes.now at self.old) (get_or bytes.now at 0))) }
+        ensures gives { TakesByte machine.reader_step bytes.now at self.old result self.new }
+        ensures reads { KeepsRead bytes.now (at + 1) result self.new }
+        ensures no_memory { WantsOnlyFor machine.reader_step bytes.now at self.old result }
     {
         if is_white(bytes[at]) {
             return Ok(true);
@@ -202,14 +189,11 @@ impl Reader {
     #[tactic(auto, using(crate::proofs::ReaderPlaces::of_places, crate::proofs::KeptTokens::of_tokens))]
     pub(crate) fn first_key(&mut self, bytes: &[u8], at: usize) -> Result<bool, NoMemory>
         requires at_in { at < length bytes.now }
-        requires reads { ReadsIn bytes.now at self.old.from self.old.nodes.items }
+        requires reads { IsReadTo bytes.now at self.old }
         requires is { self.old.expected ≡ expected.FirstKey }
-        ensures gives { IfOk result (GivesState (machine.reader_step (seen_state bytes.now at self.old)
-            (get_or bytes.now at 0))
-            (seen_state bytes.now (at + 1) self.new)) }
-        ensures reads { IfOk result (λ taken. ReadsIn bytes.now (at + 1) self.new.from self.new.nodes.items) }
-        ensures no_memory { IfErr result (λ error. KeepsAt (seen_state bytes.now at self.old)
-            (machine.reader_step (seen_state bytes.now at self.old) (get_or bytes.now at 0))) }
+        ensures gives { TakesByte machine.reader_step bytes.now at self.old result self.new }
+        ensures reads { KeepsRead bytes.now (at + 1) result self.new }
+        ensures no_memory { WantsOnlyFor machine.reader_step bytes.now at self.old result }
     {
         if is_white(bytes[at]) {
             return Ok(true);
@@ -224,11 +208,11 @@ impl Reader {
     #[tactic(auto, using(crate::proofs::ReaderPlaces::of_places, crate::proofs::KeptTokens::of_tokens))]
     pub(crate) fn next_key(&mut self, bytes: &[u8], at: usize) -> bool
         requires at_in { at < length bytes.now }
-        requires reads { ReadsIn bytes.now at self.old.from self.old.nodes.items }
+        requires reads { IsReadTo bytes.now at self.old }
         requires is { self.old.expected ≡ expected.NextKey }
         ensures gives { GivesState (machine.reader_step (seen_state bytes.now at self.old) (get_or bytes.now at 0))
             (seen_state bytes.now (at + 1) self.new) result }
-        ensures reads { ReadsIn bytes.now (at + 1) self.new.from self.new.nodes.items }
+        ensures reads { IsReadTo bytes.now (at + 1) self.new }
     {
         is_white(bytes[at]) || self.begins_key(bytes, at)
     }
@@ -237,11 +221,11 @@ impl Reader {
     #[tactic(auto, using(crate::proofs::ReaderPlaces::of_places, crate::proofs::KeptTokens::of_tokens))]
     pub(crate) fn colon(&mut self, bytes: &[u8], at: usize) -> bool
         requires at_in { at < length bytes.now }
-        requires reads { ReadsIn bytes.now at self.old.from self.old.nodes.items }
+        requires reads { IsReadTo bytes.now at self.old }
         requires is { self.old.expected ≡ expected.Colon }
         ensures gives { GivesState (machine.reader_step (seen_state bytes.now at self.old) (get_or bytes.now at 0))
             (seen_state bytes.now (at + 1) self.new) result }
-        ensures reads { ReadsIn bytes.now (at + 1) self.new.from self.new.nodes.items }
+        ensures reads { IsReadTo bytes.now (at + 1) self.new }
     {
         if is_white(bytes[at]) {
             return true;

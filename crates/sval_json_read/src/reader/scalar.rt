@@ -6,7 +6,7 @@ ghost use Rattle.sval_json.specs.Digits.{is_number_byte};
 ghost use Rattle.sval_json_read.specs.Reader as machine;
 ghost use Rattle.sval_json_read.specs.Nodes.{tokens_in};
 ghost use Rattle.sval_json_read.specs.SeenNodes.{seen_node};
-ghost use Rattle.sval_json_read.specs.SeenReader.{seen_state, expected_of, GivesState, HasToken, KeepsAt, EndsText, ReadsIn};
+ghost use Rattle.sval_json_read.specs.SeenReader.{seen_state, expected_of, GivesState, HasToken, EndsText, TakesByte, KeepsRead, WantsOnlyFor, IsReadTo};
 ghost use Rattle.sval_json_read.specs.declared.reader.Expected.TheVariants.{Letter, InNumber, InString};
 
 use super::{Expected, Reader};
@@ -23,11 +23,11 @@ impl Reader {
     #[tactic(auto, using(crate::proofs::ReaderPlaces::of_places))]
     pub(crate) fn letter(&mut self, word: Word, bytes: &[u8], at: usize) -> bool
         requires at_in { at < length bytes.now }
-        requires reads { ReadsIn bytes.now at self.old.from self.old.nodes.items }
+        requires reads { IsReadTo bytes.now at self.old }
         ensures gives { GivesState (machine.step_in (expected_of bytes.now self.old.from at (Letter word))
             (seen_state bytes.now at self.old) (get_or bytes.now at 0))
             (seen_state bytes.now (at + 1) self.new) result }
-        ensures reads { ReadsIn bytes.now (at + 1) self.new.from self.new.nodes.items }
+        ensures reads { IsReadTo bytes.now (at + 1) self.new }
     {
         match word.after(bytes[at]) {
             None => false,
@@ -59,13 +59,13 @@ impl Reader {
     #[tactic(auto, using(crate::proofs::KeptNodes::between_more, crate::proofs::ReaderPlaces::of_places))]
     fn digit(&mut self, phase: Phase, bytes: &[u8], at: usize) -> bool
         requires at_in { at < length bytes.now }
-        requires reads { ReadsIn bytes.now at self.old.from self.old.nodes.items }
+        requires reads { IsReadTo bytes.now at self.old }
         requires before { self.old.from ≤ at }
         requires is_of_numbers { is_number_byte (get_or bytes.now at 0) ≡ true }
         ensures gives { GivesState (machine.step_in (expected_of bytes.now self.old.from at (InNumber phase))
             (seen_state bytes.now at self.old) (get_or bytes.now at 0))
             (seen_state bytes.now (at + 1) self.new) result }
-        ensures reads { ReadsIn bytes.now (at + 1) self.new.from self.new.nodes.items }
+        ensures reads { IsReadTo bytes.now (at + 1) self.new }
     {
         match next_phase(phase, bytes[at]) {
             None => false,
@@ -80,10 +80,10 @@ impl Reader {
     #[tactic(auto, using(crate::proofs::ReaderPlaces::of_places))]
     fn end_number(&mut self, bytes: &[u8], at: usize) -> Result<(), NoMemory>
         requires at_in { at ≤ length bytes.now }
-        requires reads { ReadsIn bytes.now at self.old.from self.old.nodes.items }
+        requires reads { IsReadTo bytes.now at self.old }
         ensures ends { IfOk result (λ done. seen_state bytes.now at self.new
             ≡ machine.number_is_ended (seen_state bytes.now at self.old) (between self.old.from at bytes.now)) }
-        ensures reads { IfOk result (λ done. ReadsIn bytes.now at self.new.from self.new.nodes.items) }
+        ensures reads { KeepsRead bytes.now at result self.new }
     {
         let length = self.length(at)?;
         let place = self.place();
@@ -94,16 +94,14 @@ impl Reader {
     #[tactic(auto, using(crate::proofs::KeptTokens::of_tokens))]
     fn after_number(&mut self, phase: Phase, bytes: &[u8], at: usize) -> Result<bool, NoMemory>
         requires at_in { at < length bytes.now }
-        requires reads { ReadsIn bytes.now at self.old.from self.old.nodes.items }
+        requires reads { IsReadTo bytes.now at self.old }
         requires is { self.old.expected ≡ InNumber phase }
         requires is_of_no_number { is_number_byte (get_or bytes.now at 0) ≡ false }
-        ensures gives { IfOk result (GivesState (machine.step_in
-            (expected_of bytes.now self.old.from at (InNumber phase))
-            (seen_state bytes.now at self.old) (get_or bytes.now at 0)) (seen_state bytes.now (at + 1) self.new)) }
-        ensures reads { IfOk result (λ taken. ReadsIn bytes.now (at + 1) self.new.from self.new.nodes.items) }
-        ensures no_memory { IfErr result (λ error. KeepsAt (seen_state bytes.now at self.old)
-            (machine.step_in (expected_of bytes.now self.old.from at (InNumber phase))
-            (seen_state bytes.now at self.old) (get_or bytes.now at 0))) }
+        ensures gives { TakesByte (machine.step_in (expected_of bytes.now self.old.from at (InNumber phase)))
+            bytes.now at self.old result self.new }
+        ensures reads { KeepsRead bytes.now (at + 1) result self.new }
+        ensures no_memory { WantsOnlyFor (machine.step_in (expected_of bytes.now self.old.from at (InNumber phase)))
+            bytes.now at self.old result }
     {
         if !may_end(phase) {
             return Ok(false);
@@ -115,15 +113,13 @@ impl Reader {
     /// Reads more of a number, or what follows it.
     pub(crate) fn number(&mut self, phase: Phase, bytes: &[u8], at: usize) -> Result<bool, NoMemory>
         requires at_in { at < length bytes.now }
-        requires reads { ReadsIn bytes.now at self.old.from self.old.nodes.items }
+        requires reads { IsReadTo bytes.now at self.old }
         requires is { self.old.expected ≡ InNumber phase }
-        ensures gives { IfOk result (GivesState (machine.step_in
-            (expected_of bytes.now self.old.from at (InNumber phase))
-            (seen_state bytes.now at self.old) (get_or bytes.now at 0)) (seen_state bytes.now (at + 1) self.new)) }
-        ensures reads { IfOk result (λ taken. ReadsIn bytes.now (at + 1) self.new.from self.new.nodes.items) }
-        ensures no_memory { IfErr result (λ error. KeepsAt (seen_state bytes.now at self.old)
-            (machine.step_in (expected_of bytes.now self.old.from at (InNumber phase))
-            (seen_state bytes.now at self.old) (get_or bytes.now at 0))) }
+        ensures gives { TakesByte (machine.step_in (expected_of bytes.now self.old.from at (InNumber phase)))
+            bytes.now at self.old result self.new }
+        ensures reads { KeepsRead bytes.now (at + 1) result self.new }
+        ensures no_memory { WantsOnlyFor (machine.step_in (expected_of bytes.now self.old.from at (InNumber phase)))
+            bytes.now at self.old result }
     {
         if is_of_numbers(bytes[at]) {
             Ok(self.digit(phase, bytes, at))
@@ -134,13 +130,12 @@ impl Reader {
 
     /// Ends a number with the last byte, where nothing is open. Whether it may end there.
     pub(crate) fn last_number(&mut self, phase: Phase, bytes: &[u8]) -> Result<bool, NoMemory>
-        requires reads { ReadsIn bytes.now (length bytes.now) self.old.from self.old.nodes.items }
+        requires reads { IsReadTo bytes.now (length bytes.now) self.old }
         requires alone { self.old.opened ≡ [] }
         requires is { self.old.expected ≡ InNumber phase }
         ensures ends { IfOk result (EndsText (machine.tokens_at_end (seen_state bytes.now (length bytes.now) self.old))
             (tokens_in bytes.now (map seen_node self.new.nodes.items))) }
-        ensures reads { IfOk result (λ whole.
-            ReadsIn bytes.now (length bytes.now) self.new.from self.new.nodes.items) }
+        ensures reads { KeepsRead bytes.now (length bytes.now) result self.new }
         ensures no_memory { IfErr result (λ error. HasToken (seen_state bytes.now (length bytes.now) self.old)) }
     {
         if !may_end(phase) {
@@ -154,11 +149,11 @@ impl Reader {
     #[tactic(auto, using(crate::proofs::ReaderPlaces::of_places))]
     fn end_string(&mut self, is_key: bool, bytes: &[u8], at: usize) -> Result<(), NoMemory>
         requires at_in { at < length bytes.now }
-        requires reads { ReadsIn bytes.now at self.old.from self.old.nodes.items }
+        requires reads { IsReadTo bytes.now at self.old }
         requires quote { get_or bytes.now at 0 ≡ 34 }
         ensures ends { IfOk result (λ done. seen_state bytes.now (at + 1) self.new
             ≡ machine.string_ends (seen_state bytes.now at self.old) is_key (between self.old.from at bytes.now)) }
-        ensures reads { IfOk result (λ done. ReadsIn bytes.now (at + 1) self.new.from self.new.nodes.items) }
+        ensures reads { KeepsRead bytes.now (at + 1) result self.new }
     {
         let length = self.length(at)?;
         if is_key {
@@ -192,15 +187,13 @@ impl Reader {
         at: usize,
     ) -> Result<bool, NoMemory>
         requires at_in { at < length bytes.now }
-        requires reads { ReadsIn bytes.now at self.old.from self.old.nodes.items }
+        requires reads { IsReadTo bytes.now at self.old }
         requires before { self.old.from ≤ at }
-        ensures gives { IfOk result (GivesState (machine.step_in
-            (expected_of bytes.now self.old.from at (InString is_key within))
-            (seen_state bytes.now at self.old) (get_or bytes.now at 0)) (seen_state bytes.now (at + 1) self.new)) }
-        ensures reads { IfOk result (λ taken. ReadsIn bytes.now (at + 1) self.new.from self.new.nodes.items) }
-        ensures no_memory { IfErr result (λ error. KeepsAt (seen_state bytes.now at self.old)
-            (machine.step_in (expected_of bytes.now self.old.from at (InString is_key within))
-            (seen_state bytes.now at self.old) (get_or bytes.now at 0))) }
+        ensures gives { TakesByte (machine.step_in (expected_of bytes.now self.old.from at (InString is_key within)))
+            bytes.now at self.old result self.new }
+        ensures reads { KeepsRead bytes.now (at + 1) result self.new }
+        ensures no_memory { WantsOnlyFor (machine.step_in (expected_of bytes.now self.old.from at (InString is_key within)))
+            bytes.now at self.old result }
     {
         let byte = bytes[at];
         if within == Within::Plain && byte == b'"' {
