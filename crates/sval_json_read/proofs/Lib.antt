@@ -28,6 +28,7 @@ pub mod KeptDocuments
 pub mod NumberStreams
 pub mod KeptTokens
 pub mod PlainRuns
+pub mod ByteRuns
 mod examples
 pub mod DueTexts
 pub mod OneDue

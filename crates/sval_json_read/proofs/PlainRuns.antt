@@ -44,7 +44,7 @@ module _ (is_key : Bool) (opened : List Opened) (tokens : List Placed) where
       ∙ plain_steps (read ++ (byte ∷ [])) bytes both.1 ∙ ap (λ x. Some (in_string x)) (append_assoc read (byte ∷ []) bytes)
 
 -- so many bytes more between two places
-between_run : (bytes : List ℕ) (from at n : ℕ) → from ≤ at → between from (at + n) bytes ≡ between from at bytes ++ take n (drop at bytes)
+pub between_run : (bytes : List ℕ) (from at n : ℕ) → from ≤ at → between from (at + n) bytes ≡ between from at bytes ++ take n (drop at bytes)
 between_run bytes from at n le =
     ap (λ k. take k (drop from bytes)) (let e : (at + n) - from ≡ (at - from) + n = omega arith in e)
     ∙ take-add (at - from) n (drop from bytes)

@@ -125,6 +125,25 @@ KeepsAt state next = HasToken state ⊎ KeepsToken next
 abbrev pub IsReadTo : List ℕ → ℕ → Reader → Type 0
 IsReadTo bytes upto reader = ReadsIn bytes upto reader.from reader.nodes.items
 
+-- ---- bytes that are passed over at once
+
+-- a number stays in this phase behind each further digit
+abbrev pub takes_digits : made_phase.Phase → Bool
+takes_digits phase.Whole = true
+takes_digits phase.Fraction = true
+takes_digits phase.Power = true
+takes_digits _ = false
+
+-- white space may come, and changes nothing
+abbrev pub skips_spaces : made_expected.Expected → Bool
+skips_spaces expected.AValue = true
+skips_spaces expected.FirstItem = true
+skips_spaces expected.FirstKey = true
+skips_spaces expected.NextKey = true
+skips_spaces expected.Colon = true
+skips_spaces expected.Next = true
+skips_spaces _ = false
+
 -- ---- reading a byte
 
 -- a step of the machine

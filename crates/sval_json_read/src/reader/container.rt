@@ -239,7 +239,7 @@ impl Reader {
 }
 
 /// Whether a byte is white space.
-fn is_white(byte: u8) -> bool
+pub(super) fn is_white(byte: u8) -> bool
     ensures { result ≡ is_space byte }
 {
     match byte {

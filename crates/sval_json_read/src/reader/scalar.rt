@@ -1,6 +1,6 @@
 //! Words, numbers and strings.
 
-ghost use Rattle.std.specs.Prelude.{◌≡◌, ◌+◌, ◌<◌, ◌≤◌, ◌^◌, [], IfOk, IfErr, OnErr, Some, length, take, drop, get_or, map, true, false};
+ghost use Rattle.std.specs.Prelude.{◌≡◌, ◌+◌, ◌<◌, ◌≤◌, ◌^◌, [], IfOk, IfErr, OnErr, length, get_or, map, true, false};
 ghost use Rattle.std.specs.List.{between};
 ghost use Rattle.sval_json.specs.Digits.{is_number_byte};
 ghost use Rattle.sval_json_read.specs.Reader as machine;
@@ -16,7 +16,6 @@ use crate::string::{Within, next_within};
 use crate::word::Word;
 use std::alloc::AllocError;
 use sval_core::NoMemory;
-use sval_json::escape::first_escape;
 
 impl Reader {
     /// Reads a letter of a word.
@@ -161,20 +160,6 @@ impl Reader {
         }
         let place = self.place();
         self.add(Node::Text(place, length, self.from), Expected::Next)
-    }
-
-    /// How many bytes of a string come next that neither an escape nor a quote cuts. None outside of strings.
-    pub(crate) fn plain_run(&self, bytes: &[u8], at: usize) -> usize
-        requires at_in { at ≤ length bytes.now }
-        requires before { self.now.from ≤ at }
-        ensures within { at + result ≤ length bytes.now }
-        ensures passes { machine.after_bytes (seen_state bytes.now at self.now) (take result (drop at bytes.now))
-            ≡ Some (seen_state bytes.now (at + result) self.now) }
-    {
-        match self.expected {
-            Expected::InString(_, Within::Plain) => first_escape(&bytes[at..]),
-            _ => 0,
-        }
     }
 
     /// Reads more of a string, or its end.

@@ -1,17 +1,31 @@
+use Rattle.std.specs.Char.{is_ascii_digit}
 use Rattle.std.specs.List.{AllPass}
-use Rattle.std.proofs.Common.{rules, ◌≡◌, ◌-◌, length, take, drop, take_all, length-drop, subst, arith}
+use Rattle.std.proofs.Common.{rules, ◌≡◌, ◌≤◌, ℕ, List, ◌-◌, Bool, length, take, drop, take_all, length-drop, subst, sym, ◌∙◌, arith}
 use Rattle.sval_json.specs.Escape.{is_plain}
+use Rattle.sval_json.specs.Grammar.{is_space}
 use Rattle.sval_json_read.specs.declared.reader.Expected.TheVariants.{InString}
 use Rattle.sval_json_read.specs.declared.string.Within.TheVariants.{Plain}
 use Rattle.sval_json_read.proofs.PlainRuns.{passes_over}
+use Rattle.sval_json_read.proofs.ByteRuns.{passes_digits, passes_spaces}
 use Rattle.sval_json_read.proofs.reader.Reader.plain_run.Goals as goal
+
+-- the bytes from a place on are all that stand behind it
+to_the_end : (test : ℕ → Bool) (bytes : List ℕ) (at n : ℕ) → at ≤ length bytes → AllPass test (take n (take (length bytes - at) (drop at bytes))) → AllPass test (take n (drop at bytes))
+to_the_end test bytes at n le all = subst (λ rest. AllPass test (take n rest)) (take_all (length bytes - at) (drop at bytes) (omega (arith, length-drop at bytes))) all
 
 pub returns-in-InString-default-Plain-clause-passes : goal.returns-in-InString-default-Plain-clause-passes
 returns-in-InString-default-Plain-clause-passes c =
     let is_key = c.in-InString-default-Plain.field-0 in
-    let bytes = c.args.bytes.now in
     let in_string : c.args.self.now.expected ≡ InString is_key Plain = search rules in
-    let rest : take (length bytes - c.args.at) (drop c.args.at bytes) ≡ drop c.args.at bytes =
-    take_all (length bytes - c.args.at) (drop c.args.at bytes) (omega (arith, length-drop c.args.at bytes)) in
-    let plain = subst (λ rest. AllPass is_plain (take c.first_escape.result rest)) rest c.first_escape.ensures.plain in
-    passes_over bytes c.args.at c.first_escape.result c.args.self.now is_key in_string c.requires.before plain
+    let plain = to_the_end is_plain c.args.bytes.now c.args.at c.first_escape.result c.requires.at_in c.first_escape.ensures.plain in
+    passes_over c.args.bytes.now c.args.at c.first_escape.result c.args.self.now is_key in_string c.requires.before plain
+
+pub returns-in-InNumber-clause-passes : goal.returns-in-InNumber-clause-passes
+returns-in-InNumber-clause-passes c =
+    let digits = to_the_end is_ascii_digit c.args.bytes.now c.args.at c.digits_ahead.result c.requires.at_in c.digits_ahead.ensures.digits in
+    passes_digits c.args.bytes.now c.args.at c.digits_ahead.result c.args.self.now c.in-InNumber.phase c.in-InNumber.is (sym c.takes_digits.ensures ∙ c.if-takes_digits.true) c.requires.before digits
+
+pub returns-in_default-clause-passes : goal.returns-in_default-clause-passes
+returns-in_default-clause-passes c =
+    let spaces = to_the_end is_space c.args.bytes.now c.args.at c.spaces_ahead.result c.requires.at_in c.spaces_ahead.ensures.spaces in
+    passes_spaces c.args.bytes.now c.args.at c.spaces_ahead.result c.args.self.now (sym c.skips_spaces.ensures ∙ c.if-skips_spaces.true) spaces

@@ -1,0 +1,76 @@
+//! Bytes that are passed over at once.
+
+ghost use Rattle.std.specs.Prelude.{◌≡◌, ◌+◌, ◌≤◌, Some, length, take, drop};
+ghost use Rattle.std.specs.Char.{is_ascii_digit};
+ghost use Rattle.std.specs.List.{AllPass};
+ghost use Rattle.sval_json.specs.Grammar.{is_space};
+ghost use Rattle.sval_json_read.specs.Reader as machine;
+ghost use Rattle.sval_json_read.specs.SeenReader.{seen_state, takes_digits, skips_spaces};
+
+use super::container::is_white;
+use super::{Expected, Reader};
+use crate::number::Phase;
+use crate::string::Within;
+use sval_json::escape::first_escape;
+
+impl Reader {
+    /// How many bytes come next that change nothing but the place: those of a string that neither an escape nor a quote
+    /// cuts, further digits of a number, or white space between tokens.
+    #[inline(always)]
+    pub(crate) fn plain_run(&self, bytes: &[u8], at: usize) -> usize
+        requires at_in { at ≤ length bytes.now }
+        requires before { self.now.from ≤ at }
+        ensures within { at + result ≤ length bytes.now }
+        ensures passes { machine.after_bytes (seen_state bytes.now at self.now) (take result (drop at bytes.now))
+            ≡ Some (seen_state bytes.now (at + result) self.now) }
+    {
+        match self.expected {
+            Expected::InString(_, Within::Plain) => first_escape(&bytes[at..]),
+            Expected::InNumber(phase) if takes_digits(phase) => digits_ahead(&bytes[at..]),
+            expected if skips_spaces(expected) => spaces_ahead(&bytes[at..]),
+            _ => 0,
+        }
+    }
+}
+
+/// Whether a number stays in this phase behind each further digit.
+fn takes_digits(phase: Phase) -> bool
+    ensures { result ≡ takes_digits phase }
+{
+    match phase {
+        Phase::Whole | Phase::Fraction | Phase::Power => true,
+        _ => false,
+    }
+}
+
+/// Whether white space may come, and changes nothing.
+fn skips_spaces(expected: Expected) -> bool
+    ensures { result ≡ skips_spaces expected }
+{
+    match expected {
+        Expected::InString(..) | Expected::InNumber(_) | Expected::Letter(_) => false,
+        _ => true,
+    }
+}
+
+/// How many digits come before another byte.
+fn digits_ahead(bytes: &[u8]) -> usize
+    ensures within { result ≤ length bytes.now }
+    ensures digits { AllPass is_ascii_digit (take result bytes.now) }
+{
+    bytes
+        .iter()
+        .position(|byte| !byte.is_ascii_digit())
+        .unwrap_or(bytes.len())
+}
+
+/// How many bytes of white space come before another byte.
+fn spaces_ahead(bytes: &[u8]) -> usize
+    ensures within { result ≤ length bytes.now }
+    ensures spaces { AllPass is_space (take result bytes.now) }
+{
+    bytes
+        .iter()
+        .position(|byte| !is_white(*byte))
+        .unwrap_or(bytes.len())
+}
