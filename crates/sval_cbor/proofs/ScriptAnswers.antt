@@ -26,14 +26,14 @@ use Rattle.sval_program.specs.Statuses.{is_among}
 use Rattle.sval_cbor.specs.declared.error.CborError.{CborError}
 use Rattle.sval_cbor.specs.declared.error.CborError.TheVariants as error
 use Rattle.sval_cbor.specs.Packs.{PackRefusal, BadKey, BadNumber, RawJson, NotInteger}
-use Rattle.sval_cbor.specs.Serves.{Due, of_value, of_bad_line, of_bad_call, of_unfinished, of_bad_key, of_bad_number, of_raw, of_no_integer, cbor_terms, failure_of_check, failure_of_cbor}
+use Rattle.sval_cbor.specs.Serves.{CborDue, of_value, of_bad_line, of_bad_call, of_unfinished, of_bad_key, of_bad_number, of_raw, of_no_integer, cbor_terms, failure_of_check, failure_of_cbor}
 use Rattle.sval_cbor.specs.Streamed.{IsChecked, IsCauseOfValue, AnswersBytes, AnswersDue, refusal_error}
 use Rattle.sval_cbor.specs.Verdict.{Whole, IsVerdict}
 use Rattle.sval_cbor.specs.Writing.{written_cbor}
 use Rattle.sval_cbor.proofs.Captured.{captured_is_written}
 
 -- nothing is written before a fault
-faulty : {K : Type 0} (told : K → Told) (script : List ℕ) (why : Fault) (old new : K) → Due tt script (Some why) [] → is_among (status_of_fault why) cbor_terms.faults ≡ true → new ≡ old
+faulty : {K : Type 0} (told : K → Told) (script : List ℕ) (why : Fault) (old new : K) → CborDue tt script (Some why) [] → is_among (status_of_fault why) cbor_terms.faults ≡ true → new ≡ old
     → ServesBytes cbor_terms told tt script (Err (failure.Fault why)) old new
 faulty told script why old new due known same =
     subst (λ out. FindsFault cbor_terms told tt script why old out) (sym same) (record { all = record { bytes = []; due = due; writes = writes_nothing (told old) }; known = known; untouched = λ e. refl })

@@ -15,7 +15,7 @@ use Rattle.sval_script.specs.Lines.{Lines, Good, Bad, lines}
 use Rattle.sval_cbor.specs.Cbor.{cbor}
 use Rattle.sval_cbor.specs.Laws.{OneVerdict}
 use Rattle.sval_cbor.specs.Packs.{PackRefusal, BadKey, BadNumber, RawJson, NotInteger, map_packed, pack_of}
-use Rattle.sval_cbor.specs.Serves.{Due, of_value, of_bad_line, of_bad_call, of_unfinished, of_bad_key, of_bad_number, of_raw, of_no_integer, cbor_terms}
+use Rattle.sval_cbor.specs.Serves.{CborDue, of_value, of_bad_line, of_bad_call, of_unfinished, of_bad_key, of_bad_number, of_raw, of_no_integer, cbor_terms}
 use Rattle.sval_cbor.specs.Verdict.{Verdict, BadLine, BadCall, Unfinished, Whole, AreUnfinished, SpellWhole, IsOfCalls, OfCalls, IsVerdict}
 
 -- ---- of calls
@@ -120,7 +120,7 @@ record HasVerdictFor (script : List ℕ) (found : Option Fault) (bytes : List �
   pub same_fault : found ≡ (due_of answer).0
   pub same_bytes : bytes ≡ (due_of answer).1
 
-verdict_for : {asked : Unit {0}} {script bytes : List ℕ} (found : Option Fault) → Due asked script found bytes → HasVerdictFor script found bytes
+verdict_for : {asked : Unit {0}} {script bytes : List ℕ} (found : Option Fault) → CborDue asked script found bytes → HasVerdictFor script found bytes
 verdict_for _ (of_value {bytes = bytes} is) = record { answer = Whole (Ok bytes); is = is; same_fault = refl; same_bytes = refl }
 verdict_for _ (of_bad_line {line = line} is) = record { answer = BadLine line; is = is; same_fault = refl; same_bytes = refl }
 verdict_for _ (of_bad_call {line = line} is) = record { answer = BadCall line; is = is; same_fault = refl; same_bytes = refl }

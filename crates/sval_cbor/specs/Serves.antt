@@ -11,28 +11,28 @@ use Rattle.sval_check.specs.declared.error.CheckError.{CheckError}
 use Rattle.sval_check.specs.declared.error.CheckError.TheVariants as check
 use Rattle.sval_cbor.specs.declared.error.CborError.{CborError}
 use Rattle.sval_cbor.specs.declared.error.CborError.TheVariants as error
-use Rattle.sval_cbor.specs.Forms.{form_named}
+use Rattle.sval_cbor.specs.Forms.{cbor_form}
 use Rattle.sval_cbor.specs.Packs.{BadKey, BadNumber, RawJson, NotInteger}
 use Rattle.sval_cbor.specs.Verdict.{BadLine, BadCall, Unfinished, Whole, IsVerdict}
 
 -- ---- what is due of a script
 
 -- what is due of a script, by its verdict: the bytes that its value packs to, or a fault, before which nothing is written
-pub data Due : Unit {0} → List ℕ → Option Fault → List ℕ → Type 0 where
-  of_value : {asked : Unit {0}} {script bytes : List ℕ} → IsVerdict (Whole (Ok bytes)) script → Due asked script None bytes
-  of_bad_line : {asked : Unit {0}} {script : List ℕ} {line : ℕ} → IsVerdict (BadLine line) script → Due asked script (Some (fault.BadLine line)) []
-  of_bad_call : {asked : Unit {0}} {script : List ℕ} {line : ℕ} → IsVerdict (BadCall line) script → Due asked script (Some (fault.BadCall line)) []
-  of_unfinished : {asked : Unit {0}} {script : List ℕ} → IsVerdict Unfinished script → Due asked script (Some (fault.Unfinished false)) []
-  of_bad_key : {asked : Unit {0}} {script : List ℕ} → IsVerdict (Whole (Err BadKey)) script → Due asked script (Some fault.InvalidKey) []
-  of_bad_number : {asked : Unit {0}} {script : List ℕ} → IsVerdict (Whole (Err BadNumber)) script → Due asked script (Some fault.InvalidNumber) []
-  of_raw : {asked : Unit {0}} {script : List ℕ} → IsVerdict (Whole (Err RawJson)) script → Due asked script (Some fault.Raw) []
-  of_no_integer : {asked : Unit {0}} {script : List ℕ} → IsVerdict (Whole (Err NotInteger)) script → Due asked script (Some fault.NotInteger) []
+pub data CborDue : Unit {0} → List ℕ → Option Fault → List ℕ → Type 0 where
+  of_value : {asked : Unit {0}} {script bytes : List ℕ} → IsVerdict (Whole (Ok bytes)) script → CborDue asked script None bytes
+  of_bad_line : {asked : Unit {0}} {script : List ℕ} {line : ℕ} → IsVerdict (BadLine line) script → CborDue asked script (Some (fault.BadLine line)) []
+  of_bad_call : {asked : Unit {0}} {script : List ℕ} {line : ℕ} → IsVerdict (BadCall line) script → CborDue asked script (Some (fault.BadCall line)) []
+  of_unfinished : {asked : Unit {0}} {script : List ℕ} → IsVerdict Unfinished script → CborDue asked script (Some (fault.Unfinished false)) []
+  of_bad_key : {asked : Unit {0}} {script : List ℕ} → IsVerdict (Whole (Err BadKey)) script → CborDue asked script (Some fault.InvalidKey) []
+  of_bad_number : {asked : Unit {0}} {script : List ℕ} → IsVerdict (Whole (Err BadNumber)) script → CborDue asked script (Some fault.InvalidNumber) []
+  of_raw : {asked : Unit {0}} {script : List ℕ} → IsVerdict (Whole (Err RawJson)) script → CborDue asked script (Some fault.Raw) []
+  of_no_integer : {asked : Unit {0}} {script : List ℕ} → IsVerdict (Whole (Err NotInteger)) script → CborDue asked script (Some fault.NotInteger) []
 
 -- what the program does
 abbrev pub cbor_terms : Terms (Unit {0})
 cbor_terms = record {
-  form_named = form_named;
-  Due = Due;
+  form_named = cbor_form;
+  Due = CborDue;
   reads = λ form. true;
   partly = λ form. false;
   faults = BAD_LINE ∷ BAD_CALL ∷ UNFINISHED ∷ INVALID_KEY ∷ INVALID_NUMBER ∷ RAW ∷ NOT_INTEGER ∷ [];

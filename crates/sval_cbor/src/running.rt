@@ -5,7 +5,7 @@ ghost use Rattle.sval_core.specs.Values.{makes};
 ghost use Rattle.sval_program.specs.Jobs.{ServesBytes, ServesInput, Serves};
 ghost use Rattle.sval_program.specs.Runs.{Ends, Reports};
 ghost use Rattle.sval_script.specs.Lines.{lines, Good};
-ghost use Rattle.sval_cbor.specs.Forms.{form_of};
+ghost use Rattle.sval_cbor.specs.Forms.{cbor_form_of};
 ghost use Rattle.sval_cbor.specs.Serves.{cbor_terms, failure_of_check, failure_of_cbor};
 ghost use Rattle.sval_cbor.specs.Streamed.{IsChecked};
 ghost use Rattle.sval_cbor.specs.Verdict.{Whole, IsVerdict};
@@ -103,7 +103,7 @@ fn serve_input<I: Source, K: Sink>(alloc: Global, input: &mut I, out: &mut K) ->
 
 /// What the program's words ask for, if they are a form: the only one is no words.
 pub(crate) fn named_form(words: &[String]) -> Option<()>
-    ensures { result ≡ form_of words.now }
+    ensures { result ≡ cbor_form_of words.now }
 {
     match words {
         [] => Some(()),

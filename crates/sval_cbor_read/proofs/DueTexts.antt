@@ -29,7 +29,7 @@ use Rattle.sval_cbor_read.specs.declared.form.Form.TheVariants as form
 use Rattle.sval_cbor_read.specs.Document.{cbor_document_calls}
 use Rattle.sval_cbor_read.specs.Items.{IsItemOf}
 use Rattle.sval_cbor_read.specs.ReadErrors.{IsReadItem}
-use Rattle.sval_cbor_read.specs.Serves.{IsInMemory, IsItemTextDue, IsMeantByItem, IsWrittenUpToKey, Due, a_text, up_to_key, read_terms, most_of}
+use Rattle.sval_cbor_read.specs.Serves.{IsInMemory, IsItemTextDue, IsMeantByItem, IsWrittenUpToKey, CborReadDue, a_text, up_to_key, cbor_read_terms, most_of}
 use Rattle.sval_cbor_read.proofs.Complete.{item_is_read}
 use Rattle.sval_cbor_read.proofs.ItemTrees.{item_printable, item_promises}
 use Rattle.sval_cbor_read.proofs.OneReading.{one_document}
@@ -68,8 +68,8 @@ up_to_key_is_most form.Calls i w = let never = w.json in cc never
 -- what is written of an item, as the text that is due or as what is written up to a key
 pub record DueOf (asked : Form) (input bytes : List ℕ) : Type 0 where
   pub found : Option Fault
-  pub due : Due asked input found bytes
-  pub may : may_write read_terms found ≡ true
+  pub due : CborReadDue asked input found bytes
+  pub may : may_write cbor_read_terms found ≡ true
 
 module _ {input : List ℕ} {tree : Tree} (m : IsInMemory input) (item : IsItemOf input tree) where
   means_json : (json : Json) → json_of tree ≡ Ok json → IsMeantByItem form.Json tree (most_of form.Json item)
@@ -77,13 +77,13 @@ module _ {input : List ℕ} {tree : Tree} (m : IsInMemory input) (item : IsItemO
       let meant = text_means Inside tree json (item_is_real input tree m.bytes item) (item_promises m item) shape in
       record { json = json; shape = shape; is_text = json_written item json shape; value = meant.0; is = meant.1 }
 
-  pub json_due : (json : Json) → json_of tree ≡ Ok json → Due form.Json input None (most_of form.Json item)
+  pub json_due : (json : Json) → json_of tree ≡ Ok json → CborReadDue form.Json input None (most_of form.Json item)
   json_due json shape = a_text (record { tree = tree; item = item; is = record { json = json; shape = shape; is_text = json_written item json shape } }) (means_json json shape)
 
-  pub script_due : Due form.Calls input None (most_of form.Calls item)
+  pub script_due : CborReadDue form.Calls input None (most_of form.Calls item)
   script_due = a_text (record { tree = tree; item = item; is = refl }) (canon-reads_back tree (item_printable m item))
 
-  pub key_due : json_of tree ≡ Err InvalidKey → Due form.Json input (Some fault.InvalidKey) (most_of form.Json item)
+  pub key_due : json_of tree ≡ Err InvalidKey → CborReadDue form.Json input (Some fault.InvalidKey) (most_of form.Json item)
   key_due refused = up_to_key (record { json = refl; tree = tree; item = item; refused = refused; is_written = refl })
 
   pub due_of : (asked : Form) → DueOf asked input (most_of asked item)
@@ -109,7 +109,7 @@ module _ (input : List ℕ) (calls : List Call) (r : IsReadItem input calls) whe
 
   module _ {K : Type 0} (told : K → Told) (old new : K) where
     pub writes_json : IsInMemory input → IsWrittenIn Inside calls (told old) (told new) → WritesSpelledValue Inside calls (told old) (told new) → IsSteady (told old) (told new)
-        → ServesBytes read_terms told form.Json input (Ok tt) old new
+        → ServesBytes cbor_read_terms told form.Json input (Ok tt) old new
     writes_json m w spelled steady =
         let value = spelled r.tree r.spells (item_promises m r.item) in
         record {
@@ -118,7 +118,7 @@ module _ (input : List ℕ) (calls : List Call) (r : IsReadItem input calls) whe
           writes = record { appends = subst (λ bytes. Appends (told old) bytes (told new)) is_most w.appends; steady = steady };
         }
 
-    pub stops_at_key : IsInMemory input → IsRefusedIn Inside InvalidKey calls (told old) (told new) → json_of r.tree ≡ Err InvalidKey → ServesBytes read_terms told form.Json input (Err (failure.Fault fault.InvalidKey)) old new
+    pub stops_at_key : IsInMemory input → IsRefusedIn Inside InvalidKey calls (told old) (told new) → json_of r.tree ≡ Err InvalidKey → ServesBytes cbor_read_terms told form.Json input (Err (failure.Fault fault.InvalidKey)) old new
     stops_at_key m w refused = record {
       all = record {
         bytes = most_of form.Json r.item;
@@ -133,13 +133,13 @@ module _ (input : List ℕ) (calls : List Call) (r : IsReadItem input calls) whe
     begins_json begins = subst (λ bytes. AppendsFront (told old) bytes (told new)) is_most begins
 
     pub json_fault : IsInMemory input → Rose (told old).faults (told new).faults → IsBegunIn Inside calls (told old) (told new) → NoCountFell (told old) (told new)
-        → ServesBytes read_terms told form.Json input (Err (failure.Write Failed)) old new
+        → ServesBytes cbor_read_terms told form.Json input (Err (failure.Write Failed)) old new
     json_fault m rose begins counts =
         let d = due_of m r.item form.Json in
         record { found = d.found; bytes = most_of form.Json r.item; due = d.due; may = d.may; stops = record { cause = rose; begins = begins_json begins; counts = counts } }
 
     pub json_want : IsInMemory input → Rose (told old).wants (told new).wants → IsBegunIn Inside calls (told old) (told new) → NoCountFell (told old) (told new)
-        → ServesBytes read_terms told form.Json input (Err (failure.Write NoMemory)) old new
+        → ServesBytes cbor_read_terms told form.Json input (Err (failure.Write NoMemory)) old new
     json_want m rose begins counts =
         let d = due_of m r.item form.Json in
         record { found = d.found; bytes = most_of form.Json r.item; due = d.due; may = d.may; stops = record { cause = inr rose; begins = begins_json begins; counts = counts } }
@@ -150,8 +150,8 @@ module _ (input : List ℕ) (calls : List Call) (r : IsReadItem input calls) whe
   printable m = item_printable m r.item
 
   module _ {K : Type 0} (told : K → Told) (old new : K) where
-    pub writes_script : IsInMemory input → WritesText (Ok tt) told (canon r.tree) old new → ServesBytes read_terms told form.Calls input (Ok tt) old new
+    pub writes_script : IsInMemory input → WritesText (Ok tt) told (canon r.tree) old new → ServesBytes cbor_read_terms told form.Calls input (Ok tt) old new
     writes_script m w = record { bytes = canon r.tree; due = script_due m r.item; writes = w }
 
-    pub script_stops : IsInMemory input → (why : SinkError) → WritesText (Err why) told (canon r.tree) old new → ServesBytes read_terms told form.Calls input (Err (failure.Write why)) old new
+    pub script_stops : IsInMemory input → (why : SinkError) → WritesText (Err why) told (canon r.tree) old new → ServesBytes cbor_read_terms told form.Calls input (Err (failure.Write why)) old new
     script_stops m why w = record { found = None; bytes = canon r.tree; due = script_due m r.item; may = refl; stops = w.stops }

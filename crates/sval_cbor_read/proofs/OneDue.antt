@@ -11,7 +11,7 @@ use Rattle.sval_program.specs.Jobs.{OneDue}
 use Rattle.sval_cbor_read.specs.declared.form.Form.{Form}
 use Rattle.sval_cbor_read.specs.declared.form.Form.TheVariants as form
 use Rattle.sval_cbor_read.specs.Items.{IsItemOf}
-use Rattle.sval_cbor_read.specs.Serves.{IsTextOfTree, IsWrittenUpToKey, IsNoItem, Due, a_text, up_to_key, no_item, read_terms, most_of}
+use Rattle.sval_cbor_read.specs.Serves.{IsTextOfTree, IsWrittenUpToKey, IsNoItem, CborReadDue, a_text, up_to_key, no_item, cbor_read_terms, most_of}
 use Rattle.sval_cbor_read.proofs.DueTexts.{one_tree, due_is_most, up_to_key_is_most}
 
 -- ---- bytes that are an item
@@ -39,14 +39,14 @@ record IsByItem (asked : Form) {input : List ℕ} {tree : Tree} (item : IsItemOf
   is_fault : found ≡ fault_of_tree asked tree
   are_bytes : bytes ≡ most_of asked item
 
-by_item : {input : List ℕ} {tree : Tree} (asked : Form) (item : IsItemOf input tree) (found : Option Fault) (bytes : List ℕ) → Due asked input found bytes → IsByItem asked item found bytes
+by_item : {input : List ℕ} {tree : Tree} (asked : Form) (item : IsItemOf input tree) (found : Option Fault) (bytes : List ℕ) → CborReadDue asked input found bytes → IsByItem asked item found bytes
 by_item asked item _ bytes (a_text due meant) =
     record { is_fault = sym (fault_of_text asked due.tree bytes due.is) ∙ ap (fault_of_tree asked) (one_tree due.item item); are_bytes = due_is_most asked item due }
 by_item asked item _ bytes (up_to_key is) =
     record { is_fault = sym (fault_of_key asked is) ∙ ap (fault_of_tree asked) (one_tree is.item item); are_bytes = up_to_key_is_most asked item is }
 by_item {tree = tree} asked item _ _ (no_item none) = absurd (none tree item)
 
-of_item : {input : List ℕ} {tree : Tree} (asked : Form) (item : IsItemOf input tree) (found other : Option Fault) (bytes others : List ℕ) → Due asked input found bytes → Due asked input other others
+of_item : {input : List ℕ} {tree : Tree} (asked : Form) (item : IsItemOf input tree) (found other : Option Fault) (bytes others : List ℕ) → CborReadDue asked input found bytes → CborReadDue asked input other others
     → (found ≡ other) × (bytes ≡ others)
 of_item asked item found other bytes others due also =
     let one = by_item asked item found bytes due in
@@ -55,12 +55,12 @@ of_item asked item found other bytes others due also =
 
 -- ---- bytes that are none
 
-of_no_item : (asked : Form) (input : List ℕ) → IsNoItem input asked → (found : Option Fault) (bytes : List ℕ) → Due asked input found bytes → (found ≡ Some fault.BadCbor) × (bytes ≡ [])
+of_no_item : (asked : Form) (input : List ℕ) → IsNoItem input asked → (found : Option Fault) (bytes : List ℕ) → CborReadDue asked input found bytes → (found ≡ Some fault.BadCbor) × (bytes ≡ [])
 of_no_item asked input none _ bytes (a_text due meant) = absurd (none due.tree due.item)
 of_no_item asked input none _ bytes (up_to_key is) = absurd (none is.tree is.item)
 of_no_item asked input none _ _ (no_item also) = (refl, refl)
 
-pub one_due : OneDue read_terms
+pub one_due : OneDue cbor_read_terms
 one_due asked input _ other bytes others (a_text due meant) also = of_item asked due.item None other bytes others (a_text due meant) also
 one_due asked input _ other bytes others (up_to_key is) also = of_item asked is.item (Some fault.InvalidKey) other bytes others (up_to_key is) also
 one_due asked input _ other _ others (no_item none) also = let none_also = of_no_item asked input none other others also in (sym none_also.0, sym none_also.1)

@@ -22,7 +22,7 @@ use Rattle.sval_cbor_read.specs.declared.document.CborReadError.TheVariants as r
 use Rattle.sval_cbor_read.specs.declared.form.Form.{Form}
 use Rattle.sval_cbor_read.specs.declared.form.Form.TheVariants as form
 use Rattle.sval_cbor_read.specs.Document.{cbor_document_calls}
-use Rattle.sval_cbor_read.specs.Forms.{form_named}
+use Rattle.sval_cbor_read.specs.Forms.{cbor_read_form}
 use Rattle.sval_cbor_read.specs.Items.{IsItemOf}
 
 -- bytes as memory can hold them
@@ -76,21 +76,21 @@ abbrev pub IsNoItem : List ℕ → Form → Type 0
 IsNoItem input asked = (tree : Tree) → IsItemOf input tree → ⊥
 
 -- what is due of an input: the text of its item, what is written up to a key, or no bytes where it is no item
-pub data Due : Form → List ℕ → Option Fault → List ℕ → Type 0 where
-  a_text : {asked : Form} {input text : List ℕ} (due : IsItemTextDue text input asked) → IsMeantByItem asked due.tree text → Due asked input None text
-  up_to_key : {asked : Form} {input written : List ℕ} → IsWrittenUpToKey written input asked → Due asked input (Some fault.InvalidKey) written
-  no_item : {asked : Form} {input : List ℕ} → IsNoItem input asked → Due asked input (Some fault.BadCbor) []
+pub data CborReadDue : Form → List ℕ → Option Fault → List ℕ → Type 0 where
+  a_text : {asked : Form} {input text : List ℕ} (due : IsItemTextDue text input asked) → IsMeantByItem asked due.tree text → CborReadDue asked input None text
+  up_to_key : {asked : Form} {input written : List ℕ} → IsWrittenUpToKey written input asked → CborReadDue asked input (Some fault.InvalidKey) written
+  no_item : {asked : Form} {input : List ℕ} → IsNoItem input asked → CborReadDue asked input (Some fault.BadCbor) []
 
 -- the failure where bytes weren't read
-abbrev pub failure_of : CborReadError → Failure
-failure_of reading.Bad = failure.Fault fault.BadCbor
-failure_of reading.NoMemory = failure.NoMemory
+abbrev pub failure_of_cbor_read : CborReadError → Failure
+failure_of_cbor_read reading.Bad = failure.Fault fault.BadCbor
+failure_of_cbor_read reading.NoMemory = failure.NoMemory
 
 -- what the program does
-abbrev pub read_terms : Terms Form
-read_terms = record {
-  form_named = form_named;
-  Due = Due;
+abbrev pub cbor_read_terms : Terms Form
+cbor_read_terms = record {
+  form_named = cbor_read_form;
+  Due = CborReadDue;
   reads = λ form. true;
   partly = λ form. false;
   faults = INVALID_KEY ∷ BAD_CBOR ∷ [];

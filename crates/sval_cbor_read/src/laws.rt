@@ -2,7 +2,7 @@
 
 ghost use Rattle.sval_program.specs.Jobs.{OneDue};
 ghost use Rattle.sval_cbor_read.specs.Laws.{ItemHasOneTree, ItemsAreReal, ItemsAreRefusedByKey, CborDocumentsSpell, ItemsAreRead, ReadIsItem, ReadInOneWay, ReadingEndsWell, ReadingStopsAtBadBytes, LargeNumbersAreBadBytes, StepsComeNearer, HeadsAreRead, HeadsAreShortest, WrittenIsReadBack};
-ghost use Rattle.sval_cbor_read.specs.Serves.{read_terms};
+ghost use Rattle.sval_cbor_read.specs.Serves.{cbor_read_terms};
 
 /// What holds of all bytes.
 pub fn item_laws()
@@ -15,7 +15,7 @@ pub fn item_laws()
 
 /// What holds of the reader's steps. Whatever the words ask for, at most one thing is due of an input (`one_due`).
 pub fn reading_laws()
-    ensures one_due { OneDue read_terms }
+    ensures one_due { OneDue cbor_read_terms }
     ensures documents_spell { CborDocumentsSpell }
     ensures items_are_read { ItemsAreRead }
     ensures read_is_item { ReadIsItem }

@@ -1,6 +1,6 @@
 //! The program, as a job.
 
-ghost use Rattle.sval_cbor_read.specs.Serves.{read_terms};
+ghost use Rattle.sval_cbor_read.specs.Serves.{cbor_read_terms};
 
 use crate::document::CborReadError;
 use crate::form::named_form;
@@ -11,9 +11,9 @@ use sval_program::{Failure, Fault, Job, Line};
 
 impl From<CborReadError> for Failure {
     ghost use Rattle.std.specs.Prelude.{◌≡◌};
-    ghost use Rattle.sval_cbor_read.specs.Serves.{failure_of};
+    ghost use Rattle.sval_cbor_read.specs.Serves.{failure_of_cbor_read};
 
-    ghost from_gives = { λ error failure. failure ≡ failure_of error };
+    ghost from_gives = { λ error failure. failure ≡ failure_of_cbor_read error };
 
     fn from(error: CborReadError) -> Failure {
         match error {
@@ -32,7 +32,7 @@ impl Job for ReadCbor {
 
     ghost Form = { Form };
 
-    ghost terms = { read_terms };
+    ghost terms = { cbor_read_terms };
 
     fn usage() -> Line {
         Line::text("usage: sval_cbor_read json|calls\n")

@@ -4,7 +4,7 @@ ghost use Rattle.std.specs.Prelude.{◌<◌, ◌^◌, ℕ, List, length, map, st
 ghost use Rattle.sval_program.specs.Jobs.{ServesBytes, ServesInput, Serves};
 ghost use Rattle.sval_program.specs.Runs.{Ends, Reports};
 ghost use Rattle.sval_cbor_read.specs.ReadErrors.{IsReadItem};
-ghost use Rattle.sval_cbor_read.specs.Serves.{read_terms, IsInMemory};
+ghost use Rattle.sval_cbor_read.specs.Serves.{cbor_read_terms, IsInMemory};
 
 use crate::document::CborDoc;
 use crate::form::{Form, named_form};
@@ -19,7 +19,7 @@ use sval_program::{Failure, Fault, print_captured};
 fn write_json<K: Sink>(doc: &CborDoc<'_>, out: &mut K) -> Result<(), Failure>
     requires { (input : List ℕ) × IsReadItem input doc.now × IsInMemory input }
     ensures { (input : List ℕ) → IsReadItem input doc.now → IsInMemory input
-        → ServesBytes read_terms K.told Form.Json input result out.old out.new }
+        → ServesBytes cbor_read_terms K.told Form.Json input result out.old out.new }
 {
     match stream_to_io_write(out, doc) {
         Ok(()) => Ok(()),
@@ -37,7 +37,7 @@ fn write_json<K: Sink>(doc: &CborDoc<'_>, out: &mut K) -> Result<(), Failure>
 fn print_script<K: Sink>(alloc: Global, doc: &CborDoc<'_>, out: &mut K) -> Result<(), Failure>
     requires { (input : List ℕ) × IsReadItem input doc.now × IsInMemory input }
     ensures { (input : List ℕ) → IsReadItem input doc.now → IsInMemory input
-        → ServesBytes read_terms K.told Form.Calls input result out.old out.new }
+        → ServesBytes cbor_read_terms K.told Form.Calls input result out.old out.new }
 {
     Ok(print_captured(alloc, doc.node_count(), doc, out)?)
 }
@@ -51,7 +51,7 @@ fn write_document<K: Sink>(
 ) -> Result<(), Failure>
     requires { (input : List ℕ) × IsReadItem input doc.now × IsInMemory input }
     ensures { (input : List ℕ) → IsReadItem input doc.now → IsInMemory input
-        → ServesBytes read_terms K.told form input result out.old out.new }
+        → ServesBytes cbor_read_terms K.told form input result out.old out.new }
 {
     match form {
         Form::Json => write_json(doc, out),
@@ -62,7 +62,7 @@ fn write_document<K: Sink>(
 /// Reads bytes, and writes what is asked for of the item that they are.
 fn serve_bytes<K: Sink>(alloc: Global, form: Form, bytes: &[u8], out: &mut K) -> Result<(), Failure>
     requires { length bytes.now < 2 ^ 64 }
-    ensures { ServesBytes read_terms K.told form bytes.now result out.old out.new }
+    ensures { ServesBytes cbor_read_terms K.told form bytes.now result out.old out.new }
 {
     let doc = CborDoc::read(alloc, bytes)?;
     write_document(alloc, form, &doc, out)
@@ -75,7 +75,7 @@ fn serve_input<I: Source, K: Sink>(
     input: &mut I,
     out: &mut K,
 ) -> Result<(), Failure>
-    ensures { ServesInput read_terms I.told K.told form result input.old input.new out.old out.new }
+    ensures { ServesInput cbor_read_terms I.told K.told form result input.old input.new out.old out.new }
 {
     let bytes = read_input(alloc, input)?;
     serve_bytes(alloc, form, bytes.as_slice(), out)
@@ -88,7 +88,7 @@ pub(crate) fn serve<I: Source, K: Sink>(
     input: &mut I,
     out: &mut K,
 ) -> Result<(), Failure>
-    ensures { Serves read_terms I.told K.told (map string_bytes words.now) result
+    ensures { Serves cbor_read_terms I.told K.told (map string_bytes words.now) result
         input.old input.new out.old out.new }
 {
     match named_form(words) {
@@ -108,7 +108,7 @@ pub(crate) fn serve<I: Source, K: Sink>(
 /// why. Whatever `diag` answers, the status and what is left of the input and the output are such as
 /// [`work`](sval_program::job::work) may give, which has no `diag`.
 ///
-/// What is due is `Due` of `read_terms`, and of an input it is one thing at most
+/// What is due is `Due` of `cbor_read_terms`, and of an input it is one thing at most
 /// ([`reading_laws`](crate::laws::reading_laws)). `Ends` says when each status comes and what is left of the devices, and
 /// `Reports` which line is told.
 ///
@@ -143,9 +143,9 @@ pub fn run_cbor_read<I: Source, K: Sink, D: Sink>(
     out: &mut K,
     diag: &mut D,
 ) -> u8
-    ensures ends { Ends read_terms I.told K.told (map string_bytes words.now) input.old input.new
+    ensures ends { Ends cbor_read_terms I.told K.told (map string_bytes words.now) input.old input.new
         out.old out.new result }
-    ensures reports { Reports read_terms I.told K.told (map string_bytes words.now) input.old input.new
+    ensures reports { Reports cbor_read_terms I.told K.told (map string_bytes words.now) input.old input.new
         out.old out.new (D.told diag.old) (D.told diag.new) result }
 {
     run::<ReadCbor, I, K, D>(alloc, words, input, out, diag)

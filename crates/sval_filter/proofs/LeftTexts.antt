@@ -23,9 +23,9 @@ use Rattle.sval_program.specs.Failures.{status_of_fault}
 use Rattle.sval_program.specs.Jobs.{may_write, ServesBytes}
 use Rattle.sval_program.specs.Outputs.{IsStopCause}
 use Rattle.sval_program.specs.Statuses.{is_among}
-use Rattle.sval_filter.specs.Forms.{Asked}
+use Rattle.sval_filter.specs.Forms.{FilterForm}
 use Rattle.sval_filter.specs.Pruned.{pruned}
-use Rattle.sval_filter.specs.Serves.{Due, a_text, up_to_key, up_to_number, filter_terms, IsLeftOf}
+use Rattle.sval_filter.specs.Serves.{FilterDue, a_text, up_to_key, up_to_number, filter_terms, IsLeftOf}
 use Rattle.sval_filter.specs.Verdict.{Whole, IsWritten, IsVerdict}
 
 -- the fault where what is left has no JSON
@@ -43,12 +43,12 @@ is_known InvalidKey = refl
 is_known InvalidNumber = refl
 
 -- what is written of what is left, as what is due
-record DueOf (asked : Asked) (script bytes : List ℕ) : Type 0 where
+record DueOf (asked : FilterForm) (script bytes : List ℕ) : Type 0 where
   pub found : Option Fault
-  pub due : Due asked script found bytes
+  pub due : FilterDue asked script found bytes
   pub may : may_write filter_terms found ≡ true
 
-module _ (f : Forest) (script : List ℕ) (asked : Asked) (l : IsLeftOf f script asked) where
+module _ (f : Forest) (script : List ℕ) (asked : FilterForm) (l : IsLeftOf f script asked) where
   -- what is left of the tree that the calls spell
   abbrev left : Tree
   left = pruned asked.0 asked.1 l.is.tree
@@ -66,10 +66,10 @@ module _ (f : Forest) (script : List ℕ) (asked : Asked) (l : IsLeftOf f script
   whole : (refused : Option Refusal) (bytes : List ℕ) → IsWritten refused bytes left → IsVerdict (Whole refused bytes) script asked
   whole refused bytes is = record { calls = l.calls; good = l.good; is = record { tree = l.is.tree; spells = l.is.spells; is = is } }
 
-  text_due : (bytes : List ℕ) (json : Json) → json_of left ≡ Ok json → bytes ≡ compact json → Due asked script None bytes
+  text_due : (bytes : List ℕ) (json : Json) → json_of left ≡ Ok json → bytes ≡ compact json → FilterDue asked script None bytes
   text_due bytes json shape is = a_text (whole None bytes (record { json = json; shape = shape; is_text = is }))
 
-  refusal_due : (why : Refusal) → json_of left ≡ Err why → Due asked script (Some (fault_of why)) written
+  refusal_due : (why : Refusal) → json_of left ≡ Err why → FilterDue asked script (Some (fault_of why)) written
   refusal_due InvalidKey shape = up_to_key (whole (Some InvalidKey) written (record { shape = shape; is_written = same_written }))
   refusal_due InvalidNumber shape = up_to_number (whole (Some InvalidNumber) written (record { shape = shape; is_written = same_written }))
 

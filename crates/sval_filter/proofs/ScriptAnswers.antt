@@ -21,17 +21,17 @@ use Rattle.sval_program.specs.Failures.{status_of_fault, failure_of_script}
 use Rattle.sval_program.specs.Inputs.{HasRead}
 use Rattle.sval_program.specs.Jobs.{ServesBytes}
 use Rattle.sval_program.specs.Statuses.{is_among}
-use Rattle.sval_filter.specs.Forms.{Asked}
-use Rattle.sval_filter.specs.Serves.{Due, is_bad_line, is_bad_call, is_unfinished, filter_terms, failure_of_check}
+use Rattle.sval_filter.specs.Forms.{FilterForm}
+use Rattle.sval_filter.specs.Serves.{FilterDue, is_bad_line, is_bad_call, is_unfinished, filter_terms, failure_of_check}
 
 -- nothing is written before a fault of the script
-faulty : {K : Type 0} (told : K → Told) (script : List ℕ) (asked : Asked) (out : K) (why : Fault) → Due asked script (Some why) [] → is_among (status_of_fault why) filter_terms.faults ≡ true
+faulty : {K : Type 0} (told : K → Told) (script : List ℕ) (asked : FilterForm) (out : K) (why : Fault) → FilterDue asked script (Some why) [] → is_among (status_of_fault why) filter_terms.faults ≡ true
     → ServesBytes filter_terms told asked script (Err (failure.Fault why)) out out
 faulty told script asked out why due known = record { all = record { bytes = []; due = due; writes = writes_nothing (told out) }; known = known; untouched = λ e. refl }
 
 -- ---- what checking a script found, whose calls these are
 
-module _ (script : List ℕ) (asked : Asked) (calls : List Call) (good : lines script ≡ Good calls) where
+module _ (script : List ℕ) (asked : FilterForm) (calls : List Call) (good : lines script ≡ Good calls) where
   fails_so : {K : Type 0} (told : K → Told) (out : K) (why failed : Failure) → Some why ≡ Some failed → ServesBytes filter_terms told asked script (Err why) out out → ServesBytes filter_terms told asked script (Err failed) out out
   fails_so told out why failed is f = let same : why ≡ failed = cc is in subst (λ (w : Failure). ServesBytes filter_terms told asked script (Err w) out out) same f
 
@@ -73,7 +73,7 @@ module _ {reader : ScriptReading} {old new : Supply} (h : HasRead old reader new
       bad l (inr (is, some)) = cc is
 
   -- where it has no script the sink is as it was
-  pub read_fails : {K : Type 0} (told : K → Told) (asked : Asked) (out : K) (why : ScriptError) → ◌≡◌ {A = Result (List Call) ScriptError} (Err why) (answer_with reader [])
+  pub read_fails : {K : Type 0} (told : K → Told) (asked : FilterForm) (out : K) (why : ScriptError) → ◌≡◌ {A = Result (List Call) ScriptError} (Err why) (answer_with reader [])
       → ServesBytes filter_terms told asked h.script (Err (failure_of_script why)) out out
   read_fails told asked out (reading.BadLine n) e = faulty told h.script asked out (fault.BadLine n) (is_bad_line (bad_line n e)) refl
   read_fails told asked out reading.NoMemory e = refl

@@ -17,10 +17,10 @@ use Rattle.sval_program.specs.declared.failure.Fault.TheVariants as fault
 use Rattle.sval_program.specs.Jobs.{OneDue}
 use Rattle.sval_program.proofs.FoundCalls.{Found, found_bad, found_open, found_whole, found}
 use Rattle.sval_script.specs.Lines.{Lines, Good, Bad, lines}
-use Rattle.sval_filter.specs.Forms.{Asked}
+use Rattle.sval_filter.specs.Forms.{FilterForm}
 use Rattle.sval_filter.specs.Laws.{OneVerdict}
 use Rattle.sval_filter.specs.Pruned.{pruned}
-use Rattle.sval_filter.specs.Serves.{Due, a_text, is_bad_line, is_bad_call, is_unfinished, up_to_key, up_to_number, filter_terms}
+use Rattle.sval_filter.specs.Serves.{FilterDue, a_text, is_bad_line, is_bad_call, is_unfinished, up_to_key, up_to_number, filter_terms}
 use Rattle.sval_filter.specs.Verdict.{Verdict, BadLine, BadCall, Unfinished, Whole, IsWritten, AreUnfinished, SpellWhole, IsOfCalls, OfCalls, IsVerdict}
 
 -- ---- of a tree
@@ -54,12 +54,12 @@ not_viable calls n a u = none_bad calls a.front a.rest a.call a.whole u.viable a
 not_whole : (calls : List Call) (n : ℕ) (tree : Tree) → IsFirstBadCall calls n → Spells calls tree → ⊥
 not_whole calls n tree a s = none_bad calls a.front a.rest a.call a.whole (spelling_is_viable calls tree s) a.bad
 
-one_whole : (calls : List Call) (asked : Asked) (refused other : Option Refusal) (bytes more : List ℕ) → SpellWhole refused bytes asked calls → SpellWhole other more asked calls → Whole refused bytes ≡ Whole other more
+one_whole : (calls : List Call) (asked : FilterForm) (refused other : Option Refusal) (bytes more : List ℕ) → SpellWhole refused bytes asked calls → SpellWhole other more asked calls → Whole refused bytes ≡ Whole other more
 one_whole calls asked refused other bytes more a b =
     one_written refused other bytes more (pruned asked.0 asked.1 b.tree)
     (subst (λ (tree : Tree). IsWritten refused bytes (pruned asked.0 asked.1 tree)) (spells_one calls a.tree b.tree a.spells b.spells) a.is) b.is
 
-one_of_calls : (v w : Verdict) (asked : Asked) (calls : List Call) → IsOfCalls v asked calls → IsOfCalls w asked calls → v ≡ w
+one_of_calls : (v w : Verdict) (asked : FilterForm) (calls : List Call) → IsOfCalls v asked calls → IsOfCalls w asked calls → v ≡ w
 one_of_calls (BadLine n) w asked calls a b = absurd a
 one_of_calls v (BadLine n) asked calls a b = absurd b
 one_of_calls (BadCall n) (BadCall m) asked calls a b = ap BadCall (one_number calls n m a b)
@@ -83,10 +83,10 @@ bad_or_good e f = let both = sym e ∙ f in cc both
 one_bad : {found : Lines} {n m : ℕ} → found ≡ Bad n → found ≡ Bad m → n ≡ m
 one_bad e f = let both = sym e ∙ f in cc both
 
-one_of_lines : (v w : Verdict) (script : List ℕ) (asked : Asked) → OfCalls v script asked → OfCalls w script asked → v ≡ w
+one_of_lines : (v w : Verdict) (script : List ℕ) (asked : FilterForm) → OfCalls v script asked → OfCalls w script asked → v ≡ w
 one_of_lines v w script asked a b = one_of_calls v w asked a.calls a.is (subst (IsOfCalls w asked) (same_calls a.good b.good) b.is)
 
-one_verdict : (v w : Verdict) (script : List ℕ) (asked : Asked) → IsVerdict v script asked → IsVerdict w script asked → v ≡ w
+one_verdict : (v w : Verdict) (script : List ℕ) (asked : FilterForm) → IsVerdict v script asked → IsVerdict w script asked → v ≡ w
 one_verdict (BadLine n) (BadLine m) script asked a b = ap BadLine (one_bad a b)
 one_verdict (BadLine n) (BadCall m) script asked a b = absurd (bad_or_good a b.good)
 one_verdict (BadLine n) Unfinished script asked a b = absurd (bad_or_good a b.good)
@@ -110,7 +110,7 @@ some_written : (tree : Tree) (found : Result Json Refusal) → json_of tree ≡ 
 some_written tree (Ok json) shape = (None, compact json, record { json = json; shape = shape; is_text = refl })
 some_written tree (Err why) shape = (Some why, (written_in Inside (calls_of tree)).written, record { shape = shape; is_written = refl })
 
-some_of_calls : (script : List ℕ) (asked : Asked) (calls : List Call) → lines script ≡ Good calls → Found calls → (answer : Verdict) × IsVerdict answer script asked
+some_of_calls : (script : List ℕ) (asked : FilterForm) (calls : List Call) → lines script ≡ Good calls → Found calls → (answer : Verdict) × IsVerdict answer script asked
 some_of_calls script asked calls good (found_bad front call rest whole before bad) = (
   BadCall _,
   record { calls = calls; good = good; is = record { front = front; call = call; rest = rest; whole = whole; before = before; bad = bad; number = refl } },
@@ -121,7 +121,7 @@ some_of_calls script asked calls good (found_whole tree spells) =
     let (refused, bytes, is) = some_written left (json_of left) refl in
     (Whole refused bytes, record { calls = calls; good = good; is = record { tree = tree; spells = spells; is = is } })
 
-some_of_lines : (script : List ℕ) (asked : Asked) (read : Lines) → lines script ≡ read → (answer : Verdict) × IsVerdict answer script asked
+some_of_lines : (script : List ℕ) (asked : FilterForm) (read : Lines) → lines script ≡ read → (answer : Verdict) × IsVerdict answer script asked
 some_of_lines script asked (Bad n) bad = (BadLine n, bad)
 some_of_lines script asked (Good calls) good = some_of_calls script asked calls good (found calls)
 
@@ -140,13 +140,13 @@ due_of (Whole (Some InvalidKey) written) = (Some fault.InvalidKey, written)
 due_of (Whole (Some InvalidNumber) written) = (Some fault.InvalidNumber, written)
 
 -- they are those that a verdict of the script asks for
-record HasVerdictFor (asked : Asked) (script : List ℕ) (found : Option Fault) (bytes : List ℕ) : Type 0 where
+record HasVerdictFor (asked : FilterForm) (script : List ℕ) (found : Option Fault) (bytes : List ℕ) : Type 0 where
   pub answer : Verdict
   pub is : IsVerdict answer script asked
   pub same_fault : found ≡ (due_of answer).0
   pub same_bytes : bytes ≡ (due_of answer).1
 
-verdict_for : {asked : Asked} {script bytes : List ℕ} (found : Option Fault) → Due asked script found bytes → HasVerdictFor asked script found bytes
+verdict_for : {asked : FilterForm} {script bytes : List ℕ} (found : Option Fault) → FilterDue asked script found bytes → HasVerdictFor asked script found bytes
 verdict_for _ (a_text {text = text} is) = record { answer = Whole None text; is = is; same_fault = refl; same_bytes = refl }
 verdict_for _ (is_bad_line {line = line} is) = record { answer = BadLine line; is = is; same_fault = refl; same_bytes = refl }
 verdict_for _ (is_bad_call {line = line} is) = record { answer = BadCall line; is = is; same_fault = refl; same_bytes = refl }

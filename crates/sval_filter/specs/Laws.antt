@@ -9,7 +9,7 @@ use Rattle.sval_core.specs.Values.{makes}
 use Rattle.sval_filter.specs.Paths.{Path, Rule, Drop}
 use Rattle.sval_filter.specs.Pruned.{pruned}
 use Rattle.sval_filter.specs.Filtering.{fresh, all_due}
-use Rattle.sval_filter.specs.Forms.{Asked}
+use Rattle.sval_filter.specs.Forms.{FilterForm}
 use Rattle.sval_filter.specs.FilterLaw.{FilterView, new_filter, filter_standing, AcceptsAll, IsFilterLeft, filter_law, Took}
 use Rattle.sval_filter.specs.Verdict.{Verdict, IsVerdict}
 use Rattle.sval_check.specs.Checked.{StandsFor}
@@ -55,7 +55,7 @@ RefusesWithCause {V} law =
 
 -- whatever is asked for, each script has one verdict, and no second one
 abbrev pub OneVerdict : Type 0
-OneVerdict = (script : List ℕ) (asked : Asked) → (answer : Verdict) × IsVerdict answer script asked × ((other : Verdict) → IsVerdict other script asked → answer ≡ other)
+OneVerdict = (script : List ℕ) (asked : FilterForm) → (answer : Verdict) × IsVerdict answer script asked × ((other : Verdict) → IsVerdict other script asked → answer ≡ other)
 
 -- whatever calls a new filter took, they can be completed, and its state is the one that they keep
 abbrev pub StandsForTaken : {V : Type 0} → Law V → Type 0

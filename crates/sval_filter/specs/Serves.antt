@@ -13,7 +13,7 @@ use Rattle.sval_program.specs.declared.failure.Failure.TheVariants as failure
 use Rattle.sval_program.specs.declared.status.TheConstants.{BAD_LINE, BAD_CALL, UNFINISHED, INVALID_KEY, INVALID_NUMBER}
 use Rattle.sval_program.specs.Jobs.{Terms}
 use Rattle.sval_script.specs.Lines.{Good, lines}
-use Rattle.sval_filter.specs.Forms.{Asked}
+use Rattle.sval_filter.specs.Forms.{FilterForm}
 use Rattle.sval_filter.specs.Pruning.{IsPruned}
 use Rattle.sval_filter.specs.Verdict.{BadLine, BadCall, Unfinished, Whole, IsVerdict}
 use Rattle.sval_filter.specs.Words.{rule_and_paths}
@@ -21,19 +21,19 @@ use Rattle.sval_filter.specs.Words.{rule_and_paths}
 -- ---- what is due of a script
 
 -- by its verdict: the text of what is left, what is written of that up to a refusal, or no bytes before a fault of the script
-pub data Due : Asked → List ℕ → Option Fault → List ℕ → Type 0 where
-  a_text : {asked : Asked} {script text : List ℕ} → IsVerdict (Whole None text) script asked → Due asked script None text
-  is_bad_line : {asked : Asked} {script : List ℕ} {line : ℕ} → IsVerdict (BadLine line) script asked → Due asked script (Some (fault.BadLine line)) []
-  is_bad_call : {asked : Asked} {script : List ℕ} {line : ℕ} → IsVerdict (BadCall line) script asked → Due asked script (Some (fault.BadCall line)) []
-  is_unfinished : {asked : Asked} {script : List ℕ} → IsVerdict Unfinished script asked → Due asked script (Some (fault.Unfinished false)) []
-  up_to_key : {asked : Asked} {script written : List ℕ} → IsVerdict (Whole (Some InvalidKey) written) script asked → Due asked script (Some fault.InvalidKey) written
-  up_to_number : {asked : Asked} {script written : List ℕ} → IsVerdict (Whole (Some InvalidNumber) written) script asked → Due asked script (Some fault.InvalidNumber) written
+pub data FilterDue : FilterForm → List ℕ → Option Fault → List ℕ → Type 0 where
+  a_text : {asked : FilterForm} {script text : List ℕ} → IsVerdict (Whole None text) script asked → FilterDue asked script None text
+  is_bad_line : {asked : FilterForm} {script : List ℕ} {line : ℕ} → IsVerdict (BadLine line) script asked → FilterDue asked script (Some (fault.BadLine line)) []
+  is_bad_call : {asked : FilterForm} {script : List ℕ} {line : ℕ} → IsVerdict (BadCall line) script asked → FilterDue asked script (Some (fault.BadCall line)) []
+  is_unfinished : {asked : FilterForm} {script : List ℕ} → IsVerdict Unfinished script asked → FilterDue asked script (Some (fault.Unfinished false)) []
+  up_to_key : {asked : FilterForm} {script written : List ℕ} → IsVerdict (Whole (Some InvalidKey) written) script asked → FilterDue asked script (Some fault.InvalidKey) written
+  up_to_number : {asked : FilterForm} {script written : List ℕ} → IsVerdict (Whole (Some InvalidNumber) written) script asked → FilterDue asked script (Some fault.InvalidNumber) written
 
 -- what the program does
-abbrev pub filter_terms : Terms Asked
+abbrev pub filter_terms : Terms FilterForm
 filter_terms = record {
   form_named = rule_and_paths;
-  Due = Due;
+  Due = FilterDue;
   reads = λ form. true;
   partly = λ form. false;
   faults = BAD_LINE ∷ BAD_CALL ∷ UNFINISHED ∷ INVALID_KEY ∷ INVALID_NUMBER ∷ [];
@@ -44,7 +44,7 @@ filter_terms = record {
 -- ---- writing what is due
 
 -- the script's lines are calls of a whole value, and the replay of this forest spells what the rule and the paths leave of it
-pub record IsLeftOf (left : Forest) (script : List ℕ) (asked : Asked) : Type 0 where
+pub record IsLeftOf (left : Forest) (script : List ℕ) (asked : FilterForm) : Type 0 where
   pub calls : List Call
   pub good : lines script ≡ Good calls
   pub is : IsPruned (makes calls) asked.0 asked.1 left

@@ -10,7 +10,7 @@ use Rattle.sval_json.specs.Shape.{json_of}
 use Rattle.sval_json.specs.Steps.{written_in}
 use Rattle.sval_json.specs.declared.style.Variants.TheVariants.{Inside}
 use Rattle.sval_script.specs.Lines.{Good, Bad, lines}
-use Rattle.sval_filter.specs.Forms.{Asked}
+use Rattle.sval_filter.specs.Forms.{FilterForm}
 use Rattle.sval_filter.specs.Pruned.{pruned}
 
 -- the first bad line, or the first call that no value goes on with, each counted from 1; calls that are no whole value; or a value, of
@@ -43,25 +43,25 @@ IsWritten None bytes tree = IsJson bytes tree
 IsWritten (Some why) bytes tree = IsCutAt why bytes tree
 
 -- the calls spell a tree, and this is written of what the rule and the paths leave of it
-pub record SpellWhole (refused : Option Refusal) (bytes : List ℕ) (asked : Asked) (calls : List Call) : Type 0 where
+pub record SpellWhole (refused : Option Refusal) (bytes : List ℕ) (asked : FilterForm) (calls : List Call) : Type 0 where
   pub tree : Tree
   pub spells : Spells calls tree
   pub is : IsWritten refused bytes (pruned asked.0 asked.1 tree)
 
 -- what calls give
-abbrev pub IsOfCalls : Verdict → Asked → List Call → Type 0
+abbrev pub IsOfCalls : Verdict → FilterForm → List Call → Type 0
 IsOfCalls (BadLine n) asked calls = ⊥
 IsOfCalls (BadCall n) asked calls = IsFirstBadCall calls n
 IsOfCalls Unfinished asked calls = AreUnfinished calls
 IsOfCalls (Whole refused bytes) asked calls = SpellWhole refused bytes asked calls
 
 -- the script's lines are calls, which give this
-pub record OfCalls (answer : Verdict) (script : List ℕ) (asked : Asked) : Type 0 where
+pub record OfCalls (answer : Verdict) (script : List ℕ) (asked : FilterForm) : Type 0 where
   pub calls : List Call
   pub good : lines script ≡ Good calls
   pub is : IsOfCalls answer asked calls
 
 -- this is the script's verdict
-abbrev pub IsVerdict : Verdict → List ℕ → Asked → Type 0
+abbrev pub IsVerdict : Verdict → List ℕ → FilterForm → Type 0
 IsVerdict (BadLine n) script asked = lines script ≡ Bad n
 IsVerdict answer script asked = OfCalls answer script asked

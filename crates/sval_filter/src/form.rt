@@ -2,7 +2,7 @@
 
 ghost use Rattle.std.specs.Prelude.{◌≡◌, map, string_bytes, IfOk};
 ghost use Rattle.std.specs.List.{list_any};
-ghost use Rattle.sval_filter.specs.Forms.{form_of};
+ghost use Rattle.sval_filter.specs.Forms.{filter_form_of};
 ghost use Rattle.sval_filter.specs.Paths.{labels_of, is_bad_word};
 ghost use Rattle.sval_filter.specs.Words.{rule_of};
 
@@ -21,9 +21,9 @@ pub(crate) struct Form<'a> {
 }
 
 impl<'a> Model for Form<'a> {
-    ghost use Rattle.sval_filter.specs.Forms.{Asked, asked_by};
+    ghost use Rattle.sval_filter.specs.Forms.{FilterForm, asked_by};
 
-    ghost Value = { Asked };
+    ghost Value = { FilterForm };
 
     ghost view = { λ form. asked_by form.rule form.words.now };
 }
@@ -54,7 +54,7 @@ fn is_some_bad(words: &[String]) -> bool
 /// What the program's words ask for, if they are a form: `drop` or `keep`, and one or more words none of whose pieces
 /// between dots is empty. No path is made yet.
 pub(crate) fn named_form<'a>(words: &'a [String]) -> Option<Form<'a>>
-    ensures { result ≡ form_of words.now }
+    ensures { result ≡ filter_form_of words.now }
 {
     let (rule, words) = words.split_first()?;
     if words.is_empty() || is_some_bad(words) {

@@ -13,9 +13,9 @@ use sval_program::{Failure, Job, Line};
 pub struct FilterFields;
 
 impl Job for FilterFields {
-    ghost use Rattle.sval_filter.specs.Forms.{Asked};
+    ghost use Rattle.sval_filter.specs.Forms.{FilterForm};
 
-    ghost Form = { Asked };
+    ghost Form = { FilterForm };
 
     ghost terms = { filter_terms };
 

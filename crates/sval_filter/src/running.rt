@@ -7,7 +7,7 @@ ghost use Rattle.sval_check.specs.Checks.{IsOneValue};
 ghost use Rattle.sval_program.specs.Jobs.{ServesBytes, ServesInput, Serves};
 ghost use Rattle.sval_program.specs.Runs.{Ends, Reports};
 ghost use Rattle.sval_script.specs.Lines.{lines, Good};
-ghost use Rattle.sval_filter.specs.Forms.{Asked};
+ghost use Rattle.sval_filter.specs.Forms.{FilterForm};
 ghost use Rattle.sval_filter.specs.Pruning.{IsPruned, IsPruneWant};
 ghost use Rattle.sval_filter.specs.Serves.{filter_terms, IsLeftOf, failure_of_check};
 
@@ -48,7 +48,7 @@ fn left_of<'v>(alloc: Global, form: &Form<'_>, script: &'v Script) -> Result<Val
 
 /// Writes the JSON of what is left of a script's value.
 fn write_json<K: Sink>(left: &Value<'_>, out: &mut K) -> Result<(), Failure>
-    ensures { (bytes : List ℕ) (asked : Asked) → IsLeftOf (forest_in left.now) bytes asked
+    ensures { (bytes : List ℕ) (asked : FilterForm) → IsLeftOf (forest_in left.now) bytes asked
         → ServesBytes filter_terms K.told asked bytes result out.old out.new }
 {
     match stream_to_io_write(out, left) {

@@ -21,7 +21,7 @@ use Rattle.sval_json_read.specs.declared.document.ReadError.TheVariants as readi
 use Rattle.sval_json_read.specs.declared.form.Form.{Form}
 use Rattle.sval_json_read.specs.declared.form.Form.TheVariants as form
 use Rattle.sval_json_read.specs.Documents.{IsBadJson}
-use Rattle.sval_json_read.specs.Forms.{form_named}
+use Rattle.sval_json_read.specs.Forms.{json_read_form}
 use Rattle.sval_json_read.specs.Trees.{tree_of, settled}
 
 -- ---- what is due of a value
@@ -49,22 +49,22 @@ pub record IsJsonTextDue (text input : List ℕ) (asked : Form) : Type 0 where
   pub is : IsTextOfValue asked value text
 
 -- what is due of an input: the text of its value, or the fault that it has, before which nothing is written
-pub data Due : Form → List ℕ → Option Fault → List ℕ → Type 0 where
-  a_text : {asked : Form} {input text : List ℕ} → IsJsonTextDue text input asked → Due asked input None text
-  no_utf8 : {asked : Form} {input : List ℕ} → (IsUtf8 input → ⊥) → Due asked input (Some fault.NotUtf8) []
-  no_json : {asked : Form} {input : List ℕ} {at : ℕ} → IsBadJson input at → Due asked input (Some (fault.BadJson at)) []
+pub data JsonReadDue : Form → List ℕ → Option Fault → List ℕ → Type 0 where
+  a_text : {asked : Form} {input text : List ℕ} → IsJsonTextDue text input asked → JsonReadDue asked input None text
+  no_utf8 : {asked : Form} {input : List ℕ} → (IsUtf8 input → ⊥) → JsonReadDue asked input (Some fault.NotUtf8) []
+  no_json : {asked : Form} {input : List ℕ} {at : ℕ} → IsBadJson input at → JsonReadDue asked input (Some (fault.BadJson at)) []
 
 -- the failure where bytes weren't read
-abbrev pub failure_of : ReadError → Failure
-failure_of reading.NotUtf8 = failure.Fault fault.NotUtf8
-failure_of (reading.BadJson at) = failure.Fault (fault.BadJson at)
-failure_of reading.NoMemory = failure.NoMemory
+abbrev pub failure_of_json_read : ReadError → Failure
+failure_of_json_read reading.NotUtf8 = failure.Fault fault.NotUtf8
+failure_of_json_read (reading.BadJson at) = failure.Fault (fault.BadJson at)
+failure_of_json_read reading.NoMemory = failure.NoMemory
 
 -- what the program does
-abbrev pub read_terms : Terms Form
-read_terms = record {
-  form_named = form_named;
-  Due = Due;
+abbrev pub json_read_terms : Terms Form
+json_read_terms = record {
+  form_named = json_read_form;
+  Due = JsonReadDue;
   reads = λ form. true;
   partly = λ form. false;
   faults = NOT_UTF8 ∷ BAD_JSON ∷ [];

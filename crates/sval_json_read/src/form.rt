@@ -1,7 +1,7 @@
 //! The forms of the program's words.
 
 ghost use Rattle.std.specs.Prelude.{◌≡◌, map, string_bytes};
-ghost use Rattle.sval_json_read.specs.Forms.{form_by, form_named};
+ghost use Rattle.sval_json_read.specs.Forms.{json_read_form_by, json_read_form};
 
 /// What is written of the value that an input denotes.
 #[derive(Clone, Copy)]
@@ -14,7 +14,7 @@ pub(crate) enum Form {
 
 /// The form that a word names.
 fn named(word: &str) -> Option<Form>
-    ensures { result ≡ form_by word.now }
+    ensures { result ≡ json_read_form_by word.now }
 {
     match word {
         "json" => Some(Form::Json),
@@ -25,7 +25,7 @@ fn named(word: &str) -> Option<Form>
 
 /// The form that the program's words are, if they are one.
 pub(crate) fn named_form(words: &[String]) -> Option<Form>
-    ensures { result ≡ form_named (map string_bytes words.now) }
+    ensures { result ≡ json_read_form (map string_bytes words.now) }
 {
     match words {
         [word] => named(word.as_str()),

@@ -2,7 +2,7 @@
 
 ghost use Rattle.sval_program.specs.Jobs.{OneDue};
 ghost use Rattle.sval_json_read.specs.Laws.{TreesAreReal, TreesArePrintable, WrittenAgainSettles, PiecesAreTheText, RunsAreLongest, JsonDocumentsSpell, NodesMakeTheCalls, NodesSpell, TokensAreProper, OneDocument, ReadsTheDocuments, RefusesTheOthers, IsReadOrBad, NotBoth, StopsWhereTheyFail, FailsAtOnePlace};
-ghost use Rattle.sval_json_read.specs.Serves.{read_terms};
+ghost use Rattle.sval_json_read.specs.Serves.{json_read_terms};
 
 /// What holds of all texts that denote a value.
 pub fn document_laws()
@@ -20,7 +20,7 @@ pub fn document_laws()
 
 /// What holds of the machine at all bytes. Whatever the words ask for, at most one thing is due of an input (`one_due`).
 pub fn reading_laws()
-    ensures one_due { OneDue read_terms }
+    ensures one_due { OneDue json_read_terms }
     ensures reads_the_documents { ReadsTheDocuments }
     ensures refuses_the_others { RefusesTheOthers }
     ensures is_read_or_bad { IsReadOrBad }

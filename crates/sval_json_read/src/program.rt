@@ -1,6 +1,6 @@
 //! The program, as a job.
 
-ghost use Rattle.sval_json_read.specs.Serves.{read_terms};
+ghost use Rattle.sval_json_read.specs.Serves.{json_read_terms};
 
 use crate::document::ReadError;
 use crate::form::named_form;
@@ -11,9 +11,9 @@ use sval_program::{Failure, Fault, Job, Line};
 
 impl From<ReadError> for Failure {
     ghost use Rattle.std.specs.Prelude.{◌≡◌};
-    ghost use Rattle.sval_json_read.specs.Serves.{failure_of};
+    ghost use Rattle.sval_json_read.specs.Serves.{failure_of_json_read};
 
-    ghost from_gives = { λ error failure. failure ≡ failure_of error };
+    ghost from_gives = { λ error failure. failure ≡ failure_of_json_read error };
 
     fn from(error: ReadError) -> Failure {
         match error {
@@ -33,7 +33,7 @@ impl Job for ReadJson {
 
     ghost Form = { Form };
 
-    ghost terms = { read_terms };
+    ghost terms = { json_read_terms };
 
     fn usage() -> Line {
         Line::text("usage: sval_json_read json|calls\n")

@@ -5,7 +5,7 @@ ghost use Rattle.sval_program.specs.Jobs.{ServesBytes, ServesInput, Serves};
 ghost use Rattle.sval_program.specs.Runs.{Ends, Reports};
 ghost use Rattle.sval_json_read.specs.Calls.{document_calls};
 ghost use Rattle.sval_json_read.specs.ReadErrors.{IsReadText};
-ghost use Rattle.sval_json_read.specs.Serves.{read_terms, WritesDueText};
+ghost use Rattle.sval_json_read.specs.Serves.{json_read_terms, WritesDueText};
 
 use crate::document::JsonDoc;
 use crate::form::{Form, named_form};
@@ -63,7 +63,7 @@ fn write_document<K: Sink>(
 /// Reads bytes, and writes what is asked for of the value that they denote.
 fn serve_bytes<K: Sink>(alloc: Global, form: Form, bytes: &[u8], out: &mut K) -> Result<(), Failure>
     requires { length bytes.now < 2 ^ 64 }
-    ensures { ServesBytes read_terms K.told form bytes.now result out.old out.new }
+    ensures { ServesBytes json_read_terms K.told form bytes.now result out.old out.new }
 {
     let doc = JsonDoc::read(alloc, bytes)?;
     Ok(write_document(alloc, form, &doc, out)?)
@@ -76,7 +76,7 @@ fn serve_input<I: Source, K: Sink>(
     input: &mut I,
     out: &mut K,
 ) -> Result<(), Failure>
-    ensures { ServesInput read_terms I.told K.told form result input.old input.new out.old out.new }
+    ensures { ServesInput json_read_terms I.told K.told form result input.old input.new out.old out.new }
 {
     let bytes = read_input(alloc, input)?;
     serve_bytes(alloc, form, bytes.as_slice(), out)
@@ -89,7 +89,7 @@ pub(crate) fn serve<I: Source, K: Sink>(
     input: &mut I,
     out: &mut K,
 ) -> Result<(), Failure>
-    ensures { Serves read_terms I.told K.told (map string_bytes words.now) result
+    ensures { Serves json_read_terms I.told K.told (map string_bytes words.now) result
         input.old input.new out.old out.new }
 {
     match named_form(words) {
@@ -108,7 +108,7 @@ pub(crate) fn serve<I: Source, K: Sink>(
 /// isn't 0, one line is written to `diag` that says why. Whatever `diag` answers, the status and what is left of the
 /// input and the output are such as [`work`](sval_program::job::work) may give, which has no `diag`.
 ///
-/// What is due is `Due` of `read_terms`, and of an input it is one thing at most
+/// What is due is `Due` of `json_read_terms`, and of an input it is one thing at most
 /// ([`reading_laws`](crate::laws::reading_laws)). `Ends` says when each status comes and what is left of the devices, and
 /// `Reports` which line is told.
 ///
@@ -142,9 +142,9 @@ pub fn run_read<I: Source, K: Sink, D: Sink>(
     out: &mut K,
     diag: &mut D,
 ) -> u8
-    ensures ends { Ends read_terms I.told K.told (map string_bytes words.now) input.old input.new
+    ensures ends { Ends json_read_terms I.told K.told (map string_bytes words.now) input.old input.new
         out.old out.new result }
-    ensures reports { Reports read_terms I.told K.told (map string_bytes words.now) input.old input.new
+    ensures reports { Reports json_read_terms I.told K.told (map string_bytes words.now) input.old input.new
         out.old out.new (D.told diag.old) (D.told diag.new) result }
 {
     run::<ReadJson, I, K, D>(alloc, words, input, out, diag)

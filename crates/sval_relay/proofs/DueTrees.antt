@@ -29,8 +29,8 @@ use Rattle.sval_relay.specs.declared.way.Form.TheVariants.{Serve}
 use Rattle.sval_relay.specs.declared.relaying.RelayError.{RelayError}
 use Rattle.sval_relay.specs.declared.relaying.RelayError.TheVariants as answer
 use Rattle.sval_relay.specs.Relays.{TellsValue, IsMeant, AreMeant, MeansAll}
-use Rattle.sval_relay.specs.Serves.{Due, a_text, up_to_key, up_to_number, relay_terms, failure_of, ended_by}
-use Rattle.sval_relay.specs.Verdict.{Asked, JsonIn, Script, tree_text, asked_in, ending, texts, left, one_in, all_in, SpellTrees}
+use Rattle.sval_relay.specs.Serves.{RelayDue, a_text, up_to_key, up_to_number, relay_terms, failure_of_relay, ended_by}
+use Rattle.sval_relay.specs.Verdict.{TreeFormat, JsonIn, Script, tree_text, asked_in, ending, texts, left, one_in, all_in, SpellTrees}
 use Rattle.sval_relay.specs.Ways.{is_captured, is_partly_for}
 use Rattle.sval_relay.specs.WrittenTrees.{IsCauseAmong, WritesTrees, WritesTreeBy, WritesListIn, IsWantOfTree, IsWantAmong, AreTrees}
 use Rattle.sval_relay.proofs.LeftTexts.{texts_left}
@@ -50,11 +50,11 @@ json_means style tree text p promises e = by_json (json_in style tree) refl e
         record { json = json; shape = shape; is_text = sym same; value = means.0; is = means.1 }
     by_json (Err why) shape is = absurd (cc is)
 
-tree_means : (asked : Asked) (tree : Tree) (text : List ℕ) → IsPrintable tree → tree_text asked tree ≡ Ok text → IsMeant asked tree text
+tree_means : (asked : TreeFormat) (tree : Tree) (text : List ℕ) → IsPrintable tree → tree_text asked tree ≡ Ok text → IsMeant asked tree text
 tree_means (JsonIn style) tree text p e = λ promises. json_means style tree text p promises e
 tree_means Script tree text p e = let same : canon tree ≡ text = cc e in subst (λ text. lines text ≡ Good (calls_of tree)) same (canon-reads_back tree p)
 
-trees_mean : (asked : Asked) (end : List ℕ) (trees : List Tree) (text : List ℕ) → AllByRecursion IsPrintable trees → texts asked end trees ≡ Ok text → AreMeant asked end trees text
+trees_mean : (asked : TreeFormat) (end : List ℕ) (trees : List Tree) (text : List ℕ) → AllByRecursion IsPrintable trees → texts asked end trees ≡ Ok text → AreMeant asked end trees text
 trees_mean asked end [] text p e = let same : [] ≡ text = cc e in sym same
 trees_mean asked end (tree ∷ trees) text p e = by_texts (tree_text asked tree) (texts asked end trees) refl refl e (λ more h. trees_mean asked end trees more p.1 h)
   where
@@ -70,7 +70,7 @@ trees_mean asked end (tree ∷ trees) text p e = by_texts (tree_text asked tree)
 -- the bytes are due, and something may be written of them
 record IsDue (task : Task) (script bytes : List ℕ) : Type 0 where
   pub found : Option Fault
-  pub due : Due (Serve task) script found bytes
+  pub due : RelayDue (Serve task) script found bytes
   pub may : may_write relay_terms found ≡ true
 
 module _ (script : List ℕ) (task : Task) (calls : List Call) (trees : List Tree) (is : lines script ≡ Good calls) (spell : SpellTrees task.many calls trees) (printable : AllByRecursion IsPrintable trees) where
@@ -88,7 +88,7 @@ module _ (script : List ℕ) (task : Task) (calls : List Call) (trees : List Tre
       by_texts : (found : Result (List ℕ) Refusal) → texts (asked_in task.way) (ending (asked_in task.way) task.many) trees ≡ found → IsDue task script (left (asked_in task.way) (ending (asked_in task.way) task.many) trees)
       by_texts (Ok text) e =
           let same = texts_left (asked_in task.way) (ending (asked_in task.way) task.many) trees text e in
-          record { found = None; due = subst (Due (Serve task) script None) (sym same) (a_text (verdict_of script task calls trees is spell (Ok text) e) (means text e)); may = refl }
+          record { found = None; due = subst (RelayDue (Serve task) script None) (sym same) (a_text (verdict_of script task calls trees is spell (Ok text) e) (means text e)); may = refl }
       by_texts (Err InvalidKey) e = record { found = Some fault.InvalidKey; due = up_to_key (verdict_of script task calls trees is spell (Err InvalidKey) e); may = refl }
       by_texts (Err InvalidNumber) e = record { found = Some fault.InvalidNumber; due = up_to_number (verdict_of script task calls trees is spell (Err InvalidNumber) e); may = refl }
 
@@ -107,7 +107,7 @@ module _ (script : List ℕ) (task : Task) (calls : List Call) (trees : List Tre
     }
     trees_served Want (Err why) w wants = by_cause why w.cause
       where
-        by_cause : (e : RelayError) → IsCauseAmong e Want told (asked_in task.way) (ending (asked_in task.way) task.many) trees old new → ServesBytes relay_terms told (Serve task) script (Err (failure_of task.many e)) old new
+        by_cause : (e : RelayError) → IsCauseAmong e Want told (asked_in task.way) (ending (asked_in task.way) task.many) trees old new → ServesBytes relay_terms told (Serve task) script (Err (failure_of_relay task.many e)) old new
         by_cause (answer.BadLine n) c = absurd c
         by_cause (answer.BadCall n) c = absurd c
         by_cause answer.Unfinished c = absurd c

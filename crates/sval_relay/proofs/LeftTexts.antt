@@ -17,13 +17,13 @@ use Rattle.sval_json.specs.Steps.{written_in}
 use Rattle.sval_json.proofs.WrittenOnce.{written_once}
 use Rattle.sval_json.proofs.WritingPlain.{spelling_written}
 use Rattle.sval_script.specs.Lines.{Lines, Good, Bad, lines}
-use Rattle.sval_relay.specs.Verdict.{Verdict, BadLine, BadCall, Unfinished, Key, Number, Text, Asked, JsonIn, tree_text, tree_written, with_text, left, ending, texts, text_verdict, SpellTrees, IsOfCalls, bad_call, unfinished, whole, IsOfLines, IsVerdictOn}
+use Rattle.sval_relay.specs.Verdict.{RelayVerdict, BadLine, BadCall, Unfinished, Key, Number, Text, TreeFormat, JsonIn, tree_text, tree_written, with_text, left, ending, texts, text_verdict, SpellTrees, IsOfRelayCalls, bad_call, unfinished, whole, IsOfLines, IsVerdictOn}
 use Rattle.sval_relay.specs.Leavings.{with_rest, written_slices, IsLeftByCalls, IsLeftByLines, IsLeft}
 use Rattle.sval_relay.proofs.Verdicts.{Found, found_bad, found_open, found_whole, found, one_spelled, not_whole}
 
 -- ---- the texts of trees that are not refused are what they leave
 
-pub texts_left : (asked : Asked) (end : List ℕ) (trees : List Tree) (text : List ℕ) → texts asked end trees ≡ Ok text → left asked end trees ≡ text
+pub texts_left : (asked : TreeFormat) (end : List ℕ) (trees : List Tree) (text : List ℕ) → texts asked end trees ≡ Ok text → left asked end trees ≡ text
 texts_left asked end [] text e = let same : [] ≡ text = cc e in same
 texts_left asked end (tree ∷ trees) text e = by_tree (λ more h. texts_left asked end trees more h) (tree_text asked tree) (texts asked end trees) refl e
   where
@@ -35,32 +35,32 @@ texts_left asked end (tree ∷ trees) text e = by_tree (λ more h. texts_left as
 
 -- ---- one text is left
 
-left_by_whole : (asked : Asked) (many : Bool) (calls : List Call) (trees : List Tree) → SpellTrees many calls trees → IsLeftByCalls asked many calls (left asked (ending asked many) trees)
+left_by_whole : (asked : TreeFormat) (many : Bool) (calls : List Call) (trees : List Tree) → SpellTrees many calls trees → IsLeftByCalls asked many calls (left asked (ending asked many) trees)
 left_by_whole asked many calls trees s = ((λ others t. ap (left asked (ending asked many)) (one_spelled many calls trees others s t)), (λ none. absurd (none trees s)))
 
-left_by_none : (asked : Asked) (many : Bool) (calls : List Call) → ((trees : List Tree) → SpellTrees many calls trees → ⊥) → IsLeftByCalls asked many calls []
+left_by_none : (asked : TreeFormat) (many : Bool) (calls : List Call) → ((trees : List Tree) → SpellTrees many calls trees → ⊥) → IsLeftByCalls asked many calls []
 left_by_none asked many calls none = ((λ trees s. absurd (none trees s)), (λ n. refl))
 
-left_by_found : (asked : Asked) (many : Bool) (calls : List Call) → Found many calls
+left_by_found : (asked : TreeFormat) (many : Bool) (calls : List Call) → Found many calls
     → (bytes : List ℕ) × IsLeftByCalls asked many calls bytes × ((other : List ℕ) → IsLeftByCalls asked many calls other → bytes ≡ other)
 left_by_found asked many calls (found_bad front call rest e v n) =
     let none = not_whole many calls front rest call e n in ([], left_by_none asked many calls none, λ other h. sym (h.1 none))
 left_by_found asked many calls (found_open v none) = ([], left_by_none asked many calls none, λ other h. sym (h.1 none))
 left_by_found asked many calls (found_whole trees s) = (left asked (ending asked many) trees, left_by_whole asked many calls trees s, λ other h. sym (h.0 trees s))
 
-left_by_lines : (asked : Asked) (many : Bool) (read : Lines)
+left_by_lines : (asked : TreeFormat) (many : Bool) (read : Lines)
     → (bytes : List ℕ) × IsLeftByLines asked many read bytes × ((other : List ℕ) → IsLeftByLines asked many read other → bytes ≡ other)
 left_by_lines asked many (Bad n) = ([], refl, λ other h. sym h)
 left_by_lines asked many (Good calls) = left_by_found asked many calls (found many calls)
 
-pub one_text_left : (script : List ℕ) (asked : Asked) (many : Bool)
+pub one_text_left : (script : List ℕ) (asked : TreeFormat) (many : Bool)
     → (bytes : List ℕ) × IsLeft asked many script bytes × ((other : List ℕ) → IsLeft asked many script other → bytes ≡ other)
 one_text_left script asked many = left_by_lines asked many (lines script)
 
 -- ---- it is the verdict's
 
 -- what is left by a verdict: its bytes, and nothing where values are not whole
-abbrev MayBeLeft : Verdict → List ℕ → Type 0
+abbrev MayBeLeft : RelayVerdict → List ℕ → Type 0
 MayBeLeft (Text text) bytes = bytes ≡ text
 MayBeLeft (BadLine n) bytes = bytes ≡ []
 MayBeLeft (BadCall n) bytes = bytes ≡ []
@@ -73,17 +73,17 @@ left_by_trees (Ok text) written bytes e h = e ∙ h text refl
 left_by_trees (Err InvalidKey) written bytes e h = e
 left_by_trees (Err InvalidNumber) written bytes e h = e
 
-left_by_calls : {calls : List Call} {asked : Asked} {many : Bool} {answer : Verdict} (bytes : List ℕ) → IsOfCalls calls asked many answer → IsLeftByCalls asked many calls bytes → MayBeLeft answer bytes
+left_by_calls : {calls : List Call} {asked : TreeFormat} {many : Bool} {answer : RelayVerdict} (bytes : List ℕ) → IsOfRelayCalls calls asked many answer → IsLeftByCalls asked many calls bytes → MayBeLeft answer bytes
 left_by_calls {calls} {many = many} bytes (bad_call front call rest e v n) h = h.1 (not_whole many calls front rest call e n)
 left_by_calls bytes (unfinished v none) h = h.1 none
 left_by_calls {asked = asked} {many = many} bytes (whole trees s) h =
     left_by_trees (texts asked (ending asked many) trees) (left asked (ending asked many) trees) bytes (h.0 trees s) (λ text e. texts_left asked (ending asked many) trees text e)
 
-left_by_answer : (read : Lines) (asked : Asked) (many : Bool) (answer : Verdict) (bytes : List ℕ) → IsOfLines read asked many answer → IsLeftByLines asked many read bytes → MayBeLeft answer bytes
+left_by_answer : (read : Lines) (asked : TreeFormat) (many : Bool) (answer : RelayVerdict) (bytes : List ℕ) → IsOfLines read asked many answer → IsLeftByLines asked many read bytes → MayBeLeft answer bytes
 left_by_answer (Bad n) asked many answer bytes v h = subst (λ x. MayBeLeft x bytes) (sym v) h
 left_by_answer (Good calls) asked many answer bytes v h = left_by_calls bytes v h
 
-pub left_by_verdict : (script bytes : List ℕ) (asked : Asked) (many : Bool) → IsLeft asked many script bytes
+pub left_by_verdict : (script bytes : List ℕ) (asked : TreeFormat) (many : Bool) → IsLeft asked many script bytes
     → ((text : List ℕ) → IsVerdictOn (Text text) script asked many → bytes ≡ text) × ((written : List ℕ) → IsVerdictOn (Key written) script asked many → bytes ≡ written)
     × ((written : List ℕ) → IsVerdictOn (Number written) script asked many → bytes ≡ written) × ((n : ℕ) → IsVerdictOn (BadLine n) script asked many → bytes ≡ [])
     × ((n : ℕ) → IsVerdictOn (BadCall n) script asked many → bytes ≡ []) × (IsVerdictOn Unfinished script asked many → bytes ≡ [])

@@ -10,21 +10,21 @@ use Rattle.sval_core.specs.Real.{IsPrintable}
 use Rattle.sval_core.specs.Spells.{Spells}
 use Rattle.sval_core.specs.Trees.{Tree}
 use Rattle.sval_io.specs.Sinks.{Told}
-use Rattle.sval_relay.specs.Verdict.{Asked}
+use Rattle.sval_relay.specs.Verdict.{TreeFormat}
 use Rattle.sval_relay.specs.WrittenTrees.{WritesTexts, AreTrees}
 use Rattle.sval_relay.proofs.ListTexts.{IsWrittenTo, none_written, one_written, all_written}
 
 -- so many calls of the list were served, and this is left: its calls, where its trees end, and the trees
-pub record IsServedTo (asked : Asked) (end : List ℕ) (trees : List Tree) (old now : Told) (past : ℕ) (calls : List Call) (ends : List ℕ) : Type 0 where
+pub record IsServedTo (asked : TreeFormat) (end : List ℕ) (trees : List Tree) (old now : Told) (past : ℕ) (calls : List Call) (ends : List ℕ) : Type 0 where
   pub rest : List Tree
   pub end_there : EndAfter past calls rest ends
   pub printable : AllByRecursion IsPrintable rest
   pub written : IsWrittenTo asked end trees old now rest
 
-pub served_none : (asked : Asked) (end : List ℕ) (told : Told) (calls : List Call) (ends : List ℕ) (trees : List Tree) → AreTrees calls ends trees → IsServedTo asked end trees told told 0 calls ends
+pub served_none : (asked : TreeFormat) (end : List ℕ) (told : Told) (calls : List Call) (ends : List ℕ) (trees : List Tree) → AreTrees calls ends trees → IsServedTo asked end trees told told 0 calls ends
 served_none asked end told calls ends trees are = record { rest = trees; end_there = are.end_there; printable = are.printable; written = none_written asked end trees told }
 
-pub served_all : {asked : Asked} {end : List ℕ} {trees : List Tree} {old now : Told} {past : ℕ} {calls : List Call} → IsServedTo asked end trees old now past calls [] → WritesTexts asked end trees old now
+pub served_all : {asked : TreeFormat} {end : List ℕ} {trees : List Tree} {old now : Told} {past : ℕ} {calls : List Call} → IsServedTo asked end trees old now past calls [] → WritesTexts asked end trees old now
 served_all {asked} {end} {trees} {old} {now} {past} {calls} so = by_rest so.rest so.end_there so.written
   where
     by_rest : (rest : List Tree) → EndAfter past calls rest [] → IsWrittenTo asked end trees old now rest → WritesTexts asked end trees old now
@@ -32,7 +32,7 @@ served_all {asked} {end} {trees} {old} {now} {past} {calls} so = by_rest so.rest
     by_rest (tree ∷ rest) (front, last, more, others, is, counts, spells, e, there) w = cc e
 
 -- the next tree, and what is left behind it
-pub record IsNext (asked : Asked) (end : List ℕ) (trees : List Tree) (old now : Told) (past : ℕ) (calls : List Call) (to : ℕ) (ends : List ℕ) : Type 0 where
+pub record IsNext (asked : TreeFormat) (end : List ℕ) (trees : List Tree) (old now : Told) (past : ℕ) (calls : List Call) (to : ℕ) (ends : List ℕ) : Type 0 where
   pub tree : Tree
   pub rest : List Tree
   pub later : past ≤ to
@@ -43,7 +43,7 @@ pub record IsNext (asked : Asked) (end : List ℕ) (trees : List Tree) (old now 
   pub end_there : EndAfter to (drop (to - past) calls) rest ends
   pub written : IsWrittenTo asked end trees old now (tree ∷ rest)
 
-next_of : {asked : Asked} {end : List ℕ} {trees : List Tree} {old now : Told} {past : ℕ} {calls : List Call} {to : ℕ} {ends : List ℕ} → IsServedTo asked end trees old now past calls (to ∷ ends)
+next_of : {asked : TreeFormat} {end : List ℕ} {trees : List Tree} {old now : Told} {past : ℕ} {calls : List Call} {to : ℕ} {ends : List ℕ} → IsServedTo asked end trees old now past calls (to ∷ ends)
     → IsNext asked end trees old now past calls to ends
 next_of {asked} {end} {trees} {old} {now} {past} {calls} {to} {ends} so = by_rest so.rest so.end_there so.printable so.written
   where
@@ -74,16 +74,16 @@ next_of {asked} {end} {trees} {old} {now} {past} {calls} {to} {ends} so = by_res
         }
 
 -- the same by the place of the end
-pub next_at : {asked : Asked} {end : List ℕ} {trees : List Tree} {old now : Told} {past : ℕ} {calls : List Call} (ends : List ℕ) (i : ℕ) → i < length ends
+pub next_at : {asked : TreeFormat} {end : List ℕ} {trees : List Tree} {old now : Told} {past : ℕ} {calls : List Call} (ends : List ℕ) (i : ℕ) → i < length ends
     → IsServedTo asked end trees old now past calls (drop i ends) → IsNext asked end trees old now past calls (get_or ends i 0) (drop (i + 1) ends)
 next_at {asked} {end} {trees} {old} {now} {past} {calls} ends i within so = next_of (subst (IsServedTo asked end trees old now past calls) (drop_more ends i 0 within) so)
 
 -- it was served
-pub served_next : {asked : Asked} {end : List ℕ} {trees : List Tree} {old mid now : Told} {past : ℕ} {calls : List Call} {to : ℕ} {ends : List ℕ} (next : IsNext asked end trees old mid past calls to ends)
+pub served_next : {asked : TreeFormat} {end : List ℕ} {trees : List Tree} {old mid now : Told} {past : ℕ} {calls : List Call} {to : ℕ} {ends : List ℕ} (next : IsNext asked end trees old mid past calls to ends)
     → WritesTexts asked end (next.tree ∷ []) mid now → IsServedTo asked end trees old now to (drop (to - past) calls) ends
 served_next next w = record { rest = next.rest; end_there = next.end_there; printable = next.rest_printable; written = one_written next.tree next.written w }
 
 -- none is left behind the last end
-pub served_to_end : {asked : Asked} {end : List ℕ} {trees : List Tree} {old now : Told} {past : ℕ} {calls : List Call} (ends : List ℕ) (i : ℕ) → length ends ≤ i
+pub served_to_end : {asked : TreeFormat} {end : List ℕ} {trees : List Tree} {old now : Told} {past : ℕ} {calls : List Call} (ends : List ℕ) (i : ℕ) → length ends ≤ i
     → IsServedTo asked end trees old now past calls (drop i ends) → WritesTexts asked end trees old now
 served_to_end {asked} {end} {trees} {old} {now} {past} {calls} ends i past_all so = served_all (subst (IsServedTo asked end trees old now past calls) (drop_all i ends past_all) so)

@@ -11,7 +11,7 @@ use Rattle.sval_json.specs.Number.{Refusal, InvalidKey, InvalidNumber}
 use Rattle.sval_json.specs.Shape.{on_ok, map_ok}
 use Rattle.sval_relay.specs.declared.relaying.RelayError.{RelayError}
 use Rattle.sval_relay.specs.declared.relaying.RelayError.TheVariants as answer
-use Rattle.sval_relay.specs.Verdict.{Asked, tree_text, tree_written, tree_due, due_of, with_text, texts, left}
+use Rattle.sval_relay.specs.Verdict.{TreeFormat, tree_text, tree_written, tree_due, due_of, with_text, texts, left}
 use Rattle.sval_relay.specs.Relays.{of_sink, IsMeant, AreMeant}
 use Rattle.sval_relay.specs.WrittenTrees.{IsWantOfTree, IsWantAmong, FailsFull, WritesTextOf, RefusesTree, IsCauseOf, StopsTree, WritesTreeText, WritesTexts, RefusesSome, IsCauseAmong, StopsAmong, WritesTrees}
 use Rattle.sval_program.proofs.Growing.{lacks_more}
@@ -30,7 +30,7 @@ mapped_twice : (f g : List ℕ → List ℕ) (r : Result (List ℕ) Refusal) →
 mapped_twice f g (Ok x) = refl
 mapped_twice f g (Err why) = refl
 
-module _ (asked : Asked) (end : List ℕ) where
+module _ (asked : TreeFormat) (end : List ℕ) where
   -- the first tree's text, with its ending, is in front of the others'
   texts_after : (tree : Tree) (rest : List Tree) (first : List ℕ) → texts asked end (tree ∷ []) ≡ Ok first → texts asked end (tree ∷ rest) ≡ map_ok (λ more. first ++ more) (texts asked end rest)
   texts_after tree rest first e = by_text (tree_text asked tree) e
@@ -77,7 +77,7 @@ module _ (asked : Asked) (end : List ℕ) where
 -- ---- so far
 
 -- of these trees all but the rest were written
-pub record IsWrittenTo (asked : Asked) (end : List ℕ) (trees : List Tree) (old now : Told) (rest : List Tree) : Type 0 where
+pub record IsWrittenTo (asked : TreeFormat) (end : List ℕ) (trees : List Tree) (old now : Told) (rest : List Tree) : Type 0 where
   pub front : List ℕ
   pub texts_so : texts asked end trees ≡ map_ok (λ more. front ++ more) (texts asked end rest)
   pub left_so : left asked end trees ≡ front ++ left asked end rest
@@ -89,7 +89,7 @@ same_mapped : (r : Result (List ℕ) Refusal) → r ≡ map_ok (λ more. [] ++ m
 same_mapped (Ok x) = refl
 same_mapped (Err why) = refl
 
-pub none_written : (asked : Asked) (end : List ℕ) (trees : List Tree) (told : Told) → IsWrittenTo asked end trees told told trees
+pub none_written : (asked : TreeFormat) (end : List ℕ) (trees : List Tree) (told : Told) → IsWrittenTo asked end trees told told trees
 none_written asked end trees told = record {
   front = [];
   texts_so = same_mapped (texts asked end trees);
@@ -99,7 +99,7 @@ none_written asked end trees told = record {
   steady = steady_alone told;
 }
 
-pub one_written : {asked : Asked} {end : List ℕ} {trees rest : List Tree} {old mid now : Told} (tree : Tree) → IsWrittenTo asked end trees old mid (tree ∷ rest) → WritesTexts asked end (tree ∷ []) mid now
+pub one_written : {asked : TreeFormat} {end : List ℕ} {trees rest : List Tree} {old mid now : Told} (tree : Tree) → IsWrittenTo asked end trees old mid (tree ∷ rest) → WritesTexts asked end (tree ∷ []) mid now
     → IsWrittenTo asked end trees old now rest
 one_written {asked} {end} {trees} {rest} tree so w = record {
   front = so.front ++ w.text;
@@ -112,7 +112,7 @@ one_written {asked} {end} {trees} {rest} tree so w = record {
   steady = steady_both so.steady w.steady;
 }
 
-pub all_written : {asked : Asked} {end : List ℕ} {trees : List Tree} {old now : Told} → IsWrittenTo asked end trees old now [] → WritesTexts asked end trees old now
+pub all_written : {asked : TreeFormat} {end : List ℕ} {trees : List Tree} {old now : Told} → IsWrittenTo asked end trees old now [] → WritesTexts asked end trees old now
 all_written {asked} {end} {trees} so = record {
   text = so.front;
   is = so.texts_so ∙ ap Ok (append-nil so.front);
@@ -126,7 +126,7 @@ want_since false told old mid new s want = counted_since (told new) sink.NoMemor
 want_since true told old mid new s (inl still) = inl (steady_both s still)
 want_since true told old mid new s (inr rose) = inr (counted_since (told new) sink.NoMemory s rose)
 
-pub stopped_at : {K : Type 0} {asked : Asked} {end : List ℕ} {trees rest : List Tree} (captured : Bool) (told : K → Told) (old mid new : K) (why : RelayError) (tree : Tree)
+pub stopped_at : {K : Type 0} {asked : TreeFormat} {end : List ℕ} {trees rest : List Tree} (captured : Bool) (told : K → Told) (old mid new : K) (why : RelayError) (tree : Tree)
     → IsWrittenTo asked end trees (told old) (told mid) (tree ∷ rest) → StopsAmong why (IsWantAmong captured told) told asked end (tree ∷ []) mid new
     → StopsAmong why (IsWantAmong captured told) told asked end trees old new
 stopped_at {K} {asked} {end} {trees} {rest} captured told old mid new why tree so s = record {
@@ -164,7 +164,7 @@ stopped_at {K} {asked} {end} {trees} {rest} captured told old mid new why tree s
 
 -- ---- one tree as a list of one
 
-module _ {K : Type 0} (told : K → Told) (asked : Asked) (tree : Tree) where
+module _ {K : Type 0} (told : K → Told) (asked : TreeFormat) (tree : Tree) where
   text_with : (end text : List ℕ) → tree_text asked tree ≡ Ok text → texts asked end (tree ∷ []) ≡ Ok (text ++ end)
   text_with end text is = ap (λ found. on_ok found (λ text. Ok (text ++ (end ++ [])))) is ∙ ap (λ x. Ok (text ++ x)) (append-nil end)
 

@@ -20,7 +20,7 @@ use Rattle.sval_relay.specs.declared.way.Way.TheVariants.{Buffered}
 use Rattle.sval_relay.specs.declared.made.MadeError.{MadeError}
 use Rattle.sval_relay.specs.declared.made.MadeError.TheVariants as answer
 use Rattle.sval_relay.specs.Relays.{WritesVerdictText}
-use Rattle.sval_relay.specs.Verdict.{Text, one_in, IsVerdict, asked_in}
+use Rattle.sval_relay.specs.Verdict.{Text, one_in, IsRelayVerdict, asked_in}
 use Rattle.sval_relay.specs.Made.{made_script, made_calls, made_error, sizes_line, IsMadeLine, LacksRoomForLine, TellsMade}
 use Rattle.sval_relay.specs.MadeLaws.{made_json, OneMadeLine}
 use Rattle.sval_relay.proofs.MadeScripts.{made_is_text}
@@ -28,7 +28,7 @@ use Rattle.sval_relay.proofs.Verdicts.{one_of_lines}
 use Rattle.sval_program.proofs.Growing.{counts_stay, front_of_nothing}
 
 -- a script has one text
-pub one_text : (script : List ℕ) (task : Task) {text other : List ℕ} → IsVerdict (Text text) script task → IsVerdict (Text other) script task → text ≡ other
+pub one_text : (script : List ℕ) (task : Task) {text other : List ℕ} → IsRelayVerdict (Text text) script task → IsRelayVerdict (Text other) script task → text ≡ other
 one_text script task {text} {other} is also =
     let verdict : Text text ≡ Text other = one_of_lines (lines script) (asked_in task.way) task.many (Text text) (Text other) is also in cc verdict
 
@@ -43,7 +43,7 @@ printed_whole calls {old} {new} s empty =
 
 -- and memory that was empty holds the text that is the script's verdict
 pub served_whole : {old new : Taken} {script text : List ℕ} {task : Task} → WritesVerdictText (taken_told old) (taken_told new) script task → old.bytes ≡ []
-    → IsVerdict (Text text) script task → new.bytes ≡ text
+    → IsRelayVerdict (Text text) script task → new.bytes ≡ text
 served_whole {old} {new} {script} {text} {task} wrote empty is =
     let taken : Some new.bytes ≡ Some (old.bytes ++ wrote.text) = wrote.appends.text in
     let same : new.bytes ≡ old.bytes ++ wrote.text = cc taken in

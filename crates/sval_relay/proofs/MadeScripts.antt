@@ -24,7 +24,7 @@ use Rattle.sval_script.specs.Lines.{Lines, Good, Bad, lines, lines_from, line_of
 use Rattle.sval_script.specs.Printed.{ArePrintable, IsPrintableName, IsPrintableLabel}
 use Rattle.sval_script.proofs.PrintedLines.{lines-printed}
 use Rattle.sval_relay.specs.declared.way.Way.TheVariants.{Buffered}
-use Rattle.sval_relay.specs.Verdict.{Text, JsonIn, IsVerdict, one_in, tree_written}
+use Rattle.sval_relay.specs.Verdict.{Text, JsonIn, IsRelayVerdict, one_in, tree_written}
 use Rattle.sval_relay.proofs.Verdicts.{verdict_in}
 use Rattle.sval_relay.specs.Made.{made_field_label, id_calls, name_calls, record_calls, made_calls, made_script}
 use Rattle.sval_relay.specs.Laws.{json_verdict}
@@ -131,9 +131,9 @@ made_printable count small =
 pub made_reads_back : (count : ℕ) → count < 2 ^ 64 → lines (made_script count) ≡ Good (made_calls count)
 made_reads_back count small = lines-printed (made_calls count) (made_printable count small)
 
-pub made_is_text : (count : ℕ) → count < 2 ^ 64 → IsVerdict (Text (compact (made_json count))) (made_script count) (one_in Buffered)
+pub made_is_text : (count : ℕ) → count < 2 ^ 64 → IsRelayVerdict (Text (compact (made_json count))) (made_script count) (one_in Buffered)
 made_is_text count small =
-    subst (λ found. IsVerdict (json_verdict found (tree_written (JsonIn Inside) (made_tree count))) (made_script count) (one_in Buffered)) (made_shape count)
+    subst (λ found. IsRelayVerdict (json_verdict found (tree_written (JsonIn Inside) (made_tree count))) (made_script count) (one_in Buffered)) (made_shape count)
     (verdict_in (made_script count) Inside (made_calls count) (made_tree count) (made_reads_back count small) (made_tells count).spells)
 
 -- ---- how many lines a script has

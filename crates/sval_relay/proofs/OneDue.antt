@@ -9,13 +9,13 @@ use Rattle.sval_relay.specs.declared.way.Task.{Task}
 use Rattle.sval_relay.specs.declared.way.Form.TheVariants.{Serve, Made}
 use Rattle.sval_relay.specs.declared.way.Way.TheVariants.{Buffered}
 use Rattle.sval_relay.specs.Made.{made_calls, made_script, sizes_line, IsMadeLine}
-use Rattle.sval_relay.specs.Serves.{Due, a_text, is_bad_line, is_bad_call, is_unfinished, up_to_key, up_to_number, a_made_line, relay_terms}
-use Rattle.sval_relay.specs.Verdict.{Verdict, BadLine, BadCall, Unfinished, Key, Number, Text, one_in, asked_in, IsVerdict}
+use Rattle.sval_relay.specs.Serves.{RelayDue, a_text, is_bad_line, is_bad_call, is_unfinished, up_to_key, up_to_number, a_made_line, relay_terms}
+use Rattle.sval_relay.specs.Verdict.{RelayVerdict, BadLine, BadCall, Unfinished, Key, Number, Text, one_in, asked_in, IsRelayVerdict}
 use Rattle.sval_relay.proofs.MadeAnswers.{one_text}
 use Rattle.sval_relay.proofs.Verdicts.{one_of_lines}
 
 -- the fault that a verdict is, and the bytes that are written of it
-abbrev fault_in : (many : Bool) → Verdict → Option Fault
+abbrev fault_in : (many : Bool) → RelayVerdict → Option Fault
 fault_in many (BadLine n) = Some (fault.BadLine n)
 fault_in many (BadCall n) = Some (fault.BadCall n)
 fault_in many Unfinished = Some (fault.Unfinished many)
@@ -23,7 +23,7 @@ fault_in many (Key written) = Some fault.InvalidKey
 fault_in many (Number written) = Some fault.InvalidNumber
 fault_in many (Text text) = None
 
-abbrev bytes_in : Verdict → List ℕ
+abbrev bytes_in : RelayVerdict → List ℕ
 bytes_in (BadLine n) = []
 bytes_in (BadCall n) = []
 bytes_in Unfinished = []
@@ -33,12 +33,12 @@ bytes_in (Text text) = text
 
 -- what is due of a script is what its verdict says
 record IsByVerdict (task : Task) (script : List ℕ) (found : Option Fault) (bytes : List ℕ) : Type 0 where
-  answer : Verdict
-  is : IsVerdict answer script task
+  answer : RelayVerdict
+  is : IsRelayVerdict answer script task
   is_fault : found ≡ fault_in task.many answer
   are_bytes : bytes ≡ bytes_in answer
 
-by_verdict : (task : Task) (script : List ℕ) (found : Option Fault) (bytes : List ℕ) → Due (Serve task) script found bytes → IsByVerdict task script found bytes
+by_verdict : (task : Task) (script : List ℕ) (found : Option Fault) (bytes : List ℕ) → RelayDue (Serve task) script found bytes → IsByVerdict task script found bytes
 by_verdict task script _ bytes (a_text is means) = record { answer = Text bytes; is = is; is_fault = refl; are_bytes = refl }
 by_verdict task script _ _ (is_bad_line {line = n} is) = record { answer = BadLine n; is = is; is_fault = refl; are_bytes = refl }
 by_verdict task script _ _ (is_bad_call {line = n} is) = record { answer = BadCall n; is = is; is_fault = refl; are_bytes = refl }
@@ -51,7 +51,7 @@ record IsMadeDue (count : ℕ) (found : Option Fault) (bytes : List ℕ) : Type 
   whole : found ≡ None
   line : IsMadeLine count bytes
 
-made_due : (count : ℕ) (input : List ℕ) (found : Option Fault) (bytes : List ℕ) → Due (Made count) input found bytes → IsMadeDue count found bytes
+made_due : (count : ℕ) (input : List ℕ) (found : Option Fault) (bytes : List ℕ) → RelayDue (Made count) input found bytes → IsMadeDue count found bytes
 made_due count input _ bytes (a_made_line is) = record { whole = refl; line = is }
 
 one_line : (count : ℕ) (line other : List ℕ) → IsMadeLine count line → IsMadeLine count other → line ≡ other

@@ -23,8 +23,8 @@ use Rattle.sval_relay.specs.declared.relaying.RelayError.{RelayError}
 use Rattle.sval_relay.specs.declared.relaying.RelayError.TheVariants as answer
 use Rattle.sval_program.specs.Inputs.{HasRead}
 use Rattle.sval_program.specs.Outputs.{Grows}
-use Rattle.sval_relay.specs.Verdict.{Verdict, BadLine, BadCall, Unfinished, Key, Number, Text, asked_in, ending, texts, left, text_verdict, one_in, all_in, SpellTrees, IsVerdict, OnVerdict}
-use Rattle.sval_relay.specs.Relays.{of_script, of_check, is_of_script, WritesVerdictText, WritesMeant, MayLeave, LacksRoomFor, WritesValue, WritesUpTo, IsWantIn, IsAnswerTo, Relays}
+use Rattle.sval_relay.specs.Verdict.{RelayVerdict, BadLine, BadCall, Unfinished, Key, Number, Text, asked_in, ending, texts, left, text_verdict, one_in, all_in, SpellTrees, IsRelayVerdict, OnVerdict}
+use Rattle.sval_relay.specs.Relays.{of_script, of_check, is_of_script, WritesVerdictText, WritesMeant, VerdictMayLeave, LacksRoomFor, WritesValue, WritesUpTo, IsWantIn, IsAnswerTo, Relays}
 use Rattle.sval_relay.specs.WrittenTrees.{FailsFull, WritesTexts, RefusesSome, IsCauseAmong, WritesTrees}
 use Rattle.sval_relay.proofs.Verdicts.{of_each, one_spelled, verdict_bad_line, verdict_bad_call, verdict_unfinished, verdict_trees}
 use Rattle.sval_relay.proofs.LeftTexts.{texts_left}
@@ -33,41 +33,41 @@ use Rattle.sval_relay.proofs.Writing.{may_stay, want_before}
 
 -- ---- what each answer of the parts says of the script
 
-pub first_bad : (script : List ℕ) (way : Way) (calls : List Call) (at : ℕ) → length calls < 2 ^ 64 → lines script ≡ Good calls → IsFirstBadCall calls at → IsVerdict (BadCall at) script (one_in way)
+pub first_bad : (script : List ℕ) (way : Way) (calls : List Call) (at : ℕ) → length calls < 2 ^ 64 → lines script ≡ Good calls → IsFirstBadCall calls at → IsRelayVerdict (BadCall at) script (one_in way)
 first_bad script way calls at small e bad =
     let size : length calls ≡ length bad.front + (length bad.rest + 1) = ap length bad.whole ∙ length-append bad.front (bad.call ∷ bad.rest) ∙ omega arith in
     let number : length bad.front + 1 ≡ at = omega (arith, bad.number) in
-    subst (λ n. IsVerdict (BadCall n) script (one_in way)) number (verdict_bad_call script (one_in way) bad.front bad.rest bad.call (e ∙ ap Good bad.whole) bad.before bad.bad)
+    subst (λ n. IsRelayVerdict (BadCall n) script (one_in way)) number (verdict_bad_call script (one_in way) bad.front bad.rest bad.call (e ∙ ap Good bad.whole) bad.before bad.bad)
 
-pub first_bad_of_list : (script : List ℕ) (way : Way) (calls : List Call) (at : ℕ) → length calls < 2 ^ 64 → lines script ≡ Good calls → IsFirstBadOfList calls at → IsVerdict (BadCall at) script (all_in way)
+pub first_bad_of_list : (script : List ℕ) (way : Way) (calls : List Call) (at : ℕ) → length calls < 2 ^ 64 → lines script ≡ Good calls → IsFirstBadOfList calls at → IsRelayVerdict (BadCall at) script (all_in way)
 first_bad_of_list script way calls at small e bad =
     let size : length calls ≡ length bad.front + (length bad.rest + 1) = ap length bad.whole ∙ length-append bad.front (bad.call ∷ bad.rest) ∙ omega arith in
     let number : length bad.front + 1 ≡ at = omega (arith, bad.number) in
-    subst (λ n. IsVerdict (BadCall n) script (all_in way)) number (verdict_bad_call script (all_in way) bad.front bad.rest bad.call (e ∙ ap Good bad.whole) bad.before bad.bad)
+    subst (λ n. IsRelayVerdict (BadCall n) script (all_in way)) number (verdict_bad_call script (all_in way) bad.front bad.rest bad.call (e ∙ ap Good bad.whole) bad.before bad.bad)
 
-pub not_finished : (script : List ℕ) (way : Way) (e : Emission) → lines script ≡ Good e.calls → IsUnfinished e → IsVerdict Unfinished script (one_in way)
+pub not_finished : (script : List ℕ) (way : Way) (e : Emission) → lines script ≡ Good e.calls → IsUnfinished e → IsRelayVerdict Unfinished script (one_in way)
 not_finished script way e is u = verdict_unfinished script (one_in way) e.calls is u.viable (λ trees s. u.no_tree s.0 s.2)
 
-pub list_not_finished : (script : List ℕ) (way : Way) (e : Emission) → lines script ≡ Good e.calls → IsUnfinishedList e → IsVerdict Unfinished script (all_in way)
+pub list_not_finished : (script : List ℕ) (way : Way) (e : Emission) → lines script ≡ Good e.calls → IsUnfinishedList e → IsRelayVerdict Unfinished script (all_in way)
 list_not_finished script way e is u = verdict_unfinished script (all_in way) e.calls is u.viable u.no_trees
 
 -- ---- the answer that is due
 
-due : (script : List ℕ) (task : Task) (found : Verdict) (result : Result (Unit {0}) RelayError) → IsVerdict found script task → IsAnswerTo found result
+due : (script : List ℕ) (task : Task) (found : RelayVerdict) (result : Result (Unit {0}) RelayError) → IsRelayVerdict found script task → IsAnswerTo found result
     → OnVerdict (λ found. IsAnswerTo found result ⊎ (result ≡ Err answer.NoMemory)) script task
 due script task found result v p = of_each script task found (λ other. IsAnswerTo other result ⊎ (result ≡ Err answer.NoMemory)) v (inl p)
 
 -- why serving stopped
 abbrev IsReason : {K : Type 0} → RelayError → (K → Told) → List ℕ → Task → K → K → Type 0
-IsReason (answer.BadLine n) told script task old new = IsVerdict (BadLine n) script task × (new ≡ old)
-IsReason (answer.BadCall n) told script task old new = IsVerdict (BadCall n) script task × (new ≡ old)
-IsReason answer.Unfinished told script task old new = IsVerdict Unfinished script task × (new ≡ old)
+IsReason (answer.BadLine n) told script task old new = IsRelayVerdict (BadLine n) script task × (new ≡ old)
+IsReason (answer.BadCall n) told script task old new = IsRelayVerdict (BadCall n) script task × (new ≡ old)
+IsReason answer.Unfinished told script task old new = IsRelayVerdict Unfinished script task × (new ≡ old)
 IsReason answer.InvalidKey told script task old new = WritesUpTo Key (told old) (told new) script task
 IsReason answer.InvalidNumber told script task old new = WritesUpTo Number (told old) (told new) script task
 IsReason answer.Write told script task old new = Rose (told old).faults (told new).faults
 IsReason answer.NoMemory told script task old new = IsWantIn task told old new
 
-relays_stopped : {K : Type 0} (told : K → Told) (script : List ℕ) (task : Task) (old new : K) (why : RelayError) → IsReason why told script task old new → OnVerdict (MayLeave (told old) (told new)) script task
+relays_stopped : {K : Type 0} (told : K → Told) (script : List ℕ) (task : Task) (old new : K) (why : RelayError) → IsReason why told script task old new → OnVerdict (VerdictMayLeave (told old) (told new)) script task
     → Grows (told old) (told new) → NoCountFell (told old) (told new) → Relays told script task (Err why) old new
 relays_stopped {K} told script task old new why reason leaves grows counts = record {
   done = λ f. cc f;
@@ -126,7 +126,7 @@ read_before_write reading.NoMemory never = cc never
 
 -- its calls are no value, or there was no memory to check them
 pub relays_unchecked : {K : Type 0} (told : K → Told) (script : List ℕ) (task : Task) (out : K) (e : CheckError) (why : RelayError) → of_check e ≡ Some why
-    → ((n : ℕ) → e ≡ checking.BadCall n → IsVerdict (BadCall n) script task) → (e ≡ checking.Unfinished → IsVerdict Unfinished script task) → Relays told script task (Err why) out out
+    → ((n : ℕ) → e ≡ checking.BadCall n → IsRelayVerdict (BadCall n) script task) → (e ≡ checking.Unfinished → IsRelayVerdict Unfinished script task) → Relays told script task (Err why) out out
 relays_unchecked told script task out (checking.BadCall n) why is bad unfinished =
     let same : answer.BadCall n ≡ why = cc is in
     subst (λ w. Relays told script task (Err w) out out) same (relays_refused told script task out (answer.BadCall n) (bad n refl, refl))
@@ -140,8 +140,8 @@ relays_unchecked told script task out checking.Refused why is bad unfinished = a
 
 -- ---- after the text was written
 
-all_may_stay : {old new : Told} {script : List ℕ} {task : Task} → WritesVerdictText old new script task → OnVerdict (MayLeave old new) script task
-all_may_stay {old} {new} {script} {task} w = of_each script task (Text w.text) (MayLeave old new) w.is (all_is_front w.text w.appends)
+all_may_stay : {old new : Told} {script : List ℕ} {task : Task} → WritesVerdictText old new script task → OnVerdict (VerdictMayLeave old new) script task
+all_may_stay {old} {new} {script} {task} w = of_each script task (Text w.text) (VerdictMayLeave old new) w.is (all_is_front w.text w.appends)
 
 relays_text : {K : Type 0} (told : K → Told) (script : List ℕ) (task : Task) (old new : K) → WritesVerdictText (told old) (told new) script task → WritesValue (told old) (told new) script task → IsSteady (told old) (told new)
     → Relays told script task (Ok tt) old new
@@ -168,9 +168,9 @@ relays_text told script task old new w v s = record {
 module _ (script : List ℕ) (task : Task) (calls : List Call) (trees : List Tree) (is : lines script ≡ Good calls) (spell : SpellTrees task.many calls trees) where
   -- the verdict, where the trees' texts are so
   pub verdict_of : (found : Result (List ℕ) Refusal) → texts (asked_in task.way) (ending (asked_in task.way) task.many) trees ≡ found
-      → IsVerdict (text_verdict found (left (asked_in task.way) (ending (asked_in task.way) task.many) trees)) script task
+      → IsRelayVerdict (text_verdict found (left (asked_in task.way) (ending (asked_in task.way) task.many) trees)) script task
   verdict_of found e =
-      subst (λ found. IsVerdict (text_verdict found (left (asked_in task.way) (ending (asked_in task.way) task.many) trees)) script task) e (verdict_trees script task calls trees is spell)
+      subst (λ found. IsRelayVerdict (text_verdict found (left (asked_in task.way) (ending (asked_in task.way) task.many) trees)) script task) e (verdict_trees script task calls trees is spell)
 
   writes_text : {old new : Told} → WritesTexts (asked_in task.way) (ending (asked_in task.way) task.many) trees old new → WritesVerdictText old new script task
   writes_text w = record { text = w.text; is = verdict_of (Ok w.text) w.is; appends = w.appends }
@@ -183,17 +183,17 @@ module _ (script : List ℕ) (task : Task) (calls : List Call) (trees : List Tre
       subst (λ trees. WritesMeant task trees old new) one (record { bytes = w.text; are = w.meant; appends = w.appends })
 
   -- some tree was refused
-  writes_up_to : {old new : Told} (why : Refusal) → RefusesSome (asked_in task.way) (ending (asked_in task.way) task.many) why trees old new → (refusal : List ℕ → Verdict)
+  writes_up_to : {old new : Told} (why : Refusal) → RefusesSome (asked_in task.way) (ending (asked_in task.way) task.many) why trees old new → (refusal : List ℕ → RelayVerdict)
       → ((written : List ℕ) → text_verdict (Err why) written ≡ refusal written) → WritesUpTo refusal old new script task
   writes_up_to why r refusal same = record {
     written = left (asked_in task.way) (ending (asked_in task.way) task.many) trees;
-    is = subst (λ found. IsVerdict found script task) (same (left (asked_in task.way) (ending (asked_in task.way) task.many) trees)) (verdict_of (Err why) r.is);
+    is = subst (λ found. IsRelayVerdict found script task) (same (left (asked_in task.way) (ending (asked_in task.way) task.many) trees)) (verdict_of (Err why) r.is);
     appends = r.appends;
     steady = r.steady;
   }
 
   -- a fact on what is due of the trees, as a fact on the verdict
-  on_due : (P : List ℕ → Type 0) (Q : Verdict → Type 0) → ((bytes : List ℕ) → P bytes → Q (Text bytes) × Q (Key bytes) × Q (Number bytes))
+  on_due : (P : List ℕ → Type 0) (Q : RelayVerdict → Type 0) → ((bytes : List ℕ) → P bytes → Q (Text bytes) × Q (Key bytes) × Q (Number bytes))
       → P (left (asked_in task.way) (ending (asked_in task.way) task.many) trees) → OnVerdict Q script task
   on_due P Q all p = by_texts (texts (asked_in task.way) (ending (asked_in task.way) task.many) trees) refl
     where
@@ -204,8 +204,8 @@ module _ (script : List ℕ) (task : Task) (calls : List Call) (trees : List Tre
       by_texts (Err InvalidKey) e = of_each script task _ Q (verdict_of (Err InvalidKey) e) (all _ p).1
       by_texts (Err InvalidNumber) e = of_each script task _ Q (verdict_of (Err InvalidNumber) e) (all _ p).2
 
-  front_may_stay : {old new : Told} → AppendsFront old (left (asked_in task.way) (ending (asked_in task.way) task.many) trees) new → OnVerdict (MayLeave old new) script task
-  front_may_stay {old} {new} begun = on_due (λ bytes. AppendsFront old bytes new) (MayLeave old new) (λ bytes front. (front, front, front)) begun
+  front_may_stay : {old new : Told} → AppendsFront old (left (asked_in task.way) (ending (asked_in task.way) task.many) trees) new → OnVerdict (VerdictMayLeave old new) script task
+  front_may_stay {old} {new} begun = on_due (λ bytes. AppendsFront old bytes new) (VerdictMayLeave old new) (λ bytes front. (front, front, front)) begun
 
   full_for_due : (old : Told) → LacksRoom old (left (asked_in task.way) (ending (asked_in task.way) task.many) trees) → OnVerdict (LacksRoomFor old) script task
   full_for_due old full = on_due (LacksRoom old) (LacksRoomFor old) (λ bytes lacks. (lacks, lacks, lacks)) full

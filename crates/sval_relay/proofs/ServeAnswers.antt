@@ -23,8 +23,8 @@ use Rattle.sval_relay.specs.declared.way.Form.TheVariants.{Serve, Made}
 use Rattle.sval_relay.specs.declared.made.MadeError.{MadeError}
 use Rattle.sval_relay.specs.declared.made.MadeError.TheVariants as made
 use Rattle.sval_relay.specs.Made.{TellsMade}
-use Rattle.sval_relay.specs.Serves.{Due, is_bad_line, is_bad_call, is_unfinished, a_made_line, relay_terms, failure_of_check, failure_of_made}
-use Rattle.sval_relay.specs.Verdict.{BadCall, Unfinished, IsVerdict}
+use Rattle.sval_relay.specs.Serves.{RelayDue, is_bad_line, is_bad_call, is_unfinished, a_made_line, relay_terms, failure_of_check, failure_of_made}
+use Rattle.sval_relay.specs.Verdict.{BadCall, Unfinished, IsRelayVerdict}
 use Rattle.sval_relay.proofs.Verdicts.{verdict_bad_line}
 
 -- ---- a script that is served
@@ -35,7 +35,7 @@ counted reads = omega (arith, reads.short)
 
 module _ {K : Type 0} (told : K → Told) (script : List ℕ) (task : Task) (out : K) where
   -- nothing is written before a fault of the script
-  faulty : (why : Fault) → is_among (status_of_fault why) relay_terms.faults ≡ true → Due (Serve task) script (Some why) [] → FindsFault relay_terms told (Serve task) script why out out
+  faulty : (why : Fault) → is_among (status_of_fault why) relay_terms.faults ≡ true → RelayDue (Serve task) script (Some why) [] → FindsFault relay_terms told (Serve task) script why out out
   faulty why known due = record { all = record { bytes = []; due = due; writes = writes_nothing (told out) }; known = known; untouched = λ e. refl }
 
   -- it wasn't read
@@ -45,8 +45,8 @@ module _ {K : Type 0} (told : K → Told) (script : List ℕ) (task : Task) (out
   script_unread reading.NoMemory bad = refl
 
   -- its calls are no value, or there was no memory to check them
-  pub script_unchecked : (e : CheckError) (why : Failure) → failure_of_check task.many e ≡ Some why → ((n : ℕ) → e ≡ checking.BadCall n → IsVerdict (BadCall n) script task)
-      → (e ≡ checking.Unfinished → IsVerdict Unfinished script task) → ServesBytes relay_terms told (Serve task) script (Err why) out out
+  pub script_unchecked : (e : CheckError) (why : Failure) → failure_of_check task.many e ≡ Some why → ((n : ℕ) → e ≡ checking.BadCall n → IsRelayVerdict (BadCall n) script task)
+      → (e ≡ checking.Unfinished → IsRelayVerdict Unfinished script task) → ServesBytes relay_terms told (Serve task) script (Err why) out out
   script_unchecked (checking.BadCall n) why is bad unfinished =
       let same : failure.Fault (fault.BadCall n) ≡ why = cc is in
       subst (λ w. ServesBytes relay_terms told (Serve task) script (Err w) out out) same (faulty (fault.BadCall n) refl (is_bad_call (bad n refl)))

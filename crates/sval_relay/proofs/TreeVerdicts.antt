@@ -10,12 +10,12 @@ use Rattle.sval_json.specs.Number.{Refusal, InvalidKey, InvalidNumber}
 use Rattle.sval_json.specs.Shape.{json_in}
 use Rattle.sval_json.specs.Steps.{written_in}
 use Rattle.sval_script.specs.Lines.{Lines, Good, Bad, lines}
-use Rattle.sval_relay.specs.Verdict.{Verdict, Text, Asked, JsonIn, IsOfCalls, bad_call, unfinished, whole, IsOfLines, IsVerdictOn}
+use Rattle.sval_relay.specs.Verdict.{RelayVerdict, Text, TreeFormat, JsonIn, IsOfRelayCalls, bad_call, unfinished, whole, IsOfLines, IsVerdictOn}
 use Rattle.sval_relay.specs.Laws.{json_verdict, ScriptSpellsJson}
 use Rattle.sval_relay.proofs.Verdicts.{one_of_lines, verdict_in}
 use Rattle.sval_relay.proofs.Writing.{written_of_calls}
 
-pub tree_gives_json : (script : List ℕ) (style : Variants) (calls : List Call) (tree : Tree) (answer : Verdict) → lines script ≡ Good calls → Spells calls tree
+pub tree_gives_json : (script : List ℕ) (style : Variants) (calls : List Call) (tree : Tree) (answer : RelayVerdict) → lines script ≡ Good calls → Spells calls tree
     → IsVerdictOn answer script (JsonIn style) false ↔ (answer ≡ json_verdict (json_in style tree) (written_in style calls).written)
 tree_gives_json script style calls tree answer good spells =
     let due = json_verdict (json_in style tree) (written_in style calls).written in
@@ -27,12 +27,12 @@ tree_gives_json script style calls tree answer good spells =
 
 -- ---- a text comes only so
 
-spelled : {calls : List Call} {asked : Asked} {answer : Verdict} (text : List ℕ) → IsOfCalls calls asked false answer → answer ≡ Text text → (tree : Tree) × Spells calls tree
+spelled : {calls : List Call} {asked : TreeFormat} {answer : RelayVerdict} (text : List ℕ) → IsOfRelayCalls calls asked false answer → answer ≡ Text text → (tree : Tree) × Spells calls tree
 spelled text (bad_call front call rest e v n) same = cc same
 spelled text (unfinished v none) same = cc same
 spelled text (whole trees s) same = (s.0, s.2)
 
-read_good : (read : Lines) (asked : Asked) (text : List ℕ) → IsOfLines read asked false (Text text) → (calls : List Call) × (read ≡ Good calls) × IsOfCalls calls asked false (Text text)
+read_good : (read : Lines) (asked : TreeFormat) (text : List ℕ) → IsOfLines read asked false (Text text) → (calls : List Call) × (read ≡ Good calls) × IsOfRelayCalls calls asked false (Text text)
 read_good (Bad n) asked text v = cc v
 read_good (Good calls) asked text v = (calls, refl, v)
 

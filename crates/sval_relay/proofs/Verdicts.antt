@@ -22,7 +22,7 @@ use Rattle.sval_json.specs.Shape.{json_in, on_ok, map_ok}
 use Rattle.sval_script.specs.Lines.{Lines, Good, Bad, lines}
 use Rattle.sval_script.specs.Canon.{canon, canon_all}
 use Rattle.sval_relay.specs.declared.way.Task.{Task}
-use Rattle.sval_relay.specs.Verdict.{Verdict, BadLine, BadCall, Unfinished, Text, Asked, JsonIn, Script, asked_in, texts, tree_written, with_text, left, text_verdict, trees_verdict, CanGoOn, SpellTrees, IsOfCalls, bad_call, unfinished, whole, IsOfLines, IsVerdictOn, IsVerdict, OnVerdict}
+use Rattle.sval_relay.specs.Verdict.{RelayVerdict, BadLine, BadCall, Unfinished, Text, TreeFormat, JsonIn, Script, asked_in, texts, tree_written, with_text, left, text_verdict, trees_verdict, CanGoOn, SpellTrees, IsOfRelayCalls, bad_call, unfinished, whole, IsOfLines, IsVerdictOn, IsRelayVerdict, OnVerdict}
 use Rattle.sval_relay.specs.Laws.{BothJsonWaysAgree, json_verdict}
 
 -- ---- there is a verdict
@@ -64,12 +64,12 @@ pub found : (many : Bool) (calls : List Call) → Found many calls
 found false calls = one_by_scan calls (scanned calls false [])
 found true calls = many_by_scan calls (scanned_all calls 0 false [])
 
-of_found : (asked : Asked) (many : Bool) (calls : List Call) → Found many calls → (answer : Verdict) × IsOfCalls calls asked many answer
+of_found : (asked : TreeFormat) (many : Bool) (calls : List Call) → Found many calls → (answer : RelayVerdict) × IsOfRelayCalls calls asked many answer
 of_found asked many calls (found_bad front call rest e v n) = (BadCall (length front + 1), bad_call front call rest e v n)
 of_found asked many calls (found_open v n) = (Unfinished, unfinished v n)
 of_found asked many calls (found_whole trees s) = (trees_verdict asked many trees, whole trees s)
 
-some_verdict : (asked : Asked) (many : Bool) (read : Lines) → (answer : Verdict) × IsOfLines read asked many answer
+some_verdict : (asked : TreeFormat) (many : Bool) (read : Lines) → (answer : RelayVerdict) × IsOfLines read asked many answer
 some_verdict asked many (Bad n) = (BadLine n, refl)
 some_verdict asked many (Good calls) = of_found asked many calls (found many calls)
 
@@ -96,7 +96,7 @@ one_spelled true calls trees others s t = one_list calls trees others s t
 pub not_whole : (many : Bool) (calls front rest : List Call) (call : Call) → calls ≡ front ++ (call ∷ rest) → (CanGoOn many (front ++ (call ∷ [])) → ⊥) → (trees : List Tree) → SpellTrees many calls trees → ⊥
 not_whole many calls front rest call e n trees s = not_bad many calls front rest call e (goes_on many calls trees s) n
 
-one_of_calls : {calls : List Call} {asked : Asked} {many : Bool} {answer other : Verdict} → IsOfCalls calls asked many answer → IsOfCalls calls asked many other → answer ≡ other
+one_of_calls : {calls : List Call} {asked : TreeFormat} {many : Bool} {answer other : RelayVerdict} → IsOfRelayCalls calls asked many answer → IsOfRelayCalls calls asked many other → answer ≡ other
 one_of_calls {many = many} (bad_call front call rest e v n) (bad_call other next last f w m) = ap (λ x. BadCall (length x + 1)) (one_front many front other call next rest last e f v n w m)
 one_of_calls {calls} {many = many} (bad_call front call rest e v n) (unfinished w u) = absurd (not_bad many calls front rest call e w n)
 one_of_calls {calls} {many = many} (bad_call front call rest e v n) (whole trees s) = absurd (not_bad many calls front rest call e (goes_on many calls trees s) n)
@@ -107,17 +107,17 @@ one_of_calls {calls} {many = many} (whole trees s) (bad_call front call rest e v
 one_of_calls (whole trees s) (unfinished w u) = absurd (u trees s)
 one_of_calls {calls} {asked} {many} (whole trees s) (whole others t) = ap (trees_verdict asked many) (one_spelled many calls trees others s t)
 
-pub one_of_lines : (read : Lines) (asked : Asked) (many : Bool) (answer other : Verdict) → IsOfLines read asked many answer → IsOfLines read asked many other → answer ≡ other
+pub one_of_lines : (read : Lines) (asked : TreeFormat) (many : Bool) (answer other : RelayVerdict) → IsOfLines read asked many answer → IsOfLines read asked many other → answer ≡ other
 one_of_lines (Bad n) asked many answer other e f = e ∙ sym f
 one_of_lines (Good calls) asked many answer other i j = one_of_calls i j
 
-pub one_verdict : (script : List ℕ) (asked : Asked) (many : Bool)
-    → (answer : Verdict) × IsVerdictOn answer script asked many × ((other : Verdict) → IsVerdictOn other script asked many → answer ≡ other)
+pub one_verdict : (script : List ℕ) (asked : TreeFormat) (many : Bool)
+    → (answer : RelayVerdict) × IsVerdictOn answer script asked many × ((other : RelayVerdict) → IsVerdictOn other script asked many → answer ≡ other)
 one_verdict script asked many =
     let found = some_verdict asked many (lines script) in (found.0, found.1, λ other v. one_of_lines (lines script) asked many found.0 other found.1 v)
 
 -- what holds of the verdict found holds of each
-pub of_each : (script : List ℕ) (task : Task) (found : Verdict) (P : Verdict → Type 0) → IsVerdict found script task → P found → OnVerdict P script task
+pub of_each : (script : List ℕ) (task : Task) (found : RelayVerdict) (P : RelayVerdict → Type 0) → IsRelayVerdict found script task → P found → OnVerdict P script task
 of_each script task found P v p answer w = subst P (one_of_lines (lines script) (asked_in task.way) task.many found answer v w) p
 
 pub both_json_ways_agree : BothJsonWaysAgree
@@ -134,22 +134,22 @@ one_json (Ok json) written = ap Text (append-nil (compact json))
 one_json (Err InvalidKey) written = refl
 one_json (Err InvalidNumber) written = refl
 
-pub verdict_bad_line : (script : List ℕ) (task : Task) (n : ℕ) → lines script ≡ Bad n → IsVerdict (BadLine n) script task
+pub verdict_bad_line : (script : List ℕ) (task : Task) (n : ℕ) → lines script ≡ Bad n → IsRelayVerdict (BadLine n) script task
 verdict_bad_line script task n e = subst (λ found. IsOfLines found (asked_in task.way) task.many (BadLine n)) (sym e) refl
 
-verdict_of_calls : (script : List ℕ) (task : Task) (calls : List Call) (answer : Verdict) → lines script ≡ Good calls → IsOfCalls calls (asked_in task.way) task.many answer → IsVerdict answer script task
+verdict_of_calls : (script : List ℕ) (task : Task) (calls : List Call) (answer : RelayVerdict) → lines script ≡ Good calls → IsOfRelayCalls calls (asked_in task.way) task.many answer → IsRelayVerdict answer script task
 verdict_of_calls script task calls answer e v = subst (λ found. IsOfLines found (asked_in task.way) task.many answer) (sym e) v
 
 pub verdict_bad_call : (script : List ℕ) (task : Task) (front rest : List Call) (call : Call) → lines script ≡ Good (front ++ (call ∷ rest)) → CanGoOn task.many front
-    → (CanGoOn task.many (front ++ (call ∷ [])) → ⊥) → IsVerdict (BadCall (length front + 1)) script task
+    → (CanGoOn task.many (front ++ (call ∷ [])) → ⊥) → IsRelayVerdict (BadCall (length front + 1)) script task
 verdict_bad_call script task front rest call e v n = verdict_of_calls script task _ _ e (bad_call front call rest refl v n)
 
 pub verdict_unfinished : (script : List ℕ) (task : Task) (calls : List Call) → lines script ≡ Good calls → CanGoOn task.many calls → ((trees : List Tree) → SpellTrees task.many calls trees → ⊥)
-    → IsVerdict Unfinished script task
+    → IsRelayVerdict Unfinished script task
 verdict_unfinished script task calls e viable none = verdict_of_calls script task calls Unfinished e (unfinished viable none)
 
 pub verdict_trees : (script : List ℕ) (task : Task) (calls : List Call) (trees : List Tree) → lines script ≡ Good calls → SpellTrees task.many calls trees
-    → IsVerdict (trees_verdict (asked_in task.way) task.many trees) script task
+    → IsRelayVerdict (trees_verdict (asked_in task.way) task.many trees) script task
 verdict_trees script task calls trees e s = verdict_of_calls script task calls _ e (whole trees s)
 
 pub verdict_in : (script : List ℕ) (style : Variants) (calls : List Call) (tree : Tree) → lines script ≡ Good calls → Spells calls tree

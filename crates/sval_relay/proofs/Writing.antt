@@ -19,14 +19,14 @@ use Rattle.sval_json.proofs.WrittenOnce.{written_once}
 use Rattle.sval_json.proofs.WritingPlain.{spelling_written}
 use Rattle.sval_relay.specs.declared.way.Task.{Task}
 use Rattle.sval_relay.specs.Ways.{is_captured}
-use Rattle.sval_relay.specs.Verdict.{Verdict, BadLine, BadCall, Unfinished, Key, Number, Text, JsonIn, tree_written, due_of, tree_due}
+use Rattle.sval_relay.specs.Verdict.{RelayVerdict, BadLine, BadCall, Unfinished, Key, Number, Text, JsonIn, tree_written, due_of, tree_due}
 use Rattle.sval_program.proofs.Growing.{front_of_nothing}
-use Rattle.sval_relay.specs.Relays.{MayLeave, IsWantFor, IsWantIn}
+use Rattle.sval_relay.specs.Relays.{VerdictMayLeave, IsWantFor, IsWantIn}
 use Rattle.sval_relay.specs.WrittenTrees.{WritesTextOf, RefusesTree}
 
 -- ---- what may be left
 
-pub may_stay : (told : Told) (answer : Verdict) → MayLeave told told answer
+pub may_stay : (told : Told) (answer : RelayVerdict) → VerdictMayLeave told told answer
 may_stay told (BadLine n) = refl
 may_stay told (BadCall n) = refl
 may_stay told Unfinished = refl

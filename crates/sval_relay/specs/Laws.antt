@@ -13,21 +13,21 @@ use Rattle.sval_script.specs.Lines.{Good, lines}
 use Rattle.sval_script.specs.Canon.{canon_all}
 use Rattle.sval_relay.specs.declared.way.Way.{Way}
 use Rattle.sval_relay.specs.declared.way.Way.TheVariants.{Direct, Buffered, DirectBeside, BufferedBeside}
-use Rattle.sval_relay.specs.Verdict.{Verdict, Text, BadLine, BadCall, Unfinished, Key, Number, Asked, JsonIn, Script, asked_in, left, trees_verdict, IsVerdictOn}
+use Rattle.sval_relay.specs.Verdict.{RelayVerdict, Text, BadLine, BadCall, Unfinished, Key, Number, TreeFormat, JsonIn, Script, asked_in, left, trees_verdict, IsVerdictOn}
 use Rattle.sval_relay.specs.Leavings.{written_slices, IsLeft}
 
 -- ---- verdicts
 
 -- whatever is asked for, each script has one verdict, and no second one
-abbrev pub OneVerdict : Type 0
-OneVerdict =
-    (script : List ℕ) (asked : Asked) (many : Bool)
-    → (answer : Verdict) × IsVerdictOn answer script asked many × ((other : Verdict) → IsVerdictOn other script asked many → answer ≡ other)
+abbrev pub OneRelayVerdict : Type 0
+OneRelayVerdict =
+    (script : List ℕ) (asked : TreeFormat) (many : Bool)
+    → (answer : RelayVerdict) × IsVerdictOn answer script asked many × ((other : RelayVerdict) → IsVerdictOn other script asked many → answer ≡ other)
 
 -- two ways have the same verdict on every script, where one value and where many values may come
 abbrev pub Agree : Way → Way → Type 0
 Agree way other =
-    (script : List ℕ) (many : Bool) (first second : Verdict)
+    (script : List ℕ) (many : Bool) (first second : RelayVerdict)
     → IsVerdictOn first script (asked_in way) many → IsVerdictOn second script (asked_in other) many → first ≡ second
 
 -- the two ways of JSON do, in each style of variants
@@ -37,7 +37,7 @@ BothJsonWaysAgree = Agree Direct Buffered × Agree DirectBeside BufferedBeside
 -- ---- one tree
 
 -- a tree's JSON gives its compact text; a refusal of it gives that, with what is written up to there
-abbrev pub json_verdict : Result Json Refusal → List ℕ → Verdict
+abbrev pub json_verdict : Result Json Refusal → List ℕ → RelayVerdict
 json_verdict (Ok json) written = Text (compact json)
 json_verdict (Err InvalidKey) written = Key written
 json_verdict (Err InvalidNumber) written = Number written
@@ -46,7 +46,7 @@ json_verdict (Err InvalidNumber) written = Number written
 -- for these calls; and no other
 abbrev pub TreeGivesJson : Type 0
 TreeGivesJson =
-    (script : List ℕ) (style : Variants) (calls : List Call) (tree : Tree) (answer : Verdict) → lines script ≡ Good calls → Spells calls tree
+    (script : List ℕ) (style : Variants) (calls : List Call) (tree : Tree) (answer : RelayVerdict) → lines script ≡ Good calls → Spells calls tree
     → IsVerdictOn answer script (JsonIn style) false ↔ (answer ≡ json_verdict (json_in style tree) (written_in style calls).written)
 
 -- the script's calls spell a tree that has this JSON in the style
@@ -67,13 +67,13 @@ OnlyJsonGivesText =
 -- a script leaves one text
 abbrev pub OneTextLeft : Type 0
 OneTextLeft =
-    (script : List ℕ) (asked : Asked) (many : Bool)
+    (script : List ℕ) (asked : TreeFormat) (many : Bool)
     → (bytes : List ℕ) × IsLeft asked many script bytes × ((other : List ℕ) → IsLeft asked many script other → bytes ≡ other)
 
 -- it is what the verdict says: its text, or what is written up to a refusal; and nothing where the script spells no whole values
 abbrev pub LeftByVerdict : Type 0
 LeftByVerdict =
-    (script bytes : List ℕ) (asked : Asked) (many : Bool) → IsLeft asked many script bytes
+    (script bytes : List ℕ) (asked : TreeFormat) (many : Bool) → IsLeft asked many script bytes
     → ((text : List ℕ) → IsVerdictOn (Text text) script asked many → bytes ≡ text)
     × ((written : List ℕ) → IsVerdictOn (Key written) script asked many → bytes ≡ written)
     × ((written : List ℕ) → IsVerdictOn (Number written) script asked many → bytes ≡ written)

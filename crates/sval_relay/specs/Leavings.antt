@@ -7,7 +7,7 @@ use Rattle.sval_json.specs.Number.{Refusal}
 use Rattle.sval_json.specs.declared.style.Variants.{Variants}
 use Rattle.sval_json.specs.Steps.{written_in}
 use Rattle.sval_script.specs.Lines.{Lines, Good, Bad, lines}
-use Rattle.sval_relay.specs.Verdict.{Asked, left, ending, SpellTrees}
+use Rattle.sval_relay.specs.Verdict.{TreeFormat, left, ending, SpellTrees}
 
 -- ---- tree by tree
 
@@ -25,16 +25,16 @@ written_slices style end from (to ∷ ends) calls =
 -- ---- of a script
 
 -- what is written for a script over devices that don't fail: what its trees leave, and nothing where it spells none
-abbrev pub IsLeftByCalls : Asked → Bool → List Call → List ℕ → Type 0
+abbrev pub IsLeftByCalls : TreeFormat → Bool → List Call → List ℕ → Type 0
 IsLeftByCalls asked many calls bytes =
     ((trees : List Tree) → SpellTrees many calls trees → bytes ≡ left asked (ending asked many) trees)
     × (((trees : List Tree) → SpellTrees many calls trees → ⊥) → bytes ≡ [])
 
 -- nothing where a line is bad
-abbrev pub IsLeftByLines : Asked → Bool → Lines → List ℕ → Type 0
+abbrev pub IsLeftByLines : TreeFormat → Bool → Lines → List ℕ → Type 0
 IsLeftByLines asked many (Bad n) bytes = bytes ≡ []
 IsLeftByLines asked many (Good calls) bytes = IsLeftByCalls asked many calls bytes
 
 -- these bytes are left of the script
-abbrev pub IsLeft : Asked → Bool → List ℕ → List ℕ → Type 0
+abbrev pub IsLeft : TreeFormat → Bool → List ℕ → List ℕ → Type 0
 IsLeft asked many script bytes = IsLeftByLines asked many (lines script) bytes

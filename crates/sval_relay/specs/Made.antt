@@ -13,7 +13,7 @@ use Rattle.sval_relay.specs.declared.way.Way.TheVariants.{Buffered}
 use Rattle.sval_relay.specs.declared.made.MadeError.{MadeError}
 use Rattle.sval_relay.specs.declared.made.MadeError.TheVariants as answer
 use Rattle.sval_program.specs.Outputs.{IsOwnWant}
-use Rattle.sval_relay.specs.Verdict.{Text, one_in, IsVerdict}
+use Rattle.sval_relay.specs.Verdict.{Text, one_in, IsRelayVerdict}
 
 -- ---- the script
 
@@ -52,7 +52,7 @@ sizes_line calls bytes = codes "calls " ++ (decimal calls ++ (codes " json " ++ 
 -- the line that is due: how many calls the script has, and how long the text is that is its verdict
 pub record IsMadeLine (count : ℕ) (line : List ℕ) : Type 0 where
   pub text : List ℕ
-  pub is : IsVerdict (Text text) (made_script count) (one_in Buffered)
+  pub is : IsRelayVerdict (Text text) (made_script count) (one_in Buffered)
   pub says : line ≡ sizes_line (length (made_calls count)) (length text)
 
 -- that line has no place in the room that the sink tells

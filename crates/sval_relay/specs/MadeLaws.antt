@@ -14,7 +14,7 @@ use Rattle.sval_json.specs.declared.style.Variants.TheVariants.{Inside}
 use Rattle.sval_script.specs.Lines.{Good, lines}
 use Rattle.sval_relay.specs.declared.way.Way.TheVariants.{Buffered}
 use Rattle.sval_relay.specs.Made.{made_field_label, made_calls, made_script, IsMadeLine}
-use Rattle.sval_relay.specs.Verdict.{Text, one_in, IsVerdict}
+use Rattle.sval_relay.specs.Verdict.{Text, one_in, IsRelayVerdict}
 
 -- ---- the tree and its JSON
 
@@ -54,7 +54,7 @@ MadeTreesHaveJson = (count : ℕ) → json_in Inside (made_tree count) ≡ Ok (m
 
 -- so the verdict of a made script is the text of that
 abbrev pub MadeScriptsAreText : Type 0
-MadeScriptsAreText = (count : ℕ) → count < 2 ^ 64 → IsVerdict (Text (compact (made_json count))) (made_script count) (one_in Buffered)
+MadeScriptsAreText = (count : ℕ) → count < 2 ^ 64 → IsRelayVerdict (Text (compact (made_json count))) (made_script count) (one_in Buffered)
 
 -- and one line is due, and no second one
 abbrev pub OneMadeLine : Type 0

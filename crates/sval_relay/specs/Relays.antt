@@ -22,7 +22,7 @@ use Rattle.sval_relay.specs.declared.way.Task.{Task}
 use Rattle.sval_relay.specs.declared.relaying.RelayError.{RelayError}
 use Rattle.sval_relay.specs.declared.relaying.RelayError.TheVariants as answer
 use Rattle.sval_relay.specs.Ways.{is_captured, is_partly}
-use Rattle.sval_relay.specs.Verdict.{Verdict, BadLine, BadCall, Unfinished, Key, Number, Text, Asked, JsonIn, Script, asked_in, ending, SpellTrees, IsVerdict, OnVerdict}
+use Rattle.sval_relay.specs.Verdict.{RelayVerdict, BadLine, BadCall, Unfinished, Key, Number, Text, TreeFormat, JsonIn, Script, asked_in, ending, SpellTrees, IsRelayVerdict, OnVerdict}
 
 -- ---- the errors
 
@@ -61,12 +61,12 @@ pub record TellsValue (style : Variants) (tree : Tree) (text : List ℕ) : Type 
   pub is : IsTheValueOf json value
 
 -- JSON denotes what is meant, if the tree keeps its promises; a canonical script spells the tree's canonical calls
-abbrev pub IsMeant : Asked → Tree → List ℕ → Type 0
+abbrev pub IsMeant : TreeFormat → Tree → List ℕ → Type 0
 IsMeant (JsonIn style) tree text = KeepsPromises tree → TellsValue style tree text
 IsMeant Script tree text = lines text ≡ Good (calls_of tree)
 
 -- the trees' texts stand one after another, each with this ending, and each is what is meant
-abbrev pub AreMeant : Asked → List ℕ → List Tree → List ℕ → Type 0
+abbrev pub AreMeant : TreeFormat → List ℕ → List Tree → List ℕ → Type 0
 AreMeant asked end [] bytes = bytes ≡ []
 AreMeant asked end (tree ∷ trees) bytes =
     (text : List ℕ) × (later : List ℕ) × (bytes ≡ text ++ (end ++ later)) × IsMeant asked tree text × AreMeant asked end trees later
@@ -81,7 +81,7 @@ MeansAll text script task =
 -- the verdict is a text, and exactly that was taken
 pub record WritesVerdictText (old new : Told) (script : List ℕ) (task : Task) : Type 0 where
   pub text : List ℕ
-  pub is : IsVerdict (Text text) script task
+  pub is : IsRelayVerdict (Text text) script task
   pub appends : Appends old text new
 
 -- exactly the texts of these trees were taken, and they are what is meant
@@ -96,22 +96,22 @@ WritesValue old new script task =
     (calls : List Call) (trees : List Tree) → lines script ≡ Good calls → SpellTrees task.many calls trees → WritesMeant task trees old new
 
 -- the verdict is this refusal, exactly what is written up to it was taken, and no count moved
-pub record WritesUpTo (refusal : List ℕ → Verdict) (old new : Told) (script : List ℕ) (task : Task) : Type 0 where
+pub record WritesUpTo (refusal : List ℕ → RelayVerdict) (old new : Told) (script : List ℕ) (task : Task) : Type 0 where
   pub written : List ℕ
-  pub is : IsVerdict (refusal written) script task
+  pub is : IsRelayVerdict (refusal written) script task
   pub appends : Appends old written new
   pub steady : IsSteady old new
 
 -- what may be left: a first part of the verdict's text was taken, or of what is written up to its refusal; and nothing where there
 -- is neither
-abbrev pub MayLeave : Told → Told → Verdict → Type 0
-MayLeave old new (Text text) = AppendsFront old text new
-MayLeave old new (Key written) = AppendsFront old written new
-MayLeave old new (Number written) = AppendsFront old written new
-MayLeave old new _ = new ≡ old
+abbrev pub VerdictMayLeave : Told → Told → RelayVerdict → Type 0
+VerdictMayLeave old new (Text text) = AppendsFront old text new
+VerdictMayLeave old new (Key written) = AppendsFront old written new
+VerdictMayLeave old new (Number written) = AppendsFront old written new
+VerdictMayLeave old new _ = new ≡ old
 
 -- the verdict's text, or what is written up to its refusal, has no place in the room that is told; never so where it has neither
-abbrev pub LacksRoomFor : Told → Verdict → Type 0
+abbrev pub LacksRoomFor : Told → RelayVerdict → Type 0
 LacksRoomFor old (Text text) = LacksRoom old text
 LacksRoomFor old (Key written) = LacksRoom old written
 LacksRoomFor old (Number written) = LacksRoom old written
@@ -127,7 +127,7 @@ IsWantIn task told old new = IsWantFor (is_captured task.way) task.many told old
 -- ---- what serving answers
 
 -- the answer that is due
-abbrev pub IsAnswerTo : Verdict → Result (Unit {0}) RelayError → Type 0
+abbrev pub IsAnswerTo : RelayVerdict → Result (Unit {0}) RelayError → Type 0
 IsAnswerTo (BadLine n) result = result ≡ Err (answer.BadLine n)
 IsAnswerTo (BadCall n) result = result ≡ Err (answer.BadCall n)
 IsAnswerTo Unfinished result = result ≡ Err answer.Unfinished
@@ -140,16 +140,16 @@ IsAnswerTo (Number written) result = result ≡ Err answer.InvalidNumber
 pub record Relays {K : Type 0} (told : K → Told) (script : List ℕ) (task : Task) (result : Result (Unit {0}) RelayError) (old new : K) : Type 0 where
   pub done : result ≡ Ok tt → WritesVerdictText (told old) (told new) script task
   pub denotes : result ≡ Ok tt → WritesValue (told old) (told new) script task
-  pub bad_line : (n : ℕ) → result ≡ Err (answer.BadLine n) → IsVerdict (BadLine n) script task
-  pub bad_call : (n : ℕ) → result ≡ Err (answer.BadCall n) → IsVerdict (BadCall n) script task
-  pub unfinished : result ≡ Err answer.Unfinished → IsVerdict Unfinished script task
+  pub bad_line : (n : ℕ) → result ≡ Err (answer.BadLine n) → IsRelayVerdict (BadLine n) script task
+  pub bad_call : (n : ℕ) → result ≡ Err (answer.BadCall n) → IsRelayVerdict (BadCall n) script task
+  pub unfinished : result ≡ Err answer.Unfinished → IsRelayVerdict Unfinished script task
   pub invalid_key : result ≡ Err answer.InvalidKey → WritesUpTo Key (told old) (told new) script task
   pub invalid_number : result ≡ Err answer.InvalidNumber → WritesUpTo Number (told old) (told new) script task
   pub write : result ≡ Err answer.Write → Rose (told old).faults (told new).faults
   pub own_want : result ≡ Err answer.NoMemory → IsWantIn task told old new
   pub comes : (Rose (told old).faults (told new).faults → ⊥) → OnVerdict (λ due. IsAnswerTo due result ⊎ (result ≡ Err answer.NoMemory)) script task
   pub untouched : IfErr result (λ why. is_of_script why ≡ true → new ≡ old)
-  pub leaves : OnVerdict (MayLeave (told old) (told new)) script task
+  pub leaves : OnVerdict (VerdictMayLeave (told old) (told new)) script task
   pub grows : Grows (told old) (told new)
   pub steady : result ≡ Ok tt → IsSteady (told old) (told new)
   pub counts : NoCountFell (told old) (told new)

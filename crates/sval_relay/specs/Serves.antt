@@ -18,26 +18,26 @@ use Rattle.sval_relay.specs.declared.made.MadeError.{MadeError}
 use Rattle.sval_relay.specs.declared.made.MadeError.TheVariants as made
 use Rattle.sval_relay.specs.Made.{IsMadeLine}
 use Rattle.sval_relay.specs.Relays.{MeansAll}
-use Rattle.sval_relay.specs.Verdict.{BadLine, BadCall, Unfinished, Key, Number, Text, IsVerdict}
-use Rattle.sval_relay.specs.Ways.{form_named, is_read_for, is_partly_for}
+use Rattle.sval_relay.specs.Verdict.{BadLine, BadCall, Unfinished, Key, Number, Text, IsRelayVerdict}
+use Rattle.sval_relay.specs.Ways.{relay_form, is_read_for, is_partly_for}
 
 -- ---- what is due
 
 -- of a script by its verdict: its text, what is written up to a refusal, or no bytes before a fault of the script; and the line of a made script
-pub data Due : Form → List ℕ → Option Fault → List ℕ → Type 0 where
-  a_text : {task : Task} {script text : List ℕ} → IsVerdict (Text text) script task → MeansAll text script task → Due (Serve task) script None text
-  is_bad_line : {task : Task} {script : List ℕ} {line : ℕ} → IsVerdict (BadLine line) script task → Due (Serve task) script (Some (fault.BadLine line)) []
-  is_bad_call : {task : Task} {script : List ℕ} {line : ℕ} → IsVerdict (BadCall line) script task → Due (Serve task) script (Some (fault.BadCall line)) []
-  is_unfinished : {task : Task} {script : List ℕ} → IsVerdict Unfinished script task → Due (Serve task) script (Some (fault.Unfinished task.many)) []
-  up_to_key : {task : Task} {script written : List ℕ} → IsVerdict (Key written) script task → Due (Serve task) script (Some fault.InvalidKey) written
-  up_to_number : {task : Task} {script written : List ℕ} → IsVerdict (Number written) script task → Due (Serve task) script (Some fault.InvalidNumber) written
-  a_made_line : {count : ℕ} {script line : List ℕ} → IsMadeLine count line → Due (Made count) script None line
+pub data RelayDue : Form → List ℕ → Option Fault → List ℕ → Type 0 where
+  a_text : {task : Task} {script text : List ℕ} → IsRelayVerdict (Text text) script task → MeansAll text script task → RelayDue (Serve task) script None text
+  is_bad_line : {task : Task} {script : List ℕ} {line : ℕ} → IsRelayVerdict (BadLine line) script task → RelayDue (Serve task) script (Some (fault.BadLine line)) []
+  is_bad_call : {task : Task} {script : List ℕ} {line : ℕ} → IsRelayVerdict (BadCall line) script task → RelayDue (Serve task) script (Some (fault.BadCall line)) []
+  is_unfinished : {task : Task} {script : List ℕ} → IsRelayVerdict Unfinished script task → RelayDue (Serve task) script (Some (fault.Unfinished task.many)) []
+  up_to_key : {task : Task} {script written : List ℕ} → IsRelayVerdict (Key written) script task → RelayDue (Serve task) script (Some fault.InvalidKey) written
+  up_to_number : {task : Task} {script written : List ℕ} → IsRelayVerdict (Number written) script task → RelayDue (Serve task) script (Some fault.InvalidNumber) written
+  a_made_line : {count : ℕ} {script line : List ℕ} → IsMadeLine count line → RelayDue (Made count) script None line
 
 -- what the program does
 abbrev pub relay_terms : Terms Form
 relay_terms = record {
-  form_named = form_named;
-  Due = Due;
+  form_named = relay_form;
+  Due = RelayDue;
   reads = is_read_for;
   partly = is_partly_for;
   faults = BAD_LINE ∷ BAD_CALL ∷ UNFINISHED ∷ INVALID_KEY ∷ INVALID_NUMBER ∷ [];
@@ -55,19 +55,19 @@ failure_of_check many checking.NoMemory = Some failure.NoMemory
 failure_of_check many checking.Refused = None
 
 -- why values weren't written, or not whole
-abbrev pub failure_of : (many : Bool) → RelayError → Failure
-failure_of many (answer.BadLine n) = failure.Fault (fault.BadLine n)
-failure_of many (answer.BadCall n) = failure.Fault (fault.BadCall n)
-failure_of many answer.Unfinished = failure.Fault (fault.Unfinished many)
-failure_of many answer.InvalidKey = failure.Fault fault.InvalidKey
-failure_of many answer.InvalidNumber = failure.Fault fault.InvalidNumber
-failure_of many answer.Write = failure.Write sink.Failed
-failure_of many answer.NoMemory = failure.Write sink.NoMemory
+abbrev pub failure_of_relay : (many : Bool) → RelayError → Failure
+failure_of_relay many (answer.BadLine n) = failure.Fault (fault.BadLine n)
+failure_of_relay many (answer.BadCall n) = failure.Fault (fault.BadCall n)
+failure_of_relay many answer.Unfinished = failure.Fault (fault.Unfinished many)
+failure_of_relay many answer.InvalidKey = failure.Fault fault.InvalidKey
+failure_of_relay many answer.InvalidNumber = failure.Fault fault.InvalidNumber
+failure_of_relay many answer.Write = failure.Write sink.Failed
+failure_of_relay many answer.NoMemory = failure.Write sink.NoMemory
 
 -- how writing them ended
 abbrev pub ended_by : (many : Bool) → Result (Unit {0}) RelayError → Result (Unit {0}) Failure
 ended_by many (Ok done) = Ok done
-ended_by many (Err why) = Err (failure_of many why)
+ended_by many (Err why) = Err (failure_of_relay many why)
 
 -- why the line of a made script wasn't written whole
 abbrev pub failure_of_made : MadeError → Failure

@@ -37,16 +37,16 @@ abbrev pub served_in : Bool → Option Way → Option Form
 served_in many = option_map (λ way. Serve (record { way = way; many = many }))
 
 -- the form that words are, if they are one
-abbrev pub form_named : List (List ℕ) → Option Form
-form_named (word ∷ []) = served_in false (way_alone word)
-form_named (word ∷ last ∷ []) =
+abbrev pub relay_form : List (List ℕ) → Option Form
+relay_form (word ∷ []) = served_in false (way_alone word)
+relay_form (word ∷ last ∷ []) =
     if bytes_eq word (codes "made") then option_map Made (records_named last)
     else if bytes_eq last (codes "lines") then served_in true (way_alone word)
     else if bytes_eq last (codes "beside") then served_in false (way_beside word)
     else None
-form_named (word ∷ middle ∷ last ∷ []) =
+relay_form (word ∷ middle ∷ last ∷ []) =
     if bytes_eq middle (codes "beside") then (if bytes_eq last (codes "lines") then served_in true (way_beside word) else None) else None
-form_named words = None
+relay_form words = None
 
 -- whether the input is read: it isn't for a made script
 abbrev pub is_read_for : Option Form → Bool

@@ -13,7 +13,7 @@ use Rattle.sval_relay.specs.declared.way.Way.{Way}
 use Rattle.sval_relay.specs.declared.relaying.RelayError.{RelayError}
 use Rattle.sval_relay.specs.declared.relaying.RelayError.TheVariants as answer
 use Rattle.sval_relay.specs.Ways.{is_captured}
-use Rattle.sval_relay.specs.Verdict.{Asked, tree_text, tree_written, tree_due, texts, left, asked_in, ending}
+use Rattle.sval_relay.specs.Verdict.{TreeFormat, tree_text, tree_written, tree_due, texts, left, asked_in, ending}
 use Rattle.sval_program.specs.Outputs.{IsOwnWant, IsWantBetween}
 use Rattle.sval_relay.specs.Relays.{IsMeant, AreMeant}
 
@@ -39,7 +39,7 @@ pub record FailsFull (due : List ℕ) (old new : Told) : Type 0 where
 -- ---- one tree
 
 -- exactly the tree's text was taken, and is what is meant
-pub record WritesTextOf (asked : Asked) (tree : Tree) (old new : Told) : Type 0 where
+pub record WritesTextOf (asked : TreeFormat) (tree : Tree) (old new : Told) : Type 0 where
   pub text : List ℕ
   pub is : tree_text asked tree ≡ Ok text
   pub meant : IsMeant asked tree text
@@ -47,13 +47,13 @@ pub record WritesTextOf (asked : Asked) (tree : Tree) (old new : Told) : Type 0 
   pub steady : IsSteady old new
 
 -- the tree has no text for this cause, exactly what is written up to there was taken, and no count moved
-pub record RefusesTree (asked : Asked) (why : Refusal) (tree : Tree) (old new : Told) : Type 0 where
+pub record RefusesTree (asked : TreeFormat) (why : Refusal) (tree : Tree) (old new : Told) : Type 0 where
   pub is : tree_text asked tree ≡ Err why
   pub appends : Appends old (tree_written asked tree) new
   pub steady : IsSteady old new
 
 -- why writing stopped
-abbrev pub IsCauseOf : {K : Type 0} → RelayError → (captured : Bool) → (K → Told) → Asked → Tree → K → K → Type 0
+abbrev pub IsCauseOf : {K : Type 0} → RelayError → (captured : Bool) → (K → Told) → TreeFormat → Tree → K → K → Type 0
 IsCauseOf answer.InvalidKey captured told asked tree old new = RefusesTree asked InvalidKey tree (told old) (told new)
 IsCauseOf answer.InvalidNumber captured told asked tree old new = RefusesTree asked InvalidNumber tree (told old) (told new)
 IsCauseOf answer.Write captured told asked tree old new = FailsFull (tree_due asked tree) (told old) (told new)
@@ -61,13 +61,13 @@ IsCauseOf answer.NoMemory captured told asked tree old new = IsWantOfTree captur
 IsCauseOf _ captured told asked tree old new = ⊥
 
 -- a first part of what is due of the tree was taken
-pub record StopsTree {K : Type 0} (why : RelayError) (captured : Bool) (told : K → Told) (asked : Asked) (tree : Tree) (old new : K) : Type 0 where
+pub record StopsTree {K : Type 0} (why : RelayError) (captured : Bool) (told : K → Told) (asked : TreeFormat) (tree : Tree) (old new : K) : Type 0 where
   pub cause : IsCauseOf why captured told asked tree old new
   pub begins : AppendsFront (told old) (tree_due asked tree) (told new)
   pub counts : NoCountFell (told old) (told new)
 
 -- the tree's text was written, or a first part of what is due of it
-abbrev pub WritesTreeText : {K : Type 0} → Result (Unit {0}) RelayError → (captured : Bool) → (K → Told) → Asked → Tree → K → K → Type 0
+abbrev pub WritesTreeText : {K : Type 0} → Result (Unit {0}) RelayError → (captured : Bool) → (K → Told) → TreeFormat → Tree → K → K → Type 0
 WritesTreeText (Ok done) captured told asked tree old new = WritesTextOf asked tree (told old) (told new)
 WritesTreeText (Err why) captured told asked tree old new = StopsTree why captured told asked tree old new
 
@@ -78,7 +78,7 @@ WritesTreeBy way result told tree old new = WritesTreeText result (is_captured w
 -- ---- trees one after another
 
 -- exactly the trees' texts were taken, each with its ending, and they are what is meant
-pub record WritesTexts (asked : Asked) (end : List ℕ) (trees : List Tree) (old new : Told) : Type 0 where
+pub record WritesTexts (asked : TreeFormat) (end : List ℕ) (trees : List Tree) (old new : Told) : Type 0 where
   pub text : List ℕ
   pub is : texts asked end trees ≡ Ok text
   pub meant : AreMeant asked end trees text
@@ -86,13 +86,13 @@ pub record WritesTexts (asked : Asked) (end : List ℕ) (trees : List Tree) (old
   pub steady : IsSteady old new
 
 -- some tree has no text for this cause, exactly what is written up to there was taken, and no count moved
-pub record RefusesSome (asked : Asked) (end : List ℕ) (why : Refusal) (trees : List Tree) (old new : Told) : Type 0 where
+pub record RefusesSome (asked : TreeFormat) (end : List ℕ) (why : Refusal) (trees : List Tree) (old new : Told) : Type 0 where
   pub is : texts asked end trees ≡ Err why
   pub appends : Appends old (left asked end trees) new
   pub steady : IsSteady old new
 
 -- why writing stopped; `Want` is what a want of memory says
-abbrev pub IsCauseAmong : {K : Type 0} → RelayError → (Want : K → K → Type 0) → (K → Told) → Asked → List ℕ → List Tree → K → K → Type 0
+abbrev pub IsCauseAmong : {K : Type 0} → RelayError → (Want : K → K → Type 0) → (K → Told) → TreeFormat → List ℕ → List Tree → K → K → Type 0
 IsCauseAmong answer.InvalidKey Want told asked end trees old new = RefusesSome asked end InvalidKey trees (told old) (told new)
 IsCauseAmong answer.InvalidNumber Want told asked end trees old new = RefusesSome asked end InvalidNumber trees (told old) (told new)
 IsCauseAmong answer.Write Want told asked end trees old new = FailsFull (left asked end trees) (told old) (told new)
@@ -100,13 +100,13 @@ IsCauseAmong answer.NoMemory Want told asked end trees old new = Want old new
 IsCauseAmong _ Want told asked end trees old new = ⊥
 
 -- a first part of what is due of the trees was taken
-pub record StopsAmong {K : Type 0} (why : RelayError) (Want : K → K → Type 0) (told : K → Told) (asked : Asked) (end : List ℕ) (trees : List Tree) (old new : K) : Type 0 where
+pub record StopsAmong {K : Type 0} (why : RelayError) (Want : K → K → Type 0) (told : K → Told) (asked : TreeFormat) (end : List ℕ) (trees : List Tree) (old new : K) : Type 0 where
   pub cause : IsCauseAmong why Want told asked end trees old new
   pub begins : AppendsFront (told old) (left asked end trees) (told new)
   pub counts : NoCountFell (told old) (told new)
 
 -- the trees' texts were written, or a first part of what is due of them
-abbrev pub WritesTrees : {K : Type 0} → Result (Unit {0}) RelayError → (Want : K → K → Type 0) → (K → Told) → Asked → List ℕ → List Tree → K → K → Type 0
+abbrev pub WritesTrees : {K : Type 0} → Result (Unit {0}) RelayError → (Want : K → K → Type 0) → (K → Told) → TreeFormat → List ℕ → List Tree → K → K → Type 0
 WritesTrees (Ok done) Want told asked end trees old new = WritesTexts asked end trees (told old) (told new)
 WritesTrees (Err why) Want told asked end trees old new = StopsAmong why Want told asked end trees old new
 

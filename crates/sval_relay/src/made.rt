@@ -7,7 +7,7 @@ ghost use Rattle.sval_core.specs.Law.{Emits};
 ghost use Rattle.sval_core.specs.Values.{makes};
 ghost use Rattle.sval_core.specs.ValueCalls.{item_calls, part_calls};
 ghost use Rattle.sval_io.specs.Sinks.{WritesAll};
-ghost use Rattle.sval_relay.specs.Verdict.{Text, one_in, IsVerdict};
+ghost use Rattle.sval_relay.specs.Verdict.{Text, one_in, IsRelayVerdict};
 ghost use Rattle.sval_relay.specs.Made.{id_calls, name_calls, record_calls, made_calls, made_script, sizes_line, IsMadeLine, LacksRoomForLine, TellsMade};
 
 use crate::relaying::{RelayError, relay};
@@ -137,9 +137,9 @@ fn count_lines(script: &[u8]) -> usize
 
 /// How many bytes the JSON of a script has, where it has one.
 fn json_length(alloc: Global, script: &[u8]) -> Result<usize, MadeError>
-    requires { (text : List ℕ) × IsVerdict (Text text) script.now (one_in Way.Buffered) }
+    requires { (text : List ℕ) × IsRelayVerdict (Text text) script.now (one_in Way.Buffered) }
     ensures bytes { IfOk result (λ bytes. (text : List ℕ)
-        → IsVerdict (Text text) script.now (one_in Way.Buffered) → bytes ≡ length text) }
+        → IsRelayVerdict (Text text) script.now (one_in Way.Buffered) → bytes ≡ length text) }
     ensures no_memory { IfErr result (λ why. why ≡ MadeError.NoMemory) }
 {
     let mut json = VecSink::new(alloc);

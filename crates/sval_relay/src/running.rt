@@ -5,7 +5,7 @@ ghost use Rattle.sval_program.specs.Jobs.{ServesBytes, ServesInput, Serves};
 ghost use Rattle.sval_program.specs.Runs.{Ends, Reports};
 ghost use Rattle.sval_script.specs.Lines.{lines, Good};
 ghost use Rattle.sval_relay.specs.declared.way.Form.TheVariants.{Serve, Made};
-ghost use Rattle.sval_relay.specs.Serves.{relay_terms, failure_of_check, failure_of, ended_by};
+ghost use Rattle.sval_relay.specs.Serves.{relay_terms, failure_of_check, failure_of_relay, ended_by};
 ghost use Rattle.sval_relay.specs.Verdict.{one_in, all_in};
 ghost use Rattle.sval_relay.specs.WrittenTrees.{IsOfScript};
 
@@ -36,7 +36,7 @@ fn found(error: CheckError, many: bool) -> Failure
 
 /// Why values weren't written, or not whole, where many may come or not.
 fn unwritten(error: RelayError, many: bool) -> Failure
-    ensures { result ≡ failure_of many error }
+    ensures { result ≡ failure_of_relay many error }
 {
     match error {
         RelayError::BadLine { line } => Failure::Fault(Fault::BadLine { line }),

@@ -5,7 +5,7 @@ ghost use Rattle.std.specs.Io.KnownBytes.{Keeps};
 ghost use Rattle.sval_program.specs.Runs.{is_status, is_unwritten};
 ghost use Rattle.sval_program.specs.Streams.{StreamsEnd, AppendsAllDue};
 ghost use Rattle.sval_relay.specs.Serves.{relay_terms};
-ghost use Rattle.sval_relay.specs.Ways.{form_named};
+ghost use Rattle.sval_relay.specs.Ways.{relay_form};
 
 use crate::made::MadeError;
 use crate::running::serve;
@@ -86,7 +86,7 @@ pub fn relay_streams<R: Read + Drop, W: Write + Drop, D: Write + Drop>(
     stderr: D,
 ) -> u8
     ensures known { is_status relay_terms result ≡ true }
-    ensures usage { (result ≡ USAGE) ↔ (form_named (map string_bytes words.now) ≡ None) }
+    ensures usage { (result ≡ USAGE) ↔ (relay_form (map string_bytes words.now) ≡ None) }
     ensures ends { StreamsEnd relay_terms (map string_bytes words.now) (R.remaining stdin)
         (W.contents stdout.old) (W.contents stdout.new) result }
     ensures done { result ≡ DONE → AppendsAllDue relay_terms (map string_bytes words.now) (R.remaining stdin)

@@ -1,7 +1,7 @@
 //! The ways to serve a script, and the forms of the program's words.
 
 ghost use Rattle.std.specs.Prelude.{◌≡◌, map, string_bytes};
-ghost use Rattle.sval_relay.specs.Ways.{way_alone, way_beside, served_in, records_named, form_named};
+ghost use Rattle.sval_relay.specs.Ways.{way_alone, way_beside, served_in, records_named, relay_form};
 
 /// The ways to serve a script: what is written of each value that it spells.
 #[derive(Clone, Copy, Debug, PartialEq, Eq)]
@@ -92,7 +92,7 @@ fn named_records(word: &str) -> Option<u32>
 
 /// The form that the program's words are, if they are one.
 pub(crate) fn named_form(words: &[String]) -> Option<Form>
-    ensures { result ≡ form_named (map string_bytes words.now) }
+    ensures { result ≡ relay_form (map string_bytes words.now) }
 {
     match words {
         [word] => Form::served(alone(word.as_str()), false),

@@ -16,7 +16,7 @@ use Rattle.sval_core.proofs.examples.ListsOfTrees.{not_completed}
 use Rattle.sval_script.specs.Lines.{lines, line_of, forms}
 use Rattle.sval_script.specs.Printed.{printed, line}
 use Rattle.sval_relay.specs.declared.way.Way.TheVariants.{Direct, Buffered}
-use Rattle.sval_relay.specs.Verdict.{BadCall, Unfinished, Key, Text, Script, asked_in, left, trees_verdict, ending, IsOfCalls, bad_call, unfinished, whole, IsVerdictOn}
+use Rattle.sval_relay.specs.Verdict.{BadCall, Unfinished, Key, Text, Script, asked_in, left, trees_verdict, ending, IsOfRelayCalls, bad_call, unfinished, whole, IsVerdictOn}
 
 -- a null and a truth value, each with its line feed
 two_lines : IsVerdictOn (Text (codes "null\ntrue\n")) (codes "null\nbool true\n") (asked_in Direct) true
@@ -28,7 +28,7 @@ no_line : IsVerdictOn (Text []) [] (asked_in Direct) true
 unfolding lines
 no_line = whole [] refl
 
-hint_alone : IsOfCalls (call.TagHint (codes "NUMBER") ∷ []) (asked_in Direct) true (Text [])
+hint_alone : IsOfRelayCalls (call.TagHint (codes "NUMBER") ∷ []) (asked_in Direct) true (Text [])
 hint_alone = whole [] refl
 
 -- canonical scripts, one after the other
@@ -50,12 +50,12 @@ null_and_sequence_spelled = (
   ),
 )
 
-two_scripts : IsOfCalls (call.Null ∷ call.TagHint (codes "NUMBER") ∷ call.Begin Head.Seq (Some 0) ∷ call.End Head.Seq ∷ []) Script true
+two_scripts : IsOfRelayCalls (call.Null ∷ call.TagHint (codes "NUMBER") ∷ call.Begin Head.Seq (Some 0) ∷ call.End Head.Seq ∷ []) Script true
     (Text (codes "null\nseq_begin -\nseq_end\n"))
 unfolding printed line
 two_scripts = whole null_and_sequence null_and_sequence_spelled
 
-two_texts : IsOfCalls (call.Null ∷ call.TagHint (codes "NUMBER") ∷ call.Begin Head.Seq (Some 0) ∷ call.End Head.Seq ∷ []) (asked_in Direct) true
+two_texts : IsOfRelayCalls (call.Null ∷ call.TagHint (codes "NUMBER") ∷ call.Begin Head.Seq (Some 0) ∷ call.End Head.Seq ∷ []) (asked_in Direct) true
     (Text (codes "null\n[]\n"))
 two_texts = whole null_and_sequence null_and_sequence_spelled
 
@@ -73,7 +73,7 @@ map_calls =
     call.Begin Head.Map None ∷ call.PartBegin Slot.Key ∷ call.Begin Head.Seq None ∷ call.End Head.Seq ∷ call.PartEnd Slot.Key
     ∷ call.PartBegin Slot.Value ∷ call.Null ∷ call.PartEnd Slot.Value ∷ call.End Head.Map ∷ []
 
-refused_second_calls : IsOfCalls (call.Int call.I64 (pos 1) ∷ map_calls) (asked_in Direct) true (Key (codes "1\n{\""))
+refused_second_calls : IsOfRelayCalls (call.Int call.I64 (pos 1) ∷ map_calls) (asked_in Direct) true (Key (codes "1\n{\""))
 unfolding digits
 refused_second_calls = whole (Int call.I64 (pos 1) ∷ sequence_as_key ∷ []) (
   call.Int call.I64 (pos 1) ∷ [],

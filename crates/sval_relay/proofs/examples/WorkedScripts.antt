@@ -14,7 +14,7 @@ use Rattle.sval_script.specs.Lines.{Good, lines, line_of, forms}
 use Rattle.sval_relay.specs.declared.way.Way.TheVariants.{Direct, Buffered, Calls, DirectBeside, BufferedBeside}
 use Rattle.sval_relay.specs.declared.way.Form.TheVariants.{Serve, Made}
 use Rattle.sval_relay.specs.Serves.{relay_terms}
-use Rattle.sval_relay.specs.Ways.{form_named}
+use Rattle.sval_relay.specs.Ways.{relay_form}
 use Rattle.sval_relay.specs.Verdict.{one_in, all_in}
 
 sequence_calls : List Call
@@ -40,32 +40,32 @@ sequence_text_beside = refl
 
 -- ---- the forms
 
-alone : (form_named (codes "direct" ∷ []) ≡ Some (Serve (one_in Direct))) × (form_named (codes "buffered" ∷ []) ≡ Some (Serve (one_in Buffered)))
-    × (form_named (codes "calls" ∷ []) ≡ Some (Serve (one_in Calls)))
+alone : (relay_form (codes "direct" ∷ []) ≡ Some (Serve (one_in Direct))) × (relay_form (codes "buffered" ∷ []) ≡ Some (Serve (one_in Buffered)))
+    × (relay_form (codes "calls" ∷ []) ≡ Some (Serve (one_in Calls)))
 alone = (refl, refl, refl)
 
-with_beside : (form_named (codes "direct" ∷ codes "beside" ∷ []) ≡ Some (Serve (one_in DirectBeside)))
-    × (form_named (codes "buffered" ∷ codes "beside" ∷ []) ≡ Some (Serve (one_in BufferedBeside)))
+with_beside : (relay_form (codes "direct" ∷ codes "beside" ∷ []) ≡ Some (Serve (one_in DirectBeside)))
+    × (relay_form (codes "buffered" ∷ codes "beside" ∷ []) ≡ Some (Serve (one_in BufferedBeside)))
 with_beside = (refl, refl)
 
-with_lines : (form_named (codes "direct" ∷ codes "lines" ∷ []) ≡ Some (Serve (all_in Direct)))
-    × (form_named (codes "buffered" ∷ codes "lines" ∷ []) ≡ Some (Serve (all_in Buffered)))
-    × (form_named (codes "calls" ∷ codes "lines" ∷ []) ≡ Some (Serve (all_in Calls)))
-    × (form_named (codes "direct" ∷ codes "beside" ∷ codes "lines" ∷ []) ≡ Some (Serve (all_in DirectBeside)))
-    × (form_named (codes "buffered" ∷ codes "beside" ∷ codes "lines" ∷ []) ≡ Some (Serve (all_in BufferedBeside)))
+with_lines : (relay_form (codes "direct" ∷ codes "lines" ∷ []) ≡ Some (Serve (all_in Direct)))
+    × (relay_form (codes "buffered" ∷ codes "lines" ∷ []) ≡ Some (Serve (all_in Buffered)))
+    × (relay_form (codes "calls" ∷ codes "lines" ∷ []) ≡ Some (Serve (all_in Calls)))
+    × (relay_form (codes "direct" ∷ codes "beside" ∷ codes "lines" ∷ []) ≡ Some (Serve (all_in DirectBeside)))
+    × (relay_form (codes "buffered" ∷ codes "beside" ∷ codes "lines" ∷ []) ≡ Some (Serve (all_in BufferedBeside)))
 with_lines = (refl, refl, refl, refl, refl)
 
-made : (form_named (codes "made" ∷ codes "0" ∷ []) ≡ Some (Made 0)) × (form_named (codes "made" ∷ codes "50000" ∷ []) ≡ Some (Made 50000))
+made : (relay_form (codes "made" ∷ codes "0" ∷ []) ≡ Some (Made 0)) × (relay_form (codes "made" ∷ codes "50000" ∷ []) ≡ Some (Made 50000))
 made = (refl, refl)
 
-no_numbers : (form_named (codes "made" ∷ codes "50001" ∷ []) ≡ None) × (form_named (codes "made" ∷ codes "01" ∷ []) ≡ None)
-    × (form_named (codes "made" ∷ codes "+1" ∷ []) ≡ None) × (form_named (codes "made" ∷ [] ∷ []) ≡ None) × (form_named (codes "made" ∷ []) ≡ None)
+no_numbers : (relay_form (codes "made" ∷ codes "50001" ∷ []) ≡ None) × (relay_form (codes "made" ∷ codes "01" ∷ []) ≡ None)
+    × (relay_form (codes "made" ∷ codes "+1" ∷ []) ≡ None) × (relay_form (codes "made" ∷ [] ∷ []) ≡ None) × (relay_form (codes "made" ∷ []) ≡ None)
 no_numbers = (refl, refl, refl, refl, refl)
 
-no_forms : (form_named [] ≡ None) × (form_named (codes "beside" ∷ []) ≡ None) × (form_named (codes "lines" ∷ []) ≡ None)
-    × (form_named (codes "calls" ∷ codes "beside" ∷ []) ≡ None) × (form_named (codes "direct" ∷ codes "direct" ∷ []) ≡ None)
-    × (form_named (codes "direct" ∷ codes "lines" ∷ codes "beside" ∷ []) ≡ None)
-    × (form_named (codes "direct" ∷ codes "beside" ∷ codes "beside" ∷ []) ≡ None)
+no_forms : (relay_form [] ≡ None) × (relay_form (codes "beside" ∷ []) ≡ None) × (relay_form (codes "lines" ∷ []) ≡ None)
+    × (relay_form (codes "calls" ∷ codes "beside" ∷ []) ≡ None) × (relay_form (codes "direct" ∷ codes "direct" ∷ []) ≡ None)
+    × (relay_form (codes "direct" ∷ codes "lines" ∷ codes "beside" ∷ []) ≡ None)
+    × (relay_form (codes "direct" ∷ codes "beside" ∷ codes "beside" ∷ []) ≡ None)
 no_forms = (refl, refl, refl, refl, refl, refl, refl)
 
 -- ---- what the third device is told

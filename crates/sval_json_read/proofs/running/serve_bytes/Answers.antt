@@ -10,23 +10,23 @@ use Rattle.sval_json_read.specs.declared.document.ReadError.{ReadError}
 use Rattle.sval_json_read.specs.declared.document.ReadError.TheVariants as reading
 use Rattle.sval_json_read.specs.declared.form.Form.{Form}
 use Rattle.sval_json_read.specs.ReadErrors.{IsJsonReadError}
-use Rattle.sval_json_read.specs.Serves.{Due, a_text, no_utf8, no_json, read_terms, failure_of, WritesDueText}
+use Rattle.sval_json_read.specs.Serves.{JsonReadDue, a_text, no_utf8, no_json, json_read_terms, failure_of_json_read, WritesDueText}
 use Rattle.sval_json_read.proofs.running.serve_bytes.Goals as goal
 
 -- nothing is written before a fault
-faulty : {input : List ℕ} {asked : Form} {why : Fault} (told : Told) → Due asked input (Some why) [] → WritesAllDue read_terms asked input (Some why) told told
+faulty : {input : List ℕ} {asked : Form} {why : Fault} (told : Told) → JsonReadDue asked input (Some why) [] → WritesAllDue json_read_terms asked input (Some why) told told
 faulty told d = record { bytes = []; due = d; writes = writes_nothing told }
 
-unread : {K : Type 0} (told : K → Told) (input : List ℕ) (asked : Form) (old : K) (why : ReadError) → IsJsonReadError input why → ServesBytes read_terms told asked input (Err (failure_of why)) old old
+unread : {K : Type 0} (told : K → Told) (input : List ℕ) (asked : Form) (old : K) (why : ReadError) → IsJsonReadError input why → ServesBytes json_read_terms told asked input (Err (failure_of_json_read why)) old old
 unread told input asked old reading.NotUtf8 cause = record { all = faulty (told old) (no_utf8 cause); known = refl; untouched = λ e. refl }
 unread told input asked old (reading.BadJson at) cause = record { all = faulty (told old) (no_json cause); known = refl; untouched = λ e. refl }
 unread told input asked old reading.NoMemory cause = refl
 
-writes_all : {K : Type 0} (told : K → Told) (input : List ℕ) (asked : Form) (old new : K) → WritesDueText told input asked (Ok tt) old new → ServesBytes read_terms told asked input (Ok tt) old new
+writes_all : {K : Type 0} (told : K → Told) (input : List ℕ) (asked : Form) (old new : K) → WritesDueText told input asked (Ok tt) old new → ServesBytes json_read_terms told asked input (Ok tt) old new
 writes_all told input asked old new w = record { bytes = w.text; due = a_text w.due; writes = w.writes }
 
 stops_within : {K : Type 0} (told : K → Told) (input : List ℕ) (asked : Form) (old new : K) (why : SinkError) → WritesDueText told input asked (Err why) old new
-    → ServesBytes read_terms told asked input (Err (failure.Write why)) old new
+    → ServesBytes json_read_terms told asked input (Err (failure.Write why)) old new
 stops_within told input asked old new why w = record { found = None; bytes = w.text; due = a_text w.due; may = refl; stops = w.writes.stops }
 
 pub returns-in_err-doc : goal.returns-in_err-doc
