@@ -3,6 +3,7 @@ pub mod Growing
 pub mod Telling
 pub mod PrintedTrees
 pub mod FoundCalls
+pub mod Verdicts
 mod CapturedMemory
 pub mod JobRuns
 pub mod JobStatuses

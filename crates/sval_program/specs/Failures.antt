@@ -1,6 +1,8 @@
 -- The status and the line of each failure.
 use Rattle.std.specs.Prelude.{ℕ, Bool, not, List, [], ◌∷◌, Option, Some, None, Result, Ok, Err}
 use Rattle.sval_io.specs.declared.sink.SinkError.TheVariants as sink
+use Rattle.sval_check.specs.declared.error.CheckError.{CheckError}
+use Rattle.sval_check.specs.declared.error.CheckError.TheVariants as check
 use Rattle.sval_script.specs.declared.script.ScriptError.{ScriptError}
 use Rattle.sval_script.specs.declared.script.ScriptError.TheVariants as reading
 use Rattle.sval_program.specs.declared.status.TheConstants.{DONE, USAGE, BAD_LINE, BAD_CALL, UNFINISHED, INVALID_KEY, INVALID_NUMBER, WRITE, READ, NO_MEMORY, TOO_LONG, NOT_UTF8, BAD_JSON, RAW, NOT_INTEGER, BAD_CBOR}
@@ -36,6 +38,13 @@ status_of_found (Some why) = status_of_fault why
 abbrev pub failure_of_script : ScriptError → Failure
 failure_of_script (reading.BadLine number) = failure.Fault (fault.BadLine number)
 failure_of_script reading.NoMemory = failure.NoMemory
+
+-- what checking found, where many values may come or not; the refusal of a value is no failure of a program
+abbrev pub failure_of_check : (many : Bool) → CheckError → Option Failure
+failure_of_check many (check.BadCall n) = Some (failure.Fault (fault.BadCall n))
+failure_of_check many check.Unfinished = Some (failure.Fault (fault.Unfinished many))
+failure_of_check many check.NoMemory = Some failure.NoMemory
+failure_of_check many check.Refused = None
 
 -- a failure's status
 abbrev pub status_of_failure : Failure → ℕ

@@ -1,5 +1,6 @@
 pub mod Inputs
 pub mod Outputs
+pub mod Verdict
 pub mod Laws
 pub mod Statuses
 pub mod Reports

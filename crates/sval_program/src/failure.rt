@@ -1,10 +1,11 @@
 //! Why a program failed.
 
-ghost use Rattle.std.specs.Prelude.{◌≡◌};
-ghost use Rattle.sval_program.specs.Failures.{status_of_fault, row_of_fault, status_of_failure};
+ghost use Rattle.std.specs.Prelude.{◌≡◌, Some};
+ghost use Rattle.sval_program.specs.Failures.{status_of_fault, row_of_fault, status_of_failure, failure_of_check};
 
 use crate::line::Line;
 use crate::{lines, status};
+use sval_check::CheckError;
 use sval_io::{InputError, SinkError};
 use sval_script::ScriptError;
 
@@ -132,6 +133,19 @@ impl From<SinkError> for Failure {
 }
 
 impl Failure {
+    /// What checking calls found, where many values may come or not. Calls of a script never refuse.
+    pub fn of_check(error: CheckError, many: bool) -> Failure
+        requires { error ≡ CheckError.Refused → ⊥ }
+        ensures { failure_of_check many error ≡ Some result }
+    {
+        match error {
+            CheckError::BadCall { at } => Failure::Fault(Fault::BadCall { line: at }),
+            CheckError::Unfinished => Failure::Fault(Fault::Unfinished { many }),
+            CheckError::NoMemory => Failure::NoMemory,
+            CheckError::Refused => unreachable!("a script doesn't refuse"),
+        }
+    }
+
     /// The program's status.
     pub fn status(self) -> u8
         ensures { result ≡ status_of_failure self }
