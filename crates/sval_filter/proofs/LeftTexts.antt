@@ -23,10 +23,11 @@ use Rattle.sval_program.specs.Failures.{status_of_fault}
 use Rattle.sval_program.specs.Jobs.{may_write, ServesBytes}
 use Rattle.sval_program.specs.Outputs.{IsStopCause}
 use Rattle.sval_program.specs.Statuses.{is_among}
+use Rattle.sval_program.specs.Verdict.{Whole}
 use Rattle.sval_filter.specs.Forms.{FilterForm}
 use Rattle.sval_filter.specs.Pruned.{pruned}
 use Rattle.sval_filter.specs.Serves.{FilterDue, a_text, up_to_key, up_to_number, filter_terms, IsLeftOf}
-use Rattle.sval_filter.specs.Verdict.{Whole, IsWritten, IsVerdict}
+use Rattle.sval_filter.specs.Verdict.{IsWritten, IsFilterVerdict}
 
 -- the fault where what is left has no JSON
 abbrev pub fault_of : Refusal → Fault
@@ -63,7 +64,7 @@ module _ (f : Forest) (script : List ℕ) (asked : FilterForm) (l : IsLeftOf f s
   json_written : (json : Json) → json_of left ≡ Ok json → written ≡ compact json
   json_written json shape = (subst (λ found. IsWrittenAs found (written_in Inside (replayed f))) shape (spelling_written Inside (replayed f) left l.is.left)).0
 
-  whole : (refused : Option Refusal) (bytes : List ℕ) → IsWritten refused bytes left → IsVerdict (Whole refused bytes) script asked
+  whole : (refused : Option Refusal) (bytes : List ℕ) → IsWritten refused bytes left → IsFilterVerdict (Whole (refused, bytes)) script asked
   whole refused bytes is = record { calls = l.calls; good = l.good; is = record { tree = l.is.tree; spells = l.is.spells; is = is } }
 
   text_due : (bytes : List ℕ) (json : Json) → json_of left ≡ Ok json → bytes ≡ compact json → FilterDue asked script None bytes

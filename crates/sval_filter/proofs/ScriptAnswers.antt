@@ -17,12 +17,12 @@ use Rattle.sval_program.specs.declared.failure.Fault.{Fault}
 use Rattle.sval_program.specs.declared.failure.Fault.TheVariants as fault
 use Rattle.sval_program.specs.declared.failure.Failure.{Failure}
 use Rattle.sval_program.specs.declared.failure.Failure.TheVariants as failure
-use Rattle.sval_program.specs.Failures.{status_of_fault, failure_of_script}
+use Rattle.sval_program.specs.Failures.{status_of_fault, failure_of_script, failure_of_check}
 use Rattle.sval_program.specs.Inputs.{HasRead}
 use Rattle.sval_program.specs.Jobs.{ServesBytes}
 use Rattle.sval_program.specs.Statuses.{is_among}
 use Rattle.sval_filter.specs.Forms.{FilterForm}
-use Rattle.sval_filter.specs.Serves.{FilterDue, is_bad_line, is_bad_call, is_unfinished, filter_terms, failure_of_check}
+use Rattle.sval_filter.specs.Serves.{FilterDue, is_bad_line, is_bad_call, is_unfinished, filter_terms}
 
 -- nothing is written before a fault of the script
 faulty : {K : Type 0} (told : K → Told) (script : List ℕ) (asked : FilterForm) (out : K) (why : Fault) → FilterDue asked script (Some why) [] → is_among (status_of_fault why) filter_terms.faults ≡ true
@@ -35,7 +35,7 @@ module _ (script : List ℕ) (asked : FilterForm) (calls : List Call) (good : li
   fails_so : {K : Type 0} (told : K → Told) (out : K) (why failed : Failure) → Some why ≡ Some failed → ServesBytes filter_terms told asked script (Err why) out out → ServesBytes filter_terms told asked script (Err failed) out out
   fails_so told out why failed is f = let same : why ≡ failed = cc is in subst (λ (w : Failure). ServesBytes filter_terms told asked script (Err w) out out) same f
 
-  pub check_fails : {K : Type 0} (told : K → Told) (out : K) (why : CheckError) (failed : Failure) → failure_of_check why ≡ Some failed
+  pub check_fails : {K : Type 0} (told : K → Told) (out : K) (why : CheckError) (failed : Failure) → failure_of_check false why ≡ Some failed
       → ((at : ℕ) → ◌≡◌ {A = Result (Unit {0}) CheckError} (Err why) (Err (check.BadCall at)) → IsFirstBadCall calls at)
       → (◌≡◌ {A = Result (Unit {0}) CheckError} (Err why) (Err check.Unfinished) → IsUnfinished (makes calls))
       → ServesBytes filter_terms told asked script (Err failed) out out

@@ -1,4 +1,4 @@
--- The laws of pruning, of the filter and of verdicts, as facts.
+-- The laws of pruning and of the filter, as facts.
 use Rattle.std.specs.Prelude.{◌≡◌, ℕ, ◌<◌, ◌^◌, List, []}
 use Rattle.sval_label.specs.Calls.{Call}
 use Rattle.sval_core.specs.Trees.{Tree, IsGood}
@@ -9,9 +9,7 @@ use Rattle.sval_core.specs.Values.{makes}
 use Rattle.sval_filter.specs.Paths.{Path, Rule, Drop}
 use Rattle.sval_filter.specs.Pruned.{pruned}
 use Rattle.sval_filter.specs.Filtering.{fresh, all_due}
-use Rattle.sval_filter.specs.Forms.{FilterForm}
 use Rattle.sval_filter.specs.FilterLaw.{FilterView, new_filter, filter_standing, AcceptsAll, IsFilterLeft, filter_law, Took}
-use Rattle.sval_filter.specs.Verdict.{Verdict, IsVerdict}
 use Rattle.sval_check.specs.Checked.{StandsFor}
 
 -- what is left of a good tree is good
@@ -52,10 +50,6 @@ RefusesWithCause {V} law =
     (rule : Rule) (paths : List Path) (call : Call) (view left : FilterView V) → view.wants < 2 ^ 64
     → IsFilterLeft law rule paths view call left
     → Refuses (filter_law law rule paths) (filter_standing view) call (filter_standing left)
-
--- whatever is asked for, each script has one verdict, and no second one
-abbrev pub OneVerdict : Type 0
-OneVerdict = (script : List ℕ) (asked : FilterForm) → (answer : Verdict) × IsVerdict answer script asked × ((other : Verdict) → IsVerdict other script asked → answer ≡ other)
 
 -- whatever calls a new filter took, they can be completed, and its state is the one that they keep
 abbrev pub StandsForTaken : {V : Type 0} → Law V → Type 0

@@ -9,32 +9,19 @@ ghost use Rattle.sval_program.specs.Runs.{Ends, Reports};
 ghost use Rattle.sval_script.specs.Lines.{lines, Good};
 ghost use Rattle.sval_filter.specs.Forms.{FilterForm};
 ghost use Rattle.sval_filter.specs.Pruning.{IsPruned, IsPruneWant};
-ghost use Rattle.sval_filter.specs.Serves.{filter_terms, IsLeftOf, failure_of_check};
+ghost use Rattle.sval_filter.specs.Serves.{filter_terms, IsLeftOf};
 
 use crate::form::{Form, named_form, paths_of};
 use crate::program::FilterFields;
 use crate::pruning::{PruneError, prune_tree};
 use std::alloc::Global;
 use sval_buffer::Value;
-use sval_check::{CheckError, check};
+use sval_check::check;
 use sval_io::{Sink, SinkError, Source};
 use sval_json::{ErrorKind, stream_to_io_write};
 use sval_program::job::run;
 use sval_program::{Failure, Fault, read_script};
 use sval_script::Script;
-
-/// What checking the calls of a script found, which never refuses.
-fn found(error: CheckError) -> Failure
-    requires { error ≡ CheckError.Refused → ⊥ }
-    ensures { failure_of_check error ≡ Some result }
-{
-    match error {
-        CheckError::BadCall { at } => Failure::Fault(Fault::BadCall { line: at }),
-        CheckError::Unfinished => Failure::Fault(Fault::Unfinished { many: false }),
-        CheckError::NoMemory => Failure::NoMemory,
-        CheckError::Refused => unreachable!("a script doesn't refuse"),
-    }
-}
 
 /// What a form leaves of the value that a script's calls spell.
 fn left_of<'v>(alloc: Global, form: &Form<'_>, script: &'v Script) -> Result<Value<'v>, PruneError>
@@ -94,7 +81,7 @@ fn write_script<K: Sink>(
 {
     match check(alloc, script) {
         Ok(()) => write_value(alloc, form, script, out),
-        Err(error) => Err(found(error)),
+        Err(error) => Err(Failure::of_check(error, false)),
     }
 }
 
