@@ -19,16 +19,17 @@ use Rattle.sval_program.specs.declared.failure.Fault.{Fault}
 use Rattle.sval_program.specs.declared.failure.Fault.TheVariants as fault
 use Rattle.sval_program.specs.declared.failure.Failure.{Failure}
 use Rattle.sval_program.specs.declared.failure.Failure.TheVariants as failure
-use Rattle.sval_program.specs.Failures.{status_of_fault, failure_of_script}
+use Rattle.sval_program.specs.Failures.{status_of_fault, failure_of_script, failure_of_check}
 use Rattle.sval_program.specs.Inputs.{HasRead}
 use Rattle.sval_program.specs.Jobs.{FindsFault, ServesBytes}
 use Rattle.sval_program.specs.Statuses.{is_among}
+use Rattle.sval_program.specs.Verdict.{Whole}
 use Rattle.sval_cbor.specs.declared.error.CborError.{CborError}
 use Rattle.sval_cbor.specs.declared.error.CborError.TheVariants as error
 use Rattle.sval_cbor.specs.Packs.{PackRefusal, BadKey, BadNumber, RawJson, NotInteger}
-use Rattle.sval_cbor.specs.Serves.{CborDue, of_value, of_bad_line, of_bad_call, of_unfinished, of_bad_key, of_bad_number, of_raw, of_no_integer, cbor_terms, failure_of_check, failure_of_cbor}
+use Rattle.sval_cbor.specs.Serves.{CborDue, of_value, of_bad_line, of_bad_call, of_unfinished, of_bad_key, of_bad_number, of_raw, of_no_integer, cbor_terms, failure_of_cbor}
 use Rattle.sval_cbor.specs.Streamed.{IsChecked, IsCauseOfValue, AnswersBytes, AnswersDue, refusal_error}
-use Rattle.sval_cbor.specs.Verdict.{Whole, IsVerdict}
+use Rattle.sval_cbor.specs.Verdict.{IsCborVerdict}
 use Rattle.sval_cbor.specs.Writing.{written_cbor}
 use Rattle.sval_cbor.proofs.Captured.{captured_is_written}
 
@@ -45,12 +46,12 @@ module _ {K : Type 0} (told : K → Told) (script : List ℕ) (old new : K) wher
   fails_so : (why failed : Failure) → Some why ≡ Some failed → ServesBytes cbor_terms told tt script (Err why) old new → ServesBytes cbor_terms told tt script (Err failed) old new
   fails_so why failed is f = let same : why ≡ failed = cc is in subst (λ (w : Failure). ServesBytes cbor_terms told tt script (Err w) old new) same f
 
-  pub writes_whole : (due : Result (List ℕ) PackRefusal) → IsVerdict (Whole due) script → AnswersDue (Ok tt) (told old) due (told new) → ServesBytes cbor_terms told tt script (Ok tt) old new
+  pub writes_whole : (due : Result (List ℕ) PackRefusal) → IsCborVerdict (Whole due) script → AnswersDue (Ok tt) (told old) due (told new) → ServesBytes cbor_terms told tt script (Ok tt) old new
   writes_whole (Ok bytes) verdict writes = record { bytes = bytes; due = of_value verdict; writes = writes }
   writes_whole (Err why) verdict (never, same) = absurd (cc never)
 
   -- the value doesn't pack
-  refused_fails : (refusal : PackRefusal) (failed : Failure) → failure_of_cbor (refusal_error refusal) ≡ Some failed → IsVerdict (Whole (Err refusal)) script → (IsCauseOfValue (Err (refusal_error refusal)) → new ≡ old)
+  refused_fails : (refusal : PackRefusal) (failed : Failure) → failure_of_cbor (refusal_error refusal) ≡ Some failed → IsCborVerdict (Whole (Err refusal)) script → (IsCauseOfValue (Err (refusal_error refusal)) → new ≡ old)
       → ServesBytes cbor_terms told tt script (Err failed) old new
   refused_fails BadKey failed is verdict left = fails_so (failure.Fault fault.InvalidKey) failed is (faulty told script fault.InvalidKey old new (of_bad_key verdict) refl (left tt))
   refused_fails BadNumber failed is verdict left = fails_so (failure.Fault fault.InvalidNumber) failed is (faulty told script fault.InvalidNumber old new (of_bad_number verdict) refl (left tt))
@@ -58,7 +59,7 @@ module _ {K : Type 0} (told : K → Told) (script : List ℕ) (old new : K) wher
   refused_fails NotInteger failed is verdict left = fails_so (failure.Fault fault.NotInteger) failed is (faulty told script fault.NotInteger old new (of_no_integer verdict) refl (left tt))
 
   -- the sink declined
-  declined_fails : (bytes : List ℕ) (why : CborError) (failed : Failure) → failure_of_cbor why ≡ Some failed → IsVerdict (Whole (Ok bytes)) script → AnswersBytes (Err why) (told old) bytes (told new)
+  declined_fails : (bytes : List ℕ) (why : CborError) (failed : Failure) → failure_of_cbor why ≡ Some failed → IsCborVerdict (Whole (Ok bytes)) script → AnswersBytes (Err why) (told old) bytes (told new)
       → ServesBytes cbor_terms told tt script (Err failed) old new
   declined_fails bytes error.Write failed is verdict w =
       fails_so (failure.Write sink.Failed) failed is (record { found = None; bytes = bytes; due = of_value verdict; may = refl; stops = record { cause = w.cause; begins = w.front; counts = w.counts } })
@@ -71,7 +72,7 @@ module _ {K : Type 0} (told : K → Told) (script : List ℕ) (old new : K) wher
   declined_fails bytes error.Raw failed is verdict w = absurd w
   declined_fails bytes error.NotInteger failed is verdict w = absurd w
 
-  pub write_fails : (due : Result (List ℕ) PackRefusal) (why : CborError) (failed : Failure) → failure_of_cbor why ≡ Some failed → IsVerdict (Whole due) script → AnswersDue (Err why) (told old) due (told new)
+  pub write_fails : (due : Result (List ℕ) PackRefusal) (why : CborError) (failed : Failure) → failure_of_cbor why ≡ Some failed → IsCborVerdict (Whole due) script → AnswersDue (Err why) (told old) due (told new)
       → (IsCauseOfValue (Err why) → new ≡ old) → ServesBytes cbor_terms told tt script (Err failed) old new
   write_fails (Ok bytes) why failed is verdict answers left = declined_fails bytes why failed is verdict answers
   write_fails (Err refusal) why failed is verdict (e, same) left =
@@ -94,12 +95,12 @@ of_writing (Err refusal) why old new (e, same) =
 
 module _ (script : List ℕ) (calls : List Call) (good : lines script ≡ Good calls) where
   -- what is captured of them is written as the verdict
-  pub captured_verdict : IsChecked (makes calls) → (held : Forest) → forest calls ≡ Holds held → IsVerdict (Whole (written_cbor (replayed held))) script
+  pub captured_verdict : IsChecked (makes calls) → (held : Forest) → forest calls ≡ Holds held → IsCborVerdict (Whole (written_cbor (replayed held))) script
   captured_verdict checked held taken =
       let (tree, spells) = checked.value.spells in record { calls = calls; good = good; is = record { tree = tree; spells = spells; is = captured_is_written calls tree held spells taken } }
 
   -- what checking found
-  pub check_fails : {K : Type 0} (told : K → Told) (out : K) (why : CheckError) (failed : Failure) → failure_of_check why ≡ Some failed
+  pub check_fails : {K : Type 0} (told : K → Told) (out : K) (why : CheckError) (failed : Failure) → failure_of_check false why ≡ Some failed
       → ((at : ℕ) → ◌≡◌ {A = Result (Unit {0}) CheckError} (Err why) (Err (check.BadCall at)) → IsFirstBadCall calls at)
       → (◌≡◌ {A = Result (Unit {0}) CheckError} (Err why) (Err check.Unfinished) → IsUnfinished (makes calls))
       → ServesBytes cbor_terms told tt script (Err failed) out out

@@ -1,4 +1,4 @@
--- The laws of packed shapes, of their bytes and of verdicts, as facts.
+-- The laws of packed shapes and of their bytes, as facts.
 use Rattle.std.specs.Prelude.{◌≡◌, ℕ, ◌<◌, List, ◌∷◌, ◌++◌, Ok, Err}
 use Rattle.std.specs.List.{AllByRecursion}
 use Rattle.sval_label.specs.Calls.{Call}
@@ -12,7 +12,6 @@ use Rattle.sval_cbor.specs.Packs.{PackRefusal, map_packed, pack_of}
 use Rattle.sval_cbor.specs.Cbor.{cbor}
 use Rattle.sval_cbor.specs.Writing.{CborState, cbor_step, written_cbor, Went, HaveWholeTexts}
 use Rattle.sval_cbor.specs.Premises.{IsShort, HasPlainIdentifiers}
-use Rattle.sval_cbor.specs.Verdict.{Verdict, IsVerdict}
 
 -- the bytes of a packed shape are bytes
 abbrev pub CborIsBytes : Type 0
@@ -43,7 +42,3 @@ TakenCallsAreWritten = (calls : List Call) (bytes : List ℕ) (state : CborState
 abbrev pub RefusedCallRefuses : Type 0
 RefusedCallRefuses = (calls more : List Call) (bytes : List ℕ) (state : CborState) (call : Call) (why : PackRefusal) → Went calls bytes state → cbor_step call state ≡ Err why
     → written_cbor (calls ++ call ∷ more) ≡ Err why
-
--- each script has one verdict, and no second one
-abbrev pub OneVerdict : Type 0
-OneVerdict = (script : List ℕ) → (answer : Verdict) × IsVerdict answer script × ((other : Verdict) → IsVerdict other script → answer ≡ other)

@@ -7,26 +7,25 @@ use Rattle.sval_program.specs.declared.failure.Failure.{Failure}
 use Rattle.sval_program.specs.declared.failure.Failure.TheVariants as failure
 use Rattle.sval_program.specs.declared.status.TheConstants.{BAD_LINE, BAD_CALL, UNFINISHED, INVALID_KEY, INVALID_NUMBER, RAW, NOT_INTEGER}
 use Rattle.sval_program.specs.Jobs.{Terms}
-use Rattle.sval_check.specs.declared.error.CheckError.{CheckError}
-use Rattle.sval_check.specs.declared.error.CheckError.TheVariants as check
+use Rattle.sval_program.specs.Verdict.{BadLine, BadCall, Unfinished, Whole}
 use Rattle.sval_cbor.specs.declared.error.CborError.{CborError}
 use Rattle.sval_cbor.specs.declared.error.CborError.TheVariants as error
 use Rattle.sval_cbor.specs.Forms.{cbor_form}
 use Rattle.sval_cbor.specs.Packs.{BadKey, BadNumber, RawJson, NotInteger}
-use Rattle.sval_cbor.specs.Verdict.{BadLine, BadCall, Unfinished, Whole, IsVerdict}
+use Rattle.sval_cbor.specs.Verdict.{IsCborVerdict}
 
 -- ---- what is due of a script
 
 -- what is due of a script, by its verdict: the bytes that its value packs to, or a fault, before which nothing is written
 pub data CborDue : Unit {0} → List ℕ → Option Fault → List ℕ → Type 0 where
-  of_value : {asked : Unit {0}} {script bytes : List ℕ} → IsVerdict (Whole (Ok bytes)) script → CborDue asked script None bytes
-  of_bad_line : {asked : Unit {0}} {script : List ℕ} {line : ℕ} → IsVerdict (BadLine line) script → CborDue asked script (Some (fault.BadLine line)) []
-  of_bad_call : {asked : Unit {0}} {script : List ℕ} {line : ℕ} → IsVerdict (BadCall line) script → CborDue asked script (Some (fault.BadCall line)) []
-  of_unfinished : {asked : Unit {0}} {script : List ℕ} → IsVerdict Unfinished script → CborDue asked script (Some (fault.Unfinished false)) []
-  of_bad_key : {asked : Unit {0}} {script : List ℕ} → IsVerdict (Whole (Err BadKey)) script → CborDue asked script (Some fault.InvalidKey) []
-  of_bad_number : {asked : Unit {0}} {script : List ℕ} → IsVerdict (Whole (Err BadNumber)) script → CborDue asked script (Some fault.InvalidNumber) []
-  of_raw : {asked : Unit {0}} {script : List ℕ} → IsVerdict (Whole (Err RawJson)) script → CborDue asked script (Some fault.Raw) []
-  of_no_integer : {asked : Unit {0}} {script : List ℕ} → IsVerdict (Whole (Err NotInteger)) script → CborDue asked script (Some fault.NotInteger) []
+  of_value : {asked : Unit {0}} {script bytes : List ℕ} → IsCborVerdict (Whole (Ok bytes)) script → CborDue asked script None bytes
+  of_bad_line : {asked : Unit {0}} {script : List ℕ} {line : ℕ} → IsCborVerdict (BadLine line) script → CborDue asked script (Some (fault.BadLine line)) []
+  of_bad_call : {asked : Unit {0}} {script : List ℕ} {line : ℕ} → IsCborVerdict (BadCall line) script → CborDue asked script (Some (fault.BadCall line)) []
+  of_unfinished : {asked : Unit {0}} {script : List ℕ} → IsCborVerdict Unfinished script → CborDue asked script (Some (fault.Unfinished false)) []
+  of_bad_key : {asked : Unit {0}} {script : List ℕ} → IsCborVerdict (Whole (Err BadKey)) script → CborDue asked script (Some fault.InvalidKey) []
+  of_bad_number : {asked : Unit {0}} {script : List ℕ} → IsCborVerdict (Whole (Err BadNumber)) script → CborDue asked script (Some fault.InvalidNumber) []
+  of_raw : {asked : Unit {0}} {script : List ℕ} → IsCborVerdict (Whole (Err RawJson)) script → CborDue asked script (Some fault.Raw) []
+  of_no_integer : {asked : Unit {0}} {script : List ℕ} → IsCborVerdict (Whole (Err NotInteger)) script → CborDue asked script (Some fault.NotInteger) []
 
 -- what the program does
 abbrev pub cbor_terms : Terms (Unit {0})
@@ -41,13 +40,6 @@ cbor_terms = record {
 }
 
 -- ---- the errors as failures
-
--- what checking found, which never is a refusal
-abbrev pub failure_of_check : CheckError → Option Failure
-failure_of_check (check.BadCall n) = Some (failure.Fault (fault.BadCall n))
-failure_of_check check.Unfinished = Some (failure.Fault (fault.Unfinished false))
-failure_of_check check.NoMemory = Some failure.NoMemory
-failure_of_check check.Refused = None
 
 -- why a value that was captured wasn't written
 abbrev pub failure_of_cbor : CborError → Option Failure

@@ -1,9 +1,11 @@
 //! The laws of packed shapes, of their bytes and of verdicts, each as a clause that is proved.
 
 ghost use Rattle.sval_program.specs.Jobs.{OneDue};
+ghost use Rattle.sval_program.specs.Laws.{OneVerdict};
 ghost use Rattle.sval_cbor.specs.Laws.{CborIsBytes, PacksAsWritten, WholeSpellingsAreWritten, CanonicalCallsAreWhole};
-ghost use Rattle.sval_cbor.specs.Laws.{CapturedIsWritten, TakenCallsAreWritten, RefusedCallRefuses, OneVerdict};
+ghost use Rattle.sval_cbor.specs.Laws.{CapturedIsWritten, TakenCallsAreWritten, RefusedCallRefuses};
 ghost use Rattle.sval_cbor.specs.Serves.{cbor_terms};
+ghost use Rattle.sval_cbor.specs.Verdict.{GivesCbor};
 
 /// What holds of all trees that CBOR can hold.
 pub fn packing_laws()
@@ -22,6 +24,6 @@ pub fn writing_laws()
 
 /// What holds of the verdict on every script, and of what is due of it.
 pub fn verdict_laws()
-    ensures one_verdict { OneVerdict }
+    ensures one_verdict { OneVerdict GivesCbor }
     ensures one_due { OneDue cbor_terms }
 {}

@@ -4,11 +4,12 @@ ghost use Rattle.std.specs.Prelude.{◌≡◌, ℕ, List, false, Some, map, stri
 ghost use Rattle.sval_core.specs.Values.{makes};
 ghost use Rattle.sval_program.specs.Jobs.{ServesBytes, ServesInput, Serves};
 ghost use Rattle.sval_program.specs.Runs.{Ends, Reports};
+ghost use Rattle.sval_program.specs.Verdict.{Whole};
 ghost use Rattle.sval_script.specs.Lines.{lines, Good};
 ghost use Rattle.sval_cbor.specs.Forms.{cbor_form_of};
-ghost use Rattle.sval_cbor.specs.Serves.{cbor_terms, failure_of_check, failure_of_cbor};
+ghost use Rattle.sval_cbor.specs.Serves.{cbor_terms, failure_of_cbor};
 ghost use Rattle.sval_cbor.specs.Streamed.{IsChecked};
-ghost use Rattle.sval_cbor.specs.Verdict.{Whole, IsVerdict};
+ghost use Rattle.sval_cbor.specs.Verdict.{IsCborVerdict};
 ghost use Rattle.sval_cbor.specs.Writing.{written_cbor};
 
 use crate::error::CborError;
@@ -16,25 +17,12 @@ use crate::program::WriteCbor;
 use crate::to_cbor::write_value;
 use std::alloc::Global;
 use sval_buffer::{ErrorKind, ValueBuf};
-use sval_check::{CheckError, check};
+use sval_check::check;
 use sval_core::{Lent, Value};
 use sval_io::{Sink, SinkError, Source};
 use sval_program::job::run;
 use sval_program::{Failure, Fault, read_script};
 use sval_script::Script;
-
-/// What checking the calls of a script found, which never refuses.
-fn found(error: CheckError) -> Failure
-    requires { error ≡ CheckError.Refused → ⊥ }
-    ensures { failure_of_check error ≡ Some result }
-{
-    match error {
-        CheckError::BadCall { at } => Failure::Fault(Fault::BadCall { line: at }),
-        CheckError::Unfinished => Failure::Fault(Fault::Unfinished { many: false }),
-        CheckError::NoMemory => Failure::NoMemory,
-        CheckError::Refused => unreachable!("a script doesn't refuse"),
-    }
-}
 
 /// Why a value that was captured wasn't written.
 fn unwritten(error: CborError) -> Failure
@@ -57,7 +45,7 @@ fn unwritten(error: CborError) -> Failure
 /// Writes a value whose texts and binaries come whole, and that doesn't refuse.
 fn write_captured<'v, K: Sink, V: Value<'v, Lent<'v>>>(out: &mut K, v: &'v V) -> Result<(), Failure>
     requires { (V.emission v.now).refuses ≡ false }
-    ensures { (script : List ℕ) → IsVerdict (Whole (written_cbor (V.emission v.now).calls)) script
+    ensures { (script : List ℕ) → IsCborVerdict (Whole (written_cbor (V.emission v.now).calls)) script
         → ServesBytes cbor_terms K.told tt script result out.old out.new }
 {
     match write_value(out, v) {
@@ -88,7 +76,7 @@ fn write_script<K: Sink>(alloc: Global, script: &Script, out: &mut K) -> Result<
 {
     match check(alloc, script) {
         Ok(()) => write_tree(alloc, script, out),
-        Err(error) => Err(found(error)),
+        Err(error) => Err(Failure::of_check(error, false)),
     }
 }
 

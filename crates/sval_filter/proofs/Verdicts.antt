@@ -85,6 +85,6 @@ one_due asked script found other bytes others due also =
     let first = verdict_for found due in
     let second = verdict_for other also in
     let same : first.answer ≡ second.answer = no_second (GivesLeft asked) (give_one asked) first.answer second.answer script first.is second.is in (
-      first.same_fault ∙ ap (λ (answer : Verdict). (due_of answer).0) same ∙ sym second.same_fault,
-      first.same_bytes ∙ ap (λ (answer : Verdict). (due_of answer).1) same ∙ sym second.same_bytes,
+      first.same_fault ∙ ap (λ (answer : Verdict FilterAnswer). (due_of answer).0) same ∙ sym second.same_fault,
+      first.same_bytes ∙ ap (λ (answer : Verdict FilterAnswer). (due_of answer).1) same ∙ sym second.same_bytes,
     )

@@ -1,5 +1,5 @@
 -- The laws of pruning and of the filter, as facts.
-use Rattle.std.specs.Prelude.{◌≡◌, ℕ, ◌<◌, ◌^◌, List, []}
+use Rattle.std.specs.Prelude.{◌≡◌, ◌<◌, ◌^◌, List, []}
 use Rattle.sval_label.specs.Calls.{Call}
 use Rattle.sval_core.specs.Trees.{Tree, IsGood}
 use Rattle.sval_core.specs.Spells.{Spells}

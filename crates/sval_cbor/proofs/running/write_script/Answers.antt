@@ -8,4 +8,4 @@ write_tree-requires g c = checked (makes c.args.script.now) c.in-Ok.ensures.ok c
 
 pub returns-in-Err : goal.returns-in-Err
 returns-in-Err g c = λ bytes good.
-    check_fails bytes c.args.script.now good g.K.Sink.told c.args.out.now c.in-Err.error c.found.result c.found.ensures c.in-Err.ensures.bad_call c.in-Err.ensures.unfinished
+    check_fails bytes c.args.script.now good g.K.Sink.told c.args.out.now c.in-Err.error c.of_check.result c.of_check.ensures c.in-Err.ensures.bad_call c.in-Err.ensures.unfinished
