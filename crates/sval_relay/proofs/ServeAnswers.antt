@@ -15,7 +15,7 @@ use Rattle.sval_program.specs.declared.failure.Fault.{Fault}
 use Rattle.sval_program.specs.declared.failure.Fault.TheVariants as fault
 use Rattle.sval_program.specs.declared.failure.Failure.{Failure}
 use Rattle.sval_program.specs.declared.failure.Failure.TheVariants as failure
-use Rattle.sval_program.specs.Failures.{status_of_fault, failure_of_script}
+use Rattle.sval_program.specs.Failures.{status_of_fault, failure_of_script, failure_of_check}
 use Rattle.sval_program.specs.Jobs.{FindsFault, ServesBytes}
 use Rattle.sval_program.specs.Statuses.{is_among}
 use Rattle.sval_relay.specs.declared.way.Task.{Task}
@@ -23,7 +23,7 @@ use Rattle.sval_relay.specs.declared.way.Form.TheVariants.{Serve, Made}
 use Rattle.sval_relay.specs.declared.made.MadeError.{MadeError}
 use Rattle.sval_relay.specs.declared.made.MadeError.TheVariants as made
 use Rattle.sval_relay.specs.Made.{TellsMade}
-use Rattle.sval_relay.specs.Serves.{RelayDue, is_bad_line, is_bad_call, is_unfinished, a_made_line, relay_terms, failure_of_check, failure_of_made}
+use Rattle.sval_relay.specs.Serves.{RelayDue, is_bad_line, is_bad_call, is_unfinished, a_made_line, relay_terms, failure_of_made}
 use Rattle.sval_relay.specs.Verdict.{BadCall, Unfinished, IsRelayVerdict}
 use Rattle.sval_relay.proofs.Verdicts.{verdict_bad_line}
 

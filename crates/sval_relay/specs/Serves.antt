@@ -1,8 +1,6 @@
 -- What is due of a form, and the failures where it wasn't written.
 use Rattle.std.specs.Prelude.{ℕ, Bool, List, [], ◌∷◌, Option, Some, None, Result, Ok, Err, codes}
 use Rattle.sval_io.specs.declared.sink.SinkError.TheVariants as sink
-use Rattle.sval_check.specs.declared.error.CheckError.{CheckError}
-use Rattle.sval_check.specs.declared.error.CheckError.TheVariants as checking
 use Rattle.sval_program.specs.declared.failure.Fault.{Fault}
 use Rattle.sval_program.specs.declared.failure.Fault.TheVariants as fault
 use Rattle.sval_program.specs.declared.failure.Failure.{Failure}
@@ -46,13 +44,6 @@ relay_terms = record {
 }
 
 -- ---- the failures
-
--- what checking found, which never is a refusal, where many values may come or not
-abbrev pub failure_of_check : (many : Bool) → CheckError → Option Failure
-failure_of_check many (checking.BadCall n) = Some (failure.Fault (fault.BadCall n))
-failure_of_check many checking.Unfinished = Some (failure.Fault (fault.Unfinished many))
-failure_of_check many checking.NoMemory = Some failure.NoMemory
-failure_of_check many checking.Refused = None
 
 -- why values weren't written, or not whole
 abbrev pub failure_of_relay : (many : Bool) → RelayError → Failure

@@ -5,7 +5,7 @@ ghost use Rattle.sval_program.specs.Jobs.{ServesBytes, ServesInput, Serves};
 ghost use Rattle.sval_program.specs.Runs.{Ends, Reports};
 ghost use Rattle.sval_script.specs.Lines.{lines, Good};
 ghost use Rattle.sval_relay.specs.declared.way.Form.TheVariants.{Serve, Made};
-ghost use Rattle.sval_relay.specs.Serves.{relay_terms, failure_of_check, failure_of_relay, ended_by};
+ghost use Rattle.sval_relay.specs.Serves.{relay_terms, failure_of_relay, ended_by};
 ghost use Rattle.sval_relay.specs.Verdict.{one_in, all_in};
 ghost use Rattle.sval_relay.specs.WrittenTrees.{IsOfScript};
 
@@ -16,23 +16,10 @@ use crate::streams::Relay;
 use crate::trees::write_tree;
 use crate::way::{Form, Task, Way, named_form};
 use std::alloc::Global;
-use sval_check::{CheckError, check, check_all};
+use sval_check::{check, check_all};
 use sval_io::{Sink, SinkError, Source};
 use sval_program::{Failure, Fault, job, read_script};
 use sval_script::Script;
-
-/// What checking the calls of a script found, which never refuses, where many values may come or not.
-fn found(error: CheckError, many: bool) -> Failure
-    requires { error ≡ CheckError.Refused → ⊥ }
-    ensures { failure_of_check many error ≡ Some result }
-{
-    match error {
-        CheckError::BadCall { at } => Failure::Fault(Fault::BadCall { line: at }),
-        CheckError::Unfinished => Failure::Fault(Fault::Unfinished { many }),
-        CheckError::NoMemory => Failure::NoMemory,
-        CheckError::Refused => unreachable!("a script doesn't refuse"),
-    }
-}
 
 /// Why values weren't written, or not whole, where many may come or not.
 fn unwritten(error: RelayError, many: bool) -> Failure
@@ -73,7 +60,7 @@ fn serve_value<K: Sink>(
 {
     match check(alloc, script) {
         Ok(()) => ended(write_tree(alloc, &script.as_slice(), way, out), false),
-        Err(error) => Err(found(error, false)),
+        Err(error) => Err(Failure::of_check(error, false)),
     }
 }
 
@@ -91,7 +78,7 @@ fn serve_values<K: Sink>(
 {
     match check_all(alloc, script) {
         Ok(ends) => ended(write_list(alloc, script.as_slice(), &ends, way, out), true),
-        Err(error) => Err(found(error, true)),
+        Err(error) => Err(Failure::of_check(error, true)),
     }
 }
 

@@ -11,7 +11,7 @@ use Rattle.sval_relay.proofs.running.serve_value.Goals as goal
 
 pub returns-in-Err : goal.returns-in-Err
 returns-in-Err g c = λ bytes small is.
-    script_unchecked g.K.Sink.told bytes (one_in c.args.way) c.args.out.now c.in-Err.error c.found.result c.found.ensures
+    script_unchecked g.K.Sink.told bytes (one_in c.args.way) c.args.out.now c.in-Err.error c.of_check.result c.of_check.ensures
     (λ n found. first_bad bytes c.args.way c.args.script.now n c.requires.few is (c.in-Err.ensures.bad_call n (ap Err found)))
     (λ found. not_finished bytes c.args.way (record { calls = c.args.script.now; refuses = _ }) is (c.in-Err.ensures.unfinished (ap Err found)))
 
