@@ -16,5 +16,5 @@ abbrev pub point_fields : Point → Emission
 point_fields point = then_emits (coordinate (codes "x") point.x) (coordinate (codes "y") point.y)
 
 -- a record of them, without a name
-abbrev pub point_emission : Point → Emission
-point_emission point = container_emission (Record no_name) 2 (point_fields point)
+abbrev pub unnamed_point_emission : Point → Emission
+unnamed_point_emission point = container_emission (Record no_name) 2 (point_fields point)

@@ -9,7 +9,7 @@
 
 ghost use Rattle.std.specs.Prelude.{◌↔◌, IsTrue, IfOk};
 ghost use Rattle.sval_check.specs.Tokens.{token_calls};
-ghost use Rattle.assert_tokens.specs.Points.{point_emission};
+ghost use Rattle.assert_tokens.specs.Points.{unnamed_point_emission};
 ghost use Rattle.assert_tokens.specs.Matches.{MakesTokens};
 
 mod point;
@@ -29,7 +29,8 @@ use sval_core::{NoMemory, Stream};
 /// assert!(rt; !same);
 /// ```
 pub fn tokens_match(alloc: Global, point: &Point, expected: &[Token<'_>]) -> Result<bool, NoMemory>
-    ensures { IfOk result (λ same. IsTrue same ↔ MakesTokens (point_emission point.now) (token_calls expected.now)) }
+    ensures { IfOk result (λ same. IsTrue same
+        ↔ MakesTokens (unnamed_point_emission point.now) (token_calls expected.now)) }
 {
     let mut buffer = TokenBuf::new(alloc);
     match buffer.value(point) {

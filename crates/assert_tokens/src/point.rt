@@ -5,7 +5,7 @@ ghost use Rattle.sval_label.specs.Calls.{Int, I64, Field};
 ghost use Rattle.sval_core.specs.Law.{Emits};
 ghost use Rattle.sval_core.specs.Values.{makes};
 ghost use Rattle.sval_core.specs.ValueCalls.{part_calls};
-ghost use Rattle.assert_tokens.specs.Points.{point_emission, point_fields, coordinate};
+ghost use Rattle.assert_tokens.specs.Points.{unnamed_point_emission, point_fields, coordinate};
 
 use sval_core::{Label, Lending, Lent, Result, Stream, Value};
 
@@ -19,7 +19,7 @@ pub struct Point {
 }
 
 impl<'v> Value<'v, Lent<'v>> for Point {
-    ghost emission = { point_emission };
+    ghost emission = { unnamed_point_emission };
 
     fn stream<S: Stream<Lent<'v>>>(&'v self, stream: &mut S) -> Result {
         stream_point(stream, self)
@@ -29,7 +29,7 @@ impl<'v> Value<'v, Lent<'v>> for Point {
 /// Streams a point. What makes labels is generic in what is lent, since a label may be a text of the program.
 #[tactic(auto, using(sval_core::proofs::ValueProofs::of_between))]
 fn stream_point<L: Lending, S: Stream<L>>(stream: &mut S, point: &Point) -> Result
-    ensures { Emits S.law result (S.standing stream.old) (point_emission point.now) (S.standing stream.new) }
+    ensures { Emits S.law result (S.standing stream.old) (unnamed_point_emission point.now) (S.standing stream.new) }
 {
     stream.record_begin(None, None, None, Some(2))?;
     stream_fields(stream, point)?;
