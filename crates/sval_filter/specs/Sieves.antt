@@ -7,7 +7,7 @@ use Rattle.sval_buffer.specs.Forest.{Forest, take, replayed}
 use Rattle.sval_buffer.specs.Capture.{forest_by}
 use Rattle.sval_buffer.specs.SeenBuffers.{capture_of}
 use Rattle.sval_filter.specs.Paths.{Path, Rule, Fate, LeftOut}
-use Rattle.sval_filter.specs.Filtering.{Filtering, Mode, Holding, layer, mode_in, held_after, key_may_grow, due, kept_after}
+use Rattle.sval_filter.specs.Filtering.{Filtering, Layer, Mode, Holding, layer, mode_in, passed, held_after, key_may_grow, due, kept_after}
 use Rattle.sval_filter.specs.SeenLayers.{is_holding, passes}
 use Rattle.sval_filter.specs.declared.sieve.Sieve.{Sieve}
 use Rattle.sval_filter.specs.declared.sieve.Hindrance.{Hindrance}
@@ -50,6 +50,24 @@ abbrev pub Moves : {V : Type 0} → Law V → SieveView V → List Call → Filt
 Moves law old calls after grows (Ok done) new = Streams law old.inner (makes calls) new.inner × (new ≡ record old { kept = after; inner = new.inner })
 Moves law old calls after grows (Err NoMemory) new = (grows ≡ true) × (new ≡ old)
 Moves law old calls after grows (Err Inside) new = Stops law old.inner (makes calls) new.inner × (new ≡ record old { inner = new.inner })
+
+-- the mode in which the next call is taken
+abbrev pub mode_now : {V : Type 0} → SieveView V → Mode
+mode_now view = mode_in view.paths view.kept.layers
+
+-- what is held of a key after the call
+abbrev pub held_next : {V : Type 0} → SieveView V → Call → Forest
+held_next view call = held_after (mode_now view) view.kept.held call
+
+-- what taking a call says, in whose place these are due and after which these layers stand
+abbrev pub TakesCall : {V : Type 0} → Law V → SieveView V → (taken : Call) → List Call → List Layer → Result (Unit {0}) Hindrance → SieveView V → Type 0
+TakesCall law old taken calls layers result new =
+    Moves law old calls (record { layers = layers; held = held_next old taken }) (key_may_grow (mode_now old) old.kept.held taken) result new
+
+-- what taking a begin says, in whose place another call is passed on and after which calls are treated so
+abbrev pub TakesBegin : {V : Type 0} → Law V → SieveView V → (taken relayed : Call) → Mode → Result (Unit {0}) Hindrance → SieveView V → Type 0
+TakesBegin law old taken relayed mode result new =
+    Moves law old (passed mode (relayed ∷ [])) (record { layers = layer mode ∷ old.kept.layers; held = held_next old taken }) true result new
 
 -- the call, where it is passed on
 abbrev pub one_if : Bool → Call → List Call

@@ -11,10 +11,10 @@ ghost use Rattle.sval_buffer.specs.Forest.{empty_forest, replayed};
 ghost use Rattle.sval_buffer.specs.SeenBuffers.{capture_of};
 ghost use Rattle.sval_filter.specs.Paths as path;
 ghost use Rattle.sval_filter.specs.SeenLayers.{seen_fate, seen_mode, entry_by};
-ghost use Rattle.sval_filter.specs.Filtering.{layer, mode_in, entry_in, with_entry, mode_of_part, passed, hint_due, without_size};
-ghost use Rattle.sval_filter.specs.Filtering.{held_after, held_label, key_may_grow, may_take_memory};
-ghost use Rattle.sval_filter.specs.Sieves.{sieve_view, due_at, next_kept};
-ghost use Rattle.sval_filter.specs.Sieves.{PassesCalls, Moves, Settles, OpensLayer, one_if, key_and_end};
+ghost use Rattle.sval_filter.specs.Filtering.{mode_in, entry_in, with_entry, mode_of_part, passed, hint_due, without_size};
+ghost use Rattle.sval_filter.specs.Filtering.{held_label, may_take_memory};
+ghost use Rattle.sval_filter.specs.Sieves.{sieve_view, due_at, next_kept, mode_now, one_if, key_and_end};
+ghost use Rattle.sval_filter.specs.Sieves.{PassesCalls, Moves, TakesCall, TakesBegin, Settles, OpensLayer};
 
 use crate::held::{hold, read_text};
 use crate::key_text::KeyText;
@@ -145,9 +145,8 @@ fn single<L: Lending, S: Stream<L>>(
 ) -> Result<(), Hindrance>
     ensures { let old = sieve_view S.standing sieve.old in
         let taken = call_of L.text L.bytes call.entry in
-        let mode = mode_in old.paths old.kept.layers in
-        Moves S.law old (passed mode (taken ∷ [])) (record old.kept { held = held_after mode old.kept.held taken })
-        (key_may_grow mode old.kept.held taken) result (sieve_view S.standing sieve.new) }
+        TakesCall S.law old taken (passed (mode_now old) (taken ∷ [])) old.kept.layers result
+        (sieve_view S.standing sieve.new) }
 {
     let mode = &sieve.layers.innermost().mode;
     let holds = mode.is_holding();
@@ -163,10 +162,8 @@ fn hint<L: Lending, S: Stream<L>>(
 ) -> Result<(), Hindrance>
     ensures { let old = sieve_view S.standing sieve.old in
         let taken = call_of L.text L.bytes call.entry in
-        let mode = mode_in old.paths old.kept.layers in
-        Moves S.law old (hint_due mode (entry_in old.kept.layers) taken)
-        (record old.kept { held = held_after mode old.kept.held taken })
-        (key_may_grow mode old.kept.held taken) result (sieve_view S.standing sieve.new) }
+        TakesCall S.law old taken (hint_due (mode_now old) (entry_in old.kept.layers) taken) old.kept.layers result
+        (sieve_view S.standing sieve.new) }
 {
     let layer = sieve.layers.innermost();
     let holds = layer.mode.is_holding();
@@ -206,11 +203,8 @@ fn begin<L: Lending, S: Stream<L>>(
     relayed: AnyCall<'_, L::Text, L::Bytes>,
 ) -> Result<(), Hindrance>
     ensures { let old = sieve_view S.standing sieve.old in
-        let taken = call_of L.text L.bytes call.entry in
-        let mode = mode_in old.paths old.kept.layers in
-        Moves S.law old (passed mode (call_of L.text L.bytes relayed.entry ∷ []))
-        (record { layers = layer mode ∷ old.kept.layers; held = held_after mode old.kept.held taken }) true
-        result (sieve_view S.standing sieve.new) }
+        TakesBegin S.law old (call_of L.text L.bytes call.entry) (call_of L.text L.bytes relayed.entry)
+        (mode_now old) result (sieve_view S.standing sieve.new) }
 {
     match sieve.layers.innermost().mode.share() {
         Ok(mode) => open(sieve, mode, call, relayed),
@@ -225,10 +219,7 @@ fn begin_same<L: Lending, S: Stream<L>>(
 ) -> Result<(), Hindrance>
     ensures { let old = sieve_view S.standing sieve.old in
         let taken = call_of L.text L.bytes call.entry in
-        let mode = mode_in old.paths old.kept.layers in
-        Moves S.law old (passed mode (taken ∷ []))
-        (record { layers = layer mode ∷ old.kept.layers; held = held_after mode old.kept.held taken }) true
-        result (sieve_view S.standing sieve.new) }
+        TakesBegin S.law old taken taken (mode_now old) result (sieve_view S.standing sieve.new) }
 {
     let (call, relayed) = twice(call);
     begin(sieve, call, relayed)
@@ -242,11 +233,8 @@ fn begin_part<L: Lending, S: Stream<L>>(
 ) -> Result<(), Hindrance>
     ensures { let old = sieve_view S.standing sieve.old in
         let taken = call_of L.text L.bytes call.entry in
-        let mode = mode_in old.paths old.kept.layers in
-        let part = mode_of_part old.rule mode (entry_in old.kept.layers) (seen_slot slot.entry) in
-        Moves S.law old (passed part (taken ∷ []))
-        (record { layers = layer part ∷ old.kept.layers; held = held_after mode old.kept.held taken }) true
-        result (sieve_view S.standing sieve.new) }
+        let part = mode_of_part old.rule (mode_now old) (entry_in old.kept.layers) (seen_slot slot.entry) in
+        TakesBegin S.law old taken taken part result (sieve_view S.standing sieve.new) }
 {
     let (alloc, rule) = (sieve.alloc, sieve.rule);
     match sieve.layers.innermost().mode_of_part(alloc, rule, slot) {
@@ -265,10 +253,8 @@ fn end<L: Lending, S: Stream<L>>(
 ) -> Result<(), Hindrance>
     ensures { let old = sieve_view S.standing sieve.old in
         let taken = call_of L.text L.bytes call.entry in
-        let mode = mode_in old.paths old.kept.layers in
-        Moves S.law old (passed mode (taken ∷ []))
-        (record { layers = below old.kept.layers; held = held_after mode old.kept.held taken })
-        (key_may_grow mode old.kept.held taken) result (sieve_view S.standing sieve.new) }
+        TakesCall S.law old taken (passed (mode_now old) (taken ∷ [])) (below old.kept.layers) result
+        (sieve_view S.standing sieve.new) }
 {
     match single(sieve, call) {
         Ok(()) => {
@@ -286,10 +272,8 @@ fn end_part<L: Lending, S: Stream<L>>(
 ) -> Result<(), Hindrance>
     ensures { let old = sieve_view S.standing sieve.old in
         let taken = call_of L.text L.bytes call.entry in
-        let mode = mode_in old.paths old.kept.layers in
-        Moves S.law old (passed mode (taken ∷ []))
-        (record { layers = with_entry path.Stays (below old.kept.layers); held = held_after mode old.kept.held taken })
-        (key_may_grow mode old.kept.held taken) result (sieve_view S.standing sieve.new) }
+        TakesCall S.law old taken (passed (mode_now old) (taken ∷ [])) (with_entry path.Stays (below old.kept.layers))
+        result (sieve_view S.standing sieve.new) }
 {
     match single(sieve, call) {
         Ok(()) => {
