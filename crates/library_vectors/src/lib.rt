@@ -1,5 +1,6 @@
 //! Tests of the library as a user calls it: what labels keep, what adapters, functions and lowerings make, what readers
-//! answer, where values of a list end, what tokens keep, and what is collected, captured and made again.
+//! answer, where values of a list end, what tokens keep, what is collected, captured and made again, and what is written
+//! of values that are checked first.
 #![tactic(auto)]
 
 #[cfg(test)]
@@ -30,5 +31,7 @@ mod shown;
 mod targets;
 #[cfg(test)]
 mod tokens;
+#[cfg(test)]
+mod whole;
 #[cfg(test)]
 mod written;

@@ -1,0 +1,149 @@
+//! What is written and captured of values whose calls are checked first.
+
+use crate::captured::makes_again;
+use crate::shown::shows;
+use records::{Metres, MyRecord, Shape};
+use std::alloc::{AllocError, Global};
+use std::test::Fail;
+use sval_buffer::ValueBuf;
+use sval_check::CheckError;
+use sval_core::{Lent, Value};
+use sval_io::{FixedSink, VecSink};
+use sval_json::Variants;
+use sval_script::Script;
+use sval_whole::{
+    WriteError, collect_whole, to_json_string, to_json_string_with, to_json_vec, to_json_vec_with,
+    write_json, write_json_with,
+};
+
+/// The JSON of a value, or why there is none.
+fn json_of<'v, V: Value<'v, Lent<'v>>>(alloc: Global, value: &'v V) -> Result<String, AllocError> {
+    match to_json_string(alloc, value) {
+        Ok(json) => Ok(json),
+        Err(error) => format!(in alloc; "{error}"),
+    }
+}
+
+/// Calls, and the JSON of the value that they are, or why they have none.
+const ROWS: [(&str, &str); 9] = [
+    // a sequence that forgets its end, one that forgets the end of its item, and no call
+    (
+        "seq_begin -\nseq_value_begin\nbool true\nseq_value_end\n",
+        "the calls end before the value is whole",
+    ),
+    (
+        "seq_begin -\nseq_value_begin\nbool true\nseq_end\n",
+        "no value goes on with call 4",
+    ),
+    ("", "the calls end before the value is whole"),
+    // one that ends too much, and two values
+    (
+        "seq_begin -\nseq_end\nseq_end\n",
+        "no value goes on with call 3",
+    ),
+    ("null\nnull\n", "no value goes on with call 2"),
+    // a container as a key
+    (
+        "map_begin 1\nmap_key_begin\nseq_begin 0\nseq_end\nmap_key_end\n\
+         map_value_begin\nnull\nmap_value_end\nmap_end\n",
+        "attempt to serialize a non-string key",
+    ),
+    // a text in two halves, as itself and as a number
+    (
+        "text_begin 4\ntext_fragment =6162\ntext_fragment_computed =6364\ntext_end\n",
+        "\"abcd\"",
+    ),
+    (
+        "tagged_begin NUMBER - -\ntext_begin -\ntext_fragment =31\ntext_fragment =2d35\ntext_end\n\
+         tagged_end NUMBER - -\n",
+        "attempt to serialize an invalid number",
+    ),
+    // a size that is wrong
+    (
+        "seq_begin 2\nseq_value_begin\nbool true\nseq_value_end\nseq_end\n",
+        "no value goes on with call 5",
+    ),
+];
+
+#[test]
+fn writes_whole_values_alone(rt: HostRuntime) -> Result<(), Fail> {
+    let alloc = rt.alloc();
+    for (lines, want) in ROWS {
+        let script = Script::read(alloc, lines.as_bytes())?;
+        shows(&rt, json_of(alloc, &script), want);
+    }
+    Ok(())
+}
+
+const RECORD: MyRecord<'static> = MyRecord {
+    field_0: 1,
+    field_1: true,
+    field_2: "some text",
+};
+
+const JSON: &str = "{\"field_0\":1,\"field_1\":true,\"field_2\":\"some text\"}";
+
+#[test]
+fn writes_a_struct_to_each_target(rt: HostRuntime) -> Result<(), Fail> {
+    let alloc = rt.alloc();
+    shows(&rt, json_of(alloc, &RECORD), JSON);
+    let bytes = to_json_vec(alloc, &RECORD)?;
+    assert_eq!(rt; bytes.as_slice(), JSON.as_bytes());
+    let mut sink = VecSink::new(alloc);
+    write_json(alloc, &mut sink, &RECORD)?;
+    assert_eq!(rt; sink.as_slice(), JSON.as_bytes());
+    Ok(())
+}
+
+/// A variant beside its name.
+const BESIDE: &str = "{\"variant\":\"Circle\",\"value\":3}";
+
+#[test]
+fn writes_variants_beside_their_names(rt: HostRuntime) -> Result<(), Fail> {
+    let alloc = rt.alloc();
+    let circle = Shape::Circle(Metres(3));
+    shows(
+        &rt,
+        to_json_string_with(alloc, &circle, Variants::Beside),
+        BESIDE,
+    );
+    let bytes = to_json_vec_with(alloc, &circle, Variants::Beside)?;
+    assert_eq!(rt; bytes.as_slice(), BESIDE.as_bytes());
+    let mut sink = VecSink::new(alloc);
+    write_json_with(alloc, &mut sink, &circle, Variants::Beside)?;
+    assert_eq!(rt; sink.as_slice(), BESIDE.as_bytes());
+    Ok(())
+}
+
+#[test]
+fn leaves_a_sink_as_it_was(rt: HostRuntime) -> Result<(), Fail> {
+    let alloc = rt.alloc();
+    let mut sink = VecSink::new(alloc);
+    write_json(alloc, &mut sink, &true)?;
+    let script = Script::read(alloc, b"seq_begin -\n")?;
+    assert!(rt; write_json(alloc, &mut sink, &script) == Err(WriteError::Unfinished));
+    assert_eq!(rt; sink.as_slice(), b"true".as_slice());
+    let mut buffer = [0; 10];
+    let mut sink = FixedSink::new(&mut buffer);
+    assert!(rt; write_json(alloc, &mut sink, &RECORD) == Err(WriteError::Write));
+    assert_eq!(rt; sink.into_slice(), b"{\"field_0\"".as_slice());
+    Ok(())
+}
+
+/// A text in two halves, as it is captured: in one fragment.
+const TEXT: &str = "text_begin 4\ntext_fragment_computed =61626364\ntext_end\n";
+
+#[test]
+fn captures_whole_values_alone(rt: HostRuntime) -> Result<(), Fail> {
+    let alloc = rt.alloc();
+    let halves = "text_begin 4\ntext_fragment =6162\ntext_fragment =6364\ntext_end\n";
+    let script = Script::read(alloc, halves.as_bytes())?;
+    let slice = script.as_slice();
+    let captured: ValueBuf<'_> = collect_whole(alloc, &slice)?;
+    makes_again(&rt, alloc, &captured, TEXT);
+    let script = Script::read(alloc, b"seq_begin -\nseq_end\nseq_end\n")?;
+    let slice = script.as_slice();
+    let refused: Result<ValueBuf<'_>, CheckError> = collect_whole(alloc, &slice);
+    assert!(rt; refused.err() == Some(CheckError::BadCall { at: 3 }));
+    Ok(())
+}

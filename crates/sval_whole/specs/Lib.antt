@@ -1,0 +1,4 @@
+pub mod Whole
+pub mod WholeTexts
+pub mod WholeCaptures
+pub mod ErrorTexts
