@@ -1,3 +1,2 @@
 pub mod Whole
-pub mod WholeTexts
-pub mod WholeCaptures
+pub mod WholeLaws

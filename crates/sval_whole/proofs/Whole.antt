@@ -4,7 +4,7 @@ use Rattle.std.proofs.Common.{sym, ap, ◌∙◌, inl, inr, arith}
 use Rattle.sval_core.specs.Law.{Emission}
 use Rattle.sval_core.specs.Spells.{Spells}
 use Rattle.sval_core.specs.Trees.{Tree}
-use Rattle.sval_io.specs.Sinks.{Told, Appends, AppendsFront}
+use Rattle.sval_io.specs.Sinks.{Told}
 use Rattle.sval_io.proofs.Appending.{appends_nothing, all_is_front, steady_alone, steady_counts}
 use Rattle.sval_check.specs.Checks.{CheckAnswer, IsCheckDue, IsOneValue, IsFirstBadCall, OnlyRefuses, IsUnfinished, NeedsMemory}
 use Rattle.sval_check.specs.declared.error.CheckError.{CheckError}
@@ -18,14 +18,13 @@ use Rattle.sval_json.specs.Json.{Json, compact}
 use Rattle.sval_json.specs.Number.{Refusal, InvalidKey, InvalidNumber}
 use Rattle.sval_json.specs.Shape.{json_in}
 use Rattle.sval_json.specs.Written.{WritesSpelledTree, RefusesSpelledTree, BeginsSpelledTree, StreamsJson}
-use Rattle.sval_whole.specs.declared.error.WriteError.{WriteError}
 use Rattle.sval_whole.specs.declared.error.WriteError.TheVariants as error
 use Rattle.sval_whole.specs.Whole.{of_check_error, of_json_error, WriteAnswer, IsWriteDue, ComesOrDeclined, IsWriteCause, WritesJson}
 
 -- ---- what the check answers where this is due
 
 -- of a value that has no JSON it answers Ok
-abbrev checked_answer : WriteAnswer → CheckAnswer
+abbrev pub checked_answer : WriteAnswer → CheckAnswer
 checked_answer (Ok done) = Ok tt
 checked_answer (Err (error.BadCall at)) = Err (check.BadCall at)
 checked_answer (Err error.Unfinished) = Err check.Unfinished
@@ -35,7 +34,7 @@ checked_answer (Err error.InvalidNumber) = Ok tt
 checked_answer (Err error.Write) = Err check.NoMemory
 checked_answer (Err error.NoMemory) = Err check.NoMemory
 
-due_of_check : (style : Variants) (e : Emission) (due : WriteAnswer) → IsWriteDue style e due → IsCheckDue e (checked_answer due)
+pub due_of_check : (style : Variants) (e : Emission) (due : WriteAnswer) → IsWriteDue style e due → IsCheckDue e (checked_answer due)
 due_of_check style e (Ok done) d = d.value
 due_of_check style e (Err (error.BadCall at)) d = d
 due_of_check style e (Err error.Unfinished) d = d
@@ -48,7 +47,7 @@ due_of_check style e (Err error.NoMemory) d = d
 -- ---- the calls didn't pass the check
 
 -- what the check found is what is due
-found_is_due : (style : Variants) (e : Emission) (found : CheckError) (due : WriteAnswer) → IsWriteDue style e due → ◌≡◌ {A = CheckAnswer} (Err found) (checked_answer due)
+pub found_is_due : (style : Variants) (e : Emission) (found : CheckError) (due : WriteAnswer) → IsWriteDue style e due → ◌≡◌ {A = CheckAnswer} (Err found) (checked_answer due)
     → ◌≡◌ {A = WriteAnswer} (Err (of_check_error found)) due
 found_is_due style e found (Ok done) d is = cc is
 found_is_due style e found (Err (error.BadCall at)) d is = let same : found ≡ check.BadCall at = cc is in ap (λ f. Err (of_check_error f)) same
@@ -94,7 +93,7 @@ unchecked_writes style e told out check.NoMemory bad refused unfinished needs co
 
 -- ---- the calls are one whole value
 
-module _ {K : Type 0} (style : Variants) (e : Emission) (told : K → Told) (old new : K) (one : IsOneValue e) where
+module _ (style : Variants) (e : Emission) (one : IsOneValue e) where
   -- the check finds nothing
   none_found : (found : CheckError) → IsCheckDue e (Err found) → ⊥
   none_found found d = let never = one_due e (Ok tt) (Err found) one d in cc never
@@ -106,7 +105,7 @@ module _ {K : Type 0} (style : Variants) (e : Emission) (told : K → Told) (old
       let spells = one.spells.1 in
       let never : Ok (has tree spells).0 ≡ Err why = sym (has tree spells).1 ∙ lacks tree spells in cc never
 
-  written_is_due : (due : WriteAnswer) → IsWriteDue style e due → ((tree : Tree) → Spells e.calls tree → (json : Json) × (json_in style tree ≡ Ok json)) → Ok tt ≡ due
+  pub written_is_due : (due : WriteAnswer) → IsWriteDue style e due → ((tree : Tree) → Spells e.calls tree → (json : Json) × (json_in style tree ≡ Ok json)) → Ok tt ≡ due
   written_is_due (Ok done) d has = refl
   written_is_due (Err (error.BadCall at)) d has = absurd (none_found (check.BadCall at) d)
   written_is_due (Err error.Unfinished) d has = absurd (none_found check.Unfinished d)
@@ -121,7 +120,7 @@ module _ {K : Type 0} (style : Variants) (e : Emission) (told : K → Told) (old
   one_cause why other lacks also =
       let both : ◌≡◌ {A = Result Json Refusal} (Err why) (Err other) = sym (lacks one.spells.0 one.spells.1) ∙ also one.spells.0 one.spells.1 in cc both
 
-  refused_is_due : (why : Refusal) (due : WriteAnswer) → RefusesSpelledTree style why e.calls → IsWriteDue style e due → ◌≡◌ {A = WriteAnswer} (Err (of_json_error (refusal_kind why))) due
+  pub refused_is_due : (why : Refusal) (due : WriteAnswer) → RefusesSpelledTree style why e.calls → IsWriteDue style e due → ◌≡◌ {A = WriteAnswer} (Err (of_json_error (refusal_kind why))) due
   refused_is_due why (Ok done) lacks d = absurd (never_both why lacks d.shape)
   refused_is_due why (Err (error.BadCall at)) lacks d = absurd (none_found (check.BadCall at) d)
   refused_is_due why (Err error.Unfinished) lacks d = absurd (none_found check.Unfinished d)
@@ -131,6 +130,7 @@ module _ {K : Type 0} (style : Variants) (e : Emission) (told : K → Told) (old
   refused_is_due why (Err error.Write) lacks d = absurd d
   refused_is_due why (Err error.NoMemory) lacks d = absurd d
 
+module _ {K : Type 0} (style : Variants) (e : Emission) (told : K → Told) (old new : K) (one : IsOneValue e) where
   -- its text begins with all of it
   all_begins : WritesSpelledTree style e.calls (told old) (told new) → BeginsSpelledTree style e.calls (told old) (told new)
   all_begins writes tree json spells shape =
@@ -143,7 +143,7 @@ module _ {K : Type 0} (style : Variants) (e : Emission) (told : K → Told) (old
   checked_writes s = record {
     done = record { value = one; tree = s.tree; denotes = s.denotes; written = s.written; utf8 = s.utf8; steady = s.steady };
     cause = tt;
-    comes = λ due d. inl (written_is_due due d (λ tree spells. let wrote = s.tree tree spells in (wrote.json, wrote.shape)));
+    comes = λ due d. inl (written_is_due style e one due d (λ tree spells. let wrote = s.tree tree spells in (wrote.json, wrote.shape)));
     prefix = all_begins s.tree;
     counts = s.counts;
   }
@@ -160,14 +160,14 @@ module _ {K : Type 0} (style : Variants) (e : Emission) (told : K → Told) (old
   checked_stops kind.InvalidKey s = record {
     done = tt;
     cause = record { lacks = record { value = one; shape = s.tree_refused InvalidKey refl }; left = s.invalid_key refl };
-    comes = λ due d. inl (refused_is_due InvalidKey due (s.tree_refused InvalidKey refl) d);
+    comes = λ due d. inl (refused_is_due style e one InvalidKey due (s.tree_refused InvalidKey refl) d);
     prefix = s.tree_prefix;
     counts = s.counts;
   }
   checked_stops kind.InvalidNumber s = record {
     done = tt;
     cause = record { lacks = record { value = one; shape = s.tree_refused InvalidNumber refl }; left = s.invalid_number refl };
-    comes = λ due d. inl (refused_is_due InvalidNumber due (s.tree_refused InvalidNumber refl) d);
+    comes = λ due d. inl (refused_is_due style e one InvalidNumber due (s.tree_refused InvalidNumber refl) d);
     prefix = s.tree_prefix;
     counts = s.counts;
   }

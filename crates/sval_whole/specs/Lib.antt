@@ -1,4 +1,5 @@
 pub mod Whole
 pub mod WholeTexts
 pub mod WholeCaptures
+pub mod WholeLaws
 pub mod ErrorTexts

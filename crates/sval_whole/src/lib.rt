@@ -8,10 +8,12 @@
 //!   Their words stand in `specs/Whole.antt` and `specs/WholeTexts.antt`.
 //! - [`collect_whole`] captures a value. Its words stand in `specs/WholeCaptures.antt`.
 //! - [`WriteError`] says why JSON wasn't written, and names the first bad call.
+//! - [`laws`] has what holds of the answers.
 #![tactic(auto)]
 
 mod capture;
 mod error;
+pub mod laws;
 mod to_memory;
 mod write;
 
