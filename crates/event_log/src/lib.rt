@@ -4,8 +4,8 @@
 //! - An [`EventLog`] is seen as the events that it holds, each as it was captured, and its capacity (`specs/Logs.antt`).
 //!   [`EventLog::record`] takes any value that is one whole value and has a JSON; [`EventLog::write_lines`] writes to any
 //!   sink, and can fail only where the sink does.
-//! - An event is any value of the program: a map of the standard library, or a type of the user's own, whose calls and
-//!   proof the crates `readings` and `assert_tokens` show.
+//! - An event is any value of the program: a struct of the user's own, as `Event` of the crate `records`, or a map of the
+//!   standard library.
 //!
 //! # What the proofs take
 //!

@@ -23,7 +23,7 @@ pub(crate) fn makes_again(rt: &impl Abort, alloc: Global, captured: &ValueBuf<'_
 }
 
 /// Captures a value, and asserts that the calls of these lines are made of it.
-fn captures<'v, V: sval_core::Value<'v, Lent<'v>>>(
+pub(crate) fn captures<'v, V: sval_core::Value<'v, Lent<'v>>>(
     rt: &impl Abort,
     alloc: Global,
     value: &'v V,
@@ -68,6 +68,22 @@ fn makes_values_again(rt: HostRuntime) {
         &none,
         "tag RUST_OPTION_NONE =4e6f6e65:VALUE_IDENT 0:VALUE_OFFSET\n",
     );
+}
+
+#[test]
+fn makes_truths_and_numbers_again(rt: HostRuntime) {
+    let alloc = rt.alloc();
+    captures(&rt, alloc, &true, "bool true\n");
+    captures(&rt, alloc, &1i8, "i8 1\n");
+    captures(&rt, alloc, &2i16, "i16 2\n");
+    captures(&rt, alloc, &3i32, "i32 3\n");
+    captures(&rt, alloc, &4i64, "i64 4\n");
+    captures(&rt, alloc, &5i128, "i128 5\n");
+    captures(&rt, alloc, &1u8, "u8 1\n");
+    captures(&rt, alloc, &2u16, "u16 2\n");
+    captures(&rt, alloc, &3u32, "u32 3\n");
+    captures(&rt, alloc, &4u64, "u64 4\n");
+    captures(&rt, alloc, &5u128, "u128 5\n");
 }
 
 #[test]

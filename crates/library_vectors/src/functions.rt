@@ -3,8 +3,8 @@
 use crate::shown::{has_printed, new_printer};
 use std::test::Fail;
 use sval::{
-    fields, stream, stream_binary, stream_computed, stream_map, stream_record, stream_seq,
-    stream_str,
+    Call, Stream, fields, stream, stream_binary, stream_computed, stream_map, stream_record,
+    stream_seq, stream_str,
 };
 
 /// A text, the same through a computed stream, a binary, and a number.
@@ -42,5 +42,16 @@ fn streams_parts(rt: HostRuntime) -> Result<(), Fail> {
     stream_map(&mut boxed, &[(1u8, true)])?;
     stream_record(&mut boxed, fields!("a" => 1u8, "b " => false))?;
     has_printed(&rt, Box::into_inner(boxed), PARTS);
+    Ok(())
+}
+
+#[test]
+fn calls_are_copied(rt: HostRuntime) -> Result<(), Fail> {
+    let mut printer = new_printer(rt.alloc());
+    let call = Call::Bool(true);
+    let copy = call;
+    printer.take(copy)?;
+    printer.take(call.clone()?)?;
+    has_printed(&rt, printer, "bool true\nbool true\n");
     Ok(())
 }

@@ -2,8 +2,7 @@
 use Rattle.sval_core.specs.Law.{Emission}
 use Rattle.std.specs.Prelude.{[], ◌∷◌}
 use Rattle.sval.specs.Fields.{a_struct, field, newtype, tuple_struct, unit_variant, value_variant, tuple_variant, struct_variant, bool_emission, u16_emission, u32_emission, i32_emission, i64_emission, text_emission, string_emission, option_emission, vec_emission, map_emission, binary_emission}
-use Rattle.records.specs.declared.level.Level.{Level}
-use Rattle.records.specs.declared.level.Level.TheVariants as level
+use Rattle.records.specs.declared.site.Site.{Site}
 use Rattle.records.specs.declared.order.Item.{Item}
 use Rattle.records.specs.declared.order.Payment.{Payment}
 use Rattle.records.specs.declared.order.Payment.TheVariants as payment
@@ -15,11 +14,11 @@ use Rattle.records.specs.declared.shapes.Point.{Point}
 use Rattle.records.specs.declared.shapes.Shape.{Shape}
 use Rattle.records.specs.declared.shapes.Shape.TheVariants as shape
 
--- a level is its name
-abbrev pub level_emission : Level → Emission
-level_emission level.Debug = unit_variant "Level" "Debug" 0
-level_emission level.Info = unit_variant "Level" "Info" 1
-level_emission level.Error = unit_variant "Level" "Error" 2
+-- a place in the program
+abbrev pub site_emission : Site → Emission
+site_emission site = a_struct "Site" (
+    field "file" (string_emission site.file) ∷
+    field "line" (u32_emission site.line) ∷ [])
 
 -- a line of an order
 abbrev pub item_emission : Item → Emission

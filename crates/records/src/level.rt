@@ -1,6 +1,6 @@
 //! An enum without fields.
 
-ghost use Rattle.records.specs.Records.{level_emission};
+ghost use Rattle.records.specs.Levels.{level_emission};
 
 use sval::{Lent, Result, Stream, Value, stream_unit_variant};
 

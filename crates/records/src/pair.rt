@@ -1,7 +1,7 @@
 //! Structs that are generic in what they hold.
 
 ghost use Rattle.std.specs.Prelude.{[], ◌∷◌};
-ghost use Rattle.sval.specs.Fields.{a_struct, field, tuple_struct};
+ghost use Rattle.sval.specs.Fields.{a_struct, field, tuple_struct, u32_emission};
 
 use sval::{Lent, Result, Stream, Value, fields, stream_struct, stream_tuple_struct};
 
@@ -33,5 +33,24 @@ impl<'v, T: Value<'v, Lent<'v>>> Value<'v, Lent<'v>> for Interval<T> {
 
     fn stream<S: Stream<Lent<'v>>>(&'v self, stream: &mut S) -> Result {
         stream_tuple_struct(stream, "Interval", fields!(self, 0, 1))
+    }
+}
+
+/// A value with the number of its form.
+#[derive(Clone, Copy, Debug)]
+pub struct Versioned<T> {
+    /// The number.
+    pub version: u32,
+    /// The value.
+    pub value: T,
+}
+
+impl<'v, T: Value<'v, Lent<'v>>> Value<'v, Lent<'v>> for Versioned<T> {
+    ghost emission = { λ versioned. a_struct "Versioned" (
+        field "version" (u32_emission versioned.version) ∷
+        field "value" (T.emission versioned.value) ∷ []) };
+
+    fn stream<S: Stream<Lent<'v>>>(&'v self, stream: &mut S) -> Result {
+        stream_struct(stream, "Versioned", fields!(self, version, value))
     }
 }

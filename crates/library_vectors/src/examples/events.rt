@@ -1,5 +1,6 @@
 //! Events that are recorded and written.
 
+use super::structs::{EVENT, disk_is_full};
 use crate::shown::shows;
 use event_log::EventLog;
 use std::alloc::{AllocError, Global};
@@ -70,5 +71,18 @@ fn writes_to_a_writer(rt: HostRuntime) -> Result<(), Fail> {
         String::from_utf8(written),
         "{\"level\":\"info\",\"message\":\"started\"}\n",
     );
+    Ok(())
+}
+
+#[test]
+fn keeps_a_struct(rt: HostRuntime) -> Result<(), Fail> {
+    let alloc = rt.alloc();
+    let mut log = EventLog::new(alloc, 1)?;
+    let event = disk_is_full(alloc)?;
+    log.record(&event)?;
+    let mut sink = VecSink::new(alloc);
+    log.write_lines(&mut sink)?;
+    let line = format!(in alloc; "{EVENT}\n")?;
+    shows(&rt, String::from_utf8(sink.into_vec()), line.as_str());
     Ok(())
 }
