@@ -1,4 +1,3 @@
 pub mod Readings
 pub mod Totals
 pub mod Written
-pub mod Reports

@@ -5,7 +5,7 @@
 //! - [`check_readings`] answers Ok unless memory is wanting, since the calls spell that tree.
 //! - [`to_json`] gives exactly the text of `specs/Written.antt`, unless memory is wanting.
 //! - [`total_of`] streams any value into a stream of this crate's own, whose law stands in `specs/Totals.antt`.
-//! - [`Report`] is a value of unlike parts, of which one is another value.
+//! - [`Report`] is a struct. One of its fields is another value of this crate.
 //! - [`Unit`] lends its name for longer than it is borrowed itself.
 //!
 //! # What the proofs take
@@ -13,8 +13,7 @@
 //! 1. A value of calls one after another, and the function that streams one item, are proved as they stand.
 //! 2. The loop over items wants the attribute with `of_loops`, and its invariant
 //!    (`proofs/ReadingsValueLent/stream/Invariants.antt`): the begin and the items so far were streamed.
-//! 3. Of unlike parts each is streamed by a function of its own, whose clause has a word of `specs/Reports.antt`; the
-//!    functions that join them want the attribute with `of_between` or `of_emissions`, and no answers.
+//! 3. A struct by `stream_struct` is proved as it stands.
 //! 4. That the calls spell the tree is a lemma for each kind of reading, and one for the sequence (`proofs/Told.antt`).
 //! 5. What is written is the JSON of that tree, by one equation for each kind of reading (`proofs/Written.antt`).
 //! 6. What a stream has taken after a value is the fold of its law over the value's calls (`proofs/total`).
@@ -27,7 +26,7 @@ ghost use Rattle.std.specs.Prelude.{IsOkUnless};
 ghost use Rattle.sval_core.specs.Law.{Emits};
 ghost use Rattle.sval_core.specs.Values.{makes};
 ghost use Rattle.sval_core.specs.ValueCalls.{item_calls};
-ghost use Rattle.readings.specs.Readings.{reading_calls, readings_calls};
+ghost use Rattle.readings.specs.Readings.{reading_calls, readings_emission};
 
 mod json;
 mod report;
@@ -37,8 +36,8 @@ mod unit;
 pub use json::to_json;
 pub use report::Report;
 use std::alloc::Global;
+use sval::{Lent, Result, Stream, Value};
 use sval_check::{CheckError, check};
-use sval_core::{Lent, Result, Stream, Value};
 pub use total::total_of;
 pub use unit::Unit;
 
@@ -84,7 +83,7 @@ fn stream_item<'v, S: Stream<Lent<'v>>>(stream: &mut S, reading: &'v Reading) ->
 }
 
 impl<'v> Value<'v, Lent<'v>> for Readings {
-    ghost emission = { λ all. makes (readings_calls all.readings.items) };
+    ghost emission = { readings_emission };
 
     #[tactic(auto, using(sval_core::proofs::ValueProofs::of_loops))]
     fn stream<S: Stream<Lent<'v>>>(&'v self, stream: &mut S) -> Result {

@@ -5,21 +5,12 @@ ghost use Rattle.sval_label.specs.Made.{call_of};
 ghost use Rattle.sval_core.specs.Law.{Answers};
 ghost use Rattle.readings.specs.Totals.{total_law, total_standing, total_of};
 
-use sval_core::{AnyCall, GroupedCall, Int, Lending, Lent, Result, Stream, Value};
+use sval::{AnyCall, GroupedCall, Int, Lending, Lent, Result, Stream, Value};
 
 /// Adds up the `i64` numbers of a value, whatever else it says, and stops at the ends of that type.
 #[derive(Drop)]
 struct Total {
     total: i64,
-}
-
-impl Total {
-    /// What was added up.
-    fn sum(&self) -> i64
-        ensures { result ≡ self.now.total }
-    {
-        self.total
-    }
 }
 
 impl<L: Lending> Stream<L> for Total {
@@ -37,6 +28,15 @@ impl<L: Lending> Stream<L> for Total {
             self.total = self.total.saturating_add(number);
         }
         Ok(())
+    }
+}
+
+impl Total {
+    /// What was added up.
+    fn sum(&self) -> i64
+        ensures { result ≡ self.now.total }
+    {
+        self.total
     }
 }
 

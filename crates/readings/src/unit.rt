@@ -4,7 +4,7 @@ ghost use Rattle.std.specs.Prelude.{true};
 ghost use Rattle.sval_core.specs.Values.{makes};
 ghost use Rattle.sval_core.specs.ValueCalls.{text_calls};
 
-use sval_core::{Lent, Result, Stream};
+use sval::{Lent, Result, Stream};
 use sval_ref::ValueRef;
 
 /// A unit's name, which is lent for longer than the unit itself is borrowed.

@@ -40,7 +40,7 @@ fn writes_a_report(rt: HostRuntime) -> Result<(), Fail> {
         &rt,
         rt.alloc(),
         &report,
-        "[\"tea\",[\"tea \\\"green\\\"\",-95,100]]",
+        r#"{"title":"tea","readings":["tea \"green\"",-95,100]}"#,
     );
     Ok(())
 }
