@@ -2,9 +2,9 @@
 use Rattle.std.specs.Prelude.{◌≡◌, ℕ, false, List, [], ◌∷◌, ◌++◌, map, codes, flat_map, Option, Some, None, Result, Ok, Err, refl}
 use Rattle.std.specs.List.{concat, cons_option}
 use Rattle.std.proofs.Common.{sym, ap, ◌∙◌, append_assoc, append-nil}
-use Rattle.sval_label.specs.Calls.{Call, Head, Slot, Tag, Label, Name}
+use Rattle.sval_label.specs.Calls.{Call, Head, Slot, Tag, Label, Index}
 use Rattle.sval_core.specs.Law.{Emission}
-use Rattle.sval_core.specs.Spells.{Says, SayParts, plain, plain_call, bare_name, bare_label}
+use Rattle.sval_core.specs.Spells.{Says, SayParts, plain, plain_call, bare_name, bare_label, bare_index}
 use Rattle.sval_core.specs.Trees as tree
 use Rattle.sval_core.specs.Trees.{Tree, Parts, none, part, Kind, next_kind, AreInOrder, IsGood}
 use Rattle.sval_core.specs.ValueTrees.{Tells}
@@ -14,8 +14,8 @@ use Rattle.logfmt.specs.declared.LogfmtError.{LogfmtError}
 use Rattle.logfmt.specs.declared.LogfmtError.TheVariants.{NotFlat}
 use Rattle.logfmt.specs.declared.writer.Due.{Due}
 use Rattle.logfmt.specs.declared.writer.Due.TheVariants as due
-use Rattle.logfmt.specs.Pairs.{and_then, a_key, leaf, and_pairs, field_pairs, line, record_line}
-use Rattle.logfmt.specs.Steps.{Begun, LogfmtStep, space_after, logfmt_step, logfmt_steps}
+use Rattle.logfmt.specs.Pairs.{and_then, a_key, leaf, pair, and_pairs, field_pairs, line, record_line}
+use Rattle.logfmt.specs.Steps.{Begun, LogfmtStep, space_after, key_step, logfmt_step, logfmt_steps}
 use Rattle.logfmt.specs.Writing.{nothing_written, ended_line, written_line}
 
 abbrev at : Due → List ℕ → Begun
@@ -142,44 +142,72 @@ entry (Ok k) (Ok w) (Err why) f = refl
 entry (Ok k) (Err why) others f = refl
 entry (Err why) value others f = refl
 
+-- the call ends the value of a key
+abbrev EndsValue : Call → Type 0
+EndsValue call = (now : List ℕ) → logfmt_step call (at due.ValueEnd now) ≡ Ok (at due.Pair now)
+
 -- the value of a key, and what comes after it
-value_written : (value : Tree) (parts : Parts) (tag : Option Tag) (label : Label) (inner after rest : List Call) (t key : List ℕ)
-    → Says value inner (Call.PartEnd (Slot.Field tag label) ∷ after)
+value_written : (value : Tree) (parts : Parts) (end : Call) (inner after rest : List Call) (t key : List ℕ)
+    → EndsValue end → Says value inner (end ∷ after)
     → ((now : List ℕ) → logfmt_steps after (at due.Pair now) ≡ and_then (field_pairs parts) (λ all. logfmt_steps rest (at due.Pair (now ++ more now all))))
     → logfmt_steps inner (at due.Value (t ++ (space_after t ++ key ++ codes "=")))
     ≡ and_then (leaf value) (λ text. and_then (field_pairs parts) (λ all. logfmt_steps rest (at due.Pair (t ++ more t ((key ++ codes "=" ++ text) ∷ all)))))
-value_written value parts tag label inner after rest t key says others =
-    leaf_written value inner (Call.PartEnd (Slot.Field tag label) ∷ after) (t ++ (space_after t ++ key ++ codes "=")) says
+value_written value parts end inner after rest t key ends says others =
+    leaf_written value inner (end ∷ after) (t ++ (space_after t ++ key ++ codes "=")) says
     ∙ then_same (leaf value) _ _ (λ text.
-    others ((t ++ (space_after t ++ key ++ codes "=")) ++ text)
+    ap (λ is. and_then is (logfmt_steps after)) (ends ((t ++ (space_after t ++ key ++ codes "=")) ++ text))
+    ∙ others ((t ++ (space_after t ++ key ++ codes "=")) ++ text)
     ∙ then_same (field_pairs parts) _ _ (λ all. ap (λ x. logfmt_steps rest (at due.Pair x)) (pair_more t key text all)))
+
+-- a field with this label, and the fields after it
+field_written : (value : Tree) (parts : Parts) (end : Call) (label : List ℕ) (inner after rest : List Call) (t : List ℕ)
+    → EndsValue end → Says value inner (end ∷ after)
+    → ((now : List ℕ) → logfmt_steps after (at due.Pair now) ≡ and_then (field_pairs parts) (λ all. logfmt_steps rest (at due.Pair (now ++ more now all))))
+    → and_then (key_step label t) (logfmt_steps inner) ≡ and_then (and_pairs (pair label value) (field_pairs parts)) (λ all. logfmt_steps rest (at due.Pair (t ++ more t all)))
+field_written value parts end label inner after rest t ends says others =
+    then_then (a_key label) (λ key. Ok (at due.Value (t ++ (space_after t ++ key ++ codes "=")))) (logfmt_steps inner)
+    ∙ then_same (a_key label) (λ key. logfmt_steps inner (at due.Value (t ++ (space_after t ++ key ++ codes "=")))) _
+    (λ key. value_written value parts end inner after rest t key ends says others)
+    ∙ sym (entry (a_key label) (leaf value) (field_pairs parts) (λ all. logfmt_steps rest (at due.Pair (t ++ more t all))))
+
+field_ends : (tag : Option Tag) (label : Label) → EndsValue (Call.PartEnd (Slot.Field tag label))
+field_ends tag label now = refl
+
+place_ends : (tag : Option Tag) (label : Label) (index : Index) → EndsValue (Call.PartEnd (Slot.FieldPlace tag label index))
+place_ends tag label index now = refl
 
 parts_written : (parts : Parts) (kind : Kind) (calls rest : List Call) (t : List ℕ) → AreInOrder kind parts → SayParts parts calls rest
     → logfmt_steps calls (at due.Pair t) ≡ and_then (field_pairs parts) (λ all. logfmt_steps rest (at due.Pair (t ++ more t all)))
 parts_written none kind calls rest t o s = ap (λ c. logfmt_steps c (at due.Pair t)) s ∙ ap (λ x. logfmt_steps rest (at due.Pair x)) (sym (nothing_more t))
 parts_written (part (Slot.Field tag label) value parts) kind calls rest t o s =
     ap (λ c. logfmt_steps c (at due.Pair t)) s.2
-    ∙ then_then (a_key label.text) (λ key. Ok (at due.Value (t ++ (space_after t ++ key ++ codes "=")))) (logfmt_steps s.0)
-    ∙ then_same (a_key label.text) (λ key. logfmt_steps s.0 (at due.Value (t ++ (space_after t ++ key ++ codes "=")))) _
-    (λ key. value_written value parts tag (bare_label label) s.0 s.1 rest t key s.3 (λ now. parts_written parts (next_kind kind) s.1 rest now o.1 s.4))
-    ∙ sym (entry (a_key label.text) (leaf value) (field_pairs parts) (λ all. logfmt_steps rest (at due.Pair (t ++ more t all))))
+    ∙ field_written value parts (Call.PartEnd (Slot.Field tag (bare_label label))) label.text s.0 s.1 rest t (field_ends tag (bare_label label)) s.3
+    (λ now. parts_written parts (next_kind kind) s.1 rest now o.1 s.4)
+parts_written (part (Slot.FieldPlace tag label index) value parts) kind calls rest t o s =
+    ap (λ c. logfmt_steps c (at due.Pair t)) s.2
+    ∙ field_written value parts (Call.PartEnd (Slot.FieldPlace tag (bare_label label) (bare_index index))) label.text s.0 s.1 rest t
+    (place_ends tag (bare_label label) (bare_index index)) s.3 (λ now. parts_written parts (next_kind kind) s.1 rest now o.1 s.4)
 parts_written (part Slot.Item value parts) kind calls rest t o s = ap (λ c. logfmt_steps c (at due.Pair t)) s.2
 parts_written (part Slot.Key value parts) kind calls rest t o s = ap (λ c. logfmt_steps c (at due.Pair t)) s.2
 parts_written (part Slot.Value value parts) kind calls rest t o s = ap (λ c. logfmt_steps c (at due.Pair t)) s.2
 parts_written (part (Slot.Place tag index) value parts) kind calls rest t o s = ap (λ c. logfmt_steps c (at due.Pair t)) s.2
-parts_written (part (Slot.FieldPlace tag label index) value parts) kind calls rest t o s = ap (λ c. logfmt_steps c (at due.Pair t)) s.2
 
 -- ---- a value
 
 abbrev start : Begun
 start = nothing_written.begun
 
-finished : (parts : Parts) (kind : Kind) (name : Name) (inner : List Call) → AreInOrder kind parts → SayParts parts inner (Call.End (Head.Record name) ∷ [])
+-- the call ends the line
+abbrev EndsLine : Call → Type 0
+EndsLine call = (text : List ℕ) → logfmt_step call (at due.Pair text) ≡ Ok (at due.Nothing text)
+
+finished : (parts : Parts) (kind : Kind) (end : Call) (inner : List Call) → EndsLine end → AreInOrder kind parts → SayParts parts inner (end ∷ [])
     → and_then (logfmt_steps inner (at due.Pair [])) (ended_line false) ≡ and_then (field_pairs parts) (λ all. Ok (line all))
 unfolding more
-finished parts kind name inner o s =
-    ap (λ is. and_then is (ended_line false)) (parts_written parts kind inner (Call.End (Head.Record name) ∷ []) [] o s)
-    ∙ then_then (field_pairs parts) (λ all. Ok (at due.Nothing (line all))) (ended_line false)
+finished parts kind end inner ends o s =
+    ap (λ is. and_then is (ended_line false)) (parts_written parts kind inner (end ∷ []) [] o s)
+    ∙ then_then (field_pairs parts) (λ all. logfmt_steps (end ∷ []) (at due.Pair (line all))) (ended_line false)
+    ∙ then_same (field_pairs parts) _ _ (λ all. ap (λ is. and_then (and_then is (logfmt_steps [])) (ended_line false)) (ends (line all)))
 
 tree_written : (t : Tree) (calls : List Call) → IsGood t → Says t calls [] → and_then (logfmt_steps calls start) (ended_line false) ≡ record_line t
 tree_written tree.Null calls good s = ap (λ c. and_then (logfmt_steps c start) (ended_line false)) s
@@ -194,9 +222,11 @@ tree_written (tree.Enum name inner) calls good s = ap (λ c. and_then (logfmt_st
 tree_written (tree.Container Head.Seq parts) calls good s = ap (λ c. and_then (logfmt_steps c start) (ended_line false)) s.3
 tree_written (tree.Container Head.Map parts) calls good s = ap (λ c. and_then (logfmt_steps c start) (ended_line false)) s.3
 tree_written (tree.Container (Head.Record name) parts) calls good s =
-    ap (λ c. and_then (logfmt_steps c start) (ended_line false)) s.3 ∙ finished parts tree.Field (bare_name name) s.1 good.1 s.4
+    ap (λ c. and_then (logfmt_steps c start) (ended_line false)) s.3 ∙ finished parts tree.Field (Call.End (Head.Record (bare_name name))) s.1 (λ text. refl) good.1 s.4
 tree_written (tree.Container (Head.Tuple name) parts) calls good s = ap (λ c. and_then (logfmt_steps c start) (ended_line false)) s.3
-tree_written (tree.Container (Head.RecordTuple name) parts) calls good s = ap (λ c. and_then (logfmt_steps c start) (ended_line false)) s.3
+tree_written (tree.Container (Head.RecordTuple name) parts) calls good s =
+    ap (λ c. and_then (logfmt_steps c start) (ended_line false)) s.3
+    ∙ finished parts tree.FieldPlace (Call.End (Head.RecordTuple (bare_name name))) s.1 (λ text. refl) good.1 s.4
 
 -- the line of a value that tells a tree
 pub told_line : (e : Emission) (t : Tree) → Tells e t → written_line e ≡ record_line t

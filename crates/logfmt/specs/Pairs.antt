@@ -43,10 +43,11 @@ pair label value = and_then (a_key label) (λ key. and_then (leaf value) (λ tex
 abbrev pub and_pairs : Result (List ℕ) LogfmtError → Result (List (List ℕ)) LogfmtError → Result (List (List ℕ)) LogfmtError
 and_pairs first rest = and_then first (λ pair. and_then rest (λ others. Ok (pair ∷ others)))
 
--- the pairs of a record's fields
+-- the pairs of the fields of a record or a struct
 abbrev pub field_pairs : Parts → Result (List (List ℕ)) LogfmtError
 field_pairs none = Ok []
 field_pairs (part (Slot.Field tag label) value parts) = and_pairs (pair label.text value) (field_pairs parts)
+field_pairs (part (Slot.FieldPlace tag label index) value parts) = and_pairs (pair label.text value) (field_pairs parts)
 field_pairs (part _ _ _) = Err NotFlat
 
 -- one space between each two
@@ -54,7 +55,8 @@ abbrev pub line : List (List ℕ) → List ℕ
 line [] = []
 line (pair ∷ field_pairs) = pair ++ flat_map (λ next. codes " " ++ next) field_pairs
 
--- the line of a record of leaves
+-- the line of a record or a struct of leaves
 abbrev pub record_line : Tree → Result (List ℕ) LogfmtError
 record_line (Container (Head.Record name) parts) = and_then (field_pairs parts) (λ all. Ok (line all))
+record_line (Container (Head.RecordTuple name) parts) = and_then (field_pairs parts) (λ all. Ok (line all))
 record_line _ = Err NotFlat

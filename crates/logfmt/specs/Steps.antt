@@ -1,7 +1,7 @@
 -- The line call by call: what is due, and what a call writes.
 use Rattle.std.specs.Prelude.{ℕ, List, [], ◌∷◌, ◌++◌, codes, Result, Ok, Err}
 use Rattle.std.specs.Fmt.{signed_decimal}
-use Rattle.sval_label.specs.Calls.{Call, Null, Truth, Int, TagHint, TextBegin, TextFragment, TextEnd, Begin, End, PartBegin, PartEnd, Record, Field}
+use Rattle.sval_label.specs.Calls.{Call, Null, Truth, Int, TagHint, TextBegin, TextFragment, TextEnd, Begin, End, PartBegin, PartEnd, Record, RecordTuple, Field, FieldPlace}
 use Rattle.sval_label.specs.Texts.{truth_text}
 use Rattle.sval_json.specs.Escape.{escaped}
 use Rattle.logfmt.specs.declared.LogfmtError.{LogfmtError}
@@ -39,8 +39,11 @@ key_step label text = and_then (a_key label) (λ key. adds_text text (space_afte
 abbrev pub step_at : Call → Due → List ℕ → LogfmtStep
 step_at (TagHint tag) due text = waits text due
 step_at (Begin (Record name) size) due.Line text = waits text due.Pair
+step_at (Begin (RecordTuple name) size) due.Line text = waits text due.Pair
 step_at (PartBegin (Field tag label)) due.Pair text = key_step label.text text
+step_at (PartBegin (FieldPlace tag label index)) due.Pair text = key_step label.text text
 step_at (End (Record name)) due.Pair text = waits text due.Nothing
+step_at (End (RecordTuple name)) due.Pair text = waits text due.Nothing
 step_at Null due.Value text = adds_text text (codes "null") due.ValueEnd
 step_at (Truth b) due.Value text = adds_text text (truth_text b) due.ValueEnd
 step_at (Int type number) due.Value text = adds_text text (signed_decimal number) due.ValueEnd
@@ -48,6 +51,7 @@ step_at (TextBegin size) due.Value text = adds_text text (codes "\"") due.Text
 step_at (TextFragment borrowed bytes) due.Text text = adds_text text (escaped bytes) due.Text
 step_at TextEnd due.Text text = adds_text text (codes "\"") due.ValueEnd
 step_at (PartEnd (Field tag label)) due.ValueEnd text = waits text due.Pair
+step_at (PartEnd (FieldPlace tag label index)) due.ValueEnd text = waits text due.Pair
 step_at _ _ text = Err NotFlat
 
 abbrev pub logfmt_step : Call → Begun → LogfmtStep

@@ -1,6 +1,7 @@
 //! Values as lines of logfmt: a writer of a format of one's own, as a user of these crates writes one.
 //!
-//! - [`to_logfmt`] gives the line of a record of leaves. What a line is stands in `specs/Pairs.antt`, over trees.
+//! - [`to_logfmt`] gives the line of a struct or a record of leaves. What a line is stands in `specs/Pairs.antt`, over
+//!   trees.
 //! - The writer is a stream. Call by call it does the steps of `specs/Steps.antt`, which is its law
 //!   (`specs/Writing.antt`).
 //!
@@ -30,7 +31,7 @@ use writer::LogfmtWriter;
 /// Why a value was not written as a line of pairs.
 #[derive(Clone, Copy, Debug, PartialEq, Eq)]
 pub enum LogfmtError {
-    /// The value is something else than a record whose values are leaves.
+    /// The value is something else than a struct or a record whose values are leaves.
     NotFlat,
     /// A key is empty, or holds a space, a control character below the space, a quote or a `=`.
     InvalidKey,
@@ -61,12 +62,12 @@ impl fmt::Display for LogfmtError {
 
 impl Error for LogfmtError {}
 
-/// The line of a value: `key=value` for each field of a record, with one space between each two.
+/// The line of a value: `key=value` for each field of a struct or a record, with one space between each two.
 ///
 /// A number, a truth value and null stand plainly, and a text between quotes, escaped as in JSON. There is no line feed
 /// at the end. Where the value's calls spell a tree, the answer is what `line_of` says of the tree, unless memory is
-/// wanting. Other calls are taken as far as a line goes on with them: sizes aren't looked at, nor whether the record's name
-/// and the labels at ends are those of the begins.
+/// wanting. Other calls are taken as far as a line goes on with them: sizes aren't looked at, nor whether an end is that of
+/// its begin.
 ///
 /// ```
 /// let line = to_logfmt(alloc, &value)?;
@@ -75,7 +76,7 @@ impl Error for LogfmtError {}
 ///
 /// # Errors
 ///
-/// [`LogfmtError::NotFlat`] comes where the value is no record, or where one of its values is no number, truth value, null
+/// [`LogfmtError::NotFlat`] comes where the value is neither, or where one of its values is no number, truth value, null
 /// or text; [`LogfmtError::InvalidKey`] where a key can't stand in a line. The first that is found comes.
 /// [`LogfmtError::Refused`] comes where the value itself refuses, and [`LogfmtError::Unfinished`] where its calls end too
 /// early; neither comes where they spell a tree. [`LogfmtError::NoMemory`] may come in place of any answer, but only

@@ -22,7 +22,7 @@ use sval_json::escape;
 /// What comes next.
 #[derive(Clone, Copy)]
 pub(crate) enum Due {
-    /// The record.
+    /// The record, or the struct.
     Line,
     /// A pair, or the end.
     Pair,
@@ -192,9 +192,16 @@ impl LogfmtWriter {
     {
         match (self.due, call) {
             (due, GroupedCall::TagHint(_)) => self.wait_for(due),
-            (Due::Line, GroupedCall::Begin(Head::Record(_), _)) => self.wait_for(Due::Pair),
-            (Due::Pair, GroupedCall::PartBegin(Slot::Field(_, label))) => self.write_key(label),
-            (Due::Pair, GroupedCall::End(Head::Record(_))) => self.wait_for(Due::Nothing),
+            (Due::Line, GroupedCall::Begin(Head::Record(_) | Head::RecordTuple(_), _)) => {
+                self.wait_for(Due::Pair)
+            }
+            (
+                Due::Pair,
+                GroupedCall::PartBegin(Slot::Field(_, label) | Slot::FieldPlace(_, label, _)),
+            ) => self.write_key(label),
+            (Due::Pair, GroupedCall::End(Head::Record(_) | Head::RecordTuple(_))) => {
+                self.wait_for(Due::Nothing)
+            }
             (Due::Value, GroupedCall::Null) => self.write(b"null", Due::ValueEnd),
             (Due::Value, GroupedCall::Bool(true)) => self.write(b"true", Due::ValueEnd),
             (Due::Value, GroupedCall::Bool(false)) => self.write(b"false", Due::ValueEnd),
@@ -205,7 +212,8 @@ impl LogfmtWriter {
             (Due::Value, GroupedCall::TextBegin(_)) => self.write(b"\"", Due::Text),
             (Due::Text, GroupedCall::TextFragment(part)) => self.write_part(part),
             (Due::Text, GroupedCall::TextEnd) => self.write(b"\"", Due::ValueEnd),
-            (Due::ValueEnd, GroupedCall::PartEnd(Slot::Field(_, _))) => self.wait_for(Due::Pair),
+            (Due::ValueEnd, GroupedCall::PartEnd(Slot::Field(_, _) | Slot::FieldPlace(_, _, _))) =>
+                self.wait_for(Due::Pair),
             _ => self.refuse(LogfmtError::NotFlat),
         }
     }

@@ -3,6 +3,7 @@
 use crate::shown::shows;
 use assert_tokens::Point;
 use logfmt::to_logfmt;
+use records::MyRecord;
 use std::test::Fail;
 use sval_script::Script;
 
@@ -32,6 +33,20 @@ fn writes_each_call(rt: HostRuntime) -> Result<(), Fail> {
         "said=\"a \\\"b\\\"\\n\\u0001c\\\\\" status=200 ok=true",
     );
     Ok(())
+}
+
+#[test]
+fn writes_a_struct(rt: HostRuntime) {
+    let value = MyRecord {
+        field_0: 1,
+        field_1: true,
+        field_2: "some text",
+    };
+    shows(
+        &rt,
+        to_logfmt(rt.alloc(), &value),
+        "field_0=1 field_1=true field_2=\"some text\"",
+    );
 }
 
 #[test]

@@ -1,7 +1,7 @@
 -- Trees and their lines.
 use Rattle.std.specs.Prelude.{◌≡◌, ℕ, true, false, List, codes, pos, None, Ok, Err, refl}
 use Rattle.std.specs.Fmt.{digits}
-use Rattle.sval_label.specs.Calls.{U16, Field, Seq, Record, Map}
+use Rattle.sval_label.specs.Calls.{U16, Field, FieldPlace, Seq, Record, RecordTuple, Map}
 use Rattle.sval_core.specs.Names.{no_name}
 use Rattle.sval_core.specs.Trees.{Tree, Null, Truth, Int, Text, Container, Parts, none, part}
 use Rattle.logfmt.specs.declared.LogfmtError.TheVariants.{NotFlat, InvalidKey}
@@ -14,6 +14,10 @@ three_fields : record_line (Container (Record no_name) (field (codes "level") (T
     ≡ Ok (codes "level=\"info\" status=200 ok=true")
 unfolding digits
 three_fields = refl
+
+one_field_of_a_struct : record_line (Container (RecordTuple no_name) (part (FieldPlace None (record { text = codes "ok"; tag = None; is_static = false }) (record { number = pos 0; tag = None })) (Truth true) none))
+    ≡ Ok (codes "ok=true")
+one_field_of_a_struct = refl
 
 no_field : record_line (Container (Record no_name) none) ≡ Ok (codes "")
 no_field = refl
