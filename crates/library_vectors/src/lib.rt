@@ -10,6 +10,8 @@ mod buffers;
 #[cfg(test)]
 mod captured;
 #[cfg(test)]
+mod errors;
+#[cfg(test)]
 mod examples;
 #[cfg(test)]
 mod functions;
