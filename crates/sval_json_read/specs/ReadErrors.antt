@@ -26,6 +26,12 @@ pub record KeepsSome (bytes : List ℕ) : Type 0 where
   pub reached : after_bytes reader_start (take count bytes) ≡ Some state
   pub keeps : HasToken state
 
+-- the cause of each error of a text, which is UTF-8: it denotes no value and fails there, or some node is kept of it
+abbrev pub IsTextReadError : List ℕ → ReadError → Type 0
+IsTextReadError bytes NotUtf8 = ⊥
+IsTextReadError bytes (BadJson at) = IsBadJson bytes at
+IsTextReadError bytes NoMemory = KeepsSome bytes
+
 -- the cause of each error: the bytes are no UTF-8, they denote no value and fail there, or they are UTF-8 and some node is kept of them
 abbrev pub IsJsonReadError : List ℕ → ReadError → Type 0
 IsJsonReadError bytes NotUtf8 = IsUtf8 bytes → ⊥

@@ -9,7 +9,7 @@ ghost use Rattle.sval_json_read.specs.SeenValues.{value_in};
 ghost use Rattle.sval_json_read.specs.Documents.{IsDocument};
 ghost use Rattle.sval_json_read.specs.Nodes.{tokens_in};
 ghost use Rattle.sval_json_read.specs.SeenNodes.{seen_node, StandsIn};
-ghost use Rattle.sval_json_read.specs.ReadErrors.{IsJsonReadError, IsReadText};
+ghost use Rattle.sval_json_read.specs.ReadErrors.{IsJsonReadError, IsTextReadError, IsReadText};
 
 use crate::json_ref::JsonRef;
 use crate::node::Node;
@@ -111,8 +111,31 @@ impl<'a> JsonDoc<'a> {
         ensures err { IfErr result (IsJsonReadError bytes.now) }
     {
         match from_utf8(bytes) {
-            Ok(text) => read_text(alloc, text),
+            Ok(text) => JsonDoc::read_str(alloc, text),
             Err(_) => Err(ReadError::NotUtf8),
+        }
+    }
+
+    /// Reads a text whole, as [`JsonDoc::read`] does, but doesn't look whether it is UTF-8, which it is.
+    ///
+    /// ```
+    /// let doc = JsonDoc::read_str(alloc, "[1, 2]")?;
+    /// assert_eq!(rt; doc.root().len(), Some(2));
+    /// assert_eq!(rt; JsonDoc::read_str(alloc, "[1,]").err(), Some(ReadError::BadJson { at: 3 }));
+    /// ```
+    ///
+    /// # Errors
+    ///
+    /// [`ReadError::BadJson`] comes only where the text denotes no value, and [`ReadError::NoMemory`] as in
+    /// [`JsonDoc::read`]. No other comes.
+    pub fn read_str(alloc: Global, text: &'a str) -> Result<Self, ReadError>
+        ensures ok { IfOk result (λ doc. IsReadText text.now (document_calls doc)) }
+        ensures value { IfOk result (λ doc. Denotes text.now (value_in doc)) }
+        ensures err { IfErr result (IsTextReadError text.now) }
+    {
+        match read_nodes(alloc, text.as_bytes()) {
+            Ok(nodes) => Ok(JsonDoc { text, nodes }),
+            Err(error) => Err(error),
         }
     }
 
@@ -129,24 +152,12 @@ impl<'a> JsonDoc<'a> {
     }
 }
 
-/// Reads a text whole, where nothing but its UTF-8 is known.
-fn read_text(alloc: Global, text: &str) -> Result<JsonDoc<'_>, ReadError>
-    ensures ok { IfOk result (λ doc. IsReadText text.now (document_calls doc)) }
-    ensures value { IfOk result (λ doc. Denotes text.now (value_in doc)) }
-    ensures err { IfErr result (IsJsonReadError text.now) }
-{
-    match read_nodes(alloc, text.as_bytes()) {
-        Ok(nodes) => Ok(JsonDoc { text, nodes }),
-        Err(error) => Err(error),
-    }
-}
-
 /// Reads the nodes of a text, byte by byte, but that what no escape cuts of a string is passed over at once.
 fn read_nodes(alloc: Global, bytes: &[u8]) -> Result<Vec<Node>, ReadError>
     requires { IsUtf8 bytes.now }
     ensures ok { IfOk result (λ nodes. IsDocument bytes.now (tokens_in bytes.now (map seen_node nodes.items))) }
     ensures stand { IfOk result (λ nodes. AllByRecursion (StandsIn bytes.now) nodes.items) }
-    ensures err { IfErr result (IsJsonReadError bytes.now) }
+    ensures err { IfErr result (IsTextReadError bytes.now) }
 {
     let mut reader = Reader::new(alloc);
     let mut at: usize = 0;

@@ -1,6 +1,6 @@
 use Rattle.std.proofs.Common.{◌≡◌, ℕ, ◌≤◌, length, take, Some, List, sym, ap, subst, ◌∙◌, arith, take_all}
 use Rattle.sval_json_read.specs.Documents.{IsBadJson}
-use Rattle.sval_json_read.specs.ReadErrors.{IsJsonReadError}
+use Rattle.sval_json_read.specs.ReadErrors.{IsTextReadError}
 use Rattle.sval_json_read.specs.SeenReader.{seen_state}
 use Rattle.sval_json_read.specs.Reader.{reader_start, after_bytes}
 use Rattle.sval_json_read.specs.declared.reader.Reader.{Reader}
@@ -56,13 +56,11 @@ returns-in-Ok-false-finish-clause-err c =
 
 pub returns-in-Err-clause-err : goal.returns-in-Err-clause-err
 returns-in-Err-clause-err c =
-    subst (IsJsonReadError c.args.bytes.now) (sym c.from.ensures)
-    (c.requires, kept_at c.args.bytes.now c.loop-at.at (seen_state c.args.bytes.now c.loop-at.at c.loop-at.reader) c.loop-at-test.true c.loop-at.invariant.reached c.in-Err.ensures.no_memory)
+    subst (IsTextReadError c.args.bytes.now) (sym c.from.ensures)
+    (kept_at c.args.bytes.now c.loop-at.at (seen_state c.args.bytes.now c.loop-at.at c.loop-at.reader) c.loop-at-test.true c.loop-at.invariant.reached c.in-Err.ensures.no_memory)
 
 pub returns-in-Err-finish-clause-err : goal.returns-in-Err-finish-clause-err
 returns-in-Err-finish-clause-err c =
-    subst (IsJsonReadError c.args.bytes.now) (sym c.from-in-Err-finish.ensures) (
-      c.requires,
-      kept_end c.args.bytes.now (seen_state c.args.bytes.now (length c.args.bytes.now) c.loop-at.reader)
-          (all_taken c.args.bytes.now c.loop-at.at c.loop-at.reader c.loop-at-test.false c.loop-at.invariant.within c.loop-at.invariant.reached) c.in-Err-finish.ensures.no_memory,
-    )
+    subst (IsTextReadError c.args.bytes.now) (sym c.from-in-Err-finish.ensures)
+    (kept_end c.args.bytes.now (seen_state c.args.bytes.now (length c.args.bytes.now) c.loop-at.reader)
+    (all_taken c.args.bytes.now c.loop-at.at c.loop-at.reader c.loop-at-test.false c.loop-at.invariant.within c.loop-at.invariant.reached) c.in-Err-finish.ensures.no_memory)

@@ -4,7 +4,7 @@ use Rattle.sval_json_read.specs.Documents.{IsDocument}
 use Rattle.sval_json_read.specs.Nodes.{tokens_in}
 use Rattle.sval_json_read.specs.SeenNodes.{seen_node, StandsIn}
 use Rattle.sval_json_read.proofs.KeptDocuments.{kept-document, document-read, document-denotes}
-use Rattle.sval_json_read.proofs.document.read_text.Goals as goal
+use Rattle.sval_json_read.proofs.document.JsonDoc.read_str.Goals as goal
 
 pub invariant_of-result : goal.invariant_of-result
 invariant_of-result c =
