@@ -8,7 +8,7 @@ use Rattle.sval_json_read.specs.declared.node.Node.TheVariants as node
 use Rattle.sval_json_read.specs.declared.node.Place as made_place
 use Rattle.sval_json_read.specs.declared.node.Place.TheVariants as place
 use Rattle.sval_json_read.specs.Trees.{fits_i64, whole_value}
-use Rattle.sval_json_read.specs.Lookups.{json_truth_of, json_number_of, i64_of, items_of, members_of}
+use Rattle.sval_json_read.specs.Lookups.{json_truth_of, json_number_of, i64_of, fits_i128, i128_of, items_of, members_of}
 use Rattle.sval_json_read.specs.Tokens as token
 use Rattle.sval_json_read.specs.Tokens.{Place, Alone, Item, Value, Token, Placed, tokens_of}
 use Rattle.sval_json_read.specs.Nodes.{token_in, tokens_in}
@@ -129,6 +129,12 @@ fits_some text n f e = rw f (ap Some e)
 
 pub no_fit : (text : List ℕ) → fits_i64 text ≡ false → None ≡ i64_of (json.Number text)
 no_fit text f = rw f refl
+
+pub fits_i128_some : (text : List ℕ) (n : ℤ) → fits_i128 text ≡ true → n ≡ whole_value text → Some n ≡ i128_of (json.Number text)
+fits_i128_some text n f e = rw f (ap Some e)
+
+pub no_fit_i128 : (text : List ℕ) → fits_i128 text ≡ false → None ≡ i128_of (json.Number text)
+no_fit_i128 text f = rw f refl
 
 -- ---- arrays and objects
 

@@ -39,3 +39,4 @@ mod InnerNodes
 mod NextNodes
 mod SameTexts
 mod ParsedNaturals
+mod PartCounts

@@ -1,8 +1,10 @@
 -- What is looked up in a value of JSON.
-use Rattle.std.specs.Prelude.{ℕ, ◌^◌, ℤ, Bool, not, ◌&&◌, nat_lt, if◌then◌else◌, List, [], ◌∷◌, Option, Some, None}
+use Rattle.std.specs.Prelude.{ℕ, ◌^◌, ℤ, Bool, true, false, not, ◌&&◌, nat_lt, if◌then◌else◌, List, [], ◌∷◌, length, slice_get, Option, Some, None}
 use Rattle.std.specs.Str.{bytes_eq}
 use Rattle.std.specs.Option.{option_or}
 use Rattle.std.specs.Str.Parse.{digits_value}
+use Rattle.sval_label.specs.Calls.{I128}
+use Rattle.sval_label.specs.Ranges.{is_of_type}
 use Rattle.sval_json.specs.Digits.{digits_of}
 use Rattle.sval_json.specs.Number.{is_negative}
 use Rattle.sval_json.specs.Grammar.{JsonValue, Null, Truth, Number, Text, Array, Object, Values, no_values, a_value, Members, no_members, a_member}
@@ -19,6 +21,11 @@ json_kind_of (Text _) = kind.Text
 json_kind_of (Array _) = kind.Array
 json_kind_of (Object _) = kind.Object
 
+-- a value is `null`
+abbrev pub is_null : JsonValue → Bool
+is_null Null = true
+is_null _ = false
+
 -- the truth that a value is
 abbrev pub json_truth_of : JsonValue → Option Bool
 json_truth_of (Truth b) = Some b
@@ -34,14 +41,31 @@ abbrev pub i64_of : JsonValue → Option ℤ
 i64_of (Number text) = if fits_i64 text then Some (whole_value text) else None
 i64_of _ = None
 
--- a number without a minus, a fraction and an exponent, in the range of `u64`
-abbrev pub fits_u64 : List ℕ → Bool
-fits_u64 text = has_no_fraction text && (not (is_negative text) && nat_lt (digits_value 10 (digits_of text)) (2 ^ 64))
+-- a number without a fraction and an exponent, in the range of `i128`
+abbrev pub fits_i128 : List ℕ → Bool
+fits_i128 text = has_no_fraction text && is_of_type I128 (whole_value text)
 
--- the number that a value is, where it has no minus, no fraction and no exponent and is in the range of `u64`
+-- the number that a value is, where it has no fraction and no exponent and is in the range of `i128`
+abbrev pub i128_of : JsonValue → Option ℤ
+i128_of (Number text) = if fits_i128 text then Some (whole_value text) else None
+i128_of _ = None
+
+-- a number without a minus, a fraction and an exponent, from 0 to 2 ^ bits - 1
+abbrev pub fits_unsigned : ℕ → List ℕ → Bool
+fits_unsigned bits text = has_no_fraction text && (not (is_negative text) && nat_lt (digits_value 10 (digits_of text)) (2 ^ bits))
+
+-- the number that a value is, where it has no minus, no fraction and no exponent and is at most 2 ^ bits - 1
+abbrev pub unsigned_of : ℕ → JsonValue → Option ℕ
+unsigned_of bits (Number text) = if fits_unsigned bits text then Some (digits_value 10 (digits_of text)) else None
+unsigned_of bits _ = None
+
+-- the same in the range of `u64`
 abbrev pub u64_of : JsonValue → Option ℕ
-u64_of (Number text) = if fits_u64 text then Some (digits_value 10 (digits_of text)) else None
-u64_of _ = None
+u64_of value = unsigned_of 64 value
+
+-- and in that of `u128`
+abbrev pub u128_of : JsonValue → Option ℕ
+u128_of value = unsigned_of 128 value
 
 -- the text of the string that a value is
 abbrev pub json_text_of : JsonValue → Option (List ℕ)
@@ -58,6 +82,11 @@ abbrev pub items_of : JsonValue → Option (List JsonValue)
 items_of (Array values) = Some (values_listed values)
 items_of _ = None
 
+-- the item at this index of the array that a value is, from 0 on
+abbrev pub item_at : ℕ → JsonValue → Option JsonValue
+item_at index (Array values) = slice_get (values_listed values) index
+item_at index _ = None
+
 -- a pair of an object: the text of its key, and its value
 pub record Member : Type 0 where
   pub name : List ℕ
@@ -72,6 +101,12 @@ paired (a_member text value members) = record { name = text; value = value } ∷
 abbrev pub members_of : JsonValue → Option (List Member)
 members_of (Object members) = Some (paired members)
 members_of _ = None
+
+-- how many items the array, or pairs the object, has that a value is
+abbrev pub len_of : JsonValue → Option ℕ
+len_of (Array values) = Some (length (values_listed values))
+len_of (Object members) = Some (length (paired members))
+len_of _ = None
 
 -- the value of the last pair with this name
 abbrev pub last_named : List ℕ → List Member → Option JsonValue

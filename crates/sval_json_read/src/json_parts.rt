@@ -1,6 +1,6 @@
 //! The items of arrays, and the pairs of objects.
 
-ghost use Rattle.std.specs.Prelude.{◌≡◌, ◌<◌, map, length, drop};
+ghost use Rattle.std.specs.Prelude.{◌≡◌, ◌<◌, map, length, drop, slice_get};
 ghost use Rattle.sval_json_read.specs.Lookups.{last_named, values_listed, paired};
 ghost use Rattle.sval_json_read.specs.Nodes.{tokens_in};
 ghost use Rattle.sval_json_read.specs.SeenNodes.{seen_node};
@@ -60,6 +60,35 @@ impl<'d> JsonItems<'d> {
         let (first, behind) = self.nodes.split_at(value_len(self.nodes));
         self.nodes = behind;
         Some(JsonRef::new(self.text, first))
+    }
+
+    /// The item at this index among those that are left.
+    #[tactic(auto, using(crate::proofs::PartCounts::behind_first))]
+    pub(crate) fn nth(self, index: usize) -> Option<JsonRef<'d>>
+        ensures { result ≡ slice_get self.entry index }
+    {
+        let mut left = self;
+        let mut before = index;
+        while let Some(item) = left.next() {
+            if before == 0 {
+                return Some(item);
+            }
+            before -= 1;
+        }
+        None
+    }
+
+    /// How many items are left.
+    pub(crate) fn count(self) -> usize
+        ensures { result ≡ length self.entry }
+    {
+        let most = self.nodes.len();
+        let mut left = self;
+        let mut count = 0;
+        while count < most && left.next().is_some() {
+            count += 1;
+        }
+        count
     }
 }
 
@@ -126,6 +155,19 @@ impl<'d> JsonMembers<'d> {
             },
             _ => unreachable!(),
         }
+    }
+
+    /// How many pairs are left.
+    pub(crate) fn count(self) -> usize
+        ensures { result ≡ length self.entry }
+    {
+        let most = self.nodes.len();
+        let mut left = self;
+        let mut count = 0;
+        while count < most && left.next().is_some() {
+            count += 1;
+        }
+        count
     }
 
     /// The value of the last pair with this name among those that are left.

@@ -6,7 +6,7 @@ ghost use Rattle.sval_json_read.specs.Nodes.{tokens_in};
 ghost use Rattle.sval_json_read.specs.SeenNodes.{seen_node};
 ghost use Rattle.sval_json_read.specs.SeenValues.{value_in};
 ghost use Rattle.sval_json_read.specs.ValueNodes.{AreOfValue};
-ghost use Rattle.sval_json_read.specs.Lookups.{json_kind_of, json_truth_of, json_number_of, i64_of, u64_of, json_text_of, items_of, members_of, member_of};
+ghost use Rattle.sval_json_read.specs.Lookups.{json_kind_of, is_null, json_truth_of, json_number_of, i64_of, u64_of, i128_of, u128_of, json_text_of, items_of, item_at, members_of, member_of, len_of};
 
 use crate::json_parts::{JsonItems, JsonMembers};
 use crate::json_text::JsonText;
@@ -77,6 +77,16 @@ impl<'d> JsonRef<'d> {
         }
     }
 
+    /// Whether it is `null`.
+    pub fn is_null(&self) -> bool
+        ensures { result ≡ is_null self.now }
+    {
+        match self.kind() {
+            JsonKind::Null => true,
+            _ => false,
+        }
+    }
+
     /// The truth that it is.
     pub fn as_bool(&self) -> Option<bool>
         ensures { result ≡ json_truth_of self.now }
@@ -124,6 +134,39 @@ impl<'d> JsonRef<'d> {
         }
     }
 
+    /// The number that it is, where it has no fraction and no exponent and fits.
+    ///
+    /// ```
+    /// let doc = JsonDoc::read_str(alloc, "[18446744073709551616, 1.0]")?;
+    /// assert_eq!(rt; doc.root().item(0).and_then(|item| item.as_i64()), None);
+    /// assert_eq!(rt; doc.root().item(0).and_then(|item| item.as_i128()), Some(18446744073709551616));
+    /// assert_eq!(rt; doc.root().item(1).and_then(|item| item.as_i128()), None);
+    /// ```
+    pub fn as_i128(&self) -> Option<i128>
+        ensures { result ≡ i128_of self.now }
+    {
+        match self.as_number() {
+            Some(text) => match text.parse::<i128>() {
+                Ok(number) => Some(number),
+                Err(_) => None,
+            },
+            None => None,
+        }
+    }
+
+    /// The number that it is, where it has no minus, no fraction and no exponent and fits.
+    pub fn as_u128(&self) -> Option<u128>
+        ensures { result ≡ u128_of self.now }
+    {
+        match self.as_number() {
+            Some(text) => match text.parse::<u128>() {
+                Ok(number) => Some(number),
+                Err(_) => None,
+            },
+            None => None,
+        }
+    }
+
     /// The string that it is.
     pub fn as_text(&self) -> Option<JsonText<'d>>
         ensures { result ≡ json_text_of self.now }
@@ -146,6 +189,22 @@ impl<'d> JsonRef<'d> {
         }
     }
 
+    /// The item at this index of the array that it is, from 0 on.
+    ///
+    /// ```
+    /// let doc = JsonDoc::read_str(alloc, "[[1, 2], 3]")?;
+    /// assert_eq!(rt; doc.root().item(1).and_then(|item| item.as_i64()), Some(3));
+    /// assert_eq!(rt; doc.root().item(2).is_none(), true);
+    /// ```
+    pub fn item(&self, index: usize) -> Option<JsonRef<'d>>
+        ensures { result ≡ item_at index self.now }
+    {
+        match self.items() {
+            Some(items) => items.nth(index),
+            None => None,
+        }
+    }
+
     /// The pairs of the object that it is.
     pub fn members(&self) -> Option<JsonMembers<'d>>
         ensures { result ≡ members_of self.now }
@@ -153,6 +212,25 @@ impl<'d> JsonRef<'d> {
         match self.nodes[0] {
             Node::BeginObject(_) => { Some(JsonMembers::new(self.text, between_ends(self.nodes))) },
             _ => None,
+        }
+    }
+
+    /// How many items or pairs the array or object has that it is.
+    ///
+    /// ```
+    /// let doc = JsonDoc::read_str(alloc, "[[1, 2], 3]")?;
+    /// assert_eq!(rt; doc.root().len(), Some(2));
+    /// assert_eq!(rt; doc.root().item(1).and_then(|item| item.len()), None);
+    /// ```
+    pub fn len(&self) -> Option<usize>
+        ensures { result ≡ len_of self.now }
+    {
+        match self.items() {
+            Some(items) => Some(items.count()),
+            None => match self.members() {
+                Some(members) => Some(members.count()),
+                None => None,
+            },
         }
     }
 

@@ -31,6 +31,40 @@ impl Case for Member {
     }
 }
 
+/// A text, and behind `wide` what its value is as an `i128` and as a `u128`.
+struct Wide;
+
+impl Case for Wide {
+    fn seen(alloc: Global, input: &str, _due: &str) -> Result<String, Fail> {
+        let doc = JsonDoc::read_str(alloc, input)?;
+        let value = doc.root();
+        let signed = value.as_i128();
+        let unsigned = value.as_u128();
+        Ok(format!(in alloc; "wide {signed:?} {unsigned:?}")?)
+    }
+}
+
+/// A text, and behind `size` how many items or pairs its value has, and of the item at 1 whether it is `null`, how many
+/// it has, and what it is as an `i64`.
+struct Size;
+
+impl Case for Size {
+    fn seen(alloc: Global, input: &str, _due: &str) -> Result<String, Fail> {
+        let doc = JsonDoc::read_str(alloc, input)?;
+        let value = doc.root();
+        let size = value.len();
+        match value.item(1) {
+            Some(item) => {
+                let is_null = item.is_null();
+                let items = item.len();
+                let number = item.as_i64();
+                Ok(format!(in alloc; "size {size:?} {is_null:?} {items:?} {number:?}")?)
+            },
+            None => Ok(format!(in alloc; "size {size:?}")?),
+        }
+    }
+}
+
 /// What a value is taken for.
 fn push_one(alloc: Global, value: &JsonRef<'_>, seen: &mut String) -> Result<(), Fail> {
     let kind = value.kind();
@@ -119,6 +153,48 @@ const MEMBERS: &'static str = r#"
 = member None
 "#;
 
+const WIDE: &'static str = r#"
+-170141183460469231731687303715884105728␄
+= wide Some(-170141183460469231731687303715884105728) None
+-170141183460469231731687303715884105729␄
+= wide None None
+170141183460469231731687303715884105727␄
+= wide Some(170141183460469231731687303715884105727) Some(170141183460469231731687303715884105727)
+170141183460469231731687303715884105728␄
+= wide None Some(170141183460469231731687303715884105728)
+340282366920938463463374607431768211455␄
+= wide None Some(340282366920938463463374607431768211455)
+340282366920938463463374607431768211456␄
+= wide None None
+-0␄
+= wide Some(0) None
+1e2␄
+= wide None None
+"1"␄
+= wide None None
+"#;
+
+const SIZES: &'static str = r#"
+null␄
+= size None
+"ab"␄
+= size None
+[]␄
+= size Some(0)
+{}␄
+= size Some(0)
+{"a":[1,2],"a":3}␄
+= size Some(2)
+[[7,8]]␄
+= size Some(1)
+[[1,[2]],7,9]␄
+= size Some(3) false None Some(7)
+[{"a":[]},null]␄
+= size Some(2) true None None
+[1,[2,[3],{}],4,{"b":5}]␄
+= size Some(4) false Some(3) None
+"#;
+
 #[test]
 fn what_values_are(rt: HostRuntime) -> Result<(), Fail> {
     try_cases::<Parts>(&rt, rt.alloc(), PARTS)
@@ -127,4 +203,14 @@ fn what_values_are(rt: HostRuntime) -> Result<(), Fail> {
 #[test]
 fn the_last_of_a_name(rt: HostRuntime) -> Result<(), Fail> {
     try_cases::<Member>(&rt, rt.alloc(), MEMBERS)
+}
+
+#[test]
+fn wide_numbers(rt: HostRuntime) -> Result<(), Fail> {
+    try_cases::<Wide>(&rt, rt.alloc(), WIDE)
+}
+
+#[test]
+fn sizes_and_items(rt: HostRuntime) -> Result<(), Fail> {
+    try_cases::<Size>(&rt, rt.alloc(), SIZES)
 }

@@ -11,7 +11,7 @@ use Rattle.sval_json_read.proofs.number_calls.stream_number.Goals as goal
 pub returns-in-Ok : goal.returns-in-Ok
 returns-in-Ok g c =
     let parsed = c.in-Ok.ensures.value.0 in
-    let reads = parse-reads {E = Unit {0}} c.args.text.now (Ok c.in-Ok.number) c.requires parsed in
+    let reads = parse-reads w64 {E = Unit {0}} c.args.text.now (Ok c.in-Ok.number) c.requires parsed in
     let fits = subst (SFits w64) (sym parsed.1) parsed.0.1 in
     let old = g.S.Stream.standing c.args.stream.now in
     let new = g.S.Stream.standing c.stream_whole.new.stream in
@@ -21,4 +21,4 @@ returns-in-Ok g c =
 pub returns-in-Err : goal.returns-in-Err
 returns-in-Err g c =
     emits_text g.S.Stream.law (g.S.Stream.standing c.args.stream.now) c.args.text.now c.stream_text_under.result (g.S.Stream.standing c.stream_text_under.new.stream)
-    (parse-reads c.args.text.now (Err c.in-Err.field-0) c.requires c.in-Err.ensures.value.0) c.stream_text_under.ensures
+    (parse-reads w64 c.args.text.now (Err c.in-Err.field-0) c.requires c.in-Err.ensures.value.0) c.stream_text_under.ensures

@@ -1,0 +1,8 @@
+use Rattle.std.proofs.Common.{rules, subst, length, ◌≤◌}
+use Rattle.sval_json_read.proofs.PartCounts.{items_fit}
+use Rattle.sval_json_read.proofs.json_parts.JsonItems.count.Goals as goal
+
+pub loop-count-init : goal.loop-count-init
+loop-count-init c =
+    let fit = items_fit c.self.inside.text.now c.self.inside.nodes.now c.self.invariant in
+    (search rules, subst (λ row. length row ≤ length c.self.inside.nodes.now) c.self.view_is fit)
