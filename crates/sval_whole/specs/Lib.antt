@@ -3,3 +3,4 @@ pub mod WholeTexts
 pub mod WholeCaptures
 pub mod WholeLaws
 pub mod ErrorTexts
+pub mod StructJson

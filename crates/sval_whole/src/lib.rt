@@ -8,7 +8,7 @@
 //!   Their words stand in `specs/Whole.antt` and `specs/WholeTexts.antt`.
 //! - [`collect_whole`] captures a value. Its words stand in `specs/WholeCaptures.antt`.
 //! - [`WriteError`] says why JSON wasn't written, and names the first bad call.
-//! - [`laws`] has what holds of the answers.
+//! - [`laws`] has what holds of the answers, and which JSON structs and enums of a user's own have.
 #![tactic(auto)]
 
 mod capture;
