@@ -12,8 +12,8 @@ use sval_core::{Lent, Value};
 
 /// Captures a value, if its calls are one whole value.
 ///
-/// On `Ok` the buffer took all its calls, as `ValueBuf::collect` of `sval_buffer` captures them, and its replay spells the
-/// tree that the calls spell. The value is streamed twice, into the check and then into the buffer.
+/// On `Ok` the buffer took all its calls, as `ValueBuf::collect` of `sval_buffer` captures them, and its replay
+/// spells the tree that the calls spell. The value is streamed twice, into the check and then into the buffer.
 ///
 /// ```
 /// let buffer: ValueBuf<'_> = collect_whole(alloc, &value)?;
@@ -24,8 +24,9 @@ use sval_core::{Lent, Value};
 ///
 /// # Errors
 ///
-/// They are those of [`check`], for the same causes. The first three come wherever they stand, unless memory was wanting.
-/// [`CheckError::NoMemory`] comes only where memory was wanting to check the calls, or to capture one whole value.
+/// They are those of [`check`], for the same causes. The first three come wherever they stand, unless memory was
+/// wanting. [`CheckError::NoMemory`] comes only where memory was wanting to check the calls, or to capture one whole
+/// value.
 pub fn collect_whole<'sval, N: CallStore + 'sval, V: Value<'sval, Lent<'sval>>>(
     alloc: Global,
     v: &'sval V,

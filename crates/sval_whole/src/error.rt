@@ -10,7 +10,8 @@ use sval_json::ErrorKind;
 /// Why the JSON of a value wasn't written, or not whole.
 #[derive(Clone, Copy, Debug, PartialEq, Eq)]
 pub enum WriteError {
-    /// No value goes on with the call of this number, counted from 1. A number past the greatest `u64` is given as that.
+    /// No value goes on with the call of this number, counted from 1. A number past the greatest `u64` is given as
+    /// that.
     BadCall {
         /// The number of the call.
         at: u64,

@@ -1,11 +1,11 @@
 //! JSON and captures of values whose calls are checked.
 //!
 //! The writer of `sval_json` and `ValueBuf` of `sval_buffer` trust that calls, ends and sizes are right: a value that
-//! forgets an end gives `Ok` and broken JSON there. Here each value is checked first: `Ok` comes only where its calls are
-//! one whole value.
+//! forgets an end gives `Ok` and broken JSON there. Here each value is checked first: `Ok` comes only where its
+//! calls are one whole value.
 //!
-//! - [`to_json_string`], [`to_json_vec`] and [`write_json`] write a value, and their `_with` forms in a style of variants.
-//!   Their words stand in `specs/Whole.antt` and `specs/WholeTexts.antt`.
+//! - [`to_json_string`], [`to_json_vec`] and [`write_json`] write a value, and their `_with` forms in a style of
+//!   variants. Their words stand in `specs/Whole.antt` and `specs/WholeTexts.antt`.
 //! - [`collect_whole`] captures a value. Its words stand in `specs/WholeCaptures.antt`.
 //! - [`WriteError`] says why JSON wasn't written, and names the first bad call.
 //! - [`laws`] has what holds of the answers, and which JSON structs and enums of a user's own have.

@@ -13,11 +13,11 @@ use sval_json::{Variants, stream_to_io_write_with};
 
 /// Writes a value to a sink as JSON, without white space, if its calls are one whole value.
 ///
-/// On `Ok` the sink took exactly the text of the JSON of the tree that the calls spell. Where raw texts and identifiers
-/// in it are what their tags promise, the text denotes the one value that this JSON means, and no other.
+/// On `Ok` the sink took exactly the text of the JSON of the tree that the calls spell. Where raw texts and
+/// identifiers in it are what their tags promise, the text denotes the one value that this JSON means, and no other.
 ///
-/// The value is streamed twice, into the check and then into the writer. Memory of `alloc` is taken for the check alone,
-/// as [`check`] takes it.
+/// The value is streamed twice, into the check and then into the writer. Memory of `alloc` is taken for the check
+/// alone, as [`check`] takes it.
 ///
 /// ```
 /// let mut sink = VecSink::new(alloc);
@@ -29,22 +29,23 @@ use sval_json::{Variants, stream_to_io_write_with};
 ///
 /// - [`WriteError::BadCall`] comes where no value goes on with one of the calls, and names the first such call.
 /// - [`WriteError::Refused`] comes where all calls can be completed, and the value refuses after them.
-/// - [`WriteError::Unfinished`] comes where all calls can be completed, the value doesn't refuse, and the calls are not one
-///   whole value.
+/// - [`WriteError::Unfinished`] comes where all calls can be completed, the value doesn't refuse, and the calls are
+///   not one whole value.
 ///
 /// These three leave the sink as it was.
 ///
-/// - [`WriteError::InvalidKey`] and [`WriteError::InvalidNumber`] come where the calls are one whole value that has no JSON
-///   for that cause, the first from left to right. The sink took exactly what is written up to there.
+/// - [`WriteError::InvalidKey`] and [`WriteError::InvalidNumber`] come where the calls are one whole value that has
+///   no JSON for that cause, the first from left to right. The sink took exactly what is written up to there.
 ///
 /// The five exclude each other, and each comes wherever it stands, unless the sink declined or memory was wanting.
 ///
-/// - [`WriteError::Write`] comes only where the sink's count of faults rose, and never where it tells room for the text.
-/// - [`WriteError::NoMemory`] comes where memory was wanting to check the calls, which leaves the sink as it was, or where
-///   the sink's count of wants rose.
+/// - [`WriteError::Write`] comes only where the sink's count of faults rose, and never where it tells room for the
+///   text.
+/// - [`WriteError::NoMemory`] comes where memory was wanting to check the calls, which leaves the sink as it was, or
+///   where the sink's count of wants rose.
 ///
-/// After `Write`, and after `NoMemory` where that count rose, the sink took a first part of the text and not all of it. No
-/// count ever falls. The sink isn't flushed.
+/// After `Write`, and after `NoMemory` where that count rose, the sink took a first part of the text and not all of
+/// it. No count ever falls. The sink isn't flushed.
 pub fn write_json<'v, K: Sink, V: Value<'v, Lent<'v>>>(
     alloc: Global,
     out: &mut K,
