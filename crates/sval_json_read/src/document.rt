@@ -152,7 +152,8 @@ impl<'a> JsonDoc<'a> {
     }
 }
 
-/// Reads the nodes of a text, byte by byte, but that what no escape cuts of a string is passed over at once.
+/// Reads the nodes of a text, byte by byte, but that plain bytes of a string, digits and white space are passed over at
+/// once.
 fn read_nodes(alloc: Global, bytes: &[u8]) -> Result<Vec<Node>, ReadError>
     requires { IsUtf8 bytes.now }
     ensures ok { IfOk result (λ nodes. IsDocument bytes.now (tokens_in bytes.now (map seen_node nodes.items))) }

@@ -20,6 +20,7 @@ use sval_core::NoMemory;
 impl Reader {
     /// Reads a comma or the end of what is open.
     #[tactic(auto, using(crate::proofs::ReaderPlaces::of_places, crate::proofs::KeptTokens::of_tokens))]
+    #[inline(always)]
     fn goes_on(&mut self, bytes: &[u8], at: usize) -> Result<bool, NoMemory>
         requires at_in { at < length bytes.now }
         requires reads { IsReadTo bytes.now at self.old }
@@ -49,6 +50,7 @@ impl Reader {
 
     /// Reads one byte after a value.
     #[tactic(auto, using(crate::proofs::ReaderPlaces::of_places, crate::proofs::KeptTokens::of_tokens))]
+    #[inline(always)]
     pub(crate) fn follows(&mut self, bytes: &[u8], at: usize) -> Result<bool, NoMemory>
         requires at_in { at < length bytes.now }
         requires reads { IsReadTo bytes.now at self.old }
@@ -99,6 +101,7 @@ impl Reader {
 
     /// Reads the first byte of a value.
     #[tactic(auto, using(crate::proofs::ReaderPlaces::of_places, crate::proofs::KeptTokens::of_tokens))]
+    #[inline(always)]
     fn begins(&mut self, bytes: &[u8], at: usize) -> Result<bool, NoMemory>
         requires at_in { at < length bytes.now }
         requires reads { IsReadTo bytes.now at self.old }

@@ -27,8 +27,11 @@ impl Reader {
         match self.expected {
             Expected::InString(_, Within::Plain) => first_escape(&bytes[at..]),
             Expected::InNumber(phase) if takes_digits(phase) => digits_ahead(&bytes[at..]),
-            expected if skips_spaces(expected) => spaces_ahead(&bytes[at..]),
-            _ => 0,
+            expected => match bytes.get(at) {
+                // Most often another token comes at once.
+                Some(next) if *next <= b' ' && skips_spaces(expected) => spaces_ahead(&bytes[at..]),
+                _ => 0,
+            },
         }
     }
 }

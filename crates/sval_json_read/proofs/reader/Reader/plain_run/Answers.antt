@@ -25,7 +25,7 @@ returns-in-InNumber-clause-passes c =
     let digits = to_the_end is_ascii_digit c.args.bytes.now c.args.at c.digits_ahead.result c.requires.at_in c.digits_ahead.ensures.digits in
     passes_digits c.args.bytes.now c.args.at c.digits_ahead.result c.args.self.now c.in-InNumber.phase c.in-InNumber.is (sym c.takes_digits.ensures ∙ c.if-takes_digits.true) c.requires.before digits
 
-pub returns-in_default-clause-passes : goal.returns-in_default-clause-passes
-returns-in_default-clause-passes c =
+pub returns-in-Some-clause-passes : goal.returns-in-Some-clause-passes
+returns-in-Some-clause-passes c =
     let spaces = to_the_end is_space c.args.bytes.now c.args.at c.spaces_ahead.result c.requires.at_in c.spaces_ahead.ensures.spaces in
     passes_spaces c.args.bytes.now c.args.at c.spaces_ahead.result c.args.self.now (sym c.skips_spaces.ensures ∙ c.if-skips_spaces.true) spaces
