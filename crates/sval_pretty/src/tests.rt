@@ -1,0 +1,47 @@
+//! Texts, what is written of them, and a sink that fails on the way.
+
+use crate::to_memory::pretty_to_vec;
+use crate::to_sink::write_pretty;
+use std::test::Fail;
+use sval_io::{FixedSink, SinkError};
+
+/// A text, and its pretty text as `jq --indent 2 .` prints it, but for its last line feed.
+const ROWS: [(&'static str, &'static str); 10] = [
+    ("", ""),
+    ("7", "7"),
+    ("[]", "[]"),
+    ("{ }", "{}"),
+    ("[1,[],{}]", "[\n  1,\n  [],\n  {}\n]"),
+    (
+        "{\"a\":1,\"b\":[true,null]}",
+        "{\n  \"a\": 1,\n  \"b\": [\n    true,\n    null\n  ]\n}",
+    ),
+    (" {\n\t\"a\" : [ ] }\r\n", "{\n  \"a\": []\n}"),
+    (
+        "[\"[,:]\",\"\\\"{\",\"\\\\\"]",
+        "[\n  \"[,:]\",\n  \"\\\"{\",\n  \"\\\\\"\n]",
+    ),
+    ("[\" \u{e9} \"]", "[\n  \" \u{e9} \"\n]"),
+    ("[[[0]]]", "[\n  [\n    [\n      0\n    ]\n  ]\n]"),
+];
+
+#[test]
+fn lays_out_its_rows(rt: HostRuntime) -> Result<(), Fail> {
+    for (json, pretty) in ROWS {
+        let out = pretty_to_vec(rt.alloc(), json.as_bytes())?;
+        assert_eq!(rt; out.as_slice(), pretty.as_bytes(), "of {json}");
+    }
+    Ok(())
+}
+
+#[test]
+fn stops_where_the_sink_is_full(rt: HostRuntime) -> Result<(), Fail> {
+    let mut buffer = [0; 6];
+    let mut sink = FixedSink::new(&mut buffer);
+    assert_eq!(rt;
+        write_pretty(&mut sink, b"[[0]]".as_slice()),
+        Err(SinkError::Failed)
+    );
+    assert_eq!(rt; sink.as_slice(), b"[\n  [\n".as_slice());
+    Ok(())
+}
