@@ -1,0 +1,12 @@
+//! The lines of a source, one at a time, in the memory of the longest line.
+//!
+//! [`Lines`] reads any [`Source`](sval_io::Source) line by line.
+#![tactic(auto)]
+
+mod error;
+mod lines;
+#[cfg(test)]
+mod tests;
+
+pub use error::LineError;
+pub use lines::Lines;
