@@ -47,7 +47,9 @@ fn first_feed(bytes: &[u8]) -> Option<usize>
 }
 
 impl<I: Source + Drop> Lines<I> {
-    /// The lines of this source, of which none is read yet.
+    /// The lines of this source, before the first is read.
+    ///
+    /// It answers an error where there is no memory for what is read ahead.
     pub fn new(alloc: Global, source: I) -> Result<Self, AllocError>
         ensures source { IfOk result (λ lines. lines.source ≡ source) }
         ensures unread { IfOk result (λ lines. unread lines.chunk.items lines.from lines.upto ≡ []) }
@@ -109,7 +111,8 @@ impl<I: Source + Drop> Lines<I> {
     fn refill(&mut self) -> Result<bool, LineError>
         ensures ok { IfOk result (λ some. Refills some (I.told self.old.source)
             (unread self.new.chunk.items self.new.from self.new.upto) (I.told self.new.source)) }
-        ensures err { IfErr result (λ why. HasLineCause why self.old.number (I.told self.old.source) (I.told self.new.source)) }
+        ensures err { IfErr result (λ why.
+            HasLineCause why self.old.number (I.told self.old.source) (I.told self.new.source)) }
         ensures left { OnErr result ((I.told self.new.source).left ≡ (I.told self.old.source).left) }
         ensures unread { OnErr result (unread self.new.chunk.items self.new.from self.new.upto ≡ []) }
         ensures line { self.new.line ≡ self.old.line }

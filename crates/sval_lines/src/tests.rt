@@ -31,7 +31,7 @@ fn give_line(
     Ok(())
 }
 
-/// The first two lines of an input that aren't empty, with their numbers, where so many bytes come at a time.
+/// The first three lines of an input that aren't empty, with their numbers. A read gives `chunk` bytes at most.
 fn lines_given(alloc: Global, input: &str, chunk: usize) -> Result<String, Fail> {
     let mut lines = Lines::new(
         alloc,
