@@ -1,10 +1,10 @@
 //! Token assertions: whether a value makes the calls that a test expects, as a user of these crates writes them.
 //!
 //! - [`tokens_match`] streams a point into a buffer of tokens, and compares these with those that are expected.
-//! - [`Point`] is a value whose tokens the tests of this crate assert. Its calls stand in `specs/Points.antt`.
+//! - [`Point`] is a value whose tokens the tests of this crate assert. Its calls are in `specs/Points.antt`.
 //!
-//! `tokens_match` names its value's type: a function that is generic in a value, by a bound that names a lifetime, gets no
-//! proof where its signature has a [`Token`], since a token may hold a text of the program (`'static`).
+//! `tokens_match` names its value's type: a function that is generic in a value, by a bound that names a lifetime, gets
+//! no proof where its signature has a [`Token`], since a token may hold a text of the program (`'static`).
 #![tactic(auto)]
 
 ghost use Rattle.std.specs.Prelude.{◌↔◌, IsTrue, IfOk};

@@ -54,7 +54,7 @@ fn want_of(error: &Error) -> RecordError
 }
 
 impl<'o, N: CallStore + 'o> AnyEventLog<'o, N> {
-    /// A log of no events, with room for so many. It takes the memory for their places at once.
+    /// A log of no events, with room for `capacity` events. It takes the memory for their places at once.
     pub fn new(alloc: Global, capacity: usize) -> Result<Self, AllocError>
         ensures { IfOk result (λ log. log ≡ empty_log capacity) }
     {
@@ -64,14 +64,14 @@ impl<'o, N: CallStore + 'o> AnyEventLog<'o, N> {
 
     /// Records an event: a value that is one whole value and has a JSON. A full log gives up its oldest event for it.
     ///
-    /// The event is checked, its JSON is written to a sink that only counts, and then it is captured. After an error the log
-    /// is as it was.
+    /// The event is checked, its JSON is written to a sink that only counts, and then it is captured. After an error
+    /// the log is as it was.
     ///
     /// # Errors
     ///
     /// [`RecordError::NotOneValue`] comes only where the value refuses, or its calls are not one whole value.
-    /// [`RecordError::NoJson`] comes only where a key or a number in it can't be one. [`RecordError::NoMemory`] comes where
-    /// memory was wanting to check the calls, or to keep an event that has a JSON.
+    /// [`RecordError::NoJson`] comes only where a key or a number in it can't be one. [`RecordError::NoMemory`] comes
+    /// where memory was wanting to check the calls, or to keep an event that has a JSON.
     pub fn record<'v, V: Value<'v, Lent<'v>>>(&mut self, event: &'v V) -> Result<(), RecordError>
     where
         N: 'v,
@@ -121,9 +121,9 @@ impl<'o> EventLog<'o> {
     ///
     /// # Errors
     ///
-    /// [`SinkError::Failed`] comes only where the sink's count of faults rose, and never where the sink tells room for all
-    /// the lines. [`SinkError::NoMemory`] comes only where its count of wants rose. After either a first part of the lines
-    /// was taken.
+    /// [`SinkError::Failed`] comes only where the sink's count of faults rose, and never where the sink tells room for
+    /// all the lines. [`SinkError::NoMemory`] comes only where its count of wants rose. After either a first part of
+    /// the lines was taken.
     pub fn write_lines<K: Sink>(&self, sink: &mut K) -> Result<(), SinkError>
         ensures lines { AreLines self.now.events }
         ensures writes { WritesAll result (K.told sink.old) (lines_of self.now.events) (K.told sink.new) }

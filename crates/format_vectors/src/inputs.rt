@@ -31,8 +31,8 @@ record_value_end - =63
 record_end - =52 -
 "#;
 
-/// A record with a text, a number and a variant. Its first field's name, the number and the variant's label have `$` digits,
-/// and its text has twice as many.
+/// A record with a text, a number and a variant. Its first field's name, the number and the variant's label have `$`
+/// digits, and its text has twice as many.
 const LONG: &'static str = r#"record_begin - - - 3
 record_value_begin - =¦$*33¦¦$*33¦
 text_begin -
@@ -57,7 +57,7 @@ record_value_end - =35
 record_end - - -
 "#;
 
-/// The same without the number.
+/// The record of `LONG` without its number.
 const LONG_TEXTS: &'static str = r#"record_begin - - - 2
 record_value_begin - =¦$*33¦¦$*33¦
 text_begin -

@@ -9,7 +9,7 @@
 //! ```
 //!
 //! A blank line says nothing, and neither does one that begins with `# `. A line of an input that ends with `␄` has no
-//! newline, and `␀`, `␉`, `␊`, `␍`, `␠` and `␡` are pictures of the letters that they stand for. Between two `¦` stands
+//! newline, and `␀`, `␉`, `␊`, `␍`, `␠` and `␡` are pictures of the letters that they stand for. Between two `¦` is
 //! what no picture shows, in hex: `¦c328¦` is two bytes, and `¦600*33¦` is one byte 600 times.
 
 use crate::inputs::lines_of;
@@ -111,7 +111,7 @@ fn add_line(alloc: Global, bytes: &mut Vec<u8>, line: &str) -> Result<(), Fail> 
     Ok(())
 }
 
-/// Adds a text of a table, letters and what stands between two `¦` in turns.
+/// Adds a text of a table: letters, and in turns what is between two `¦`.
 pub(crate) fn add_text(alloc: Global, bytes: &mut Vec<u8>, shown: &str) -> Result<(), Fail> {
     let mut is_between = false;
     for piece in shown.split('¦') {
@@ -125,7 +125,7 @@ pub(crate) fn add_text(alloc: Global, bytes: &mut Vec<u8>, shown: &str) -> Resul
     Ok(())
 }
 
-/// Adds what stands between two `¦`: a byte so often, or bytes.
+/// Adds what is between two `¦`: one byte repeated, or bytes.
 fn add_run(alloc: Global, bytes: &mut Vec<u8>, run: &str) -> Result<(), Fail> {
     let Some((count, byte)) = run.split_once('*') else {
         bytes.extend_from_slice(hex::decode(alloc, run)?.as_slice())?;

@@ -16,7 +16,7 @@ fn text_of<'v, V: Value<'v, Lent<'v>>>(alloc: Global, value: &'v V) -> Result<St
     }
 }
 
-/// The same as a binary.
+/// The binary that is collected of a value, and whether it is borrowed, or why there is none.
 fn binary_of<'v, V: Value<'v, Lent<'v>>>(
     alloc: Global,
     value: &'v V,

@@ -11,8 +11,8 @@ use sval_check::check_all;
 use sval_core::{Lent, Stream, Value, refusal};
 use sval_script::Script;
 
-/// Where the values of a list end, twice, how many they are, whether there is none, and where the second ends; or why it
-/// is no list of values.
+/// Where the values of a list end, twice, how many they are, whether there is none, and where the second ends; or why
+/// it is no list of values.
 fn told<'v, V: Value<'v, Lent<'v>>>(alloc: Global, list: &'v V) -> Result<String, AllocError> {
     match check_all(alloc, list) {
         Ok(ends) => format!(in alloc;

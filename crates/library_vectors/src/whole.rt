@@ -24,7 +24,7 @@ fn json_of<'v, V: Value<'v, Lent<'v>>>(alloc: Global, value: &'v V) -> Result<St
     }
 }
 
-/// Calls, and the JSON of the value that they are, or why they have none.
+/// Calls, and the JSON of their value, or why there is none.
 const ROWS: [(&str, &str); 9] = [
     // a sequence that forgets its end, one that forgets the end of its item, and no call
     (

@@ -1,7 +1,7 @@
 //! Values as lines of logfmt: a writer of a format of one's own, as a user of these crates writes one.
 //!
-//! - [`to_logfmt`] gives the line of a struct or a record of leaves. What a line is stands in `specs/Pairs.antt`, over
-//!   trees.
+//! - [`to_logfmt`] gives the line of a struct or a record of leaves. What a line is, over trees, is in
+//!   `specs/Pairs.antt`.
 //! - The writer is a stream. Call by call it does the steps of `specs/Steps.antt`, which is its law
 //!   (`specs/Writing.antt`).
 //!
@@ -64,10 +64,10 @@ impl Error for LogfmtError {}
 
 /// The line of a value: `key=value` for each field of a struct or a record, with one space between each two.
 ///
-/// A number, a truth value and null stand plainly, and a text between quotes, escaped as in JSON. There is no line feed
-/// at the end. Where the value's calls spell a tree, the answer is what `line_of` says of the tree, unless memory is
-/// wanting. Other calls are taken as far as a line goes on with them: sizes aren't looked at, nor whether an end is that of
-/// its begin.
+/// A number, a truth value and null are written plainly. A text is written between quotes, and escaped as in JSON.
+/// There is no line feed at the end. Where the value's calls spell a tree, the answer is what `line_of` says of the
+/// tree, unless memory is wanting. Other calls are taken as far as a line goes on with them: sizes aren't looked at,
+/// nor whether an end belongs to its begin.
 ///
 /// ```
 /// let line = to_logfmt(alloc, &value)?;
@@ -76,12 +76,12 @@ impl Error for LogfmtError {}
 ///
 /// # Errors
 ///
-/// [`LogfmtError::NotFlat`] comes where the value is neither, or where one of its values is no number, truth value, null
-/// or text; [`LogfmtError::InvalidKey`] where a key can't stand in a line. The first that is found comes.
-/// [`LogfmtError::Refused`] comes where the value itself refuses, and [`LogfmtError::Unfinished`] where its calls end too
-/// early; neither comes where they spell a tree. [`LogfmtError::NoMemory`] may come in place of any answer, but only
-/// where some first calls of the value write text. It would also stand for bytes that aren't UTF-8, which texts and
-/// labels never give.
+/// [`LogfmtError::NotFlat`] comes where the value is neither, or where one of its values is no number, truth value,
+/// null or text. [`LogfmtError::InvalidKey`] comes where a key can't be written in a line. The first that is found
+/// comes. [`LogfmtError::Refused`] comes where the value itself refuses, and [`LogfmtError::Unfinished`] where its
+/// calls end too early; neither comes where they spell a tree. [`LogfmtError::NoMemory`] may come in place of any
+/// answer, but only where some first calls of the value write text. It would also stand for bytes that aren't UTF-8,
+/// which texts and labels never give.
 pub fn to_logfmt<'v, V: Value<'v, Lent<'v>>>(
     alloc: Global,
     value: &'v V,

@@ -57,7 +57,7 @@ impl Model for LogfmtWriter {
     } };
 }
 
-/// Whether a text can stand in front of `=`.
+/// Whether a text can be written in front of `=`.
 fn is_key(text: &[u8]) -> bool
     ensures { result ≡ is_key text.now }
 {
@@ -76,7 +76,7 @@ fn want_of(why: SinkError) -> LogfmtError
     }
 }
 
-/// The text that the bytes of a line are. Texts and labels, and what stands between them, give no bytes that are none.
+/// The bytes of a line as a text. Texts, labels and the marks between them give only bytes of UTF-8.
 fn line_of(bytes: Vec<u8>) -> Result<String, LogfmtError>
     ensures line { IfOk result (λ line. string_bytes line ≡ bytes.items) }
     ensures not_text { IfErr result (λ why. (why ≡ LogfmtError.NoMemory) × ¬ (IsUtf8 bytes.items)) }
@@ -135,7 +135,7 @@ impl LogfmtWriter {
         Ok(())
     }
 
-    /// Writes these bytes, of which there is one at least, and then this is due.
+    /// Writes these bytes, at least one. Then `due` is due.
     fn write(&mut self, bytes: &[u8], due: Due) -> Result
         requires { 0 < length bytes.now }
         ensures { DoesStep (adds_text self.old.begun.text bytes.now due) result self.old self.new }
@@ -161,7 +161,7 @@ impl LogfmtWriter {
         }
     }
 
-    /// Writes a space, unless nothing stands before it.
+    /// Writes a space, unless the line is empty.
     fn write_space(&mut self) -> Result
         ensures { DoesStep (adds_text self.old.begun.text (space_after self.old.begun.text) due.Pair) result
             self.old self.new }
@@ -172,7 +172,7 @@ impl LogfmtWriter {
         }
     }
 
-    /// Writes a label as a key, and what stands around it.
+    /// Writes a space where the line isn't empty, a label as a key, and `=`.
     fn write_key(&mut self, label: &Label) -> Result
         ensures { DoesStep (key_step label.now.text self.old.begun.text) result self.old self.new }
     {

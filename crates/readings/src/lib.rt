@@ -1,25 +1,26 @@
 //! What an instrument wrote down, as a value: a small library, as a user of these crates writes one.
 //!
-//! - [`Reading`] and [`Readings`] are values. What they say stands in `specs/Readings.antt`: the list of their calls,
-//!   and the tree that these spell.
+//! - [`Reading`] and [`Readings`] are values. The list of their calls, and the tree that these spell, are in
+//!   `specs/Readings.antt`.
 //! - [`check_readings`] answers Ok unless memory is wanting, since the calls spell that tree.
 //! - [`to_json`] gives exactly the text of `specs/Written.antt`, unless memory is wanting.
-//! - [`total_of`] streams any value into a stream of this crate's own, whose law stands in `specs/Totals.antt`.
+//! - [`total_of`] streams any value into a stream of this crate's own. The law of that stream is in
+//!   `specs/Totals.antt`.
 //! - [`Report`] is a struct. One of its fields is another value of this crate.
 //! - [`Unit`] lends its name for longer than it is borrowed itself.
 //!
 //! # What the proofs take
 //!
-//! 1. A value of calls one after another, and the function that streams one item, are proved as they stand.
+//! 1. A value of calls one after another, and the function that streams one item, are proved as written.
 //! 2. The loop over items wants the attribute with `of_loops`, and its invariant
 //!    (`proofs/ReadingsValueLent/stream/Invariants.antt`): the begin and the items so far were streamed.
-//! 3. A struct by `stream_struct` is proved as it stands.
+//! 3. A struct by `stream_struct` is proved as written.
 //! 4. That the calls spell the tree is a lemma for each kind of reading, and one for the sequence (`proofs/Told.antt`).
 //! 5. What is written is the JSON of that tree, by one equation for each kind of reading (`proofs/Written.antt`).
 //! 6. What a stream has taken after a value is the fold of its law over the value's calls (`proofs/total`).
 //!
-//! All lemmas come from the page `proofs/ValueProofs.antt` of `sval_core`, but for those on checking and on writing, which
-//! `sval_check` and `sval_json` have in `proofs/Told.antt`.
+//! All lemmas come from the page `proofs/ValueProofs.antt` of `sval_core`, but for those on checking and on writing,
+//! which `sval_check` and `sval_json` have in `proofs/Told.antt`.
 #![tactic(auto)]
 
 ghost use Rattle.std.specs.Prelude.{IsOkUnless};

@@ -9,7 +9,7 @@ use std::test::Fail;
 use sval_core::{Index, Label, Lending, Lent, Result, Stream, Tag, Value, tags};
 use sval_script::Script;
 
-/// A line of a script, and the call that it is.
+/// A line of a script, and its call.
 const LINES: &'static str = r#"
 # Calls without names.
 null -> Null

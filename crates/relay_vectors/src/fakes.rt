@@ -55,7 +55,8 @@ pub(crate) struct Balky {
     pub(crate) flushes: usize,
     /// Takes one byte a call.
     trickles: bool,
-    /// Answers an error at the call of this number; a flush is such a call where the number is 0.
+    /// The number of the call that is answered by an error, and the error. Where the number is 0, each flush is
+    /// answered by it.
     stops: Option<(usize, SinkError)>,
     faults: u64,
     wants: u64,

@@ -74,7 +74,7 @@ fn prints_what_is_read(rt: HostRuntime) -> Result<(), Fail> {
     Ok(())
 }
 
-/// Labels and tags of the program, and tags that aren't known, each of which is refused for good.
+/// Labels and tags of the program, and unknown tags. Each unknown tag is refused for good.
 #[test]
 fn prints_known_names(rt: HostRuntime) -> Result<(), Fail> {
     let mut printer = Printer::new(VecSink::new(rt.alloc()));

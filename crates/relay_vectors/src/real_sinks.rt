@@ -58,8 +58,8 @@ impl Write for Late {
     }
 }
 
-/// How many calls come to nothing, how they do, and what is told of writing a null and of flushing: the answer, the last
-/// error, how many such calls are left, and what was written.
+/// How many calls come to nothing, and how. Then what is told of writing a null and of flushing: the answer, the last
+/// error, the number of calls that would still come to nothing, and what was written.
 const LATE: [(u32, Option<io::ErrorKind>, &'static str, &'static str); 10] = [
     (0, None, "Ok, None, 0 left: null", "Ok(()), None, 0 left"),
     (

@@ -78,7 +78,7 @@ pub(crate) fn compare(rt: &impl Abort, seen: &str, due: &str, script: &str) {
     assert_eq!(rt; seen, due, "at {script:?}");
 }
 
-/// Runs a form on a script, where both stand in one row.
+/// Runs a form on a script. `row` has the form, and what is due.
 fn try_run(rt: &impl Abort, alloc: Global, script: &str, row: &str) -> Result<(), Fail> {
     let (form, due) = row.split_once(": ").unwrap_or((row, ""));
     try_way(rt, alloc, form, script, due)
@@ -163,7 +163,7 @@ pub(crate) fn run_in(alloc: Global, form: &str, script: &str) -> Result<String, 
     Ok(format!(in alloc; "{status} {out}|{diag}")?)
 }
 
-/// The same over std's readers and writers.
+/// The status, the output and the line of a form on a script, over std's readers and writers.
 pub(crate) fn run_over_streams(alloc: Global, form: &str, script: &str) -> Result<String, Fail> {
     let words = words_of(alloc, form)?;
     let mut out = Vec::new(alloc);

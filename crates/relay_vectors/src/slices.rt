@@ -5,7 +5,7 @@ use sval_core::Value;
 use sval_io::VecSink;
 use sval_script::{Printer, Script};
 
-/// Two values between others, with texts and numbers that stand beside their lines.
+/// Two values between others, with the texts and numbers that are kept beside their lines.
 const VALUES: &'static str = "u64 1\n\
     text_begin -\ntext_fragment =6162\ntext_end\n\
     tag - =c3a9 -7\n\

@@ -24,7 +24,7 @@ pub(crate) enum Look {
     Captured,
     /// The text that is collected of what a buffer captures of them.
     Text,
-    /// The same as a binary.
+    /// The binary that is collected of what a buffer captures of them.
     Binary,
     /// The JSON of what a buffer captures of them.
     Json(Variants),
@@ -46,8 +46,9 @@ fn look_at(alloc: Global, look: Look, script: &Script) -> Result<String, Fail> {
 
 /// Looks at each case of a table.
 ///
-/// A case is the lines of a script and, behind `= `, what is to be seen of its calls. The next line begins another script. A
-/// blank line says nothing. A line that ends with `␄` has no newline, and `␊` stands for one in what is to be seen.
+/// A case is the lines of a script and, behind `= `, what is to be seen of its calls. The next line begins another
+/// script. A blank line says nothing. A line that ends with `␄` has no newline, and `␊` stands for one in what is to be
+/// seen.
 pub(crate) fn agree(
     rt: &impl Abort,
     alloc: Global,

@@ -12,7 +12,7 @@ use sval_core::{Call, Lent, Result as Answer, Stream, Value, refusal};
 use sval_ref::ValueRef;
 use sval_script::Script;
 
-/// Counts the calls that it takes, and has room for so many.
+/// Counts the calls that it takes, up to `room`.
 #[derive(Drop)]
 struct Counted {
     taken: usize,
@@ -40,7 +40,7 @@ impl<'v> Stream<Lent<'v>> for Counted {
     }
 }
 
-/// A checked stream over one that has room for so many calls.
+/// A checked stream over one that takes `room` calls.
 fn checked_with(alloc: Global, room: usize) -> Checked<Counted> {
     Checked::new(
         alloc,
@@ -66,7 +66,8 @@ pub(crate) fn passed(alloc: Global, script: &Script) -> Result<String, AllocErro
     told(alloc, checked)
 }
 
-/// Whether each call is taken, and then why the last that wasn't was refused and whether the calls so far are one value.
+/// Whether each call is taken, and then why the last that wasn't was refused and whether the calls so far are one
+/// value.
 pub(crate) fn answers(alloc: Global, script: &Script, room: usize) -> Result<String, AllocError> {
     let mut checked = checked_with(alloc, room);
     let mut seen = String::new(alloc);

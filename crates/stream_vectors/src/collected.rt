@@ -14,7 +14,7 @@ pub(crate) fn text_of(alloc: Global, value: &ValueBuf<'_>) -> Result<String, All
     }
 }
 
-/// The same as a binary.
+/// What is collected of captured calls as a binary, and whether it is borrowed, or why nothing is.
 pub(crate) fn binary_of(alloc: Global, value: &ValueBuf<'_>) -> Result<String, AllocError> {
     match BinaryBuf::collect(alloc, value) {
         Ok(bytes) => format!(in alloc; "{bytes:?} {}", bytes.as_borrowed_slice().is_some()),

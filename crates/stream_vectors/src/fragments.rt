@@ -65,7 +65,7 @@ fn text_seen(alloc: Global, text: &TextBuf<'static>) -> Result<String, AllocErro
     format!(in alloc; "{text:?} {lent:?} {equal}")
 }
 
-/// The same of a binary.
+/// What a binary holds and borrows, and whether it equals `abc`.
 fn binary_seen(alloc: Global, binary: &BinaryBuf<'static>) -> Result<String, AllocError> {
     let lent = binary.as_borrowed_slice();
     let equal = *binary == BinaryBuf::from_array(alloc, b"abc");

@@ -7,7 +7,8 @@ use std::test::Fail;
 use sval_buffer::ValueBuf;
 use sval_core::{Call, Index, Label, Name, Stream, Tag, tags};
 
-/// Captures these calls in a buffer that held others, and compares what it makes again with them, as `Debug` lists them.
+/// Captures these calls in a buffer that held others, and compares what it makes again with them, as `Debug` lists
+/// them.
 fn makes_again<'c>(
     rt: &impl Abort,
     alloc: Global,

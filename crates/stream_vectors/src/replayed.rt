@@ -262,7 +262,8 @@ fn makes_calls_again(rt: HostRuntime) -> Result<(), Fail> {
     agree(&rt, rt.alloc(), Look::Captured, NAMES)
 }
 
-/// Values that are captured a second time, from their capture: a sequence, a number, a record tuple, a tuple and an enum.
+/// Values that are captured a second time, from their capture: a sequence, a number, a record tuple, a tuple and an
+/// enum.
 const VALUES: [&'static str; 5] = [
     "seq_begin -\nseq_value_begin\nnull\nseq_value_end\nseq_end\n",
     "i32 42\n",

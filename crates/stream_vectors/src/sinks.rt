@@ -100,8 +100,8 @@ fn writes_the_same_to_sinks(rt: HostRuntime) -> Result<(), Fail> {
     Ok(())
 }
 
-/// Texts, and the place of the first byte of each that is escaped, or the length where none is. The lengths are those at
-/// which bytes are looked through in wider steps.
+/// Texts, and the place of the first byte of each that is escaped, or the length where none is. The lengths are those
+/// at which bytes are looked through in wider steps.
 const ESCAPES: &'static str = r#"0:
 0:"
 1:a\

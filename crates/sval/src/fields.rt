@@ -43,7 +43,7 @@ macro_rules! fields {
 
 /// What names a type, a variant or a field: a text of the program.
 ///
-/// What is generic in it need not name the lifetime of such a text.
+/// What is generic in a `Named` need not name the lifetime `'static` of that text.
 pub trait Named: Copy {
     /// The text.
     ghost text: { Self → List ℕ };

@@ -8,7 +8,7 @@ ghost use Rattle.sval.specs.Seen.{map_pairs};
 
 use sval_core::{Lent, Result, Stream, Value};
 
-/// Pairs as a map, in their order. Nothing looks whether keys stand twice.
+/// Pairs as a map, in their order. Nothing looks whether a key comes twice.
 ///
 /// A slice of pairs by itself is a sequence of tuples. One that is made within a value's `stream` lives no longer than
 /// that call, so it goes to the stream by `value_computed`.

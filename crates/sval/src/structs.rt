@@ -44,8 +44,8 @@ fn end_struct<L: Lending, N: Named, S: Stream<L>>(stream: &mut S, name: N) -> Re
     stream.record_tuple_end(None, Some(&identifier(name)), None)
 }
 
-/// Streams a struct of this name as a record tuple, as sval's derive does: each field stands under its name and its
-/// place. The names are identifiers, which JSON has as they are.
+/// Streams the struct `name` as a record tuple, as sval's derive does. Each field has its name and its place. The names
+/// are identifiers, which are written to JSON unchanged.
 ///
 /// ```
 /// impl<'v> Value<'v, Lent<'v>> for Work {

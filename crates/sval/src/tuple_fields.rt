@@ -12,7 +12,8 @@ use sval_core::{Lending, Result, Stream, Value};
 /// References to the fields of a tuple struct or a tuple variant, in nested pairs: `()` for no field, and
 /// `(&first, others)` for one before the others.
 ///
-/// The macro [`fields!`](crate::fields) writes those of a tuple struct: `fields!(self, 0, 1)` for `self.0` and `self.1`.
+/// The macro [`fields!`](crate::fields) writes those of a tuple struct: `fields!(self, 0, 1)` for `self.0` and
+/// `self.1`.
 pub trait TupleFields<'v, L: Lending>: Copy {
     /// What the value of each field emits.
     ghost listed: { Self → List Emission };

@@ -50,8 +50,8 @@ fn end_newtype<L: Lending, N: Named, S: Stream<L>>(stream: &mut S, name: N) -> R
     stream.tagged_end(None, Some(&identifier(name)), None)
 }
 
-/// Streams a tuple struct of one field, as sval's derive does: `value`, tagged with the name of the struct. JSON has the
-/// value alone.
+/// Streams a tuple struct of one field, as sval's derive does: `value`, tagged with the name of the struct. JSON has
+/// the value alone.
 ///
 /// ```
 /// impl<'v> Value<'v, Lent<'v>> for Metres {
@@ -96,8 +96,8 @@ fn end_struct<L: Lending, N: Named, S: Stream<L>>(stream: &mut S, name: N) -> Re
     stream.tuple_end(None, Some(&identifier(name)), None)
 }
 
-/// Streams a tuple struct, as sval's derive does: a tuple with the name of the struct, in which each field has its index.
-/// JSON has an array.
+/// Streams a tuple struct, as sval's derive does: a tuple with the name of the struct, in which each field has its
+/// index. JSON has an array.
 ///
 /// ```
 /// impl<'v> Value<'v, Lent<'v>> for Point {

@@ -108,8 +108,8 @@ impl<'sval, N: CallStore> AnyValue<'sval, N> {
         }
     }
 
-    /// The same value for every lifetime: it holds a copy of each text and binary, and borrows none, not even an empty
-    /// one. So it makes the same calls, each with a computed fragment in place of a borrowed one.
+    /// This value for every lifetime, with a copy of each text and binary. It borrows none, not even an empty one. So
+    /// it makes the same calls, each with a computed fragment in place of a borrowed one.
     ///
     /// [`ErrorKind::NoAlloc`](crate::ErrorKind::NoAlloc) comes where memory was wanting, and then the value is handed
     /// back as it was. It never comes where the value holds no part.

@@ -17,7 +17,8 @@ use sval_ref::ValueRef;
 
 /// A binary that comes in fragments.
 ///
-/// Where its last fragment is borrowed and those before it are empty, the binary is kept by reference. Else it is copied.
+/// Where its last fragment is borrowed and those before it are empty, the binary is kept by reference. Else it is
+/// copied.
 ///
 /// ```
 /// let mut binary = BinaryBuf::new(alloc);
@@ -79,7 +80,7 @@ impl<'sval> BinaryBuf<'sval> {
         BinaryBuf::from_bytes(alloc, bytes)
     }
 
-    /// The same bytes, borrowed exactly where these are.
+    /// A copy of this binary, borrowed exactly where this one is.
     ///
     /// [`ErrorKind::NoAlloc`] comes where memory was wanting, and never where these bytes are borrowed or empty.
     ///
@@ -106,7 +107,7 @@ impl<'sval> BinaryBuf<'sval> {
         self.fragments.clear();
     }
 
-    /// Appends a fragment, which is kept by reference where nothing stands before it.
+    /// Appends a fragment, which is kept by reference where the binary is empty.
     ///
     /// [`ErrorKind::NoAlloc`] comes where memory was wanting, and then the binary stays as it was.
     pub fn push_fragment(&mut self, fragment: &'sval [u8]) -> std::result::Result<(), Error>
@@ -135,7 +136,7 @@ impl<'sval> BinaryBuf<'sval> {
         }
     }
 
-    /// Appends a fragment, which is kept by reference where nothing stands before it. Want of memory changes nothing.
+    /// Appends a fragment, which is kept by reference where the binary is empty. Want of memory changes nothing.
     pub(crate) fn push(&mut self, fragment: &'sval [u8]) -> std::result::Result<(), NoMemory>
         ensures pushes { let after = pushed self.old (record { borrowed = true; bytes = fragment.now }) in
             self.new ≡ (if is_ok result then after else self.old) }

@@ -30,17 +30,18 @@ fn unfit(actual: Word) -> Error
 }
 
 impl<'sval> BinaryBuf<'sval> {
-    /// Joins the fragments of a value that is a binary, with their borrowed ones kept by reference as
-    /// [`BinaryBuf::push_fragment`] keeps them. Sequences and tuples of numbers of 8 bits are binaries too, at any depth,
-    /// and so is such a number by itself.
+    /// Joins the fragments of a value that is a binary. Borrowed fragments are kept by reference as
+    /// [`BinaryBuf::push_fragment`] keeps them. Sequences and tuples of numbers of 8 bits are binaries too, at any
+    /// depth. So is one number of 8 bits by itself.
     ///
     /// The value's calls are taken as they are lowered: names around a binary and hints are passed over.
     ///
-    /// - [`ErrorKind::Unsupported`], expected [`Word::Binary`], comes exactly for the first lowered call of another kind.
-    /// - [`ErrorKind::InvalidValue`] with [`Word::FailedToStream`] comes exactly where all calls were taken, and the value
-    ///   itself refuses.
-    /// - [`ErrorKind::NoAlloc`] comes where memory was wanting in one of its calls: those before it were taken, and so would
-    ///   this one be, which may take memory. One borrowed fragment takes none.
+    /// - [`ErrorKind::Unsupported`], expected [`Word::Binary`], comes exactly for the first lowered call of another
+    ///   kind.
+    /// - [`ErrorKind::InvalidValue`] with [`Word::FailedToStream`] comes exactly where all calls were taken, and the
+    ///   value itself refuses.
+    /// - [`ErrorKind::NoAlloc`] comes where memory was wanting in one of its calls: those before it were taken, and so
+    ///   would this one be, which may take memory. One borrowed fragment takes none.
     ///
     /// ```
     /// let binary = BinaryBuf::collect(alloc, &value)?;

@@ -48,14 +48,14 @@ impl<'sval> TextBuf<'sval> {
     /// Joins the fragments of a value that is a text, with their borrowed ones kept by reference as
     /// [`TextBuf::push_fragment`] keeps them.
     ///
-    /// The value's calls are taken as they are lowered: a number that `i64` doesn't hold is its digits, a tag by itself is
-    /// its label, and names around a text and hints are passed over.
+    /// The value's calls are taken as they are lowered: a number that `i64` doesn't hold is its digits, a tag by itself
+    /// is its label, and names around a text and hints are passed over.
     ///
     /// - [`ErrorKind::Unsupported`], expected [`Word::Text`], comes exactly for the first lowered call of another kind.
-    /// - [`ErrorKind::InvalidValue`] with [`Word::FailedToStream`] comes exactly where all calls were taken, and the value
-    ///   itself refuses.
-    /// - [`ErrorKind::NoAlloc`] comes where memory was wanting in one of its calls: those before it were taken, and so would
-    ///   this one be, which may take memory. One borrowed fragment takes none.
+    /// - [`ErrorKind::InvalidValue`] with [`Word::FailedToStream`] comes exactly where all calls were taken, and the
+    ///   value itself refuses.
+    /// - [`ErrorKind::NoAlloc`] comes where memory was wanting in one of its calls: those before it were taken, and so
+    ///   would this one be, which may take memory. One borrowed fragment takes none.
     ///
     /// ```
     /// let text = TextBuf::collect(alloc, &value)?;

@@ -72,7 +72,7 @@ impl<'sval> FragmentBuf<'sval> {
         }
     }
 
-    /// The same bytes, borrowed exactly where these are. Borrowed ones take no memory, and neither do no bytes.
+    /// A copy of the bytes, borrowed exactly where these are. Borrowed ones take no memory, and neither do no bytes.
     pub(crate) fn try_clone(&self) -> Result<Self, AllocError>
         ensures same { IfOk result (λ fragments. fragments ≡ self.now) }
         ensures borrowed_needs_none { OnTrue self.now.borrowed (IsOk result) }
@@ -95,7 +95,7 @@ impl<'sval> FragmentBuf<'sval> {
         self.held = Held::Borrowed(&[]);
     }
 
-    /// Appends a fragment, which is kept by reference where nothing stands before it. Want of memory changes nothing.
+    /// Appends a fragment, which is kept by reference where there are no bytes yet. Want of memory changes nothing.
     pub(crate) fn push(&mut self, fragment: &'sval [u8]) -> Result<(), AllocError>
         ensures pushes { let after = pushed self.old (record { borrowed = true; bytes = fragment.now }) in
             self.new ≡ (if is_ok result then after else self.old) }
@@ -127,8 +127,8 @@ impl<'sval> FragmentBuf<'sval> {
         }
     }
 
-    /// Appends what a value prints to a copy of the bytes, or to the bytes where they are one. They are a text. An error
-    /// changes nothing.
+    /// Appends what a value prints to a copy of the bytes, or to the bytes where they are one. They are a text. An
+    /// error changes nothing.
     pub(crate) fn push_display<D: Render>(&mut self, value: &D) -> Result<(), RenderError>
         requires { IsUtf8 self.old.bytes }
         ensures ok { OnOk result (SomePrinted (D.printed value.now) (λ text.

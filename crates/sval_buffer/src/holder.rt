@@ -33,7 +33,7 @@ impl Holder {
         }
     }
 
-    /// The same place once more.
+    /// A copy of the place.
     pub(crate) fn again(&self) -> Holder
         ensures { result ≡ self.now }
     {

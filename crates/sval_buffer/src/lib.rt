@@ -1,8 +1,8 @@
 //! Texts that come in fragments, and captured values.
 //!
-//! A [`TextBuf`] joins the fragments of a text, a [`BinaryBuf`] those of a binary, and a [`ValueBuf`] captures the calls
-//! of a value and makes them again.
-//! What they hold stands in `specs/Pushes.antt` and `specs/Forest.antt`, and [`laws`] has what holds of it.
+//! A [`TextBuf`] joins the fragments of a text, a [`BinaryBuf`] those of a binary, and a [`ValueBuf`] captures the
+//! calls of a value and makes them again. What they hold is in `specs/Pushes.antt` and `specs/Forest.antt`, and
+//! [`laws`] has what holds of it.
 #![tactic(auto)]
 
 mod any_value;

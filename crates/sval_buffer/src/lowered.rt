@@ -22,7 +22,7 @@ pub(crate) fn is_wide(number: Int) -> bool
     }
 }
 
-/// The digits of a number that is lowered to them, in decimal, with `-` in front of one below 0. They stand in the buffer.
+/// The decimal digits of a number that is lowered to them, with `-` in front where it is below 0. They are in `buffer`.
 pub(crate) fn wide_digits(buffer: &mut Buffer, number: Int) -> Option<&str>
     ensures { let wide = is_digits (int_type number) (int_number number) in
         option_map (λ text. text.now) result ≡ (if wide then Some (signed_decimal (int_number number)) else None) }

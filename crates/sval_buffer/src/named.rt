@@ -119,7 +119,7 @@ fn hint(name: Name<'_>) -> &Tag
     }
 }
 
-/// Calls with names. The texts of all labels that aren't static stand in one store.
+/// Calls with names. The texts of all labels that aren't static are in one store.
 ///
 /// A call that was kept lately isn't kept again. Values repeat their names, as the records of a list do, so it is
 /// mostly one place that many parts speak of.

@@ -37,7 +37,8 @@ pub(crate) fn replay_parts<'sval, N: CallStore, S: Stream<Lent<'sval>>>(
     Ok(())
 }
 
-/// Makes the ends of the containers that don't go on at a place, from the newest outwards. Gives the newest of the others.
+/// Makes the ends of the containers that don't go on at a place, from the newest outwards. Gives the newest of the
+/// others.
 #[inline(always)]
 fn end_before<'sval, N: CallStore, S: Stream<Lent<'sval>>>(
     parts: &[Part<'sval>],

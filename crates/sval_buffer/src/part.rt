@@ -142,7 +142,8 @@ pub(crate) enum PartKind<'sval> {
     Binary(BinaryBuf<'sval>),
     /// A container, and the number of parts after it that it holds: none, as long as it has no end.
     Container { begin: Begin, holds: usize },
-    /// The same of a container with a name, by the place of its begin in the calls with names.
+    /// A container with a name, by the place of its begin in the calls with names, and the number of parts after it
+    /// that it holds, as for a container without a name.
     NamedContainer { at: usize, holds: usize },
 }
 

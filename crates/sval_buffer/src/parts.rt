@@ -28,7 +28,7 @@ use std::alloc::Global;
 use std::marker::Model;
 use sval_core::{Call, Fragment, GroupedCall, Lent, Name, NoMemory, Stream, Tag};
 
-/// The parts of a captured value. `forest_in` reads the forest that they are.
+/// The parts of a captured value. `forest_in` reads the forest that they make.
 #[derive(Drop)]
 pub(crate) struct Parts<'sval, N: CallStore> {
     parts: Vec<Part<'sval>>,

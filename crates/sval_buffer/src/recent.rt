@@ -10,8 +10,8 @@ const SLOTS: usize = 64;
 
 /// The places of calls that were kept lately, the last two of each slot.
 ///
-/// A value repeats few names very often, so a call is mostly kept already, and mostly at a place that stands here. But
-/// another call may stand there, or none any more, so who asks for a place compares.
+/// A value repeats few names very often. So a call is mostly kept already, and its place is mostly in this table. But
+/// the place may be that of another call, or of none any more, so who asks for a place compares.
 #[derive(Drop)]
 pub(crate) struct Recent {
     places: Vec<(usize, usize)>,

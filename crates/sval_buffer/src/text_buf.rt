@@ -104,7 +104,7 @@ impl<'sval> TextBuf<'sval> {
         Ok(text)
     }
 
-    /// The same text, borrowed exactly where this one is.
+    /// A copy of this text, borrowed exactly where this one is.
     ///
     /// [`ErrorKind::NoAlloc`] comes where memory was wanting, and never where this text is borrowed or empty.
     ///
@@ -131,7 +131,7 @@ impl<'sval> TextBuf<'sval> {
         self.fragments.clear();
     }
 
-    /// Appends a fragment, which is kept by reference where nothing stands before it.
+    /// Appends a fragment, which is kept by reference where the text is empty.
     ///
     /// [`ErrorKind::NoAlloc`] comes where memory was wanting, and then the text stays as it was.
     pub fn push_fragment(&mut self, fragment: &'sval str) -> std::result::Result<(), Error>
@@ -160,7 +160,7 @@ impl<'sval> TextBuf<'sval> {
         }
     }
 
-    /// Appends a fragment, which is kept by reference where nothing stands before it. Want of memory changes nothing.
+    /// Appends a fragment, which is kept by reference where the text is empty. Want of memory changes nothing.
     pub(crate) fn push(&mut self, fragment: &'sval str) -> std::result::Result<(), NoMemory>
         ensures pushes { let after = pushed self.old (record { borrowed = true; bytes = fragment.now }) in
             self.new ≡ (if is_ok result then after else self.old) }
@@ -180,7 +180,8 @@ impl<'sval> TextBuf<'sval> {
         Ok(())
     }
 
-    /// Appends a copy of a text, as [`TextBuf::push_fragment_computed`] does, for callers that write a text piece by piece.
+    /// Appends a copy of a text, as [`TextBuf::push_fragment_computed`] does, for callers that write a text piece by
+    /// piece.
     ///
     /// [`ErrorKind::NoAlloc`] comes where memory was wanting, and then the text stays as it was.
     pub fn write_str(&mut self, text: &str) -> std::result::Result<(), Error>

@@ -27,7 +27,7 @@ use sval_ref::ValueRef;
 /// A captured value: the calls that were taken, from which they can be made again.
 ///
 /// As a stream it takes the calls of any value. A text or a binary of one fragment that is lent for `'sval` is kept by
-/// reference, and so are the texts of static labels; those of all other labels stand in one store. So no call takes
+/// reference, and so are the texts of static labels. The texts of all other labels are in one store. So no call takes
 /// memory for a label but that by which this store and that of the parts grow. An end ends the newest container that
 /// has none, whichever it is, and its name isn't looked at. The end of a text or a binary is taken anywhere. A hint
 /// within a text or a binary is taken and not kept. What holds no call is made again as `null`.
@@ -35,8 +35,8 @@ use sval_ref::ValueRef;
 /// - [`ErrorKind::OutsideContainer`] answers a fragment of a text where the last part isn't a text, and one of a binary
 ///   where it isn't a binary.
 /// - [`ErrorKind::InvalidValue`] with [`Word::Unbalanced`] answers an end where no container is without its end.
-/// - [`ErrorKind::NoAlloc`] answers a call for which there was no memory. An end takes none, and neither does a borrowed
-///   fragment onto an empty text or binary.
+/// - [`ErrorKind::NoAlloc`] answers a call for which there was no memory. An end takes none, and neither does a
+///   borrowed fragment onto an empty text or binary.
 ///
 /// After any refusal the buffer holds what it held before.
 ///
@@ -85,14 +85,15 @@ impl<'sval, N: CallStore> AnyValueBuf<'sval, N> {
         buffer
     }
 
-    /// Captures a value. Of one that doesn't refuse and whose calls spell a tree it fails only where memory was wanting,
-    /// and what it holds makes calls that spell the same tree.
+    /// Captures a value. Of one that doesn't refuse and whose calls spell a tree it fails only where memory was
+    /// wanting, and what it holds makes calls that spell the same tree. It doesn't test that the calls are one whole
+    /// value; `collect_whole` of `sval_whole` does so first.
     ///
-    /// - [`ErrorKind::OutsideContainer`] and [`ErrorKind::InvalidValue`] with [`Word::Unbalanced`] come where one of its
-    ///   calls is refused so.
+    /// - [`ErrorKind::OutsideContainer`] and [`ErrorKind::InvalidValue`] with [`Word::Unbalanced`] come where one of
+    ///   its calls is refused so.
     /// - [`ErrorKind::InvalidValue`] with [`Word::FailedToStream`] comes where none is, and the value itself refuses.
-    /// - [`ErrorKind::NoAlloc`] comes where memory was wanting in one of its calls: the calls before it are taken, and so is
-    ///   this one, which may take memory.
+    /// - [`ErrorKind::NoAlloc`] comes where memory was wanting in one of its calls: the calls before it are taken, and
+    ///   so is this one, which may take memory.
     ///
     /// ```
     /// let buffer = ValueBuf::collect(alloc, &value)?;
@@ -110,10 +111,10 @@ impl<'sval, N: CallStore> AnyValueBuf<'sval, N> {
         AnyValueBuf::collect_with_capacity(alloc, 0, v)
     }
 
-    /// Captures a value as [`ValueBuf::collect`] does, with room for this many parts from the start.
+    /// Captures a value as [`ValueBuf::collect`] does, with room for `parts` parts from the start.
     ///
-    /// A value has a part for each call but fragments and ends. The number changes no answer: where it is too small, or
-    /// there is no memory for so many, the buffer grows as the parts come.
+    /// A value has a part for each call but fragments and ends. `parts` changes no answer: where it is too small, or
+    /// there is no memory for that room, the buffer grows as the parts come.
     pub fn collect_with_capacity<V: Value<'sval, Lent<'sval>>>(
         alloc: Global,
         parts: usize,
@@ -155,8 +156,8 @@ impl<'sval, N: CallStore> AnyValueBuf<'sval, N> {
         AnyValue::new(self.parts)
     }
 
-    /// The same buffer for every lifetime: it holds a copy of each text and binary, and borrows none, not even an empty
-    /// one. So its replay makes the same calls, each with a computed fragment in place of a borrowed one.
+    /// This buffer for every lifetime, with a copy of each text and binary. It borrows none, not even an empty one. So
+    /// its replay makes the same calls, each with a computed fragment in place of a borrowed one.
     ///
     /// Containers without an end stay so, and so does the last refusal. [`ErrorKind::NoAlloc`] comes where memory was
     /// wanting, and then the buffer is handed back as it was. It never comes where the buffer holds no part.
@@ -194,10 +195,11 @@ impl<'sval, N: CallStore> AnyValueBuf<'sval, N> {
         }
     }
 
-    /// Captures a value by copies of its texts and binaries, so that the buffer borrows nothing and is for every lifetime.
+    /// Captures a value by copies of its texts and binaries, so that the buffer borrows nothing and is for every
+    /// lifetime.
     ///
-    /// It holds what [`collect`](AnyValueBuf::collect) and then [`into_owned`](AnyValueBuf::into_owned) hold, but copies
-    /// each fragment once, as it comes. It answers the errors of `collect`; each fragment may take memory.
+    /// It holds what [`collect`](AnyValueBuf::collect) and then [`into_owned`](AnyValueBuf::into_owned) hold, but
+    /// copies each fragment once, as it comes. It answers the errors of `collect`; each fragment may take memory.
     ///
     /// ```
     /// let event: ValueBuf<'_> = ValueBuf::collect_owned(alloc, &value)?;

@@ -11,13 +11,13 @@ pub enum CborError {
     NotATree,
     /// The value itself refused.
     Refused,
-    /// What stands in the place of a map's key is no text and is not written as one.
+    /// A map's key is no text, and is not written as one.
     Key,
-    /// Text that stands for a number is none.
+    /// A text tagged as a number is no number.
     Number,
     /// Text that stands for JSON, which has no place in CBOR.
     Raw,
-    /// Text that stands for a number with a fraction, an exponent or more than 128 bits.
+    /// A text tagged as a number is one with a fraction, an exponent or more than 128 bits.
     NotInteger,
     /// The sink failed.
     Write,

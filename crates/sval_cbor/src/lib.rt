@@ -1,7 +1,7 @@
 //! CBOR (RFC 8949) of values.
 //!
-//! [`stream_to_cbor`] writes a value to a sink. [`run_cbor`] is a whole program over any words and devices: it writes the
-//! value that a script of calls spells.
+//! [`stream_to_cbor`] writes a value to a sink. [`run_cbor`] is a whole program over any words and devices: it writes
+//! the value that a script of calls spells.
 #![tactic(auto)]
 
 mod error;

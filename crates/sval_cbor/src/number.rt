@@ -14,7 +14,7 @@ use crate::integer::Integer;
 /// A number in normal form.
 #[derive(Clone, Copy)]
 pub(crate) enum NormalForm<'a> {
-    /// A number: whether `-` stands in front of it, and the rest, which begins with a digit.
+    /// A number: whether it begins with `-`, and the rest, which begins with a digit.
     Number {
         /// It is below 0, or is a zero with a fraction or an exponent that has a sign.
         negative: bool,
@@ -32,7 +32,7 @@ fn has_digit(text: &[u8]) -> bool
     matches!(text.first(), Some(b'0'..=b'9'))
 }
 
-/// What follows a sign, where one stands there.
+/// What follows the sign, if there is one.
 fn without_sign(text: &[u8]) -> &[u8]
     ensures { result.now ≡ digits.without_sign text.now }
 {
@@ -84,7 +84,7 @@ fn is_word(text: &[u8]) -> bool
     matches!(text.first(), Some(b's' | b'n' | b'i' | b'S' | b'N' | b'I'))
 }
 
-/// Whether a zero stands in front of another digit.
+/// Whether the text begins with a zero and another digit.
 fn has_leading_zero(text: &[u8]) -> bool
     ensures { result ≡ has_leading_zero text.now }
 {
@@ -105,7 +105,7 @@ fn without_zeros(text: &[u8]) -> &[u8]
     rest
 }
 
-/// Whether `-` stands in front of a number: it doesn't in front of a lone zero.
+/// Whether a number has `-` in front. A lone zero has none.
 fn keeps_sign(negative: bool, unsigned: &[u8]) -> bool
     ensures { result ≡ keeps_sign negative unsigned.now }
 {

@@ -16,13 +16,14 @@ use sval_io::{CountSink, Sink, SinkError};
 /// Streams a value to a sink as CBOR (RFC 8949).
 ///
 /// On `Ok` it appended the bytes of what the tree that the value's calls spell packs to, however they cut its texts,
-/// binaries and numbers. `specs/Packs.antt` says what a tree packs to, and `specs/Cbor.antt` its bytes: texts are
-/// definite, arrays and maps end by a break, each head is as short as can be, and keys are texts. A variant of an enum
-/// with a name is a map of that name to its value. A binary is an array of its bytes as numbers. A text under `NUMBER`
-/// that is no number, but begins after at most one sign with s, n or i in either case, as snan, nan and inf do, is null.
+/// binaries and numbers. `specs/Packs.antt` says what a tree packs to, and `specs/Cbor.antt` its bytes. Texts are
+/// definite. Arrays and maps end by a break (section 3.2.2). Each head is as short as can be (section 4.1), and keys
+/// are texts. A variant of an enum with a name is a map of that name to its value. A binary is an array of its bytes as
+/// numbers. A text under `NUMBER` that is no number, but begins after at most one sign with s, n or i in either case,
+/// as snan, nan and inf do, is null.
 ///
-/// The value is checked and captured in memory of `alloc`. What was captured is written twice: the first time to see that
-/// all of it can be.
+/// The value is checked and captured in memory of `alloc`. What was captured is written twice: the first time to see
+/// that all of it can be.
 ///
 /// ```
 /// let mut sink = VecSink::new(alloc);
@@ -35,20 +36,20 @@ use sval_io::{CountSink, Sink, SinkError};
 /// - [`CborError::NotATree`] comes where the calls are not one whole value, as `check` of `sval_check` tells by
 ///   `BadCall` and `Unfinished`.
 /// - [`CborError::Refused`] comes where all calls can be completed, and the value refuses after them.
-/// - [`CborError::Key`] comes where a key of a map is a container, a binary, a text under `JSON_VALUE` or a variant with
-///   its name.
+/// - [`CborError::Key`] comes where a key of a map is a container, a binary, a text under `JSON_VALUE` or a variant
+///   with its name.
 /// - [`CborError::Number`] comes where a text under `NUMBER` is no number, and doesn't begin so that it is null.
-/// - [`CborError::Raw`] comes where a text stands under a tag that says it is JSON.
+/// - [`CborError::Raw`] comes where a text has a tag that says it is JSON.
 /// - [`CborError::NotInteger`] comes where a text under `NUMBER` that is no key is a number with a fraction or an
 ///   exponent, or one that is not from -2^127 to 2^128-1.
 ///
-/// Of the last four the first from left to right comes. These six exclude each other, leave the sink as it was, and come
-/// wherever they stand, unless memory was wanting.
+/// Of the last four the first from left to right comes. These six exclude each other, and leave the sink as it was.
+/// Each comes wherever it is due, unless memory was wanting.
 ///
 /// - [`CborError::Write`] comes only where the sink's count of faults rose, and never where the sink tells room for all
 ///   bytes. Not all of them were taken.
-/// - [`CborError::NoMemory`] comes only where memory was wanting for the check or the capture, which leaves the sink as it
-///   was, or where the sink's count of wants rose.
+/// - [`CborError::NoMemory`] comes only where memory was wanting for the check or the capture, which leaves the sink as
+///   it was, or where the sink's count of wants rose.
 ///
 /// After either the sink took a first part of the bytes, and never all of them. No count ever falls. The sink isn't
 /// flushed.
@@ -127,7 +128,7 @@ pub(crate) fn write_value<'v, K: Sink, V: Value<'v, Lent<'v>>>(
     }
 }
 
-/// Writes the same of a value of which no step refuses a call.
+/// Writes the CBOR of a value, where neither the value nor a step refuses.
 fn write_whole<'v, K: Sink, V: Value<'v, Lent<'v>>>(out: &mut K, v: &'v V) -> Result<(), CborError>
     requires willing { (V.emission v.now).refuses ≡ false }
     requires whole { IsOk (written_cbor (V.emission v.now).calls) }

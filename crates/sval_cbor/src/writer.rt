@@ -31,7 +31,7 @@ const ARRAY: &[u8] = b"\x9f";
 /// What begins a map of any length.
 const MAP: &[u8] = b"\xbf";
 
-/// Where the writer stands as to enums.
+/// Where the writer is with respect to enums.
 #[derive(Clone, Copy)]
 pub(crate) enum Place {
     /// In none that matters.
@@ -48,7 +48,7 @@ pub(crate) enum Place {
 #[derive(Drop)]
 pub(crate) struct Writer<'k, K: Sink> {
     pub(crate) sink: &'k mut K,
-    /// Where it stands as to enums.
+    /// Where the writer is with respect to enums.
     pub(crate) place: Place,
     /// It is in a map's key.
     pub(crate) in_key: bool,

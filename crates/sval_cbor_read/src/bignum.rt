@@ -57,7 +57,7 @@ fn read_pieces(bytes: &[u8], from: usize) -> Option<Bignum>
     None
 }
 
-/// The number of 128 bits that the byte string at a place is, which is definite or in pieces.
+/// The number of 128 bits of the byte string at a place, definite or in chunks (RFC 8949, section 3.4.3).
 pub(crate) fn read_bignum(bytes: &[u8], at: usize) -> Option<Bignum>
     requires { at ≤ length bytes.now }
     ensures found { IfSome result (λ bignum. IsNumberAt bytes.now at bignum) }

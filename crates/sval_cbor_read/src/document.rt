@@ -76,8 +76,9 @@ impl<'a> Model for CborDoc<'a> {
 impl<'a> CborDoc<'a> {
     /// Reads the bytes of one item whole. The document makes the calls that spell its tree.
     ///
-    /// A definite string, array or map tells its size, and one that a break ends tells none. Each piece of a string is
-    /// one fragment, which is lent. Tags are passed over, but 2 and 3, whose byte strings are whole numbers of 128 bits.
+    /// A definite string, array or map tells its size, and one that a break ends tells none. Each chunk of a string is
+    /// one fragment, which is lent. Tags are passed over, but 2 and 3, whose byte strings are whole numbers of 128 bits
+    /// (RFC 8949, section 3.4.3).
     ///
     /// ```
     /// let doc = CborDoc::read(alloc, b"\xbf\x61\x30\xf4\x61\x31\xf5\xff".as_slice())?;
@@ -87,8 +88,8 @@ impl<'a> CborDoc<'a> {
     ///
     /// # Errors
     ///
-    /// [`CborReadError::Bad`] comes only where the bytes are an item of no tree. [`CborReadError::NoMemory`] may come in
-    /// its place and in that of a document, but only where some first bytes make a call.
+    /// [`CborReadError::Bad`] comes only where the bytes are an item of no tree. [`CborReadError::NoMemory`] may come
+    /// in its place and in that of a document, but only where some first bytes make a call.
     pub fn read(alloc: Global, bytes: &'a [u8]) -> Result<Self, CborReadError>
         ensures ok { IfOk result (λ doc. IsReadItem bytes.now doc) }
         ensures err { IfErr result (IsCborReadError bytes.now) }

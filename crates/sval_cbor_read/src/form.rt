@@ -3,7 +3,7 @@
 ghost use Rattle.std.specs.Prelude.{◌≡◌, map, string_bytes};
 ghost use Rattle.sval_cbor_read.specs.Forms.{cbor_read_form_by, cbor_read_form};
 
-/// What is written of the item that an input is.
+/// What is written of the item in an input.
 #[derive(Clone, Copy)]
 pub(crate) enum Form {
     /// Its JSON, without white space.

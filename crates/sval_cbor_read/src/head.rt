@@ -27,7 +27,7 @@ fn number_of(bytes: &[u8]) -> u64
     number
 }
 
-/// The head whose number stands here, in bytes of this width.
+/// The head of this major type whose argument is in the `width` bytes at `at`.
 fn read_wide(bytes: &[u8], at: usize, width: usize, major: u8) -> Option<Head>
     requires within { at ≤ length bytes.now }
     requires small { width ≤ 8 }
@@ -73,7 +73,7 @@ pub(crate) fn read_head(bytes: &[u8], at: usize) -> Option<Head>
     }
 }
 
-/// The head of a text of less than 24 bytes, if one stands at a place: one byte, as most texts have it.
+/// The head of a text of less than 24 bytes, if there is one at a place. It is one byte, as most texts have it.
 #[tactic(auto, unfolding(crate::specs::Items::head_of))]
 #[inline(always)]
 pub(crate) fn short_text_head(bytes: &[u8], at: usize) -> Option<Head>

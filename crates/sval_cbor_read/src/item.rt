@@ -9,7 +9,7 @@ use crate::head::{Head, read_head, short_text_head};
 use crate::stack::Frame;
 use crate::string::{binary_behind, text_behind};
 
-/// What is in pieces.
+/// What a string of indefinite length holds.
 #[derive(Clone, Copy)]
 pub(crate) enum Medium {
     Text,
@@ -21,13 +21,13 @@ pub(crate) enum Medium {
 pub(crate) enum Item {
     /// A whole item.
     Whole,
-    /// A number under the tag 2, whose byte string stands here.
+    /// A number under the tag 2, with its byte string at this place.
     Big(usize),
-    /// A number under the tag 3, whose byte string stands here.
+    /// A number under the tag 3, with its byte string at this place.
     NegativeBig(usize),
     /// An array or a map begins.
     Container(Frame),
-    /// A string in pieces begins.
+    /// A string of indefinite length begins.
     Pieces(Medium),
     /// A tag that is passed over.
     Tag,

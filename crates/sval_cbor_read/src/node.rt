@@ -7,7 +7,7 @@ use std::alloc::AllocError;
 use std::mem::size_of;
 use sval_core::NoMemory;
 
-/// Where an item stands.
+/// The place of an item.
 #[derive(Clone, Copy)]
 pub(crate) enum Place {
     /// By itself.
@@ -29,7 +29,7 @@ pub(crate) enum Kind {
     Big,
     /// That of a number under the tag 3.
     NegativeBig,
-    /// An array, a map or a string in pieces, of which this is the begin.
+    /// The begin of a string of indefinite length, or of any array or map.
     Begin,
     TextPiece,
     BinaryPiece,
@@ -39,9 +39,9 @@ pub(crate) enum Kind {
     EndMap,
 }
 
-/// An item in its place, or the begin, a piece or the end of one. A begin and an end have the place of their item.
+/// An item in its place, or the begin, a chunk or the end of one. A begin and an end have the place of their item.
 ///
-/// The bytes are not kept: a node has its place in them, in 48 bits, and what stands there is read again.
+/// The bytes are not kept: a node has its place in them, in 48 bits, and the bytes there are read again.
 #[derive(Clone, Copy)]
 pub(crate) struct Node {
     low: u32,

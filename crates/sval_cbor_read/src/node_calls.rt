@@ -15,7 +15,7 @@ use std::str::from_utf8_unchecked;
 use sval_core::{Lending, Lent, Result, Stream};
 
 impl Place {
-    /// Begins the part that an item in this place stands in.
+    /// Begins the part that holds an item in this place.
     #[inline(always)]
     fn begin<L: Lending, S: Stream<L>>(self, stream: &mut S) -> Result
         ensures { Emits S.law result
@@ -29,7 +29,7 @@ impl Place {
         }
     }
 
-    /// Ends the part that an item in this place stands in.
+    /// Ends the part that holds an item in this place.
     #[inline(always)]
     fn end<L: Lending, S: Stream<L>>(self, stream: &mut S) -> Result
         ensures { Emits S.law result
@@ -69,7 +69,7 @@ fn stream_negative<L: Lending, S: Stream<L>>(n: u64, stream: &mut S) -> Result
     }
 }
 
-/// Whether a byte stands by itself.
+/// Whether a byte begins an item of indefinite length, or is `false`, `true` or null.
 #[inline(always)]
 fn is_mark(first: u8) -> bool
     ensures mark { result ≡ true → mark_of first ≢ None }
@@ -78,7 +78,8 @@ fn is_mark(first: u8) -> bool
     matches!(first, 0x5f | 0x7f | 0x9f | 0xbf | 0xf4 | 0xf5 | 0xf6)
 }
 
-/// Makes the call of a byte that stands by itself, and none where it doesn't.
+/// Makes the call of a byte that begins an item of indefinite length, or is `false`, `true` or null. Another byte has
+/// none.
 #[inline(always)]
 fn stream_mark<L: Lending, S: Stream<L>>(first: u8, stream: &mut S) -> Result
     ensures { Emits S.law result (S.standing stream.old)
@@ -176,7 +177,7 @@ fn stream_item<'v, S: Stream<Lent<'v>>>(bytes: &'v [u8], at: usize, stream: &mut
     }
 }
 
-/// The head of the text in one piece that stands at a place, if one does.
+/// The head of the definite text at a place, if there is one.
 #[inline(always)]
 fn text_head(bytes: &[u8], at: usize) -> Option<Head>
     requires { at < length bytes.now }
@@ -207,7 +208,7 @@ fn stream_text_key<'v, S: Stream<Lent<'v>>>(bytes: &'v [u8], head: Head, stream:
     stream.whole_text_key(content, Some(head.number as usize))
 }
 
-/// The number under the tag 2 whose byte string stands at a place.
+/// The number under the tag 2 with the byte string at a place.
 fn big_at(bytes: &[u8], at: usize) -> u128
     requires { IsBignum 2 (drop at bytes.now) }
     ensures { call.Int call.U128 (pos result) ≡ number_call 2 (byte_string (drop at bytes.now)) }
@@ -226,7 +227,7 @@ fn negative_of(n: u128) -> i128
     -1 - n as i128
 }
 
-/// The number n at a place whose byte string stands under the tag 3, which is for -1 - n.
+/// The number n of the byte string under the tag 3 at a place. The item is -1 - n.
 fn negative_big_at(bytes: &[u8], at: usize) -> u128
     requires { IsBignum 3 (drop at bytes.now) }
     ensures value { result ≡ big_endian (byte_string (drop at bytes.now)) }
@@ -238,7 +239,7 @@ fn negative_big_at(bytes: &[u8], at: usize) -> u128
     }
 }
 
-/// Makes the call of the piece of a text at a place.
+/// Makes the call of a chunk of a text at a place.
 fn stream_text_piece<'v, S: Stream<Lent<'v>>>(bytes: &'v [u8], at: usize, stream: &mut S) -> Result
     requires { 0 < length (piece_calls 3 (drop at bytes.now)) }
     ensures { Emits S.law result (S.standing stream.old)
@@ -269,7 +270,7 @@ fn stream_binary_piece<'v, S: Stream<Lent<'v>>>(
 }
 
 impl Node {
-    /// Begins the part that it stands in, if it is the first node of an item.
+    /// Begins the part that holds this node, if it is the first node of an item.
     #[inline(always)]
     fn begin<L: Lending, S: Stream<L>>(self, stream: &mut S) -> Result
         ensures { Emits S.law result (S.standing stream.old)
@@ -286,7 +287,7 @@ impl Node {
         }
     }
 
-    /// Makes its own calls, in bytes that it stands in.
+    /// Makes the node's own calls, from the bytes of the document.
     #[inline(always)]
     fn make<'v, S: Stream<Lent<'v>>>(self, bytes: &'v [u8], stream: &mut S) -> Result
         requires { NodeStands bytes.now self }
@@ -306,7 +307,7 @@ impl Node {
         }
     }
 
-    /// Ends the part that it stands in, if it is the last node of an item.
+    /// Ends the part that holds this node, if it is the last node of an item.
     #[inline(always)]
     fn end<L: Lending, S: Stream<L>>(self, stream: &mut S) -> Result
         ensures { Emits S.law result (S.standing stream.old)
@@ -324,7 +325,7 @@ impl Node {
         }
     }
 
-    /// Makes its calls, in bytes that it stands in.
+    /// Makes the node's calls, from the bytes of the document.
     #[inline(always)]
     fn stream<'v, S: Stream<Lent<'v>>>(self, bytes: &'v [u8], stream: &mut S) -> Result
         requires { NodeStands bytes.now self }
@@ -342,7 +343,7 @@ impl Node {
     }
 }
 
-/// Makes the calls of nodes, in bytes that they stand in.
+/// Makes the calls of nodes, from the bytes of the document.
 pub(crate) fn stream_nodes<'v, S: Stream<Lent<'v>>>(
     bytes: &'v [u8],
     nodes: &[Node],

@@ -14,8 +14,8 @@ pub(crate) enum NextPart {
     Nothing,
 }
 
-/// What follows at a place in an array or a map, of which so many items or pairs are still to come, or all up to a
-/// break.
+/// What follows at a place in an array or a map. `left` is the number of items or pairs that are still to come, or
+/// `None` where a break ends them.
 #[inline(always)]
 pub(crate) fn next_part(left: Option<usize>, bytes: &[u8], at: usize) -> NextPart
     requires { at ≤ length bytes.now }

@@ -26,7 +26,7 @@ pub(crate) enum Expected {
     AnItem,
     /// The next part of what is open, or its end.
     APart,
-    /// A piece of a string, or the break.
+    /// A chunk of a string, or the break.
     APiece(Medium),
     Nothing,
 }
@@ -209,7 +209,7 @@ impl Reader {
         }
     }
 
-    /// Begins the next part of the innermost array or map, of which this is left behind it.
+    /// Begins the next part of the innermost array or map. `frame` is what is left of that behind the part.
     #[inline(always)]
     fn begin_part(&mut self, frame: Frame)
         ensures { BeginsPart self.old (frame_of frame) self.new }

@@ -1,5 +1,5 @@
-//! The program `sval_cbor_read`: reads an item of CBOR, and writes it as JSON without white space, or the canonical script
-//! of its calls.
+//! The program `sval_cbor_read`: reads an item of CBOR, and writes it as JSON without white space, or the canonical
+//! script of its calls.
 //!
 //! It ends with one of the statuses of [`sval_cbor_read::run_cbor_read`], or with 17 where its words can't be had.
 #![tactic(auto)]

@@ -10,8 +10,8 @@ use sval_core::NoMemory;
 
 /// Where the trees of a list end, as [`check_all`](crate::check_all) gives it, seen as a list of numbers.
 ///
-/// Entry `i` is the number of calls up to the last call of tree `i` that is no hint. A number past the greatest `u64` is
-/// given as that.
+/// Entry `i` is the number of calls up to the last call of tree `i` that is no hint. A number past the greatest `u64`
+/// is given as that.
 ///
 /// ```
 /// let ends = check_all(alloc, &value)?;

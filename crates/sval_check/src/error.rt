@@ -7,8 +7,8 @@ use std::fmt;
 /// [`check_all`](crate::check_all).
 #[derive(Clone, Copy, Debug, PartialEq, Eq)]
 pub enum CheckError {
-    /// No value, or list of values, goes on with the call of this number, counted from 1. A number past the greatest `u64`
-    /// is given as that.
+    /// No value, or list of values, goes on with the call of this number, counted from 1. A number past the greatest
+    /// `u64` is given as that.
     BadCall {
         /// The number of the call.
         at: u64,

@@ -24,7 +24,7 @@ impl Model for TokenText {
 }
 
 impl TokenText {
-    /// The part of a text that this is. It takes no memory.
+    /// Keeps a fragment of a text. It takes no memory.
     pub fn new(text: String) -> Self
         ensures { result ≡ string_bytes text }
     {
@@ -79,7 +79,7 @@ impl Model for TokenBytes {
 }
 
 impl TokenBytes {
-    /// The part of a binary that these are. It takes no memory.
+    /// Keeps a fragment of a binary. It takes no memory.
     pub fn new(bytes: Vec<u8>) -> Self
         ensures { result ≡ bytes.items }
     {

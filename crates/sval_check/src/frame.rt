@@ -6,7 +6,7 @@ ghost use Rattle.sval_check.specs.Tops.{with_next, with_text_left};
 
 /// What has begun and has no end yet; of a size that was given, what is still to come.
 ///
-/// It is small, since there may be very many. What a name says stands in [`crate::names::Names`].
+/// It is small, since there may be very many. The names are kept in [`crate::names::Names`].
 #[derive(Clone, Copy)]
 pub(crate) enum Frame {
     /// In a text: its bytes that are still to come.
@@ -30,7 +30,8 @@ pub(crate) enum Frame {
 }
 
 impl Frame {
-    /// This frame with one more part, where it is a container of whose entries so many are still to come with it.
+    /// This frame with one more part, where it is a container. `left` is the number of its entries that are still to
+    /// come after the part.
     pub(crate) fn advanced(self, left: Option<usize>) -> Frame
         ensures { result ≡ with_next left self }
     {
@@ -43,7 +44,7 @@ impl Frame {
         }
     }
 
-    /// This frame with another rest, where it is in such a content.
+    /// This frame with `left` as the bytes that are still to come, where it is in a text or binary as `content` says.
     pub(crate) fn with_left(self, content: Content, left: Option<usize>) -> Frame
         ensures { result ≡ with_text_left content left self }
     {

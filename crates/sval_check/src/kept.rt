@@ -14,7 +14,7 @@ ghost use Rattle.sval_check.specs.Frames.{seen_form};
 use crate::frame::Form;
 use sval_core::{Index, Label, Name, Tag};
 
-/// A label that is kept; its text stands among the others.
+/// A kept label. Its text is kept with the others.
 #[derive(Clone, Copy)]
 pub(crate) struct KeptLabel {
     /// The number of bytes of its text.

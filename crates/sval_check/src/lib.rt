@@ -1,11 +1,11 @@
 //! Checks whether calls spell one whole value, or a list of them.
 //!
 //! [`check`] streams a value into a machine with a stack, which takes the calls that can still be completed and no
-//! others. Its words stand in `specs/Checks.antt`. [`check_all`] does the same for values one after another, and gives
-//! where each of them ends. Its words stand in `specs/ManyChecks.antt`. [`Checked`] puts the same machine before a
-//! stream of one's own. Its law stands in `specs/Checked.antt`. [`Machine`] is what all three are made of, in two parts of a
-//! step. Its words stand in `specs/Dues.antt`. [`TokenBuf`] keeps calls as [`Token`]s, so that a test can
-//! compare them. Its law stands in `specs/TokenBufs.antt`.
+//! others. Its definitions are in `specs/Checks.antt`. [`check_all`] checks values one after another, and gives where
+//! each of them ends. Its definitions are in `specs/ManyChecks.antt`. [`Checked`] puts the same machine before a stream
+//! of one's own. Its law is in `specs/Checked.antt`. [`Machine`] is what all three are made of. Its step is in two
+//! parts, and its definitions are in `specs/Dues.antt`. [`TokenBuf`] keeps calls as [`Token`]s, so that a test can
+//! compare them. Its law is in `specs/TokenBufs.antt`.
 #![tactic(auto)]
 
 ghost use Rattle.std.specs.Prelude.{◌≡◌, ◌⊎◌, ℕ, Err, IfOk, OnOk};
@@ -50,15 +50,15 @@ pub use token_buf::TokenBuf;
 /// value needs no deep stack of calls. An end says its begin's name where both say or leave out the same of tag, label
 /// and index: tags and labels are compared by their texts, and indexes by their numbers.
 ///
-/// - [`CheckError::BadCall`] comes where no value goes on with one of its calls, and names the first such call.
+/// - [`CheckError::BadCall`] comes where no value goes on with one of its calls, and names the first of these calls.
 /// - [`CheckError::Refused`] comes where all calls can be completed, and the value refuses after them.
 /// - [`CheckError::Unfinished`] comes where all calls can be completed, the value doesn't refuse, and the calls are not
 ///   one whole value.
 /// - [`CheckError::NoMemory`] comes where memory was wanting for a call that begins something, and only where this call
 ///   can be completed.
 ///
-/// The four cases exclude each other, and each has its answer wherever it stands, unless memory was wanting. So a value
-/// that doesn't refuse and whose calls spell a tree gives `Ok` or `NoMemory`, which is the lemma `told_passes` of
+/// The four cases exclude each other. Each has its answer wherever it holds, unless memory was wanting. So a value that
+/// doesn't refuse and whose calls spell a tree gives `Ok` or `NoMemory`, which is the lemma `told_passes` of
 /// `proofs/Told.antt`.
 ///
 /// ```
@@ -86,20 +86,21 @@ pub fn check<'v, V: Value<'v, Lent<'v>>>(alloc: Global, value: &'v V) -> Result<
     }
 }
 
-/// Checks that a value's calls spell whole values one after another, and that the value itself doesn't refuse, and gives
-/// where each of them ends.
+/// Checks that a value's calls spell whole values one after another, and gives where each of them ends. It also checks
+/// that the value itself doesn't refuse.
 ///
-/// Each value is checked as by [`check`], and the next one begins where it is whole. A hint between two values belongs to
-/// the later one, and hints after the last to none. No calls, or hints alone, are the empty list, with no ends.
+/// Each value is checked as by [`check`], and the next one begins where it is whole. A hint between two values belongs
+/// to the later one, and hints after the last to none. No calls, or hints alone, are the empty list, with no ends.
 ///
-/// - [`CheckError::BadCall`] comes where no list of values goes on with one of the calls, and names the first such call.
+/// - [`CheckError::BadCall`] comes where no list of values goes on with one of the calls, and names the first of these
+///   calls.
 /// - [`CheckError::Refused`] comes where all calls can be completed, and the value refuses after them.
-/// - [`CheckError::Unfinished`] comes where all calls can be completed, the value doesn't refuse, and the last value isn't
-///   whole.
+/// - [`CheckError::Unfinished`] comes where all calls can be completed, the value doesn't refuse, and the last value
+///   isn't whole.
 /// - [`CheckError::NoMemory`] comes where memory was wanting for a call that begins something or ends a value, and only
 ///   where this call can be completed.
 ///
-/// The four cases exclude each other, and each has its answer wherever it stands, unless memory was wanting.
+/// The four cases exclude each other. Each has its answer wherever it holds, unless memory was wanting.
 ///
 /// ```
 /// match check_all(alloc, &value) {

@@ -19,7 +19,7 @@ use sval_core::{AnyCall, Error, Lending, Stream};
 /// After a refusal it takes no call.
 #[derive(Drop)]
 pub(crate) struct Lister {
-    /// Where a value stands whole outside all that is open, it is done with.
+    /// A whole value outside all open frames is done with.
     checker: Checker,
     ends: Ends,
 }

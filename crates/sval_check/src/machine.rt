@@ -63,30 +63,31 @@ impl From<NoMemory> for Refusal {
     }
 }
 
-/// What is still to be done for a call that [`Machine::ready`] made ready: by [`Machine::finish`] where the call is taken,
-/// by [`Machine::undo`] where it isn't.
+/// What is still to be done for a call that [`Machine::ready`] made ready: by [`Machine::finish`] where the call is
+/// taken, by [`Machine::undo`] where it isn't.
 #[derive(Clone, Copy, Debug)]
 pub enum Due {
     /// Nothing.
     Nothing,
-    /// A whole value comes to stand in the innermost frame.
+    /// The innermost frame gets a whole value.
     Filled,
     /// Nothing: the frame of a value was opened.
     Opened,
-    /// The frame of a part was opened, and of the container around it so many entries are still to come with it.
+    /// The frame of a part was opened. The container around the part still expects this many entries after it, if its
+    /// size was given.
     Advanced(Option<usize>),
     /// So much is still to come of the text or binary.
     Left(Content, Option<usize>),
-    /// The innermost frame closes, and then a whole value stands in the one around it, or none.
+    /// The innermost frame closes. The one around it then holds a whole value, or none where this is `false`.
     Closed(bool),
 }
 
 /// The checker by itself, which is told call by call, for a stream that passes on other calls than those that it takes.
 /// Where it passes on just these, [`Checked`](crate::Checked) is the shorter way.
 ///
-/// It knows whether a whole value stands in what is open, and all that is open. A size counts down to what is still to
-/// come, so that none is too great to be kept. What calls begin is kept in memory, with the names that their ends have to
-/// say, and let go where they end.
+/// It knows all that is open, and whether the innermost frame holds a whole value. A size counts down to what is still
+/// to come, so that none is too great to be kept. What calls begin is kept in memory, with the names that their ends
+/// have to say, and let go where they end.
 ///
 /// ```
 /// let mut machine = Machine::new(alloc);
@@ -98,7 +99,7 @@ pub enum Due {
 /// ```
 #[derive(Drop)]
 pub struct Machine {
-    /// A whole value stands directly in the innermost frame.
+    /// The innermost frame directly holds a whole value.
     filled: bool,
     frames: Stack,
 }
@@ -134,15 +135,15 @@ impl Machine {
         self.frames.is_empty()
     }
 
-    /// Forgets that a whole value stands directly in the innermost frame, so that the next one may begin.
+    /// Forgets the whole value that the innermost frame directly holds, so that the next one may begin.
     pub(crate) fn clear(&mut self)
         ensures { self.new ≡ unfilled self.old.frames }
     {
         self.filled = false;
     }
 
-    /// Makes ready for a call, or says why the calls so far don't go on with it: opens what the call opens, and leaves the
-    /// rest to [`finish`](Machine::finish). After a refusal the calls so far are as before.
+    /// Makes ready for a call, or says why the calls so far don't go on with it: opens what the call opens, and leaves
+    /// the rest to [`finish`](Machine::finish). After a refusal the calls so far are as before.
     ///
     /// - [`Refusal::NotViable`] comes exactly where no value goes on with the call.
     /// - [`Refusal::NoMemory`] comes only where one does, and memory was wanting for what the call begins.
@@ -202,7 +203,7 @@ impl Machine {
         }
     }
 
-    /// Closes the innermost frame, after which a whole value stands in the one around it, or none.
+    /// Closes the innermost frame. The one around it then holds a whole value, or none where `filled` is `false`.
     #[inline(always)]
     fn close(&mut self, filled: bool)
         ensures { self.new ≡ record { filled = filled; frames = below self.old.frames } }
@@ -286,7 +287,7 @@ impl Machine {
         }
     }
 
-    /// Makes ready for so many bytes of a text or binary.
+    /// Makes ready for `size` bytes of a text or binary.
     #[inline(always)]
     fn fragment(&self, content: Content, size: usize) -> Result<Due, Refusal>
         ensures { Readies false (at_top (content_fragment content size) self.now) self.now self.now result }

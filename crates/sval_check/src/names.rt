@@ -40,7 +40,8 @@ impl Names {
         }
     }
 
-    /// Keeps a begin with its label's text, and gives its frame, of which so much is still to come.
+    /// Keeps a begin with its label's text, and gives its frame. `left` is the number of entries that are still to come
+    /// of a container.
     #[inline(always)]
     fn push(&mut self, named: Named, text: &str, left: Option<usize>) -> Result<Frame, NoMemory>
         requires { named_size named ≡ length text.now }
@@ -157,7 +158,7 @@ impl Names {
         }
     }
 
-    /// The innermost begin with a name is that of a container which has parts at such places.
+    /// The innermost begin with a name is that of a container whose parts are of the kind of `slot`.
     #[inline(always)]
     pub(crate) fn has_parts(&self, slot: Slot<'_>) -> bool
         ensures { result ≡ has_parts (named_top self.now None) (seen_slot slot.entry) }

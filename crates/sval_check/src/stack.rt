@@ -48,7 +48,8 @@ fn innermost(frames: &[Frame]) -> Option<Frame>
     frames.last().copied()
 }
 
-/// Puts a part into the innermost frame, a container of whose entries so many are still to come with it.
+/// Puts a part into the innermost frame, a container. `left` is the number of its entries that are still to come after
+/// the part.
 #[inline(always)]
 fn advance(frames: &mut [Frame], left: Option<usize>)
     ensures { reverse frames.new ≡ on_top (with_next left) (reverse frames.old) }
@@ -58,7 +59,8 @@ fn advance(frames: &mut [Frame], left: Option<usize>)
     }
 }
 
-/// The same of the frame around the innermost one.
+/// Puts a part into the frame around the innermost one, a container. `left` is the number of its entries that are still
+/// to come after the part.
 fn advance_around(frames: &mut [Frame], left: Option<usize>)
     ensures { reverse frames.new ≡ under_top (on_top (with_next left)) (reverse frames.old) }
 {
@@ -108,7 +110,7 @@ impl Stack {
         }
     }
 
-    /// What is still to come of a text or binary in which the innermost frame is, after so many bytes.
+    /// What is still to come of the text or binary of the innermost frame after `size` more bytes, if these can come.
     #[inline(always)]
     pub(crate) fn content_rest(&self, content: Content, size: usize) -> Option<Option<usize>>
         ensures { result ≡ content_rest content size (top_of self.now) }
@@ -120,7 +122,7 @@ impl Stack {
         }
     }
 
-    /// The innermost frame is in a text or binary, of which nothing is still to come.
+    /// The innermost frame is in a text or binary that may end now.
     #[inline(always)]
     pub(crate) fn content_ends(&self, content: Content) -> bool
         ensures { result ≡ content_ends content (top_of self.now) }
@@ -234,7 +236,8 @@ impl Stack {
         Ok(())
     }
 
-    /// Counts a part in the innermost frame, a container of whose entries so many are still to come with it.
+    /// Counts a part in the innermost frame, a container. `left` is the number of its entries that are still to come
+    /// after the part.
     #[inline(always)]
     pub(crate) fn advance(&mut self, left: Option<usize>)
         ensures { self.new ≡ after_part left self.old }
@@ -242,7 +245,8 @@ impl Stack {
         advance(&mut self.frames, left);
     }
 
-    /// Counts the innermost frame, a part, in the container around it, of whose entries so many are still to come.
+    /// Counts the innermost frame, a part, in the container around it. `left` is the number of entries that are still
+    /// to come of that container.
     pub(crate) fn advance_around(&mut self, left: Option<usize>)
         ensures { self.new ≡ under_top (after_part left) self.old }
     {

@@ -33,9 +33,9 @@ impl TokenName {
 
 /// A call that is kept, with one variant for each call.
 ///
-/// A [`TokenBuf`](crate::TokenBuf) makes them. A borrowed fragment is the reference that came, and a computed one a copy.
-/// Two tokens are equal where they are of the same call and say the same: texts, bytes, numbers and sizes. Labels are
-/// compared by their texts and indexes by their numbers, whatever their tags
+/// A [`TokenBuf`](crate::TokenBuf) makes them. A borrowed fragment is the reference that came, and a computed one a
+/// copy. Two tokens are equal where they are of the same call and say the same: texts, bytes, numbers and sizes. Labels
+/// are compared by their texts and indexes by their numbers, whatever their tags
 /// ([`laws::tokens_are_equal`](crate::laws::tokens_are_equal)).
 #[derive(Drop, Debug, PartialEq, Eq)]
 pub enum Token<'sval> {

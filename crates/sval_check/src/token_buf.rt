@@ -17,8 +17,8 @@ use sval_core::{Call, Error, Lent, NoMemory, Stream};
 /// Keeps the calls that it takes as tokens, so that a test can compare them.
 ///
 /// It accepts every call, whatever came before. A call is refused only where memory was wanting for its token, and then
-/// the tokens stay as they were. A borrowed fragment is kept by reference. Computed fragments are copied, and so are the
-/// texts of labels that aren't static.
+/// the tokens stay as they were. A borrowed fragment is kept by reference. Computed fragments are copied, and so are
+/// the texts of labels that aren't static.
 ///
 /// An `Option` makes `Tag` or `TaggedBegin` with its tag, its label `None` or `Some`, and its index 0 or 1.
 ///

@@ -1,7 +1,7 @@
 //! Streams and values, and which calls spell which value.
 //!
-//! A [`Value`] makes calls, and a [`Stream`] takes them. The law of both stands in `specs/Law.antt`; what a list of
-//! calls spells stands in `specs/Trees.antt` and `specs/Spells.antt`, and [`laws`] has what holds of it.
+//! A [`Value`] makes calls, and a [`Stream`] takes them. The law of both is in `specs/Law.antt`. What a list of calls
+//! spells is in `specs/Trees.antt` and `specs/Spells.antt`, and [`laws`] has what holds of it.
 #![tactic(auto)]
 
 mod computed;

@@ -23,7 +23,7 @@ use sval_label::{AnyCall, Index, Label, Lending, Lent, Name, Result, Tag};
 ///
 /// # A stream of your own
 ///
-/// It gives its law, and where it stands: one that adds up the `i64` numbers accepts all calls, and has no count that
+/// It gives its law and its standing. One that adds up the `i64` numbers accepts all calls, and has no count that
 /// rises.
 ///
 /// ```antt
@@ -199,12 +199,12 @@ pub trait Stream<L: Lending> {
     }
 
     /// A whole text, which this stream may keep: the calls [`text_begin`](Stream::text_begin) with this size,
-    /// [`text_fragment`](Stream::text_fragment) and [`text_end`](Stream::text_end), in one. The size is that of the text
-    /// in bytes, or left out, as by what is read from JSON, where no size stands before a text; nothing compares it with
-    /// the text here. For a text that doesn't live long enough to be kept there are the three calls.
+    /// [`text_fragment`](Stream::text_fragment) and [`text_end`](Stream::text_end), in one. `size` is the number of the
+    /// text's bytes. It may be left out, as by what is read from JSON, where no size comes before a text. Nothing
+    /// compares it with the text here. For a text that doesn't live long enough to be kept there are the three calls.
     ///
-    /// An implementation may write it anew, where it does less for the three together. One that passes calls on passes a
-    /// whole text on as one call only where it does.
+    /// An implementation may write it anew, where it does less for the three together. One that passes calls on passes
+    /// a whole text on as one call only where it does.
     ///
     /// ```
     /// stream.whole_text("a text", Some(6))?;

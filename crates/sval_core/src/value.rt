@@ -37,7 +37,7 @@ use sval_label::{Lending, Result};
 /// }
 /// ```
 ///
-/// That is proved as it stands. `proofs/ValueProofs.antt` says what a loop over parts wants, and how a value's calls
+/// This code is proved as written. `proofs/ValueProofs.antt` says what a loop over parts wants, and how a value's calls
 /// are shown to spell its tree. The crate `readings` has all of it, proved.
 pub trait Value<'v, L: Lending> {
     /// The calls that it makes, and whether it refuses after them.

@@ -1,6 +1,6 @@
 //! The values of the standard library.
 //!
-//! What each makes stands in `specs/Values.antt`, and which tree that spells in `specs/ValueTrees.antt`.
+//! The calls of each are in `specs/Values.antt`, and the tree that these spell is in `specs/ValueTrees.antt`.
 
 /// References to fields, one before the others.
 macro_rules! fields {

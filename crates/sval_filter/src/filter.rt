@@ -21,10 +21,10 @@ use sval_core::{AnyCall, Error, Lending, Stream};
 
 /// A stream that passes on the calls of what a rule and paths leave of a value.
 ///
-/// It is for one value. It takes calls as [`Checked`](sval_check::Checked) does, and passes none on of a field or an entry
-/// that is left out. The begin of a map, a record or a record tuple goes without its size, since fewer entries may come.
-/// The key of an entry is held until its end, since its text says whether the entry is left out; then it goes on with
-/// computed fragments.
+/// It is for one value. It takes calls as [`Checked`](sval_check::Checked) does, and passes none on of a field or an
+/// entry that is left out. The begin of a map, a record or a record tuple goes without its size, since fewer entries
+/// may come. The key of an entry is held until its end, since its text says whether the entry is left out; then it goes
+/// on with computed fragments.
 ///
 /// Until the inner stream has refused a call that was due, a call is refused for the first of these causes, which
 /// [`why`](Filter::why) then tells:
@@ -32,8 +32,8 @@ use sval_core::{AnyCall, Error, Lending, Stream};
 /// - [`Why::NotViable`] comes exactly where no value goes on with the call after those so far. It leaves all as before.
 /// - [`Why::NoMemory`] comes only where one does, and memory was wanting for what the call begins, for the key that is
 ///   held, or, at the end of a key that is a text, for its label. It leaves all as before.
-/// - [`Why::Inner`] comes only where one does, and the inner stream refused a call that was due. It then took a front of
-///   those that were. No later call is taken: each is refused as this, whether a value goes on with it or not.
+/// - [`Why::Inner`] comes only where one does, and the inner stream refused a call that was due. It then took a front
+///   of those that were. No later call is taken: each is refused as this, whether a value goes on with it or not.
 ///
 /// ```
 /// let mut paths = Paths::new(alloc);
@@ -125,8 +125,8 @@ impl<'p, S> Filter<'p, S> {
     }
 }
 
-/// Passes the calls on that are due at a call, where it can be completed and memory isn't wanting for it, or says why it
-/// isn't taken.
+/// Passes the calls on that are due at a call, where it can be completed and memory isn't wanting for it, or says why
+/// it isn't taken.
 fn pass<L: Lending, S: Stream<L>>(
     filter: &mut Filter<'_, S>,
     call: AnyCall<'_, L::Text, L::Bytes>,

@@ -51,8 +51,8 @@ fn is_some_bad(words: &[String]) -> bool
     false
 }
 
-/// What the program's words ask for, if they are a form: `drop` or `keep`, and one or more words none of whose pieces
-/// between dots is empty. No path is made yet.
+/// What the program's words ask for, if they are a form: `drop` or `keep`, and one or more words. None of these has an
+/// empty part between dots. No path is made yet.
 pub(crate) fn named_form<'a>(words: &'a [String]) -> Option<Form<'a>>
     ensures { result ≡ filter_form_of words.now }
 {
@@ -64,7 +64,7 @@ pub(crate) fn named_form<'a>(words: &'a [String]) -> Option<Form<'a>>
     Some(Form { rule, words })
 }
 
-/// Makes the paths of words, each of which names one.
+/// Makes the paths that words name, one for each word.
 pub(crate) fn paths_of(alloc: Global, words: &[String]) -> Result<Paths, NoMemory>
     ensures { IfOk result (λ paths. paths ≡ map labels_of (map string_bytes words.now)) }
 {

@@ -1,4 +1,4 @@
-//! The text that a key is.
+//! The text of a key.
 
 ghost use Rattle.std.specs.Prelude.{◌≡◌, ◌≤◌, ℕ, List, None, string_bytes, option_map};
 ghost use Rattle.sval_label.specs.Made.{lent_call};

@@ -40,7 +40,7 @@ pub(crate) struct Layer<'p> {
 }
 
 impl<'p> Fate<'p> {
-    /// The same once more. It copies no rest of a path.
+    /// A copy. It copies no rest of a path.
     pub(crate) fn share(&self) -> Result<Self, NoMemory>
         ensures { IfOk result (λ shared. seen_fate shared ≡ seen_fate self.now) }
     {
@@ -63,7 +63,7 @@ impl<'p> Fate<'p> {
 }
 
 impl<'p> Mode<'p> {
-    /// The same once more. It copies no rest of a path.
+    /// A copy. It copies no rest of a path.
     pub(crate) fn share(&self) -> Result<Self, NoMemory>
         ensures { IfOk result (λ shared. seen_mode shared ≡ seen_mode self.now) }
     {
@@ -95,8 +95,8 @@ impl<'p> Mode<'p> {
 }
 
 impl<'p> Fate<'p> {
-    /// What becomes of the entry of a key with this label, in a map of which this becomes. It takes memory only for a
-    /// label.
+    /// What becomes of the pair of a map whose key has this label, where `self` is what becomes of the map. It takes
+    /// memory only for a label.
     fn of_entry(&self, alloc: Global, rule: Rule, label: Option<&str>) -> Result<Self, NoMemory>
         ensures fate { let label = option_map (λ text. text.now) label.entry in
             IfOk result (λ fate. seen_fate fate ≡ fate_in rule (seen_fate self.now) label) }
@@ -113,8 +113,8 @@ impl<'p> Fate<'p> {
 }
 
 impl<'p> Mode<'p> {
-    /// What becomes of the entry of a key with this label, in a map whose calls are treated so. It takes memory only
-    /// for a label.
+    /// What becomes of the pair of a map whose key has this label, where `self` says how the map's calls are treated.
+    /// It takes memory only for a label.
     pub(crate) fn entry(
         &self,
         alloc: Global,

@@ -139,8 +139,8 @@ impl Paths {
     /// # Errors
     ///
     /// [`PathError::BadWord`] exactly where there is nothing between two dots, before the first one or after the last
-    /// one; so it is for the word without a letter. [`PathError::NoMemory`] where each label has a letter and memory was
-    /// wanting. The paths are then as before.
+    /// one; so it is for the word without a letter. [`PathError::NoMemory`] where each label has a letter and memory
+    /// was wanting. The paths are then as before.
     pub fn push_word(&mut self, word: &str) -> Result<(), PathError>
         ensures { AddsWord self.old word.now result self.new }
     {

@@ -69,8 +69,8 @@ impl From<NoMemory> for PruneError {
 /// # Errors
 ///
 /// [`PruneError::NotATree`] exactly where [`check`] answers that a call goes on with no value, or that the value is
-/// unfinished. [`PruneError::Refused`] exactly where it answers that the value itself refuses. The first two come
-/// wherever they stand, unless memory was wanting.
+/// unfinished. [`PruneError::Refused`] exactly where it answers that the value itself refuses. These two come wherever
+/// they are due, unless memory was wanting.
 ///
 /// [`PruneError::NoMemory`] comes only where a call that can be completed begins something, for which checking may take
 /// memory, or where the value is a whole one, which is filtered and captured.

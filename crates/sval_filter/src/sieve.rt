@@ -323,7 +323,7 @@ fn size_of(head: Head<'_>, size: Option<usize>) -> Option<usize>
     }
 }
 
-/// Takes a call, of which those that are due are passed on.
+/// Takes a call, and passes on the calls that are due at it.
 pub(crate) fn step<L: Lending, S: Stream<L>>(
     sieve: &mut Sieve<'_, S>,
     call: AnyCall<'_, L::Text, L::Bytes>,

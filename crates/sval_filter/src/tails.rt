@@ -44,7 +44,7 @@ impl<'p> Tails<'p> {
         Ok(Tails::Rests(Rc::new(alloc, rests)?))
     }
 
-    /// The same rests once more. It copies none of them.
+    /// These rests once more. It copies none of them.
     pub(crate) fn share(&self) -> Result<Self, NoMemory>
         ensures { IfOk result (λ shared. seen_tails shared ≡ seen_tails self.now) }
     {
@@ -66,7 +66,7 @@ impl<'p> Tails<'p> {
         }
     }
 
-    /// One of them, if they are so many.
+    /// The rest at `index`, if there is one.
     fn get(&self, index: usize) -> Option<&'p [String]>
         ensures { option_map (λ path. labels_in path.now) result ≡ slice_get (seen_tails self.now) index }
     {
@@ -91,7 +91,7 @@ impl<'p> Tails<'p> {
         }
     }
 
-    /// One of them, if they are so many, is this label and nothing behind it.
+    /// Whether the rest at `index`, if there is one, is this label and nothing behind it.
     fn is_end(&self, index: usize, label: &str) -> bool
         ensures { let path = slice_get (seen_tails self.now) index in
             result ≡ has_end (option_to_list (option_and_then (tail_of label.now) path)) }

@@ -1,4 +1,5 @@
-//! The program `sval_filter`: reads a script of calls, and writes the JSON of what a rule and paths leave of the value that they spell.
+//! The program `sval_filter`: reads a script of calls, and writes the JSON of what a rule and paths leave of the value
+//! that they spell.
 //!
 //! It ends with one of the statuses of [`sval_filter::run_filter`], or with 17 where its words can't be had.
 #![tactic(auto)]

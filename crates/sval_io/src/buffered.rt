@@ -35,8 +35,8 @@ pub struct BufferedSink<W: Write + Drop> {
 }
 
 impl<W: Write + Drop> BufferedSink<W> {
-    /// A sink over this writer, with a buffer of `capacity` bytes. Where there is no memory for the buffer, the writer is
-    /// dropped.
+    /// A sink over this writer, with a buffer of `capacity` bytes. Where there is no memory for the buffer, the writer
+    /// is dropped.
     #[tactic(auto, using(crate::proofs::Buffering::nothing_behind))]
     pub fn with_capacity(alloc: Global, capacity: usize, writer: W) -> io::Result<Self>
         ensures contents { IfOk result (λ sink. writer_contents W.contents sink.writer ≡ W.contents writer) }
@@ -73,8 +73,10 @@ impl<W: Write + Drop> BufferedSink<W> {
     fn fault(&mut self) -> SinkError
         ensures failed { result ≡ SinkError.Failed }
         ensures declines { Declines result
-            (buffered_told (writer_contents W.contents self.old.writer) (writer_buffer self.old.writer) self.old.faults)
-            (buffered_told (writer_contents W.contents self.new.writer) (writer_buffer self.new.writer) self.new.faults) }
+            (buffered_told (writer_contents W.contents self.old.writer) (writer_buffer self.old.writer)
+            self.old.faults)
+            (buffered_told (writer_contents W.contents self.new.writer) (writer_buffer self.new.writer)
+            self.new.faults) }
         ensures counted { self.new ≡ record self.old { faults = one_more self.old.faults } }
     {
         self.faults = self.faults.saturating_add(1);

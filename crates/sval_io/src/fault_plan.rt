@@ -46,7 +46,8 @@ impl<'a> FaultPlan<'a> {
         }
     }
 
-    /// How many of so many bytes a call moves: one at least, if there are any.
+    /// How many of `len` bytes a call moves: all, or the plan's chunk where that is less. It is at least 1 where `len`
+    /// is.
     pub fn share(&self, len: usize) -> usize
         ensures chunk { result ≡ min self.now.chunk len }
         ensures some { 0 < len → 0 < result }

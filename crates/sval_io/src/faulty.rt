@@ -10,7 +10,7 @@ use crate::sink::{Sink, SinkError, VecSink};
 use std::alloc::Global;
 use std::marker::Model;
 
-/// A sink in memory that takes so many bytes a call at most, and fails at the calls whose numbers are given.
+/// A sink in memory that takes at most a given number of bytes a call, and fails at the calls whose numbers are given.
 ///
 /// Calls are counted from 1, over pieces that aren't empty. Each error counts once, and a flush never fails.
 #[derive(Drop)]

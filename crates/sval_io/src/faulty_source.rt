@@ -9,7 +9,8 @@ use crate::fault_plan::FaultPlan;
 use crate::source::{Source, SourceError};
 use std::marker::Model;
 
-/// A source in memory that gives so many bytes a call at most, and fails at the calls whose numbers are given.
+/// A source in memory that gives at most a given number of bytes a call, and fails at the calls whose numbers are
+/// given.
 ///
 /// All calls are counted, from 1. A call that fails takes nothing of what is left, and leaves the buffer as it was; one
 /// that gives bytes leaves it so behind them.

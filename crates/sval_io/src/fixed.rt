@@ -42,7 +42,7 @@ impl<'a> Model for FixedSink<'a> {
 }
 
 impl<'a> FixedSink<'a> {
-    /// A sink over this buffer, of which all is free.
+    /// A sink over `buffer` that has taken no bytes. All of the buffer is free.
     pub fn new(buffer: &'a mut [u8]) -> Self
         ensures { result ≡ record { bytes = []; behind = buffer.old; faults = 0 } }
     {

@@ -1,12 +1,12 @@
 //! What programs write to and read from.
 //!
 //! A [`Sink`] takes bytes, and a [`Source`] gives them. Both count their faults, and tell what they took and have left
-//! where they know it. [`VecSink`] and [`MemSource`] stand in memory, a [`FixedSink`] over a buffer, [`RealSink`] and
-//! [`RealSource`] over std's writers and readers. A [`BufferedSink`] and a [`KnownSource`] stand over those of which is
-//! settled whether they tell their bytes, as [`Tells`] and [`TellsLeft`] say; a [`WatchedWriter`] and a
-//! [`WatchedReader`] make any of them one of those. [`write_all`] writes a piece whole, and [`read_input`] reads a
-//! source to its end. For tests, a [`FaultySink`] and a [`FaultySource`] fail where a [`FaultPlan`] says so, and a
-//! [`TrickleSink`] takes one byte a call.
+//! where they know it. [`VecSink`] and [`MemSource`] are in memory, and a [`FixedSink`] is over a buffer. [`RealSink`]
+//! and [`RealSource`] are over std's writers and readers. A [`BufferedSink`] and a [`KnownSource`] are over writers and
+//! readers that always or never tell their bytes, as [`Tells`] and [`TellsLeft`] say. A [`WatchedWriter`] and a
+//! [`WatchedReader`] make any writer and reader one of these. [`write_all`] writes a piece whole, and [`read_input`]
+//! reads a source to its end. For tests, a [`FaultySink`] and a [`FaultySource`] fail where a [`FaultPlan`] says so,
+//! and a [`TrickleSink`] takes one byte a call.
 #![tactic(auto)]
 
 mod buffered;

@@ -10,10 +10,10 @@ use std::io;
 use std::io::{ErrorKind, Write};
 use std::marker::Model;
 
-/// A writer over another one, and seen as that one: a call that is interrupted is made again, and fails where that
-/// happened 1,000 times in a row.
+/// A writer over another one that makes an interrupted call again, and is seen as that other one.
 ///
-/// It never answers that it was interrupted. std's `BufWriter` makes such a call again without end.
+/// A call fails where it was interrupted 1,000 times in a row. It never answers that it was interrupted. std's
+/// `BufWriter` makes an interrupted call again without end.
 #[derive(Drop)]
 pub struct Patient<W> {
     writer: W,

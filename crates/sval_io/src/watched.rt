@@ -33,7 +33,9 @@ impl Watch for Brand {
     ghost tells_left = { false };
 }
 
-/// A writer that is lent. It stays the one that it was, and tells what it holds always, or never.
+/// A writer that is lent, and tells what it holds always, or never.
+///
+/// [`into_writer`](WatchedWriter::into_writer) gives back the writer that was lent.
 #[derive(Drop)]
 pub struct WatchedWriter<'a, W: Write, N: Watch> {
     writer: &'a mut W,

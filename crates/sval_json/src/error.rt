@@ -14,9 +14,9 @@ pub enum ErrorKind {
     Generic,
     /// The sink failed.
     IO,
-    /// What stands in the place of a map's key can't be one.
+    /// A map's key can't be the name of a JSON member.
     InvalidKey,
-    /// Text that stands for a number is none.
+    /// A text tagged as a number is no number.
     InvalidNumber,
     /// The sink had no memory.
     NoMemory,
@@ -69,7 +69,7 @@ impl Error {
         Error { kind }
     }
 
-    /// The same error, but that the sink's failure is of no kind of its own.
+    /// This error, with [`ErrorKind::Generic`] in place of [`ErrorKind::IO`].
     pub(crate) fn without_io(self) -> Error
         ensures { result ≡ without_io self }
     {

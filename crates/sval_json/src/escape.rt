@@ -1,4 +1,4 @@
-//! How a text stands between quotes (RFC 8259, section 7).
+//! How a text is written between quotes (RFC 8259, section 7).
 
 ghost use Rattle.std.specs.Prelude.{◌≡◌, ℕ, ◌<◌, ◌≤◌, ◌++◌, true, codes, length, slice_index, take, map};
 ghost use Rattle.std.specs.Char.{digit_char};
@@ -10,7 +10,7 @@ ghost use Rattle.sval_json.specs.Escape.{escape, escaped, is_escaped, is_plain, 
 use std::simd::prelude::*;
 use sval_io::{Sink, SinkError, write_all, write_in_place};
 
-/// Whether a byte doesn't stand as it is between quotes.
+/// Whether a byte has to be escaped between quotes.
 fn needs_escape(byte: u8) -> bool
     ensures { result ≡ is_escaped byte }
 {
@@ -59,7 +59,8 @@ fn plain_ahead<const N: usize>(bytes: &[u8]) -> usize
     escapes.trailing_zeros() as usize
 }
 
-/// How many bytes come before the first that is escaped, looked at N at a time. The last of them may be looked at twice.
+/// How many bytes come before the first that is escaped, looked at N at a time. The last of them may be looked at
+/// twice.
 #[inline(always)]
 fn plain_by_lanes<const N: usize>(bytes: &[u8]) -> usize
     requires long { N ≤ length bytes.now }
@@ -81,8 +82,9 @@ fn plain_by_lanes<const N: usize>(bytes: &[u8]) -> usize
     last + plain_ahead::<N>(&bytes[last..])
 }
 
-/// The place of the first byte that is escaped where a text stands between quotes, or the length where there is none: of
-/// a quote, a backslash, or a byte below 0x20. It takes no memory.
+/// The index of the first byte of a text to escape between quotes, or the length where there is none.
+///
+/// A quotation mark, a reverse solidus and a byte below 0x20 are escaped (RFC 8259, section 7). It takes no memory.
 ///
 /// ```
 /// assert_eq!(rt; first_escape(b"ab\"c"), 2);
@@ -152,15 +154,16 @@ fn write_escape<K: Sink>(sink: &mut K, byte: u8) -> Result<(), SinkError>
     }
 }
 
-/// Whether a text stands between quotes as it is.
+/// Whether a text needs no escape between quotes.
 pub(crate) fn is_all_plain(bytes: &[u8]) -> bool
     ensures { result ≡ true → escaped bytes.now ≡ bytes.now }
 {
     first_escape(bytes) == bytes.len()
 }
 
-/// Writes a text as it stands between quotes: each run without an escape as one piece, and each escape as one. After an
-/// error a first part of what stands there was taken.
+/// Writes a text with its escapes, as it comes between quotes (RFC 8259, section 7).
+///
+/// Each run without an escape is one piece, and so is each escape.
 ///
 /// It is for whoever writes texts between quotes, as JSON does.
 ///
@@ -168,6 +171,12 @@ pub(crate) fn is_all_plain(bytes: &[u8]) -> bool
 /// write_escaped(&mut sink, b"a\"b")?;
 /// assert_eq!(rt; sink.as_slice(), b"a\\\"b".as_slice());
 /// ```
+///
+/// # Errors
+///
+/// [`SinkError::Failed`] comes only where the sink's count of faults rose, and never where the sink tells room for all
+/// of that text. [`SinkError::NoMemory`] comes only where its count of wants rose. After either a first part of the
+/// text was taken, and not all.
 pub fn write_escaped<K: Sink>(sink: &mut K, bytes: &[u8]) -> Result<(), SinkError>
     ensures { WritesAll result (K.told sink.old) (escaped bytes.now) (K.told sink.new) }
 {
@@ -178,7 +187,7 @@ pub fn write_escaped<K: Sink>(sink: &mut K, bytes: &[u8]) -> Result<(), SinkErro
     write_runs(sink, bytes, run)
 }
 
-/// Does the same where so many bytes come before the first that is escaped, or else the whole text does.
+/// Writes a text with its escapes. `first` is the index of the first byte to escape, or the length where there is none.
 #[inline(never)]
 fn write_runs<K: Sink>(sink: &mut K, bytes: &[u8], first: usize) -> Result<(), SinkError>
     requires within { first ≤ length bytes.now }

@@ -127,7 +127,7 @@ impl JsonString {
         JsonString { json }
     }
 
-    /// The same as a value that borrows its text.
+    /// This text as a [`JsonStr`] that borrows it.
     pub fn as_json_str(&self) -> JsonStr<'_>
         ensures { json_text result ≡ self.now }
     {

@@ -1,4 +1,4 @@
-//! A number whose text comes in pieces, written in its normal form as far as it has come.
+//! A number whose text comes in fragments, written in its normal form as far as it has come.
 
 ghost use Rattle.std.specs.Prelude.{◌≡◌, ◌++◌, codes, false, true, option_map, IfSome};
 ghost use Rattle.sval_io.specs.Sinks.{WritesAll};
@@ -33,7 +33,7 @@ pub(crate) enum Phase {
     Word,
 }
 
-/// What a number has come to: it goes on with the next piece of its text.
+/// The state of a number whose text comes in fragments: it goes on with the next one.
 #[derive(Clone, Copy)]
 pub(crate) struct NumberMachine {
     /// Its sign is `-`.
@@ -41,7 +41,7 @@ pub(crate) struct NumberMachine {
     phase: Phase,
 }
 
-/// What is written for a piece of a number: a few bytes in front, and then some bytes of the piece as they are.
+/// What is written for a fragment of a number: a few bytes in front, and then some bytes of the fragment unchanged.
 #[derive(Clone, Copy)]
 pub(crate) struct Reading<'a> {
     /// What the number has come to.
@@ -50,11 +50,11 @@ pub(crate) struct Reading<'a> {
     pub(crate) front: &'static [u8],
     /// The bytes of the piece.
     pub(crate) run: &'a [u8],
-    /// Every byte could stand where it came.
+    /// Every byte was allowed at its place.
     pub(crate) valid: bool,
 }
 
-/// The phase after a byte that is written as it is, or none where the byte can't stand there.
+/// The phase after a byte that is written unchanged, or `None` where the byte isn't allowed.
 fn next_phase(phase: Phase, byte: u8) -> Option<Phase>
     requires { is_running phase ≡ true }
     ensures step { IsStep phase byte result }
@@ -103,12 +103,12 @@ enum Lead {
     Begins(&'static [u8]),
     /// It begins a word.
     Word,
-    /// It can't stand there.
+    /// The byte isn't allowed there.
     Stops,
 }
 
 impl NumberMachine {
-    /// A number of which nothing has come.
+    /// A number before its first byte.
     pub(crate) fn new() -> Self
         ensures { seen_machine result ≡ record { negative = false; phase = Start } }
     {
@@ -198,7 +198,7 @@ impl NumberMachine {
         machine.writes(b"", true)
     }
 
-    /// Reads a piece of the number's text up to the first byte that can't stand where it comes.
+    /// Reads a fragment of the number's text, up to the first byte that isn't allowed at its place.
     #[tactic(auto, using(crate::proofs::Readings::word_goes_on))]
     pub(crate) fn take<'a>(self, bytes: &'a [u8]) -> Reading<'a>
         ensures { seen_reading result ≡ take_bytes (seen_machine self) bytes.now }
@@ -210,8 +210,8 @@ impl NumberMachine {
         }
     }
 
-    /// Reads a piece of the number's text, and writes what is written for it. Answers whether every byte could stand
-    /// where it came; after an error of the sink a first part was written.
+    /// Reads a fragment of the number's text, and writes what is due for it. Answers whether every byte was allowed at
+    /// its place. After an error of the sink a first part was written.
     pub(crate) fn read<K: Sink>(&mut self, sink: &mut K, bytes: &[u8]) -> Result<bool, SinkError>
         ensures machine { seen_machine self.new ≡ (take_bytes (seen_machine self.old) bytes.now).machine }
         ensures written { ReadsAll result

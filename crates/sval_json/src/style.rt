@@ -1,6 +1,6 @@
 //! How a variant of an enum comes with its name.
 
-/// Where the value of an enum's variant stands, if the variant has a name.
+/// Where the value of an enum's variant is written, if the variant has a name.
 ///
 /// A variant's name is its label, or else its index in decimal where that fits `i64`.
 #[derive(Clone, Copy, Debug, PartialEq, Eq)]

@@ -9,7 +9,7 @@ use sval_core::{Lent, Value};
 use sval_io::Sink;
 
 /// Streams a value to a sink as JSON, as [`stream_to_io_write`] does, but that a failure of the sink is of no kind of
-/// its own.
+/// its own. It trusts the value's calls as that does.
 ///
 /// ```
 /// let mut sink = VecSink::new(alloc);

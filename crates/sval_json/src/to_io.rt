@@ -15,6 +15,9 @@ use sval_io::Sink;
 /// tree, that is the text of the tree's JSON, however the calls cut its texts. Where raw texts and identifiers in it
 /// are what their tags promise, the text denotes the one value that this JSON means, and no other.
 ///
+/// It trusts that the calls are one whole value: of one that forgets an end it writes broken JSON, and answers `Ok`.
+/// `write_json` of `sval_whole` checks them first.
+///
 /// ```
 /// let mut sink = VecSink::new(alloc);
 /// stream_to_io_write(&mut sink, &value)?;
@@ -31,8 +34,8 @@ use sval_io::Sink;
 ///
 /// [`ErrorKind::IO`] comes only where the sink's count of faults rose, and never where the sink tells room for all that
 /// the steps write. [`ErrorKind::NoMemory`] comes only where its count of wants rose. After either the sink took a
-/// first part of that and not all, and neither comes where the steps write nothing. No count ever falls. This call takes
-/// no memory itself, and doesn't flush the sink.
+/// first part of that and not all, and neither comes where the steps write nothing. No count ever falls. This call
+/// takes no memory itself, and doesn't flush the sink.
 pub fn stream_to_io_write<'v, K: Sink, V: Value<'v, Lent<'v>>>(
     out: &mut K,
     v: &'v V,
@@ -45,7 +48,8 @@ pub fn stream_to_io_write<'v, K: Sink, V: Value<'v, Lent<'v>>>(
 /// Streams a value to a sink as JSON, with the variants of enums in this style.
 ///
 /// It answers as [`stream_to_io_write`] does, which is this call with [`Variants::Inside`]. On `Ok` it appended what
-/// the steps of `specs/Steps.antt` write for the value's calls in this style.
+/// the steps of `specs/Steps.antt` write for the value's calls in this style. `write_json_with` of `sval_whole` checks
+/// these calls first.
 ///
 /// ```
 /// let mut sink = VecSink::new(alloc);

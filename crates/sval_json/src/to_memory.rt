@@ -13,6 +13,8 @@ use sval_io::VecSink;
 
 /// The JSON of a value, as bytes: those that [`stream_to_io_write`] writes for it.
 ///
+/// It trusts that the value's calls are one whole value; `to_json_vec` of `sval_whole` checks that first.
+///
 /// ```
 /// let json = stream_to_vec(alloc, &value)?;
 /// assert_eq!(rt; json.as_slice(), b"[-7,\"a\"]".as_slice());
@@ -20,9 +22,9 @@ use sval_io::VecSink;
 ///
 /// # Errors
 ///
-/// [`InvalidKey`], [`InvalidNumber`] and [`Generic`] come exactly where they come there, unless memory is wanting.
-/// [`NoMemory`] may come in place of any answer, but for a value of which nothing is written. Nothing else is answered.
-/// Memory is taken for the bytes alone.
+/// [`InvalidKey`], [`InvalidNumber`] and [`Generic`] come exactly where [`stream_to_io_write`] answers them, unless
+/// memory is wanting. [`NoMemory`] may come in place of any answer, except for a value for which nothing is written.
+/// Nothing else is answered. Memory is taken for the bytes alone.
 ///
 /// [`InvalidKey`]: crate::ErrorKind::InvalidKey
 /// [`InvalidNumber`]: crate::ErrorKind::InvalidNumber
@@ -40,7 +42,8 @@ pub fn stream_to_vec<'v, V: Value<'v, Lent<'v>>>(alloc: Global, v: &'v V) -> Res
 
 /// The JSON of a value, as a text.
 ///
-/// It answers as [`stream_to_vec`] does, and takes no more memory. The bytes are UTF-8, so nothing looks through them again.
+/// It answers as [`stream_to_vec`] does, and takes no more memory. The bytes are UTF-8, so nothing looks through them
+/// again. It trusts that the value's calls are one whole value; `to_json_string` of `sval_whole` checks that first.
 ///
 /// ```
 /// let json = stream_to_string(alloc, &value)?;
@@ -63,7 +66,7 @@ pub fn stream_to_string<'v, V: Value<'v, Lent<'v>>>(
 
 /// The JSON of a value, as a text that is a value again, which the writer writes as it is.
 ///
-/// It answers as [`stream_to_string`] does, by the same errors.
+/// It answers as [`stream_to_string`] does, by the same errors, and trusts the value's calls as that does.
 ///
 /// ```
 /// let json = stream_to_json_str(alloc, &value)?;

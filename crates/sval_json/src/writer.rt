@@ -37,7 +37,7 @@ use sval_io::{Sink, SinkError, write_all, write_in_place};
 pub(crate) enum Handler {
     /// They are escaped.
     Escapes,
-    /// They stand as they are.
+    /// They are written unchanged.
     Copies,
     /// A number goes on with them.
     Reads(NumberMachine),
@@ -51,9 +51,9 @@ pub(crate) struct Writer<'k, K: Sink> {
     pub(crate) sink: &'k mut K,
     /// How a variant's name is written.
     pub(crate) variants: Variants,
-    /// A variant's name may be due, or a variant that stands in an object was just ended.
+    /// A variant's name may be due, or a variant with an object around it was just ended.
     pub(crate) named: bool,
-    /// Nothing stands yet in what was begun last.
+    /// Nothing is written yet in what was begun last.
     pub(crate) empty: bool,
     /// A text brings its quotes, which it does not in a key or in a number.
     pub(crate) quoted: bool,
@@ -77,7 +77,8 @@ impl<'k, K: Sink> Writer<'k, K> {
         }
     }
 
-    /// Writes the bytes of several calls, which are few. Where the sink failed, it has no room left, if it tells its room.
+    /// Writes the bytes of several calls, which are few. Where the sink failed, it has no room left, if it tells its
+    /// room.
     #[inline(always)]
     fn write_joined(&mut self, bytes: &[u8]) -> Result
         ensures does { Does (write bytes.now) result (writer_view K.told self.old) (writer_view K.told self.new) }
@@ -114,7 +115,7 @@ impl<'k, K: Sink> Writer<'k, K> {
         }
     }
 
-    /// Writes a text as it stands between quotes.
+    /// Writes a text with its escapes, and without quotes.
     fn write_escaped(&mut self, text: &[u8]) -> Result
         ensures { Does (write (escaped text.now)) result (writer_view K.told self.old) (writer_view K.told self.new) }
     {
@@ -127,8 +128,8 @@ impl<'k, K: Sink> Writer<'k, K> {
         }
     }
 
-    /// Writes a text that comes between quotes, with what stands around it: as one piece, if it is short and nothing is
-    /// escaped.
+    /// Writes a text that comes between quotes, with the marks before and after it. It is one piece, if it is short and
+    /// nothing is escaped.
     #[inline(always)]
     fn write_between(&mut self, before: &str, text: Quoted, after: &str) -> Result
         ensures { Does (write (before.now ++ quoted_text text.entry ++ after.now)) result
@@ -141,7 +142,8 @@ impl<'k, K: Sink> Writer<'k, K> {
         self.write_each(before.as_bytes(), text, after.as_bytes())
     }
 
-    /// Writes the same by a piece for what comes before, the pieces of the text, and a piece for what comes after.
+    /// Writes a text that comes between quotes: one piece for `before`, the runs and escapes of the text, and one for
+    /// `after`.
     #[inline(never)]
     fn write_each(&mut self, before: &[u8], text: Quoted, after: &[u8]) -> Result
         ensures { Does (write (before.now ++ quoted_text text.entry ++ after.now)) result
@@ -172,7 +174,7 @@ impl<'k, K: Sink> Writer<'k, K> {
         Err(Error::new())
     }
 
-    /// Refuses what can't stand in a key.
+    /// Refuses what can't be in a key.
     fn refuse_in_key(&mut self) -> Result
         ensures { Does refuse_in_key result (writer_view K.told self.old) (writer_view K.told self.new) }
     {
@@ -210,7 +212,7 @@ impl<'k, K: Sink> Writer<'k, K> {
         self.write_value(number.format(&mut buffer).as_bytes())
     }
 
-    /// Opens what other values may stand in.
+    /// Opens what can hold other values.
     #[inline(always)]
     fn open(&mut self, bracket: &[u8]) -> Result
         ensures { Does (opens bracket.now) result (writer_view K.told self.old) (writer_view K.told self.new) }

@@ -28,7 +28,8 @@ use sval_ref::ValueRef;
 pub enum ReadError {
     /// They are not UTF-8.
     NotUtf8,
-    /// They denote no value: no text that denotes one begins with more of them than the first `at`.
+    /// They denote no value. `at` is the offset of the first byte with which no valid JSON text could go on, or the
+    /// length where the text ends too early.
     BadJson { at: u64 },
     /// There was no memory for what is kept of them, or a number or string in them is 4 GiB or longer.
     NoMemory,
@@ -102,9 +103,9 @@ impl<'a> JsonDoc<'a> {
     ///
     /// # Errors
     ///
-    /// [`ReadError::NotUtf8`] exactly where the bytes are no UTF-8. [`ReadError::BadJson`] comes only where they are and
-    /// denote no value. [`ReadError::NoMemory`] may come in its place and in that of a document, but only where some
-    /// first bytes hold a whole number or string, a bracket or brace, or the first letter of a word.
+    /// [`ReadError::NotUtf8`] exactly where the bytes are no UTF-8. [`ReadError::BadJson`] comes only where they are
+    /// and denote no value. [`ReadError::NoMemory`] may come in its place and in that of a document, but only where
+    /// some first bytes hold a whole number or string, a bracket or brace, or the first letter of a word.
     pub fn read(alloc: Global, bytes: &'a [u8]) -> Result<Self, ReadError>
         ensures ok { IfOk result (λ doc. IsReadText bytes.now (document_calls doc)) }
         ensures value { IfOk result (λ doc. Denotes bytes.now (value_in doc)) }

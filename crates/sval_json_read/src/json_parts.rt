@@ -92,7 +92,7 @@ impl<'d> JsonItems<'d> {
     }
 }
 
-/// A pair of an object.
+/// A member of an object (RFC 8259, section 4).
 #[derive(Drop)]
 pub struct JsonMember<'d> {
     /// The text of its key.
@@ -100,7 +100,7 @@ pub struct JsonMember<'d> {
     pub value: JsonRef<'d>,
 }
 
-/// The pairs of an object that are left, seen as a list of them.
+/// The members of an object that are left, seen as a list of them.
 #[derive(Drop)]
 pub struct JsonMembers<'d> {
     text: &'d str,

@@ -87,7 +87,7 @@ impl<'d> JsonRef<'d> {
         }
     }
 
-    /// The truth that it is.
+    /// The truth value, if this is one.
     pub fn as_bool(&self) -> Option<bool>
         ensures { result ≡ json_truth_of self.now }
     {
@@ -97,7 +97,7 @@ impl<'d> JsonRef<'d> {
         }
     }
 
-    /// The text of the number that it is, as it stands in the document.
+    /// The text of the number, as it is in the document, if this is a number (RFC 8259, section 6).
     pub fn as_number(&self) -> Option<&'d str>
         ensures number { option_map (λ text. text.now) result ≡ json_number_of self.now }
         ensures proper { IfSome result (λ text. is_json_number text.now ≡ true) }
@@ -108,7 +108,7 @@ impl<'d> JsonRef<'d> {
         }
     }
 
-    /// The number that it is, where it has no fraction and no exponent and fits.
+    /// The number, if this is one without a fraction and without an exponent, and it fits an `i64`.
     pub fn as_i64(&self) -> Option<i64>
         ensures { result ≡ i64_of self.now }
     {
@@ -121,7 +121,7 @@ impl<'d> JsonRef<'d> {
         }
     }
 
-    /// The number that it is, where it has no minus, no fraction and no exponent and fits.
+    /// The number, if this is one without a minus, a fraction and an exponent, and it fits a `u64`.
     pub fn as_u64(&self) -> Option<u64>
         ensures { result ≡ u64_of self.now }
     {
@@ -134,7 +134,7 @@ impl<'d> JsonRef<'d> {
         }
     }
 
-    /// The number that it is, where it has no fraction and no exponent and fits.
+    /// The number, where it has no fraction and no exponent and fits.
     ///
     /// ```
     /// let doc = JsonDoc::read_str(alloc, "[18446744073709551616, 1.0]")?;
@@ -154,7 +154,7 @@ impl<'d> JsonRef<'d> {
         }
     }
 
-    /// The number that it is, where it has no minus, no fraction and no exponent and fits.
+    /// The number, where it has no minus, no fraction and no exponent and fits.
     pub fn as_u128(&self) -> Option<u128>
         ensures { result ≡ u128_of self.now }
     {
@@ -167,7 +167,7 @@ impl<'d> JsonRef<'d> {
         }
     }
 
-    /// The string that it is.
+    /// The string, if this is one (RFC 8259, section 7).
     pub fn as_text(&self) -> Option<JsonText<'d>>
         ensures { result ≡ json_text_of self.now }
     {
@@ -179,7 +179,7 @@ impl<'d> JsonRef<'d> {
         }
     }
 
-    /// The items of the array that it is.
+    /// The elements, if this is an array (RFC 8259, section 5).
     pub fn items(&self) -> Option<JsonItems<'d>>
         ensures { result ≡ items_of self.now }
     {
@@ -189,7 +189,7 @@ impl<'d> JsonRef<'d> {
         }
     }
 
-    /// The item at this index of the array that it is, from 0 on.
+    /// The item of the array at this index, from 0 on.
     ///
     /// ```
     /// let doc = JsonDoc::read_str(alloc, "[[1, 2], 3]")?;
@@ -205,7 +205,7 @@ impl<'d> JsonRef<'d> {
         }
     }
 
-    /// The pairs of the object that it is.
+    /// The members, if this is an object (RFC 8259, section 4).
     pub fn members(&self) -> Option<JsonMembers<'d>>
         ensures { result ≡ members_of self.now }
     {
@@ -215,7 +215,7 @@ impl<'d> JsonRef<'d> {
         }
     }
 
-    /// How many items or pairs the array or object has that it is.
+    /// How many items the array has, or members the object.
     ///
     /// ```
     /// let doc = JsonDoc::read_str(alloc, "[[1, 2], 3]")?;
@@ -234,7 +234,7 @@ impl<'d> JsonRef<'d> {
         }
     }
 
-    /// The value of the last pair with this name of the object that it is.
+    /// The value of the last member with this name, if this is an object and has one.
     pub fn get(&self, name: &str) -> Option<JsonRef<'d>>
         ensures { result ≡ member_of name.now self.now }
     {

@@ -31,7 +31,7 @@ impl<'d> Model for JsonText<'d> {
 }
 
 impl<'d> JsonText<'d> {
-    /// The string of which this stands between the quotes.
+    /// The string with this text between its quotes.
     pub(crate) fn new(raw: &'d str) -> Self
         requires { IsRaw raw.now }
         ensures { result ≡ text_in raw.now }

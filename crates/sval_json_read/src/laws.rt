@@ -18,7 +18,8 @@ pub fn document_laws()
     ensures one_document { OneDocument }
 {}
 
-/// What holds of the machine at all bytes. Whatever the words ask for, at most one thing is due of an input (`one_due`).
+/// What holds of the machine at all bytes. Whatever the words ask for, at most one thing is due of an input
+/// (`one_due`).
 pub fn reading_laws()
     ensures one_due { OneDue json_read_terms }
     ensures reads_the_documents { ReadsTheDocuments }

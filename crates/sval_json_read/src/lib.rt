@@ -5,7 +5,8 @@
 //!
 //! The text is read by a machine, byte by byte, but that what no escape cuts of a string is passed over at once, in one
 //! loop and with a stack of its own (`specs/Reader.antt`). What is kept of it is one flat list of nodes, each of 16
-//! bytes; numbers and strings are places in the text. Streaming goes over that list, takes no memory and doesn't recurse.
+//! bytes; numbers and strings are places in the text. Streaming goes over that list, takes no memory and doesn't
+//! recurse.
 //!
 //! [`run_read`] is a whole program over any words and devices: it writes a text again as JSON, or as a script of calls.
 #![tactic(auto)]

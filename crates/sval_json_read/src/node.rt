@@ -2,14 +2,14 @@
 
 use std::mem::size_of;
 
-/// Where a value stands.
+/// The place of a value.
 #[derive(Clone, Copy)]
 pub(crate) enum Place {
     /// By itself.
     Alone,
     /// In an array.
     Item,
-    /// Before the colon of an object's pair.
+    /// Before the colon of a member.
     Key,
     /// Behind it.
     Value,

@@ -14,7 +14,7 @@ use crate::string_calls::{stream_key, stream_string};
 use sval_core::{Lending, Lent, Result, Stream};
 
 impl Place {
-    /// Begins the part that a value in this place stands in.
+    /// Begins the part that holds a value in this place.
     fn begin<L: Lending, S: Stream<L>>(self, stream: &mut S) -> Result
         ensures { Emits S.law result
             (S.standing stream.old) (makes (place_begins (node_place self))) (S.standing stream.new) }
@@ -27,7 +27,7 @@ impl Place {
         }
     }
 
-    /// Ends the part that a value in this place stands in.
+    /// Ends the part that holds a value in this place.
     fn end<L: Lending, S: Stream<L>>(self, stream: &mut S) -> Result
         ensures { Emits S.law result
             (S.standing stream.old) (makes (place_ends (node_place self))) (S.standing stream.new) }
@@ -42,7 +42,7 @@ impl Place {
 }
 
 impl Node {
-    /// Begins the part that it stands in, if it is no end.
+    /// Begins the part that holds this node, if the node is no end.
     fn begin<L: Lending, S: Stream<L>>(self, stream: &mut S) -> Result
         ensures { Emits S.law result (S.standing stream.old)
             (makes (begins_before (seen_node self).kept (seen_node self).place))
@@ -59,7 +59,7 @@ impl Node {
         }
     }
 
-    /// Makes its own calls, in a text that it stands in.
+    /// Makes the node's own calls, from the text of the document.
     fn make<'v, S: Stream<Lent<'v>>>(self, text: &'v str, stream: &mut S) -> Result
         requires { IsKeptOf text.now self }
         ensures { Emits S.law result (S.standing stream.old)
@@ -81,7 +81,7 @@ impl Node {
         }
     }
 
-    /// Ends the part that it stands in, if it is no begin.
+    /// Ends the part that holds this node, if the node is no begin.
     fn end<L: Lending, S: Stream<L>>(self, stream: &mut S) -> Result
         ensures { Emits S.law result (S.standing stream.old)
             (makes (ends_behind (seen_node self).kept (seen_node self).place))
@@ -98,7 +98,7 @@ impl Node {
         }
     }
 
-    /// Makes its calls in three parts, in a text that it stands in.
+    /// Makes the node's calls in three steps, from the text of the document.
     fn stream_parts<'v, S: Stream<Lent<'v>>>(self, text: &'v str, stream: &mut S) -> Result
         requires { IsKeptOf text.now self }
         ensures { Emits S.law result (S.standing stream.old)
@@ -109,7 +109,7 @@ impl Node {
         self.end(stream)
     }
 
-    /// Makes its calls, in a text that it stands in.
+    /// Makes the node's calls, from the text of the document.
     fn stream<'v, S: Stream<Lent<'v>>>(self, text: &'v str, stream: &mut S) -> Result
         requires { IsKeptOf text.now self }
         ensures { Emits S.law result (S.standing stream.old)
@@ -124,7 +124,7 @@ impl Node {
     }
 }
 
-/// Makes the calls of nodes, in a text that they stand in.
+/// Makes the calls of nodes, from the text of the document.
 pub(crate) fn stream_nodes<'v, S: Stream<Lent<'v>>>(
     text: &'v str,
     nodes: &[Node],

@@ -97,7 +97,7 @@ pub(crate) fn may_end(phase: Phase) -> bool
     }
 }
 
-/// Whether the byte may stand in a number.
+/// Whether a number can hold the byte.
 pub(crate) fn is_of_numbers(byte: u8) -> bool
     ensures { result ≡ is_number_byte byte }
 {

@@ -9,7 +9,7 @@ ghost use Rattle.sval_json_read.specs.SeenPieces.{seen_piece};
 use crate::escape::{Unescaped, unescape};
 use memchr::memchr;
 
-/// A piece of a string.
+/// A run or an escape of a string.
 #[derive(Clone, Copy)]
 pub(crate) enum Piece<'a> {
     /// A longest run of unescaped characters.
@@ -18,7 +18,7 @@ pub(crate) enum Piece<'a> {
     Escape(char),
 }
 
-/// The first piece of what stands between a string's quotes, and what follows it.
+/// The first run or escape of the text between a string's quotes, and what follows it.
 pub(crate) fn first_piece(raw: &str) -> (Piece<'_>, &str)
     requires is_raw { IsRaw raw.now }
     requires some { 0 < length raw.now }

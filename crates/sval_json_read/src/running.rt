@@ -82,7 +82,7 @@ fn serve_input<I: Source, K: Sink>(
     serve_bytes(alloc, form, bytes.as_slice(), out)
 }
 
-/// Serves the form that the words are, if they are one.
+/// Serves the words, if they are a form.
 pub(crate) fn serve<I: Source, K: Sink>(
     alloc: Global,
     words: &[String],
@@ -109,12 +109,12 @@ pub(crate) fn serve<I: Source, K: Sink>(
 /// input and the output are such as [`work`](sval_program::job::work) may give, which has no `diag`.
 ///
 /// What is due is `Due` of `json_read_terms`, and of an input it is one thing at most
-/// ([`reading_laws`](crate::laws::reading_laws)). `Ends` says when each status comes and what is left of the devices, and
-/// `Reports` which line is told.
+/// ([`reading_laws`](crate::laws::reading_laws)). `Ends` says when each status comes and what is left of the devices,
+/// and `Reports` which line is told.
 ///
 /// | status | comes |
 /// |---|---|
-/// | 0 | the input denotes a value; the sink took exactly what is due, and holds back nothing of it, as far as it says so |
+/// | 0 | the input denotes a value; the sink took exactly what is due, and holds back nothing, as far as it says so |
 /// | 2 | the words are no form; nothing is read |
 /// | 8 | only where the output failed |
 /// | 9 | only where the input failed, and wherever its count of faults moved |
@@ -123,9 +123,9 @@ pub(crate) fn serve<I: Source, K: Sink>(
 /// | 12 | the input is not UTF-8 |
 /// | 13 | it is UTF-8 and denotes no value; the line names the byte at which it fails |
 ///
-/// Where the words are a form and neither device fails, the status is the one that the input asks for, or 10; of an input
-/// that is too long, 11 or 10. After 10 the sink is as it was, unless its own count of wants rose. After 8, and after 10
-/// where that count rose, a first part of what is due may have been taken.
+/// Where the words are a form and neither device fails, the status is the one that the input asks for, or 10; of an
+/// input that is too long, 11 or 10. After 10 the sink is as it was, unless its own count of wants rose. After 8, and
+/// after 10 where that count rose, a first part of what is due may have been taken.
 ///
 /// ```
 /// let mut out = VecSink::new(alloc);

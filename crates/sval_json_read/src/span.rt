@@ -6,7 +6,7 @@ ghost use Rattle.sval_json_read.specs.SeenNodes.{seen_node};
 
 use crate::node::Node;
 
-/// How many arrays and objects are open behind a node, where so many are before it.
+/// The number of arrays and objects that are open behind a node. `depth` is the number before it.
 fn depth_behind(node: Node, depth: usize) -> usize
     requires { depth + 1 < 2 ^ 64 }
     ensures { result ≡ depth_behind (seen_node node).kept depth }

@@ -26,7 +26,7 @@ fn stream_piece<'v, S: Stream<Lent<'v>>>(piece: Piece<'v>, stream: &mut S) -> Re
     }
 }
 
-/// Makes the calls of what stands between a string's quotes.
+/// Makes the calls of the text between a string's quotes.
 #[tactic(auto, using(crate::proofs::PieceStreams::of_pieces))]
 fn stream_pieces<'v, S: Stream<Lent<'v>>>(raw: &'v str, stream: &mut S) -> Result
     requires { IsRaw raw.now }
@@ -42,7 +42,7 @@ fn stream_pieces<'v, S: Stream<Lent<'v>>>(raw: &'v str, stream: &mut S) -> Resul
     Ok(())
 }
 
-/// Whether what stands between a string's quotes is one run, without an escape.
+/// Whether the text between a string's quotes is one run, without an escape.
 pub(crate) fn is_one_run(raw: &str) -> bool
     requires { IsRaw raw.now }
     ensures { OnTrue result (pieces raw.now ≡ run raw.now ∷ []) }
@@ -50,7 +50,7 @@ pub(crate) fn is_one_run(raw: &str) -> bool
     !raw.is_empty() && memchr(b'\\', raw.as_bytes()).is_none()
 }
 
-/// Makes the calls of a string, of which this stands between the quotes.
+/// Makes the calls of a string with this text between its quotes.
 pub(crate) fn stream_string<'v, S: Stream<Lent<'v>>>(raw: &'v str, stream: &mut S) -> Result
     requires { IsRaw raw.now }
     ensures { Emits S.law result
@@ -64,7 +64,7 @@ pub(crate) fn stream_string<'v, S: Stream<Lent<'v>>>(raw: &'v str, stream: &mut 
     stream.text_end()
 }
 
-/// Makes the calls of a key of an object, of which this stands between the quotes.
+/// Makes the calls of the name of a member, with this text between its quotes.
 pub(crate) fn stream_key<'v, S: Stream<Lent<'v>>>(raw: &'v str, stream: &mut S) -> Result
     requires { IsRaw raw.now }
     ensures { Emits S.law result

@@ -1,5 +1,5 @@
-//! The program `sval_json_read`: reads a text of JSON, and writes it again without white space, or the canonical script of
-//! its calls.
+//! The program `sval_json_read`: reads a text of JSON, and writes it again without white space, or the canonical script
+//! of its calls.
 //!
 //! It ends with one of the statuses of [`sval_json_read::run_read`], or with 17 where its words can't be had.
 #![tactic(auto)]

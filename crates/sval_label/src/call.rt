@@ -75,7 +75,8 @@ impl<'sval> Lending for Lent<'sval> {
     }
 }
 
-/// A call as plain data, for any type `T` of borrowed texts and any type `B` of borrowed bytes. Most code says [`Call`].
+/// A call as plain data, for any type `T` of borrowed texts and any type `B` of borrowed bytes. Most code says
+/// [`Call`].
 ///
 /// A text or a binary is its begin, any number of fragments and its end. Anything else that has a begin is that, its
 /// parts, each between a begin and an end of its own, and its end. A size is the number of a text's or a binary's

@@ -39,7 +39,7 @@ pub enum Int {
 }
 
 impl Int {
-    /// The digits of a number in decimal, with `-` in front of one below 0. They stand in the buffer.
+    /// Writes the number to `buffer` in decimal, with `-` in front where it is below 0, and gives that text.
     ///
     /// ```
     /// let mut buffer = Buffer::new();
@@ -104,9 +104,9 @@ pub enum Slot<'c> {
     FieldPlace(Option<&'c Tag>, &'c Label<'c>, &'c Index),
 }
 
-/// A call by what it does: the calls that differ in a number's type, in the container or in the part are one.
+/// A call by its group: calls that differ only in a number's type, in the container or in the part have one group.
 ///
-/// A stream matches this, so that it does the same for all calls that do the same. [`AnyCall::grouped`] makes it.
+/// A stream matches this, so that one arm serves all calls of a group. [`AnyCall::grouped`] makes it.
 #[derive(Copy, Debug)]
 pub enum GroupedCall<'c, T, B> {
     /// No value.
@@ -191,7 +191,7 @@ impl<'c, T: Copy, B: Copy> Clone for GroupedCall<'c, T, B> {
 }
 
 impl<'c, T, B> AnyCall<'c, T, B> {
-    /// This call among those that do the same.
+    /// Gives this call by its group. [`GroupedCall::call`] is the inverse.
     #[inline(always)]
     pub fn grouped(self) -> GroupedCall<'c, T, B>
         ensures { (text : T → List ℕ) (bytes : B → List ℕ)
@@ -268,7 +268,7 @@ impl<'c, T, B> AnyCall<'c, T, B> {
 }
 
 impl<'c, T, B> GroupedCall<'c, T, B> {
-    /// The call that this is: [`AnyCall::grouped`] the other way.
+    /// Gives the call itself: the inverse of [`AnyCall::grouped`].
     #[inline(always)]
     pub fn call(self) -> AnyCall<'c, T, B>
         ensures { (text : T → List ℕ) (bytes : B → List ℕ)

@@ -10,7 +10,7 @@ use std::alloc::Global;
 use std::hash::{Hash, Hasher};
 use std::marker::Model;
 
-/// Where a label's text stands.
+/// Where a label's text is kept.
 #[derive(Drop, Debug)]
 enum LabelText<'computed> {
     Static(&'static str),
@@ -131,7 +131,9 @@ impl<'computed> Label<'computed> {
         })
     }
 
-    /// The same as [`Label::to_owned`].
+    /// This label with a text that it owns, or with its static one, as [`Label::to_owned`] gives it.
+    ///
+    /// [`NoMemory`] comes only where memory was wanting for the text, and never for a static label, which takes none.
     pub fn try_to_owned(&self, alloc: Global) -> Result<Label<'static>, NoMemory>
         ensures same { IfOk result (λ label. label ≡ self.now) }
         ensures static_needs_none { OnTrue self.now.is_static (IsOk result) }
@@ -139,7 +141,9 @@ impl<'computed> Label<'computed> {
         self.to_owned(alloc)
     }
 
-    /// The same as [`Label::to_owned`], as a label of the same lifetime.
+    /// A copy of this label, of the same lifetime, text, tag and staticness. A text that isn't static is copied.
+    ///
+    /// [`NoMemory`] comes only where memory was wanting for the text, and never for a static label, which takes none.
     pub fn try_clone(&self, alloc: Global) -> Result<Label<'computed>, NoMemory>
         ensures same { IfOk result (λ label. label ≡ self.now) }
         ensures static_needs_none { OnTrue self.now.is_static (IsOk result) }

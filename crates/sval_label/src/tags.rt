@@ -23,7 +23,7 @@ pub const CONSTANT_SIZE: Tag = Tag {
     text: "CONSTANT_SIZE",
 };
 
-/// A label that stands in the program's text as a name.
+/// A label that is a name in the program's text.
 pub const VALUE_IDENT: Tag = Tag {
     text: "VALUE_IDENT",
 };

@@ -1,6 +1,6 @@
 //! Calls in the place of other calls, and what readers find in a value.
 //!
-//! [`default_stream`] tells a stream what stands for a call that it doesn't take itself. What that is stands in
+//! [`default_stream`] tells a stream the calls that stand for a call which it doesn't take itself. They are defined in
 //! `specs/Lower.antt` and `specs/Lowered.antt`. [`Readers`] and [`default_value`] read a value by its calls, as
 //! `specs/Readers.antt` says. [`laws`] has what holds of all of it.
 #![tactic(auto)]

@@ -27,7 +27,7 @@ pub(crate) trait Reading<L: Lending, T> {
     /// What is read of a call.
     ghost read_of: { Call → Option Read };
 
-    /// Which calls are passed over, of those of which nothing is read.
+    /// Which of the calls that aren't read are passed over.
     ghost over: { Call → Bool };
 
     /// Whether no second item is read.

@@ -98,7 +98,7 @@ fn write_byte<K: Sink>(sink: &mut K, place: Place, depth: usize, byte: u8) -> Re
 
 /// Writes a JSON text with one line for each element and member, and two spaces for each level.
 ///
-/// White space outside strings is dropped, `": "` stands behind a key, and an empty container ends at once. No line feed
+/// White space outside strings is dropped, `": "` follows a key, and an empty container ends at once. No line feed
 /// is written at the end. Where the text denotes a value, what is written denotes the same one. Other bytes are laid out
 /// in the same way.
 ///

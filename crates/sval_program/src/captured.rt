@@ -26,8 +26,8 @@ use sval_script::{PrintError, print_canon};
 /// # Errors
 ///
 /// [`SinkError::Failed`] comes only where the sink's count of faults rose, and of a sink that tells its room only where
-/// the script has no place in it. [`SinkError::NoMemory`] leaves the sink as it was, unless its own count of wants rose.
-/// After either a first part of the script may have been taken, and never all of it.
+/// the script has no place in it. [`SinkError::NoMemory`] leaves the sink as it was, unless its own count of wants
+/// rose. After either a first part of the script may have been taken, and never all of it.
 pub fn print_captured<'v, K: Sink, V: Value<'v, Lent<'v>>>(
     alloc: Global,
     parts: usize,

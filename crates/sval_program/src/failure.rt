@@ -27,9 +27,9 @@ pub enum Fault {
         /// Whether many values may come.
         many: bool,
     },
-    /// What stands in the place of a map's key can't be one.
+    /// A map's key can't be written as a key.
     InvalidKey,
-    /// Text that stands for a number is none.
+    /// A text tagged as a number is no number.
     InvalidNumber,
     /// The input is not UTF-8.
     NotUtf8,
@@ -40,7 +40,7 @@ pub enum Fault {
     },
     /// The value has text that says it is JSON, which CBOR can't take.
     Raw,
-    /// Text that stands for a number is one that CBOR can't take as a whole number.
+    /// A text tagged as a number is one that CBOR can't take as a whole number.
     NotInteger,
     /// The input is not one item of CBOR, in the profile that is read.
     BadCbor,

@@ -47,8 +47,8 @@ pub trait Job {
 /// Does all of a program's work but telling why it failed, and answers how it ended. The third device has no part in
 /// it.
 ///
-/// [`run`] tells that device how it ended, and answers the status. So the status, and what is left of the source and the
-/// sink, are such as `work` may give.
+/// [`run`] tells that device how it ended, and answers the status. So the status, and what is left of the source and
+/// the sink, are such as `work` may give.
 ///
 /// # Errors
 ///
@@ -98,9 +98,9 @@ fn conclude<J: Job, D: Sink>(ended: Result<(), Failure>, diag: &mut D) -> u8
 
 /// Runs a program on its words, its devices and an allocator, and answers its status.
 ///
-/// Where the words ask for the input, it is read to its end, at most 16,777,216 bytes and one more to see that there are
-/// too many. Where the status isn't 0, one line is written to `diag` that says why. Whatever `diag` answers, the status
-/// and what is left of the input and the output are such as [`work`] may give, which has no `diag`.
+/// Where the words ask for the input, it is read to its end, at most 16,777,216 bytes and one more to see that there
+/// are too many. Where the status isn't 0, one line is written to `diag` that says why. Whatever `diag` answers, the
+/// status and what is left of the input and the output are such as [`work`] may give, which has no `diag`.
 pub fn run<J: Job, I: Source, K: Sink, D: Sink>(
     alloc: Global,
     words: &[String],

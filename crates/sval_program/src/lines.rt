@@ -33,14 +33,14 @@ pub fn unfinished(many: bool) -> Line
     }
 }
 
-/// What stands in the place of a map's key can't be one.
+/// A map's key can't be written as a key.
 pub fn invalid_key() -> Line
     ensures { result ≡ reports.invalid_key }
 {
     Line::text("attempt to serialize a non-string key\n")
 }
 
-/// Text that stands for a number is none.
+/// A text tagged as a number is no number.
 pub fn invalid_number() -> Line
     ensures { result ≡ reports.invalid_number }
 {
@@ -96,7 +96,7 @@ pub fn raw() -> Line
     Line::text("attempt to write raw JSON as CBOR\n")
 }
 
-/// Text that stands for a number is none that CBOR can take.
+/// A text tagged as a number is none that CBOR can take.
 pub fn not_integer() -> Line
     ensures { result ≡ reports.not_integer }
 {

@@ -17,8 +17,8 @@ use std::process::ExitCode;
 use std::rt::Env;
 use std::{env, io};
 
-/// The status where the system gave an error in place of the words: [`NO_MEMORY`] where memory was wanting for them, and
-/// else [`NO_WORDS`].
+/// The status where the system gave an error in place of the words: [`NO_MEMORY`] where memory was wanting for them,
+/// and else [`NO_WORDS`].
 pub fn status_without_words(error: &io::Error) -> u8
     ensures no_memory { error_kind error.now ≡ ErrorKind.OutOfMemory → result ≡ NO_MEMORY }
     ensures no_words { error_kind error.now ≢ ErrorKind.OutOfMemory → result ≡ NO_WORDS }
@@ -43,8 +43,8 @@ fn words<E: Env + AllocGlobal>(env: &E) -> io::Result<Vec<String>> {
     Ok(after_name(env.alloc(), env::args(env)?)?)
 }
 
-/// Runs a program on the words of a process over three streams, as [`run_streams`](crate::run_streams) does, and answers
-/// its status. Where the words can't be had, as where one isn't UTF-8, nothing is said and the status is 17.
+/// Runs a program on the words of a process over three streams, as [`run_streams`](crate::run_streams) does, and
+/// answers its status. Where the words can't be had, as where one isn't UTF-8, nothing is said and the status is 17.
 ///
 /// ```
 /// fn main(rt: HostRuntime) -> ExitCode {

@@ -24,8 +24,8 @@ const BUFFER: usize = 1 << 16;
 /// Runs a program on its words over a reader and two writers, and answers its status.
 ///
 /// At status 0 exactly the bytes that are due of the input were appended to the output. That is known where the reader
-/// tells what it has left, and the output what it holds, as a slice and a `Vec` do. The clause `ends` says of each status
-/// what [`run`] says of it over the output's buffer, and what of that buffer the output holds at the end.
+/// tells what it has left, and the output what it holds, as a slice and a `Vec` do. The clause `ends` says of each
+/// status what [`run`] says of it over the output's buffer, and what of that buffer the output holds at the end.
 ///
 /// The output is held back in a buffer of 65,536 bytes until it is full. What is left of it at the end is passed on
 /// there, where a failure isn't told. Memory for that buffer is asked for only where the words are a form. Where it is
@@ -66,8 +66,8 @@ pub fn run_streams<J: Job, R: Read + Drop, W: Write + Drop, D: Write + Drop>(
     }
 }
 
-/// Runs a program over the output's buffer, and gives the output back. Where there is no memory for the buffer std drops
-/// the output, and nothing is read.
+/// Runs a program over the output's buffer, and gives the output back. Where there is no memory for the buffer std
+/// drops the output, and nothing is read.
 fn run_watched<'a, J: Job, N: Watch, R: Read + Drop, W: Write + Drop, D: Sink>(
     alloc: Global,
     words: &[String],

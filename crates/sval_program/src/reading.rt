@@ -27,8 +27,8 @@ fn read_part<I: Source>(
     Ok(count)
 }
 
-/// Reads a script from a source to its end, and no further than one byte past 16,777,216. What is kept of it is what the
-/// reader keeps.
+/// Reads a script from a source to its end, and no further than one byte past 16,777,216. What is kept of it is what
+/// the reader keeps.
 ///
 /// ```
 /// let mut input = MemSource::new(b"bool true\n");
@@ -39,10 +39,10 @@ fn read_part<I: Source>(
 /// # Errors
 ///
 /// [`InputError::ReadFault`] comes only where the source failed, and wherever its count of faults moved.
-/// [`InputError::TooLong`] comes only where there were more bytes, of which one more was taken.
-/// [`InputError::NoMemory`] comes where there was no memory to read into, and leaves the source as it was, since nothing
-/// is read before; where there was none for the script, the reader says so at its end. After a fault at most 16,777,216
-/// bytes were taken.
+/// [`InputError::TooLong`] comes only where there were more bytes. One more byte was taken then.
+/// [`InputError::NoMemory`] comes where there was no memory to read into, and leaves the source as it was, since
+/// nothing is read before; where there was none for the script, the reader says so at its end. After a fault at most
+/// 16,777,216 bytes were taken.
 pub fn read_script<I: Source>(alloc: Global, input: &mut I) -> Result<ScriptReader, InputError>
     ensures ok { IfOk result (λ reader. HasRead (I.told input.old) reader (I.told input.new)) }
     ensures err { IfErr result (λ why. StopsReading why (I.told input.old) (I.told input.new)) }

@@ -20,10 +20,10 @@ pub const BAD_CALL: u8 = 4;
 /// The calls are not one whole value, or not whole values where many may come.
 pub const UNFINISHED: u8 = 5;
 
-/// What stands in the place of a map's key can't be one.
+/// A map's key can't be written as a key.
 pub const INVALID_KEY: u8 = 6;
 
-/// Text that stands for a number is none.
+/// A text tagged as a number is no number.
 pub const INVALID_NUMBER: u8 = 7;
 
 /// The output failed.
@@ -50,7 +50,7 @@ pub const BAD_JSON: u8 = 13;
 /// The value has text that says it is JSON, which CBOR can't take.
 pub const RAW: u8 = 14;
 
-/// Text that stands for a number is one that CBOR can't take as a whole number.
+/// A text tagged as a number is one that CBOR can't take as a whole number.
 pub const NOT_INTEGER: u8 = 15;
 
 /// The input is not one item of CBOR, in the profile that is read.

@@ -8,7 +8,7 @@ ghost use Rattle.sval_core.specs.Law.{Emission, Emits};
 
 use sval_core::{Lending, Result, Stream};
 
-/// What makes calls, of which those with a borrowed text lend it for longer than the value is borrowed.
+/// A value that can lend its borrowed texts for longer than it is borrowed itself.
 ///
 /// It makes the same calls, in the same order, whichever stream takes them. A value passes on the first refusal. It
 /// refuses by itself only after all its calls, and only if it always does.
@@ -25,8 +25,8 @@ use sval_core::{Lending, Result, Stream};
 /// }
 /// ```
 ///
-/// That is proved as it stands; the crate `readings` has it. `proofs/ValueProofs.antt` of `sval_core` says what a loop
-/// wants.
+/// This code is proved as written. The crate `readings` has it. `proofs/ValueProofs.antt` of `sval_core` says what a
+/// loop wants.
 pub trait ValueRef<L: Lending> {
     /// The calls that it makes, and whether it refuses after them.
     ghost ref_emission: { Self → Emission };

@@ -1,7 +1,6 @@
-//! Serves scripts of calls: reads one, checks it, and writes the JSON of the value that it spells, or the value's canonical
-//! script.
+//! Serves scripts of calls: reads one, checks it, and writes the value that it spells as JSON or as a canonical script.
 //!
-//! [`relay`] serves a script that stands in memory, and [`relay_lines`] one that spells values one after another.
+//! [`relay`] serves a script in memory, and [`relay_lines`] one that spells values one after another.
 //! [`run`] is the whole program, over any words and devices, and answers one of the numbers of [`status`].
 //! [`relay_streams`] is the same over std's readers and writers.
 //! [`relay_made`] makes a script, serves it in memory, and tells how long it and its JSON are.

@@ -15,7 +15,7 @@ use sval_check::Ends;
 use sval_io::{Sink, write_all};
 use sval_script::ScriptSlice;
 
-/// What stands behind each value in the way: a line feed behind JSON, and nothing behind a canonical script.
+/// What is written behind each value in the way: a line feed behind JSON, and nothing behind a canonical script.
 fn ending(way: Way) -> &'static [u8]
     ensures { result.now ≡ ending (asked_in way) true }
 {

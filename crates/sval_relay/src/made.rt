@@ -94,7 +94,7 @@ struct Sizes {
     bytes: usize,
 }
 
-/// The sizes of the script of so many records.
+/// The sizes of the script of `count` records.
 fn measure(alloc: Global, count: u32) -> Result<Sizes, MadeError>
     ensures line { IfOk result (λ sizes. IsMadeLine count (sizes_line sizes.calls sizes.bytes)) }
     ensures no_memory { IfErr result (λ why. why ≡ MadeError.NoMemory) }
@@ -107,7 +107,7 @@ fn measure(alloc: Global, count: u32) -> Result<Sizes, MadeError>
     })
 }
 
-/// The script of so many records.
+/// The script of `count` records.
 fn print_records(alloc: Global, count: u32) -> Result<Vec<u8>, MadeError>
     ensures script { IfOk result (λ script. script.items ≡ made_script count) }
     ensures no_memory { IfErr result (λ why. why ≡ MadeError.NoMemory) }

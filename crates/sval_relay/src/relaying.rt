@@ -1,4 +1,4 @@
-//! Scripts that stand in memory, served.
+//! Scripts in memory, served.
 
 ghost use Rattle.std.specs.Prelude.{◌≡◌, ℕ, ◌<◌, ◌^◌, true, false, List, Some, length};
 ghost use Rattle.sval_script.specs.Lines.{lines, Good};
@@ -31,9 +31,9 @@ pub enum RelayError {
     },
     /// The calls are not one whole value.
     Unfinished,
-    /// What stands in the place of a map's key can't be one.
+    /// A map's key can't be written as a key.
     InvalidKey,
-    /// Text that stands for a number is none.
+    /// A text tagged as a number is no number.
     InvalidNumber,
     /// The sink failed.
     Write,
@@ -90,14 +90,14 @@ impl From<SinkError> for RelayError {
     }
 }
 
-/// Serves one script that stands in memory: reads its lines, checks their calls, and writes what the way makes of the one
-/// value that they spell.
+/// Serves one script in memory: reads its lines, checks their calls, and writes what `way` makes of the one value that
+/// they spell.
 ///
 /// On `Ok` the sink took exactly that JSON's text, or that canonical script. Where raw texts and identifiers are what
 /// their tags promise, JSON denotes the one value that is meant; a canonical script spells the value's canonical calls.
-/// Where the sink counted no fault, the answer is the one that the script's verdict asks for, unless memory was wanting.
-/// A script may have any length, but a field that spells a text or a binary of 4 GiB or more is answered as want of
-/// memory.
+/// Where the sink counted no fault, the answer is the one that the script's verdict asks for, unless memory was
+/// wanting. A script may have any length, but a field that spells a text or a binary of 4 GiB or more is answered as
+/// want of memory.
 ///
 /// ```
 /// let mut sink = VecSink::new(alloc);
@@ -142,9 +142,9 @@ pub fn relay<K: Sink>(alloc: Global, script: &[u8], way: Way, out: &mut K) -> Re
 /// # Errors
 ///
 /// Those of [`relay`], for the same causes in the list of values. [`RelayError::InvalidKey`] and
-/// [`RelayError::InvalidNumber`] are those of the first value that has no JSON; the sink took all before it, and exactly
-/// what is written of it up to there. After [`RelayError::NoMemory`] in a way that captures, a first part of what is due
-/// may have been taken, and no count of the sink moved, unless its count of wants rose.
+/// [`RelayError::InvalidNumber`] are those of the first value that has no JSON; the sink took all before it, and
+/// exactly what is written of it up to there. After [`RelayError::NoMemory`] in a way that captures, a first part of
+/// what is due may have been taken, and no count of the sink moved, unless its count of wants rose.
 pub fn relay_lines<K: Sink>(
     alloc: Global,
     script: &[u8],

@@ -101,7 +101,7 @@ fn serve_script<K: Sink>(
     }
 }
 
-/// Reads the input whole, and serves the script that it is.
+/// Reads the input whole, and serves it as a script.
 fn serve_input<I: Source, K: Sink>(
     alloc: Global,
     task: Task,
@@ -122,7 +122,7 @@ fn serve_made<K: Sink>(alloc: Global, count: u32, out: &mut K) -> Result<(), Fai
     Ok(relay_made(alloc, count, out)?)
 }
 
-/// Serves the form that the words are, if they are one.
+/// Serves the words, if they are a form.
 pub(crate) fn serve<I: Source, K: Sink>(
     alloc: Global,
     words: &[String],
@@ -160,8 +160,8 @@ pub(crate) fn serve<I: Source, K: Sink>(
 /// [`work`](sval_program::job::work) may give, which has no `diag`.
 ///
 /// What is due is `Due` of `relay_terms`, and of an input it is one thing
-/// ([`verdict_laws`](crate::laws::verdict_laws)). `Ends` says when each status comes and what is left of the devices, and
-/// `Reports` which line is told.
+/// ([`verdict_laws`](crate::laws::verdict_laws)). `Ends` says when each status comes and what is left of the devices,
+/// and `Reports` which line is told.
 ///
 /// | status | comes |
 /// |---|---|
@@ -170,21 +170,21 @@ pub(crate) fn serve<I: Source, K: Sink>(
 /// | 3 | a line is no call |
 /// | 4 | no value, or with `lines` no list of values, goes on with the call of a line |
 /// | 5 | the calls are not one whole value, or with `lines` not whole values |
-/// | 6 | what stands in the place of a map's key can't be one; the sink took what is written up to there |
-/// | 7 | text that stands for a number is none; the sink took what is written up to there |
+/// | 6 | a map's key can't be written as a key; the sink took what is written up to there |
+/// | 7 | a text tagged as a number is no number; the sink took what is written up to there |
 /// | 8 | only where the output failed |
 /// | 9 | only where the input failed, and wherever its count of faults moved |
 /// | 10 | memory was wanting |
 /// | 11 | the input is longer than is kept |
 ///
-/// With `lines` all calls are checked before anything is written. After 6 and 7 what stood before the refused value
-/// stays, and neither comes with `calls`. With `made N` only 0, 8 and 10 come.
+/// With `lines` all calls are checked before anything is written. After 6 and 7 what was written before the refused
+/// value stays, and neither comes with `calls`. With `made N` only 0, 8 and 10 come.
 ///
 /// Where the words ask for a script and neither device fails, the status is the one that the input's verdict asks for,
 /// or 10; of an input that is too long, 11 or 10. After 10 the sink is as it was, unless its own count of wants rose.
-/// Only with `lines` after `buffered`, `buffered beside` or `calls`, where each value is captured by itself, a first part
-/// of what is due may have been taken, even all of it. Then too no count of the sink moved, unless its count of wants
-/// rose.
+/// Only with `lines` after `buffered`, `buffered beside` or `calls`, where each value is captured by itself, a first
+/// part of what is due may have been taken, even all of it. Then too no count of the sink moved, unless its count of
+/// wants rose.
 ///
 /// ```
 /// let mut out = VecSink::new(alloc);

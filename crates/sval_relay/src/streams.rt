@@ -61,11 +61,11 @@ impl Job for Relay {
 }
 
 /// Runs the program on its words over a reader and two writers, and answers its status. The forms of the words and the
-/// statuses are those of [`run`]. With `lines` after the words of a form many values may come, and for `made N` the reader
-/// isn't read.
+/// statuses are those of [`run`]. With `lines` after the words of a form many values may come, and for `made N` the
+/// reader isn't read.
 ///
-/// Where the reader tells what it has left, and the output what it holds, as a slice and a `Vec` do: at status 0 exactly
-/// the bytes that are due of the script were appended to the output.
+/// Where the reader tells what it has left, and the output what it holds, as a slice and a `Vec` do: at status 0
+/// exactly the bytes that are due of the script were appended to the output.
 ///
 /// The output is held back in a buffer of 65,536 bytes until it is full. What is left of it is passed on before status
 /// 0 is answered, and with any other status at the end, where a failure isn't told. Memory for that buffer is asked

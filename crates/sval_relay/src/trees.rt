@@ -71,8 +71,8 @@ fn print_lines<K: Sink>(
     }
 }
 
-/// How many parts a captured value has at most: each takes a line or more. Room that isn't filled takes no memory of the
-/// system.
+/// How many parts a captured value has at most: each takes a line or more. Room that isn't filled takes no memory of
+/// the system.
 fn most_parts(lines: &ScriptSlice<'_>) -> usize {
     lines.line_count() as usize
 }

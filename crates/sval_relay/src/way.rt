@@ -8,7 +8,7 @@ ghost use Rattle.sval_relay.specs.Ways.{way_alone, way_beside, served_in, record
 pub enum Way {
     /// Its JSON, written at once.
     Direct,
-    /// The same JSON, written from the value as it was captured.
+    /// Its JSON, written from the value as it was captured.
     Buffered,
     /// Its canonical script, printed from the value as it was captured.
     Calls,
@@ -30,7 +30,7 @@ pub(crate) struct Task {
 /// What the program's words ask for.
 #[derive(Clone, Copy, Debug, PartialEq, Eq)]
 pub(crate) enum Form {
-    /// The script that the input is, served.
+    /// The input, served as a script.
     Serve(Task),
     /// The sizes of a script of this number of records, and of its JSON.
     Made(u32),

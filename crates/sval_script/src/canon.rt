@@ -69,7 +69,7 @@ impl<'v, 'k, K: Sink> Stream<Lent<'v>> for CanonPrinter<'k, K> {
 }
 
 /// Prints a value's calls as a canonical script shows them: no hint, `-` for the size of each container, and each
-/// fragment as `text_fragment` or `binary_fragment`, also a computed one. All else stands as the call has it.
+/// fragment as `text_fragment` or `binary_fragment`, also a computed one. All else is printed as the call has it.
 ///
 /// For a captured value whose calls spell a tree that is the tree's canonical script: [`laws`](crate::laws) say so of
 /// all calls whose texts come whole and whose ends have the names of their begins.

@@ -41,7 +41,7 @@ impl From<AllocError> for LineError {
     }
 }
 
-/// A label that was read, whose text stands in a store.
+/// A label that was read. Its text is in a store.
 #[derive(Clone, Copy)]
 pub(crate) struct LabelRead {
     /// Its tag.
@@ -143,7 +143,7 @@ pub(crate) fn size(field: &[u8]) -> Option<Option<usize>>
     }
 }
 
-/// What stands before a field's `:`, and the tag behind it.
+/// What comes before a field's `:`, and the tag behind it.
 #[inline(always)]
 fn split_tag(field: &[u8]) -> Option<(&[u8], TagField)>
     ensures { option_map part_and_tag result ≡ parts_of (script.cut_at 58 field.now) }

@@ -25,7 +25,7 @@ use crate::word::{NumberType, Word};
 use std::marker::Model;
 use sval_label::Int;
 
-/// What is left of a script, of whose first line the fields are read one after another.
+/// What is left of a script while the fields of its first line are read one after another.
 #[derive(Drop)]
 pub(crate) struct Fields<'a> {
     /// The bytes behind the fields that were read.
@@ -34,7 +34,7 @@ pub(crate) struct Fields<'a> {
     is_over: bool,
 }
 
-/// A name that was read, whose label's text stands in a store.
+/// A name that was read. The text of its label is in a store.
 #[derive(Clone, Copy)]
 pub(crate) struct NameRead {
     pub(crate) parts: NameFields,
@@ -129,7 +129,7 @@ impl<'a> Fields<'a> {
         }
     }
 
-    /// What stands behind the line, if all of its fields were read.
+    /// What follows the line, if all of its fields were read.
     #[inline(always)]
     pub(crate) fn end(&self) -> Option<&'a [u8]>
         ensures { HasNoFieldsLeft self.now result }

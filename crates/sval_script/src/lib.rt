@@ -1,9 +1,9 @@
 //! Scripts: calls as lines of text.
 //!
-//! A [`Script`] is read from bytes, whole or by a [`ScriptReader`] in pieces, and is a value: it makes the calls of its
-//! lines. So is a [`ScriptSlice`] of it. A [`Printer`] is a stream that writes calls as such lines, and [`print_canon`]
-//! prints a value as a canonical script shows it. What a line says stands in `specs/Lines.antt`, how calls are printed
-//! in `specs/Printed.antt`, and [`laws`] has what holds of both.
+//! A [`Script`] is read from bytes, whole or by a [`ScriptReader`] piece by piece. It is a value, and makes the calls
+//! of its lines. So is a [`ScriptSlice`] of it. A [`Printer`] is a stream that writes calls as lines of a script, and
+//! [`print_canon`] prints a value as a canonical script shows it. What a line says is in `specs/Lines.antt`, and how
+//! calls are printed is in `specs/Printed.antt`. [`laws`] has what holds of both.
 #![tactic(auto)]
 
 mod bytes;

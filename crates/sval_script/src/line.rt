@@ -12,7 +12,7 @@ use crate::store::Store;
 use crate::tag::TagField;
 use crate::word::{Alone, Lifetime, Named, NamedOpening, NumberType, Opening, Side, Word};
 
-/// A call, whose texts and wider numbers stand in a store beside it: 8 bytes.
+/// A call in 8 bytes. Its texts and wider numbers are in a store beside it.
 #[derive(Clone, Copy)]
 pub(crate) enum Line {
     /// A word alone.
@@ -218,8 +218,8 @@ impl Word {
     }
 }
 
-/// Reads the line that a script begins with, and answers also what stands behind it. What finds no place in the line
-/// goes behind what the store has.
+/// Reads the first line of a script, and answers also what follows it. What doesn't fit the line goes behind what the
+/// store has.
 #[inline(always)]
 pub(crate) fn read_line<'a>(
     store: &mut Store,

@@ -13,7 +13,7 @@ use crate::store::text;
 use crate::word::NumberType;
 use sval_label::Int;
 
-/// Whether a field is a decimal: one digit, or more of which the first isn't `0`.
+/// Whether a field is a decimal: one digit, or more that don't begin with `0`.
 fn is_decimal(field: &[u8]) -> bool
     ensures { result ≡ label.is_decimal field.now }
 {

@@ -1,4 +1,4 @@
-//! Scripts that come in pieces.
+//! Scripts that come piece by piece.
 
 ghost use Rattle.std.specs.Prelude.{◌≡◌, [], ℕ, List, ◌++◌, ◌<◌, ◌^◌, length, IsSome, IfSome, IsOk, OnOk, IfOk, IfErr};
 ghost use Rattle.sval_script.specs.Lines.{lines};
@@ -61,7 +61,7 @@ impl ReadLines {
         }
     }
 
-    /// Ends the line that is begun, if one is, with the first of whole lines, and answers what stands behind it.
+    /// Ends the line that is begun, if there is one, with the first of whole lines, and answers what follows it.
     fn end_line<'a>(&mut self, whole: &'a [u8]) -> Result<&'a [u8], ScriptError>
         requires read { AreReadLines self.old }
         requires whole { EndsLine whole.now }
@@ -119,7 +119,7 @@ impl ReadLines {
     }
 }
 
-/// Reads a script that comes in pieces, as [`Script::read`] reads one whole.
+/// Reads a script that comes piece by piece, as [`Script::read`] reads one whole.
 ///
 /// It is seen as what it will answer: `answer_with` of `specs/Readings.antt` says what that is if some bytes follow and
 /// no more. It keeps the calls of the lines and no more of the pieces than the line that is begun.
@@ -168,8 +168,8 @@ impl ScriptReader {
 
     /// Takes the next piece, which may end within a line. What is wrong with the script, [`finish`](Self::finish) says.
     ///
-    /// The reader stops at the first bad line, with the piece that ends it, or where memory is wanting. It then stays as it
-    /// is, whatever pieces come, so no later piece changes what [`finish`](Self::finish) answers.
+    /// The reader stops at the first bad line, with the piece that ends it, or where memory is wanting. It then stays
+    /// as it is, whatever pieces come, so no later piece changes what [`finish`](Self::finish) answers.
     pub fn push(&mut self, piece: &[u8])
         ensures takes { TakesPiece self.old piece.now self.new }
         ensures nothing { piece.now ≡ [] → self.new ≡ self.old }
@@ -189,8 +189,8 @@ impl ScriptReader {
     /// # Errors
     ///
     /// [`ScriptError::BadLine`] with the number of the first line that spells no call, or that no line feed ends.
-    /// [`ScriptError::NoMemory`] where memory was wanting for a piece, or where a field spells a text or a binary of 4 GiB
-    /// or more.
+    /// [`ScriptError::NoMemory`] where memory was wanting for a piece, or where a field spells a text or a binary of
+    /// 4 GiB or more.
     pub fn finish(self) -> Result<Script, ScriptError>
         ensures answer { result ≡ answer_with self [] }
         ensures stopped { IfSome self.stopped (λ why. result ≡ Err why) }

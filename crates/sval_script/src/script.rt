@@ -61,8 +61,8 @@ impl From<AllocError> for ScriptError {
 
 /// A script that was read: the calls of its lines, in order.
 ///
-/// It is a value, which makes these calls, lends its texts and bytes and never refuses. What finds no place in a line
-/// of 8 bytes stands beside the lines, decoded, in the order of the lines.
+/// It is a value, which makes these calls, lends its texts and bytes and never refuses. What doesn't fit a line of 8
+/// bytes is kept beside the lines, decoded, in the order of the lines.
 #[derive(Drop)]
 pub struct Script {
     pub(crate) lines: Vec<Line>,
@@ -84,7 +84,7 @@ impl Model for Script {
 }
 
 impl Script {
-    /// Reads a script whole: the calls of its lines, of which each ends with a line feed.
+    /// Reads a script whole: the calls of its lines. Each line ends with a line feed.
     ///
     /// ```
     /// let script = Script::read(alloc, b"text_begin -\ntext_fragment =6869\ntext_end\n")?;
@@ -94,8 +94,9 @@ impl Script {
     /// # Errors
     ///
     /// [`ScriptError::BadLine`] with the number of the first line that spells no call, or that no line feed ends.
-    /// [`ScriptError::NoMemory`] where there was no memory for the lines or their texts, or where a field spells a text or
-    /// a binary of 4 GiB or more, and never for an empty script. Each answer comes wherever it is due, unless that is so.
+    /// [`ScriptError::NoMemory`] where there was no memory for the lines or their texts, or where a field spells a text
+    /// or a binary of 4 GiB or more, and never for an empty script. Each answer comes wherever it is due, unless that
+    /// is so.
     pub fn read(alloc: Global, bytes: &[u8]) -> Result<Script, ScriptError>
         ensures ok { IfOk result (λ script. spec.lines bytes.now ≡ Good script) }
         ensures few { IfOk result (λ script. length script < 2 ^ 64) }

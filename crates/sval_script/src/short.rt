@@ -23,7 +23,7 @@ pub(crate) fn field_end(bytes: &[u8]) -> Option<usize>
     Some(16 + end)
 }
 
-/// The first space or line feed, in what stands behind the first bytes of a field.
+/// The first space or line feed behind the first bytes of a field.
 #[inline(always)]
 fn far_end(bytes: &[u8]) -> Option<usize>
     ensures { IsFirstByte (is_byte2 32 10) bytes.now result }

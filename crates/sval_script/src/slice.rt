@@ -53,7 +53,7 @@ impl<'v> Left<'v> {
     }
 }
 
-/// Makes the calls of lines, whose own stands beside them in order.
+/// Makes the calls of lines. Their bytes and numbers are kept beside the lines, in order.
 pub(crate) fn make_lines<'v, S: Stream<Lent<'v>>>(
     lines: &[Line],
     bytes: &'v [u8],
@@ -78,7 +78,7 @@ pub(crate) fn make_lines<'v, S: Stream<Lent<'v>>>(
 #[derive(Drop)]
 pub struct ScriptSlice<'a> {
     pub(crate) lines: &'a [Line],
-    /// What stands beside these lines, and no other.
+    /// What is kept beside these lines, and nothing else.
     pub(crate) bytes: &'a [u8],
     pub(crate) numbers: &'a [u64],
 }

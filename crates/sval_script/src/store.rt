@@ -1,4 +1,4 @@
-//! What stands beside the lines of a script.
+//! What is kept beside the lines of a script.
 
 ghost use Rattle.sval_label.specs.Grouped.{int_call};
 ghost use Rattle.std.specs.Prelude.{◌≡◌, ◌≤◌, ◌++◌, ◌∷◌, [], IfOk, OnOk, Some, take, drop, length, get_or};
@@ -15,7 +15,7 @@ use crate::line::Line;
 use std::alloc::Global;
 use sval_label::Int;
 
-/// The bytes and numbers of lines that stand beside them, one after another in the order of the lines.
+/// The bytes and numbers that are kept beside lines, one after another in the order of the lines.
 #[derive(Drop)]
 pub(crate) struct Store {
     /// Texts and binaries, decoded.
@@ -103,7 +103,7 @@ impl Store {
         self.push_index(name.parts.index, name.number)
     }
 
-    /// The line of a whole number, of which what finds no place in it goes behind the others.
+    /// The line of a whole number. What doesn't fit the line goes behind the other numbers.
     #[tactic(auto, using(crate::proofs::LinesMade::says_all, crate::proofs::LinesMade::says_number))]
     pub(crate) fn put_number(&mut self, number: Int) -> Result<Line, LineError>
         ensures made { IfOk result (λ line. StoresCall (int_call number) (stored self.old) (stored self.new) line) }

@@ -35,7 +35,7 @@ pub(crate) enum Word {
     FieldPlace(Side),
 }
 
-/// The words that stand alone.
+/// The words that have no field.
 #[derive(Clone, Copy)]
 pub(crate) enum Alone {
     Null,
@@ -176,7 +176,7 @@ static WORDS: [(&'static [u8], Word); 48] = [
     (b"record_tuple_end", Word::Named(Named::RecordTupleEnd)),
 ];
 
-/// Where the word of a text stands in [`WORDS`], by the text's place. The other places hold any word.
+/// The index in [`WORDS`] of the word of a text, by the text's place. The other places hold any word.
 static SLOTS: [u8; 256] = [
     0, 0, 21, 32, 0, 0, 0, 0, 0, 0, 0, 0, 0, 0, 23, 18, 0, 0, 0, 28, 0, 0, 0, 0, 0, 0, 0, 38, 0,
     42, 13, 0, 0, 0, 0, 0, 0, 0, 0, 0, 0, 0, 0, 0, 27, 0, 0, 47, 0, 0, 0, 0, 0, 0, 37, 0, 41, 0,

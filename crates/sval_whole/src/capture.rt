@@ -24,8 +24,8 @@ use sval_core::{Lent, Value};
 ///
 /// # Errors
 ///
-/// They are those of [`check`], for the same causes. The first three come wherever they stand, unless memory was
-/// wanting. [`CheckError::NoMemory`] comes only where memory was wanting to check the calls, or to capture one whole
+/// They are those of [`check`], for the same causes. The first three come wherever their cause holds, unless memory
+/// was wanting. [`CheckError::NoMemory`] comes only where memory was wanting to check the calls, or to capture one whole
 /// value.
 pub fn collect_whole<'sval, N: CallStore + 'sval, V: Value<'sval, Lent<'sval>>>(
     alloc: Global,

@@ -20,7 +20,7 @@ pub enum WriteError {
     Unfinished,
     /// All calls can be completed, and the value itself refused.
     Refused,
-    /// The calls are one whole value, and what stands in the place of a map's key can't be one.
+    /// The calls are one whole value, and a key of one of its maps is a value that can't be a key.
     InvalidKey,
     /// The calls are one whole value, and a text in it that stands for a number is none.
     InvalidNumber,

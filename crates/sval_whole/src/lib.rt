@@ -5,8 +5,8 @@
 //! calls are one whole value.
 //!
 //! - [`to_json_string`], [`to_json_vec`] and [`write_json`] write a value, and their `_with` forms in a style of
-//!   variants. Their words stand in `specs/Whole.antt` and `specs/WholeTexts.antt`.
-//! - [`collect_whole`] captures a value. Its words stand in `specs/WholeCaptures.antt`.
+//!   variants. Their words are in `specs/Whole.antt` and `specs/WholeTexts.antt`.
+//! - [`collect_whole`] captures a value. Its words are in `specs/WholeCaptures.antt`.
 //! - [`WriteError`] says why JSON wasn't written, and names the first bad call.
 //! - [`laws`] has what holds of the answers, and which JSON structs and enums of a user's own have.
 #![tactic(auto)]

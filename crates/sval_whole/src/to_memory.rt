@@ -23,7 +23,7 @@ use sval_json::Variants;
 /// # Errors
 ///
 /// Those of [`write_json`](crate::write_json) but [`WriteError::Write`], for the same causes; each but
-/// [`WriteError::NoMemory`] comes wherever it stands, unless memory was wanting. `NoMemory` comes only where memory
+/// [`WriteError::NoMemory`] comes wherever its cause holds, unless memory was wanting. `NoMemory` comes only where memory
 /// was wanting to check the calls, or where they are one whole value.
 pub fn to_json_vec<'v, V: Value<'v, Lent<'v>>>(
     alloc: Global,

@@ -27,7 +27,7 @@ use sval_json::{Variants, stream_to_io_write_with};
 ///
 /// # Errors
 ///
-/// - [`WriteError::BadCall`] comes where no value goes on with one of the calls, and names the first such call.
+/// - [`WriteError::BadCall`] comes where no value goes on with one of the calls, and names the first of these.
 /// - [`WriteError::Refused`] comes where all calls can be completed, and the value refuses after them.
 /// - [`WriteError::Unfinished`] comes where all calls can be completed, the value doesn't refuse, and the calls are
 ///   not one whole value.
@@ -37,7 +37,7 @@ use sval_json::{Variants, stream_to_io_write_with};
 /// - [`WriteError::InvalidKey`] and [`WriteError::InvalidNumber`] come where the calls are one whole value that has
 ///   no JSON for that cause, the first from left to right. The sink took exactly what is written up to there.
 ///
-/// The five exclude each other, and each comes wherever it stands, unless the sink declined or memory was wanting.
+/// The five exclude each other, and each comes wherever its cause holds, unless the sink declined or memory was wanting.
 ///
 /// - [`WriteError::Write`] comes only where the sink's count of faults rose, and never where it tells room for the
 ///   text.

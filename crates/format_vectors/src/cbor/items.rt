@@ -121,7 +121,7 @@ d82076687474703a2f2f7777772e6578616d706c652e636f6d
 = json "𐅑"
 "#;
 
-/// Its arrays and maps, and its strings in pieces.
+/// Its arrays and maps, and its strings in chunks.
 const CONTAINERS: &'static str = r#"
 80
 = json []
@@ -165,7 +165,7 @@ bf6346756ef563416d7421ff
 = json {"Fun":true,"Amt":-2}
 "#;
 
-/// Maps that a break ends, texts in pieces, numbers in pieces and with zeros in front, wide heads and tags.
+/// Maps that a break ends, texts in chunks, big numbers in chunks and with zeros in front, wide heads and tags.
 const OTHERS: &'static str = r#"
 bf6130f46131f5ff
 = json {"0":false,"1":true}
@@ -187,8 +187,8 @@ d9d9f783010203
 = json [340282366920938463463374607431768211455,-170141183460469231731687303715884105728]
 "#;
 
-/// Bytes that are no item of this profile, beside those of the standard's appendix F: floats and other simple values, texts
-/// that are no UTF-8 piece by piece, and numbers of more than 128 bits. The first are no bytes.
+/// Bytes that are no item of this profile, beside those of the standard's appendix F: floats and other simple values,
+/// texts that are no UTF-8 piece by piece, and numbers of more than 128 bits. The first are no bytes.
 const BAD: &'static str = r#"
 ␄
 = error Bad
@@ -226,7 +226,7 @@ c35080000000000000000000000000000000
 = error Bad
 "#;
 
-/// Bytes and their calls, which tell a size where the bytes do, and each piece of a text.
+/// Bytes and their calls, with each chunk of a text. The calls tell a size where the bytes do.
 const CALLS: &'static str = r#"
 a180f6
 = calls [MapBegin(Some(1)), MapKeyBegin, SeqBegin(Some(0)), SeqEnd, MapKeyEnd, MapValueBegin, Null, MapValueEnd, MapEnd]

@@ -194,7 +194,7 @@ const WRONG_PIECES: &'static str = r#"
 = error Bad
 "#;
 
-/// A break stands where nothing can end.
+/// A break where nothing can end.
 const WRONG_BREAKS: &'static str = r#"
 ff
 = error Bad

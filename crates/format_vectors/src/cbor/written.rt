@@ -214,7 +214,7 @@ tagged_end NUMBER - -
 = cbor f6
 "#;
 
-/// Texts in pieces, which are one.
+/// Texts of several fragments. Each is written as one text string.
 const TEXTS: &'static str = r#"
 text_begin -
 text_fragment =61

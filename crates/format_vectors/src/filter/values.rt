@@ -7,8 +7,8 @@ use sval_filter::{Paths, PruneError, Rule, prune};
 use sval_json::stream_to_string;
 use sval_script::Script;
 
-/// Scripts with words, and what these leave of its value as JSON, or why nothing is left. Words are those of the program: a
-/// rule, and paths.
+/// Scripts with words, and what these leave of its value as JSON, or why nothing is left. Words are those of the
+/// program: a rule, and paths.
 const LEFT: &'static str = r#"
 record_begin - - - 3
 record_value_begin - =6669656c645f30

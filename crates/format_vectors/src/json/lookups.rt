@@ -84,7 +84,7 @@ fn push_one(alloc: Global, value: &JsonRef<'_>, seen: &mut String) -> Result<(),
     Ok(())
 }
 
-/// What a value and what stands directly in it are taken for.
+/// What a value, and each value directly in it, is taken for.
 fn push_parts(alloc: Global, value: &JsonRef<'_>, seen: &mut String) -> Result<(), Fail> {
     push_one(alloc, value, seen)?;
     if let Some(items) = value.items() {

@@ -3,8 +3,8 @@
 use std::alloc::Global;
 use std::io;
 
-/// A writer that takes so many bytes a call at most, and fails at one of its calls, counted from 0: pieces that aren't
-/// empty, and flushes.
+/// A writer that takes at most `chunk` bytes a call, and fails at one of its calls, counted from 0. Calls are writes of
+/// pieces that aren't empty, and flushes.
 #[derive(Drop)]
 pub(crate) struct Failing {
     /// The bytes that it took.

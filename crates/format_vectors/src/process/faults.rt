@@ -42,7 +42,7 @@ struct Ran {
     diag: Failing,
 }
 
-/// Runs a program over a source and two writers, each of which fails at a call, if one is given.
+/// Runs a program over a source and two writers. Each writer fails at one call, if that is given.
 fn run<J: Job, I: Source>(
     trial: &Trial<'_>,
     input: &mut I,
@@ -80,8 +80,9 @@ fn front(bytes: &[u8], count: usize) -> &[u8] {
     &bytes[..count.min(bytes.len())]
 }
 
-/// The row over an output with a fault at each of the calls that it gets without one, where so many bytes were taken, the
-/// flush too, which comes after status 0 alone: what was taken before stays, and the status is 8.
+/// The row over an output that fails at each of its calls in turn. `marks` has the number of bytes that were taken
+/// before each call. The flush, which comes after status 0 alone, is one of the calls. What was taken before stays, and
+/// the status is 8.
 fn try_writes<J: Job>(rt: &impl Abort, trial: &Trial<'_>, marks: &[usize]) {
     let row = trial.row;
     let flushes = usize::from(row.status == 0);
@@ -156,8 +157,8 @@ fn words_of(alloc: Global, row: &ProgramRow) -> Result<Vec<String>, Fail> {
     Ok(words)
 }
 
-/// A fault at each call of each writer, where devices give and take 1 byte, 7 and 1000 bytes a call at most, and at each
-/// call of a source that gives 7.
+/// A fault at each call of each writer, where devices give and take 1 byte, 7 and 1000 bytes a call at most, and at
+/// each call of a source that gives 7.
 pub(crate) fn try_faults<J: Job>(
     rt: &impl Abort,
     alloc: Global,
@@ -190,8 +191,8 @@ pub(crate) fn try_faults<J: Job>(
     Ok(())
 }
 
-/// The row's words over an input of one byte more than is read, from a source that fails at the call that sees that there
-/// is more, or behind it: the output, which would fail, isn't written.
+/// The row's words over an input of one byte more than is read, from a source that fails at the call that sees that
+/// there is more, or behind it: the output, which would fail, isn't written.
 pub(crate) fn try_long<J: Job>(
     rt: &impl Abort,
     alloc: Global,

@@ -15,8 +15,8 @@ pub(crate) struct ProgramRow {
 }
 
 impl ProgramRow {
-    /// Reads what is due, `WORDS: STATUS TEXT|LINE`: the words of a process, its program's name first, and the status, the
-    /// output and the line that they give for an input.
+    /// Reads what is due, `WORDS: STATUS TEXT|LINE`: the words of a process, its program's name first, and the status,
+    /// the output and the line that they give for an input.
     pub(crate) fn read(alloc: Global, row: &Row, due: &str) -> Result<Self, Fail> {
         let (words, given) = due.split_once(": ").ok_or("a row without a colon")?;
         let (status, told) = given.split_once(' ').ok_or("a row without a status")?;

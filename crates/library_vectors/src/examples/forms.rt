@@ -223,7 +223,7 @@ fn structs_have_their_form(rt: HostRuntime) {
     has_form(&rt, alloc, &versioned, STRUCTS[8]);
 }
 
-/// The same of variants.
+/// The JSON and the calls of each form of variant.
 const VARIANTS: [(&str, &str, &str); 7] = [
     // Shape::Empty
     (

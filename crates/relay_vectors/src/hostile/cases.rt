@@ -72,7 +72,8 @@ impl Flaw {
         format!(in alloc; "{}{script}{}", self.before, self.behind)
     }
 
-    /// What is written of a spoiled script whose value has this JSON, where many values are taken behind one that isn't.
+    /// What is written of a spoiled script whose value has this JSON, where many values are taken behind one that
+    /// isn't.
     fn json(self, alloc: Global, json: &str, many: bool) -> Result<String, AllocError> {
         let (before, behind) = self.around;
         if self.is_silent() {
@@ -104,7 +105,7 @@ impl Flaw {
     }
 }
 
-/// What is told of a status, where a script has so many lines.
+/// What is told of a status, for a script of `lines` lines.
 fn told(alloc: Global, status: u8, many: bool, lines: usize) -> Result<String, AllocError> {
     match status {
         3 => format!(in alloc; "line {lines}: not a call\n"),

@@ -1,5 +1,5 @@
-//! Devices that give and take a few bytes at a time, and a device that fails at one call, each in turn, over each script
-//! in each form.
+//! Devices that give and take a few bytes at a time, and a device that fails at one call, each in turn, over each
+//! script in each form.
 
 ghost use Rattle.std.specs.Prelude.{◌≤◌};
 
@@ -20,8 +20,9 @@ const READ_FAULT: &'static [u8] = b"read fault\n";
 /// More calls than any device gets.
 const CALLS: usize = 10_000;
 
-/// Runs a form over an output that takes so many bytes a call at most, and fails at each in turn until it meets no
-/// failure: it has a first part of what is due, and of bytes one by one those before the failure.
+/// Runs a form over an output that takes at most `chunk` bytes a call, and fails at each of its calls in turn, until a
+/// run meets no failure. The output has a first part of what is due. With one byte a call these are exactly the bytes
+/// before the failure.
 fn try_writes(rt: &impl Abort, alloc: Global, case: &Case, chunk: usize) -> Result<(), Fail>
     requires { 1 ≤ chunk }
 {

@@ -3,8 +3,8 @@
 use crate::pictures::{add_line, plain_text};
 use std::alloc::{AllocError, Global};
 
-/// The kinds, with a blank line between two, as rows that [`try_rows`](crate::rows::try_rows) could read: the lines of a
-/// script, its JSON, and its canonical script.
+/// The kinds, with a blank line between two, as rows that [`try_rows`](crate::rows::try_rows) could read: the lines of
+/// a script, its JSON, and its canonical script.
 const KINDS: &'static str = r#"
 # Text.
 text_begin 8
@@ -232,7 +232,7 @@ impl Kind {
     }
 }
 
-/// Adds a part with what stands before and behind it.
+/// Adds `part` to `text`, with `before` in front of it and `behind` after it.
 fn push_between(
     text: &mut String,
     before: &str,
@@ -257,7 +257,7 @@ pub(crate) fn each_kind(alloc: Global) -> Result<Vec<Kind>, AllocError> {
     Ok(kinds)
 }
 
-/// A sequence of the values of all kinds, of which there are 13.
+/// A sequence of the 13 values of all kinds.
 pub(crate) fn together(alloc: Global, kinds: &[Kind]) -> Result<Kind, AllocError> {
     let mut all = Kind {
         script: String::from_str(alloc, "seq_begin 13\n")?,

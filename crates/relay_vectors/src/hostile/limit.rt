@@ -6,7 +6,7 @@ use std::test::Fail;
 use sval_io::VecSink;
 use sval_relay::{FaultySource, MemSource, Source, Way, relay};
 
-/// These many letters 3 between what stands before and behind them.
+/// `count` letters 3 between `before` and `behind`.
 fn threes(alloc: Global, before: &str, count: usize, behind: &str) -> Result<Vec<u8>, AllocError> {
     let mut text = Vec::from_slice(alloc, before.as_bytes())?;
     text.extend_from_slice(&vec![in alloc; b'3'; count]?)?;
@@ -34,7 +34,7 @@ const NEWLINES: [(usize, usize, &'static str); 4] = [
     ),
 ];
 
-/// The longest input that is read, and longer ones, of which one byte more is read.
+/// The longest input that is read, and longer inputs. Of a longer one, one byte more is read.
 #[test]
 fn reads_up_to_the_limit(rt: HostRuntime) -> Result<(), Fail> {
     let alloc = rt.alloc();

@@ -9,9 +9,9 @@ use std::test::Fail;
 /// Scripts, with a blank line between two: its lines, then forms behind `= `, and what a run in each of these answers,
 /// writes, and tells behind a bar; then further forms.
 ///
-/// A line is a piece of a script, or of what is due. Behind a number and ` * ` stands a piece that comes so often, and
-/// `$` in a piece is the text of pieces that stand behind `$ ` before. Pictures stand for newlines and for spaces at an
-/// end, and a line behind `# ` says nothing.
+/// A line is a piece of a script, or of what is due. `N * PIECE` is PIECE repeated N times. `$` in PIECE is the text of
+/// the pieces behind `$ ` before it. Pictures stand for newlines and for spaces at an end, and a line behind `# ` says
+/// nothing.
 const ROWS: &'static str = r#"
 # A text of one fragment with 1,048,576 letters.
 text_begin -␊text_fragment =

@@ -26,8 +26,8 @@ impl io::Read for Failing {
     }
 }
 
-/// How a reader fails, how often, and what is told of so many reads and of the failures that are left: a read that fails
-/// makes one call of the reader, or up to 1,000 where it is interrupted.
+/// How a reader fails, how often, and how many reads there are. Then what is told of these reads, and the number of
+/// failures that are left. A read that fails makes one call of the reader, or up to 1,000 where it is interrupted.
 const READERS: [(io::ErrorKind, u32, u64, &'static str); 11] = [
     (io::ErrorKind::Interrupted, 0, 1, "Ok(1) x---\n0"),
     (io::ErrorKind::Interrupted, 2, 1, "Ok(1) x---\n0"),

@@ -7,7 +7,7 @@ use std::test::Fail;
 use sval_io::VecSink;
 use sval_relay::{FaultySource, MemSource, Source};
 
-/// What a source answers to so many reads into a buffer, and the first bytes of the buffer behind each.
+/// What a source answers to `count` reads into a buffer, and the first bytes of the buffer after each.
 pub(super) fn reads_of<I: Source>(
     alloc: Global,
     source: &mut I,

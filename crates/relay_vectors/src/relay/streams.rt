@@ -7,7 +7,7 @@ use std::process::Abort;
 use std::test::Fail;
 use sval_relay::relay_streams;
 
-/// A writer that takes so many bytes, and then gives an error.
+/// A writer that takes `room` bytes, and then gives an error.
 #[derive(Drop)]
 struct Limited {
     taken: Vec<u8>,
@@ -51,7 +51,8 @@ impl io::Read for Broken {
     }
 }
 
-/// Runs a form over a reader, an output and a third device, and compares the status, what was written and what was told.
+/// Runs a form over a reader, an output and a third device, and compares the status, what was written and what was
+/// told.
 fn try_streams<R: io::Read + Drop>(
     rt: &impl Abort,
     alloc: Global,

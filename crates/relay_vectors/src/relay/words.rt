@@ -7,7 +7,7 @@ use std::test::Fail;
 use sval_io::{FaultySink, VecSink};
 use sval_relay::{MemSource, Source, run};
 
-/// Words, each behind a bar; none stand in the first row.
+/// Words, each behind a bar. The first row has no word.
 const ROWS: &'static str = r#"
 no words
 |
@@ -59,7 +59,7 @@ fn words_of(alloc: Global, row: &str) -> Result<Vec<String>, AllocError> {
     Ok(words)
 }
 
-/// Nothing is read and nothing is written, and the third device is told the usage; it fails behind so many bytes.
+/// Nothing is read and nothing is written, and the third device is told the usage. It fails after `taken` bytes.
 fn try_words(rt: &impl Abort, alloc: Global, row: &str, taken: usize) -> Result<(), Fail> {
     let words = words_of(alloc, row)?;
     let failing = [(taken as u64).saturating_add(1)];

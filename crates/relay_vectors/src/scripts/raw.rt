@@ -1,4 +1,4 @@
-//! Texts that stand as they are, and what tags promise of them.
+//! Texts that are written unchanged, and what tags promise of them.
 
 /// Rows as [`try_rows`](crate::rows::try_rows) reads them.
 pub(super) const ROWS: &'static str = r#"

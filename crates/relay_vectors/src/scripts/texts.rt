@@ -1,4 +1,4 @@
-//! Texts, whole and in pieces.
+//! Texts, whole and in fragments.
 
 /// Rows as [`try_rows`](crate::rows::try_rows) reads them.
 pub(super) const ROWS: &'static str = r#"

@@ -18,7 +18,7 @@ use sval_core::{Index, Int, Label, Result, Tag};
 use sval_io::Sink;
 use sval_json::marks::{TextKind, has_handle, is_none, number_of, text_kind};
 
-/// Where the writer stands after a value of this name.
+/// The place of the writer after a value of this name.
 pub(crate) fn place_after(label: Option<&Label>, index: Option<&Index>) -> Place
     ensures { seen_place result ≡ after_handle (seen_handle label.entry index.entry) }
 {
@@ -38,7 +38,7 @@ impl<'k, K: Sink> Writer<'k, K> {
         self.write_text(key)
     }
 
-    /// Opens the map of one pair that a value stands in, or refuses it in a key.
+    /// Opens the map of one pair around a value, or refuses the value in a key.
     fn open_pair(&mut self, key: &[u8]) -> Result
         ensures { let state = cbor_writer_state self.old in
             CborDoes (on_packed (opening (Some key.now) Begun state.in_key) (λ front. writes front state)) result
@@ -50,7 +50,7 @@ impl<'k, K: Sink> Writer<'k, K> {
         self.write_pair(key)
     }
 
-    /// Opens the map of one pair that a value stands in directly in an enum.
+    /// Opens the map of one pair around a value that is directly in an enum.
     fn open_variant(&mut self, handle: &[u8]) -> Result
         ensures { let state = cbor_writer_state self.old in
             CborDoes (on_packed (opening (Some handle.now) state.place state.in_key)
@@ -63,7 +63,7 @@ impl<'k, K: Sink> Writer<'k, K> {
         }
     }
 
-    /// Opens the map that a value of this name stands in, where that is due.
+    /// Opens the map around a value of this name, where that is due.
     fn open_handle(&mut self, label: Option<&Label>, index: Option<&Index>) -> Result
         ensures { let state = cbor_writer_state self.old in
             CborDoes (on_packed (opening (seen_handle label.entry index.entry) state.place state.in_key)
@@ -170,7 +170,7 @@ impl<'k, K: Sink> Writer<'k, K> {
         Ok(())
     }
 
-    /// Ends the map of one pair that a value stands in, which it doesn't in a key.
+    /// Ends the map of one pair around a value. In a key there is none.
     fn close_pair(&mut self) -> Result
         ensures { let state = cbor_writer_state self.old in
             CborDoes (writes (if state.in_key then [] else 0xff ∷ []) state) result
@@ -182,8 +182,8 @@ impl<'k, K: Sink> Writer<'k, K> {
         self.write(BREAK)
     }
 
-    /// Ends an enum that was at this place: writes the name of one that holds nothing, and else ends the map that its value
-    /// stands in.
+    /// Ends an enum that was at this place. It writes the name of an enum that holds nothing, and else ends the map
+    /// around its value.
     fn close_enum(
         &mut self,
         place: Place,

@@ -15,7 +15,7 @@ use sval_core::{Head, Index, Label, Result, Slot};
 use sval_io::Sink;
 
 impl<'k, K: Sink> Writer<'k, K> {
-    /// Opens a container without a name, which can't stand in a key.
+    /// Opens a container without a name, which can't be in a key.
     pub(crate) fn open(&mut self, mark: &[u8]) -> Result
         ensures { let state = cbor_writer_state self.old in
             CborDoes (unless_key state (writes mark.now (record state { place = Elsewhere }))) result
@@ -28,7 +28,7 @@ impl<'k, K: Sink> Writer<'k, K> {
         self.write(mark)
     }
 
-    /// Opens a container with a name, which can't stand in a key.
+    /// Opens a container with a name, which can't be in a key.
     #[inline(never)]
     fn open_container(
         &mut self,

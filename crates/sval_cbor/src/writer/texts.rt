@@ -19,7 +19,7 @@ use crate::writer::{Place, Writer};
 use sval_core::{Error, Result};
 use sval_io::Sink;
 
-/// The sign that stands in front of a number.
+/// The sign in front of a number.
 fn sign(negative: bool) -> &'static [u8]
     ensures { result.now ≡ sign negative }
 {

@@ -1,4 +1,4 @@
-//! Strings in pieces.
+//! Strings of indefinite length.
 
 ghost use Rattle.std.specs.Prelude.{◌≡◌, ◌≢◌, ◌<◌, ◌≤◌, IfOk, IfErr, length, get_or};
 ghost use Rattle.sval_cbor_read.specs.Steps.{MakesSomeCall};
@@ -15,7 +15,7 @@ use crate::string::{binary_at, text_at};
 use sval_core::NoMemory;
 
 impl Reader {
-    /// Keeps a piece of a string, up to this place.
+    /// Keeps a chunk of a string, up to this place.
     #[inline(always)]
     fn add_piece(&mut self, medium: Medium, next: usize) -> Result<(), NoMemory>
         ensures { IfOk result (λ done. AddsItemNode self.old
@@ -41,7 +41,7 @@ impl Reader {
         }
     }
 
-    /// Reads a piece of a text.
+    /// Reads a chunk of a text.
     #[inline(always)]
     fn text_piece(&mut self, bytes: &[u8]) -> Result<bool, NoMemory>
         requires at_in { self.old.at < length bytes.now }
@@ -77,7 +77,7 @@ impl Reader {
         }
     }
 
-    /// Ends a string in pieces, up to this place.
+    /// Ends a string of indefinite length, up to this place.
     #[inline(always)]
     fn end_pieces(&mut self, medium: Medium, next: usize) -> Result<(), NoMemory>
         ensures { IfOk result (λ done. EndsItem self.old.opened self.old
@@ -90,7 +90,7 @@ impl Reader {
         }
     }
 
-    /// Reads a piece of a string, or its end.
+    /// Reads a chunk of a string, or the break.
     #[inline(always)]
     pub(super) fn piece(&mut self, medium: Medium, bytes: &[u8]) -> Result<bool, NoMemory>
         requires within { self.old.at ≤ length bytes.now }

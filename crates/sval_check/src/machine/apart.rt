@@ -138,7 +138,7 @@ impl Machine {
         self.fill(Form::Variant)
     }
 
-    /// Takes so many bytes of a text.
+    /// Takes `size` bytes of a text.
     #[inline(never)]
     pub(super) fn add_text(&mut self, size: usize) -> Result<(), Refusal>
         ensures { StepsTo false (at_top (content_fragment Content.Text size) self.old) self.new result }
@@ -155,7 +155,7 @@ impl Machine {
         self.open(Begin::Binary(size))
     }
 
-    /// Takes so many bytes of a binary.
+    /// Takes `size` bytes of a binary.
     #[inline(never)]
     pub(super) fn add_binary(&mut self, size: usize) -> Result<(), Refusal>
         ensures { StepsTo false (at_top (content_fragment Content.Binary size) self.old) self.new result }

@@ -1,7 +1,7 @@
 //! The machine's step as a whole, for streams where nothing else may refuse a call.
 //!
-//! It is compiled into the loop that makes the calls, so that each kind of call comes to what it needs alone. For that it
-//! has to stay small: what calls with names do, and what rarer calls do, stands in functions of its own (`apart.rt`).
+//! It is compiled into the loop that makes the calls, so that each kind of call comes to what it needs alone. So it has
+//! to stay small: calls with names, and rarer calls, have functions of their own (`apart.rt`).
 
 ghost use Rattle.std.specs.Prelude.{true, false};
 ghost use Rattle.sval_label.specs.Made.{call_of};
@@ -88,7 +88,7 @@ impl Machine {
         Ok(())
     }
 
-    /// Takes so many bytes of a text or binary.
+    /// Takes `size` bytes of a text or binary.
     #[inline(always)]
     pub(super) fn add(&mut self, content: Content, size: usize) -> Result<(), Refusal>
         ensures { StepsTo false (at_top (content_fragment content size) self.old) self.new result }

@@ -11,7 +11,7 @@ use crate::values::sequences::stream_item;
 use std::collections::{BTreeSet, LinkedList, VecDeque};
 use sval_label::{Lent, Result};
 
-/// Streams what an iterator gives, which are so many items, as a sequence.
+/// Streams the `size` items of an iterator as a sequence.
 fn stream_items<
     'v,
     T: Value<'v, Lent<'v>> + 'v,

@@ -16,7 +16,7 @@ pub(crate) trait Fields<'v, L: Lending>: Copy {
     /// What each of them makes.
     ghost emissions: { Self → List Emission };
 
-    /// Streams the fields, of which the first has this place.
+    /// Streams the fields. `first` is the place of the first field.
     fn stream_fields<S: Stream<L>>(self, stream: &mut S, first: usize) -> Result
         requires { first + length (emissions self) < 2 ^ 64 }
         ensures { Emits S.law result
@@ -73,7 +73,7 @@ fn stream_field<'v, L: Lending, T: Value<'v, L>, S: Stream<L>>(
     end_field(stream, number)
 }
 
-/// Streams so many fields as a tuple without a name.
+/// Streams `size` fields as a tuple without a name.
 #[tactic(auto, using(crate::proofs::Between::of_between))]
 pub(crate) fn stream_tuple<'v, F: Fields<'v, Lent<'v>>, S: Stream<Lent<'v>>>(
     stream: &mut S,
@@ -105,7 +105,7 @@ fn stream_halves<'v, A: Fields<'v, Lent<'v>>, B: Fields<'v, Lent<'v>>, S: Stream
     second.stream_fields(stream, 8)
 }
 
-/// Streams so many fields, of which the first half are eight, as a tuple without a name.
+/// Streams `size` fields as a tuple without a name: the eight of `first`, and then those of `second`.
 #[tactic(auto, using(crate::proofs::Between::of_between))]
 pub(crate) fn stream_long_tuple<
     'v,

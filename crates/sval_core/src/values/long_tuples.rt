@@ -1,6 +1,7 @@
 //! Tuples of thirteen to sixteen fields, which are streamed in two halves.
 //!
-//! In clauses such a tuple is a pair of its first field and of those after it: `tuple.1.1.0` is the third field.
+//! In clauses a tuple of thirteen to sixteen fields is a pair of its first field and of those after it: `tuple.1.1.0`
+//! is the third field.
 
 ghost use Rattle.std.specs.Prelude.{[], ◌∷◌};
 ghost use Rattle.sval_core.specs.Values.{tuple_emission};

@@ -1,4 +1,4 @@
-//! Tuples of one to twelve fields, each of which stands under its place.
+//! Tuples of one to twelve fields, each under its place.
 
 ghost use Rattle.std.specs.Prelude.{[], ◌∷◌};
 ghost use Rattle.sval_core.specs.Values.{tuple_emission};

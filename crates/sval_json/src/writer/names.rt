@@ -30,7 +30,7 @@ impl<'k, K: Sink> Writer<'k, K> {
         self.write_between(before, Quoted::escaped(text), after)
     }
 
-    /// Opens the object that a variant stands in, up to its value.
+    /// Opens the object around a variant, up to the variant's value.
     fn open_variant(&mut self, handle: &str) -> Result
         ensures { Does (opens_handle self.old.variants (Some handle.now)) result
             (writer_view K.told self.old) (writer_view K.told self.new) }
@@ -41,7 +41,7 @@ impl<'k, K: Sink> Writer<'k, K> {
         }
     }
 
-    /// Opens the object that a variant of this name stands in, if it has a handle.
+    /// Opens the object around a variant of this name, if the name has a handle.
     fn open_handle(&mut self, label: Option<&Label>, index: Option<&Index>) -> Result
         ensures { Does (opens_handle self.old.variants (seen_handle label.entry index.entry)) result
             (writer_view K.told self.old) (writer_view K.told self.new) }
@@ -114,7 +114,7 @@ impl<'k, K: Sink> Writer<'k, K> {
         self.write_own(tag, label, index)
     }
 
-    /// Writes the name of what ends, where nothing stands in that.
+    /// Writes the name of what ends, if nothing was written in that.
     pub(crate) fn write_name_if_empty(
         &mut self,
         tag: Option<&Tag>,
@@ -131,7 +131,7 @@ impl<'k, K: Sink> Writer<'k, K> {
         Ok(())
     }
 
-    /// Closes the object that a variant stands in, if it does.
+    /// Closes the object around a variant, if there is one.
     fn close_variant(&mut self) -> Result
         ensures { Does (when (λ state. state.named) (closes (codes "}"))) result
             (writer_view K.told self.old) (writer_view K.told self.new) }

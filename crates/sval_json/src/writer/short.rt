@@ -1,4 +1,4 @@
-//! Texts between quotes, joined with what stands around them where they are short, so that one piece is written.
+//! Texts between quotes, joined with the marks around them where they are short, so that one piece is written.
 
 ghost use Rattle.std.specs.Prelude.{◌≡◌, ◌++◌};
 ghost use Rattle.std.specs.Bool.{OnTrue};
@@ -47,7 +47,7 @@ pub(crate) fn push_plain(
 #[derive(Clone, Copy)]
 pub(crate) struct Quoted<'a> {
     pub(crate) text: &'a str,
-    /// It stands there as it is, where others are escaped.
+    /// It is written there unchanged, where others are escaped.
     pub(crate) raw: bool,
 }
 
@@ -71,7 +71,7 @@ impl<'a> Quoted<'a> {
         }
     }
 
-    /// Whether the text stands between quotes as it is.
+    /// Whether the text is written between quotes unchanged.
     #[inline(always)]
     pub(crate) fn is_plain(self) -> bool
         ensures { OnTrue result (quoted_text self.entry ≡ self.entry.text.now) }

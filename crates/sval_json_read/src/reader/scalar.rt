@@ -174,10 +174,12 @@ impl Reader {
         requires at_in { at < length bytes.now }
         requires reads { IsReadTo bytes.now at self.old }
         requires before { self.old.from ≤ at }
-        ensures gives { TakesByte (machine.step_in (expected_of bytes.now self.old.from at (InString is_key within)))
+        ensures gives { TakesByte
+            (machine.step_in (expected_of bytes.now self.old.from at (InString is_key within)))
             bytes.now at self.old result self.new }
         ensures reads { KeepsRead bytes.now (at + 1) result self.new }
-        ensures no_memory { WantsOnlyFor (machine.step_in (expected_of bytes.now self.old.from at (InString is_key within)))
+        ensures no_memory { WantsOnlyFor
+            (machine.step_in (expected_of bytes.now self.old.from at (InString is_key within)))
             bytes.now at self.old result }
     {
         let byte = bytes[at];

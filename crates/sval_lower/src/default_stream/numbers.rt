@@ -11,7 +11,7 @@ ghost use Rattle.sval_lower.specs.Lower.{lower, text_under};
 use itoa::Buffer;
 use sval_core::{Lending, Result, Stream, Tag, tags};
 
-/// The same number as `u16`.
+/// Streams the number as a `u16`.
 pub fn u8<L: Lending, S: Stream<L>>(stream: &mut S, value: u8) -> Result
     ensures { Emits S.law result (S.standing stream.old)
         (makes (lower (call.Int call.U8 (pos value)))) (S.standing stream.new) }
@@ -19,7 +19,7 @@ pub fn u8<L: Lending, S: Stream<L>>(stream: &mut S, value: u8) -> Result
     stream.u16(u16::from(value))
 }
 
-/// The same number as `u32`.
+/// Streams the number as a `u32`.
 pub fn u16<L: Lending, S: Stream<L>>(stream: &mut S, value: u16) -> Result
     ensures { Emits S.law result (S.standing stream.old)
         (makes (lower (call.Int call.U16 (pos value)))) (S.standing stream.new) }
@@ -27,7 +27,7 @@ pub fn u16<L: Lending, S: Stream<L>>(stream: &mut S, value: u16) -> Result
     stream.u32(u32::from(value))
 }
 
-/// The same number as `u64`.
+/// Streams the number as a `u64`.
 pub fn u32<L: Lending, S: Stream<L>>(stream: &mut S, value: u32) -> Result
     ensures { Emits S.law result (S.standing stream.old)
         (makes (lower (call.Int call.U32 (pos value)))) (S.standing stream.new) }
@@ -35,7 +35,7 @@ pub fn u32<L: Lending, S: Stream<L>>(stream: &mut S, value: u32) -> Result
     stream.u64(u64::from(value))
 }
 
-/// The same number as `u128`.
+/// Streams the number as a `u128`.
 pub fn u64<L: Lending, S: Stream<L>>(stream: &mut S, value: u64) -> Result
     ensures { Emits S.law result (S.standing stream.old)
         (makes (lower (call.Int call.U64 (pos value)))) (S.standing stream.new) }
@@ -54,7 +54,7 @@ pub fn u128<L: Lending, S: Stream<L>>(stream: &mut S, value: u128) -> Result
     }
 }
 
-/// The same number as `i16`.
+/// Streams the number as an `i16`.
 pub fn i8<L: Lending, S: Stream<L>>(stream: &mut S, value: i8) -> Result
     ensures { Emits S.law result (S.standing stream.old)
         (makes (lower (call.Int call.I8 value))) (S.standing stream.new) }
@@ -62,7 +62,7 @@ pub fn i8<L: Lending, S: Stream<L>>(stream: &mut S, value: i8) -> Result
     stream.i16(i16::from(value))
 }
 
-/// The same number as `i32`.
+/// Streams the number as an `i32`.
 pub fn i16<L: Lending, S: Stream<L>>(stream: &mut S, value: i16) -> Result
     ensures { Emits S.law result (S.standing stream.old)
         (makes (lower (call.Int call.I16 value))) (S.standing stream.new) }
@@ -70,7 +70,7 @@ pub fn i16<L: Lending, S: Stream<L>>(stream: &mut S, value: i16) -> Result
     stream.i32(i32::from(value))
 }
 
-/// The same number as `i64`.
+/// Streams the number as an `i64`.
 pub fn i32<L: Lending, S: Stream<L>>(stream: &mut S, value: i32) -> Result
     ensures { Emits S.law result (S.standing stream.old)
         (makes (lower (call.Int call.I32 value))) (S.standing stream.new) }

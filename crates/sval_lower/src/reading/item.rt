@@ -10,8 +10,8 @@ use crate::reading::Reading;
 use std::marker::PhantomData;
 use sval_core::{AnyCall, Lending, Result, Stream, Value, refusal};
 
-/// Holds the last item that `R` read, and refuses a call of which nothing is read and which isn't passed over, and a
-/// second item where `R` reads one.
+/// Holds the last item that `R` read. It refuses a call that `R` neither reads nor passes over, and a second item where
+/// `R` reads one.
 #[derive(Drop)]
 struct ItemReader<R, T> {
     held: Option<T>,

@@ -8,7 +8,7 @@ ghost use Rattle.sval_lower.specs.Readers.{truth_of, number_of, is_type, has_no_
 use crate::reading::Reading;
 use sval_core::{AnyCall, Call, Lent};
 
-/// Whether a call stands around a value and says nothing of it.
+/// Whether a call comes around a value and says nothing of it.
 pub(super) fn is_around(call: &Call<'_, '_>) -> bool
     ensures { result ≡ is_around (lent_call call.now) }
 {
@@ -22,7 +22,7 @@ pub(super) fn is_around(call: &Call<'_, '_>) -> bool
     }
 }
 
-/// Whether a call stands around a value, or is a fragment of a binary that is empty.
+/// Whether a call comes around a value, or is an empty fragment of a binary.
 pub(super) fn is_passed_over(call: &Call<'_, '_>) -> bool
     ensures { result ≡ is_passed_over (lent_call call.now) }
 {
