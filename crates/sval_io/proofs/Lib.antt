@@ -3,3 +3,4 @@ pub mod Pieces
 pub mod Buffering
 pub mod FaultyWrites
 pub mod ReadParts
+mod TextPlaces

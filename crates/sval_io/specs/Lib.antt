@@ -12,3 +12,4 @@ pub mod FaultySources
 pub mod OverReader
 pub mod WholeInputs
 pub mod ErrorTexts
+pub mod TextPlaces

@@ -23,6 +23,7 @@ mod real_source;
 mod sink;
 mod source;
 mod tells;
+mod text_place;
 mod trickle;
 mod watched;
 
@@ -40,5 +41,6 @@ pub use real_source::RealSource;
 pub use sink::{Sink, SinkError, VecSink, write_all, write_in_place};
 pub use source::{MemSource, Source, SourceError};
 pub use tells::{Tells, TellsLeft};
+pub use text_place::line_and_column;
 pub use trickle::TrickleSink;
 pub use watched::{Watch, WatchedReader, WatchedWriter};
