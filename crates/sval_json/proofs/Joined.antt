@@ -14,7 +14,7 @@ use Rattle.sval_io.proofs.Appending.{appended-appended, less_room-less_room, cou
 use Rattle.sval_json.specs.declared.error.Stop.{Stop}
 use Rattle.sval_json.specs.declared.error.Stop.TheVariants.{Step, Sink}
 use Rattle.sval_json.specs.declared.style.Variants.{Variants}
-use Rattle.sval_json.specs.declared.writer.Writer.{Writer}
+use Rattle.sval_json.specs.declared.writer.JsonWriter.{JsonWriter}
 use Rattle.sval_json.specs.Actions.{WriterState, Outcome, escapes, write}
 use Rattle.sval_json.specs.Escape.{escaped}
 use Rattle.sval_json.specs.Steps.{writer_step}
@@ -175,7 +175,7 @@ stopped_cut view new bytes last stop full = by_why new.target.why refl stop.left
       },
     )
 
-module _ {K : Type 0} (told : K → Told) (w w' : Writer K) where
+module _ {K : Type 0} (told : K → Told) (w w' : JsonWriter K) where
   abbrev before : WriterView
   before = writer_view told w
 

@@ -27,6 +27,7 @@ pub mod EscapedPieces
 pub mod Doing
 pub mod Combined
 pub mod Streamed
+pub mod Streaming
 pub mod Given
 pub mod ToFmt
 pub mod Room

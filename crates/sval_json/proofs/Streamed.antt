@@ -4,7 +4,7 @@ use Rattle.std.proofs.Common.{sym, ap, ◌∙◌, subst, inl, inr}
 use Rattle.sval_label.specs.Calls.{Call}
 use Rattle.sval_core.specs.Trees.{Tree}
 use Rattle.sval_core.specs.Real.{IsReal}
-use Rattle.sval_core.specs.Law.{Standing, Emission, Ran, Streams, StoppedIn, Stops, Rose}
+use Rattle.sval_core.specs.Law.{Standing, Emission, Ran, StoppedIn, Stops, Rose}
 use Rattle.sval_io.specs.declared.sink.SinkError.TheVariants.{Failed, NoMemory}
 use Rattle.sval_io.specs.Sinks.{Told, IsSteady, NoCountFell, IsQuiet, Appends, AppendsFront, AppendsPart}
 use Rattle.sval_io.proofs.Appending.{all_is_front, steady_counts}
@@ -20,7 +20,7 @@ use Rattle.sval_json.specs.Shape.{json_in}
 use Rattle.sval_json.specs.Actions.{writer_start, nothing}
 use Rattle.sval_json.specs.Number.{Refusal, InvalidKey, InvalidNumber}
 use Rattle.sval_json.specs.Steps.{writer_step, writer_steps, written_in}
-use Rattle.sval_json.specs.declared.writer.Writer.{Writer}
+use Rattle.sval_json.specs.declared.writer.JsonWriter.{JsonWriter}
 use Rattle.sval_json.specs.WriterLaw.{WriterView, after_action, HasDone, IsLeftBy, IsStopped, writer_law, writer_state, writer_view, writer_standing}
 use Rattle.sval_json.specs.Laws.{IsWrittenAs}
 use Rattle.sval_json.specs.Promises.{KeepsPromises}
@@ -161,7 +161,7 @@ module _ (style : Variants) (e : Emission) (held holds : ℕ) (old new : Told) (
     prefix = front_held left.front;
   }
 
-module _ {K : Type 0} (told : K → Told) (e : Emission) (old new : Writer K) (is_start : writer_state old ≡ writer_start) where
+module _ {K : Type 0} (told : K → Told) (e : Emission) (old new : JsonWriter K) (is_start : writer_state old ≡ writer_start) where
   after_done : HasDone (writer_steps old.variants e.calls) (writer_view told old) (writer_view told new) → IsAfter old.variants e.calls old.sink.ghost_name new.sink.ghost_name (told old.sink.now) (told new.sink.now)
   after_done d = record {
     name = ap (λ v. v.target.name) d.view;
@@ -176,8 +176,8 @@ module _ {K : Type 0} (told : K → Told) (e : Emission) (old new : Writer K) (i
     steady = record { faults = ap (λ v. v.target.told.faults) d.view; wants = ap (λ v. v.target.told.wants) d.view };
   }
 
-  pub after_streams : Streams writer_law (writer_standing told old) e (writer_standing told new) → IsAfter old.variants e.calls old.sink.ghost_name new.sink.ghost_name (told old.sink.now) (told new.sink.now)
-  after_streams s = after_done (ran_as e.calls (writer_view told old) (writer_view told new) s.ran)
+  pub after_ran : Ran writer_law (writer_view told old) e.calls (writer_view told new) → IsAfter old.variants e.calls old.sink.ghost_name new.sink.ghost_name (told old.sink.now) (told new.sink.now)
+  after_ran ran = after_done (ran_as e.calls (writer_view told old) (writer_view told new) ran)
 
   after_refusal : e.refuses ≡ true → new.why ≡ None → HasDone (writer_steps old.variants e.calls) (writer_view told old) (writer_view told new)
       → IsAfterStop old.variants e (error_kind new.why) old.sink.ghost_name new.sink.ghost_name (told old.sink.now) (told new.sink.now)

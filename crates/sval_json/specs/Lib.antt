@@ -16,6 +16,7 @@ pub mod Means
 pub mod Promises
 pub mod Fronts
 pub mod WriterLaw
+pub mod WriterLaws
 pub mod ErrorKinds
 pub mod Written
 pub mod Given

@@ -1,5 +1,5 @@
 -- The JSON writer as a stream: its law is that it meets the steps.
-use Rattle.std.specs.Prelude.{◌≡◌, ℕ, List, Option, Some, None, Result, Ok, Err, length}
+use Rattle.std.specs.Prelude.{◌≡◌, ℕ, true, false, List, Option, Some, None, Result, Ok, Err, length}
 use Rattle.std.specs.Borrow.{MutBor}
 use Rattle.sval_label.specs.declared.error.Error.{Error}
 use Rattle.sval_core.specs.Law.{Law, Standing}
@@ -7,7 +7,8 @@ use Rattle.sval_io.specs.Sinks.{Told, appended, less_room, HasRoom, WritesWhole,
 use Rattle.sval_json.specs.declared.error.Stop.{Stop}
 use Rattle.sval_json.specs.declared.error.Stop.TheVariants.{Step, Sink}
 use Rattle.sval_json.specs.declared.style.Variants.{Variants}
-use Rattle.sval_json.specs.declared.writer.Writer.{Writer}
+use Rattle.sval_json.specs.declared.writer.JsonWriter.{JsonWriter}
+use Rattle.sval_json.specs.declared.writer.Handler.TheVariants.{Escapes}
 use Rattle.sval_json.specs.Actions.{WriterState, Action}
 use Rattle.sval_json.specs.SeenWriter.{seen_handler}
 use Rattle.sval_json.specs.Steps.{writer_step}
@@ -87,8 +88,21 @@ writer_law = record {
 
 -- ---- the writer in code
 
+-- a writer that has taken no call
+abbrev pub fresh_writer : {K : Type 0} → MutBor K → Variants → JsonWriter K
+fresh_writer sink style =
+    record { sink = sink; variants = style; named = false; empty = true; quoted = true; handler = Escapes; why = None }
+
+-- the sink that a writer writes to
+abbrev pub sink_of : {K : Type 0} → JsonWriter K → MutBor K
+sink_of w = w.sink
+
+-- what stopped a writer, if something did
+abbrev pub stop_of : {K : Type 0} → JsonWriter K → Option Stop
+stop_of w = w.why
+
 -- the state of the steps
-abbrev pub writer_state : {K : Type 0} → Writer K → WriterState
+abbrev pub writer_state : {K : Type 0} → JsonWriter K → WriterState
 writer_state w = record { named = w.named; empty = w.empty; quoted = w.quoted; handler = seen_handler w.handler }
 
 -- `told` is what the sink tells
@@ -96,9 +110,9 @@ abbrev pub target_of : {K : Type 0} → (K → Told) → MutBor K → Option Sto
 target_of told sink why = record { name = sink.ghost_name; told = record (told sink.now) { held = None }; why = why }
 
 -- the writer as its law sees it; `told` is what the sink tells
-abbrev pub writer_view : {K : Type 0} → (K → Told) → Writer K → WriterView
+abbrev pub writer_view : {K : Type 0} → (K → Told) → JsonWriter K → WriterView
 writer_view told w = record { style = w.variants; state = writer_state w; target = target_of told w.sink w.why }
 
 -- the same with the two counts of the sink
-abbrev pub writer_standing : {K : Type 0} → (K → Told) → Writer K → Standing WriterView
+abbrev pub writer_standing : {K : Type 0} → (K → Told) → JsonWriter K → Standing WriterView
 writer_standing told w = record { view = writer_view told w; faults = (told w.sink.now).faults; wants = (told w.sink.now).wants }

@@ -2,7 +2,7 @@
 //!
 //! [`stream_to_io_write`] writes a value to any [`Sink`]: a [`VecSink`] in memory, a [`RealSink`] over one of std's
 //! writers, or one of your own. [`stream_to_vec`], [`stream_to_string`] and [`stream_to_json_str`] give the JSON in
-//! memory. An [`Error`] tells its cause by [`ErrorKind`].
+//! memory. An [`Error`] tells its cause by [`ErrorKind`]. [`JsonWriter`] is the writer as a stream of its own.
 #![tactic(auto)]
 
 mod digits;
@@ -31,3 +31,4 @@ pub use sval_io::{
 pub use to_fmt::stream_to_fmt_write;
 pub use to_io::{stream_to_io_write, stream_to_io_write_with};
 pub use to_memory::{stream_to_json_str, stream_to_string, stream_to_vec};
+pub use writer::JsonWriter;

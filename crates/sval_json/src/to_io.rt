@@ -5,7 +5,7 @@ ghost use Rattle.sval_json.specs.Written.{StreamsJson};
 
 use crate::error::{Error, ErrorKind};
 use crate::style::Variants;
-use crate::writer::{Handler, Writer};
+use crate::writer::JsonWriter;
 use sval_core::{Lent, Value};
 use sval_io::Sink;
 
@@ -63,19 +63,9 @@ pub fn stream_to_io_write_with<'v, K: Sink, V: Value<'v, Lent<'v>>>(
 ) -> Result<(), Error>
     ensures { StreamsJson variants (V.emission v.now) result (K.told out.old) (K.told out.new) }
 {
-    let mut writer = Writer {
-        sink: out,
-        variants,
-        named: false,
-        empty: true,
-        quoted: true,
-        handler: Handler::Escapes,
-        why: None,
-    };
-    let streamed = v.stream(&mut writer);
-    let why = writer.why;
-    match streamed {
+    let mut writer = JsonWriter::new(out, variants);
+    match v.stream(&mut writer) {
         Ok(()) => Ok(()),
-        Err(_) => Err(Error::of(why)),
+        Err(_) => Err(writer.error()),
     }
 }

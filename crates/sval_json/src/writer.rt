@@ -14,14 +14,15 @@ ghost use Rattle.sval_label.specs.Made.{lent_call};
 ghost use Rattle.sval_core.specs.Law.{Answers, Emits};
 ghost use Rattle.sval_core.specs.Values.{makes, whole_text_calls, whole_key_calls};
 ghost use Rattle.sval_io.specs.Sinks.{IsFull};
-ghost use Rattle.sval_json.specs.ErrorKinds.{seen_refusal};
+ghost use Rattle.sval_json.specs.ErrorKinds.{seen_refusal, error_kind};
 ghost use Rattle.sval_json.specs.Escape.{escaped};
 ghost use Rattle.sval_json.specs.Actions.{write, refuse, escapes};
 ghost use Rattle.sval_json.specs.SeenWriter.{quoted_text, seen_handler};
 ghost use Rattle.sval_json.specs.Steps.{value_written, refuse_in_key, opens, closes};
 ghost use Rattle.sval_json.specs.WriterLaw.{WriterView, Does, step_law, writer_law, writer_view, writer_standing};
+ghost use Rattle.sval_json.specs.WriterLaw.{fresh_writer, sink_of, stop_of};
 
-use crate::error::{Refusal, Stop};
+use crate::error::{Error as JsonError, Refusal, Stop};
 use crate::escape::write_escaped;
 use crate::number::NumberMachine;
 use crate::passed::{call_is_real, end_is_real, text_is_real};
@@ -43,11 +44,34 @@ pub(crate) enum Handler {
     Reads(NumberMachine),
 }
 
-/// Writes JSON to a sink.
+/// A stream that writes the JSON of its calls to a sink, without white space.
 ///
-/// Each method does the action of the steps that its clause names, or a first part of it where something stops it.
+/// It writes each call as it comes. So it goes behind a stream that changes or checks calls, and nothing is captured:
+/// behind a `Filter` of `sval_filter`, or a `Checked` of `sval_check`. It trusts that calls, ends and sizes are right,
+/// as [`stream_to_io_write`](crate::stream_to_io_write) does. What calls that spell no value write is no JSON.
+///
+/// A call is refused where the text so far, with it, is no JSON for one of two causes: a key that can't be one, or a
+/// number that is none. It is also refused where the sink declines. [`error`](JsonWriter::error) then tells the cause.
+/// It is for one value, and no call may come after a refused one: what was written ends within that.
+///
+/// ```
+/// let mut sink = VecSink::new(alloc);
+/// let mut writer = JsonWriter::new(&mut sink, Variants::Inside);
+/// writer.seq_begin(None)?;
+/// writer.seq_value_begin()?;
+/// writer.i32(-7)?;
+/// writer.seq_value_end()?;
+/// writer.seq_end()?;
+/// let sink = writer.into_sink();
+/// assert_eq!(rt; sink.as_slice(), b"[-7]".as_slice());
+/// ```
+///
+/// The sink takes what `written_in` of `specs/Steps.antt` says of the calls. That this is what the law means is proved
+/// in [`laws::writer_laws`](crate::laws::writer_laws).
+// Each private method does the action of the steps that its clause names, or a first part of it where something stops
+// it.
 #[derive(Drop)]
-pub(crate) struct Writer<'k, K: Sink> {
+pub struct JsonWriter<'k, K: Sink> {
     pub(crate) sink: &'k mut K,
     /// How a variant's name is written.
     pub(crate) variants: Variants,
@@ -63,7 +87,38 @@ pub(crate) struct Writer<'k, K: Sink> {
     pub(crate) why: Option<Stop>,
 }
 
-impl<'k, K: Sink> Writer<'k, K> {
+impl<'k, K: Sink> JsonWriter<'k, K> {
+    /// A writer to this sink, with the variants of enums in this style, which has taken no call.
+    pub fn new(sink: &'k mut K, variants: Variants) -> Self
+        ensures { result ≡ fresh_writer sink.entry variants }
+    {
+        JsonWriter {
+            sink,
+            variants,
+            named: false,
+            empty: true,
+            quoted: true,
+            handler: Handler::Escapes,
+            why: None,
+        }
+    }
+
+    /// Why a value wasn't written, or not whole: what stopped the writer, or else the value itself.
+    ///
+    /// It is for a value that was refused; of any other it is [`ErrorKind::Generic`](crate::ErrorKind::Generic).
+    pub fn error(&self) -> JsonError
+        ensures { result ≡ error_kind (stop_of self.now) }
+    {
+        JsonError::of(self.why)
+    }
+
+    /// The sink, with what was written.
+    pub fn into_sink(self) -> &'k mut K
+        ensures { result ≡ sink_of self.entry }
+    {
+        self.sink
+    }
+
     /// Writes these bytes as they are.
     fn write(&mut self, bytes: &[u8]) -> Result
         ensures { Does (write bytes.now) result (writer_view K.told self.old) (writer_view K.told self.new) }
@@ -266,7 +321,7 @@ impl<'k, K: Sink> Writer<'k, K> {
     }
 }
 
-impl<'k, 'sval, K: Sink> Stream<Lent<'sval>> for Writer<'k, K> {
+impl<'k, 'sval, K: Sink> Stream<Lent<'sval>> for JsonWriter<'k, K> {
     ghost View = { WriterView };
 
     ghost law = { writer_law };

@@ -13,13 +13,13 @@ ghost use Rattle.sval_json.specs.WriterLaw.{Does, writer_view};
 
 use crate::marks::{has_handle, is_none, number_of};
 use crate::style::Variants;
-use crate::writer::Writer;
+use crate::writer::JsonWriter;
 use crate::writer::short::Quoted;
 use itoa::Buffer;
 use sval_core::{Index, Label, Result, Tag};
 use sval_io::Sink;
 
-impl<'k, K: Sink> Writer<'k, K> {
+impl<'k, K: Sink> JsonWriter<'k, K> {
     /// Opens an object with an escaped text between others, or refuses where a key is due.
     #[inline(always)]
     fn open_between(&mut self, before: &str, text: &str, after: &str) -> Result

@@ -10,12 +10,12 @@ ghost use Rattle.sval_json.specs.Marks.{seen_handle};
 ghost use Rattle.sval_json.specs.WriterLaw.{Does, writer_view};
 
 use crate::marks::has_handle;
-use crate::writer::Writer;
+use crate::writer::JsonWriter;
 use crate::writer::short::Quoted;
 use sval_core::{Head, Index, Label, Result, Slot};
 use sval_io::Sink;
 
-impl<'k, K: Sink> Writer<'k, K> {
+impl<'k, K: Sink> JsonWriter<'k, K> {
     /// Opens a container under its name, where that is due.
     #[inline(never)]
     fn open_named(&mut self, label: Option<&Label>, index: Option<&Index>, bracket: &[u8]) -> Result

@@ -10,11 +10,11 @@ ghost use Rattle.sval_json.specs.WriterLaw.{Does, IsOnlySet, writer_view};
 use crate::error::Refusal;
 use crate::marks::{TextKind, has_handle, text_kind};
 use crate::number::NumberMachine;
-use crate::writer::{Handler, Writer};
+use crate::writer::{Handler, JsonWriter};
 use sval_core::{Index, Label, Result, Tag};
 use sval_io::Sink;
 
-impl<'k, K: Sink> Writer<'k, K> {
+impl<'k, K: Sink> JsonWriter<'k, K> {
     /// Refuses the JSON of a value in a key.
     fn refuse_value_in_key(&mut self, kind: TextKind) -> Result
         ensures { Does (refuses_key (seen_kind kind)) result

@@ -13,12 +13,12 @@ ghost use Rattle.sval_json.specs.WriterLaw.{Does, writer_view};
 use crate::error::{Refusal, Stop};
 use crate::number::NumberMachine;
 use crate::writer::short::Quoted;
-use crate::writer::{Handler, Writer};
+use crate::writer::{Handler, JsonWriter};
 use itoa::Buffer;
 use sval_core::{Error, Result};
 use sval_io::Sink;
 
-impl<'k, K: Sink> Writer<'k, K> {
+impl<'k, K: Sink> JsonWriter<'k, K> {
     /// Writes the quote of a text, where texts bring theirs.
     pub(crate) fn quote(&mut self) -> Result
         ensures { Does quote_if_quoted result (writer_view K.told self.old) (writer_view K.told self.new) }
