@@ -40,3 +40,4 @@ mod NextNodes
 mod SameTexts
 mod ParsedNaturals
 mod PartCounts
+mod Pointers

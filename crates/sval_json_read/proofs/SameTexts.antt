@@ -24,7 +24,7 @@ equal_tests a b c d f g = go (bytes_eq a b) (bytes_eq c d) refl refl
     go false true e h = absurd (cc (sym e ∙ (bytes_eq-Decides a b).1 (g ((bytes_eq-Decides c d).0 h))))
     go false false e h = refl
 
-same_rest : (front a b : List ℕ) → front ++ a ≡ front ++ b → a ≡ b
+pub same_rest : (front a b : List ℕ) → front ++ a ≡ front ++ b → a ≡ b
 same_rest [] a b e = e
 same_rest (byte ∷ front) a b e = same_rest front a b (ap (drop 1) e)
 

@@ -6,6 +6,6 @@ use Rattle.sval_json_read.specs.declared.document.ReadError.TheVariants as read
 
 -- the text of an error
 abbrev pub read_error_text : ReadError → List ℕ
-read_error_text read.NotUtf8 = codes "the bytes are not UTF-8"
-read_error_text (read.BadJson at) = codes "no JSON begins with more of the bytes than the first " ++ decimal at
+read_error_text (read.NotUtf8 at) = codes "invalid UTF-8 at byte " ++ decimal at
+read_error_text (read.BadJson at) = codes "invalid JSON at byte " ++ decimal at
 read_error_text read.NoMemory = codes "cannot allocate for a document"

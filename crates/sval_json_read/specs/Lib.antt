@@ -23,5 +23,6 @@ pub mod Lookups
 pub mod NodeSpans
 pub mod ValueNodes
 pub mod SeenParts
+pub mod Pointers
 pub mod ValueCodes
 pub mod KeptDocuments

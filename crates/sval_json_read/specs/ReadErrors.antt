@@ -1,5 +1,6 @@
 -- What reading bytes answers.
 use Rattle.std.specs.Prelude.{◌≡◌, ℕ, ◌≤◌, List, length, take, Some, IsUtf8}
+use Rattle.std.specs.Str.{IsValidUpTo}
 use Rattle.sval_label.specs.Calls.{Call}
 use Rattle.sval_core.specs.Spells.{Spells}
 use Rattle.sval_json_read.specs.declared.document.ReadError.{ReadError}
@@ -28,12 +29,12 @@ pub record KeepsSome (bytes : List ℕ) : Type 0 where
 
 -- the cause of each error of a text, which is UTF-8: it denotes no value and fails there, or some node is kept of it
 abbrev pub IsTextReadError : List ℕ → ReadError → Type 0
-IsTextReadError bytes NotUtf8 = ⊥
+IsTextReadError bytes (NotUtf8 at) = ⊥
 IsTextReadError bytes (BadJson at) = IsBadJson bytes at
 IsTextReadError bytes NoMemory = KeepsSome bytes
 
--- the cause of each error: the bytes are no UTF-8, they denote no value and fail there, or they are UTF-8 and some node is kept of them
+-- the cause of each error: the bytes are no UTF-8 and their longest front that is ends there, they denote no value and fail there, or they are UTF-8 and some node is kept of them
 abbrev pub IsJsonReadError : List ℕ → ReadError → Type 0
-IsJsonReadError bytes NotUtf8 = IsUtf8 bytes → ⊥
+IsJsonReadError bytes (NotUtf8 at) = (IsUtf8 bytes → ⊥) × IsValidUpTo bytes at
 IsJsonReadError bytes (BadJson at) = IsBadJson bytes at
 IsJsonReadError bytes NoMemory = IsUtf8 bytes × KeepsSome bytes

@@ -56,7 +56,7 @@ pub data JsonReadDue : Form → List ℕ → Option Fault → List ℕ → Type 
 
 -- the failure where bytes weren't read
 abbrev pub failure_of_json_read : ReadError → Failure
-failure_of_json_read reading.NotUtf8 = failure.Fault fault.NotUtf8
+failure_of_json_read (reading.NotUtf8 at) = failure.Fault fault.NotUtf8
 failure_of_json_read (reading.BadJson at) = failure.Fault (fault.BadJson at)
 failure_of_json_read reading.NoMemory = failure.NoMemory
 

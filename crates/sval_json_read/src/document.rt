@@ -26,8 +26,8 @@ use sval_ref::ValueRef;
 /// Why bytes can't be read.
 #[derive(Clone, Copy, Debug, PartialEq, Eq)]
 pub enum ReadError {
-    /// They are not UTF-8.
-    NotUtf8,
+    /// They are not UTF-8. `at` is the length of their longest front that is UTF-8.
+    NotUtf8 { at: u64 },
     /// They denote no value. `at` is the offset of the first byte with which no valid JSON text could go on, or the
     /// length where the text ends too early.
     BadJson { at: u64 },
@@ -43,13 +43,8 @@ impl fmt::Display for ReadError {
 
     fn fmt<W: fmt::Write>(&self, f: &mut fmt::Formatter<W>) -> fmt::Result {
         match *self {
-            ReadError::NotUtf8 => f.write_str("the bytes are not UTF-8"),
-            ReadError::BadJson { at } => {
-                write!(
-                    f,
-                    "no JSON begins with more of the bytes than the first {at}"
-                )
-            }
+            ReadError::NotUtf8 { at } => write!(f, "invalid UTF-8 at byte {at}"),
+            ReadError::BadJson { at } => write!(f, "invalid JSON at byte {at}"),
             ReadError::NoMemory => f.write_str("cannot allocate for a document"),
         }
     }
@@ -99,13 +94,15 @@ impl<'a> JsonDoc<'a> {
     /// let doc = JsonDoc::read(alloc, b"{\"a\" : [1, 1.50e+3]}".as_slice())?;
     /// assert_eq!(rt; stream_to_vec(alloc, &doc)?.as_slice(), b"{\"a\":[1,1.50e+3]}".as_slice());
     /// assert_eq!(rt; JsonDoc::read(alloc, b"[1,]".as_slice()).err(), Some(ReadError::BadJson { at: 3 }));
+    /// assert_eq!(rt; JsonDoc::read(alloc, b"[1,\xff".as_slice()).err(), Some(ReadError::NotUtf8 { at: 3 }));
     /// ```
     ///
     /// # Errors
     ///
-    /// [`ReadError::NotUtf8`] exactly where the bytes are no UTF-8. [`ReadError::BadJson`] comes only where they are
-    /// and denote no value. [`ReadError::NoMemory`] may come in its place and in that of a document, but only where
-    /// some first bytes hold a whole number or string, a bracket or brace, or the first letter of a word.
+    /// [`ReadError::NotUtf8`] exactly where the bytes are no UTF-8, with the length of their longest front that is.
+    /// [`ReadError::BadJson`] comes only where they are UTF-8 and denote no value. [`ReadError::NoMemory`] may come in
+    /// its place and in that of a document, but only where some first bytes hold a whole number or string, a bracket or
+    /// brace, or the first letter of a word.
     pub fn read(alloc: Global, bytes: &'a [u8]) -> Result<Self, ReadError>
         ensures ok { IfOk result (λ doc. IsReadText bytes.now (document_calls doc)) }
         ensures value { IfOk result (λ doc. Denotes bytes.now (value_in doc)) }
@@ -113,7 +110,9 @@ impl<'a> JsonDoc<'a> {
     {
         match from_utf8(bytes) {
             Ok(text) => JsonDoc::read_str(alloc, text),
-            Err(_) => Err(ReadError::NotUtf8),
+            Err(error) => Err(ReadError::NotUtf8 {
+                at: error.valid_up_to() as u64,
+            }),
         }
     }
 

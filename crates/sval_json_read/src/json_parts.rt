@@ -3,6 +3,7 @@
 ghost use Rattle.std.specs.Prelude.{◌≡◌, ◌<◌, map, length, drop, slice_get};
 ghost use Rattle.sval_json_read.specs.Lookups.{last_named, values_listed, paired};
 ghost use Rattle.sval_json_read.specs.Nodes.{tokens_in};
+ghost use Rattle.sval_json_read.specs.Pointers.{last_referenced};
 ghost use Rattle.sval_json_read.specs.SeenNodes.{seen_node};
 ghost use Rattle.sval_json_read.specs.SeenValues.{values_in, members_in};
 ghost use Rattle.sval_json_read.specs.ValueNodes.{AreOfValues, AreOfMembers};
@@ -182,6 +183,20 @@ impl<'d> JsonMembers<'d> {
             }
         }
         found
+    }
+
+    /// The value of the last pair whose name has this reference token (RFC 6901) among those that are left.
+    pub(crate) fn last_referenced(self, token: &str) -> Option<JsonRef<'d>>
+        ensures { result ≡ last_referenced token.now self.entry }
+    {
+        let mut left = self;
+        let mut last = None;
+        while let Some(member) = left.next() {
+            if member.name.has_token(token) {
+                last = Some(member.value);
+            }
+        }
+        last
     }
 }
 

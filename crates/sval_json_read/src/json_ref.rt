@@ -11,6 +11,7 @@ ghost use Rattle.sval_json_read.specs.Lookups.{json_kind_of, is_null, json_truth
 use crate::json_parts::{JsonItems, JsonMembers};
 use crate::json_text::JsonText;
 use crate::node::Node;
+use std::alloc::AllocError;
 use std::marker::Model;
 
 /// Which of the six a value is.
@@ -61,6 +62,13 @@ impl<'d> JsonRef<'d> {
         ensures { result ≡ value_in (tokens_in text.now (map seen_node nodes.now)) }
     {
         JsonRef { text, nodes }
+    }
+
+    /// A second view of this value.
+    pub(crate) fn again(&self) -> JsonRef<'d>
+        ensures { result ≡ self.now }
+    {
+        JsonRef::new(self.text, self.nodes)
     }
 
     /// Which of the six it is.
@@ -242,6 +250,19 @@ impl<'d> JsonRef<'d> {
             Some(members) => members.last_named(name),
             None => None,
         }
+    }
+}
+
+/// It takes no memory, and never fails.
+impl<'d> Clone for JsonRef<'d> {
+    ghost use Rattle.std.specs.Prelude.{◌≡◌, ⊤};
+
+    ghost is_clone = { λ value copy. copy ≡ value };
+
+    ghost is_infallible = { λ _. ⊤ };
+
+    fn clone(&self) -> Result<JsonRef<'d>, AllocError> {
+        Ok(self.again())
     }
 }
 

@@ -4,10 +4,12 @@ ghost use Rattle.std.specs.Prelude.{◌≡◌, ◌++◌, ℕ, List, None, IfOk, 
 ghost use Rattle.std.specs.Str.{bytes_eq};
 ghost use Rattle.sval_json_read.specs.RawStrings.{IsRaw};
 ghost use Rattle.sval_json_read.specs.Calls.{piece_bytes};
-ghost use Rattle.sval_json_read.specs.SeenPieces.{seen_piece};
+ghost use Rattle.sval_json_read.specs.Pointers.{reference_token};
+ghost use Rattle.sval_json_read.specs.SeenPieces.{seen_piece, piece_token};
 ghost use Rattle.sval_json_read.specs.SeenValues.{text_in};
 
 use crate::piece::{Piece, first_piece};
+use crate::pointer::behind_token;
 use crate::string_calls::is_one_run;
 use std::alloc::{AllocError, Global};
 use std::marker::Model;
@@ -87,10 +89,28 @@ impl<'d> JsonText<'d> {
         }
         left.is_empty()
     }
+
+    /// Whether the reference token of its text (RFC 6901) is this one. Takes no memory.
+    #[tactic(auto, using(crate::proofs::SameTexts::other_front, crate::proofs::Pointers::token_joined))]
+    pub(crate) fn has_token(&self, token: &str) -> bool
+        ensures { result ≡ bytes_eq (reference_token self.now) token.now }
+    {
+        let mut rest = self.raw;
+        let mut left = token.as_bytes();
+        while !rest.is_empty() {
+            let (piece, behind) = first_piece(rest);
+            match behind_piece_token(piece, left) {
+                Some(more) => left = more,
+                None => return false,
+            }
+            rest = behind;
+        }
+        left.is_empty()
+    }
 }
 
 /// What follows a text at the beginning of these bytes, where they begin with it.
-fn behind<'b>(text: &[u8], bytes: &'b [u8]) -> Option<&'b [u8]>
+pub(crate) fn behind<'b>(text: &[u8], bytes: &'b [u8]) -> Option<&'b [u8]>
     ensures found { IfSome result (λ more. bytes.now ≡ text.now ++ more.now) }
     ensures other { result ≡ None → (more : List ℕ) → bytes.now ≡ text.now ++ more → ⊥ }
 {
@@ -107,6 +127,20 @@ fn behind_piece<'b>(piece: Piece<'_>, bytes: &'b [u8]) -> Option<&'b [u8]>
         Piece::Escape(character) => {
             let mut buffer = [0; 4];
             behind(character.encode_utf8(&mut buffer).as_bytes(), bytes)
+        },
+    }
+}
+
+/// What follows the reference token of a piece's text at the beginning of these bytes, where they begin with it.
+fn behind_piece_token<'b>(piece: Piece<'_>, bytes: &'b [u8]) -> Option<&'b [u8]>
+    ensures found { IfSome result (λ more. bytes.now ≡ piece_token piece.entry ++ more.now) }
+    ensures other { result ≡ None → (more : List ℕ) → bytes.now ≡ piece_token piece.entry ++ more → ⊥ }
+{
+    match piece {
+        Piece::Run(run) => behind_token(run.as_bytes(), bytes),
+        Piece::Escape(character) => {
+            let mut buffer = [0; 4];
+            behind_token(character.encode_utf8(&mut buffer).as_bytes(), bytes)
         },
     }
 }

@@ -23,6 +23,7 @@ mod node_calls;
 mod number;
 mod number_calls;
 mod piece;
+mod pointer;
 mod program;
 mod reader;
 mod running;

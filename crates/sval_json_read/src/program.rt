@@ -17,7 +17,7 @@ impl From<ReadError> for Failure {
 
     fn from(error: ReadError) -> Failure {
         match error {
-            ReadError::NotUtf8 => Failure::Fault(Fault::NotUtf8),
+            ReadError::NotUtf8 { .. } => Failure::Fault(Fault::NotUtf8),
             ReadError::BadJson { at } => Failure::Fault(Fault::BadJson { at }),
             ReadError::NoMemory => Failure::NoMemory,
         }

@@ -1,6 +1,7 @@
 //! Texts, what they are written as again, where they fail, and the calls that they make.
 
 use crate::cases::{Case, try_cases};
+use crate::rows::rows_of;
 use std::alloc::Global;
 use std::test::Fail;
 use sval_check::TokenBuf;
@@ -13,10 +14,15 @@ struct Written;
 
 impl Case for Written {
     fn seen(alloc: Global, input: &str, _due: &str) -> Result<String, Fail> {
-        match JsonDoc::read(alloc, input.as_bytes()) {
-            Ok(doc) => Ok(format!(in alloc; "json {}", stream_to_string(alloc, &doc)?)?),
-            Err(error) => Ok(format!(in alloc; "error {error:?}")?),
-        }
+        written(alloc, input.as_bytes())
+    }
+}
+
+/// What is written of bytes, or why they aren't read.
+fn written(alloc: Global, bytes: &[u8]) -> Result<String, Fail> {
+    match JsonDoc::read(alloc, bytes) {
+        Ok(doc) => Ok(format!(in alloc; "json {}", stream_to_string(alloc, &doc)?)?),
+        Err(error) => Ok(format!(in alloc; "error {error:?}")?),
     }
 }
 
@@ -109,6 +115,24 @@ true␄
 = json [null,[],{},false]
 "#;
 
+/// Bytes that are no UTF-8: a byte that is none, one that begins no character, a surrogate, and a front of a character.
+const NOT_UTF8: &'static str = r#"
+¦ff¦␄
+= error NotUtf8 { at: 0 }
+
+[1,¦c328¦␄
+= error NotUtf8 { at: 3 }
+
+"ä¦eda080¦"␄
+= error NotUtf8 { at: 3 }
+
+"ä¦f09d84¦␄
+= error NotUtf8 { at: 3 }
+
+[1,,¦80¦␄
+= error NotUtf8 { at: 4 }
+"#;
+
 /// A number that fits no `i64` is text.
 const CALLS: &'static str = r#"
 9223372036854775808␄
@@ -121,4 +145,13 @@ const CALLS: &'static str = r#"
 fn texts_and_their_calls(rt: HostRuntime) -> Result<(), Fail> {
     try_cases::<Written>(&rt, rt.alloc(), WRITTEN)?;
     try_cases::<Calls>(&rt, rt.alloc(), CALLS)
+}
+
+#[test]
+fn bytes_that_are_no_utf8(rt: HostRuntime) -> Result<(), Fail> {
+    for row in &rows_of(rt.alloc(), NOT_UTF8)? {
+        let seen = written(rt.alloc(), row.input.as_slice())?;
+        assert_eq!(rt; seen.as_str(), row.due.as_str());
+    }
+    Ok(())
 }

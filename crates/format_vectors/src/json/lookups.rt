@@ -65,6 +65,36 @@ impl Case for Size {
     }
 }
 
+/// A pointer, and behind `at` what it references in the example of RFC 6901, section 5.
+struct Example;
+
+impl Case for Example {
+    fn seen(alloc: Global, input: &str, _due: &str) -> Result<String, Fail> {
+        referenced(alloc, EXAMPLE, input)
+    }
+}
+
+/// A line that is a pointer, a document, and behind `at` what the pointer references in it.
+struct Pointed;
+
+impl Case for Pointed {
+    fn seen(alloc: Global, input: &str, _due: &str) -> Result<String, Fail> {
+        let (pointer, document) = input.split_once('\n').unwrap_or((input, "null"));
+        referenced(alloc, document, pointer)
+    }
+}
+
+/// What a pointer references in a document.
+fn referenced(alloc: Global, document: &str, pointer: &str) -> Result<String, Fail> {
+    let mut seen = String::from_str(alloc, "at ")?;
+    let doc = JsonDoc::read_str(alloc, document)?;
+    match doc.root().pointer(pointer) {
+        Some(value) => push_parts(alloc, &value, &mut seen)?,
+        None => seen.push_str("nothing")?,
+    }
+    Ok(seen)
+}
+
 /// What a value is taken for.
 fn push_one(alloc: Global, value: &JsonRef<'_>, seen: &mut String) -> Result<(), Fail> {
     let kind = value.kind();
@@ -195,6 +225,119 @@ null␄
 = size Some(4) false Some(3) None
 "#;
 
+/// The document of RFC 6901, section 5.
+const EXAMPLE: &'static str = r#"{
+  "foo": ["bar", "baz"],
+  "": 0,
+  "a/b": 1,
+  "c%d": 2,
+  "e^f": 3,
+  "g|h": 4,
+  "i\\j": 5,
+  "k\"l": 6,
+  " ": 7,
+  "m~n": 8
+}"#;
+
+/// The pointers of that section, and others.
+const EXAMPLES: &'static str = r#"
+␄
+= at Object None None None None; "foo" Array None None None None; "" Number None Some(0) Some(0) Some("0"); "a/b" Number None Some(1) Some(1) Some("1"); "c%d" Number None Some(2) Some(2) Some("2"); "e^f" Number None Some(3) Some(3) Some("3"); "g|h" Number None Some(4) Some(4) Some("4"); "i\\j" Number None Some(5) Some(5) Some("5"); "k\"l" Number None Some(6) Some(6) Some("6"); " " Number None Some(7) Some(7) Some("7"); "m~n" Number None Some(8) Some(8) Some("8")
+/foo␄
+= at Array None None None None; Text None None None None Some("bar") "bar" true; Text None None None None Some("baz") "baz" true
+/foo/0␄
+= at Text None None None None Some("bar") "bar" true
+/␄
+= at Number None Some(0) Some(0) Some("0")
+/a~1b␄
+= at Number None Some(1) Some(1) Some("1")
+/c%d␄
+= at Number None Some(2) Some(2) Some("2")
+/e^f␄
+= at Number None Some(3) Some(3) Some("3")
+/g|h␄
+= at Number None Some(4) Some(4) Some("4")
+/i\j␄
+= at Number None Some(5) Some(5) Some("5")
+/k"l␄
+= at Number None Some(6) Some(6) Some("6")
+/ ␄
+= at Number None Some(7) Some(7) Some("7")
+/m~0n␄
+= at Number None Some(8) Some(8) Some("8")
+/foo/1␄
+= at Text None None None None Some("baz") "baz" true
+/foo/2␄
+= at nothing
+/foo/00␄
+= at nothing
+/foo/01␄
+= at nothing
+/foo/+1␄
+= at nothing
+/foo/-␄
+= at nothing
+/foo/␄
+= at nothing
+/foo/18446744073709551616␄
+= at nothing
+/foo/0/0␄
+= at nothing
+foo␄
+= at nothing
+/a/b␄
+= at nothing
+/a~1␄
+= at nothing
+/a~1b/␄
+= at nothing
+/m~n␄
+= at nothing
+/m~␄
+= at nothing
+/a~2b␄
+= at nothing
+/m~01n␄
+= at nothing
+"#;
+
+/// Escapes of names in both, names that come twice, and names that look like indexes.
+const POINTERS: &'static str = r#"
+/~01
+{"/":1,"~1":2}␄
+= at Number None Some(2) Some(2) Some("2")
+/~10
+{"~10":1,"/0":2}␄
+= at Number None Some(2) Some(2) Some("2")
+/~1~0/0
+{"/~":[3]}␄
+= at Number None Some(3) Some(3) Some("3")
+/~1
+{"\u002f":1,"~1":2}␄
+= at Number None Some(1) Some(1) Some("1")
+/~0
+{"\u007e":1,"~0":2}␄
+= at Number None Some(1) Some(1) Some("1")
+/ä~1𝄞
+{"\u00e4\/\ud834\udd1e":4}␄
+= at Number None Some(4) Some(4) Some("4")
+/a/1/b
+{"a":[1],"a":[0,{"b":5,"b":6}]}␄
+= at Number None Some(6) Some(6) Some("6")
+/a/0
+{"a":[1],"a":{"0":7}}␄
+= at Number None Some(7) Some(7) Some("7")
+/0/10
+[[0,1,2,3,4,5,6,7,8,9,11]]␄
+= at Number None Some(11) Some(11) Some("11")
+/0
+7␄
+= at nothing
+/
+""␄
+= at nothing
+"#;
+
 #[test]
 fn what_values_are(rt: HostRuntime) -> Result<(), Fail> {
     try_cases::<Parts>(&rt, rt.alloc(), PARTS)
@@ -213,4 +356,10 @@ fn wide_numbers(rt: HostRuntime) -> Result<(), Fail> {
 #[test]
 fn sizes_and_items(rt: HostRuntime) -> Result<(), Fail> {
     try_cases::<Size>(&rt, rt.alloc(), SIZES)
+}
+
+#[test]
+fn pointers(rt: HostRuntime) -> Result<(), Fail> {
+    try_cases::<Example>(&rt, rt.alloc(), EXAMPLES)?;
+    try_cases::<Pointed>(&rt, rt.alloc(), POINTERS)
 }

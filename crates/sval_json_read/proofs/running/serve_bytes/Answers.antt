@@ -18,7 +18,7 @@ faulty : {input : List ℕ} {asked : Form} {why : Fault} (told : Told) → JsonR
 faulty told d = record { bytes = []; due = d; writes = writes_nothing told }
 
 unread : {K : Type 0} (told : K → Told) (input : List ℕ) (asked : Form) (old : K) (why : ReadError) → IsJsonReadError input why → ServesBytes json_read_terms told asked input (Err (failure_of_json_read why)) old old
-unread told input asked old reading.NotUtf8 cause = record { all = faulty (told old) (no_utf8 cause); known = refl; untouched = λ e. refl }
+unread told input asked old (reading.NotUtf8 at) cause = record { all = faulty (told old) (no_utf8 cause.0); known = refl; untouched = λ e. refl }
 unread told input asked old (reading.BadJson at) cause = record { all = faulty (told old) (no_json cause); known = refl; untouched = λ e. refl }
 unread told input asked old reading.NoMemory cause = refl
 

@@ -6,7 +6,7 @@ use Rattle.sval_json_read.specs.ReadErrors.{IsJsonReadError, IsTextReadError}
 use Rattle.sval_json_read.proofs.document.JsonDoc.read.Goals as goal
 
 of_bytes : (bytes : List ℕ) (error : ReadError) → IsUtf8 bytes → IsTextReadError bytes error → IsJsonReadError bytes error
-of_bytes bytes reading.NotUtf8 u h = absurd h
+of_bytes bytes (reading.NotUtf8 at) u h = absurd h
 of_bytes bytes (reading.BadJson at) u h = h
 of_bytes bytes reading.NoMemory u h = (u, h)
 

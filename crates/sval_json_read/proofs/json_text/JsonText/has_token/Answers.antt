@@ -1,0 +1,23 @@
+use Rattle.std.proofs.Common.{◌++◌, rules, sym, ap, ◌∙◌, map}
+use Rattle.std.specs.Str.{bytes_eq}
+use Rattle.std.specs.List.{concat}
+use Rattle.sval_json_read.specs.Calls.{piece_bytes}
+use Rattle.sval_json_read.specs.Pointers.{reference_token}
+use Rattle.sval_json_read.specs.SeenPieces.{seen_piece}
+use Rattle.sval_json_read.specs.SeenValues.{text_in}
+use Rattle.sval_json_read.proofs.SameTexts.{behind_front}
+use Rattle.sval_json_read.proofs.Pointers.{token_joined}
+use Rattle.sval_json_read.proofs.json_text.JsonText.has_token.Goals as goal
+
+pub loop-rest-preserved : goal.loop-rest-preserved
+loop-rest-preserved c =
+    let text = piece_bytes (seen_piece c.first_piece.result.0) in
+    let more = text_in c.first_piece.result.1.now in (
+      search rules,
+      c.first_piece.ensures.is_raw,
+      sym (behind_front (reference_token text) (reference_token more) c.in-Some.more.now)
+          ∙ ap (λ row. bytes_eq (reference_token text ++ reference_token more) row) (sym c.in-Some.ensures.found)
+          ∙ ap (λ row. bytes_eq row c.loop-rest.left.now) (sym (token_joined text more))
+          ∙ ap (λ row. bytes_eq (reference_token (concat (map piece_bytes row))) c.loop-rest.left.now) (sym c.first_piece.ensures.pieces)
+          ∙ c.loop-rest.invariant.2,
+    )
