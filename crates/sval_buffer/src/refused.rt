@@ -4,6 +4,7 @@ ghost use Rattle.std.specs.Prelude.{◌≡◌};
 ghost use Rattle.sval_buffer.specs.Capture.{IsNoAlloc};
 
 use crate::error::{Error, Word, no_alloc};
+use std::fmt;
 use sval_core::NoMemory;
 
 /// A value that a call took and hands back, and why.
@@ -22,6 +23,20 @@ impl<T: Drop> From<Refused<T>> for Error {
         refused.error
     }
 }
+
+/// Prints the error alone.
+impl<T: Drop> fmt::Display for Refused<T> {
+    ghost use Rattle.std.specs.Prelude.{Some};
+    ghost use Rattle.sval_buffer.specs.ErrorTexts.{buffer_error_text};
+
+    ghost output = { λ refused. Some (buffer_error_text refused.error) };
+
+    fn fmt<W: fmt::Write>(&self, f: &mut fmt::Formatter<W>) -> fmt::Result {
+        self.error.fmt(f)
+    }
+}
+
+impl<T: Drop + fmt::Debug> std::error::Error for Refused<T> {}
 
 /// Says that there was no memory for the parts of a value.
 pub(crate) fn no_memory(cause: NoMemory) -> Error
