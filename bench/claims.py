@@ -11,8 +11,8 @@ colon. `complaints` lists what isn't there:
 
 - in fenced code, a name that a `use` line takes from a crate of this repository, and a file of examples/ or crates/.
 
-No other code is a claim: words of a command, numbers and their types, JSON, what a sentence calls the kit's, and paths
-with a part in capitals, which stand for others.
+No other code is a claim: words of a command, numbers and their types, JSON, what a sentence calls the kit's, paths with a
+part in capitals, which stand for others, and paths below a folder that the page's shell lines make by `rt new`.
 """
 import dataclasses
 import functools
@@ -160,7 +160,7 @@ def bases(statement):
 
 def is_there(path, statement):
     """Whether a file is there, below one of these folders, as a folder that crates have, or as an edit by its name."""
-    if any((base / path).exists() for base in bases(statement)):
+    if is_made(path, statement.page) or any((base / path).exists() for base in bases(statement)):
         return True
     folders = ["crates/*"] if re.fullmatch(r"\w+/", path) else ["crates/*/must-fail", "bench/edits/*"]
     return any(found for folder in folders for found in TOP.glob(f"{folder}/{path}"))
@@ -264,11 +264,17 @@ def imported(page):
     return roots - crate_names()
 
 
+def is_made(path, page):
+    """Whether the shell lines of a page make the folder that a path is below."""
+    made = {found[1] for _, line in fences(page) if (found := re.match(r"rt new (\S+)", line))}
+    return any(f"{path}/".startswith(f"{folder}/") for folder in made)
+
+
 def bad_fences(page):
     """What fenced code takes from a crate of this repository, and the files that it reads, that aren't there."""
     for number, line in fences(page):
         for path in re.findall(r"(?<!\w)(?:\.\./)*((?:examples|crates)/[\w./]+)", line):
-            if not (TOP / path).exists():
+            if not (TOP / path).exists() and not is_made(path, page):
                 yield f"{page}:{number}: no file {path}"
         for name, (module, word) in imports(line)[0].items():
             known = module.split(".")[0] in crate_names() and ".declared." not in module
