@@ -1,5 +1,5 @@
 -- The begin of an item as steps of the reader.
-use Rattle.std.specs.Prelude.{◌≡◌, ◌≢◌, ℕ, ◌+◌, ◌<◌, ◌≤◌, Bool, true, false, ◌&&◌, ◌==◌, nat_le, if◌then◌else◌, List, [], ◌∷◌, ◌++◌, length, take, drop, get_or, Option, None, IsTrue, ⊤, refl}
+use Rattle.std.specs.Prelude.{◌≡◌, ◌≢◌, ℕ, ◌+◌, ◌<◌, ◌≤◌, Bool, true, false, ◌&&◌, ◌==◌, nat_le, if◌then◌else◌, List, [], ◌∷◌, ◌++◌, length, take, drop, get_or, Option, Some, None, IsTrue, ⊤, refl}
 use Rattle.std.proofs.Common.{sym, ap, ◌∙◌, subst, arith, append_assoc, append-nil}
 use Rattle.std.proofs.lemmas.Bool.Decides.{nat_tests}
 use Rattle.std.proofs.lemmas.List.{length-drop, length-take-le, drop-drop}
@@ -11,7 +11,7 @@ use Rattle.sval_cbor_read.specs.declared.bignum.Bignum.{Bignum as MadeBignum}
 use Rattle.sval_cbor_read.specs.declared.item.Item as made_item
 use Rattle.sval_cbor_read.specs.declared.item.Item.TheVariants as item
 use Rattle.sval_cbor_read.specs.declared.item.Begun.{Begun}
-use Rattle.sval_cbor_read.specs.Items.{head_of, is_piece, big_endian, ArePieces, break, piece, IsByteString, definite, in_pieces}
+use Rattle.sval_cbor_read.specs.Items.{head, head_of, is_piece, big_endian, ArePieces, break, piece, IsByteString, definite, in_pieces}
 use Rattle.sval_cbor_read.specs.Reading.{OpenItem, ItemState, Item, Ended, Bignum, BignumPieces, Move, moves, mark_of, first_step, item_step, head_step, body_step, string_step, string_calls, tag_step, fits, number_call, reading_step, Reached, onward}
 use Rattle.sval_cbor_read.specs.Steps.{Spot, spot, ItemSteps, one_step, more_steps, IsStuck}
 use Rattle.sval_cbor_read.specs.SeenHeads.{IsHead}
@@ -19,13 +19,14 @@ use Rattle.sval_cbor_read.specs.SeenStrings.{IsBehind}
 use Rattle.sval_cbor_read.specs.SeenBignums.{IsNumberAt}
 use Rattle.sval_cbor_read.specs.SeenNodes.{byte_string, step_calls}
 use Rattle.sval_cbor_read.proofs.ByteStrings.{byte_string_is}
-use Rattle.sval_cbor_read.specs.SeenItems.{state_behind, item_begin_calls, IsBegun, IsMarked, BeginsBehind, BeginsNothingBehind, Begins, BeginsNothing}
+use Rattle.sval_cbor_read.specs.SeenItems.{state_behind, item_begin_calls, IsBegun, IsMarked, BeginsBehind, BeginsNothingBehind, no_step_behind, no_number_behind, Begins, BeginsNoItem, no_step, no_number, BeginsNothing}
+use Rattle.sval_cbor_read.specs.SeenStops.{IsNumberTag, LacksNumber}
 use Rattle.sval_cbor_read.proofs.Bignums.{bytes_at, nothing_at}
 use Rattle.sval_cbor_read.proofs.OneTree.{one_byte_string}
 use Rattle.sval_cbor_read.proofs.Strings.{string_goes, bignum_read, bignum_piece_read, bignum_goes}
 use Rattle.sval_cbor_read.proofs.Sound.{number_needs}
-use Rattle.sval_cbor_read.proofs.Complete.{item_is_read, other_tag}
-use Rattle.sval_cbor_read.proofs.OneReading.{reads_after, stops_badly}
+use Rattle.sval_cbor_read.proofs.Complete.{front_is_read, item_goes, other_tag}
+use Rattle.sval_cbor_read.proofs.OneReading.{reads_after, stops_in_front}
 
 -- ---- steps
 
@@ -36,7 +37,7 @@ after_nothing {next = next} {behind = behind} {calls = calls} {last = last} firs
 
 -- where there is no step, the reader is stuck
 pub no_item_step : {frames : List OpenItem} {left : List ℕ} {made : List Call} → reading_step (Item frames) left ≡ None → IsStuck (spot (Item frames) left made)
-no_item_step {frames = frames} {left = left} {made = made} e bytes reached tree is_item = stops_badly bytes left (Item frames) made reached e (λ end. let f = end.0 in cc f) tree is_item
+no_item_step e bytes reached tree rest is_item = stops_in_front reached e (λ f. cc f) is_item
 
 -- ---- heads
 
@@ -77,7 +78,7 @@ begins_behind bytes h found calls next e o s l k =
     }
 
 pub begins_nothing_behind : (bytes : List ℕ) (h : made_head.Head) → ((frames : List OpenItem) → body_step h.major h.number (drop h.next bytes) frames ≡ None) → BeginsNothingBehind bytes h
-begins_nothing_behind bytes h e frames left made f = no_item_step (f ∙ e frames)
+begins_nothing_behind bytes h e = no_step_behind e
 
 -- a head with this major type
 pub major_is : (h : made_head.Head) (major : ℕ) (after : List ℕ) (frames : List OpenItem) → h.major ≡ major → body_step h.major h.number after frames ≡ body_step major h.number after frames
@@ -128,10 +129,16 @@ number_leads tag frames move s h m left made e = after_nothing (one_step (e ∙ 
 -- without one the reader is stuck
 pub number_lacks : (tag : ℕ) (bytes : List ℕ) (frames : List OpenItem) (move : Option Move) → ((content rest : List ℕ) → IsByteString bytes content rest → fits tag content ≡ true → ⊥) → move ≡ moves [] bytes (Bignum tag frames)
     → (left : List ℕ) (made : List Call) → reading_step (Item frames) left ≡ move → IsStuck (spot (Item frames) left made)
-number_lacks tag bytes frames move h m left made e start reached tree is_item =
+number_lacks tag bytes frames move h m left made e start reached tree rest is_item =
     let behind : Reached start (Bignum tag frames) bytes (made ++ []) = onward reached (e ∙ m) in
-    let (content, rest, s, f) = number_needs (reads_after behind (item_is_read start tree is_item).0).1 in
-    h content rest s f
+    let (content, behind_it, s, f) = number_needs (reads_after behind (front_is_read rest start tree is_item).0).1 in
+    h content behind_it s f
+
+-- where no item begins, the reader is stuck
+pub begins_nothing_stuck : {bytes : List ℕ} (frames : List OpenItem) (made : List Call) → BeginsNoItem bytes → IsStuck (spot (Item frames) bytes made)
+begins_nothing_stuck frames made (no_step e) = no_item_step (e frames)
+begins_nothing_stuck {bytes = bytes} frames made (no_number {tag = tag} {after = after} e t n) =
+    number_lacks tag after frames (item_step bytes frames) n (item_goes bytes 6 tag after frames e refl ∙ t after frames) bytes made refl
 
 -- ---- marks
 
@@ -171,13 +178,14 @@ headed_begins bytes at h begun l e (later, (is, before, within)) b =
 
 pub headed_begins_nothing : (bytes : List ℕ) (at : ℕ) (h : made_head.Head) → at < length bytes → mark_of (get_or bytes at 0) ≡ None → (at < h.next) × IsHead bytes at h (head_of (drop at bytes))
     → BeginsNothingBehind bytes h → BeginsNothing bytes at
-headed_begins_nothing bytes at h l e (later, (is, before, within)) b frames made = b frames (drop at bytes) made (unmarked_step bytes at frames l e ∙ ap (λ x. head_step x frames) is)
+headed_begins_nothing bytes at h l e (later, (is, before, within)) (no_step_behind n) = no_step (λ frames. unmarked_step bytes at frames l e ∙ ap (λ x. head_step x frames) is ∙ n frames)
+headed_begins_nothing bytes at h l e (later, (is, before, within)) (no_number_behind m t n) = no_number (is ∙ ap (λ x. Some (head x h.number (drop h.next bytes))) m) t n
 
 pub no_head_begins_nothing : (bytes : List ℕ) (at : ℕ) → at < length bytes → mark_of (get_or bytes at 0) ≡ None → head_of (drop at bytes) ≡ None → BeginsNothing bytes at
-no_head_begins_nothing bytes at l e h frames made = no_item_step (unmarked_step bytes at frames l e ∙ ap (λ x. head_step x frames) h)
+no_head_begins_nothing bytes at l e h = no_step (λ frames. unmarked_step bytes at frames l e ∙ ap (λ x. head_step x frames) h)
 
 pub end_begins_nothing : (bytes : List ℕ) (at : ℕ) → length bytes ≤ at → BeginsNothing bytes at
-end_begins_nothing bytes at l frames made = no_item_step (ap (λ x. item_step x frames) (nothing_at bytes at l))
+end_begins_nothing bytes at l = no_step (λ frames. ap (λ x. item_step x frames) (nothing_at bytes at l))
 
 -- no other byte is a mark
 pub no_mark : (first : ℕ) → first ≢ 0x5f → first ≢ 0x7f → first ≢ 0x9f → first ≢ 0xbf → first ≢ 0xf4 → first ≢ 0xf5 → first ≢ 0xf6 → mark_of first ≡ None
@@ -264,10 +272,8 @@ negative_big_begins bytes h bignum m k number f = record {
   within = number.within;
 }
 
-pub no_number : (tag : ℕ) (bytes : List ℕ) (h : made_head.Head) → h.major ≡ 6 → h.number ≡ tag → ((after : List ℕ) (frames : List OpenItem) → tag_step tag after frames ≡ moves [] after (Bignum tag frames))
-    → ((content rest : List ℕ) → IsByteString (drop h.next bytes) content rest → fits tag content ≡ true → ⊥) → BeginsNothingBehind bytes h
-no_number tag bytes h m k e n frames left made step_is =
-    number_lacks tag (drop h.next bytes) frames (body_step h.major h.number (drop h.next bytes) frames) n (number_move tag h (drop h.next bytes) frames m k (e (drop h.next bytes) frames)) left made step_is
+pub lacks_number : (tag : ℕ) (bytes : List ℕ) (h : made_head.Head) → h.major ≡ 6 → h.number ≡ tag → IsNumberTag tag → LacksNumber tag (drop h.next bytes) → BeginsNothingBehind bytes h
+lacks_number tag bytes h m k t n = no_number_behind m (subst IsNumberTag (sym k) t) (subst (λ x. LacksNumber x (drop h.next bytes)) (sym k) n)
 
 -- there are no items with other major types
 pub no_major : (h : made_head.Head) (after : List ℕ) (frames : List OpenItem) → h.major ≢ 0 → h.major ≢ 1 → h.major ≢ 2 → h.major ≢ 3 → h.major ≢ 4 → h.major ≢ 5 → h.major ≢ 6 → body_step h.major h.number after frames ≡ None

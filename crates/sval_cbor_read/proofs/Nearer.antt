@@ -6,7 +6,7 @@ use Rattle.std.proofs.lemmas.List.{length-drop}
 use Rattle.sval_label.specs.Calls.{Call, U64, U128, I128}
 use Rattle.sval_label.specs.Calls as calls
 use Rattle.sval_cbor_read.specs.Items.{ItemHead, head, wide_head, head_of, is_piece, negative_type}
-use Rattle.sval_cbor_read.specs.Reading.{OpenItem, Items, Keys, Values, ItemState, Item, Part, Ended, Pieces, Bignum, BignumPieces, Move, moves, Mark, BinaryPieces, TextPieces, SeqToBreak, MapToBreak, Falsehood, mark_of, marked, string_calls, string_step, tag_step, body_step, head_step, first_step, item_step, fragment_call, string_end, with_piece, piece_step, fits, number_call, bignum_step, bignum_begins, bignum_piece, part_or_end, part_step, ended_step, reading_step, Reads, at_end, goes_on, IsReadAs, distance}
+use Rattle.sval_cbor_read.specs.Reading.{OpenItem, Items, Keys, Values, ItemState, Item, Part, Ended, Pieces, Bignum, BignumPieces, Move, moves, Mark, BinaryPieces, TextPieces, SeqToBreak, MapToBreak, Falsehood, mark_of, marked, string_calls, string_step, tag_step, body_step, head_step, first_step, item_step, fragment_call, string_end, with_piece, piece_step, fits, number_call, bignum_step, bignum_begins, bignum_piece, part_or_end, part_step, ended_step, reading_step, distance}
 use Rattle.sval_cbor_read.specs.Reading as reading
 
 near : {made : List Call} {left : List ℕ} {next : ItemState} {m : Move} {k : ℕ} → moves made left next ≡ Some m → distance next left < k → distance m.next m.left < k

@@ -28,7 +28,7 @@ string_stands major bytes at h content next (later, (is, before, within)) m b k 
     }
 
 -- a head with other bytes behind it is none of these
-same_head : {m n : ℕ} {after : List ℕ} {major number : ℕ} {other : List ℕ} {o : Option items.ItemHead} → o ≡ Some (items.head m n after) → o ≡ Some (items.head major number other)
+pub same_head : {m n : ℕ} {after : List ℕ} {major number : ℕ} {other : List ℕ} {o : Option items.ItemHead} → o ≡ Some (items.head m n after) → o ≡ Some (items.head major number other)
     → (m ≡ major) × (n ≡ number) × (after ≡ other)
 same_head e f = (cc, cc, cc)
 

@@ -17,8 +17,11 @@ use Rattle.sval_cbor_read.specs.declared.reader.Expected.TheVariants as expected
 use Rattle.sval_cbor_read.specs.declared.reader.Reader.{Reader}
 use Rattle.sval_cbor_read.specs.declared.node.Place.{Place}
 use Rattle.sval_cbor_read.specs.Items.{IsDefiniteString, ArePieces}
-use Rattle.sval_cbor_read.specs.Reading.{OpenItem, Items, Keys, ItemState, Item, Part, Ended, Pieces, moves, item_step, part_step, fragment_call, string_end, piece_step, reading_step}
-use Rattle.sval_cbor_read.specs.Steps.{Spot, spot, ItemSteps, one_step, IsStuck, MakesSomeCall}
+use Rattle.sval_cbor_read.specs.Reading.{OpenItem, Items, Keys, ItemState, Item, Ended, Pieces, moves, item_step, part_step, fragment_call, string_end, piece_step, reading_step}
+use Rattle.sval_cbor_read.specs.Steps.{Spot, spot, ItemSteps, one_step, at_once, IsStuckWith, MakesSomeCall}
+use Rattle.sval_cbor_read.specs.SeenStops.{ItemStops}
+use Rattle.sval_cbor_read.proofs.BegunItems.{begins_nothing_stuck}
+use Rattle.sval_cbor_read.proofs.Stops.{no_piece_step}
 use Rattle.sval_cbor_read.specs.SeenNodes.{item_node, item_begins_before, node_own_calls, piece_calls, item_ends_behind, item_place_begins, item_place_ends, step_calls, streamed_items, NodeBegins, NodesStand}
 use Rattle.sval_cbor_read.specs.SeenFrames.{frame_of, around_frame, changed, item_place_in}
 use Rattle.sval_cbor_read.specs.SeenItems.{state_behind, item_begin_calls, IsBegun, IsNoTag, Begins, BeginsNothing, major_of}
@@ -29,8 +32,8 @@ use Rattle.sval_cbor_read.specs.SeenStrings.{IsStringAt, HasNoString}
 use Rattle.sval_cbor_read.proofs.Bignums.{bytes_at, nothing_at, no_pieces_left, no_first_piece}
 use Rattle.sval_cbor_read.proofs.Strings.{piece_goes, piece_read}
 use Rattle.sval_cbor_read.proofs.Sound.{pieces_need}
-use Rattle.sval_cbor_read.proofs.Complete.{item_is_read}
-use Rattle.sval_cbor_read.proofs.OneReading.{reads_after, stops_badly}
+use Rattle.sval_cbor_read.proofs.Complete.{front_is_read}
+use Rattle.sval_cbor_read.proofs.OneReading.{reads_after, stops_in_front}
 
 -- ---- spots
 
@@ -50,8 +53,8 @@ pub from_spot : {last : Spot} (bytes : List ℕ) (reader : Reader) (expects : ma
 from_spot {last = last} bytes reader expects e s = subst (λ x. ItemSteps x last) (sym (spot_is bytes reader expects reader.opened reader.at reader.nodes.items e refl refl refl)) s
 
 pub stuck_at : (bytes : List ℕ) (reader : Reader) (expects : made_expected.Expected) → reader.expected ≡ expects
-    → IsStuck (spot (item_state_of expects reader.opened) (drop reader.at bytes) (streamed_items bytes reader.nodes.items ++ calls_before expects reader.opened)) → IsStuck (spot_of bytes reader)
-stuck_at bytes reader expects e s = subst IsStuck (sym (spot_is bytes reader expects reader.opened reader.at reader.nodes.items e refl refl refl)) s
+    → (left : List ℕ) → IsStuckWith (spot (item_state_of expects reader.opened) (drop reader.at bytes) (streamed_items bytes reader.nodes.items ++ calls_before expects reader.opened)) left → IsStuckWith (spot_of bytes reader) left
+stuck_at bytes reader expects e left s = subst (λ x. IsStuckWith x left) (sym (spot_is bytes reader expects reader.opened reader.at reader.nodes.items e refl refl refl)) s
 
 pub makes_at : (bytes : List ℕ) (reader : Reader) (expects : made_expected.Expected) → reader.expected ≡ expects
     → MakesSomeCall (spot (item_state_of expects reader.opened) (drop reader.at bytes) (streamed_items bytes reader.nodes.items ++ calls_before expects reader.opened)) → MakesSomeCall (spot_of bytes reader)
@@ -118,11 +121,16 @@ item_goes_on bytes old new begun e b k = record {
   kept = all_kept bytes old new begun.next begun.item b.is k;
 }
 
-pub item_stuck : (bytes : List ℕ) (old new : Reader) → old.expected ≡ expected.AnItem → old.at ≤ length bytes → new ≡ old → BeginsNothing bytes old.at → ReadsItemsOn bytes old new false
-item_stuck bytes old new e w same b = record {
-  goes = stuck_at bytes old expected.AnItem e (b old.opened (streamed_items bytes old.nodes.items ++ item_place_begins (item_place_in old.opened)));
-  within = subst (λ r. r.at ≤ length bytes) (sym same) w;
-  kept = λ all. subst (λ r. NodesStand bytes r.nodes.items) (sym same) all;
+pub item_stuck : (bytes : List ℕ) (old : Reader) (stop : ℕ) → old.expected ≡ expected.AnItem → BeginsNothing bytes old.at → ItemStops bytes old.at stop → ReadsItemsOn bytes old (record old { at = stop }) false
+item_stuck bytes old stop e b s = record {
+  goes =
+      stuck_at bytes old expected.AnItem e (drop stop bytes)
+      (record {
+        no_item = begins_nothing_stuck old.opened (streamed_items bytes old.nodes.items ++ item_place_begins (item_place_in old.opened)) b;
+        stops = s.stops old.opened (streamed_items bytes old.nodes.items ++ item_place_begins (item_place_in old.opened));
+      });
+  within = s.within;
+  kept = λ all. all;
 }
 
 pub item_makes : (bytes : List ℕ) (old : Reader) (begun : Begun) → old.expected ≡ expected.AnItem → Begins bytes old.at begun → IsNoTag begun.item → MakesSomeCall (spot_of bytes old)
@@ -167,7 +175,12 @@ module _ (bytes : List ℕ) (old : Reader) (is : old.expected ≡ expected.APart
 
   pub part_stuck : part_step (drop old.at bytes) old.opened ≡ None → old.at ≤ length bytes → ReadsItemsOn bytes old old false
   part_stuck e w = record {
-    goes = stuck_at bytes old expected.APart is (λ start reached tree is_item. stops_badly start (drop old.at bytes) (Part old.opened) (streamed_items bytes old.nodes.items ++ []) reached e (λ end. let f = end.0 in cc f) tree is_item);
+    goes =
+        stuck_at bytes old expected.APart is (drop old.at bytes)
+        (record {
+          no_item = λ start reached tree rest is_item. stops_in_front reached e (λ f. cc f) is_item;
+          stops = at_once e;
+        });
     within = w;
     kept = λ all. all;
   }
@@ -296,17 +309,20 @@ module _ (bytes : List ℕ) (old : Reader) (medium : made_medium.Medium) (is : o
       (own_some (end_kind_of medium) (drop old.at bytes) (an_end_stands medium)))
 
   -- neither
-  pieces_stuck : ((content rest : List ℕ) → ArePieces (major_of medium) (drop old.at bytes) content rest → ⊥) → old.at ≤ length bytes → ReadsItemsOn bytes old old false
-  pieces_stuck h w = record {
+  pieces_stuck : ((content rest : List ℕ) → ArePieces (major_of medium) (drop old.at bytes) content rest → ⊥) → piece_step (major_of medium) (drop old.at bytes) old.opened ≡ None → old.at ≤ length bytes → ReadsItemsOn bytes old old false
+  pieces_stuck h e w = record {
     goes =
-        stuck_at bytes old (expected.APiece medium) is
-        (λ start reached tree is_item. let (content, rest, p) = pieces_need (reads_after reached (item_is_read start tree is_item).0).1 in h content rest p);
+        stuck_at bytes old (expected.APiece medium) is (drop old.at bytes)
+        (record {
+          no_item = λ start reached tree rest is_item. let (content, behind, p) = pieces_need (reads_after reached (front_is_read rest start tree is_item).0).1 in h content behind p;
+          stops = at_once e;
+        });
     within = w;
     kept = λ all. all;
   }
 
   pub no_piece : old.at < length bytes → get_or bytes old.at 0 ≢ 255 → HasNoString (major_of medium) (drop old.at bytes) → ReadsItemsOn bytes old old false
-  no_piece l n h = pieces_stuck (λ content rest p. no_first_piece (bytes_at bytes old.at l) n h p) (omega arith)
+  no_piece l n h = pieces_stuck (λ content rest p. no_first_piece (bytes_at bytes old.at l) n h p) (no_piece_step (major_of medium) (drop old.at bytes) old.opened (λ left e. n (let f = sym (bytes_at bytes old.at l) ∙ e in cc f)) h) (omega arith)
 
   pub no_piece_left : length bytes ≤ old.at → old.at ≤ length bytes → ReadsItemsOn bytes old old false
-  no_piece_left l w = pieces_stuck (λ content rest p. no_pieces_left (subst (λ x. ArePieces (major_of medium) x content rest) (nothing_at bytes old.at l) p)) w
+  no_piece_left l w = pieces_stuck (λ content rest p. no_pieces_left (subst (λ x. ArePieces (major_of medium) x content rest) (nothing_at bytes old.at l) p)) (ap (λ x. piece_step (major_of medium) x old.opened) (nothing_at bytes old.at l)) w

@@ -5,7 +5,7 @@ use Rattle.std.proofs.Common.{sym, ap, ◌∙◌, subst, arith, append_assoc, ap
 use Rattle.std.proofs.lemmas.Bool.Decides.{nat_tests}
 use Rattle.sval_label.specs.Calls.{Call}
 use Rattle.sval_cbor_read.specs.Items.{ItemHead, head, head_of, is_piece, IsDefiniteString, string, ArePieces, break, piece, IsByteString, definite, in_pieces}
-use Rattle.sval_cbor_read.specs.Reading.{OpenItem, Ended, Pieces, Bignum, BignumPieces, Move, moves, string_calls, string_step, fragment_call, string_end, with_piece, piece_step, fits, number_call, bignum_step, bignum_begins, bignum_piece, Reads, goes_on}
+use Rattle.sval_cbor_read.specs.Reading.{OpenItem, Ended, Pieces, Bignum, BignumPieces, Move, moves, string_calls, string_step, fragment_call, string_end, with_piece, piece_step, fits, number_call, bignum_step, bignum_begins, bignum_piece, ReadsTo, goes_on}
 use Rattle.sval_cbor_read.specs.Document.{pieces_of}
 use Rattle.sval_cbor_read.proofs.OneTree.{no_head_95, no_head_255}
 
@@ -67,31 +67,31 @@ bignum_piece_read tag front (first ∷ bytes) content rest frames (string {numbe
 pub bignum_goes : (tag : ℕ) (content left : List ℕ) (frames : List OpenItem) → fits tag content ≡ true → bignum_step tag content left frames ≡ moves (number_call tag content ∷ []) left (Ended frames)
 bignum_goes tag content left frames h = ap (λ b. if b then moves (number_call tag content ∷ []) left (Ended frames) else None) h
 
-bignum_pieces : (tag : ℕ) (front : List ℕ) {bytes content rest : List ℕ} → ArePieces 2 bytes content rest → fits tag (front ++ content) ≡ true → (frames : List OpenItem) (more : List Call)
-    → Reads (Ended frames) rest more → Reads (BignumPieces tag front frames) bytes (number_call tag (front ++ content) ∷ more)
-bignum_pieces tag front (break {rest = rest}) h frames more r =
+bignum_pieces : {last : List ℕ} (tag : ℕ) (front : List ℕ) {bytes content rest : List ℕ} → ArePieces 2 bytes content rest → fits tag (front ++ content) ≡ true → (frames : List OpenItem) (more : List Call)
+    → ReadsTo last (Ended frames) rest more → ReadsTo last (BignumPieces tag front frames) bytes (number_call tag (front ++ content) ∷ more)
+bignum_pieces {last = end} tag front (break {rest = rest}) h frames more r =
     let e = append-nil front in
-    subst (λ x. Reads (BignumPieces tag front frames) (255 ∷ rest) (number_call tag x ∷ more)) (sym e) (goes_on (bignum_goes tag front rest frames (rw e at h)) r)
-bignum_pieces tag front (piece {bytes = bytes} {after = after} {content = content} {more = last} s p) h frames more r =
+    subst (λ x. ReadsTo end (BignumPieces tag front frames) (255 ∷ rest) (number_call tag x ∷ more)) (sym e) (goes_on (bignum_goes tag front rest frames (rw e at h)) r)
+bignum_pieces {last = end} tag front (piece {bytes = bytes} {after = after} {content = content} {more = last} s p) h frames more r =
     let e = append_assoc front content last in
-    subst (λ x. Reads (BignumPieces tag front frames) bytes (number_call tag x ∷ more)) e
+    subst (λ x. ReadsTo end (BignumPieces tag front frames) bytes (number_call tag x ∷ more)) e
     (goes_on (bignum_piece_read tag front bytes content after frames s) (bignum_pieces tag (front ++ content) p (rw e h) frames more r))
 
-pub byte_string_read : (tag : ℕ) {bytes content rest : List ℕ} → IsByteString bytes content rest → fits tag content ≡ true → (frames : List OpenItem) (more : List Call)
-    → Reads (Ended frames) rest more → Reads (Bignum tag frames) bytes (number_call tag content ∷ more)
+pub byte_string_read : {last : List ℕ} (tag : ℕ) {bytes content rest : List ℕ} → IsByteString bytes content rest → fits tag content ≡ true → (frames : List OpenItem) (more : List Call)
+    → ReadsTo last (Ended frames) rest more → ReadsTo last (Bignum tag frames) bytes (number_call tag content ∷ more)
 byte_string_read tag (definite {bytes = bytes} {content = content} {rest = rest} s) h frames more r = goes_on (bignum_read tag bytes content rest frames s ∙ bignum_goes tag content rest frames h) r
 byte_string_read tag (in_pieces p) h frames more r = goes_on refl (bignum_pieces tag [] p h frames more r)
 
 -- ---- strings in pieces
 
-pub record ArePiecesRead (pieces : List (List ℕ)) (major : ℕ) (bytes content rest : List ℕ) : Type 0 where
+pub record ArePiecesRead (last : List ℕ) (pieces : List (List ℕ)) (major : ℕ) (bytes content rest : List ℕ) : Type 0 where
   pub joined : concat pieces ≡ content
-  pub reads : (frames : List OpenItem) (more : List Call) → Reads (Ended frames) rest more → Reads (Pieces major frames) bytes (map (fragment_call major) pieces ++ string_end major ∷ more)
+  pub reads : (frames : List OpenItem) (more : List Call) → ReadsTo last (Ended frames) rest more → ReadsTo last (Pieces major frames) bytes (map (fragment_call major) pieces ++ string_end major ∷ more)
 
-pub pieces_read : {major : ℕ} {bytes content rest : List ℕ} (p : ArePieces major bytes content rest) → ArePiecesRead (pieces_of p) major bytes content rest
-pieces_read break = record { joined = refl; reads = λ frames more r. goes_on refl r }
-pieces_read (piece {major = major} {bytes = bytes} {after = after} {content = content} {more = more} {rest = rest} s p) =
-    let q = pieces_read p in
+pub pieces_read : (last : List ℕ) {major : ℕ} {bytes content rest : List ℕ} (p : ArePieces major bytes content rest) → ArePiecesRead last (pieces_of p) major bytes content rest
+pieces_read last break = record { joined = refl; reads = λ frames more r. goes_on refl r }
+pieces_read last (piece {major = major} {bytes = bytes} {after = after} {content = content} {more = more} {rest = rest} s p) =
+    let q = pieces_read last p in
     record {
       joined = ap (λ x. content ++ x) q.joined;
       reads = λ frames more r. goes_on (piece_read major bytes content after frames s) (q.reads frames more r);

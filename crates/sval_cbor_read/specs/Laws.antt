@@ -13,6 +13,7 @@ use Rattle.sval_cbor.specs.Cbor.{head_bytes, cbor}
 use Rattle.sval_cbor.specs.Premises.{IsShort}
 use Rattle.sval_cbor_read.specs.Items.{head, head_of, IsItem, IsItemOf}
 use Rattle.sval_cbor_read.specs.Document.{cbor_document_calls}
+use Rattle.sval_cbor_read.specs.ReadErrors.{StepsStopAt}
 use Rattle.sval_cbor_read.specs.Reading.{OpenItem, ItemState, Ended, BignumPieces, Move, fits, reading_step, IsReadAs, Reached, IsAtEnd, distance}
 
 -- bytes begin with an item of one tree at most, and it ends at one place
@@ -51,6 +52,10 @@ ReadingEndsWell = (bytes : List ℕ) (calls : List Call) → Reached bytes (Ende
 abbrev pub ReadingStopsAtBadBytes : Type 0
 ReadingStopsAtBadBytes = (bytes left : List ℕ) (state : ItemState) (calls : List Call) → Reached bytes state left calls → reading_step state left ≡ None → (IsAtEnd state left → ⊥)
     → (tree : Tree) → IsItemOf bytes tree → ⊥
+
+-- and they stop at one place of the bytes at most
+abbrev pub StepsStopAtOnePlace : Type 0
+StepsStopAtOnePlace = (bytes : List ℕ) (at other : ℕ) → StepsStopAt bytes at → StepsStopAt bytes other → at ≡ other
 
 -- a number in pieces that is too large before the last of them is in no item, so a reader may stop there
 abbrev pub LargeNumbersAreBadBytes : Type 0

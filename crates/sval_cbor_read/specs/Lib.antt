@@ -8,6 +8,7 @@ pub mod SeenStrings
 pub mod SeenBignums
 pub mod SeenNodes
 pub mod SeenFrames
+pub mod SeenStops
 pub mod SeenItems
 pub mod SeenParts
 pub mod SeenReader

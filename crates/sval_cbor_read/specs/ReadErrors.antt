@@ -1,12 +1,13 @@
 -- What reading bytes answers.
-use Rattle.std.specs.Prelude.{◌≡◌, ℕ, ◌<◌, List, length}
+use Rattle.std.specs.Prelude.{◌≡◌, ℕ, ◌<◌, ◌≤◌, List, [], length, take, drop, None}
 use Rattle.sval_label.specs.Calls.{Call}
 use Rattle.sval_core.specs.Trees.{Tree}
 use Rattle.sval_core.specs.Spells.{Spells}
 use Rattle.sval_cbor_read.specs.declared.document.CborReadError.{CborReadError}
 use Rattle.sval_cbor_read.specs.declared.document.CborReadError.TheVariants.{Bad, NoMemory}
-use Rattle.sval_cbor_read.specs.Items.{IsItemOf}
-use Rattle.sval_cbor_read.specs.Document.{cbor_document_calls}
+use Rattle.sval_cbor_read.specs.Items.{IsItem, IsItemOf}
+use Rattle.sval_cbor_read.specs.Document.{item_calls, cbor_document_calls}
+use Rattle.sval_cbor_read.specs.Reading.{ItemState, reading_step, Reached}
 use Rattle.sval_cbor_read.specs.Steps.{Spot, IsReached}
 
 -- the bytes are an item, these are its calls, and they spell its tree
@@ -22,7 +23,39 @@ pub record MakesSome (bytes : List ℕ) : Type 0 where
   pub reached : IsReached bytes spot
   pub some : 0 < length spot.made
 
--- the cause of each error: the bytes are an item of no tree, or something is kept of them
+-- so many first bytes are an item, alone and before the rest, these are its calls, and they spell its tree
+pub record IsReadFront (bytes : List ℕ) (calls : List Call) (used : ℕ) : Type 0 where
+  pub tree : Tree
+  pub item : IsItem bytes tree (drop used bytes)
+  pub alone : IsItemOf (take used bytes) tree
+  pub same : calls ≡ item_calls item []
+  pub spells : Spells calls tree
+  pub within : used ≤ length bytes
+
+-- the reader's steps over the bytes stop at this place: none leads on from there
+pub record StepsStopAt (bytes : List ℕ) (at : ℕ) : Type 0 where
+  pub state : ItemState
+  pub calls : List Call
+  pub reached : Reached bytes state (drop at bytes) calls
+  pub stops : reading_step state (drop at bytes) ≡ None
+  pub within : at ≤ length bytes
+
+-- the bytes are an item of no tree, and the steps stop at this place
+pub record IsBadCbor (bytes : List ℕ) (at : ℕ) : Type 0 where
+  pub no_item : (tree : Tree) → IsItemOf bytes tree → ⊥
+  pub stops_at : StepsStopAt bytes at
+
+-- they begin with an item of no tree, and the steps stop at this place
+pub record IsBadFront (bytes : List ℕ) (at : ℕ) : Type 0 where
+  pub no_item : (tree : Tree) (rest : List ℕ) → IsItem bytes tree rest → ⊥
+  pub stops_at : StepsStopAt bytes at
+
+-- the cause of each error: the bytes are an item of no tree and fail there, or something is kept of them
 abbrev pub IsCborReadError : List ℕ → CborReadError → Type 0
-IsCborReadError bytes Bad = (tree : Tree) → IsItemOf bytes tree → ⊥
+IsCborReadError bytes (Bad at) = IsBadCbor bytes at
 IsCborReadError bytes NoMemory = MakesSome bytes
+
+-- the same where an item is read from the front of the bytes
+abbrev pub IsCborFrontError : List ℕ → CborReadError → Type 0
+IsCborFrontError bytes (Bad at) = IsBadFront bytes at
+IsCborFrontError bytes NoMemory = MakesSome bytes

@@ -198,15 +198,15 @@ reading_step (Pieces major frames) bytes = piece_step major bytes frames
 reading_step (Bignum tag frames) bytes = bignum_begins tag bytes frames
 reading_step (BignumPieces tag content frames) bytes = bignum_piece tag content bytes frames
 
--- Reads state bytes calls: steps from here on take all bytes, end outside all that is open, and make these calls
-pub data Reads : ItemState → List ℕ → List Call → Type 0 where
-  at_end : Reads (Ended []) [] []
-  goes_on : {state : ItemState} {bytes : List ℕ} {move : Move} {more : List Call} → reading_step state bytes ≡ Some move → Reads move.next move.left more
-      → Reads state bytes (move.calls ++ more)
+-- ReadsTo last state bytes calls: steps from here on end outside all that is open where these bytes are left, and make these calls
+pub data ReadsTo (last : List ℕ) : ItemState → List ℕ → List Call → Type 0 where
+  at_end : {left : List ℕ} → left ≡ last → ReadsTo last (Ended []) left []
+  goes_on : {state : ItemState} {bytes : List ℕ} {move : Move} {more : List Call} → reading_step state bytes ≡ Some move → ReadsTo last move.next move.left more
+      → ReadsTo last state bytes (move.calls ++ more)
 
 -- the reader reads the bytes, and the document makes these calls
 abbrev pub IsReadAs : List ℕ → List Call → Type 0
-IsReadAs bytes calls = Reads (Item []) bytes calls
+IsReadAs bytes calls = ReadsTo [] (Item []) bytes calls
 
 -- Reached bytes state left calls: the steps from the first on lead to this state with these bytes left, and have made these calls
 pub data Reached (bytes : List ℕ) : ItemState → List ℕ → List Call → Type 0 where

@@ -1,8 +1,8 @@
 -- What the code finds where an item begins, as steps of the reader.
-use Rattle.std.specs.Prelude.{◌≡◌, ℕ, ◌<◌, ◌≤◌, List, [], ◌∷◌, ◌++◌, length, drop, Option, ⊤}
+use Rattle.std.specs.Prelude.{◌≡◌, ℕ, ◌<◌, ◌≤◌, List, [], ◌∷◌, ◌++◌, length, drop, Option, Some, None, ⊤}
 use Rattle.sval_label.specs.Calls.{Call}
 use Rattle.sval_cbor_read.specs.declared.head.Head as made_head
-use Rattle.sval_cbor_read.specs.Items.{ItemHead}
+use Rattle.sval_cbor_read.specs.Items.{ItemHead, head, head_of}
 use Rattle.sval_cbor_read.specs.declared.item.Medium as made_medium
 use Rattle.sval_cbor_read.specs.declared.item.Medium.TheVariants as medium
 use Rattle.sval_cbor_read.specs.declared.item.Item as made_item
@@ -12,7 +12,8 @@ use Rattle.sval_cbor_read.specs.Reading as reading
 use Rattle.sval_cbor_read.specs.Reading.{OpenItem, ItemState, Move, mark_of, first_step, item_step, body_step, number_call, reading_step}
 use Rattle.sval_cbor_read.specs.SeenNodes.{byte_string, step_calls, IsBignum}
 use Rattle.sval_cbor_read.specs.SeenFrames.{frame_of}
-use Rattle.sval_cbor_read.specs.Steps.{ItemSteps, spot, IsStuck}
+use Rattle.sval_cbor_read.specs.Steps.{ItemSteps, spot}
+use Rattle.sval_cbor_read.specs.SeenStops.{IsNumberTag, LacksNumber}
 
 -- the major type of what is in pieces
 abbrev pub major_of : made_medium.Medium → ℕ
@@ -56,10 +57,6 @@ abbrev pub LeadsBehind : Option Move → List OpenItem → made_item.Item → Li
 LeadsBehind move frames item calls behind =
     (left : List ℕ) (made : List Call) → reading_step (reading.Item frames) left ≡ move → ItemSteps (spot (reading.Item frames) left made) (spot (state_behind item frames) behind (made ++ calls))
 
--- where an item is expected, this move leads to no item
-abbrev pub LeadsNowhere : Option Move → List OpenItem → Type 0
-LeadsNowhere move frames = (left : List ℕ) (made : List Call) → reading_step (reading.Item frames) left ≡ move → IsStuck (spot (reading.Item frames) left made)
-
 -- the item that a first byte begins by itself
 pub record IsMarked (first : ℕ) (item : made_item.Item) : Type 0 where
   pub moves : (all bytes : List ℕ) (begun : Option ItemHead) (frames : List OpenItem)
@@ -74,9 +71,10 @@ pub record BeginsBehind (bytes : List ℕ) (h : made_head.Head) (begun : Begun) 
   pub later : h.next ≤ begun.next
   pub within : begun.next ≤ length bytes
 
--- no item begins with this head
-abbrev pub BeginsNothingBehind : List ℕ → made_head.Head → Type 0
-BeginsNothingBehind bytes h = (frames : List OpenItem) → LeadsNowhere (body_step h.major h.number (drop h.next bytes) frames) frames
+-- no item begins with this head: no step leads on, or it is the tag of a number that doesn't stand behind it
+pub data BeginsNothingBehind (bytes : List ℕ) (h : made_head.Head) : Type 0 where
+  no_step_behind : ((frames : List OpenItem) → body_step h.major h.number (drop h.next bytes) frames ≡ None) → BeginsNothingBehind bytes h
+  no_number_behind : h.major ≡ 6 → IsNumberTag h.number → LacksNumber h.number (drop h.next bytes) → BeginsNothingBehind bytes h
 
 -- what is found at a place leads on
 pub record Begins (bytes : List ℕ) (at : ℕ) (begun : Begun) : Type 0 where
@@ -87,6 +85,11 @@ pub record Begins (bytes : List ℕ) (at : ℕ) (begun : Begun) : Type 0 where
   pub later : at < begun.next
   pub within : begun.next ≤ length bytes
 
+-- no item begins the bytes: no step leads on, or they begin with the tag of a number that doesn't stand behind it
+pub data BeginsNoItem (bytes : List ℕ) : Type 0 where
+  no_step : ((frames : List OpenItem) → item_step bytes frames ≡ None) → BeginsNoItem bytes
+  no_number : {tag : ℕ} {after : List ℕ} → head_of bytes ≡ Some (head 6 tag after) → IsNumberTag tag → LacksNumber tag after → BeginsNoItem bytes
+
 -- no item begins at a place
 abbrev pub BeginsNothing : List ℕ → ℕ → Type 0
-BeginsNothing bytes at = (frames : List OpenItem) (made : List Call) → IsStuck (spot (reading.Item frames) (drop at bytes) made)
+BeginsNothing bytes at = BeginsNoItem (drop at bytes)

@@ -83,7 +83,7 @@ pub data CborReadDue : Form → List ℕ → Option Fault → List ℕ → Type 
 
 -- the failure where bytes weren't read
 abbrev pub failure_of_cbor_read : CborReadError → Failure
-failure_of_cbor_read reading.Bad = failure.Fault fault.BadCbor
+failure_of_cbor_read (reading.Bad at) = failure.Fault fault.BadCbor
 failure_of_cbor_read reading.NoMemory = failure.NoMemory
 
 -- what the program does

@@ -1,8 +1,8 @@
 -- Steps of the reader from one spot of the bytes to another, and what they say of all bytes.
-use Rattle.std.specs.Prelude.{◌≡◌, ℕ, ◌<◌, Bool, true, false, List, [], ◌++◌, length, Some}
+use Rattle.std.specs.Prelude.{◌≡◌, ℕ, ◌<◌, Bool, true, false, List, [], ◌++◌, length, Some, None}
 use Rattle.sval_label.specs.Calls.{Call}
 use Rattle.sval_core.specs.Trees.{Tree}
-use Rattle.sval_cbor_read.specs.Items.{IsItemOf}
+use Rattle.sval_cbor_read.specs.Items.{IsItem}
 use Rattle.sval_cbor_read.specs.Reading.{ItemState, Item, Move, reading_step, Reached}
 
 -- where the reader is: what comes next, the bytes that are left, and the calls that were made
@@ -29,14 +29,24 @@ pub data ItemSteps : Spot → Spot → Type 0 where
 abbrev pub IsReached : List ℕ → Spot → Type 0
 IsReached bytes at = Reached bytes at.state at.left at.made
 
--- bytes whose steps lead to this spot are no item
+-- bytes whose steps lead to this spot begin with no item
 abbrev pub IsStuck : Spot → Type 0
-IsStuck at = (bytes : List ℕ) → IsReached bytes at → (tree : Tree) → IsItemOf bytes tree → ⊥
+IsStuck at = (bytes : List ℕ) → IsReached bytes at → (tree : Tree) (rest : List ℕ) → IsItem bytes tree rest → ⊥
 
--- steps lead on to the second spot, or the first is stuck
+-- steps from this spot on, or none, lead to one from which no step leads on, with these bytes left
+pub data StopsWith : Spot → List ℕ → Type 0 where
+  at_once : {state : ItemState} {left : List ℕ} {made : List Call} → reading_step state left ≡ None → StopsWith (spot state left made) left
+  after_steps : {first second : Spot} {left : List ℕ} → ItemSteps first second → StopsWith second left → StopsWith first left
+
+-- bytes whose steps lead to this spot begin with no item, and the steps stop where these bytes are left
+pub record IsStuckWith (at : Spot) (left : List ℕ) : Type 0 where
+  pub no_item : IsStuck at
+  pub stops : StopsWith at left
+
+-- steps lead on to the second spot, or the first is stuck and the steps stop where the bytes of the second are left
 abbrev pub StepsLead : Spot → Spot → Bool → Type 0
 StepsLead first second true = ItemSteps first second
-StepsLead first second false = IsStuck first
+StepsLead first second false = IsStuckWith first second.left
 
 -- steps lead on to where some call was made
 pub record MakesSomeCall (first : Spot) : Type 0 where

@@ -1,9 +1,11 @@
 //! Documents: bytes that were read.
 
-ghost use Rattle.std.specs.Prelude.{IfOk, IfErr};
+ghost use Rattle.std.specs.Prelude.{◌≡◌, [], drop, IfOk, IfErr};
+ghost use Rattle.sval_cbor_read.specs.declared.document.CborReadError.TheVariants as reading;
 ghost use Rattle.sval_core.specs.Values.{makes};
+ghost use Rattle.sval_cbor_read.specs.ReadErrors.{IsReadItem, IsReadFront, IsCborReadError, IsCborFrontError};
+ghost use Rattle.sval_cbor_read.specs.Reading.{Ended, Reached};
 ghost use Rattle.sval_cbor_read.specs.SeenNodes.{streamed_items, NodesStand};
-ghost use Rattle.sval_cbor_read.specs.ReadErrors.{IsReadItem, IsCborReadError};
 
 use crate::node::Node;
 use crate::node_calls::stream_nodes;
@@ -18,8 +20,10 @@ use sval_ref::ValueRef;
 /// Why bytes can't be read.
 #[derive(Clone, Copy, Debug, PartialEq, Eq)]
 pub enum CborReadError {
-    /// They are not one item of this profile, whole and with nothing behind it.
-    Bad,
+    /// They are not one item of this profile, whole and with nothing behind it. `at` is the offset of the first head,
+    /// chunk or break that is cut or not allowed in its place, or that of the first byte behind the item. It is the
+    /// length of the bytes where they end before a head, a chunk or a break.
+    Bad { at: u64 },
     /// There was no memory for what is kept of them, or something begins 2^48 bytes behind the first one.
     NoMemory,
 }
@@ -31,10 +35,10 @@ impl fmt::Display for CborReadError {
     ghost output = { λ error. Some (cbor_read_error_text error) };
 
     fn fmt<W: fmt::Write>(&self, f: &mut fmt::Formatter<W>) -> fmt::Result {
-        f.write_str(match self {
-            CborReadError::Bad => "the bytes are not one CBOR item of this profile",
-            CborReadError::NoMemory => "cannot allocate for an item of CBOR",
-        })
+        match *self {
+            CborReadError::Bad { at } => write!(f, "invalid CBOR at byte {at}"),
+            CborReadError::NoMemory => f.write_str("cannot allocate for an item of CBOR"),
+        }
     }
 }
 
@@ -83,7 +87,7 @@ impl<'a> CborDoc<'a> {
     /// ```
     /// let doc = CborDoc::read(alloc, b"\xbf\x61\x30\xf4\x61\x31\xf5\xff".as_slice())?;
     /// assert_eq!(rt; stream_to_vec(alloc, &doc)?.as_slice(), b"{\"0\":false,\"1\":true}".as_slice());
-    /// assert_eq!(rt; CborDoc::read(alloc, b"\x62\xc3".as_slice()).err(), Some(CborReadError::Bad));
+    /// assert_eq!(rt; CborDoc::read(alloc, b"\x62\xc3".as_slice()).err(), Some(CborReadError::Bad { at: 0 }));
     /// ```
     ///
     /// # Errors
@@ -94,8 +98,38 @@ impl<'a> CborDoc<'a> {
         ensures ok { IfOk result (λ doc. IsReadItem bytes.now doc) }
         ensures err { IfErr result (IsCborReadError bytes.now) }
     {
-        match read_nodes(alloc, bytes) {
-            Ok(nodes) => Ok(CborDoc { bytes, nodes }),
+        match read_item(alloc, bytes) {
+            Ok((nodes, used)) => if used < bytes.len() {
+                Err(bad_at(used))
+            } else {
+                Ok(CborDoc { bytes, nodes })
+            },
+            Err(error) => Err(error),
+        }
+    }
+
+    /// Reads the first item of the bytes, and tells how many bytes it takes. What follows it isn't looked at, so a
+    /// sequence of items (RFC 8742) is read one by one.
+    ///
+    /// ```
+    /// let bytes = b"\x01\x61\x61".as_slice();
+    /// let (first, used) = CborDoc::read_front(alloc, bytes)?;
+    /// assert_eq!(rt; used, 1);
+    /// let (second, _) = CborDoc::read_front(alloc, &bytes[used..])?;
+    /// assert_eq!(rt; stream_to_vec(alloc, &second)?.as_slice(), b"\"a\"".as_slice());
+    /// assert_eq!(rt; CborDoc::read_front(alloc, b"".as_slice()).err(), Some(CborReadError::Bad { at: 0 }));
+    /// ```
+    ///
+    /// # Errors
+    ///
+    /// [`CborReadError::Bad`] comes only where no item begins the bytes, as where there are none.
+    /// [`CborReadError::NoMemory`] comes as that of [`CborDoc::read`].
+    pub fn read_front(alloc: Global, bytes: &'a [u8]) -> Result<(Self, usize), CborReadError>
+        ensures ok { IfOk result (λ front. IsReadFront bytes.now front.0 front.1) }
+        ensures err { IfErr result (IsCborFrontError bytes.now) }
+    {
+        match read_item(alloc, bytes) {
+            Ok((nodes, used)) => Ok((CborDoc { bytes, nodes }, used)),
             Err(error) => Err(error),
         }
     }
@@ -106,24 +140,31 @@ impl<'a> CborDoc<'a> {
     }
 }
 
-/// Reads the nodes of an item, step by step.
-fn read_nodes(alloc: Global, bytes: &[u8]) -> Result<Vec<Node>, CborReadError>
-    ensures ok { IfOk result (λ nodes. IsReadItem bytes.now (streamed_items bytes.now nodes.items)) }
-    ensures kept { IfOk result (λ nodes. NodesStand bytes.now nodes.items) }
-    ensures err { IfErr result (IsCborReadError bytes.now) }
+/// The error of bytes that fail at a place.
+fn bad_at(at: usize) -> CborReadError
+    ensures { result ≡ reading.Bad at }
+{
+    CborReadError::Bad { at: at as u64 }
+}
+
+/// Reads the first item of the bytes, step by step: the nodes of it, and how many bytes it takes.
+fn read_item(alloc: Global, bytes: &[u8]) -> Result<(Vec<Node>, usize), CborReadError>
+    ensures front { IfOk result (λ read. IsReadFront bytes.now (streamed_items bytes.now read.0.items) read.1) }
+    ensures ended { IfOk result
+        (λ read. Reached bytes.now (Ended []) (drop read.1 bytes.now) (streamed_items bytes.now read.0.items)) }
+    ensures kept { IfOk result (λ read. NodesStand bytes.now read.0.items) }
+    ensures err { IfErr result (IsCborFrontError bytes.now) }
 {
     let mut reader = Reader::new(alloc);
     while !reader.has_ended() {
         match reader.step(bytes) {
             Ok(true) => {},
-            Ok(false) => return Err(CborReadError::Bad),
+            Ok(false) => return Err(bad_at(reader.at)),
             Err(cause) => return Err(CborReadError::from(cause)),
         }
     }
-    if reader.at < bytes.len() {
-        return Err(CborReadError::Bad);
-    }
-    Ok(reader.nodes)
+    let used = reader.at;
+    Ok((reader.nodes, used))
 }
 
 impl<'v, 'a> Value<'v, Lent<'v>> for CborDoc<'a> {

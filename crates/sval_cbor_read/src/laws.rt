@@ -1,7 +1,7 @@
 //! The laws of CBOR's items, each as a clause that is proved.
 
 ghost use Rattle.sval_program.specs.Jobs.{OneDue};
-ghost use Rattle.sval_cbor_read.specs.Laws.{ItemHasOneTree, ItemsAreReal, ItemsAreRefusedByKey, CborDocumentsSpell, ItemsAreRead, ReadIsItem, ReadInOneWay, ReadingEndsWell, ReadingStopsAtBadBytes, LargeNumbersAreBadBytes, StepsComeNearer, HeadsAreRead, HeadsAreShortest, WrittenIsReadBack};
+ghost use Rattle.sval_cbor_read.specs.Laws.{ItemHasOneTree, ItemsAreReal, ItemsAreRefusedByKey, CborDocumentsSpell, ItemsAreRead, ReadIsItem, ReadInOneWay, ReadingEndsWell, ReadingStopsAtBadBytes, StepsStopAtOnePlace, LargeNumbersAreBadBytes, StepsComeNearer, HeadsAreRead, HeadsAreShortest, WrittenIsReadBack};
 ghost use Rattle.sval_cbor_read.specs.Serves.{cbor_read_terms};
 
 /// What holds of all bytes.
@@ -22,6 +22,7 @@ pub fn reading_laws()
     ensures read_in_one_way { ReadInOneWay }
     ensures reading_ends_well { ReadingEndsWell }
     ensures reading_stops_at_bad_bytes { ReadingStopsAtBadBytes }
+    ensures steps_stop_at_one_place { StepsStopAtOnePlace }
     ensures large_numbers_are_bad_bytes { LargeNumbersAreBadBytes }
     ensures steps_come_nearer { StepsComeNearer }
 {}

@@ -17,7 +17,7 @@ impl From<CborReadError> for Failure {
 
     fn from(error: CborReadError) -> Failure {
         match error {
-            CborReadError::Bad => Failure::Fault(Fault::BadCbor),
+            CborReadError::Bad { .. } => Failure::Fault(Fault::BadCbor),
             CborReadError::NoMemory => Failure::NoMemory,
         }
     }

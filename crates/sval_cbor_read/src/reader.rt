@@ -16,6 +16,7 @@ use crate::item::{Begun, Item, Medium, item_at};
 use crate::node::{Kind, Node, Place};
 use crate::part::{NextPart, next_part};
 use crate::stack::{Frame, Stack};
+use crate::stop::item_stop;
 use std::alloc::Global;
 use std::mem::replace;
 use sval_core::NoMemory;
@@ -201,7 +202,10 @@ impl Reader {
         ensures no_memory { IfErr result (λ error. MakesSomeCall (spot_of bytes.now self.old)) }
     {
         match item_at(bytes, self.at) {
-            None => Ok(false),
+            None => {
+                self.at = item_stop(bytes, self.at);
+                Ok(false)
+            },
             Some(begun) => match self.begin_item(begun) {
                 Ok(()) => Ok(true),
                 Err(error) => Err(error),
@@ -295,7 +299,8 @@ impl Reader {
         match self.opened.top() {
             Some(Frame::Items(left)) => self.next_item(left, bytes),
             Some(Frame::Keys(left)) => self.next_pair(left, bytes),
-            Some(Frame::Values(_)) | None => Ok(false),
+            Some(Frame::Values(_left)) => Ok(false),
+            None => Ok(false),
         }
     }
 
@@ -310,7 +315,7 @@ impl Reader {
         }
     }
 
-    /// Reads on. Whether it could: if it couldn't, the bytes are no item.
+    /// Reads on. Whether it could: if it couldn't, the bytes are no item, and `at` is the place where they fail.
     #[inline(always)]
     pub(crate) fn step(&mut self, bytes: &[u8]) -> Result<bool, NoMemory>
         requires within { self.old.at ≤ length bytes.now }

@@ -22,6 +22,22 @@ impl Case for Read {
     }
 }
 
+/// Bytes in hex, and behind `front` how many of them the first item takes and what is written of it as JSON, or behind
+/// `error` what is said where none begins them.
+struct Front;
+
+impl Case for Front {
+    fn seen(alloc: Global, input: &str, _due: &str) -> Result<String, Fail> {
+        let bytes = hex::decode(alloc, input.trim_end())?;
+        match CborDoc::read_front(alloc, bytes.as_slice()) {
+            Ok((doc, used)) => {
+                Ok(format!(in alloc; "front {used} {}", stream_to_string(alloc, &doc)?)?)
+            },
+            Err(error) => Ok(format!(in alloc; "error {error}")?),
+        }
+    }
+}
+
 /// Bytes in hex, and behind `calls` their calls.
 struct Calls;
 
@@ -191,39 +207,82 @@ d9d9f783010203
 /// texts that are no UTF-8 piece by piece, and numbers of more than 128 bits. The first are no bytes.
 const BAD: &'static str = r#"
 ␄
-= error Bad
+= error Bad { at: 0 }
 f93c00
-= error Bad
+= error Bad { at: 0 }
 f7
-= error Bad
+= error Bad { at: 0 }
 0000
-= error Bad
+= error Bad { at: 1 }
 62c3
-= error Bad
+= error Bad { at: 0 }
 7f61c361a9ff
-= error Bad
+= error Bad { at: 1 }
 818181
-= error Bad
+= error Bad { at: 3 }
 8301
-= error Bad
+= error Bad { at: 2 }
 5f
-= error Bad
+= error Bad { at: 1 }
 9f01
-= error Bad
+= error Bad { at: 2 }
 bf0102
-= error Bad
+= error Bad { at: 3 }
 c350ffffffffffffffffffffffffffffffff
-= error Bad
+= error Bad { at: 1 }
 c200
-= error Bad
+= error Bad { at: 1 }
 c25f4100
-= error Bad
+= error Bad { at: 4 }
 f4f5
-= error Bad
+= error Bad { at: 1 }
 c2510100000000000000000000000000000000
-= error Bad
+= error Bad { at: 1 }
 c35080000000000000000000000000000000
-= error Bad
+= error Bad { at: 1 }
+c25f4101
+= error Bad { at: 4 }
+c25f41016161ff
+= error Bad { at: 4 }
+c25f41015000000000000000000000000000000000ff
+= error Bad { at: 21 }
+c35f5080000000000000000000000000000000ff
+= error Bad { at: 19 }
+82c15f4100
+= error Bad { at: 5 }
+a26161f4ff
+= error Bad { at: 4 }
+d8189f00f6f9
+= error Bad { at: 5 }
+c1c1c1c1
+= error Bad { at: 4 }
+"#;
+
+/// Sequences of items (RFC 8742), how many bytes the first item takes, and what is written of it. What follows it isn't
+/// looked at.
+const FRONTS: &'static str = r#"
+0102
+= front 1 1
+616161
+= front 2 "a"
+9f01ff9f
+= front 3 [1]
+c25f4101ffff
+= front 5 1
+d9d9f7a161610000
+= front 7 {"a":0}
+a0
+= front 1 {}
+7f6161ff1c
+= front 4 "a"
+␄
+= error invalid CBOR at byte 0
+ff00
+= error invalid CBOR at byte 0
+820100f5
+= front 3 [1,0]
+8201
+= error invalid CBOR at byte 2
 "#;
 
 /// Bytes and their calls, with each chunk of a text. The calls tell a size where the bytes do.
@@ -241,5 +300,6 @@ fn items_and_their_calls(rt: HostRuntime) -> Result<(), Fail> {
     for table in [NUMBERS, STRINGS, CONTAINERS, OTHERS, BAD] {
         try_cases::<Read>(&rt, rt.alloc(), table)?;
     }
+    try_cases::<Front>(&rt, rt.alloc(), FRONTS)?;
     try_cases::<Calls>(&rt, rt.alloc(), CALLS)
 }

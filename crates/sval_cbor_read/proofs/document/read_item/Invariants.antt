@@ -3,7 +3,7 @@ use Rattle.sval_cbor_read.specs.Reading.{distance}
 use Rattle.sval_cbor_read.specs.Steps.{IsReached}
 use Rattle.sval_cbor_read.specs.SeenNodes.{NodesStand}
 use Rattle.sval_cbor_read.specs.SeenReader.{spot_of}
-use Rattle.sval_cbor_read.proofs.document.read_nodes.Given as goal
+use Rattle.sval_cbor_read.proofs.document.read_item.Given as goal
 
 -- the steps so far lead to the reader's spot
 abbrev pub invariant-loop-reader : goal.invariant-loop-reader

@@ -1,8 +1,8 @@
 use Rattle.std.proofs.Common.{sym, subst, arith}
 use Rattle.sval_cbor_read.specs.SeenNodes.{NodesStand}
 use Rattle.sval_cbor_read.specs.SeenReader.{spot_of}
-use Rattle.sval_cbor_read.proofs.Loop.{reached_by, nearer_by, reached_first, makes_some, more_is_bad, all_is_read}
-use Rattle.sval_cbor_read.proofs.document.read_nodes.Goals as goal
+use Rattle.sval_cbor_read.proofs.Loop.{reached_by, nearer_by, reached_first, makes_some, stuck_is_bad, end_is_reached, front_is}
+use Rattle.sval_cbor_read.proofs.document.read_item.Goals as goal
 
 pub loop-reader-init : goal.loop-reader-init
 loop-reader-init c = record {
@@ -22,13 +22,13 @@ loop-reader-smaller c = let on = (rw c.in-Ok-true.field-0-test at c.in-Ok-true.e
 pub returns-in-Ok-false-clause-err : goal.returns-in-Ok-false-clause-err
 returns-in-Ok-false-clause-err c =
     let on = (rw c.in-Ok-false.field-0-test at c.in-Ok-false.ensures.goes) in
-    on.goes c.args.bytes.now c.loop-reader.invariant.reached
+    rw c.bad_at.ensures (stuck_is_bad c.args.bytes.now (spot_of c.args.bytes.now c.loop-reader.reader) _ c.loop-reader.invariant.reached on.goes on.within)
 
 pub returns-in-Err-clause-err : goal.returns-in-Err-clause-err
 returns-in-Err-clause-err c = rw c.from.ensures (makes_some c.args.bytes.now (spot_of c.args.bytes.now c.loop-reader.reader) c.loop-reader.invariant.reached c.in-Err.ensures.no_memory)
 
-pub returns-then-reader-bytes-clause-err : goal.returns-then-reader-bytes-clause-err
-returns-then-reader-bytes-clause-err c = more_is_bad c.args.bytes.now c.loop-reader.reader c.loop-reader-test.ensures c.loop-reader.invariant.reached c.if-reader-bytes.true
+pub returns-clause-front : goal.returns-clause-front
+returns-clause-front c = front_is c.args.bytes.now c.loop-reader.reader c.loop-reader-test.ensures c.loop-reader.invariant.reached c.loop-reader.invariant.within
 
-pub returns-clause-ok : goal.returns-clause-ok
-returns-clause-ok c = all_is_read c.args.bytes.now c.loop-reader.reader c.loop-reader-test.ensures c.loop-reader.invariant.reached c.if-reader-bytes.false
+pub returns-clause-ended : goal.returns-clause-ended
+returns-clause-ended c = end_is_reached c.args.bytes.now c.loop-reader.reader c.loop-reader-test.ensures c.loop-reader.invariant.reached
