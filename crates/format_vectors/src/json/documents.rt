@@ -14,12 +14,12 @@ struct Written;
 
 impl Case for Written {
     fn seen(alloc: Global, input: &str, _due: &str) -> Result<String, Fail> {
-        written(alloc, input.as_bytes())
+        json_of(alloc, input.as_bytes())
     }
 }
 
 /// What is written of bytes, or why they aren't read.
-fn written(alloc: Global, bytes: &[u8]) -> Result<String, Fail> {
+fn json_of(alloc: Global, bytes: &[u8]) -> Result<String, Fail> {
     match JsonDoc::read(alloc, bytes) {
         Ok(doc) => Ok(format!(in alloc; "json {}", stream_to_string(alloc, &doc)?)?),
         Err(error) => Ok(format!(in alloc; "error {error:?}")?),
@@ -150,7 +150,7 @@ fn texts_and_their_calls(rt: HostRuntime) -> Result<(), Fail> {
 #[test]
 fn bytes_that_are_no_utf8(rt: HostRuntime) -> Result<(), Fail> {
     for row in &rows_of(rt.alloc(), NOT_UTF8)? {
-        let seen = written(rt.alloc(), row.input.as_slice())?;
+        let seen = json_of(rt.alloc(), row.input.as_slice())?;
         assert_eq!(rt; seen.as_str(), row.due.as_str());
     }
     Ok(())
