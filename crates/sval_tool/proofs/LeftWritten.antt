@@ -1,0 +1,169 @@
+-- From what was streamed of a document to what was written of what is left of it.
+use Rattle.std.specs.Prelude.{◌≡◌, ℕ, true, false, List, [], ◌++◌, Option, Some, None, Ok, Err, refl}
+use Rattle.std.specs.Borrow.{MutBor}
+use Rattle.std.proofs.Common.{sym, ap, subst, ◌∙◌, inl, inr}
+use Rattle.sval_label.specs.Calls.{Call}
+use Rattle.sval_core.specs.Law.{Stops}
+use Rattle.sval_core.specs.Spells.{Spells}
+use Rattle.sval_core.specs.Trees.{Tree}
+use Rattle.sval_core.specs.Values.{makes}
+use Rattle.sval_io.specs.Sinks.{Told, LacksRoom, AppendsFront, AppendsPart}
+use Rattle.sval_io.specs.declared.sink.SinkError.TheVariants.{Failed, NoMemory}
+use Rattle.sval_io.proofs.Appending.{appends_nothing, all_is_front, front_after}
+use Rattle.sval_json.specs.ErrorKinds.{error_kind, refusal_kind}
+use Rattle.sval_json.specs.Json.{Json, compact}
+use Rattle.sval_json.specs.Laws.{IsWrittenAs}
+use Rattle.sval_json.specs.Number.{Refusal, InvalidKey, InvalidNumber}
+use Rattle.sval_json.specs.Shape.{json_of}
+use Rattle.sval_json.specs.Steps.{written_in}
+use Rattle.sval_json.specs.Written.{StreamsJson}
+use Rattle.sval_json.specs.WriterLaw.{fresh_writer, sink_of, stop_of, writer_law, writer_standing}
+use Rattle.sval_json.specs.declared.error.ErrorKind.{ErrorKind}
+use Rattle.sval_json.specs.declared.error.ErrorKind.TheVariants as kind
+use Rattle.sval_json.specs.declared.style.Variants.TheVariants.{Inside}
+use Rattle.sval_json.specs.declared.writer.JsonWriter.{JsonWriter}
+use Rattle.sval_json.proofs.Refused.{written_as_they_come}
+use Rattle.sval_json.proofs.Streaming.{ran_is_written, stopped_is_begun}
+use Rattle.sval_json.proofs.WritingPlain.{spelling_written}
+use Rattle.sval_check.specs.declared.checked.Why.{Why}
+use Rattle.sval_check.specs.declared.checked.Why.TheVariants as filter
+use Rattle.sval_filter.specs.Filtering.{fresh, all_due}
+use Rattle.sval_filter.specs.Paths.{Path}
+use Rattle.sval_filter.specs.declared.paths.Rule.{Rule}
+use Rattle.sval_filter.specs.Pruned.{pruned}
+use Rattle.sval_filter.specs.Pruning.{PassesPruned}
+use Rattle.sval_filter.proofs.DueCalls.{due_spells_pruned}
+use Rattle.sval_json_read.specs.ReadErrors.{IsReadText}
+use Rattle.sval_json_read.specs.Trees.{tree_of}
+use Rattle.sval_tool.specs.Conversions.{IsTextLeft, WritesLeftJson}
+use Rattle.sval_tool.specs.Passing.{TakesFirst, StopsAt, IsSinkStop, stop_by}
+use Rattle.sval_tool.specs.declared.convert.Target.TheVariants as target
+use Rattle.sval_tool.proofs.LeftJson.{HasJson, left_has_json}
+
+module _ (rule : Rule) (paths : List Path) (input : List ℕ) (calls : List Call) (r : IsReadText input calls) where
+  -- what is left of the document's tree
+  abbrev left : Tree
+  left = pruned rule paths (tree_of r.document.value)
+
+  has_json : HasJson left
+  has_json = left_has_json rule paths r.document.denotes
+
+  left_due : (found : Json) → json_of left ≡ Ok found → IsTextLeft rule paths target.Json input (compact found)
+  left_due found shape = record { value = r.document.value; denotes = r.document.denotes; is = record { json = found; shape = shape; is_text = refl } }
+
+  -- the calls that a filter passes on of it
+  abbrev due : List Call
+  due = all_due rule paths fresh calls
+
+  due_spells : Spells due left
+  due_spells = due_spells_pruned rule paths calls (tree_of r.document.value) r.spells
+
+  due_written : (spelled : List Call) (found : Json) → Spells spelled left → json_of left ≡ Ok found → (written_in Inside spelled).written ≡ compact found
+  due_written spelled found spells shape = (subst (λ found. IsWrittenAs found (written_in Inside spelled)) shape (spelling_written Inside spelled left spells)).0
+
+  module _ (old new : Told) where
+    pub writes_left : (taken : List Call) → Spells taken left → StreamsJson Inside (makes taken) (Ok tt) old new → WritesLeftJson rule paths input (Ok tt) old new
+    writes_left taken spells s =
+        let t = s.tree left spells in record { text = compact t.json; due = left_due t.json t.shape; writes = record { appends = t.appends; steady = s.steady } }
+
+    pub fails_left : (spelled : List Call) → Spells spelled left → StreamsJson Inside (makes spelled) (Err kind.IO) old new → WritesLeftJson rule paths input (Err Failed) old new
+    fails_left spelled spells s =
+        let e = due_written spelled has_json.0 spells has_json.1 in
+        record {
+          text = compact has_json.0;
+          due = left_due has_json.0 has_json.1;
+          writes = inl (record {
+            front = subst (λ bytes. AppendsFront old bytes new) e s.prefix;
+            part = subst (λ bytes. AppendsPart old bytes new) e (s.io_short refl);
+            cause = s.io refl;
+            full = λ _. subst (λ bytes. LacksRoom old bytes) e (s.io_room refl);
+            counts = s.counts;
+          });
+        }
+
+    pub lacks_left : (spelled : List Call) → Spells spelled left → StreamsJson Inside (makes spelled) (Err kind.NoMemory) old new → WritesLeftJson rule paths input (Err NoMemory) old new
+    lacks_left spelled spells s =
+        let e = due_written spelled has_json.0 spells has_json.1 in
+        record {
+          text = compact has_json.0;
+          due = left_due has_json.0 has_json.1;
+          writes = inl (record {
+            front = subst (λ bytes. AppendsFront old bytes new) e s.prefix;
+            part = subst (λ bytes. AppendsPart old bytes new) e (s.no_memory_short refl);
+            cause = s.no_memory refl;
+            full = λ is. absurd (cc is);
+            counts = s.counts;
+          });
+        }
+
+    -- it is refused for no other cause
+    pub no_refusal : (spelled : List Call) (why : Refusal) → Spells spelled left → StreamsJson Inside (makes spelled) (Err (refusal_kind why)) old new → ⊥
+    no_refusal spelled why spells s =
+        let never : Ok has_json.0 ≡ Err why = sym has_json.1 ∙ s.tree_refused why refl left spells in cc never
+
+    pub no_generic : (spelled : List Call) → StreamsJson Inside (makes spelled) (Err kind.Generic) old new → ⊥
+    no_generic spelled s = let never : false ≡ true = (s.generic refl).refuses in cc never
+
+    -- memory was wanting between two calls
+    pub pauses_left : (first rest : List Call) → due ≡ first ++ rest → StreamsJson Inside (makes first) (Ok tt) old new → WritesLeftJson rule paths input (Err NoMemory) old new
+    pauses_left first rest same s =
+        let on = (written_as_they_come Inside first rest).begins in
+        let bytes = (written_in Inside first).written in
+        let whole : compact has_json.0 ≡ bytes ++ ([] ++ on.0) =
+        sym (due_written due has_json.0 due_spells has_json.1) ∙ ap (λ x. (written_in Inside x).written) same ∙ on.1 in
+        record {
+          text = compact has_json.0;
+          due = left_due has_json.0 has_json.1;
+          writes = inr (record { want = refl; front = front_after bytes [] on.0 s.written.appends whole (all_is_front [] (appends_nothing new)); steady = s.steady });
+        }
+
+    -- the writer was stopped
+    by_kind : (found : ErrorKind) → StreamsJson Inside (makes due) (Err found) old new → WritesLeftJson rule paths input (Err (stop_by (Some filter.Inner) found)) old new
+    by_kind kind.IO s = fails_left due due_spells s
+    by_kind kind.NoMemory s = lacks_left due due_spells s
+    by_kind kind.InvalidKey s = absurd (no_refusal due InvalidKey due_spells s)
+    by_kind kind.InvalidNumber s = absurd (no_refusal due InvalidNumber due_spells s)
+    by_kind kind.Generic s = absurd (no_generic due s)
+
+    known_kind : (found : ErrorKind) → StreamsJson Inside (makes due) (Err found) old new → IsSinkStop (Some filter.Inner) found
+    known_kind kind.IO s = tt
+    known_kind kind.NoMemory s = tt
+    known_kind kind.InvalidKey s = no_refusal due InvalidKey due_spells s
+    known_kind kind.InvalidNumber s = no_refusal due InvalidNumber due_spells s
+    known_kind kind.Generic s = no_generic due s
+
+  -- ---- a fresh writer behind the filter
+
+  module _ {K : Type 0} (told : K → Told) (sink : MutBor K) (begun now : JsonWriter K) (is : begun ≡ fresh_writer sink Inside) where
+    -- the writer still has its sink
+    abbrev Keeps : Type 0
+    Keeps = (sink_of now).ghost_name ≡ sink.ghost_name
+
+    pub all_written : PassesPruned writer_law (writer_standing told begun) (makes calls) rule paths (writer_standing told now) → WritesLeftJson rule paths input (Ok tt) (told sink.now) (told (sink_of now).now) × Keeps
+    all_written p =
+        let t = (p (tree_of r.document.value) r.spells).1 in
+        let after = ran_is_written told sink Inside (makes t.0) now begun is t.1.willing t.1.ran in
+        (writes_left (told sink.now) (told (sink_of now).now) t.0 t.2 after.0, after.1)
+
+    paused_written : TakesFirst writer_law (writer_standing told begun) due (writer_standing told now) → WritesLeftJson rule paths input (Err NoMemory) (told sink.now) (told (sink_of now).now) × Keeps
+    paused_written t =
+        let after = ran_is_written told sink Inside (makes t.taken) now begun is t.streams.willing t.streams.ran in
+        (pauses_left (told sink.now) (told (sink_of now).now) t.taken t.rest t.same after.0, after.1)
+
+    stopped_written : Stops writer_law (writer_standing told begun) (makes due) (writer_standing told now) → StreamsJson Inside (makes due) (Err (error_kind (stop_of now))) (told sink.now) (told (sink_of now).now) × Keeps
+    stopped_written s = stopped_is_begun told sink Inside (makes due) now begun is s
+
+    -- the filter stopped
+    pub part_written : (why : Option Why) → StopsAt writer_law why (writer_standing told begun) due (writer_standing told now)
+        → WritesLeftJson rule paths input (Err (stop_by why (error_kind (stop_of now)))) (told sink.now) (told (sink_of now).now) × Keeps
+    part_written (Some filter.NoMemory) h = paused_written h
+    part_written (Some filter.Inner) h =
+        let s = stopped_written h in (by_kind (told sink.now) (told (sink_of now).now) (error_kind (stop_of now)) s.0, s.1)
+    part_written (Some filter.NotViable) h = absurd h
+    part_written None h = absurd h
+
+    pub known_stop : (why : Option Why) → StopsAt writer_law why (writer_standing told begun) due (writer_standing told now) → IsSinkStop why (error_kind (stop_of now))
+    known_stop (Some filter.NoMemory) h = tt
+    known_stop (Some filter.Inner) h = known_kind (told sink.now) (told (sink_of now).now) (error_kind (stop_of now)) (stopped_written h).0
+    known_stop (Some filter.NotViable) h = absurd h
+    known_stop None h = absurd h

@@ -1,0 +1,5 @@
+pub mod FilterStops
+pub mod LeftJson
+pub mod LeftWritten
+pub mod DocumentCauses
+pub mod LinesConverted

@@ -1,0 +1,94 @@
+-- What is due of a document, and what writing it leaves of a sink.
+use Rattle.std.specs.Prelude.{◌≡◌, ◌⊎◌, ℕ, List, Result, Ok, Err, IsUtf8}
+use Rattle.std.specs.Str.{IsValidUpTo}
+use Rattle.sval_core.specs.Trees.{Tree}
+use Rattle.sval_io.specs.Sinks.{Told, IsSteady, AppendsFront, WritesWhole, WritesFront}
+use Rattle.sval_io.specs.declared.sink.SinkError.{SinkError}
+use Rattle.sval_io.specs.declared.sink.SinkError.TheVariants as sink
+use Rattle.sval_json.specs.Grammar.{JsonValue, Denotes}
+use Rattle.sval_filter.specs.Paths.{Path}
+use Rattle.sval_filter.specs.declared.paths.Rule.{Rule}
+use Rattle.sval_filter.specs.Pruned.{pruned}
+use Rattle.sval_filter.specs.Verdict.{IsJson}
+use Rattle.sval_json_read.specs.Documents.{IsBadJson}
+use Rattle.sval_json_read.specs.ReadErrors.{KeepsSome}
+use Rattle.sval_json_read.specs.Trees.{tree_of}
+use Rattle.sval_json_read.specs.declared.document.ReadError.{ReadError}
+use Rattle.sval_json_read.specs.declared.document.ReadError.TheVariants as read
+use Rattle.sval_tool.specs.declared.convert.Conversion.{Conversion}
+use Rattle.sval_tool.specs.declared.convert.Target.{Target}
+use Rattle.sval_tool.specs.declared.convert.Target.TheVariants as target
+use Rattle.sval_tool.specs.declared.error.DocumentError.{DocumentError}
+use Rattle.sval_tool.specs.declared.error.DocumentError.TheVariants as document
+
+-- ---- what is due
+
+-- the text of a tree, as the target says
+abbrev pub IsTextOf : Target → List ℕ → Tree → Type 0
+IsTextOf target.Json text tree = IsJson text tree
+
+-- the bytes denote a value, and this is the text of what the rule and the paths leave of its tree
+pub record IsTextLeft (rule : Rule) (paths : List Path) (aim : Target) (bytes text : List ℕ) : Type 0 where
+  pub value : JsonValue
+  pub denotes : Denotes bytes value
+  pub is : IsTextOf aim text (pruned rule paths (tree_of value))
+
+-- the same of a conversion: the text that is due of a document
+abbrev pub IsDocumentDue : Conversion → List ℕ → List ℕ → Type 0
+IsDocumentDue c bytes text = IsTextLeft c.rule c.paths.now c.target bytes text
+
+-- ---- what writing it leaves of a sink
+
+-- memory was wanting between two parts of a text: a first part of it was taken, and no count moved
+pub record PausesIn (why : SinkError) (old : Told) (text : List ℕ) (new : Told) : Type 0 where
+  pub want : why ≡ sink.NoMemory
+  pub front : AppendsFront old text new
+  pub steady : IsSteady old new
+
+-- what writing a text part by part answers
+abbrev pub WritesParts : Result (Unit {0}) SinkError → Told → List ℕ → Told → Type 0
+WritesParts (Ok done) old text new = WritesWhole old text new
+WritesParts (Err why) old text new = WritesFront why old text new ⊎ PausesIn why old text new
+
+-- the JSON of what is left of a document was written, or a first part of it
+pub record WritesLeftJson (rule : Rule) (paths : List Path) (bytes : List ℕ) (result : Result (Unit {0}) SinkError) (old new : Told) : Type 0 where
+  pub text : List ℕ
+  pub due : IsTextLeft rule paths target.Json bytes text
+  pub writes : WritesParts result old text new
+
+-- exactly a text that is due was written
+pub record WritesDue (Due : List ℕ → Type 0) (old new : Told) : Type 0 where
+  pub text : List ℕ
+  pub due : Due text
+  pub writes : WritesWhole old text new
+
+-- a first part of a text that is due was written
+pub record StopsInDue (why : SinkError) (Due : List ℕ → Type 0) (old new : Told) : Type 0 where
+  pub text : List ℕ
+  pub due : Due text
+  pub stops : WritesParts (Err why) old text new
+
+-- memory was wanting to keep what was read, and nothing was written
+pub record IsUnread {K : Type 0} (bytes : List ℕ) (old new : K) : Type 0 where
+  pub utf8 : IsUtf8 bytes
+  pub keeps : KeepsSome bytes
+  pub same : new ≡ old
+
+-- why what is due of a document wasn't written, and what is left of the sink
+abbrev pub IsDocumentCause : {K : Type 0} → (K → Told) → (List ℕ → Type 0) → List ℕ → DocumentError → K → K → Type 0
+IsDocumentCause told Due bytes (document.NotUtf8 at) old new = (IsUtf8 bytes → ⊥) × IsValidUpTo bytes at × (new ≡ old)
+IsDocumentCause told Due bytes (document.BadJson at) old new = IsBadJson bytes at × (new ≡ old)
+IsDocumentCause told Due bytes document.WriteFault old new = StopsInDue sink.Failed Due (told old) (told new)
+IsDocumentCause told Due bytes document.NoMemory old new =
+    IsUnread bytes old new ⊎ StopsInDue sink.NoMemory Due (told old) (told new)
+
+-- ---- errors of what is below
+
+abbrev pub error_of_read : ReadError → DocumentError
+error_of_read (read.NotUtf8 at) = document.NotUtf8 at
+error_of_read (read.BadJson at) = document.BadJson at
+error_of_read read.NoMemory = document.NoMemory
+
+abbrev pub error_of_sink : SinkError → DocumentError
+error_of_sink sink.Failed = document.WriteFault
+error_of_sink sink.NoMemory = document.NoMemory

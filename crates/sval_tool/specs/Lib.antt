@@ -1,0 +1,4 @@
+pub mod Conversions
+pub mod ConvertedLines
+pub mod ErrorTexts
+pub mod Passing

@@ -1,0 +1,106 @@
+//! One document, converted.
+
+ghost use Rattle.std.specs.Prelude.{◌≡◌, ℕ, List, OnOk, IfErr};
+ghost use Rattle.sval_json_read.specs.Calls.{document_calls};
+ghost use Rattle.sval_json_read.specs.ReadErrors.{IsReadText};
+ghost use Rattle.sval_tool.specs.Passing.{IsSinkStop, stop_by};
+ghost use Rattle.sval_tool.specs.Conversions.{WritesLeftJson, IsDocumentDue, WritesDue, IsDocumentCause};
+
+use crate::error::DocumentError;
+use crate::left::stream_left;
+use std::alloc::Global;
+use sval_check::Why;
+use sval_filter::{Paths, Rule};
+use sval_io::{Sink, SinkError};
+use sval_json::{ErrorKind, JsonWriter, Variants};
+use sval_json_read::JsonDoc;
+
+/// What a document is written as.
+#[derive(Clone, Copy, Debug, PartialEq, Eq)]
+pub enum Target {
+    /// JSON without white space.
+    Json,
+}
+
+/// What is made of a document: what a rule and paths leave of its value is written as the target says.
+///
+/// With [`Rule::Drop`] and no path nothing is left out.
+pub struct Conversion<'p> {
+    /// What becomes of the fields that the paths name.
+    pub rule: Rule,
+    /// The fields.
+    pub paths: &'p Paths,
+    /// What is written.
+    pub target: Target,
+}
+
+/// Writes the JSON of what a rule and paths leave of a document.
+fn write_left<K: Sink>(
+    alloc: Global,
+    rule: Rule,
+    paths: &Paths,
+    doc: &JsonDoc<'_>,
+    out: &mut K,
+) -> Result<(), SinkError>
+    requires { (input : List ℕ) × IsReadText input (document_calls doc.now) }
+    ensures { (input : List ℕ) → IsReadText input (document_calls doc.now)
+        → WritesLeftJson rule paths.now input result (K.told out.old) (K.told out.new) }
+{
+    let writer = JsonWriter::new(out, Variants::Inside);
+    let passed = stream_left(alloc, doc, rule, paths, writer);
+    match passed.result {
+        Ok(()) => Ok(()),
+        Err(why) => Err(stop_of(why, passed.stream.error().kind())),
+    }
+}
+
+/// What stopped a filter before a writer of JSON, by the last refusals of both.
+fn stop_of(why: Option<Why>, kind: ErrorKind) -> SinkError
+    requires { IsSinkStop why kind }
+    ensures { result ≡ stop_by why kind }
+{
+    match why {
+        Some(Why::NoMemory) => SinkError::NoMemory,
+        Some(Why::Inner) => match kind {
+            ErrorKind::IO => SinkError::Failed,
+            ErrorKind::NoMemory => SinkError::NoMemory,
+            _ => unreachable!("what is left of a document has a JSON"),
+        },
+        _ => unreachable!("the calls of a document are one whole value"),
+    }
+}
+
+/// Converts one document, and writes it to a sink.
+///
+/// The bytes are read as JSON (RFC 8259). What the rule and the paths leave of the value is written as it is found, so
+/// nothing of it is captured: memory is taken for the document's nodes and for what is open.
+///
+/// ```
+/// let mut paths = Paths::new(alloc);
+/// paths.push_word("user.password")?;
+/// let conversion = Conversion { rule: Rule::Drop, paths: &paths, target: Target::Json };
+/// let json = b"{\"user\": {\"name\": \"a\", \"password\": \"b\"}}";
+/// let mut out = VecSink::new(alloc);
+/// write_document(alloc, &conversion, json.as_slice(), &mut out)?;
+/// assert_eq!(rt; out.as_slice(), b"{\"user\":{\"name\":\"a\"}}".as_slice());
+/// ```
+///
+/// # Errors
+///
+/// [`DocumentError::NotUtf8`] and [`DocumentError::BadJson`] come only where the bytes denote no value, and nothing was
+/// written. After [`DocumentError::WriteFault`] the sink's count of faults rose, and it took a first part of what is
+/// due. [`DocumentError::NoMemory`] comes where the document couldn't be kept, and nothing was written, or after a first
+/// part of what is due.
+pub fn write_document<K: Sink>(
+    alloc: Global,
+    conversion: &Conversion<'_>,
+    bytes: &[u8],
+    out: &mut K,
+) -> Result<(), DocumentError>
+    ensures ok { OnOk result (WritesDue (IsDocumentDue conversion.now bytes.now) (K.told out.old) (K.told out.new)) }
+    ensures err { IfErr result (λ why.
+        IsDocumentCause K.told (IsDocumentDue conversion.now bytes.now) bytes.now why out.old out.new) }
+{
+    let doc = JsonDoc::read(alloc, bytes)?;
+    Ok(write_left(alloc, conversion.rule, conversion.paths, &doc, out)?)
+}
