@@ -25,6 +25,7 @@ pub enum Target {
 /// What is made of a document: what a rule and paths leave of its value is written as the target says.
 ///
 /// With [`Rule::Drop`] and no path nothing is left out.
+#[derive(Clone, Copy)]
 pub struct Conversion<'p> {
     /// What becomes of the fields that the paths name.
     pub rule: Rule,

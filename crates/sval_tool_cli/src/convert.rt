@@ -1,0 +1,157 @@
+//! What is read and written of one input.
+
+use crate::cbor::{check_items, convert_item, convert_items, pack_document};
+use crate::trouble::{Trouble, of_document, of_input};
+use crate::words::{Input, Options, Output};
+use std::alloc::Global;
+use sval_filter::Rule;
+use sval_io::{Sink, Source, VecSink, read_input, write_all};
+use sval_json_read::JsonDoc;
+use sval_lines::Lines;
+use sval_pretty::write_pretty;
+use sval_tool::{Conversion, DocumentError, LinesError, Target, write_document, write_lines};
+
+/// What is made of each document.
+fn conversion(options: &Options) -> Conversion<'_> {
+    Conversion {
+        rule: options.rule.unwrap_or(Rule::Drop),
+        paths: &options.paths,
+        target: Target::Json,
+    }
+}
+
+/// Writes the JSON that is due of a document, laid out.
+fn lay_out<K: Sink>(
+    alloc: Global,
+    options: &Options,
+    bytes: &[u8],
+    out: &mut K,
+) -> Result<(), DocumentError> {
+    let mut json = VecSink::new(alloc);
+    write_document(alloc, &conversion(options), bytes, &mut json)?;
+    Ok(write_pretty(out, json.as_slice())?)
+}
+
+/// Writes what is due of a text of JSON, which is a whole input or the line with this number.
+fn write_one<K: Sink>(
+    alloc: Global,
+    options: &Options,
+    name: &str,
+    bytes: &[u8],
+    number: Option<u64>,
+    out: &mut K,
+) -> Result<(), Trouble> {
+    let written = match options.to {
+        Some(Output::Cbor) => return pack_one(alloc, options, name, bytes, number, out),
+        Some(Output::Pretty) => lay_out(alloc, options, bytes, out),
+        Some(Output::Json) | None => write_document(alloc, &conversion(options), bytes, out),
+    };
+    match written.and_then(|_| Ok(write_all(out, b"\n".as_slice())?)) {
+        Ok(()) => Ok(()),
+        Err(why) => Err(of_document(alloc, why, bytes, name, number)),
+    }
+}
+
+/// Writes the CBOR that is due of a text of JSON.
+fn pack_one<K: Sink>(
+    alloc: Global,
+    options: &Options,
+    name: &str,
+    bytes: &[u8],
+    number: Option<u64>,
+    out: &mut K,
+) -> Result<(), Trouble> {
+    match JsonDoc::read(alloc, bytes) {
+        Ok(doc) => {
+            pack_document(alloc, options, &doc, out).map_err(|why| why.of(alloc, name, number))
+        }
+        Err(error) => Err(of_document(alloc, DocumentError::from(error), bytes, name, number)),
+    }
+}
+
+/// Reads lines of JSON, and writes the JSON that is due of each.
+fn convert_lines<I: Source + Drop, K: Sink>(
+    alloc: Global,
+    options: &Options,
+    name: &str,
+    source: I,
+    out: &mut K,
+) -> Result<(), Trouble> {
+    let mut lines = Lines::new(alloc, source)?;
+    match write_lines(alloc, &conversion(options), &mut lines, out) {
+        Ok(()) => Ok(()),
+        Err(LinesError::Unread(why)) => Err(Trouble::from(why)),
+        Err(LinesError::Line { number, why }) => {
+            Err(of_document(alloc, why, lines.line(), name, Some(number)))
+        }
+    }
+}
+
+/// Reads lines of JSON, and writes each in a form that isn't plain JSON.
+fn reform_lines<I: Source + Drop, K: Sink>(
+    alloc: Global,
+    options: &Options,
+    name: &str,
+    source: I,
+    out: &mut K,
+) -> Result<(), Trouble> {
+    let mut lines = Lines::new(alloc, source)?;
+    while lines.next_line()? {
+        let number = lines.number();
+        write_one(alloc, options, name, lines.line(), Some(number), out)?;
+    }
+    Ok(())
+}
+
+/// Reads an input, and writes what is due of it.
+pub(crate) fn convert_input<I: Source + Drop, K: Sink>(
+    alloc: Global,
+    options: &Options,
+    name: &str,
+    mut source: I,
+    out: &mut K,
+) -> Result<(), Trouble> {
+    let is_cbor = options.from == Some(Input::Cbor);
+    if options.lines && !is_cbor {
+        return match options.to {
+            Some(Output::Pretty | Output::Cbor) => reform_lines(alloc, options, name, source, out),
+            _ => convert_lines(alloc, options, name, source, out),
+        };
+    }
+    let bytes = read_input(alloc, &mut source).map_err(|why| of_input(alloc, name, why))?;
+    match (is_cbor, options.lines) {
+        (true, true) => convert_items(alloc, options, name, &bytes, out),
+        (true, false) => convert_item(alloc, options, name, &bytes, out),
+        (false, _) => write_one(alloc, options, name, &bytes, None, out),
+    }
+}
+
+/// Reads an input, and writes nothing.
+pub(crate) fn check_input<I: Source + Drop>(
+    alloc: Global,
+    options: &Options,
+    name: &str,
+    mut source: I,
+) -> Result<(), Trouble> {
+    let is_cbor = options.from == Some(Input::Cbor);
+    if options.lines && !is_cbor {
+        let mut lines = Lines::new(alloc, source)?;
+        while lines.next_line()? {
+            check_text(alloc, name, lines.line(), Some(lines.number()))?;
+        }
+        return Ok(());
+    }
+    let bytes = read_input(alloc, &mut source).map_err(|why| of_input(alloc, name, why))?;
+    if is_cbor {
+        return check_items(alloc, options, name, &bytes);
+    }
+    check_text(alloc, name, &bytes, None)
+}
+
+/// Reads a text of JSON.
+fn check_text(alloc: Global, name: &str, bytes: &[u8], number: Option<u64>) -> Result<(), Trouble> {
+    match JsonDoc::read(alloc, bytes) {
+        Ok(_) => Ok(()),
+        Err(error) => Err(of_document(alloc, DocumentError::from(error), bytes, name, number)),
+    }
+}

@@ -1,0 +1,114 @@
+//! The texts of the help and the version.
+
+use crate::switch::{OPTIONS, OptionRow};
+use std::alloc::AllocError;
+
+/// What the help says before the options.
+const HEAD: &str = "sval reads JSON or CBOR, and writes what it read in another form.
+
+usage: sval [OPTION]... [FILE]...
+       sval check [--from FORMAT] [--lines] [FILE]...
+
+Without a FILE, or where it is -, it reads standard input. Files are read one
+after the other. `sval check` writes nothing, and tells what is wrong.
+
+options:
+";
+
+/// What the help says behind the options.
+const TAIL: &str = "
+A PATH is the names of fields with dots between them, as user.password; `\\.` is
+a dot in a name. It goes through arrays. --keep and --drop don't go together.
+An argument may stand behind `=`, as --to=pretty. Behind -- each word is a FILE.
+
+examples:
+  sval --to pretty event.json           lay JSON out
+  sval --lines --drop user.password     leave a field of each line out
+  sval --lines --keep ts --keep msg     keep two fields of each line
+  sval --lines --to cbor log.json       write a CBOR sequence
+  sval check --lines log.json           find the first bad line
+
+exit status:
+  0  all was read and written
+  1  an input is wrong; what was due before that place is written
+  2  the command line is wrong; nothing is read
+  3  reading or writing failed, or memory was wanting
+A reader that closes the output early ends the program with 0 and no message.
+";
+
+/// The version.
+const VERSION: &str = "sval in Rattle, not released yet, after sval 2.22.0\n";
+
+/// Where a row's help begins.
+const COLUMN: usize = 24;
+
+/// Adds spaces.
+pub(crate) fn push_spaces(out: &mut String, count: usize) -> Result<(), AllocError> {
+    for done in 0..count {
+        out.push(' ')?;
+    }
+    Ok(())
+}
+
+/// Adds the left part of a row: its short form, its name and its argument.
+fn push_left(out: &mut String, row: &OptionRow) -> Result<(), AllocError> {
+    if row.short.is_empty() {
+        out.push_str("      ")?;
+    } else {
+        out.push_str("  -")?;
+        out.push_str(row.short)?;
+        out.push_str(", ")?;
+    }
+    out.push_str("--")?;
+    out.push_str(row.name)?;
+    if !row.argument.is_empty() {
+        out.push_str(" ")?;
+        out.push_str(row.argument)?;
+    }
+    Ok(())
+}
+
+/// How many bytes [`push_left`] adds, or [`COLUMN`] where they are more.
+fn left_width(row: &OptionRow) -> usize {
+    let argument = if row.argument.is_empty() {
+        0
+    } else {
+        row.argument.len().saturating_add(1)
+    };
+    let name = row.name.len().saturating_add(argument);
+    let short = if row.short.is_empty() {
+        6
+    } else {
+        row.short.len().saturating_add(5)
+    };
+    let width = name.saturating_add(short).saturating_add(2);
+    width.min(COLUMN)
+}
+
+/// Adds a row's line.
+fn push_row(out: &mut String, row: &OptionRow) -> Result<(), AllocError> {
+    push_left(out, row)?;
+    push_spaces(out, COLUMN.saturating_sub(left_width(row)))?;
+    out.push_str(row.help)?;
+    out.push_str("\n")
+}
+
+/// Adds a line for each row.
+fn push_rows(out: &mut String, rows: &[OptionRow]) -> Result<(), AllocError> {
+    for row in rows {
+        push_row(out, row)?;
+    }
+    Ok(())
+}
+
+/// Adds the help, with a line for each option of the table.
+pub(crate) fn push_help(out: &mut String) -> Result<(), AllocError> {
+    out.push_str(HEAD)?;
+    push_rows(out, &OPTIONS)?;
+    out.push_str(TAIL)
+}
+
+/// The line of `--version`.
+pub(crate) fn version() -> &'static str {
+    VERSION
+}

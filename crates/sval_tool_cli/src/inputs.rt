@@ -1,0 +1,121 @@
+//! The inputs, one after the other.
+
+use crate::convert::{check_input, convert_input};
+use crate::end::End;
+use crate::trouble::Trouble;
+use crate::words::{Command, Options};
+use std::fs;
+use std::io::{self, BufWriter, ErrorKind, Read, Stdout};
+use sval_io::{RealSink, RealSource, Sink};
+
+/// How many bytes of output are held back at most.
+const BUFFER: usize = 1 << 16;
+
+/// The output, behind a buffer.
+pub(crate) type Out = RealSink<BufWriter<Stdout>>;
+
+/// What is said of the output where it failed: nothing where its reader closed it.
+fn output_failed(rt: &HostRuntime, out: &Out) -> End {
+    match out.last_error() {
+        Some(ErrorKind::BrokenPipe) => End::Done,
+        _ => {
+            let _ = eprint!(rt; "sval: writing failed\n");
+            End::Fault
+        }
+    }
+}
+
+/// Tells what went wrong with an input.
+fn tell(rt: &HostRuntime, out: &Out, trouble: Trouble) -> End {
+    match trouble {
+        Trouble::Bad(text) => {
+            let _ = eprint!(rt; "{text}");
+            End::BadInput
+        }
+        Trouble::Read => {
+            let _ = eprint!(rt; "sval: reading failed\n");
+            End::Fault
+        }
+        Trouble::NoMemory => {
+            let _ = eprint!(rt; "sval: out of memory\n");
+            End::Fault
+        }
+        Trouble::Write => output_failed(rt, out),
+    }
+}
+
+/// One input, which is read to its end.
+fn run_source<R: Read + Drop>(
+    rt: &HostRuntime,
+    options: &Options,
+    name: &str,
+    reader: R,
+    out: &mut Out,
+) -> End {
+    let source = RealSource::new(reader);
+    let done = match options.command {
+        Command::Convert => convert_input(rt.alloc(), options, name, source, out),
+        Command::Check => check_input(rt.alloc(), options, name, source),
+    };
+    match done {
+        Ok(()) => End::Done,
+        Err(trouble) => {
+            // What is due of what came before is written first.
+            let _ = out.flush();
+            tell(rt, out, trouble)
+        }
+    }
+}
+
+/// One input by its name.
+fn run_input(rt: &HostRuntime, options: &Options, name: &str, out: &mut Out) -> End {
+    if name == "-" {
+        return run_source(rt, options, "-", rt.stdin(), out);
+    }
+    match fs::open(rt, name) {
+        Ok(file) => run_source(rt, options, name, file, out),
+        Err(error) => {
+            let _ = out.flush();
+            let _ = eprint!(rt; "sval: {name}: {error}\n");
+            End::Fault
+        }
+    }
+}
+
+/// The inputs in their order. The first that is wrong ends a conversion; a check goes on.
+fn run_names(rt: &HostRuntime, options: &Options, out: &mut Out) -> End {
+    if options.files.is_empty() {
+        return run_input(rt, options, "-", out);
+    }
+    let mut worst = End::Done;
+    for name in &options.files {
+        let end = run_input(rt, options, name.as_str(), out);
+        if end != End::Done {
+            if options.command == Command::Convert || end == End::Fault {
+                return end;
+            }
+            worst = end;
+        }
+    }
+    worst
+}
+
+/// Reads the inputs and writes what is due of them.
+pub(crate) fn run_inputs(rt: &HostRuntime, options: &Options) -> End {
+    let writer: io::Result<BufWriter<Stdout>> = BufWriter::with_capacity(
+        rt.alloc(),
+        BUFFER,
+        rt.stdout(),
+    );
+    let Ok(writer) = writer else {
+        let _ = eprint!(rt; "sval: out of memory\n");
+        return End::Fault;
+    };
+    let mut out = RealSink::new(writer);
+    let end = run_names(rt, options, &mut out);
+    match out.flush() {
+        Ok(()) => end,
+        Err(_) if end == End::Done => output_failed(rt, &out),
+        Err(_) => end,
+    }
+}

@@ -1,0 +1,67 @@
+//! What is wrong with the command line.
+
+use crate::switch::{Flag, Setting, Switch, name_of};
+use crate::words::Complaint;
+use std::alloc::AllocError;
+
+/// What an option takes.
+fn taken(setting: Setting) -> &'static str {
+    match setting {
+        Setting::From => "json or cbor",
+        Setting::To => "json, pretty or cbor",
+        Setting::Keep => "a path without an empty name",
+        Setting::Drop => "a path without an empty name",
+    }
+}
+
+/// Adds `--` and an option's name.
+fn push_name(out: &mut String, switch: Switch) -> Result<(), AllocError> {
+    out.push_str("--")?;
+    out.push_str(name_of(switch))
+}
+
+/// Adds what is wrong with a word.
+fn push_complaint(out: &mut String, complaint: Complaint) -> Result<(), AllocError> {
+    match complaint {
+        Complaint::UnknownOption => out.push_str("there is no such option"),
+        Complaint::UnwantedArgument(flag) => {
+            push_name(out, Switch::Flag(flag))?;
+            out.push_str(" takes no argument")
+        }
+        Complaint::NoArgument(setting) => {
+            push_name(out, Switch::Setting(setting))?;
+            out.push_str(" needs ")?;
+            out.push_str(taken(setting))
+        }
+        Complaint::BadArgument(setting) => {
+            push_name(out, Switch::Setting(setting))?;
+            out.push_str(" takes ")?;
+            out.push_str(taken(setting))
+        }
+        Complaint::Twice(setting) => {
+            push_name(out, Switch::Setting(setting))?;
+            out.push_str(" comes a second time")
+        }
+        Complaint::KeepAndDrop => out.push_str("--keep and --drop don't go together"),
+        Complaint::NotOfCheck => out.push_str("not an option of `sval check`"),
+    }
+}
+
+/// Adds the error of a word of the command line.
+///
+/// ```
+/// let mut out = String::new(alloc);
+/// push_usage(&mut out, "--form", Complaint::UnknownOption)?;
+/// assert_eq!(rt; out.as_str(), "sval: `--form`: there is no such option\nsee `sval --help`\n");
+/// ```
+pub(crate) fn push_usage(
+    out: &mut String,
+    word: &str,
+    complaint: Complaint,
+) -> Result<(), AllocError> {
+    out.push_str("sval: `")?;
+    out.push_str(word)?;
+    out.push_str("`: ")?;
+    push_complaint(out, complaint)?;
+    out.push_str("\nsee `sval --help`\n")
+}

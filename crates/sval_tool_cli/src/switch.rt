@@ -1,0 +1,145 @@
+//! The options of the command line, in one table.
+
+/// An option that takes no argument.
+#[derive(Clone, Copy, Debug, PartialEq, Eq)]
+pub(crate) enum Flag {
+    /// Each line is a value of its own.
+    Lines,
+    /// The help is asked for.
+    Help,
+    /// The version is asked for.
+    Version,
+}
+
+/// An option that takes an argument.
+#[derive(Clone, Copy, Debug, PartialEq, Eq)]
+pub(crate) enum Setting {
+    /// The format that is read.
+    From,
+    /// The format that is written.
+    To,
+    /// A path of fields that stay.
+    Keep,
+    /// A path of fields that are left out.
+    Drop,
+}
+
+/// An option of the command line.
+#[derive(Clone, Copy, Debug, PartialEq, Eq)]
+pub(crate) enum Switch {
+    /// One without an argument.
+    Flag(Flag),
+    /// One with an argument.
+    Setting(Setting),
+}
+
+/// A row of the table of options.
+#[derive(Clone, Copy)]
+pub(crate) struct OptionRow {
+    /// The option.
+    pub switch: Switch,
+    /// Its name, which is written behind `--`.
+    pub name: &'static str,
+    /// The letter of its short form, which is written behind `-`. It is empty where there is none.
+    pub short: &'static str,
+    /// Whether `sval check` has it too.
+    pub checks: bool,
+    /// What the help calls its argument. It is empty where it takes none.
+    pub argument: &'static str,
+    /// Its line of the help.
+    pub help: &'static str,
+}
+
+/// The options, in the order of the help. The parser takes their names from here, the help its lines, and
+/// `bench/cli_pages` the man page and the completions.
+pub(crate) static OPTIONS: [OptionRow; 7] = [
+    OptionRow {
+        switch: Switch::Setting(Setting::From),
+        name: "from",
+        short: "",
+        checks: true,
+        argument: "FORMAT",
+        help: "read json or cbor (without it json)",
+    },
+    OptionRow {
+        switch: Switch::Setting(Setting::To),
+        name: "to",
+        short: "",
+        checks: false,
+        argument: "FORMAT",
+        help: "write json, pretty or cbor (without it json)",
+    },
+    OptionRow {
+        switch: Switch::Flag(Flag::Lines),
+        name: "lines",
+        short: "",
+        checks: true,
+        argument: "",
+        help: "take each line as a value of its own; of CBOR, each item of a sequence",
+    },
+    OptionRow {
+        switch: Switch::Setting(Setting::Keep),
+        name: "keep",
+        short: "",
+        checks: false,
+        argument: "PATH",
+        help: "keep the fields of this path alone; may be given many times",
+    },
+    OptionRow {
+        switch: Switch::Setting(Setting::Drop),
+        name: "drop",
+        short: "",
+        checks: false,
+        argument: "PATH",
+        help: "leave the fields of this path out; may be given many times",
+    },
+    OptionRow {
+        switch: Switch::Flag(Flag::Help),
+        name: "help",
+        short: "h",
+        checks: true,
+        argument: "",
+        help: "print this help",
+    },
+    OptionRow {
+        switch: Switch::Flag(Flag::Version),
+        name: "version",
+        short: "V",
+        checks: true,
+        argument: "",
+        help: "print the version",
+    },
+];
+
+/// The row of the option with this name.
+pub(crate) fn row_named(name: &str) -> Option<OptionRow> {
+    let table = &OPTIONS;
+    for row in table {
+        if row.name == name {
+            return Some(*row);
+        }
+    }
+    None
+}
+
+/// The row of the option with this short form.
+pub(crate) fn row_shortened(letters: &str) -> Option<OptionRow> {
+    let table = &OPTIONS;
+    for row in table {
+        if row.short == letters {
+            return Some(*row);
+        }
+    }
+    None
+}
+
+/// The name of an option.
+pub(crate) fn name_of(switch: Switch) -> &'static str {
+    let table = &OPTIONS;
+    for row in table {
+        if row.switch == switch {
+            return row.name;
+        }
+    }
+    ""
+}
