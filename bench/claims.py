@@ -119,14 +119,15 @@ def declared(crate):
 def crates_below(crate):
     """A crate and those that it depends on."""
     for line in (TOP / "crates.txt").read_text().splitlines():
-        if line.startswith(crate + ":"):
-            return {crate}.union(name for name in line.split(":")[1].split() if name in crate_names())
+        head, colon, below = line.partition(":")
+        if colon and head.split()[0] == crate:
+            return {crate}.union(name for name in below.split() if name in crate_names())
     return {crate}
 
 
 @functools.lru_cache(None)
 def words():
-    """Every word of the code and the literals of all sources, of the scripts and of the list of crates."""
+    """Every word of the code and the literals of all sources, of the bindings, of the scripts and of the list of crates."""
     found = set()
     comment = re.compile(r"//[^\n]*|(?:^|\s)--[^\n]*")
     for path in (*CRATES.rglob("*.rt"), *CRATES.rglob("*.antt")):
@@ -134,6 +135,9 @@ def words():
         found.add(path.stem)
     for folder in ("bench", "checks", ".ci", "examples"):
         found.update(path.name for path in (TOP / folder).iterdir())
+    for pattern in ("bindings/*", "bindings/c/*", "bindings/python/*.py", "bindings/rust/*/*.rs", "bindings/rust/*/*/*.rs"):
+        for path in TOP.glob(pattern):
+            found.update(WORD.findall(path.read_text()) if path.is_file() else ())
     found.update(path.stem for path in (*CRATES.glob("*/must-fail/*.edit"), *TOP.glob("bench/edits/*/*.edit")))
     return found | crate_names() | kit_words()
 

@@ -13,7 +13,7 @@ CRATES = TOP / "crates"
 
 LITERAL = re.compile(r'//[^\n]*|/\*.*?\*/|\br(#*)".*?"\1|"(?:\\.|[^"\\])*"|\'(?:\\.|[^\'\\\n])\'', re.S)
 HEAD = re.compile(
-    r"(?P<pub>pub(?P<only>\s*\([^)]*\))?\s+)?(?:(?:final|const|unsafe|async|extern\s+\S+)\s+)*"
+    r"(?P<pub>pub(?P<only>\s*\([^)]*\))?\s+)?(?:(?:final|const|unsafe|async|extern(?:\s+\"[^\"]*\")?)\s+)*"
     r"(?P<kind>fn|struct|enum|trait|impl|mod|use|const|static|type|ghost\s+use|ghost|macro_rules!)(?![\w!])\s*(?P<name>[A-Za-z_]\w*)?"
 )
 CLAUSE = re.compile(r"\s*(?P<kind>requires|ensures|decreases)\b\s*(?P<name>[A-Za-z_]\w*)?\s*\{")
@@ -256,7 +256,7 @@ def libraries():
     for line in (TOP / "crates.txt").read_text().splitlines():
         name, colon, rest = line.partition(":")
         if colon and not line.startswith("#"):
-            below[name] = rest.split()
+            below[name.split()[0]] = rest.split()
     order = []
 
     def place(name):

@@ -1,0 +1,103 @@
+//! The proved library beside serde_json, over random texts of JSON and texts that are no JSON.
+//!
+//! `compare [NUMBER [SEED]]`
+
+mod random;
+
+use random::Random;
+use serde_json::Value;
+use std::env;
+use std::time::{Instant, SystemTime, UNIX_EPOCH};
+use sval_proved::{check, compact, from_cbor, pretty, to_cbor, Error};
+
+/// Both read a text, or both refuse it, and what the library writes is the value that serde_json reads.
+fn compare(text: &[u8]) {
+    let ours = compact(text);
+    assert_eq!(
+        check(text),
+        ours.as_ref().map(|_| ()).map_err(|error| *error)
+    );
+    match serde_json::from_slice::<Value>(text) {
+        Ok(value) => {
+            let json =
+                ours.unwrap_or_else(|error| panic!("{error}: {}", String::from_utf8_lossy(text)));
+            let again: Value = serde_json::from_slice(&json).expect("the library writes JSON");
+            assert_eq!(again, settled(value));
+            compare_pretty(text, &json);
+            compare_cbor(text, &json);
+        }
+        Err(error) => assert!(ours.is_err(), "{error}: {}", String::from_utf8_lossy(text)),
+    }
+}
+
+/// Laid out, the text is without white space what the library writes so at once, and is laid out the same again.
+fn compare_pretty(text: &[u8], json: &[u8]) {
+    let laid = pretty(text).expect("the text is JSON");
+    assert_eq!(compact(&laid).as_deref(), Ok(json));
+    assert_eq!(pretty(&laid).as_deref(), Ok(&laid[..]));
+}
+
+/// CBOR is as JSON again what the library writes at once, unless it can't hold a number.
+fn compare_cbor(text: &[u8], json: &[u8]) {
+    match to_cbor(text) {
+        Ok(cbor) => assert_eq!(from_cbor(&cbor).as_deref(), Ok(json)),
+        Err(error) => assert_eq!(error, Error::NotInteger),
+    }
+}
+
+/// The value with 0 for each number -0.
+fn settled(value: Value) -> Value {
+    match value {
+        Value::Number(number) if number.to_string() == "-0" => Value::from(0),
+        Value::Array(values) => Value::Array(values.into_iter().map(settled).collect()),
+        Value::Object(members) => members
+            .into_iter()
+            .map(|(name, value)| (name, settled(value)))
+            .collect(),
+        value => value,
+    }
+}
+
+/// The best time of nine runs, in milliseconds.
+fn best(mut run: impl FnMut()) -> f64 {
+    let times = (0..9).map(|_| {
+        let start = Instant::now();
+        run();
+        start.elapsed().as_secs_f64() * 1e3
+    });
+    times.fold(f64::MAX, f64::min)
+}
+
+/// How long both take for one text of many events.
+fn time() {
+    let event = r#"{"ts": "2024-01-02T03:04:05Z", "level": "Info", "message": "user login", "user": 42, "tags": ["a", "b"]}"#;
+    let text = format!("[{}]", vec![event; 20_000].join(", ")).into_bytes();
+    let ours = best(|| assert!(compact(&text).is_ok()));
+    let theirs = best(|| {
+        let value: Value = serde_json::from_slice(&text).expect("the text is JSON");
+        assert!(serde_json::to_vec(&value).is_ok());
+    });
+    println!("rust: compact {ours:.1} ms, serde_json's Value there and back {theirs:.1} ms, for {} bytes", text.len());
+}
+
+fn main() {
+    let mut words = env::args()
+        .skip(1)
+        .map(|word| word.parse::<u64>().expect("a number"));
+    let number = words.next().unwrap_or(10_000);
+    let now = || {
+        SystemTime::now()
+            .duration_since(UNIX_EPOCH)
+            .map_or(1, |it| it.as_nanos() as u64)
+    };
+    let seed = words.next().unwrap_or_else(now);
+    println!("rust: {number} random inputs, seed {seed}, serde_json");
+    let mut random = Random::new(seed);
+    for _ in 0..number {
+        let text = random.json(3);
+        compare(&text);
+        compare(&random.changed(text));
+    }
+    time();
+    println!("rust: ok");
+}

@@ -1,0 +1,6 @@
+mod Reported
+mod Taken
+mod Texts
+mod Packs
+mod Items
+mod Scripts

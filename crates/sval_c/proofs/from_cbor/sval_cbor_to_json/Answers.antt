@@ -1,0 +1,6 @@
+use Rattle.sval_c.specs.Due.{JsonOfCborDue}
+use Rattle.sval_c.proofs.Reported.{reported}
+use Rattle.sval_c.proofs.from_cbor.sval_cbor_to_json.Goals as goal
+
+pub returns : goal.returns
+returns c = reported (JsonOfCborDue c.args.input.now) c.to_json.result (λ bytes. bytes.items) c.answer.result c.args.out.now c.answer.new.out c.to_json.ensures c.answer.ensures

@@ -1,0 +1,68 @@
+-- Why an input has no bytes to give.
+use Rattle.std.specs.Prelude.{ℕ, List, Option, Some, None, Result, Ok, Err, ⊤}
+use Rattle.sval_c.specs.declared.fault.Fault.{Fault}
+use Rattle.sval_c.specs.declared.fault.Fault.TheVariants as fault
+use Rattle.sval_json.specs.declared.error.ErrorKind.{ErrorKind}
+use Rattle.sval_json.specs.declared.error.ErrorKind.TheVariants as writing
+use Rattle.sval_json_read.specs.declared.document.ReadError.{ReadError}
+use Rattle.sval_json_read.specs.declared.document.ReadError.TheVariants as json
+use Rattle.sval_cbor.specs.declared.error.CborError.{CborError}
+use Rattle.sval_cbor.specs.declared.error.CborError.TheVariants as pack
+use Rattle.sval_cbor_read.specs.declared.document.CborReadError.{CborReadError}
+use Rattle.sval_cbor_read.specs.declared.document.CborReadError.TheVariants as item
+use Rattle.sval_relay.specs.declared.relaying.RelayError.{RelayError}
+use Rattle.sval_relay.specs.declared.relaying.RelayError.TheVariants as script
+use Rattle.sval_c.specs.declared.lack.Lack.{Lack}
+use Rattle.sval_c.specs.declared.lack.Lack.TheVariants as lack
+
+-- ---- by the error of the library
+
+abbrev pub lack_of_json : ReadError → Lack
+lack_of_json (json.NotUtf8 at) = lack.Fault (fault.NotUtf8 at)
+lack_of_json (json.BadJson at) = lack.Fault (fault.BadJson at)
+lack_of_json json.NoMemory = lack.NoMemory
+
+abbrev pub lack_of_cbor : CborReadError → Lack
+lack_of_cbor (item.Bad at) = lack.Fault fault.BadCbor
+lack_of_cbor item.NoMemory = lack.NoMemory
+
+-- of an item of CBOR that is written to memory, where the others don't come
+abbrev pub lack_of_writing : ErrorKind → Option Lack
+lack_of_writing writing.InvalidKey = Some (lack.Fault fault.InvalidKey)
+lack_of_writing writing.NoMemory = Some lack.NoMemory
+lack_of_writing writing.IO = None
+lack_of_writing writing.InvalidNumber = None
+lack_of_writing writing.Generic = None
+
+-- of a document that is written to memory, where the others don't come
+abbrev pub lack_of_pack : CborError → Option Lack
+lack_of_pack pack.Key = Some (lack.Fault fault.InvalidKey)
+lack_of_pack pack.Number = Some (lack.Fault fault.InvalidNumber)
+lack_of_pack pack.Raw = Some (lack.Fault fault.Raw)
+lack_of_pack pack.NotInteger = Some (lack.Fault fault.NotInteger)
+lack_of_pack pack.NoMemory = Some lack.NoMemory
+lack_of_pack pack.Write = None
+lack_of_pack pack.NotATree = None
+lack_of_pack pack.Refused = None
+
+-- of a script that is written to memory, where no write fails
+abbrev pub lack_of_relay : RelayError → Option Lack
+lack_of_relay (script.BadLine line) = Some (lack.Fault (fault.BadLine line))
+lack_of_relay (script.BadCall line) = Some (lack.Fault (fault.BadCall line))
+lack_of_relay script.Unfinished = Some (lack.Fault fault.Unfinished)
+lack_of_relay script.InvalidKey = Some (lack.Fault fault.InvalidKey)
+lack_of_relay script.InvalidNumber = Some (lack.Fault fault.InvalidNumber)
+lack_of_relay script.NoMemory = Some lack.NoMemory
+lack_of_relay script.Write = None
+
+-- ---- what is made of an input
+
+-- the fault is what is due of the input, or memory was wanting
+abbrev pub IsLacking : (Option Fault → List ℕ → Type 0) → Lack → Type 0
+IsLacking Due (lack.Fault why) = (before : List ℕ) × Due (Some why) before
+IsLacking Due lack.NoMemory = ⊤
+
+-- the bytes are what is due of the input, or there are none for this lack
+abbrev pub Gives : {Bytes : Type 0} → (Option Fault → List ℕ → Type 0) → Result Bytes Lack → (Bytes → List ℕ) → Type 0
+Gives Due (Ok made) items = Due None (items made)
+Gives Due (Err why) items = IsLacking Due why

@@ -1,0 +1,62 @@
+//! Why nothing is due of an input.
+
+ghost use Rattle.std.specs.Prelude.{◌≡◌};
+ghost use Rattle.sval_c.specs.Reports.{status_of_fault, place_of};
+
+use sval_program::status;
+
+/// Why nothing is due of an input.
+#[derive(Clone, Copy)]
+pub(crate) enum Fault {
+    /// This line of a script, counted from 1, is the first that is no call.
+    BadLine { line: u64 },
+    /// No value goes on with the call of this line of a script, counted from 1.
+    BadCall { line: u64 },
+    /// The calls of a script are not one whole value.
+    Unfinished,
+    /// A map's key can't be a key of JSON.
+    InvalidKey,
+    /// A text tagged as a number is no number.
+    InvalidNumber,
+    /// The input is not UTF-8. `at` is the length of its longest front that is UTF-8.
+    NotUtf8 { at: u64 },
+    /// The input is not JSON. `at` is the offset of the first byte that no JSON text could have there.
+    BadJson { at: u64 },
+    /// The value has text that says it is JSON, which CBOR can't hold.
+    Raw,
+    /// A number has a fraction, an exponent or more than 128 bits, which CBOR can't hold here.
+    NotInteger,
+    /// The input is not one item of CBOR, in the profile that is read.
+    BadCbor,
+}
+
+impl Fault {
+    /// The status of a report.
+    pub(crate) fn status(self) -> u8
+        ensures { result ≡ status_of_fault self }
+    {
+        match self {
+            Fault::BadLine { .. } => status::BAD_LINE,
+            Fault::BadCall { .. } => status::BAD_CALL,
+            Fault::Unfinished => status::UNFINISHED,
+            Fault::InvalidKey => status::INVALID_KEY,
+            Fault::InvalidNumber => status::INVALID_NUMBER,
+            Fault::NotUtf8 { .. } => status::NOT_UTF8,
+            Fault::BadJson { .. } => status::BAD_JSON,
+            Fault::Raw => status::RAW,
+            Fault::NotInteger => status::NOT_INTEGER,
+            Fault::BadCbor => status::BAD_CBOR,
+        }
+    }
+
+    /// The place of a report: an offset, a line, or 0 where the fault has none.
+    pub(crate) fn place(self) -> u64
+        ensures { result ≡ place_of self }
+    {
+        match self {
+            Fault::BadLine { line } | Fault::BadCall { line } => line,
+            Fault::NotUtf8 { at } | Fault::BadJson { at } => at,
+            _ => 0,
+        }
+    }
+}

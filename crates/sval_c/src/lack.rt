@@ -1,0 +1,103 @@
+//! Why an input has no bytes to give.
+
+ghost use Rattle.std.specs.Prelude.{◌≡◌, Some};
+ghost use Rattle.sval_c.specs.Lacks.{lack_of_json, lack_of_cbor, lack_of_writing, lack_of_pack, lack_of_relay};
+
+use crate::fault::Fault;
+use sval_cbor::CborError;
+use sval_cbor_read::CborReadError;
+use sval_io::SinkError;
+use sval_json::{Error, ErrorKind};
+use sval_json_read::ReadError;
+use sval_relay::RelayError;
+
+/// Why an input has no bytes to give.
+pub(crate) enum Lack {
+    /// The input has this fault.
+    Fault(Fault),
+    /// Memory was wanting.
+    NoMemory,
+}
+
+/// Why JSON wasn't read.
+pub(crate) fn of_json(error: ReadError) -> Lack
+    ensures { result ≡ lack_of_json error }
+{
+    match error {
+        ReadError::NotUtf8 { at } => Lack::Fault(Fault::NotUtf8 { at }),
+        ReadError::BadJson { at } => Lack::Fault(Fault::BadJson { at }),
+        ReadError::NoMemory => Lack::NoMemory,
+    }
+}
+
+/// Why JSON wasn't laid out in memory.
+pub(crate) fn of_layout(error: SinkError) -> Lack
+    requires { error ≡ SinkError.NoMemory }
+    ensures { result ≡ Lack.NoMemory }
+{
+    match error {
+        SinkError::NoMemory => Lack::NoMemory,
+        SinkError::Failed => unreachable!("memory has no faults"),
+    }
+}
+
+/// Why CBOR wasn't read.
+pub(crate) fn of_cbor(error: CborReadError) -> Lack
+    ensures { result ≡ lack_of_cbor error }
+{
+    match error {
+        CborReadError::Bad { .. } => Lack::Fault(Fault::BadCbor),
+        CborReadError::NoMemory => Lack::NoMemory,
+    }
+}
+
+/// Why the JSON of an item of CBOR wasn't written to memory.
+pub(crate) fn of_writing(error: Error) -> Lack
+    requires unlike_fault { error ≡ ErrorKind.IO → ⊥ }
+    requires unlike_number { error ≡ ErrorKind.InvalidNumber → ⊥ }
+    requires unlike_refusal { error ≡ ErrorKind.Generic → ⊥ }
+    ensures { lack_of_writing error ≡ Some result }
+{
+    match error.kind() {
+        ErrorKind::InvalidKey => Lack::Fault(Fault::InvalidKey),
+        ErrorKind::NoMemory => Lack::NoMemory,
+        ErrorKind::IO => unreachable!("memory has no faults"),
+        ErrorKind::InvalidNumber => unreachable!("numbers of items are numbers"),
+        ErrorKind::Generic => unreachable!("a document doesn't refuse"),
+    }
+}
+
+/// Why the CBOR of a document wasn't written to memory.
+pub(crate) fn of_pack(error: CborError) -> Lack
+    requires unlike_fault { error ≡ CborError.Write → ⊥ }
+    requires unlike_no_tree { error ≡ CborError.NotATree → ⊥ }
+    requires unlike_refusal { error ≡ CborError.Refused → ⊥ }
+    ensures { lack_of_pack error ≡ Some result }
+{
+    match error {
+        CborError::Key => Lack::Fault(Fault::InvalidKey),
+        CborError::Number => Lack::Fault(Fault::InvalidNumber),
+        CborError::Raw => Lack::Fault(Fault::Raw),
+        CborError::NotInteger => Lack::Fault(Fault::NotInteger),
+        CborError::NoMemory => Lack::NoMemory,
+        CborError::Write => unreachable!("memory has no faults"),
+        CborError::NotATree => unreachable!("a document is one value"),
+        CborError::Refused => unreachable!("a document doesn't refuse"),
+    }
+}
+
+/// Why the JSON of a script wasn't written to memory.
+pub(crate) fn of_relay(error: RelayError) -> Lack
+    requires { error ≡ RelayError.Write → ⊥ }
+    ensures { lack_of_relay error ≡ Some result }
+{
+    match error {
+        RelayError::BadLine { line } => Lack::Fault(Fault::BadLine { line }),
+        RelayError::BadCall { line } => Lack::Fault(Fault::BadCall { line }),
+        RelayError::Unfinished => Lack::Fault(Fault::Unfinished),
+        RelayError::InvalidKey => Lack::Fault(Fault::InvalidKey),
+        RelayError::InvalidNumber => Lack::Fault(Fault::InvalidNumber),
+        RelayError::NoMemory => Lack::NoMemory,
+        RelayError::Write => unreachable!("memory has no faults"),
+    }
+}
