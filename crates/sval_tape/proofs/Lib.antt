@@ -1,0 +1,10 @@
+pub mod Pieces
+pub mod Tapes
+pub mod Writers
+pub mod OperandReads
+pub mod Names
+pub mod CallsRead
+pub mod BadPlaces
+pub mod TapeStreams
+pub mod Forms
+pub mod TextsRead

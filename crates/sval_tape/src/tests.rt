@@ -1,0 +1,171 @@
+//! Tapes of all calls: written by hand, read and written again, cut short and spoiled.
+
+use crate::{Tape, TapeError, TapeWriter};
+use std::test::Fail;
+use sval_core::{Index, Label, Stream, Tag, Value};
+use sval_io::VecSink;
+
+/// Each call at least once, in the order of the numbers.
+const CALLS: [&'static [u8]; 55] = [
+    &[0],
+    &[1, 0],
+    &[1, 1],
+    &[2, 255, 1],
+    &[3, 128, 1],
+    &[4, 255, 255, 255, 255, 15],
+    &[5, 255, 255, 255, 255, 255, 255, 255, 255, 255, 1],
+    &[
+        6, 255, 255, 255, 255, 255, 255, 255, 255, 255, 255, 255, 255, 255, 255, 255, 255, 255,
+        255, 3,
+    ],
+    &[7, 255, 1],
+    &[8, 13],
+    &[9, 0],
+    &[10, 254, 255, 255, 255, 255, 255, 255, 255, 255, 1],
+    &[
+        11, 255, 255, 255, 255, 255, 255, 255, 255, 255, 255, 255, 255, 255, 255, 255, 255, 255,
+        255, 3,
+    ],
+    &[12, 0],
+    &[12, 1, 2],
+    &[13, 2, 104, 105],
+    &[14, 2, 195, 169],
+    &[15],
+    &[16, 1, 0],
+    &[17, 3, 0, 127, 255],
+    &[18, 0],
+    &[19],
+    &[20, 1, 9, 82, 85, 83, 84, 95, 85, 78, 73, 84, 0, 0],
+    &[21, 6, 78, 85, 77, 66, 69, 82],
+    &[22, 0, 0, 0],
+    &[23, 0, 0, 0],
+    &[24, 0, 1, 1, 65, 0, 1, 5, 0],
+    &[25, 0, 1, 1, 65, 0, 1, 5, 0],
+    &[26, 1, 200, 1],
+    &[27, 0],
+    &[28, 0, 1, 1, 82, 0, 0, 1, 1],
+    &[29, 0, 0, 0, 1, 2],
+    &[30, 0, 0, 1, 4, 1, 6, 78, 85, 77, 66, 69, 82, 0],
+    &[31],
+    &[32],
+    &[33, 0, 1, 1, 82, 0, 0],
+    &[34, 0, 0, 0],
+    &[35, 0, 0, 1, 4, 0],
+    &[36],
+    &[37],
+    &[38],
+    &[
+        39, 0, 2, 105, 100, 1, 11, 86, 65, 76, 85, 69, 95, 73, 68, 69, 78, 84,
+    ],
+    &[
+        40, 0, 0, 1, 12, 86, 65, 76, 85, 69, 95, 79, 70, 70, 83, 69, 84,
+    ],
+    &[
+        41, 0, 1, 120, 0, 254, 255, 255, 255, 255, 255, 255, 255, 255, 3, 0,
+    ],
+    &[
+        41, 0, 1, 120, 0, 255, 255, 255, 255, 255, 255, 255, 255, 255, 1, 0,
+    ],
+    &[42],
+    &[43],
+    &[44],
+    &[45, 0, 0, 0],
+    &[46, 0, 2, 0],
+    &[47, 0, 1, 120, 0, 1, 0],
+    &[13, 0],
+    &[14, 0],
+    &[17, 0],
+    &[0],
+];
+
+/// Bytes that begin no call.
+const SPOILED: [&'static [u8]; 22] = [
+    &[48],
+    &[255, 0],
+    &[1, 2],
+    &[2, 128, 2],
+    &[2, 129, 0],
+    &[2, 128],
+    &[3, 128, 128, 4],
+    &[5, 255, 255, 255, 255, 255, 255, 255, 255, 255, 2],
+    &[
+        6, 255, 255, 255, 255, 255, 255, 255, 255, 255, 255, 255, 255, 255, 255, 255, 255, 255,
+        255, 4,
+    ],
+    &[7, 128, 2],
+    &[12, 2],
+    &[12, 1, 255, 255, 255, 255, 255, 255, 255, 255, 255, 2],
+    &[13, 2, 104],
+    &[13, 1, 200],
+    &[13, 2, 195, 40],
+    &[21, 6, 78, 85, 77, 66, 69, 83],
+    &[21, 0],
+    &[20, 1, 1, 65, 0, 0],
+    &[40, 0, 255, 255, 255, 255, 255, 255, 255, 255, 255, 3, 0],
+    &[40, 0, 128, 128, 128, 128, 128, 128, 128, 128, 128, 4, 0],
+    &[39, 0, 1, 128, 0],
+    &[39, 0],
+];
+
+#[test]
+fn all_calls_are_read_and_written_again(rt: HostRuntime) -> Result<(), Fail> {
+    let mut bytes = Vec::new(rt.alloc());
+    for call in CALLS {
+        bytes.extend_from_slice(call)?;
+    }
+    let tape = Tape::read(bytes.as_slice())?;
+    let mut writer = TapeWriter::new(VecSink::new(rt.alloc()));
+    tape.stream(&mut writer)?;
+    let written = writer.into_inner();
+    assert_eq!(rt; written.as_slice(), bytes.as_slice());
+    Ok(())
+}
+
+#[test]
+fn bytes_cut_within_a_call_are_bad_where_it_begins(rt: HostRuntime) -> Result<(), Fail> {
+    let mut bytes = Vec::new(rt.alloc());
+    for call in CALLS {
+        let begin = bytes.len();
+        for byte in call {
+            bytes.push(*byte)?;
+            let read = Tape::read(bytes.as_slice()).err();
+            if bytes.len() - begin < call.len() {
+                assert_eq!(rt; read, Some(TapeError::Bad { at: begin }));
+            } else {
+                assert_eq!(rt; read, None);
+            }
+        }
+    }
+    Ok(())
+}
+
+#[test]
+fn spoiled_calls_are_bad_where_they_begin(rt: HostRuntime) -> Result<(), Fail> {
+    for call in SPOILED {
+        let mut bytes = Vec::new(rt.alloc());
+        bytes.extend_from_slice(&[0, 15])?;
+        bytes.extend_from_slice(call)?;
+        assert_eq!(rt;
+            Tape::read(bytes.as_slice()).err(),
+            Some(TapeError::Bad { at: 2 })
+        );
+    }
+    Ok(())
+}
+
+#[test]
+fn writes_the_bytes_of_a_record(rt: HostRuntime) -> Result<(), Fail> {
+    let mut writer = TapeWriter::new(VecSink::new(rt.alloc()));
+    let label = Label::new("id");
+    let index = Index::new_i32(-3);
+    let own = Tag::new("own");
+    writer.record_tuple_begin(Some(&own), None, None, Some(300))?;
+    writer.record_tuple_value_begin(None, &label, &index)?;
+    writer.i32(-300)?;
+    let due = [
+        30, 1, 3, 111, 119, 110, 0, 0, 1, 172, 2, 41, 0, 2, 105, 100, 0, 5, 0, 9, 215, 4,
+    ];
+    let written = writer.into_inner();
+    assert_eq!(rt; written.as_slice(), due.as_slice());
+    Ok(())
+}
