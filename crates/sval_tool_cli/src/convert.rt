@@ -96,7 +96,10 @@ fn reform_lines<I: Source + Drop, K: Sink>(
     out: &mut K,
 ) -> Result<(), Trouble> {
     let mut lines = Lines::new(alloc, source)?;
-    while lines.next_line()? {
+    for _ in 0..u64::MAX {
+        if !lines.next_line()? {
+            break;
+        }
         let number = lines.number();
         write_one(alloc, options, name, lines.line(), Some(number), out)?;
     }
@@ -126,6 +129,18 @@ pub(crate) fn convert_input<I: Source + Drop, K: Sink>(
     }
 }
 
+/// Reads lines of JSON, and writes nothing.
+fn check_lines<I: Source + Drop>(alloc: Global, name: &str, source: I) -> Result<(), Trouble> {
+    let mut lines = Lines::new(alloc, source)?;
+    for _ in 0..u64::MAX {
+        if !lines.next_line()? {
+            break;
+        }
+        check_text(alloc, name, lines.line(), Some(lines.number()))?;
+    }
+    Ok(())
+}
+
 /// Reads an input, and writes nothing.
 pub(crate) fn check_input<I: Source + Drop>(
     alloc: Global,
@@ -135,11 +150,7 @@ pub(crate) fn check_input<I: Source + Drop>(
 ) -> Result<(), Trouble> {
     let is_cbor = options.from == Some(Input::Cbor);
     if options.lines && !is_cbor {
-        let mut lines = Lines::new(alloc, source)?;
-        while lines.next_line()? {
-            check_text(alloc, name, lines.line(), Some(lines.number()))?;
-        }
-        return Ok(());
+        return check_lines(alloc, name, source);
     }
     let bytes = read_input(alloc, &mut source).map_err(|why| of_input(alloc, name, why))?;
     if is_cbor {
