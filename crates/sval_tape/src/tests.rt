@@ -129,7 +129,7 @@ fn bytes_cut_within_a_call_are_bad_where_it_begins(rt: HostRuntime) -> Result<()
         for byte in call {
             bytes.push(*byte)?;
             let read = Tape::read(bytes.as_slice()).err();
-            if bytes.len() - begin < call.len() {
+            if bytes.len().saturating_sub(begin) < call.len() {
                 assert_eq!(rt; read, Some(TapeError::Bad { at: begin }));
             } else {
                 assert_eq!(rt; read, None);
