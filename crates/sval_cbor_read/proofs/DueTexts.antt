@@ -24,8 +24,8 @@ use Rattle.sval_program.specs.declared.failure.Fault.TheVariants as fault
 use Rattle.sval_program.specs.declared.failure.Failure.TheVariants as failure
 use Rattle.sval_program.specs.Jobs.{may_write, ServesBytes}
 use Rattle.sval_program.specs.Outputs.{WritesText}
-use Rattle.sval_cbor_read.specs.declared.form.Form.{Form}
-use Rattle.sval_cbor_read.specs.declared.form.Form.TheVariants as form
+use Rattle.sval_program.specs.declared.form.ReadForm.{ReadForm}
+use Rattle.sval_program.specs.declared.form.ReadForm.TheVariants as form
 use Rattle.sval_cbor_read.specs.Document.{cbor_document_calls}
 use Rattle.sval_cbor_read.specs.Items.{IsItemOf}
 use Rattle.sval_cbor_read.specs.ReadErrors.{IsReadItem}
@@ -45,7 +45,7 @@ one_calls : {input : List ℕ} {tree other : Tree} (i : IsItemOf input tree) (j 
 one_calls {input} {tree} {other} i j = one_document input (cbor_document_calls i) (cbor_document_calls j) (item_is_read input tree i).0 (item_is_read input other j).0
 
 -- bytes have one text at most that is written of them
-pub one_most : (asked : Form) {input : List ℕ} {tree other : Tree} (i : IsItemOf input tree) (j : IsItemOf input other) → most_of asked i ≡ most_of asked j
+pub one_most : (asked : ReadForm) {input : List ℕ} {tree other : Tree} (i : IsItemOf input tree) (j : IsItemOf input other) → most_of asked i ≡ most_of asked j
 one_most form.Json i j = ap (λ calls. (written_in Inside calls).written) (one_calls i j)
 one_most form.Calls i j = ap canon (one_tree i j)
 
@@ -55,18 +55,18 @@ json_written {input} {tree} i json shape =
     (subst (λ found. IsWrittenAs found (written_in Inside (cbor_document_calls i))) shape (spelling_written Inside (cbor_document_calls i) tree (item_is_read input tree i).1)).0
 
 -- the text that is due is all that is written
-pub due_is_most : {input text : List ℕ} (asked : Form) {tree : Tree} (i : IsItemOf input tree) → IsItemTextDue text input asked → text ≡ most_of asked i
+pub due_is_most : {input text : List ℕ} (asked : ReadForm) {tree : Tree} (i : IsItemOf input tree) → IsItemTextDue text input asked → text ≡ most_of asked i
 due_is_most form.Json i d = d.is.is_text ∙ sym (json_written d.item d.is.json d.is.shape) ∙ one_most form.Json d.item i
 due_is_most form.Calls i d = d.is ∙ one_most form.Calls d.item i
 
-pub up_to_key_is_most : {input written : List ℕ} (asked : Form) {tree : Tree} (i : IsItemOf input tree) → IsWrittenUpToKey written input asked → written ≡ most_of asked i
+pub up_to_key_is_most : {input written : List ℕ} (asked : ReadForm) {tree : Tree} (i : IsItemOf input tree) → IsWrittenUpToKey written input asked → written ≡ most_of asked i
 up_to_key_is_most form.Json i w = w.is_written ∙ one_most form.Json w.item i
 up_to_key_is_most form.Calls i w = let never = w.json in cc never
 
 -- ---- what is due of an item
 
 -- what is written of an item, as the text that is due or as what is written up to a key
-pub record DueOf (asked : Form) (input bytes : List ℕ) : Type 0 where
+pub record DueOf (asked : ReadForm) (input bytes : List ℕ) : Type 0 where
   pub found : Option Fault
   pub due : CborReadDue asked input found bytes
   pub may : may_write cbor_read_terms found ≡ true
@@ -86,7 +86,7 @@ module _ {input : List ℕ} {tree : Tree} (m : IsInMemory input) (item : IsItemO
   pub key_due : json_of tree ≡ Err InvalidKey → CborReadDue form.Json input (Some fault.InvalidKey) (most_of form.Json item)
   key_due refused = up_to_key (record { json = refl; tree = tree; item = item; refused = refused; is_written = refl })
 
-  pub due_of : (asked : Form) → DueOf asked input (most_of asked item)
+  pub due_of : (asked : ReadForm) → DueOf asked input (most_of asked item)
   due_of form.Calls = record { found = None; due = script_due; may = refl }
   due_of form.Json = by_shape (json_of tree) refl
     where

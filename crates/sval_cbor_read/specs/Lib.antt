@@ -14,5 +14,4 @@ pub mod SeenParts
 pub mod SeenReader
 pub mod ReadErrors
 pub mod ErrorTexts
-pub mod Forms
 pub mod Serves

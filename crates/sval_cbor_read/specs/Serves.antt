@@ -19,10 +19,10 @@ use Rattle.sval_program.specs.declared.status.TheConstants.{INVALID_KEY, BAD_CBO
 use Rattle.sval_program.specs.Jobs.{Terms}
 use Rattle.sval_cbor_read.specs.declared.document.CborReadError.{CborReadError}
 use Rattle.sval_cbor_read.specs.declared.document.CborReadError.TheVariants as reading
-use Rattle.sval_cbor_read.specs.declared.form.Form.{Form}
-use Rattle.sval_cbor_read.specs.declared.form.Form.TheVariants as form
+use Rattle.sval_program.specs.declared.form.ReadForm.{ReadForm}
+use Rattle.sval_program.specs.declared.form.ReadForm.TheVariants as form
 use Rattle.sval_cbor_read.specs.Document.{cbor_document_calls}
-use Rattle.sval_cbor_read.specs.Forms.{cbor_read_form}
+use Rattle.sval_program.specs.ReadForms.{read_form}
 use Rattle.sval_cbor_read.specs.Items.{IsItemOf}
 
 -- bytes as memory can hold them
@@ -39,12 +39,12 @@ pub record IsJsonOfTree (tree : Tree) (text : List ℕ) : Type 0 where
   pub is_text : text ≡ compact json
 
 -- the tree's text: its JSON, which it may not have, or its canonical script
-abbrev pub IsTextOfTree : Form → Tree → List ℕ → Type 0
+abbrev pub IsTextOfTree : ReadForm → Tree → List ℕ → Type 0
 IsTextOfTree form.Json tree text = IsJsonOfTree tree text
 IsTextOfTree form.Calls tree text = text ≡ canon tree
 
 -- the input is an item, and this is the text that is due of it
-pub record IsItemTextDue (text input : List ℕ) (asked : Form) : Type 0 where
+pub record IsItemTextDue (text input : List ℕ) (asked : ReadForm) : Type 0 where
   pub tree : Tree
   pub item : IsItemOf input tree
   pub is : IsTextOfTree asked tree text
@@ -58,13 +58,13 @@ pub record TellsTreeValue (tree : Tree) (text : List ℕ) : Type 0 where
   pub is : IsTheValueOf json value
 
 -- JSON denotes what is meant; a canonical script spells the tree's canonical calls
-abbrev pub IsMeantByItem : Form → Tree → List ℕ → Type 0
+abbrev pub IsMeantByItem : ReadForm → Tree → List ℕ → Type 0
 IsMeantByItem form.Json tree text = TellsTreeValue tree text
 IsMeantByItem form.Calls tree text = lines text ≡ Good (calls_of tree)
 
 -- The input is an item that has no JSON, since what stands in the place of a key can't be one, and this is what the steps that write
 -- JSON write of the document's calls before they refuse.
-pub record IsWrittenUpToKey (written input : List ℕ) (asked : Form) : Type 0 where
+pub record IsWrittenUpToKey (written input : List ℕ) (asked : ReadForm) : Type 0 where
   pub json : asked ≡ form.Json
   pub tree : Tree
   pub item : IsItemOf input tree
@@ -72,14 +72,14 @@ pub record IsWrittenUpToKey (written input : List ℕ) (asked : Form) : Type 0 w
   pub is_written : written ≡ (written_in Inside (cbor_document_calls item)).written
 
 -- it is no item
-abbrev pub IsNoItem : List ℕ → Form → Type 0
+abbrev pub IsNoItem : List ℕ → ReadForm → Type 0
 IsNoItem input asked = (tree : Tree) → IsItemOf input tree → ⊥
 
 -- what is due of an input: the text of its item, what is written up to a key, or no bytes where it is no item
-pub data CborReadDue : Form → List ℕ → Option Fault → List ℕ → Type 0 where
-  a_text : {asked : Form} {input text : List ℕ} (due : IsItemTextDue text input asked) → IsMeantByItem asked due.tree text → CborReadDue asked input None text
-  up_to_key : {asked : Form} {input written : List ℕ} → IsWrittenUpToKey written input asked → CborReadDue asked input (Some fault.InvalidKey) written
-  no_item : {asked : Form} {input : List ℕ} → IsNoItem input asked → CborReadDue asked input (Some fault.BadCbor) []
+pub data CborReadDue : ReadForm → List ℕ → Option Fault → List ℕ → Type 0 where
+  a_text : {asked : ReadForm} {input text : List ℕ} (due : IsItemTextDue text input asked) → IsMeantByItem asked due.tree text → CborReadDue asked input None text
+  up_to_key : {asked : ReadForm} {input written : List ℕ} → IsWrittenUpToKey written input asked → CborReadDue asked input (Some fault.InvalidKey) written
+  no_item : {asked : ReadForm} {input : List ℕ} → IsNoItem input asked → CborReadDue asked input (Some fault.BadCbor) []
 
 -- the failure where bytes weren't read
 abbrev pub failure_of_cbor_read : CborReadError → Failure
@@ -87,9 +87,9 @@ failure_of_cbor_read (reading.Bad at) = failure.Fault fault.BadCbor
 failure_of_cbor_read reading.NoMemory = failure.NoMemory
 
 -- what the program does
-abbrev pub cbor_read_terms : Terms Form
+abbrev pub cbor_read_terms : Terms ReadForm
 cbor_read_terms = record {
-  form_named = cbor_read_form;
+  form_named = read_form;
   Due = CborReadDue;
   reads = λ form. true;
   partly = λ form. false;
@@ -100,6 +100,6 @@ cbor_read_terms = record {
 
 -- what is written of an item at most: in JSON what the steps write of the document's calls, which is the text that is due where a key
 -- isn't refused
-abbrev pub most_of : Form → {input : List ℕ} {tree : Tree} → IsItemOf input tree → List ℕ
+abbrev pub most_of : ReadForm → {input : List ℕ} {tree : Tree} → IsItemOf input tree → List ℕ
 most_of form.Json item = (written_in Inside (cbor_document_calls item)).written
 most_of form.Calls {tree = tree} item = canon tree

@@ -3,11 +3,10 @@
 ghost use Rattle.sval_cbor_read.specs.Serves.{cbor_read_terms};
 
 use crate::document::CborReadError;
-use crate::form::named_form;
 use crate::running::serve;
 use std::alloc::Global;
 use sval_io::{Sink, Source};
-use sval_program::{Failure, Fault, Job, Line};
+use sval_program::{Failure, Fault, Job, Line, read_form};
 
 impl From<CborReadError> for Failure {
     ghost use Rattle.std.specs.Prelude.{◌≡◌};
@@ -28,9 +27,9 @@ impl From<CborReadError> for Failure {
 pub struct ReadCbor;
 
 impl Job for ReadCbor {
-    ghost use Rattle.sval_cbor_read.specs.declared.form.Form.{Form};
+    ghost use Rattle.sval_program.specs.declared.form.ReadForm.{ReadForm};
 
-    ghost Form = { Form };
+    ghost Form = { ReadForm };
 
     ghost terms = { cbor_read_terms };
 
@@ -39,7 +38,7 @@ impl Job for ReadCbor {
     }
 
     fn takes(words: &[String]) -> bool {
-        named_form(words).is_some()
+        read_form(words).is_some()
     }
 
     fn serve<I: Source, K: Sink>(

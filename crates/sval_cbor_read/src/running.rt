@@ -7,19 +7,18 @@ ghost use Rattle.sval_cbor_read.specs.ReadErrors.{IsReadItem};
 ghost use Rattle.sval_cbor_read.specs.Serves.{cbor_read_terms, IsInMemory};
 
 use crate::document::CborDoc;
-use crate::form::{Form, named_form};
 use crate::program::ReadCbor;
 use std::alloc::Global;
 use sval_io::{Sink, SinkError, Source, read_input};
 use sval_json::{ErrorKind, stream_to_io_write};
 use sval_program::job::run;
-use sval_program::{Failure, Fault, print_captured};
+use sval_program::{Failure, Fault, ReadForm, print_captured, read_form};
 
 /// Writes the JSON of a document.
 fn write_json<K: Sink>(doc: &CborDoc<'_>, out: &mut K) -> Result<(), Failure>
     requires { (input : List ℕ) × IsReadItem input doc.now × IsInMemory input }
     ensures { (input : List ℕ) → IsReadItem input doc.now → IsInMemory input
-        → ServesBytes cbor_read_terms K.told Form.Json input result out.old out.new }
+        → ServesBytes cbor_read_terms K.told ReadForm.Json input result out.old out.new }
 {
     match stream_to_io_write(out, doc) {
         Ok(()) => Ok(()),
@@ -37,7 +36,7 @@ fn write_json<K: Sink>(doc: &CborDoc<'_>, out: &mut K) -> Result<(), Failure>
 fn print_script<K: Sink>(alloc: Global, doc: &CborDoc<'_>, out: &mut K) -> Result<(), Failure>
     requires { (input : List ℕ) × IsReadItem input doc.now × IsInMemory input }
     ensures { (input : List ℕ) → IsReadItem input doc.now → IsInMemory input
-        → ServesBytes cbor_read_terms K.told Form.Calls input result out.old out.new }
+        → ServesBytes cbor_read_terms K.told ReadForm.Calls input result out.old out.new }
 {
     Ok(print_captured(alloc, doc.node_count(), doc, out)?)
 }
@@ -45,7 +44,7 @@ fn print_script<K: Sink>(alloc: Global, doc: &CborDoc<'_>, out: &mut K) -> Resul
 /// Writes what is asked for of a document.
 fn write_document<K: Sink>(
     alloc: Global,
-    form: Form,
+    form: ReadForm,
     doc: &CborDoc<'_>,
     out: &mut K,
 ) -> Result<(), Failure>
@@ -54,13 +53,18 @@ fn write_document<K: Sink>(
         → ServesBytes cbor_read_terms K.told form input result out.old out.new }
 {
     match form {
-        Form::Json => write_json(doc, out),
-        Form::Calls => print_script(alloc, doc, out),
+        ReadForm::Json => write_json(doc, out),
+        ReadForm::Calls => print_script(alloc, doc, out),
     }
 }
 
 /// Reads the bytes as an item, and writes what is asked for of it.
-fn serve_bytes<K: Sink>(alloc: Global, form: Form, bytes: &[u8], out: &mut K) -> Result<(), Failure>
+fn serve_bytes<K: Sink>(
+    alloc: Global,
+    form: ReadForm,
+    bytes: &[u8],
+    out: &mut K,
+) -> Result<(), Failure>
     requires { length bytes.now < 2 ^ 64 }
     ensures { ServesBytes cbor_read_terms K.told form bytes.now result out.old out.new }
 {
@@ -71,7 +75,7 @@ fn serve_bytes<K: Sink>(alloc: Global, form: Form, bytes: &[u8], out: &mut K) ->
 /// Reads the input whole, and serves its bytes.
 fn serve_input<I: Source, K: Sink>(
     alloc: Global,
-    form: Form,
+    form: ReadForm,
     input: &mut I,
     out: &mut K,
 ) -> Result<(), Failure>
@@ -91,7 +95,7 @@ pub(crate) fn serve<I: Source, K: Sink>(
     ensures { Serves cbor_read_terms I.told K.told (map string_bytes words.now) result
         input.old input.new out.old out.new }
 {
-    match named_form(words) {
+    match read_form(words) {
         None => Err(Failure::Usage),
         Some(form) => serve_input(alloc, form, input, out),
     }

@@ -48,7 +48,7 @@ pub(crate) enum Handler {
 ///
 /// It writes each call as it comes. So it goes behind a stream that changes or checks calls, and nothing is captured:
 /// behind a `Filter` of `sval_filter`, or a `Checked` of `sval_check`. It trusts that calls, ends and sizes are right,
-/// as [`stream_to_io_write`](crate::stream_to_io_write) does. What calls that spell no value write is no JSON.
+/// as [`stream_to_io_write`](crate::stream_to_io_write) does. Calls that spell no value may write text that is no JSON.
 ///
 /// A call is refused where the text so far, with it, is no JSON for one of two causes: a key that can't be one, or a
 /// number that is none. It is also refused where the sink declines. [`error`](JsonWriter::error) then tells the cause.

@@ -19,8 +19,8 @@ use Rattle.sval_json.proofs.WritingPlain.{spelling_written}
 use Rattle.sval_script.specs.Canon.{canon}
 use Rattle.sval_script.proofs.CanonicalScripts.{canon-reads_back}
 use Rattle.sval_program.specs.Outputs.{WritesText}
-use Rattle.sval_json_read.specs.declared.form.Form.{Form}
-use Rattle.sval_json_read.specs.declared.form.Form.TheVariants as form
+use Rattle.sval_program.specs.declared.form.ReadForm.{ReadForm}
+use Rattle.sval_program.specs.declared.form.ReadForm.TheVariants as form
 use Rattle.sval_json_read.specs.Trees.{tree_of, settled}
 use Rattle.sval_json_read.specs.ReadErrors.{IsReadText}
 use Rattle.sval_json_read.specs.Serves.{IsJsonTextDue, WritesDueText}
@@ -28,7 +28,7 @@ use Rattle.sval_json_read.proofs.SettledTrees.{denoted-settles}
 use Rattle.sval_json_read.proofs.WritableTrees.{denoted-printable}
 
 -- an input has one text that is due
-pub one_text : (input : List ℕ) (asked : Form) (text other : List ℕ) → IsJsonTextDue text input asked → IsJsonTextDue other input asked → text ≡ other
+pub one_text : (input : List ℕ) (asked : ReadForm) (text other : List ℕ) → IsJsonTextDue text input asked → IsJsonTextDue other input asked → text ≡ other
 one_text input form.Json text other d e =
     let same = denotes_one input d.value e.value d.denotes e.denotes in
     let shape : json_of (tree_of d.value) ≡ Ok e.is.json = ap (λ value. json_of (tree_of value)) same ∙ e.is.shape in

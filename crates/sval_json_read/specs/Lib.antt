@@ -16,7 +16,6 @@ pub mod ReadErrors
 pub mod ErrorTexts
 pub mod SeenPieces
 pub mod NodeCalls
-pub mod Forms
 pub mod Serves
 pub mod SeenValues
 pub mod Lookups

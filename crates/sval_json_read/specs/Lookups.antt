@@ -87,33 +87,33 @@ abbrev pub item_at : ℕ → JsonValue → Option JsonValue
 item_at index (Array values) = slice_get (values_listed values) index
 item_at index _ = None
 
--- a pair of an object: the text of its key, and its value
+-- a member of an object: its name as text, and its value
 pub record Member : Type 0 where
   pub name : List ℕ
   pub value : JsonValue
 
--- the pairs, in order
+-- the members, in order
 abbrev pub paired : Members → List Member
 paired no_members = []
 paired (a_member text value members) = record { name = text; value = value } ∷ paired members
 
--- the pairs of the object that a value is, in order
+-- the members of the object that a value is, in order
 abbrev pub members_of : JsonValue → Option (List Member)
 members_of (Object members) = Some (paired members)
 members_of _ = None
 
--- how many items the array, or pairs the object, has that a value is
+-- how many items the array, or members the object, has that a value is
 abbrev pub len_of : JsonValue → Option ℕ
 len_of (Array values) = Some (length (values_listed values))
 len_of (Object members) = Some (length (paired members))
 len_of _ = None
 
--- the value of the last pair with this name
+-- the value of the last member with this name
 abbrev pub last_named : List ℕ → List Member → Option JsonValue
 last_named name [] = None
 last_named name (member ∷ members) = option_or (last_named name members) (if bytes_eq member.name name then Some member.value else None)
 
--- the value of the last pair with this name of the object that a value is
+-- the value of the last member with this name of the object that a value is
 abbrev pub member_of : List ℕ → JsonValue → Option JsonValue
 member_of name (Object members) = last_named name (paired members)
 member_of name _ = None

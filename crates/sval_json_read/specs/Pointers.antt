@@ -16,29 +16,29 @@ abbrev pub reference_token : List ℕ → List ℕ
 reference_token [] = []
 reference_token (byte ∷ bytes) = encoded_byte byte ++ reference_token bytes
 
--- the value of the last pair of which the name has this reference token
+-- the value of the last member whose name has this reference token
 abbrev pub last_referenced : List ℕ → List Member → Option JsonValue
 last_referenced token [] = None
 last_referenced token (member ∷ members) =
     option_or (last_referenced token members) (if bytes_eq (reference_token member.name) token then Some member.value else None)
 
--- an array index: `0`, or digits without a leading zero, of a number that has 64 bits
+-- an array index: `0`, or digits without a leading zero, of a number below 2 ^ 64
 abbrev pub array_index : List ℕ → Option ℕ
 array_index token = if is_decimal token && nat_lt (digits_value 10 token) (2 ^ 64) then Some (digits_value 10 token) else None
 
--- the value that a reference token references: the item of an array at its index, or what the last pair of an object with its name has
+-- the value that a reference token references: the item of an array at its index, or the value of the last member of an object with its name
 abbrev pub referenced : List ℕ → JsonValue → Option JsonValue
 referenced token (Array values) = option_and_then (λ index. slice_get (values_listed values) index) (array_index token)
 referenced token (Object members) = last_referenced token (paired members)
 referenced token _ = None
 
--- each reference token behind a `/` is evaluated in turn. Of the one that the pointer goes on with, `token` was read
+-- the value that the rest of a pointer references; `token` has the bytes so far of the current reference token, which a `/` ends
 abbrev pub evaluated : List ℕ → List ℕ → JsonValue → Option JsonValue
 evaluated token [] value = referenced token value
 evaluated token (byte ∷ bytes) value =
     if byte == 47 then option_and_then (evaluated [] bytes) (referenced token value) else evaluated (token ++ (byte ∷ [])) bytes value
 
--- the value that a pointer references. The empty pointer references the whole, and any other begins with `/`
+-- the value that a pointer references. The empty pointer references the whole, and one that begins with another byte than `/` references nothing
 abbrev pub pointed : List ℕ → JsonValue → Option JsonValue
 pointed [] value = Some value
 pointed (byte ∷ bytes) value = if byte == 47 then evaluated [] bytes value else None

@@ -18,10 +18,10 @@ use Rattle.sval_program.specs.Jobs.{Terms}
 use Rattle.sval_program.specs.Outputs.{WritesText}
 use Rattle.sval_json_read.specs.declared.document.ReadError.{ReadError}
 use Rattle.sval_json_read.specs.declared.document.ReadError.TheVariants as reading
-use Rattle.sval_json_read.specs.declared.form.Form.{Form}
-use Rattle.sval_json_read.specs.declared.form.Form.TheVariants as form
+use Rattle.sval_program.specs.declared.form.ReadForm.{ReadForm}
+use Rattle.sval_program.specs.declared.form.ReadForm.TheVariants as form
 use Rattle.sval_json_read.specs.Documents.{IsBadJson}
-use Rattle.sval_json_read.specs.Forms.{json_read_form}
+use Rattle.sval_program.specs.ReadForms.{read_form}
 use Rattle.sval_json_read.specs.Trees.{tree_of, settled}
 
 -- ---- what is due of a value
@@ -38,21 +38,21 @@ pub record IsScriptOfValue (value : JsonValue) (text : List ℕ) : Type 0 where
   pub is_text : text ≡ canon (tree_of value)
   pub reads_back : lines text ≡ Good (calls_of (tree_of value))
 
-abbrev pub IsTextOfValue : Form → JsonValue → List ℕ → Type 0
+abbrev pub IsTextOfValue : ReadForm → JsonValue → List ℕ → Type 0
 IsTextOfValue form.Json = IsJsonOfValue
 IsTextOfValue form.Calls = IsScriptOfValue
 
 -- the input denotes a value, and this is the text that is due of it
-pub record IsJsonTextDue (text input : List ℕ) (asked : Form) : Type 0 where
+pub record IsJsonTextDue (text input : List ℕ) (asked : ReadForm) : Type 0 where
   pub value : JsonValue
   pub denotes : Denotes input value
   pub is : IsTextOfValue asked value text
 
 -- what is due of an input: the text of its value, or the fault that it has, before which nothing is written
-pub data JsonReadDue : Form → List ℕ → Option Fault → List ℕ → Type 0 where
-  a_text : {asked : Form} {input text : List ℕ} → IsJsonTextDue text input asked → JsonReadDue asked input None text
-  no_utf8 : {asked : Form} {input : List ℕ} → (IsUtf8 input → ⊥) → JsonReadDue asked input (Some fault.NotUtf8) []
-  no_json : {asked : Form} {input : List ℕ} {at : ℕ} → IsBadJson input at → JsonReadDue asked input (Some (fault.BadJson at)) []
+pub data JsonReadDue : ReadForm → List ℕ → Option Fault → List ℕ → Type 0 where
+  a_text : {asked : ReadForm} {input text : List ℕ} → IsJsonTextDue text input asked → JsonReadDue asked input None text
+  no_utf8 : {asked : ReadForm} {input : List ℕ} → (IsUtf8 input → ⊥) → JsonReadDue asked input (Some fault.NotUtf8) []
+  no_json : {asked : ReadForm} {input : List ℕ} {at : ℕ} → IsBadJson input at → JsonReadDue asked input (Some (fault.BadJson at)) []
 
 -- the failure where bytes weren't read
 abbrev pub failure_of_json_read : ReadError → Failure
@@ -61,9 +61,9 @@ failure_of_json_read (reading.BadJson at) = failure.Fault (fault.BadJson at)
 failure_of_json_read reading.NoMemory = failure.NoMemory
 
 -- what the program does
-abbrev pub json_read_terms : Terms Form
+abbrev pub json_read_terms : Terms ReadForm
 json_read_terms = record {
-  form_named = json_read_form;
+  form_named = read_form;
   Due = JsonReadDue;
   reads = λ form. true;
   partly = λ form. false;
@@ -75,7 +75,7 @@ json_read_terms = record {
 -- ---- writing what is due of a value
 
 -- the text that is due was written, or a first part of it
-pub record WritesDueText {K : Type 0} (told : K → Told) (input : List ℕ) (asked : Form) (result : Result (Unit {0}) SinkError) (old new : K) : Type 0 where
+pub record WritesDueText {K : Type 0} (told : K → Told) (input : List ℕ) (asked : ReadForm) (result : Result (Unit {0}) SinkError) (old new : K) : Type 0 where
   pub text : List ℕ
   pub due : IsJsonTextDue text input asked
   pub writes : WritesText result told text old new

@@ -136,7 +136,7 @@ impl<'d> JsonMembers<'d> {
         JsonMembers { text, nodes }
     }
 
-    /// Takes the first pair that is left.
+    /// Takes the first member that is left.
     pub fn next(&mut self) -> Option<JsonMember<'d>>
         ensures { TakesFirstPair result self.old self.new }
     {
@@ -171,7 +171,7 @@ impl<'d> JsonMembers<'d> {
         count
     }
 
-    /// The value of the last pair with this name among those that are left.
+    /// The value of the last member with this name among those that are left.
     pub(crate) fn last_named(self, name: &str) -> Option<JsonRef<'d>>
         ensures { result ≡ last_named name.now self.entry }
     {
@@ -185,7 +185,7 @@ impl<'d> JsonMembers<'d> {
         found
     }
 
-    /// The value of the last pair whose name has this reference token (RFC 6901) among those that are left.
+    /// The value of the last member whose name has this reference token (RFC 6901) among those that are left.
     pub(crate) fn last_referenced(self, token: &str) -> Option<JsonRef<'d>>
         ensures { result ≡ last_referenced token.now self.entry }
     {

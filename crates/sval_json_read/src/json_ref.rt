@@ -243,6 +243,15 @@ impl<'d> JsonRef<'d> {
     }
 
     /// The value of the last member with this name, if this is an object and has one.
+    ///
+    /// Names are compared as they denote, so an escape in the document's text changes nothing. Of equal names the last
+    /// counts, as in serde_json and in Python.
+    ///
+    /// ```
+    /// let doc = JsonDoc::read_str(alloc, "{\"a\": 1, \"\\u0061\": 2}")?;
+    /// assert_eq!(rt; doc.root().get("a").and_then(|value| value.as_i64()), Some(2));
+    /// assert_eq!(rt; doc.root().get("c").is_none(), true);
+    /// ```
     pub fn get(&self, name: &str) -> Option<JsonRef<'d>>
         ensures { result ≡ member_of name.now self.now }
     {

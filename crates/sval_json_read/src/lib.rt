@@ -13,7 +13,6 @@
 
 mod document;
 mod escape;
-mod form;
 mod json_parts;
 mod json_ref;
 mod json_text;

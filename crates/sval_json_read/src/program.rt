@@ -3,11 +3,10 @@
 ghost use Rattle.sval_json_read.specs.Serves.{json_read_terms};
 
 use crate::document::ReadError;
-use crate::form::named_form;
 use crate::running::serve;
 use std::alloc::Global;
 use sval_io::{Sink, Source};
-use sval_program::{Failure, Fault, Job, Line};
+use sval_program::{Failure, Fault, Job, Line, read_form};
 
 impl From<ReadError> for Failure {
     ghost use Rattle.std.specs.Prelude.{◌≡◌};
@@ -29,9 +28,9 @@ impl From<ReadError> for Failure {
 pub struct ReadJson;
 
 impl Job for ReadJson {
-    ghost use Rattle.sval_json_read.specs.declared.form.Form.{Form};
+    ghost use Rattle.sval_program.specs.declared.form.ReadForm.{ReadForm};
 
-    ghost Form = { Form };
+    ghost Form = { ReadForm };
 
     ghost terms = { json_read_terms };
 
@@ -40,7 +39,7 @@ impl Job for ReadJson {
     }
 
     fn takes(words: &[String]) -> bool {
-        named_form(words).is_some()
+        read_form(words).is_some()
     }
 
     fn serve<I: Source, K: Sink>(

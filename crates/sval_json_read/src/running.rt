@@ -8,19 +8,18 @@ ghost use Rattle.sval_json_read.specs.ReadErrors.{IsReadText};
 ghost use Rattle.sval_json_read.specs.Serves.{json_read_terms, WritesDueText};
 
 use crate::document::JsonDoc;
-use crate::form::{Form, named_form};
 use crate::program::ReadJson;
 use std::alloc::Global;
 use sval_io::{Sink, SinkError, Source, read_input};
 use sval_json::{ErrorKind, stream_to_io_write};
 use sval_program::job::run;
-use sval_program::{Failure, print_captured};
+use sval_program::{Failure, ReadForm, print_captured, read_form};
 
 /// Writes the JSON of a document.
 fn write_json<K: Sink>(doc: &JsonDoc<'_>, out: &mut K) -> Result<(), SinkError>
     requires { (input : List ℕ) × IsReadText input (document_calls doc.now) }
     ensures { (input : List ℕ) → IsReadText input (document_calls doc.now)
-        → WritesDueText K.told input Form.Json result out.old out.new }
+        → WritesDueText K.told input ReadForm.Json result out.old out.new }
 {
     match stream_to_io_write(out, doc) {
         Ok(()) => Ok(()),
@@ -38,7 +37,7 @@ fn write_json<K: Sink>(doc: &JsonDoc<'_>, out: &mut K) -> Result<(), SinkError>
 fn print_script<K: Sink>(alloc: Global, doc: &JsonDoc<'_>, out: &mut K) -> Result<(), SinkError>
     requires { (input : List ℕ) × IsReadText input (document_calls doc.now) × (length input < 2 ^ 64) }
     ensures { (input : List ℕ) → IsReadText input (document_calls doc.now) → length input < 2 ^ 64
-        → WritesDueText K.told input Form.Calls result out.old out.new }
+        → WritesDueText K.told input ReadForm.Calls result out.old out.new }
 {
     print_captured(alloc, doc.node_count(), doc, out)
 }
@@ -46,7 +45,7 @@ fn print_script<K: Sink>(alloc: Global, doc: &JsonDoc<'_>, out: &mut K) -> Resul
 /// Writes what is asked for of a document.
 fn write_document<K: Sink>(
     alloc: Global,
-    form: Form,
+    form: ReadForm,
     doc: &JsonDoc<'_>,
     out: &mut K,
 ) -> Result<(), SinkError>
@@ -55,13 +54,18 @@ fn write_document<K: Sink>(
         → WritesDueText K.told input form result out.old out.new }
 {
     match form {
-        Form::Json => write_json(doc, out),
-        Form::Calls => print_script(alloc, doc, out),
+        ReadForm::Json => write_json(doc, out),
+        ReadForm::Calls => print_script(alloc, doc, out),
     }
 }
 
 /// Reads bytes, and writes what is asked for of the value that they denote.
-fn serve_bytes<K: Sink>(alloc: Global, form: Form, bytes: &[u8], out: &mut K) -> Result<(), Failure>
+fn serve_bytes<K: Sink>(
+    alloc: Global,
+    form: ReadForm,
+    bytes: &[u8],
+    out: &mut K,
+) -> Result<(), Failure>
     requires { length bytes.now < 2 ^ 64 }
     ensures { ServesBytes json_read_terms K.told form bytes.now result out.old out.new }
 {
@@ -72,7 +76,7 @@ fn serve_bytes<K: Sink>(alloc: Global, form: Form, bytes: &[u8], out: &mut K) ->
 /// Reads the input whole, and serves its bytes.
 fn serve_input<I: Source, K: Sink>(
     alloc: Global,
-    form: Form,
+    form: ReadForm,
     input: &mut I,
     out: &mut K,
 ) -> Result<(), Failure>
@@ -92,7 +96,7 @@ pub(crate) fn serve<I: Source, K: Sink>(
     ensures { Serves json_read_terms I.told K.told (map string_bytes words.now) result
         input.old input.new out.old out.new }
 {
-    match named_form(words) {
+    match read_form(words) {
         None => Err(Failure::Usage),
         Some(form) => serve_input(alloc, form, input, out),
     }

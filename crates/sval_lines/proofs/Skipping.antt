@@ -1,13 +1,13 @@
 -- Empty lines that are passed over.
 use Rattle.std.specs.Prelude.{◌≡◌, ℕ, zero, suc, ◌+◌, Bool, true, List, [], ◌∷◌, ◌++◌, Option, Some, None, IfSome, refl}
 use Rattle.std.proofs.Common.{ap, ◌∙◌, subst, arith}
-use Rattle.sval_lines.specs.SourceLines.{EndsBefore, by_feed, by_end, TakesLine, TakesOrEnds, TakesPart, line_feeds, TakesNext, TakesNextPart, number_behind}
+use Rattle.sval_lines.specs.SourceLines.{EndsBefore, by_feed, by_end, TakesLine, TakesOrEnds, TakesPart, empty_lines, TakesNext, TakesNextPart, number_behind}
 
 -- so many line feeds were taken, and the others are left
 pub record AreSkipped (all : List ℕ) (now : Option (List ℕ)) (before after : ℕ) : Type 0 where
   pub skipped : ℕ
   pub others : List ℕ
-  pub same : all ≡ line_feeds skipped ++ others
+  pub same : all ≡ empty_lines skipped ++ others
   pub left : now ≡ Some others
   pub number : after ≡ before + skipped
 
@@ -18,7 +18,7 @@ pub skips_none : (start : Option (List ℕ)) (number : ℕ) → IsSkipped start 
 skips_none None number = tt
 skips_none (Some all) number = record { skipped = 0; others = all; same = refl; left = refl; number = omega arith }
 
-feeds_more : (count : ℕ) (rest : List ℕ) → line_feeds count ++ (10 ∷ rest) ≡ line_feeds (suc count) ++ rest
+feeds_more : (count : ℕ) (rest : List ℕ) → empty_lines count ++ (10 ∷ rest) ≡ empty_lines (suc count) ++ rest
 feeds_more zero rest = refl
 feeds_more (suc count) rest = ap (λ x. 10 ∷ x) (feeds_more count rest)
 
@@ -36,7 +36,7 @@ skips_on (Some all) now next line before after number s t e n =
     record {
       skipped = suc s.skipped;
       others = l.rest;
-      same = s.same ∙ ap (λ x. line_feeds s.skipped ++ x) (empty_ends l.ends e) ∙ feeds_more s.skipped l.rest;
+      same = s.same ∙ ap (λ x. empty_lines s.skipped ++ x) (empty_ends l.ends e) ∙ feeds_more s.skipped l.rest;
       left = l.left;
       number = omega (arith, k, n);
     }

@@ -51,10 +51,10 @@ pub record TakesPart (all part : List ℕ) (new : Option (List ℕ)) : Type 0 wh
   pub same : all ≡ part ++ rest
   pub left : new ≡ Some rest
 
--- so many line feeds
-abbrev pub line_feeds : ℕ → List ℕ
-line_feeds zero = []
-line_feeds (suc count) = 10 ∷ line_feeds count
+-- so many empty lines, each a line feed
+abbrev pub empty_lines : ℕ → List ℕ
+empty_lines zero = []
+empty_lines (suc count) = 10 ∷ empty_lines count
 
 -- ---- numbers
 
@@ -67,7 +67,7 @@ number_behind false number = number
 pub record TakesNext (found : Bool) (all line : List ℕ) (new : Option (List ℕ)) (before after : ℕ) : Type 0 where
   pub skipped : ℕ
   pub others : List ℕ
-  pub same : all ≡ line_feeds skipped ++ others
+  pub same : all ≡ empty_lines skipped ++ others
   pub taken : TakesOrEnds found others line new
   pub number : after ≡ number_behind found (before + skipped)
 
@@ -75,7 +75,7 @@ pub record TakesNext (found : Bool) (all line : List ℕ) (new : Option (List �
 pub record TakesNextPart (all part : List ℕ) (new : Option (List ℕ)) (before after : ℕ) : Type 0 where
   pub skipped : ℕ
   pub others : List ℕ
-  pub same : all ≡ line_feeds skipped ++ others
+  pub same : all ≡ empty_lines skipped ++ others
   pub taken : TakesPart others part new
   pub number : after ≡ before + skipped
 

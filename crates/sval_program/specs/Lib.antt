@@ -4,6 +4,7 @@ pub mod Verdict
 pub mod Laws
 pub mod Statuses
 pub mod Reports
+pub mod ReadForms
 pub mod Failures
 pub mod Jobs
 pub mod Runs

@@ -7,6 +7,7 @@
 
 mod captured;
 mod failure;
+mod form;
 pub mod job;
 pub mod laws;
 mod line;
@@ -18,6 +19,7 @@ pub mod status;
 
 pub use captured::print_captured;
 pub use failure::{Failure, Fault};
+pub use form::{ReadForm, read_form};
 pub use job::Job;
 pub use line::{Line, tell};
 pub use process::{run_process, status_without_words};

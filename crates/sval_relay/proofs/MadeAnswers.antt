@@ -13,7 +13,7 @@ use Rattle.sval_json.specs.Json.{compact}
 use Rattle.sval_script.specs.declared.printer.Printer.{Printer}
 use Rattle.sval_script.specs.Lines.{lines}
 use Rattle.sval_script.specs.Printed.{printed}
-use Rattle.sval_script.specs.Printing.{printer_law, printer_standing, printing_of, sink_of}
+use Rattle.sval_script.specs.Printing.{printer_law, printer_standing, printing_of, printer_sink}
 use Rattle.sval_script.proofs.Printers.{prints_all}
 use Rattle.sval_relay.specs.declared.way.Task.{Task}
 use Rattle.sval_relay.specs.declared.way.Way.TheVariants.{Buffered}
@@ -34,11 +34,11 @@ one_text script task {text} {other} is also =
 
 -- a printer into memory that was empty holds the lines of the calls that it took
 pub printed_whole : (calls : List Call) {old new : Printer Taken} → Streams printer_law (printer_standing taken_told old) (makes calls) (printer_standing taken_told new)
-    → (sink_of old).bytes ≡ [] → (sink_of new).bytes ≡ printed calls
+    → (printer_sink old).bytes ≡ [] → (printer_sink new).bytes ≡ printed calls
 printed_whole calls {old} {new} s empty =
     let (known, done) = prints_all calls (printing_of taken_told old) (printing_of taken_told new) s.ran in
-    let text : Some (sink_of new).bytes ≡ Some ((sink_of old).bytes ++ printed calls) = ap (λ printing. printing.told.text) done in
-    let same : (sink_of new).bytes ≡ (sink_of old).bytes ++ printed calls = cc text in
+    let text : Some (printer_sink new).bytes ≡ Some ((printer_sink old).bytes ++ printed calls) = ap (λ printing. printing.told.text) done in
+    let same : (printer_sink new).bytes ≡ (printer_sink old).bytes ++ printed calls = cc text in
     same ∙ ap (λ bytes. bytes ++ printed calls) empty
 
 -- and memory that was empty holds the text that is the script's verdict

@@ -103,8 +103,8 @@ printer_law = record {
 -- ---- the printer in code
 
 -- the sink that it prints to
-abbrev pub sink_of : {K : Type 0} → Printer K → K
-sink_of printer = printer.out
+abbrev pub printer_sink : {K : Type 0} → Printer K → K
+printer_sink printer = printer.out
 
 -- the cause of the last refusal
 abbrev pub last_error : {K : Type 0} → Printer K → Option PrintError
@@ -112,9 +112,9 @@ last_error printer = printer.why
 
 -- the printer as its law sees it; `told` is what the sink tells
 abbrev pub printing_of : {K : Type 0} → (K → Told) → Printer K → Printing
-printing_of told printer = record { told = record (told (sink_of printer)) { held = None }; why = last_error printer }
+printing_of told printer = record { told = record (told (printer_sink printer)) { held = None }; why = last_error printer }
 
 -- the same with the two counts of the sink
 abbrev pub printer_standing : {K : Type 0} → (K → Told) → Printer K → Standing Printing
 printer_standing told printer =
-    let sink = told (sink_of printer) in record { view = printing_of told printer; faults = sink.faults; wants = sink.wants }
+    let sink = told (printer_sink printer) in record { view = printing_of told printer; faults = sink.faults; wants = sink.wants }

@@ -10,7 +10,7 @@ ghost use Rattle.sval_label.specs.Made.{lent_call};
 ghost use Rattle.sval_label.specs.Grouped.{grouped_call};
 ghost use Rattle.sval_core.specs.Law.{Answers};
 ghost use Rattle.sval_io.specs.Sinks.{WritesAll};
-ghost use Rattle.sval_script.specs.Printing.{Printing, PrintsLine, last_error, printer_law, printer_standing, sink_of, whole_line};
+ghost use Rattle.sval_script.specs.Printing.{Printing, PrintsLine, last_error, printer_law, printer_standing, printer_sink, whole_line};
 
 use crate::print_error::PrintError;
 use crate::printer::fields::write_fields;
@@ -48,7 +48,7 @@ pub struct Printer<K> {
 impl<K: Sink> Printer<K> {
     /// A printer to a sink, which has refused no call yet.
     pub fn new(out: K) -> Self
-        ensures sink { sink_of result ≡ out }
+        ensures sink { printer_sink result ≡ out }
         ensures why { last_error result ≡ None }
     {
         Printer { out, why: None }
@@ -63,7 +63,7 @@ impl<K: Sink> Printer<K> {
 
     /// The sink, with what was printed.
     pub fn into_inner(self) -> K
-        ensures { result ≡ sink_of self }
+        ensures { result ≡ printer_sink self }
     {
         self.out
     }

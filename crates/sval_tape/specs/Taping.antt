@@ -33,8 +33,8 @@ writer_law = record {
 -- ---- the writer in code
 
 -- the sink that it writes to
-abbrev pub sink_of : {K : Type 0} → TapeWriter K → K
-sink_of writer = writer.out
+abbrev pub tape_sink : {K : Type 0} → TapeWriter K → K
+tape_sink writer = writer.out
 
 -- the cause of the last refusal
 abbrev pub last_error : {K : Type 0} → TapeWriter K → Option SinkError
@@ -42,9 +42,9 @@ last_error writer = writer.why
 
 -- the writer as its law sees it; `told` is what the sink tells
 abbrev pub taping_of : {K : Type 0} → (K → Told) → TapeWriter K → Taping
-taping_of told writer = record { told = record (told (sink_of writer)) { held = None }; why = last_error writer }
+taping_of told writer = record { told = record (told (tape_sink writer)) { held = None }; why = last_error writer }
 
 -- the same with the two counts of the sink
 abbrev pub writer_standing : {K : Type 0} → (K → Told) → TapeWriter K → Standing Taping
 writer_standing told writer =
-    let sink = told (sink_of writer) in record { view = taping_of told writer; faults = sink.faults; wants = sink.wants }
+    let sink = told (tape_sink writer) in record { view = taping_of told writer; faults = sink.faults; wants = sink.wants }

@@ -6,7 +6,7 @@ ghost use Rattle.sval_label.specs.Grouped.{grouped_call};
 ghost use Rattle.sval_core.specs.Law.{Answers};
 ghost use Rattle.sval_io.specs.Sinks.{WritesAll};
 ghost use Rattle.sval_tape.specs.Tapes.{call_bytes};
-ghost use Rattle.sval_tape.specs.Taping.{Taping, last_error, writer_law, writer_standing, sink_of};
+ghost use Rattle.sval_tape.specs.Taping.{Taping, last_error, writer_law, writer_standing, tape_sink};
 
 use crate::operands::write_call;
 use sval_core::{Call, Error, Lent, Stream};
@@ -23,7 +23,7 @@ pub struct TapeWriter<K> {
 impl<K: Sink> TapeWriter<K> {
     /// A writer to a sink, which has refused no call yet.
     pub fn new(out: K) -> Self
-        ensures sink { sink_of result ≡ out }
+        ensures sink { tape_sink result ≡ out }
         ensures why { last_error result ≡ None }
     {
         TapeWriter { out, why: None }
@@ -38,7 +38,7 @@ impl<K: Sink> TapeWriter<K> {
 
     /// The sink, with what was written.
     pub fn into_inner(self) -> K
-        ensures { result ≡ sink_of self }
+        ensures { result ≡ tape_sink self }
     {
         self.out
     }

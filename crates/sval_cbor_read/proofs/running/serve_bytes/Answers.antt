@@ -5,13 +5,13 @@ use Rattle.sval_io.proofs.Appending.{writes_nothing}
 use Rattle.sval_program.specs.Jobs.{ServesBytes}
 use Rattle.sval_cbor_read.specs.declared.document.CborReadError.{CborReadError}
 use Rattle.sval_cbor_read.specs.declared.document.CborReadError.TheVariants as reading
-use Rattle.sval_cbor_read.specs.declared.form.Form.{Form}
+use Rattle.sval_program.specs.declared.form.ReadForm.{ReadForm}
 use Rattle.sval_cbor_read.specs.ReadErrors.{IsCborReadError}
 use Rattle.sval_cbor_read.specs.Serves.{no_item, cbor_read_terms, failure_of_cbor_read}
 use Rattle.sval_cbor_read.proofs.running.serve_bytes.Goals as goal
 
 -- nothing is written of bytes that weren't read
-unread : {K : Type 0} (told : K → Told) (input : List ℕ) (asked : Form) (old : K) (why : CborReadError) → IsCborReadError input why → ServesBytes cbor_read_terms told asked input (Err (failure_of_cbor_read why)) old old
+unread : {K : Type 0} (told : K → Told) (input : List ℕ) (asked : ReadForm) (old : K) (why : CborReadError) → IsCborReadError input why → ServesBytes cbor_read_terms told asked input (Err (failure_of_cbor_read why)) old old
 unread told input asked old (reading.Bad at) cause = record { all = record { bytes = []; due = no_item cause.no_item; writes = writes_nothing (told old) }; known = refl; untouched = λ e. refl }
 unread told input asked old reading.NoMemory cause = refl
 
