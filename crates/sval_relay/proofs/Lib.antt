@@ -15,4 +15,5 @@ pub mod MadeAnswers
 pub mod MadeWants
 pub mod MadeStreams
 pub mod OneDue
+pub mod Headline
 mod examples

@@ -7,4 +7,5 @@ pub mod Made
 pub mod Serves
 pub mod MadeLaws
 pub mod Laws
+pub mod Headline
 pub mod ErrorTexts

@@ -5,6 +5,7 @@ ghost use Rattle.sval_program.specs.Jobs.{ServesBytes, ServesInput, Serves};
 ghost use Rattle.sval_program.specs.Runs.{Ends, Reports};
 ghost use Rattle.sval_script.specs.Lines.{lines, Good};
 ghost use Rattle.sval_relay.specs.declared.way.Form.TheVariants.{Serve, Made};
+ghost use Rattle.sval_relay.specs.Headline.{IsDoneOnlyWithJson};
 ghost use Rattle.sval_relay.specs.Serves.{relay_terms, failure_of_relay, ended_by};
 ghost use Rattle.sval_relay.specs.Verdict.{one_in, all_in};
 ghost use Rattle.sval_relay.specs.WrittenTrees.{IsOfScript};
@@ -159,7 +160,9 @@ pub(crate) fn serve<I: Source, K: Sink>(
 /// Whatever `diag` answers, the status and what is left of the input and the output are such as
 /// [`work`](sval_program::job::work) may give, which has no `diag`.
 ///
-/// What is due is `Due` of `relay_terms`, and of an input it is one thing
+/// `done` says what status 0 means for `direct` and `buffered`: the script's calls spell one tree, and
+/// exactly the text of its JSON was written. The other clauses say all of a run:
+/// what is due is `Due` of `relay_terms`, and of an input it is one thing
 /// ([`verdict_laws`](crate::laws::verdict_laws)). `Ends` says when each status comes and what is left of the devices,
 /// and `Reports` which line is told.
 ///
@@ -201,6 +204,8 @@ pub fn run<I: Source, K: Sink, D: Sink>(
     out: &mut K,
     diag: &mut D,
 ) -> u8
+    ensures done { IsDoneOnlyWithJson (map string_bytes words.now) (I.told input.old) (K.told out.old) (K.told out.new)
+        result }
     ensures ends { Ends relay_terms I.told K.told (map string_bytes words.now) input.old input.new
         out.old out.new result }
     ensures reports { Reports relay_terms I.told K.told (map string_bytes words.now) input.old input.new
