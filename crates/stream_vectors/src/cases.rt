@@ -1,9 +1,7 @@
 //! Tables of scripts, and what is seen of the calls of each.
 
-use crate::checked::{answers, passed};
-use crate::collected::{binary_of, text_of};
-use crate::replayed::{captured, replayed};
-use crate::written::written;
+use crate::replayed::captured;
+use crate::{checked, collected, replayed, written};
 use std::alloc::{AllocError, Global};
 use std::process::Abort;
 use std::test::Fail;
@@ -34,12 +32,12 @@ pub(crate) enum Look {
 fn look_at(alloc: Global, look: Look, script: &Script) -> Result<String, Fail> {
     let seen = match look {
         Look::Check => format!(in alloc; "{:?}", check(alloc, script))?,
-        Look::Passed => passed(alloc, script)?,
-        Look::Answers(room) => answers(alloc, script, room)?,
-        Look::Captured => replayed(alloc, script)?,
-        Look::Text => text_of(alloc, &captured(alloc, script))?,
-        Look::Binary => binary_of(alloc, &captured(alloc, script))?,
-        Look::Json(variants) => written(alloc, &captured(alloc, script), variants)?,
+        Look::Passed => checked::passed(alloc, script)?,
+        Look::Answers(room) => checked::answers(alloc, script, room)?,
+        Look::Captured => replayed::replayed(alloc, script)?,
+        Look::Text => collected::text_of(alloc, &captured(alloc, script))?,
+        Look::Binary => collected::binary_of(alloc, &captured(alloc, script))?,
+        Look::Json(variants) => written::written(alloc, &captured(alloc, script), variants)?,
     };
     Ok(seen)
 }
@@ -49,12 +47,7 @@ fn look_at(alloc: Global, look: Look, script: &Script) -> Result<String, Fail> {
 /// A case is the lines of a script and, behind `= `, what is to be seen of its calls. The next line begins another
 /// script. A blank line says nothing. A line that ends with `␄` has no newline, and `␊` stands for one in what is to be
 /// seen.
-pub(crate) fn agree(
-    rt: &impl Abort,
-    alloc: Global,
-    look: Look,
-    table: &'static str,
-) -> Result<(), Fail> {
+fn agree(rt: &impl Abort, alloc: Global, look: Look, table: &'static str) -> Result<(), Fail> {
     let mut lines = String::new(alloc);
     let mut is_whole = false;
     for line in table.lines() {
@@ -112,4 +105,26 @@ fn plain_text(alloc: Global, shown: &str) -> Result<String, AllocError> {
 /// Asserts that this is what is to be seen.
 pub(crate) fn shows(rt: &impl Abort, seen: &str, want: &str) {
     assert_eq!(rt; seen, want);
+}
+
+/// What is looked at in each table.
+const TABLES: [(Look, &'static str); 10] = [
+    (Look::Check, checked::SPELLED),
+    (Look::Passed, checked::COMPLETED),
+    (Look::Answers(9), checked::VIABLE),
+    (Look::Answers(1), checked::REFUSED_INSIDE),
+    (Look::Text, collected::TEXTS),
+    (Look::Binary, collected::BINARIES),
+    (Look::Captured, replayed::CALLS),
+    (Look::Captured, replayed::NAMES),
+    (Look::Json(Variants::Inside), written::INSIDE),
+    (Look::Json(Variants::Beside), written::BESIDE),
+];
+
+#[test]
+fn calls_of_scripts_show_what_is_due(rt: HostRuntime) -> Result<(), Fail> {
+    for (look, table) in TABLES {
+        agree(&rt, rt.alloc(), look, table)?;
+    }
+    Ok(())
 }

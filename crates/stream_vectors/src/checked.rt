@@ -4,9 +4,7 @@ ghost use Rattle.sval_label.specs.Made.{lent_call};
 ghost use Rattle.sval_core.specs.Law.{Answers};
 ghost use Rattle.sval_core.specs.Lenient.{lenient, with_wants};
 
-use crate::cases::{Look, agree};
 use std::alloc::{AllocError, Global};
-use std::test::Fail;
 use sval_check::Checked;
 use sval_core::{Call, Lent, Result as Answer, Stream, Value, refusal};
 use sval_ref::ValueRef;
@@ -86,7 +84,7 @@ pub(crate) fn answers(alloc: Global, script: &Script, room: usize) -> Result<Str
 }
 
 /// Texts of two bytes, and a sequence without an end.
-const SPELLED: &'static str = r#"
+pub(crate) const SPELLED: &'static str = r#"
 text_begin 2
 text_fragment_computed =6162
 text_end
@@ -106,14 +104,9 @@ seq_begin -
 = Err(Unfinished)
 "#;
 
-#[test]
-fn gives_each_answer(rt: HostRuntime) -> Result<(), Fail> {
-    agree(&rt, rt.alloc(), Look::Check, SPELLED)
-}
-
 /// Bytes and entries are counted, labels compared by their texts and indexes by their numbers, and enums and tagged
 /// values looked into.
-const COMPLETED: &'static str = r#"
+pub(crate) const COMPLETED: &'static str = r#"
 binary_begin 2
 binary_fragment_computed =0102
 binary_end
@@ -187,13 +180,8 @@ tag NUMBER - -
 = whole: false, passed on: 2
 "#;
 
-#[test]
-fn passes_on_what_can_be_completed(rt: HostRuntime) -> Result<(), Fail> {
-    agree(&rt, rt.alloc(), Look::Passed, COMPLETED)
-}
-
 /// A text with calls between that no value has, and no call.
-const VIABLE: &'static str = r#"
+pub(crate) const VIABLE: &'static str = r#"
 text_end
 text_begin 2
 null
@@ -206,21 +194,11 @@ text_end
 = whole: false, passed on: 0
 "#;
 
-#[test]
-fn goes_on_after_a_call_that_is_not_viable(rt: HostRuntime) -> Result<(), Fail> {
-    agree(&rt, rt.alloc(), Look::Answers(9), VIABLE)
-}
-
 /// A map whose key the inner stream has no room for.
-const REFUSED_INSIDE: &'static str = r#"
+pub(crate) const REFUSED_INSIDE: &'static str = r#"
 map_begin 1
 map_key_begin
 null
 map_key_begin
 = taken: true, why: None, whole: false␊taken: false, why: Some(Inner), whole: false␊taken: false, why: Some(NotViable), whole: false␊taken: false, why: Some(Inner), whole: false␊whole: false, passed on: 1
 "#;
-
-#[test]
-fn is_as_before_after_a_refusal_inside(rt: HostRuntime) -> Result<(), Fail> {
-    agree(&rt, rt.alloc(), Look::Answers(1), REFUSED_INSIDE)
-}

@@ -1,6 +1,6 @@
 //! What is collected of values as texts and as binaries.
 
-use crate::cases::{Look, agree, shows};
+use crate::cases::shows;
 use std::alloc::{AllocError, Global};
 use std::test::Fail;
 use sval_buffer::{BinaryBuf, TextBuf, ValueBuf};
@@ -23,7 +23,7 @@ pub(crate) fn binary_of(alloc: Global, value: &ValueBuf<'_>) -> Result<String, A
 }
 
 /// Texts, integers that no `i64` is, labels, and what no text is collected of.
-const TEXTS: &'static str = r#"
+pub(crate) const TEXTS: &'static str = r#"
 text_begin -
 text_end
 = "" true
@@ -69,11 +69,6 @@ tag - =7769647468 -
 = "width" false
 "#;
 
-#[test]
-fn collects_texts(rt: HostRuntime) -> Result<(), Fail> {
-    agree(&rt, rt.alloc(), Look::Text, TEXTS)
-}
-
 /// Scripts have no static labels, which a text borrows.
 #[test]
 fn collects_static_labels(rt: HostRuntime) -> Result<(), Fail> {
@@ -98,7 +93,7 @@ fn collects_static_labels(rt: HostRuntime) -> Result<(), Fail> {
 }
 
 /// Binaries, bytes alone and in a sequence, and what no binary is collected of.
-const BINARIES: &'static str = r#"
+pub(crate) const BINARIES: &'static str = r#"
 tagged_begin CONSTANT_SIZE - -
 seq_begin 2
 seq_value_begin
@@ -134,8 +129,3 @@ text_begin -
 map_begin -
 = unexpected map, expected binary
 "#;
-
-#[test]
-fn collects_binaries(rt: HostRuntime) -> Result<(), Fail> {
-    agree(&rt, rt.alloc(), Look::Binary, BINARIES)
-}

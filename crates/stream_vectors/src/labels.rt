@@ -2,182 +2,244 @@
 
 use crate::cases::shows;
 use std::alloc::Global;
+use std::fmt::Write;
 use std::process::Abort;
 use std::test::Fail;
 use sval_buffer::ValueBuf;
-use sval_core::{Call, Index, Label, Name, Stream, Tag, tags};
+use sval_core::{Call, Index, Label, Name, Stream, Tag};
 
-/// Captures these calls in a buffer that held others, and compares what it makes again with them, as `Debug` lists
-/// them.
-fn makes_again<'c>(
-    rt: &impl Abort,
-    alloc: Global,
-    forgotten: &[Call<'c, 'c>],
-    calls: &[Call<'c, 'c>],
+/// Calls, with a blank line between the last for one buffer and the first for the next.
+///
+/// A line is a call's word, and then its tag, its label, its index and its size. `-` says that there is none, and so
+/// does the line's end. A label is static, and computed where it begins with `=`. A label's or an index's own tag
+/// stands behind a colon. After `clear` the buffer has forgotten the calls before.
+const CALLS: &'static str = r#"
+# Names with static labels, beside a computed one.
+enum_begin RUST_UNIT kind:VALUE_IDENT -2:VALUE_OFFSET
+tagged_begin RUST_UNIT =width
+tag RUST_UNIT =width
+tag RUST_UNIT width
+tag RUST_UNIT width
+tagged_end RUST_UNIT =width
+enum_end RUST_UNIT kind:VALUE_IDENT -2:VALUE_OFFSET
+record_begin RUST_UNIT =width - 1
+record_value_begin RUST_UNIT kind:VALUE_IDENT
+tag_hint NUMBER
+u128 - - - 7
+record_value_end RUST_UNIT kind:VALUE_IDENT
+record_end RUST_UNIT =width
+
+# Calls with the same static label, before and after a buffer is cleared.
+enum_begin RUST_UNIT id
+enum_end RUST_UNIT id
+tag RUST_UNIT id
+tuple_begin RUST_UNIT id - 1
+tuple_end RUST_UNIT id
+tuple_begin RUST_UNIT id
+tuple_end RUST_UNIT id
+tuple_begin RUST_UNIT id - 1
+tuple_end RUST_UNIT id
+clear
+enum_begin RUST_UNIT id
+enum_end RUST_UNIT id
+enum_begin RUST_UNIT id
+enum_end RUST_UNIT id
+
+# Hints of a tag of its own, before a sequence, and inside it.
+tag_hint test
+seq_begin - - - 1
+tag_hint test
+seq_value_begin
+false
+seq_value_end
+seq_end
+
+# A hint before an enum that holds a tag.
+tag_hint test
+enum_begin test A 1
+tag test A 1
+enum_end test A 1
+
+# A record of two fields, with a tag of its own and on its first field.
+record_begin test a 1 2
+record_value_begin test a
+false
+record_value_end test a
+record_value_begin - b
+true
+record_value_end - b
+record_end test a 1
+
+# A tuple of two items, with a tag of its own and on its first item.
+tuple_begin test a 1 2
+tuple_value_begin test - 0
+false
+tuple_value_end test - 0
+tuple_value_begin - - 1
+true
+tuple_value_end - - 1
+tuple_end test a 1
+
+# A record tuple of one field, with a tag of its own and on its field.
+record_tuple_begin test a 0 1
+record_tuple_value_begin test a 0
+false
+record_tuple_value_end test a 0
+record_tuple_end test a 0
+"#;
+
+/// A field, if it isn't `-`, and the tag behind its colon.
+fn field(text: Option<&'static str>) -> (Option<&'static str>, Option<Tag>) {
+    match text {
+        None | Some("-") => (None, None),
+        Some(text) => match text.split_once(':') {
+            Some((text, tag)) => (Some(text), Some(Tag { text: tag })),
+            None => (Some(text), None),
+        },
+    }
+}
+
+/// The label of a field.
+fn label_of(text: Option<&'static str>) -> Option<Label<'static>> {
+    let (text, tag) = field(text);
+    let text = text?;
+    let label = match text.strip_prefix("=") {
+        Some(computed) => Label::new_computed(computed),
+        None => Label::new(text),
+    };
+    match tag {
+        Some(tag) => Some(label.with_tag(&tag)),
+        None => Some(label),
+    }
+}
+
+/// The index of a field.
+fn index_of(text: Option<&'static str>) -> Result<Option<Index>, Fail> {
+    let (text, tag) = field(text);
+    let Some(text) = text else {
+        return Ok(None);
+    };
+    let index = Index::new_i64(text.parse::<i64>()?);
+    match tag {
+        Some(tag) => Ok(Some(index.with_tag(&tag))),
+        None => Ok(Some(index)),
+    }
+}
+
+/// The size of a field.
+fn size_of(text: Option<&'static str>) -> Result<Option<usize>, Fail> {
+    match text {
+        Some(text) => Ok(Some(text.parse::<usize>()?)),
+        None => Ok(None),
+    }
+}
+
+/// The call of a word.
+fn call_of<'c>(word: &str, name: Name<'c>, size: Option<usize>) -> Option<Call<'static, 'c>> {
+    let call = match word {
+        "true" => Call::Bool(true),
+        "false" => Call::Bool(false),
+        "u128" => Call::U128(size? as u128),
+        "tag_hint" => Call::TagHint(name.tag?),
+        "tag" => Call::Tag(name),
+        "seq_begin" => Call::SeqBegin(size),
+        "seq_value_begin" => Call::SeqValueBegin,
+        "seq_value_end" => Call::SeqValueEnd,
+        "seq_end" => Call::SeqEnd,
+        "enum_begin" => Call::EnumBegin(name),
+        "enum_end" => Call::EnumEnd(name),
+        "tagged_begin" => Call::TaggedBegin(name),
+        "tagged_end" => Call::TaggedEnd(name),
+        _ => return part_of(word, name, size),
+    };
+    Some(call)
+}
+
+/// The call of a word of records and tuples.
+fn part_of<'c>(word: &str, name: Name<'c>, size: Option<usize>) -> Option<Call<'static, 'c>> {
+    let call = match word {
+        "record_begin" => Call::RecordBegin(name, size),
+        "record_value_begin" => Call::RecordValueBegin(name.tag, name.label?),
+        "record_value_end" => Call::RecordValueEnd(name.tag, name.label?),
+        "record_end" => Call::RecordEnd(name),
+        "tuple_begin" => Call::TupleBegin(name, size),
+        "tuple_value_begin" => Call::TupleValueBegin(name.tag, name.index?),
+        "tuple_value_end" => Call::TupleValueEnd(name.tag, name.index?),
+        "tuple_end" => Call::TupleEnd(name),
+        "record_tuple_begin" => Call::RecordTupleBegin(name, size),
+        "record_tuple_value_begin" => {
+            Call::RecordTupleValueBegin(name.tag, name.label?, name.index?)
+        }
+        "record_tuple_value_end" => Call::RecordTupleValueEnd(name.tag, name.label?, name.index?),
+        "record_tuple_end" => Call::RecordTupleEnd(name),
+        _ => return None,
+    };
+    Some(call)
+}
+
+/// Captures the call of a line, and adds it to those that were captured, as `Debug` lists them.
+fn capture(
+    buffer: &mut ValueBuf<'static>,
+    listed: &mut String,
+    line: &'static str,
 ) -> Result<(), Fail> {
-    let mut buffer: ValueBuf<'_> = ValueBuf::new(alloc);
-    for call in forgotten {
-        buffer.take(*call)?;
-    }
-    buffer.clear();
-    for call in calls {
-        buffer.take(*call)?;
-    }
-    let again = format!(in alloc; "{buffer:?}")?;
-    shows(rt, again.as_str(), format!(in alloc; "{calls:?}")?.as_str());
+    let mut fields = line.split(' ');
+    let word = fields.next().unwrap_or("");
+    let tag = match field(fields.next()) {
+        (Some(text), _) => Some(Tag { text }),
+        (None, _) => None,
+    };
+    let label = fields.next();
+    let index = index_of(fields.next())?;
+    let size = size_of(fields.next())?;
+    let label = label_of(label);
+    let name = Name {
+        tag: tag.as_ref(),
+        label: label.as_ref(),
+        index: index.as_ref(),
+    };
+    let call = call_of(word, name, size).ok_or(line)?;
+    let before = if listed.is_empty() { "[" } else { ", " };
+    write!(listed, "{before}{call:?}")?;
+    buffer.take(call)?;
     Ok(())
 }
 
-/// A name of these parts.
-fn name<'c>(label: Option<&'c Label<'c>>, index: Option<&'c Index>) -> Name<'c> {
-    Name {
-        tag: Some(&tags::RUST_UNIT),
-        label,
-        index,
+/// Compares the calls that a buffer makes again with those that it captured, as `Debug` lists both.
+fn makes_again(
+    rt: &impl Abort,
+    alloc: Global,
+    buffer: &ValueBuf<'static>,
+    listed: &str,
+) -> Result<(), Fail> {
+    shows(
+        rt,
+        format!(in alloc; "{buffer:?}")?.as_str(),
+        format!(in alloc; "{listed}]")?.as_str(),
+    );
+    Ok(())
+}
+
+/// Captures calls in a buffer, and compares what it makes again where it is cleared, and of the last.
+fn try_calls(rt: &impl Abort, alloc: Global, calls: &'static str) -> Result<(), Fail> {
+    let mut buffer: ValueBuf<'static> = ValueBuf::new(alloc);
+    let mut listed = String::new(alloc);
+    for line in calls.lines() {
+        if line == "clear" {
+            makes_again(rt, alloc, &buffer, listed.as_str())?;
+            buffer.clear();
+            listed.clear();
+        } else if !line.is_empty() && !line.starts_with('#') {
+            capture(&mut buffer, &mut listed, line)?;
+        }
     }
+    makes_again(rt, alloc, &buffer, listed.as_str())
 }
 
 #[test]
-fn makes_static_labels_again(rt: HostRuntime) -> Result<(), Fail> {
-    let tagged = Label::new("kind").with_tag(&tags::VALUE_IDENT);
-    let lent = Label::new_computed("width");
-    let index = Index::new_i64(-2).with_tag(&tags::VALUE_OFFSET);
-    let unit = Some(&tags::RUST_UNIT);
-    let whole = name(Some(&tagged), Some(&index));
-    let labelled = name(Some(&lent), None);
-    let fixed = Label::new("width");
-    let calls = [
-        Call::EnumBegin(whole),
-        Call::TaggedBegin(labelled),
-        Call::Tag(labelled),
-        Call::Tag(name(Some(&fixed), None)),
-        Call::Tag(name(Some(&fixed), None)),
-        Call::TaggedEnd(labelled),
-        Call::EnumEnd(whole),
-        Call::RecordBegin(labelled, Some(1)),
-        Call::RecordValueBegin(unit, &tagged),
-        Call::TagHint(&tags::NUMBER),
-        Call::U128(7),
-        Call::RecordValueEnd(unit, &tagged),
-        Call::RecordEnd(labelled),
-    ];
-    makes_again(&rt, rt.alloc(), &[], &calls)
-}
-
-/// Calls with the same static label, before and after a buffer is cleared.
-#[test]
-fn forgets_names(rt: HostRuntime) -> Result<(), Fail> {
-    let label = Label::new("id");
-    let named = name(Some(&label), None);
-    let calls = [
-        Call::EnumBegin(named),
-        Call::EnumEnd(named),
-        Call::Tag(named),
-        Call::TupleBegin(named, Some(1)),
-        Call::TupleEnd(named),
-        Call::TupleBegin(named, None),
-        Call::TupleEnd(named),
-        Call::TupleBegin(named, Some(1)),
-        Call::TupleEnd(named),
-    ];
-    let later = [
-        Call::EnumBegin(named),
-        Call::EnumEnd(named),
-        Call::EnumBegin(named),
-        Call::EnumEnd(named),
-    ];
-    makes_again(&rt, rt.alloc(), &[], &calls)?;
-    makes_again(&rt, rt.alloc(), &calls, &later)
-}
-
-/// A tag of its own.
-const TEST: Tag = Tag { text: "test" };
-
-/// A name with that tag.
-fn own_name<'c>(label: &'c Label<'c>, index: &'c Index) -> Name<'c> {
-    Name {
-        tag: Some(&TEST),
-        label: Some(label),
-        index: Some(index),
+fn makes_static_labels_and_own_tags_again(rt: HostRuntime) -> Result<(), Fail> {
+    for calls in CALLS.split("\n\n") {
+        try_calls(&rt, rt.alloc(), calls)?;
     }
-}
-
-/// Hints before a sequence, and inside it.
-#[test]
-fn makes_own_hints_again(rt: HostRuntime) -> Result<(), Fail> {
-    let calls = [
-        Call::TagHint(&TEST),
-        Call::SeqBegin(Some(1)),
-        Call::TagHint(&TEST),
-        Call::SeqValueBegin,
-        Call::Bool(false),
-        Call::SeqValueEnd,
-        Call::SeqEnd,
-    ];
-    makes_again(&rt, rt.alloc(), &[], &calls)
-}
-
-/// A hint before an enum that holds a tag.
-#[test]
-fn makes_own_tags_again(rt: HostRuntime) -> Result<(), Fail> {
-    let (label, index) = (Label::new("A"), Index::new(1));
-    let own = own_name(&label, &index);
-    let calls = [
-        Call::TagHint(&TEST),
-        Call::EnumBegin(own),
-        Call::Tag(own),
-        Call::EnumEnd(own),
-    ];
-    makes_again(&rt, rt.alloc(), &[], &calls)
-}
-
-/// A record of two fields, with a tag of its own and on its first field.
-#[test]
-fn makes_own_tags_of_fields_again(rt: HostRuntime) -> Result<(), Fail> {
-    let (a, b, one) = (Label::new("a"), Label::new("b"), Index::new(1));
-    let own = own_name(&a, &one);
-    let calls = [
-        Call::RecordBegin(own, Some(2)),
-        Call::RecordValueBegin(Some(&TEST), &a),
-        Call::Bool(false),
-        Call::RecordValueEnd(Some(&TEST), &a),
-        Call::RecordValueBegin(None, &b),
-        Call::Bool(true),
-        Call::RecordValueEnd(None, &b),
-        Call::RecordEnd(own),
-    ];
-    makes_again(&rt, rt.alloc(), &[], &calls)
-}
-
-/// A tuple of two items, with a tag of its own and on its first item.
-#[test]
-fn makes_own_tags_of_items_again(rt: HostRuntime) -> Result<(), Fail> {
-    let (a, zero, one) = (Label::new("a"), Index::new(0), Index::new(1));
-    let own = own_name(&a, &one);
-    let calls = [
-        Call::TupleBegin(own, Some(2)),
-        Call::TupleValueBegin(Some(&TEST), &zero),
-        Call::Bool(false),
-        Call::TupleValueEnd(Some(&TEST), &zero),
-        Call::TupleValueBegin(None, &one),
-        Call::Bool(true),
-        Call::TupleValueEnd(None, &one),
-        Call::TupleEnd(own),
-    ];
-    makes_again(&rt, rt.alloc(), &[], &calls)
-}
-
-/// A record tuple of one field, with a tag of its own and on its field.
-#[test]
-fn makes_own_tags_of_numbered_fields_again(rt: HostRuntime) -> Result<(), Fail> {
-    let (a, zero) = (Label::new("a"), Index::new(0));
-    let own = own_name(&a, &zero);
-    let calls = [
-        Call::RecordTupleBegin(own, Some(1)),
-        Call::RecordTupleValueBegin(Some(&TEST), &a, &zero),
-        Call::Bool(false),
-        Call::RecordTupleValueEnd(Some(&TEST), &a, &zero),
-        Call::RecordTupleEnd(own),
-    ];
-    makes_again(&rt, rt.alloc(), &[], &calls)
+    Ok(())
 }

@@ -1,6 +1,6 @@
 //! What a buffer captures of calls, refused ones among them, and what it makes again.
 
-use crate::cases::{Look, agree, shows};
+use crate::cases::shows;
 use std::alloc::Global;
 use std::test::Fail;
 use sval_buffer::ValueBuf;
@@ -65,7 +65,7 @@ pub(crate) fn replayed(alloc: Global, script: &Script) -> Result<String, Fail> {
 }
 
 /// Calls that are no value's, or not whole: what can be is made again with its ends, and without what was refused.
-const CALLS: &'static str = r#"
+pub(crate) const CALLS: &'static str = r#"
 ␄
 = null␊complete: false, lent alike: true
 
@@ -179,14 +179,9 @@ binary_end
 = binary_begin 2␊binary_fragment =6162␊binary_end␊complete: true, lent alike: true
 "#;
 
-#[test]
-fn captures_calls(rt: HostRuntime) -> Result<(), Fail> {
-    agree(&rt, rt.alloc(), Look::Captured, CALLS)
-}
-
 /// Calls that are made again as they came: numbers, the containers with names, and calls with names that differ in one
 /// thing each, in turns.
-const NAMES: &'static str = r#"
+pub(crate) const NAMES: &'static str = r#"
 u8 255
 u16 65535
 u32 4294967295
@@ -256,11 +251,6 @@ tuple_begin - =6964 - 1
 tuple_end - =6964 -
 = the same␊complete: true, lent alike: true
 "#;
-
-#[test]
-fn makes_calls_again(rt: HostRuntime) -> Result<(), Fail> {
-    agree(&rt, rt.alloc(), Look::Captured, NAMES)
-}
 
 /// Values that are captured a second time, from their capture: a sequence, a number, a record tuple, a tuple and an
 /// enum.

@@ -1,6 +1,5 @@
 //! The JSON that is written for calls.
 
-use crate::cases::{Look, agree};
 use std::alloc::Global;
 use std::test::Fail;
 use sval_buffer::ValueBuf;
@@ -29,7 +28,7 @@ pub(crate) fn written(
 
 /// A binary, fields, a variant, empty enums, texts by their tags, and what is refused: numbers that are none and a
 /// binary as a key.
-const INSIDE: &'static str = r#"
+pub(crate) const INSIDE: &'static str = r#"
 binary_begin -
 binary_fragment =00ff
 binary_end
@@ -134,21 +133,11 @@ map_end
 = InvalidKey: attempt to serialize a non-string key, after `{"`
 "#;
 
-#[test]
-fn writes_json(rt: HostRuntime) -> Result<(), Fail> {
-    agree(&rt, rt.alloc(), Look::Json(Variants::Inside), INSIDE)
-}
-
 /// A variant without a label.
-const BESIDE: &'static str = r#"
+pub(crate) const BESIDE: &'static str = r#"
 enum_begin - - -
 tuple_begin - - -7 -
 tuple_end - - -7
 enum_end - - -
 = {"variant":"-7","value":[]}
 "#;
-
-#[test]
-fn writes_variants_beside_their_names(rt: HostRuntime) -> Result<(), Fail> {
-    agree(&rt, rt.alloc(), Look::Json(Variants::Beside), BESIDE)
-}
