@@ -339,27 +339,11 @@ const POINTERS: &'static str = r#"
 "#;
 
 #[test]
-fn what_values_are(rt: HostRuntime) -> Result<(), Fail> {
-    try_cases::<Parts>(&rt, rt.alloc(), PARTS)
-}
-
-#[test]
-fn the_last_of_a_name(rt: HostRuntime) -> Result<(), Fail> {
-    try_cases::<Member>(&rt, rt.alloc(), MEMBERS)
-}
-
-#[test]
-fn wide_numbers(rt: HostRuntime) -> Result<(), Fail> {
-    try_cases::<Wide>(&rt, rt.alloc(), WIDE)
-}
-
-#[test]
-fn sizes_and_items(rt: HostRuntime) -> Result<(), Fail> {
-    try_cases::<Size>(&rt, rt.alloc(), SIZES)
-}
-
-#[test]
-fn pointers(rt: HostRuntime) -> Result<(), Fail> {
+fn values_members_numbers_sizes_and_pointers(rt: HostRuntime) -> Result<(), Fail> {
+    try_cases::<Parts>(&rt, rt.alloc(), PARTS)?;
+    try_cases::<Member>(&rt, rt.alloc(), MEMBERS)?;
+    try_cases::<Wide>(&rt, rt.alloc(), WIDE)?;
+    try_cases::<Size>(&rt, rt.alloc(), SIZES)?;
     try_cases::<Example>(&rt, rt.alloc(), EXAMPLES)?;
     try_cases::<Pointed>(&rt, rt.alloc(), POINTERS)
 }
