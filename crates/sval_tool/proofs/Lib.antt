@@ -3,3 +3,9 @@ pub mod LeftJson
 pub mod LeftWritten
 pub mod DocumentCauses
 pub mod LinesConverted
+pub mod Dashes
+pub mod Rows
+pub mod PathTexts
+pub mod PartsAsked
+pub mod WordsAsked
+pub mod WordsRead

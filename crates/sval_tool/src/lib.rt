@@ -7,7 +7,12 @@ mod convert;
 mod error;
 mod left;
 mod lines;
+mod path_word;
+mod switch;
+mod words;
 
 pub use convert::{Conversion, Target, write_document};
 pub use error::DocumentError;
 pub use lines::{LinesError, write_lines};
+pub use switch::{Flag, OPTIONS, OptionRow, Setting, Switch, name_of};
+pub use words::{Command, Complaint, Input, Options, Output, Stop, read_words};

@@ -1,7 +1,7 @@
 //! The texts of the help and the version.
 
-use crate::switch::{OPTIONS, OptionRow};
 use std::alloc::AllocError;
+use sval_tool::{OPTIONS, OptionRow};
 
 /// What the help says before the options.
 const HEAD: &str = "sval reads JSON or CBOR, and writes what it read in another form.

@@ -3,10 +3,10 @@
 use crate::convert::{check_input, convert_input};
 use crate::end::End;
 use crate::trouble::Trouble;
-use crate::words::{Command, Options};
 use std::fs;
 use std::io::{self, BufWriter, ErrorKind, Read, Stdout};
 use sval_io::{RealSink, RealSource, Sink};
+use sval_tool::{Command, Options};
 
 /// How many bytes of output are held back at most.
 const BUFFER: usize = 1 << 16;

@@ -10,21 +10,19 @@ mod convert;
 mod end;
 mod help;
 mod inputs;
-mod path_word;
 mod report;
-mod switch;
 mod trouble;
-mod words;
 
 use crate::end::End;
 use crate::help::{push_help, version};
 use crate::inputs::run_inputs;
 use crate::report::push_usage;
-use crate::words::{Complaint, Stop, read_words};
 use std::alloc::{AllocError, Global};
 use std::env::Args;
 use std::process::ExitCode;
 use std::{env, io};
+use sval_tool as words;
+use sval_tool::{Complaint, Stop, read_words};
 
 /// The words behind the first, which is the program's name.
 fn behind_name(alloc: Global, mut all: Args) -> Result<Vec<String>, AllocError> {

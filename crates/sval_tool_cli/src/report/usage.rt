@@ -1,8 +1,7 @@
 //! What is wrong with the command line.
 
-use crate::switch::{Flag, Setting, Switch, name_of};
-use crate::words::Complaint;
 use std::alloc::AllocError;
+use sval_tool::{Complaint, Flag, Setting, Switch, name_of};
 
 /// What an option takes.
 fn taken(setting: Setting) -> &'static str {

@@ -1,5 +1,13 @@
 //! What the words of the command line ask for.
 
+ghost use Rattle.std.specs.Prelude.{◌≡◌, ◌<◌, ◌+◌, ◌^◌, codes, length, map, option_map, string_bytes, None, Some};
+ghost use Rattle.sval_tool.specs.PathWords.{is_bad_path, path_labels};
+ghost use Rattle.sval_tool.specs.Switches.{seen_row, option_rows, row_named, row_shortened};
+ghost use Rattle.sval_tool.specs.Words as spec;
+ghost use Rattle.sval_tool.specs.Words.{Gives, Says, Given, Named, Turned, asked_by, asked_in, name_in, argument_in, behind_dash};
+ghost use Rattle.sval_tool.specs.WordReading as reading;
+ghost use Rattle.sval_tool.specs.WordReading.{Reads, reading_in, reads_part, reads_saying, reads_unless, with_path};
+
 use crate::path_word::add_path;
 use crate::switch::{Flag, OptionRow, Setting, Switch, row_named, row_shortened};
 use std::alloc::{AllocError, AllocFailed, Global};
@@ -8,7 +16,7 @@ use sval_filter::{PathError, Paths, Rule};
 
 /// What the program is to do.
 #[derive(Clone, Copy, Debug, PartialEq, Eq)]
-pub(crate) enum Command {
+pub enum Command {
     /// Read, and write what was read.
     Convert,
     /// Read, and tell what is wrong.
@@ -17,7 +25,7 @@ pub(crate) enum Command {
 
 /// A format that is read.
 #[derive(Clone, Copy, Debug, PartialEq, Eq)]
-pub(crate) enum Input {
+pub enum Input {
     /// JSON (RFC 8259).
     Json,
     /// CBOR (RFC 8949).
@@ -26,7 +34,7 @@ pub(crate) enum Input {
 
 /// A format that is written.
 #[derive(Clone, Copy, Debug, PartialEq, Eq)]
-pub(crate) enum Output {
+pub enum Output {
     /// JSON without white space.
     Json,
     /// JSON with a line for each element and pair.
@@ -37,26 +45,26 @@ pub(crate) enum Output {
 
 /// What the words ask for.
 #[derive(Drop)]
-pub(crate) struct Options {
+pub struct Options {
     /// What the program is to do.
-    pub(crate) command: Command,
+    pub command: Command,
     /// The format of `--from`, if it was given.
-    pub(crate) from: Option<Input>,
+    pub from: Option<Input>,
     /// The format of `--to`, if it was given.
-    pub(crate) to: Option<Output>,
+    pub to: Option<Output>,
     /// `--lines` was given.
-    pub(crate) lines: bool,
+    pub lines: bool,
     /// Whether the paths are those of `--keep` or of `--drop`, if one was given.
-    pub(crate) rule: Option<Rule>,
+    pub rule: Option<Rule>,
     /// The paths of `--keep` or `--drop`, in their order.
-    pub(crate) paths: Paths,
+    pub paths: Paths,
     /// The files, in their order. `-` is standard input.
-    pub(crate) files: Vec<String>,
+    pub files: Vec<String>,
 }
 
 /// What is wrong with a word.
 #[derive(Clone, Copy, Debug, PartialEq, Eq)]
-pub(crate) enum Complaint {
+pub enum Complaint {
     /// There is no option of this name.
     UnknownOption,
     /// The option takes no argument, and one is written behind `=`.
@@ -75,7 +83,7 @@ pub(crate) enum Complaint {
 
 /// Why the words ask for no reading.
 #[derive(Clone, Copy, Debug, PartialEq, Eq)]
-pub(crate) enum Stop {
+pub enum Stop {
     /// They ask for the help.
     Help,
     /// They ask for the version.
@@ -87,25 +95,39 @@ pub(crate) enum Stop {
 }
 
 impl From<NoMemory> for Stop {
+    ghost use Rattle.sval_tool.specs.declared.words.Stop.TheVariants as stop;
+
+    ghost from_gives = { λ _ why. why ≡ stop.NoMemory };
+
     fn from(_cause: NoMemory) -> Stop {
         Stop::NoMemory
     }
 }
 
 impl From<AllocError> for Stop {
+    ghost use Rattle.sval_tool.specs.declared.words.Stop.TheVariants as stop;
+
+    ghost from_gives = { λ _ why. why ≡ stop.NoMemory };
+
     fn from(_cause: AllocError) -> Stop {
         Stop::NoMemory
     }
 }
 
 impl<T: Drop> From<AllocFailed<T>> for Stop {
+    ghost use Rattle.sval_tool.specs.declared.words.Stop.TheVariants as stop;
+
+    ghost from_gives = { λ _ why. why ≡ stop.NoMemory };
+
     fn from(_cause: AllocFailed<T>) -> Stop {
         Stop::NoMemory
     }
 }
 
 /// A format that is read, by its name.
-fn input_named(word: &str) -> Option<Input> {
+fn input_named(word: &str) -> Option<Input>
+    ensures { result ≡ spec.input_named word.now }
+{
     match word {
         "json" => Some(Input::Json),
         "cbor" => Some(Input::Cbor),
@@ -114,7 +136,9 @@ fn input_named(word: &str) -> Option<Input> {
 }
 
 /// A format that is written, by its name.
-fn output_named(word: &str) -> Option<Output> {
+fn output_named(word: &str) -> Option<Output>
+    ensures { result ≡ spec.output_named word.now }
+{
     match word {
         "json" => Some(Output::Json),
         "pretty" => Some(Output::Pretty),
@@ -124,12 +148,17 @@ fn output_named(word: &str) -> Option<Output> {
 }
 
 /// What follows a `-`, if the word begins with one.
-fn behind_dash<'w>(word: &'w str) -> Option<&'w str> {
+fn behind_dash<'w>(word: &'w str) -> Option<&'w str>
+    ensures { option_map (λ rest. rest.now) result ≡ behind_dash word.now }
+{
     word.strip_prefix('-')
 }
 
 /// An option's name, and its argument if one is written behind `=`.
-fn name_and_argument<'w>(text: &'w str) -> (&'w str, Option<&'w str>) {
+fn name_and_argument<'w>(text: &'w str) -> (&'w str, Option<&'w str>)
+    ensures name { result.0.now ≡ name_in text.now }
+    ensures argument { option_map (λ word. word.now) result.1 ≡ argument_in text.now }
+{
     match text.split_once('=') {
         Some((name, argument)) => (name, Some(argument)),
         None => (text, None),
@@ -137,7 +166,9 @@ fn name_and_argument<'w>(text: &'w str) -> (&'w str, Option<&'w str>) {
 }
 
 /// The other rule was asked for.
-fn is_other(rule: Rule, asked: Option<Rule>) -> bool {
+fn is_other(rule: Rule, asked: Option<Rule>) -> bool
+    ensures { result ≡ spec.is_other rule asked }
+{
     match asked {
         None => false,
         Some(asked) => asked != rule,
@@ -156,7 +187,9 @@ struct WordReader {
 
 impl WordReader {
     /// Before the first word.
-    fn new(alloc: Global) -> Self {
+    fn new(alloc: Global) -> Self
+        ensures { reading_in result ≡ reading.before_words }
+    {
         WordReader {
             options: Options {
                 command: Command::Convert,
@@ -173,7 +206,9 @@ impl WordReader {
     }
 
     /// A format that is read.
-    fn from(&mut self, at: usize, word: &str) -> Result<(), Stop> {
+    fn from(&mut self, at: usize, word: &str) -> Result<(), Stop>
+        ensures { Reads (reads_part (reading_in self.old) (Given at Setting.From word.now)) result (reading_in self.new) }
+    {
         let Some(format) = input_named(word) else {
             return Err(Stop::Usage(at, Complaint::BadArgument(Setting::From)));
         };
@@ -186,7 +221,9 @@ impl WordReader {
     }
 
     /// A format that is written.
-    fn to(&mut self, at: usize, word: &str) -> Result<(), Stop> {
+    fn to(&mut self, at: usize, word: &str) -> Result<(), Stop>
+        ensures { Reads (reads_part (reading_in self.old) (Given at Setting.To word.now)) result (reading_in self.new) }
+    {
         let Some(format) = output_named(word) else {
             return Err(Stop::Usage(at, Complaint::BadArgument(Setting::To)));
         };
@@ -206,7 +243,11 @@ impl WordReader {
         setting: Setting,
         rule: Rule,
         word: &str,
-    ) -> Result<(), Stop> {
+    ) -> Result<(), Stop>
+        ensures { let old = reading_in self.old in Reads
+            (reads_unless (spec.stop_at_path at setting rule old.asked.rule word.now) old (with_path rule old.asked word.now))
+            result (reading_in self.new) }
+    {
         if is_other(rule, self.options.rule) {
             return Err(Stop::Usage(at, Complaint::KeepAndDrop));
         }
@@ -218,7 +259,7 @@ impl WordReader {
             }
             Err(PathError::BadWord) => Err(Stop::Usage(at, Complaint::BadArgument(setting))),
             Err(PathError::NoMemory) => Err(Stop::NoMemory),
-            Err(PathError::NoPath) => Err(Stop::Usage(at, Complaint::BadArgument(setting))),
+            Err(PathError::NoPath) => unreachable!("a path begins with its first label"),
         }
     }
 
@@ -229,7 +270,9 @@ impl WordReader {
         at: usize,
         setting: Setting,
         word: &str,
-    ) -> Result<(), Stop> {
+    ) -> Result<(), Stop>
+        ensures { Reads (reads_part (reading_in self.old) (Given at setting word.now)) result (reading_in self.new) }
+    {
         match setting {
             Setting::From => self.from(at, word),
             Setting::To => self.to(at, word),
@@ -239,7 +282,9 @@ impl WordReader {
     }
 
     /// An option without an argument.
-    fn flag(&mut self, flag: Flag) -> Result<(), Stop> {
+    fn flag(&mut self, flag: Flag) -> Result<(), Stop>
+        ensures { Reads (reads_part (reading_in self.old) (Turned flag)) result (reading_in self.new) }
+    {
         self.due = None;
         match flag {
             Flag::Lines => {
@@ -258,7 +303,10 @@ impl WordReader {
         at: usize,
         switch: Switch,
         argument: Option<&str>,
-    ) -> Result<(), Stop> {
+    ) -> Result<(), Stop>
+        ensures { Reads (reads_saying (reading_in self.old)
+            (spec.said_by_switch at switch (option_map (λ word. word.now) argument.entry))) result (reading_in self.new) }
+    {
         match (switch, argument) {
             (Switch::Flag(flag), None) => self.flag(flag),
             (Switch::Flag(flag), Some(_)) => {
@@ -279,7 +327,11 @@ impl WordReader {
         at: usize,
         row: Option<OptionRow>,
         argument: Option<&str>,
-    ) -> Result<(), Stop> {
+    ) -> Result<(), Stop>
+        ensures { Reads (reads_saying (reading_in self.old)
+            (spec.said_by_row self.old.options.command at (option_map seen_row row)
+            (option_map (λ word. word.now) argument.entry))) result (reading_in self.new) }
+    {
         let Some(row) = row else {
             return Err(Stop::Usage(at, Complaint::UnknownOption));
         };
@@ -290,7 +342,9 @@ impl WordReader {
     }
 
     /// A file.
-    fn file(&mut self, alloc: Global, word: &str) -> Result<(), Stop> {
+    fn file(&mut self, alloc: Global, word: &str) -> Result<(), Stop>
+        ensures { Reads (reads_part (reading_in self.old) (Named word.now)) result (reading_in self.new) }
+    {
         let file = String::from_str(alloc, word)?;
         self.options.files.push(file)?;
         self.due = None;
@@ -298,7 +352,11 @@ impl WordReader {
     }
 
     /// What follows the `-` of an option.
-    fn option(&mut self, alloc: Global, at: usize, letters: &str) -> Result<(), Stop> {
+    fn option(&mut self, alloc: Global, at: usize, letters: &str) -> Result<(), Stop>
+        ensures { Reads (reads_saying (reading_in self.old)
+            (spec.said_by_option self.old.options.command at letters.now (behind_dash letters.now))) result
+            (reading_in self.new) }
+    {
         match behind_dash(letters) {
             Some(text) => {
                 let (name, argument) = name_and_argument(text);
@@ -309,32 +367,50 @@ impl WordReader {
     }
 
     /// A word that begins with `-` or names a file.
-    fn option_or_file(&mut self, alloc: Global, at: usize, word: &str) -> Result<(), Stop> {
+    fn dashed(&mut self, alloc: Global, at: usize, word: &str) -> Result<(), Stop>
+        ensures { Reads (reads_saying (reading_in self.old)
+            (spec.said_by_dashes self.old.options.command at word.now (behind_dash word.now))) result
+            (reading_in self.new) }
+    {
         match behind_dash(word) {
             Some(letters) => self.option(alloc, at, letters),
             None => self.file(alloc, word),
         }
     }
 
-    /// A word that isn't an option's argument.
-    fn free(&mut self, alloc: Global, at: usize, word: &str) -> Result<(), Stop> {
-        if self.ended || word == "-" {
-            return self.file(alloc, word);
+    /// A word where an option may come.
+    fn option_or_file(&mut self, alloc: Global, at: usize, word: &str) -> Result<(), Stop>
+        ensures { Reads (reads_saying (reading_in self.old)
+            (spec.said_by self.old.options.command at word.now)) result (reading_in self.new) }
+    {
+        match word {
+            "-" => self.file(alloc, word),
+            "--" => {
+                self.ended = true;
+                Ok(())
+            }
+            _ => self.dashed(alloc, at, word),
         }
-        if word == "--" {
-            self.ended = true;
-            return Ok(());
+    }
+
+    /// A word that isn't an option's argument.
+    fn free(&mut self, alloc: Global, at: usize, word: &str) -> Result<(), Stop>
+        ensures { Reads (reading.reads_free at (reading_in self.old) word.now) result (reading_in self.new) }
+    {
+        if self.ended {
+            return self.file(alloc, word);
         }
         if at == 0 && word == "check" {
             self.options.command = Command::Check;
-            self.due = None;
             return Ok(());
         }
         self.option_or_file(alloc, at, word)
     }
 
     /// One more word.
-    fn word(&mut self, alloc: Global, at: usize, word: &str) -> Result<(), Stop> {
+    fn word(&mut self, alloc: Global, at: usize, word: &str) -> Result<(), Stop>
+        ensures { Reads (reading.reads_word at (reading_in self.old) word.now) result (reading_in self.new) }
+    {
         match self.due {
             Some(setting) => self.argument(alloc, at, setting, word),
             None => self.free(alloc, at, word),
@@ -342,7 +418,9 @@ impl WordReader {
     }
 
     /// Behind the last word.
-    fn finish(self, count: usize) -> Result<Options, Stop> {
+    fn finish(self, count: usize) -> Result<Options, Stop>
+        ensures { Gives asked_in (reading.at_last count self.due (asked_in self.options)) result }
+    {
         match self.due {
             Some(setting) => Err(Stop::Usage(
                 count.saturating_sub(1),
@@ -366,7 +444,10 @@ impl WordReader {
 ///
 /// [`Stop::Help`] and [`Stop::Version`] where that is asked for, and [`Stop::Usage`] with the first word that is
 /// wrong. [`Stop::NoMemory`] may come in the place of each of these, and of what the words ask for.
-pub(crate) fn read_words(alloc: Global, words: &[String]) -> Result<Options, Stop> {
+#[tactic(auto, using(crate::proofs::WordsRead::word_read, crate::proofs::WordsRead::gives_all))]
+pub fn read_words(alloc: Global, words: &[String]) -> Result<Options, Stop>
+    ensures { Gives asked_in (asked_by (map string_bytes words.now)) result }
+{
     let mut reader = WordReader::new(alloc);
     for (at, word) in words.iter().enumerate() {
         reader.word(alloc, at, word.as_str())?;

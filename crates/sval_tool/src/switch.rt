@@ -1,8 +1,11 @@
 //! The options of the command line, in one table.
 
+ghost use Rattle.std.specs.Prelude.{◌≡◌, ◌<◌, map, option_map};
+ghost use Rattle.sval_tool.specs.Switches.{option_rows, seen_row, row_named, row_shortened, place_of, name_of};
+
 /// An option that takes no argument.
 #[derive(Clone, Copy, Debug, PartialEq, Eq)]
-pub(crate) enum Flag {
+pub enum Flag {
     /// Each line is a value of its own.
     Lines,
     /// The help is asked for.
@@ -13,7 +16,7 @@ pub(crate) enum Flag {
 
 /// An option that takes an argument.
 #[derive(Clone, Copy, Debug, PartialEq, Eq)]
-pub(crate) enum Setting {
+pub enum Setting {
     /// The format that is read.
     From,
     /// The format that is written.
@@ -26,7 +29,7 @@ pub(crate) enum Setting {
 
 /// An option of the command line.
 #[derive(Clone, Copy, Debug, PartialEq, Eq)]
-pub(crate) enum Switch {
+pub enum Switch {
     /// One without an argument.
     Flag(Flag),
     /// One with an argument.
@@ -35,7 +38,7 @@ pub(crate) enum Switch {
 
 /// A row of the table of options.
 #[derive(Clone, Copy)]
-pub(crate) struct OptionRow {
+pub struct OptionRow {
     /// The option.
     pub switch: Switch,
     /// Its name, which is written behind `--`.
@@ -52,7 +55,7 @@ pub(crate) struct OptionRow {
 
 /// The options, in the order of the help. The parser takes their names from here, the help its lines, and
 /// `bench/cli_pages` the man page and the completions.
-pub(crate) static OPTIONS: [OptionRow; 7] = [
+pub static OPTIONS: [OptionRow; 7] = [
     OptionRow {
         switch: Switch::Setting(Setting::From),
         name: "from",
@@ -111,9 +114,19 @@ pub(crate) static OPTIONS: [OptionRow; 7] = [
     },
 ];
 
+/// The table, whose rows are known by what the parser reads of them.
+#[tactic(auto, unfolding(crate::specs::Switches::option_rows))]
+pub(crate) fn rows() -> &'static [OptionRow; 7]
+    ensures { map seen_row result.now ≡ option_rows }
+{
+    &OPTIONS
+}
+
 /// The row of the option with this name.
-pub(crate) fn row_named(name: &str) -> Option<OptionRow> {
-    let table = &OPTIONS;
+pub(crate) fn row_named(name: &str) -> Option<OptionRow>
+    ensures { option_map seen_row result ≡ row_named name.now option_rows }
+{
+    let table = rows();
     for row in table {
         if row.name == name {
             return Some(*row);
@@ -123,8 +136,10 @@ pub(crate) fn row_named(name: &str) -> Option<OptionRow> {
 }
 
 /// The row of the option with this short form.
-pub(crate) fn row_shortened(letters: &str) -> Option<OptionRow> {
-    let table = &OPTIONS;
+pub(crate) fn row_shortened(letters: &str) -> Option<OptionRow>
+    ensures { option_map seen_row result ≡ row_shortened letters.now option_rows }
+{
+    let table = rows();
     for row in table {
         if row.short == letters {
             return Some(*row);
@@ -133,13 +148,25 @@ pub(crate) fn row_shortened(letters: &str) -> Option<OptionRow> {
     None
 }
 
-/// The name of an option.
-pub(crate) fn name_of(switch: Switch) -> &'static str {
-    let table = &OPTIONS;
-    for row in table {
-        if row.switch == switch {
-            return row.name;
-        }
+/// The index of an option in the table.
+fn place_of(switch: Switch) -> usize
+    ensures place { result ≡ place_of switch }
+    ensures within { result < 7 }
+{
+    match switch {
+        Switch::Setting(Setting::From) => 0,
+        Switch::Setting(Setting::To) => 1,
+        Switch::Flag(Flag::Lines) => 2,
+        Switch::Setting(Setting::Keep) => 3,
+        Switch::Setting(Setting::Drop) => 4,
+        Switch::Flag(Flag::Help) => 5,
+        Switch::Flag(Flag::Version) => 6,
     }
-    ""
+}
+
+/// The name of an option.
+pub fn name_of(switch: Switch) -> &'static str
+    ensures { result.now ≡ name_of switch }
+{
+    rows()[place_of(switch)].name
 }
