@@ -30,9 +30,11 @@ use Rattle.sval_check.specs.declared.checked.Why.TheVariants as filter
 use Rattle.sval_filter.specs.Filtering.{fresh, all_due}
 use Rattle.sval_filter.specs.Paths.{Path}
 use Rattle.sval_filter.specs.declared.paths.Rule.{Rule}
+use Rattle.sval_filter.specs.declared.paths.Rule.TheVariants as by
 use Rattle.sval_filter.specs.Pruned.{pruned}
 use Rattle.sval_filter.specs.Pruning.{PassesPruned}
 use Rattle.sval_filter.proofs.DueCalls.{due_spells_pruned}
+use Rattle.sval_filter.proofs.NothingDropped.{drop_nothing}
 use Rattle.sval_json_read.specs.ReadErrors.{IsReadText}
 use Rattle.sval_json_read.specs.Trees.{tree_of}
 use Rattle.sval_tool.specs.Conversions.{IsTextLeft, WritesLeftJson}
@@ -118,19 +120,19 @@ module _ (rule : Rule) (paths : List Path) (input : List ℕ) (calls : List Call
         }
 
     -- the writer was stopped
-    by_kind : (found : ErrorKind) → StreamsJson Inside (makes due) (Err found) old new → WritesLeftJson rule paths input (Err (stop_by (Some filter.Inner) found)) old new
-    by_kind kind.IO s = fails_left due due_spells s
-    by_kind kind.NoMemory s = lacks_left due due_spells s
-    by_kind kind.InvalidKey s = absurd (no_refusal due InvalidKey due_spells s)
-    by_kind kind.InvalidNumber s = absurd (no_refusal due InvalidNumber due_spells s)
-    by_kind kind.Generic s = absurd (no_generic due s)
+    pub by_kind : (spelled : List Call) (found : ErrorKind) → Spells spelled left → StreamsJson Inside (makes spelled) (Err found) old new → WritesLeftJson rule paths input (Err (stop_by (Some filter.Inner) found)) old new
+    by_kind spelled kind.IO p s = fails_left spelled p s
+    by_kind spelled kind.NoMemory p s = lacks_left spelled p s
+    by_kind spelled kind.InvalidKey p s = absurd (no_refusal spelled InvalidKey p s)
+    by_kind spelled kind.InvalidNumber p s = absurd (no_refusal spelled InvalidNumber p s)
+    by_kind spelled kind.Generic p s = absurd (no_generic spelled s)
 
-    known_kind : (found : ErrorKind) → StreamsJson Inside (makes due) (Err found) old new → IsSinkStop (Some filter.Inner) found
-    known_kind kind.IO s = tt
-    known_kind kind.NoMemory s = tt
-    known_kind kind.InvalidKey s = no_refusal due InvalidKey due_spells s
-    known_kind kind.InvalidNumber s = no_refusal due InvalidNumber due_spells s
-    known_kind kind.Generic s = no_generic due s
+    pub known_kind : (spelled : List Call) (found : ErrorKind) → Spells spelled left → StreamsJson Inside (makes spelled) (Err found) old new → IsSinkStop (Some filter.Inner) found
+    known_kind spelled kind.IO p s = tt
+    known_kind spelled kind.NoMemory p s = tt
+    known_kind spelled kind.InvalidKey p s = no_refusal spelled InvalidKey p s
+    known_kind spelled kind.InvalidNumber p s = no_refusal spelled InvalidNumber p s
+    known_kind spelled kind.Generic p s = no_generic spelled s
 
   -- ---- a fresh writer behind the filter
 
@@ -158,12 +160,16 @@ module _ (rule : Rule) (paths : List Path) (input : List ℕ) (calls : List Call
         → WritesLeftJson rule paths input (Err (stop_by why (error_kind (stop_of now)))) (told sink.now) (told (sink_of now).now) × Keeps
     part_written (Some filter.NoMemory) h = paused_written h
     part_written (Some filter.Inner) h =
-        let s = stopped_written h in (by_kind (told sink.now) (told (sink_of now).now) (error_kind (stop_of now)) s.0, s.1)
+        let s = stopped_written h in (by_kind (told sink.now) (told (sink_of now).now) due (error_kind (stop_of now)) due_spells s.0, s.1)
     part_written (Some filter.NotViable) h = absurd h
     part_written None h = absurd h
 
     pub known_stop : (why : Option Why) → StopsAt writer_law why (writer_standing told begun) due (writer_standing told now) → IsSinkStop why (error_kind (stop_of now))
     known_stop (Some filter.NoMemory) h = tt
-    known_stop (Some filter.Inner) h = known_kind (told sink.now) (told (sink_of now).now) (error_kind (stop_of now)) (stopped_written h).0
+    known_stop (Some filter.Inner) h = known_kind (told sink.now) (told (sink_of now).now) due (error_kind (stop_of now)) due_spells (stopped_written h).0
     known_stop (Some filter.NotViable) h = absurd h
     known_stop None h = absurd h
+
+-- where nothing is dropped, a document's own calls spell what is left of it
+pub whole_spells : (input : List ℕ) (calls : List Call) (r : IsReadText input calls) → Spells calls (pruned by.Drop [] (tree_of r.document.value))
+whole_spells input calls r = subst (Spells calls) (sym (drop_nothing (tree_of r.document.value))) r.spells

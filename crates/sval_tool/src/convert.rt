@@ -1,6 +1,7 @@
 //! One document, converted.
 
-ghost use Rattle.std.specs.Prelude.{◌≡◌, ℕ, List, OnOk, IfErr};
+ghost use Rattle.std.specs.Prelude.{◌≡◌, ℕ, List, [], OnOk, IfErr};
+ghost use Rattle.sval_filter.specs.declared.paths.Rule.TheVariants as by;
 ghost use Rattle.sval_json_read.specs.Calls.{document_calls};
 ghost use Rattle.sval_json_read.specs.ReadErrors.{IsReadText};
 ghost use Rattle.sval_tool.specs.Passing.{IsSinkStop, stop_by};
@@ -12,7 +13,7 @@ use std::alloc::Global;
 use sval_check::Why;
 use sval_filter::{Paths, Rule};
 use sval_io::{Sink, SinkError};
-use sval_json::{ErrorKind, JsonWriter, Variants};
+use sval_json::{ErrorKind, JsonWriter, Variants, stream_to_io_write};
 use sval_json_read::JsonDoc;
 
 /// What a document is written as.
@@ -35,6 +36,18 @@ pub struct Conversion<'p> {
     pub target: Target,
 }
 
+/// Writes the JSON of a document of which nothing is left out.
+fn write_whole<K: Sink>(doc: &JsonDoc<'_>, out: &mut K) -> Result<(), SinkError>
+    requires { (input : List ℕ) × IsReadText input (document_calls doc.now) }
+    ensures { (input : List ℕ) → IsReadText input (document_calls doc.now)
+        → WritesLeftJson by.Drop [] input result (K.told out.old) (K.told out.new) }
+{
+    match stream_to_io_write(out, doc) {
+        Ok(()) => Ok(()),
+        Err(error) => Err(stop_of(Some(Why::Inner), error.kind())),
+    }
+}
+
 /// Writes the JSON of what a rule and paths leave of a document.
 fn write_left<K: Sink>(
     alloc: Global,
@@ -47,6 +60,9 @@ fn write_left<K: Sink>(
     ensures { (input : List ℕ) → IsReadText input (document_calls doc.now)
         → WritesLeftJson rule paths.now input result (K.told out.old) (K.told out.new) }
 {
+    if rule == Rule::Drop && paths.as_slice().is_empty() {
+        return write_whole(doc, out);
+    }
     let writer = JsonWriter::new(out, Variants::Inside);
     let passed = stream_left(alloc, doc, rule, paths, writer);
     match passed.result {
