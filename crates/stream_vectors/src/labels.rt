@@ -12,7 +12,7 @@ use sval_core::{Call, Index, Label, Name, Stream, Tag};
 ///
 /// A line is a call's word, and then its tag, its label, its index and its size. `-` says that there is none, and so
 /// does the line's end. A label is static, and computed where it begins with `=`. A label's or an index's own tag
-/// stands behind a colon. After `clear` the buffer has forgotten the calls before.
+/// follows a colon. After `clear` the buffer has forgotten the calls before.
 const CALLS: &'static str = r#"
 # Names with static labels, beside a computed one.
 enum_begin RUST_UNIT kind:VALUE_IDENT -2:VALUE_OFFSET

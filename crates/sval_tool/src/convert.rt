@@ -36,7 +36,7 @@ pub struct Conversion<'p> {
     pub target: Target,
 }
 
-/// Writes the JSON of a document of which nothing is left out.
+/// Writes the JSON of a whole document: nothing is left out.
 fn write_whole<K: Sink>(doc: &JsonDoc<'_>, out: &mut K) -> Result<(), SinkError>
     requires { (input : List ℕ) × IsReadText input (document_calls doc.now) }
     ensures { (input : List ℕ) → IsReadText input (document_calls doc.now)
