@@ -23,7 +23,7 @@
 extern "C" {
 #endif
 
-/* What a call answers. Programs of this project end with the same numbers. */
+/* What a call answers. The numbers are those of the programs in docs/SPECIFICATION.md, but for 8. */
 enum sval_status {
     /* The first `written` bytes of `out` are exactly what is due, and those behind them are as they were. */
     SVAL_DONE = 0,
