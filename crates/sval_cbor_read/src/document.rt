@@ -36,7 +36,12 @@ impl fmt::Display for CborReadError {
 
     fn fmt<W: fmt::Write>(&self, f: &mut fmt::Formatter<W>) -> fmt::Result {
         match *self {
-            CborReadError::Bad { at } => write!(f, "invalid CBOR at byte {at}"),
+            CborReadError::Bad { at } => {
+                write!(
+                    f,
+                    "invalid CBOR at byte {at}: cut short, unsupported or left over"
+                )
+            },
             CborReadError::NoMemory => f.write_str("cannot allocate for an item of CBOR"),
         }
     }

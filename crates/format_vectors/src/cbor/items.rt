@@ -276,13 +276,13 @@ a0
 7f6161ff1c
 = front 4 "a"
 ␄
-= error invalid CBOR at byte 0
+= error invalid CBOR at byte 0: cut short, unsupported or left over
 ff00
-= error invalid CBOR at byte 0
+= error invalid CBOR at byte 0: cut short, unsupported or left over
 820100f5
 = front 3 [1,0]
 8201
-= error invalid CBOR at byte 2
+= error invalid CBOR at byte 2: cut short, unsupported or left over
 "#;
 
 /// Bytes and their calls, with each chunk of a text. The calls tell a size where the bytes do.
