@@ -3,7 +3,7 @@ use Rattle.std.specs.Prelude.{◌≡◌, ◌≢◌, ℕ, ◌+◌, ◌<◌, ◌�
 use Rattle.std.proofs.Common.{sym, ap, ◌∙◌, subst, arith, append_assoc, append-nil}
 use Rattle.std.proofs.lemmas.Bool.Decides.{nat_tests}
 use Rattle.std.proofs.lemmas.List.{length-drop, length-take-le, drop-drop}
-use Rattle.sval_label.specs.Calls.{Call}
+use Rattle.sval_label.specs.Calls.{Call, Seq, Map}
 use Rattle.std.specs.Prelude.{IsUtf8}
 use Rattle.std.proofs.lemmas.Str.{IsUtf8-from_is_utf8, is_utf8-from_IsUtf8}
 use Rattle.sval_cbor_read.specs.declared.head.Head as made_head
@@ -17,7 +17,8 @@ use Rattle.sval_cbor_read.specs.Steps.{Spot, spot, ItemSteps, one_step, more_ste
 use Rattle.sval_cbor_read.specs.SeenHeads.{IsHead}
 use Rattle.sval_cbor_read.specs.SeenStrings.{IsBehind}
 use Rattle.sval_cbor_read.specs.SeenBignums.{IsNumberAt}
-use Rattle.sval_cbor_read.specs.SeenNodes.{byte_string, step_calls}
+use Rattle.sval_cbor_read.specs.SeenNodes.{byte_string, step_calls, AreWhole, AreBegin}
+use Rattle.sval_cbor_read.specs.CborValues as value
 use Rattle.sval_cbor_read.proofs.ByteStrings.{byte_string_is}
 use Rattle.sval_cbor_read.specs.SeenItems.{state_behind, item_begin_calls, IsBegun, IsMarked, BeginsBehind, BeginsNothingBehind, no_step_behind, no_number_behind, Begins, BeginsNoItem, no_step, no_number, BeginsNothing}
 use Rattle.sval_cbor_read.specs.SeenStops.{IsNumberTag, LacksNumber}
@@ -41,38 +42,40 @@ no_item_step e bytes reached tree rest is_item = stops_in_front reached e (λ f.
 
 -- ---- heads
 
--- an item that is begun by its first step
-abbrev pub IsOfStep : made_item.Item → Type 0
-IsOfStep item.Whole = ⊤
-IsOfStep (item.Container frame) = ⊤
-IsOfStep (item.Pieces medium) = ⊤
-IsOfStep _ = ⊥
+-- an item that is begun by its first step, which makes these calls
+abbrev pub IsOfStep : made_item.Item → List Call → Type 0
+IsOfStep item.Whole made = AreWhole made
+IsOfStep (item.Big from) made = ⊥
+IsOfStep (item.NegativeBig from) made = ⊥
+IsOfStep (item.Container frame) made = AreBegin made
+IsOfStep (item.Pieces medium) made = AreBegin made
+IsOfStep item.Tag made = ⊥
 
-pub of_step_calls : (found : made_item.Item) (bytes : List ℕ) (move : Option Move) → IsOfStep found → item_begin_calls found bytes move ≡ step_calls move
-of_step_calls item.Whole bytes move o = refl
-of_step_calls (item.Big from) bytes move o = absurd o
-of_step_calls (item.NegativeBig from) bytes move o = absurd o
-of_step_calls (item.Container frame) bytes move o = refl
-of_step_calls (item.Pieces medium) bytes move o = refl
-of_step_calls item.Tag bytes move o = absurd o
+pub of_step_calls : (found : made_item.Item) (bytes : List ℕ) (move : Option Move) (made : List Call) → IsOfStep found made → item_begin_calls found bytes move ≡ step_calls move
+of_step_calls item.Whole bytes move made o = refl
+of_step_calls (item.Big from) bytes move made o = absurd o
+of_step_calls (item.NegativeBig from) bytes move made o = absurd o
+of_step_calls (item.Container frame) bytes move made o = refl
+of_step_calls (item.Pieces medium) bytes move made o = refl
+of_step_calls item.Tag bytes move made o = absurd o
 
-pub of_step_begun : (found : made_item.Item) (bytes : List ℕ) (move : Option Move) → IsOfStep found → 0 < length (step_calls move) → IsBegun found bytes move
-of_step_begun item.Whole bytes move o s = s
-of_step_begun (item.Big from) bytes move o s = absurd o
-of_step_begun (item.NegativeBig from) bytes move o s = absurd o
-of_step_begun (item.Container frame) bytes move o s = s
-of_step_begun (item.Pieces medium) bytes move o s = s
-of_step_begun item.Tag bytes move o s = absurd o
+pub of_step_begun : (found : made_item.Item) (bytes : List ℕ) (move : Option Move) → IsOfStep found (step_calls move) → IsBegun found bytes move
+of_step_begun item.Whole bytes move o = o
+of_step_begun (item.Big from) bytes move o = absurd o
+of_step_begun (item.NegativeBig from) bytes move o = absurd o
+of_step_begun (item.Container frame) bytes move o = o
+of_step_begun (item.Pieces medium) bytes move o = o
+of_step_begun item.Tag bytes move o = absurd o
 
 pub begins_behind : (bytes : List ℕ) (h : made_head.Head) (found : made_item.Item) (calls : List Call) (next : ℕ)
-    → ((frames : List OpenItem) → body_step h.major h.number (drop h.next bytes) frames ≡ moves calls (drop next bytes) (state_behind found frames)) → IsOfStep found → 0 < length calls → h.next ≤ next → next ≤ length bytes
+    → ((frames : List OpenItem) → body_step h.major h.number (drop h.next bytes) frames ≡ moves calls (drop next bytes) (state_behind found frames)) → IsOfStep found calls → h.next ≤ next → next ≤ length bytes
     → BeginsBehind bytes h (record { item = found; next = next })
-begins_behind bytes h found calls next e o s l k =
+begins_behind bytes h found calls next e o l k =
     let same : step_calls (body_step h.major h.number (drop h.next bytes) []) ≡ calls = ap step_calls (e []) in
-    let begun : item_begin_calls found bytes (body_step h.major h.number (drop h.next bytes) []) ≡ calls = of_step_calls found bytes (body_step h.major h.number (drop h.next bytes) []) o ∙ same in
+    let begun : item_begin_calls found bytes (body_step h.major h.number (drop h.next bytes) []) ≡ calls = of_step_calls found bytes (body_step h.major h.number (drop h.next bytes) []) calls o ∙ same in
     record {
       leads = λ frames left made f. subst (λ x. ItemSteps (spot (Item frames) left made) (spot (state_behind found frames) (drop next bytes) (made ++ x))) (sym begun) (one_step (f ∙ e frames));
-      is = of_step_begun found bytes (body_step h.major h.number (drop h.next bytes) []) o (subst (λ x. 0 < length x) (sym same) s);
+      is = of_step_begun found bytes (body_step h.major h.number (drop h.next bytes) []) (subst (IsOfStep found) (sym same) o);
       later = l;
       within = k;
     }
@@ -142,6 +145,25 @@ begins_nothing_stuck {bytes = bytes} frames made (no_number {tag = tag} {after =
 
 -- ---- marks
 
+-- the calls of simple values are whole, and those of what a break ends begin it
+pub truth_is_whole : (b : Bool) → AreWhole (Call.Truth b ∷ [])
+truth_is_whole b = (omega arith, record { value = value.Truth b; puts_it = λ levels. refl })
+
+pub null_is_whole : AreWhole (Call.Null ∷ [])
+null_is_whole = (omega arith, record { value = value.Null; puts_it = λ levels. refl })
+
+pub seq_begins : AreBegin (Call.Begin Seq None ∷ [])
+seq_begins = (omega arith, record { of = λ level. value.Array level.values; closes_it = λ levels. refl })
+
+pub map_begins : AreBegin (Call.Begin Map None ∷ [])
+map_begins = (omega arith, record { of = λ level. value.Map level.values; closes_it = λ levels. refl })
+
+pub text_chunks_begin : AreBegin (Call.TextBegin None ∷ [])
+text_chunks_begin = (omega arith, record { of = λ level. value.Text level.texts; closes_it = λ levels. refl })
+
+pub byte_chunks_begin : AreBegin (Call.BinaryBegin None ∷ [])
+byte_chunks_begin = (omega arith, record { of = λ level. value.Binary level.binaries; closes_it = λ levels. refl })
+
 pub marked_begins : (bytes : List ℕ) (at : ℕ) (found : made_item.Item) → at < length bytes → IsMarked (get_or bytes at 0) found → Begins bytes at (record { item = found; next = at + 1 })
 marked_begins bytes at found l m =
     let first = get_or bytes at 0 in
@@ -209,7 +231,7 @@ binary_begins bytes h content next m b =
     let rest : drop next bytes ≡ drop h.number after = ap (λ n. drop n bytes) b.next_is ∙ sym (drop-drop h.number h.next bytes) in
     begins_behind bytes h item.Whole (string_calls 2 (length content) content) next
     (λ frames. major_is h 2 after frames m ∙ string_goes_behind 2 h.number after content (drop next bytes) frames fits refl b.content_is rest)
-    tt (omega arith) (let n = b.next_is in omega arith) b.within
+    (omega arith, record { value = value.Binary (content ∷ []); puts_it = λ levels. refl }) (let n = b.next_is in omega arith) b.within
 
 -- a text behind its head
 pub text_begins : (bytes : List ℕ) (h : made_head.Head) (content : List ℕ) (next : ℕ) → h.major ≡ 3 → IsBehind bytes h content next → IsUtf8 content → BeginsBehind bytes h (record { item = item.Whole; next = next })
@@ -220,7 +242,7 @@ text_begins bytes h content next m b u =
     let utf8 : IsTrue (is_piece 3 (take h.number after)) = subst (λ x. IsTrue (is_piece 3 x)) b.content_is (is_utf8-from_IsUtf8 content u) in
     begins_behind bytes h item.Whole (string_calls 3 (length content) content) next
     (λ frames. major_is h 3 after frames m ∙ string_goes_behind 3 h.number after content (drop next bytes) frames fits utf8 b.content_is rest)
-    tt (omega arith) (let n = b.next_is in omega arith) b.within
+    (omega arith, record { value = value.Text (content ∷ []); puts_it = λ levels. refl }) (let n = b.next_is in omega arith) b.within
 
 pub no_binary : (bytes : List ℕ) (h : made_head.Head) → h.major ≡ 2 → h.next ≤ length bytes → length bytes < h.next + h.number → BeginsNothingBehind bytes h
 no_binary bytes h m w l = begins_nothing_behind bytes h (λ frames. major_is h 2 (drop h.next bytes) frames m ∙ no_string_step 2 h.number (drop h.next bytes) frames (λ k u. omega (arith, length-drop h.next bytes)))

@@ -18,10 +18,10 @@ use Rattle.sval_cbor_read.specs.SeenReader.{item_state_of, calls_before, expecte
 
 -- each node that stands in the bytes makes a call
 pub own_some : (k : made_kind.Kind) (bytes : List ℕ) → NodeBegins k bytes → 0 < length (node_own_calls k bytes)
-own_some kind.Item bytes s = s
+own_some kind.Item bytes s = s.0
 own_some kind.Big bytes s = omega arith
 own_some kind.NegativeBig bytes s = omega arith
-own_some kind.Begin bytes s = s
+own_some kind.Begin bytes s = s.0
 own_some kind.TextPiece bytes s = s
 own_some kind.BinaryPiece bytes s = s
 own_some kind.EndText bytes s = omega arith
@@ -31,11 +31,11 @@ own_some kind.EndMap bytes s = omega arith
 
 -- and so does each item but a tag
 pub begin_some : (begun : made_item.Item) (bytes : List ℕ) (move : Option Move) → IsBegun begun bytes move → IsNoTag begun → 0 < length (item_begin_calls begun bytes move)
-begin_some item.Whole bytes move s n = s
+begin_some item.Whole bytes move s n = s.0
 begin_some (item.Big from) bytes move s n = omega arith
 begin_some (item.NegativeBig from) bytes move s n = omega arith
-begin_some (item.Container frame) bytes move s n = s
-begin_some (item.Pieces medium) bytes move s n = s
+begin_some (item.Container frame) bytes move s n = s.0
+begin_some (item.Pieces medium) bytes move s n = s.0
 begin_some item.Tag bytes move s n = absurd n
 
 -- a node has the place that it was made with

@@ -4,6 +4,7 @@ pub mod LeastHeads
 pub mod RoundTrip
 pub mod Sound
 pub mod Strings
+pub mod CborValues
 pub mod Complete
 pub mod OneReading
 pub mod OnePlace
@@ -19,6 +20,13 @@ pub mod ItemCalls
 pub mod ReadsOn
 pub mod NodeStreams
 pub mod Fronts
+pub mod CborNodes
+pub mod CborFirsts
+pub mod CborFound
+pub mod CborNext
+pub mod CborCounts
+pub mod CborChunks
+pub mod SameTexts
 pub mod Loop
 pub mod ItemTrees
 pub mod DueTexts

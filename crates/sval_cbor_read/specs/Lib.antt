@@ -1,5 +1,8 @@
 pub mod Items
 pub mod Document
+pub mod CborValues
+pub mod CborLookups
+pub mod CborCodes
 pub mod Reading
 pub mod Laws
 pub mod Steps
@@ -7,6 +10,10 @@ pub mod SeenHeads
 pub mod SeenStrings
 pub mod SeenBignums
 pub mod SeenNodes
+pub mod NodeSpans
+pub mod SeenFound
+pub mod SeenEntries
+pub mod SeenChunks
 pub mod SeenFrames
 pub mod SeenStops
 pub mod SeenItems

@@ -10,7 +10,7 @@ use Rattle.sval_cbor_read.specs.declared.item.Item.TheVariants as item
 use Rattle.sval_cbor_read.specs.declared.item.Begun.{Begun}
 use Rattle.sval_cbor_read.specs.Reading as reading
 use Rattle.sval_cbor_read.specs.Reading.{OpenItem, ItemState, Move, mark_of, first_step, item_step, body_step, number_call, reading_step}
-use Rattle.sval_cbor_read.specs.SeenNodes.{byte_string, step_calls, IsBignum}
+use Rattle.sval_cbor_read.specs.SeenNodes.{byte_string, step_calls, IsBignum, AreWhole, AreBegin}
 use Rattle.sval_cbor_read.specs.SeenFrames.{frame_of}
 use Rattle.sval_cbor_read.specs.Steps.{ItemSteps, spot}
 use Rattle.sval_cbor_read.specs.SeenStops.{IsNumberTag, LacksNumber}
@@ -40,11 +40,11 @@ item_begin_calls item.Tag bytes move = []
 
 -- a call is made by the step there, or by the byte string of a number
 abbrev pub IsBegun : made_item.Item → List ℕ → Option Move → Type 0
-IsBegun item.Whole bytes move = 0 < length (step_calls move)
+IsBegun item.Whole bytes move = AreWhole (step_calls move)
 IsBegun (item.Big from) bytes move = IsBignum 2 (drop from bytes)
 IsBegun (item.NegativeBig from) bytes move = IsBignum 3 (drop from bytes)
-IsBegun (item.Container frame) bytes move = 0 < length (step_calls move)
-IsBegun (item.Pieces medium) bytes move = 0 < length (step_calls move)
+IsBegun (item.Container frame) bytes move = AreBegin (step_calls move)
+IsBegun (item.Pieces medium) bytes move = AreBegin (step_calls move)
 IsBegun item.Tag bytes move = ⊤
 
 -- something is kept of it

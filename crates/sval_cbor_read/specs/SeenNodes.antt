@@ -10,6 +10,7 @@ use Rattle.sval_cbor_read.specs.declared.node.Kind.TheVariants as kind
 use Rattle.sval_cbor_read.specs.declared.node.Node.{Node}
 use Rattle.sval_cbor_read.specs.declared.head.Head as made_head
 use Rattle.sval_cbor_read.specs.Items.{ItemHead, head, head_of, IsByteString}
+use Rattle.sval_cbor_read.specs.CborValues.{IsOneValue, OpensValue}
 use Rattle.sval_cbor_read.specs.Reading.{Move, moves, Ended, item_step, string_step, fragment_call, with_piece, fits, number_call}
 
 -- ---- places in the bytes
@@ -130,12 +131,20 @@ streamed_items bytes nodes = flat_map (node_calls bytes) nodes
 
 -- ---- what stands at the places
 
--- bytes with which such a node begins: it makes a call, and a number under a tag is one
+-- calls that are a whole item
+abbrev pub AreWhole : List Call → Type 0
+AreWhole made = (0 < length made) × IsOneValue made
+
+-- calls that begin a string, an array or a map
+abbrev pub AreBegin : List Call → Type 0
+AreBegin made = (0 < length made) × OpensValue made
+
+-- bytes with which such a node begins: it makes a call of its kind, and a number under a tag is one
 abbrev pub NodeBegins : made_kind.Kind → List ℕ → Type 0
-NodeBegins kind.Item bytes = 0 < length (step_calls (item_step bytes []))
+NodeBegins kind.Item bytes = AreWhole (step_calls (item_step bytes []))
 NodeBegins kind.Big bytes = IsBignum 2 bytes
 NodeBegins kind.NegativeBig bytes = IsBignum 3 bytes
-NodeBegins kind.Begin bytes = 0 < length (step_calls (item_step bytes []))
+NodeBegins kind.Begin bytes = AreBegin (step_calls (item_step bytes []))
 NodeBegins kind.TextPiece bytes = 0 < length (piece_calls 3 bytes)
 NodeBegins kind.BinaryPiece bytes = 0 < length (piece_calls 2 bytes)
 NodeBegins _ bytes = ⊤

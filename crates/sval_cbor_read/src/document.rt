@@ -5,8 +5,11 @@ ghost use Rattle.sval_cbor_read.specs.declared.document.CborReadError.TheVariant
 ghost use Rattle.sval_core.specs.Values.{makes};
 ghost use Rattle.sval_cbor_read.specs.ReadErrors.{IsReadItem, IsReadFront, IsCborReadError, IsCborFrontError};
 ghost use Rattle.sval_cbor_read.specs.Reading.{Ended, Reached};
-ghost use Rattle.sval_cbor_read.specs.SeenNodes.{streamed_items, NodesStand};
+ghost use Rattle.sval_cbor_read.specs.CborValues.{cbor_value_in};
+ghost use Rattle.sval_cbor_read.specs.SeenNodes.{streamed_items};
+ghost use Rattle.sval_cbor_read.specs.SeenFound.{AreOfItem};
 
+use crate::cbor_ref::CborRef;
 use crate::node::Node;
 use crate::node_calls::stream_nodes;
 use crate::reader::Reader;
@@ -73,13 +76,14 @@ pub struct CborDoc<'a> {
 impl<'a> Model for CborDoc<'a> {
     ghost use Rattle.std.specs.Prelude.{List};
     ghost use Rattle.sval_label.specs.Calls.{Call};
-    ghost use Rattle.sval_cbor_read.specs.SeenNodes.{streamed_items, NodesStand};
+    ghost use Rattle.sval_cbor_read.specs.SeenNodes.{streamed_items};
+    ghost use Rattle.sval_cbor_read.specs.SeenFound.{AreOfItem};
 
     ghost Value = { List Call };
 
     ghost view = { λ doc. streamed_items doc.bytes.now doc.nodes.items };
 
-    ghost invariant = { λ doc. NodesStand doc.bytes.now doc.nodes.items };
+    ghost invariant = { λ doc. AreOfItem doc.bytes.now doc.nodes.items };
 }
 
 impl<'a> CborDoc<'a> {
@@ -139,6 +143,19 @@ impl<'a> CborDoc<'a> {
         }
     }
 
+    /// The item of the document.
+    ///
+    /// ```
+    /// let doc = CborDoc::read(alloc, b"\xa1\x61a\x82\x01\x20".as_slice())?;
+    /// let numbers = doc.root().get("a");
+    /// assert_eq!(rt; numbers.and_then(|numbers| numbers.item(1)).and_then(|number| number.as_i64()), Some(-1));
+    /// ```
+    pub fn root(&self) -> CborRef<'_>
+        ensures { result ≡ cbor_value_in self.now }
+    {
+        CborRef::new(self.bytes, self.nodes.as_slice())
+    }
+
     /// How many nodes are kept of the bytes.
     pub(crate) fn node_count(&self) -> usize {
         self.nodes.len()
@@ -157,7 +174,7 @@ fn read_item(alloc: Global, bytes: &[u8]) -> Result<(Vec<Node>, usize), CborRead
     ensures front { IfOk result (λ read. IsReadFront bytes.now (streamed_items bytes.now read.0.items) read.1) }
     ensures ended { IfOk result
         (λ read. Reached bytes.now (Ended []) (drop read.1 bytes.now) (streamed_items bytes.now read.0.items)) }
-    ensures kept { IfOk result (λ read. NodesStand bytes.now read.0.items) }
+    ensures kept { IfOk result (λ read. AreOfItem bytes.now read.0.items) }
     ensures err { IfErr result (IsCborFrontError bytes.now) }
 {
     let mut reader = Reader::new(alloc);

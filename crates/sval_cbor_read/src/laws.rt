@@ -2,6 +2,7 @@
 
 ghost use Rattle.sval_program.specs.Jobs.{OneDue};
 ghost use Rattle.sval_cbor_read.specs.Laws.{ItemHasOneTree, ItemsAreReal, ItemsAreRefusedByKey, CborDocumentsSpell, ItemsAreRead, ReadIsItem, ReadInOneWay, ReadingEndsWell, ReadingStopsAtBadBytes, StepsStopAtOnePlace, LargeNumbersAreBadBytes, StepsComeNearer, HeadsAreRead, HeadsAreShortest, WrittenIsReadBack};
+ghost use Rattle.sval_cbor_read.specs.CborValues.{CborDocumentsMean};
 ghost use Rattle.sval_cbor_read.specs.Serves.{cbor_read_terms};
 
 /// What holds of all bytes.
@@ -25,6 +26,11 @@ pub fn reading_laws()
     ensures steps_stop_at_one_place { StepsStopAtOnePlace }
     ensures large_numbers_are_bad_bytes { LargeNumbersAreBadBytes }
     ensures steps_come_nearer { StepsComeNearer }
+{}
+
+/// What holds of the values that the calls of items are of.
+pub fn value_laws()
+    ensures documents_mean { CborDocumentsMean }
 {}
 
 /// What holds of all that is written.

@@ -99,7 +99,7 @@ fn stream_mark<L: Lending, S: Stream<L>>(first: u8, stream: &mut S) -> Result
 
 /// The bytes behind a head, as many as its number says.
 #[inline(always)]
-fn content_behind(bytes: &[u8], head: Head) -> &[u8]
+pub(crate) fn content_behind(bytes: &[u8], head: Head) -> &[u8]
     requires { head.next + head.number ≤ length bytes.now }
     ensures { result.now ≡ take head.number (drop head.next bytes.now) }
 {
@@ -209,7 +209,7 @@ fn stream_text_key<'v, S: Stream<Lent<'v>>>(bytes: &'v [u8], head: Head, stream:
 }
 
 /// The number under the tag 2 with the byte string at a place.
-fn big_at(bytes: &[u8], at: usize) -> u128
+pub(crate) fn big_at(bytes: &[u8], at: usize) -> u128
     requires { IsBignum 2 (drop at bytes.now) }
     ensures { call.Int call.U128 (pos result) ≡ number_call 2 (byte_string (drop at bytes.now)) }
 {
@@ -228,7 +228,7 @@ fn negative_of(n: u128) -> i128
 }
 
 /// The number n of the byte string under the tag 3 at a place. The item is -1 - n.
-fn negative_big_at(bytes: &[u8], at: usize) -> u128
+pub(crate) fn negative_big_at(bytes: &[u8], at: usize) -> u128
     requires { IsBignum 3 (drop at bytes.now) }
     ensures value { result ≡ big_endian (byte_string (drop at bytes.now)) }
     ensures small { result < 2 ^ 127 }
