@@ -3,5 +3,6 @@
 mod depth;
 mod items;
 mod malformed;
+mod parts;
 mod sinks;
 mod written;

@@ -1,0 +1,308 @@
+//! What is looked up in items of CBOR.
+
+use crate::cases::{Case, try_cases};
+use std::alloc::Global;
+use std::test::Fail;
+use sval_cbor_read::{CborDoc, CborRef};
+
+/// Bytes in hex, and behind `parts` what their item is taken for, item by item and pair by pair.
+struct Parts;
+
+impl Case for Parts {
+    fn seen(alloc: Global, input: &str, _due: &str) -> Result<String, Fail> {
+        let bytes = hex::decode(alloc, input.trim_end())?;
+        let doc = CborDoc::read(alloc, bytes.as_slice())?;
+        let mut seen = String::from_str(alloc, "parts ")?;
+        push_parts(alloc, &doc.root(), &mut seen)?;
+        Ok(seen)
+    }
+}
+
+/// Bytes in hex, and behind `get` what the last value in their map is taken for whose key is the text `a`.
+struct Named;
+
+impl Case for Named {
+    fn seen(alloc: Global, input: &str, _due: &str) -> Result<String, Fail> {
+        let bytes = hex::decode(alloc, input.trim_end())?;
+        let doc = CborDoc::read(alloc, bytes.as_slice())?;
+        let mut seen = String::from_str(alloc, "get ")?;
+        match doc.root().get("a") {
+            Some(value) => push_parts(alloc, &value, &mut seen)?,
+            None => seen.push_str("nothing")?,
+        }
+        Ok(seen)
+    }
+}
+
+/// Bytes in hex, and behind `item` what the item at index 1 of their array is taken for.
+struct Second;
+
+impl Case for Second {
+    fn seen(alloc: Global, input: &str, _due: &str) -> Result<String, Fail> {
+        let bytes = hex::decode(alloc, input.trim_end())?;
+        let doc = CborDoc::read(alloc, bytes.as_slice())?;
+        let mut seen = String::from_str(alloc, "item ")?;
+        match doc.root().item(1) {
+            Some(value) => push_parts(alloc, &value, &mut seen)?,
+            None => seen.push_str("nothing")?,
+        }
+        Ok(seen)
+    }
+}
+
+/// What an integer is as each of the four types.
+fn push_number(alloc: Global, value: &CborRef<'_>, seen: &mut String) -> Result<(), Fail> {
+    let short = value.as_i64();
+    let natural = value.as_u64();
+    let long = value.as_i128();
+    let large = value.as_u128();
+    let text = format!(in alloc; " {short:?} {natural:?} {long:?} {large:?}")?;
+    Ok(seen.push_str(text.as_str())?)
+}
+
+/// What an item is taken for: its kind, and what else is of that kind.
+fn push_one(alloc: Global, value: &CborRef<'_>, seen: &mut String) -> Result<(), Fail> {
+    let kind = value.kind();
+    seen.push_str(format!(in alloc; "{kind:?}")?.as_str())?;
+    if value.is_null() {
+        seen.push_str(" null")?;
+    }
+    if let Some(truth) = value.as_bool() {
+        seen.push_str(format!(in alloc; " {truth:?}")?.as_str())?;
+    }
+    if value.as_i128().is_some() || value.as_u128().is_some() {
+        push_number(alloc, value, seen)?;
+    }
+    if let Some(len) = value.len() {
+        seen.push_str(format!(in alloc; " {len}")?.as_str())?;
+    }
+    push_strings(alloc, value, seen)
+}
+
+/// A text and a byte string: what one chunk of it holds, and its chunks.
+fn push_strings(alloc: Global, value: &CborRef<'_>, seen: &mut String) -> Result<(), Fail> {
+    if let Some(text) = value.text() {
+        let lent = value.as_str();
+        let copied = text.to_text(alloc)?;
+        let is_copied = text.is(copied.as_str());
+        seen.push_str(format!(in alloc; " {lent:?} {copied:?} {is_copied:?}")?.as_str())?;
+        let mut left = text;
+        while let Some(chunk) = left.next() {
+            seen.push_str(format!(in alloc; " {chunk:?}")?.as_str())?;
+        }
+    }
+    if let Some(content) = value.bytes() {
+        let lent = value.as_bytes();
+        seen.push_str(format!(in alloc; " {lent:?}")?.as_str())?;
+        let mut left = content;
+        while let Some(slice) = left.next() {
+            seen.push_str(format!(in alloc; " {slice:?}")?.as_str())?;
+        }
+    }
+    Ok(())
+}
+
+/// What an item, and each item directly in it, is taken for.
+fn push_parts(alloc: Global, value: &CborRef<'_>, seen: &mut String) -> Result<(), Fail> {
+    push_one(alloc, value, seen)?;
+    if let Some(items) = value.items() {
+        let mut left = items;
+        while let Some(item) = left.next() {
+            seen.push_str("; ")?;
+            push_one(alloc, &item, seen)?;
+        }
+    }
+    if let Some(entries) = value.entries() {
+        let mut left = entries;
+        while let Some(entry) = left.next() {
+            seen.push_str("; ")?;
+            push_one(alloc, &entry.key, seen)?;
+            seen.push_str(": ")?;
+            push_one(alloc, &entry.value, seen)?;
+        }
+    }
+    Ok(())
+}
+
+/// Items of each kind. Integers are those of RFC 8949, appendix A, and at the ends of the types.
+const PARTS: &'static str = r#"
+f6
+= parts Null null
+f4
+= parts Bool false
+f5
+= parts Bool true
+c1f5
+= parts Bool true
+00
+= parts Int Some(0) Some(0) Some(0) Some(0)
+1903e8
+= parts Int Some(1000) Some(1000) Some(1000) Some(1000)
+20
+= parts Int Some(-1) None Some(-1) None
+1b7fffffffffffffff
+= parts Int Some(9223372036854775807) Some(9223372036854775807) Some(9223372036854775807) Some(9223372036854775807)
+1b8000000000000000
+= parts Int None Some(9223372036854775808) Some(9223372036854775808) Some(9223372036854775808)
+1bffffffffffffffff
+= parts Int None Some(18446744073709551615) Some(18446744073709551615) Some(18446744073709551615)
+3b7fffffffffffffff
+= parts Int Some(-9223372036854775808) None Some(-9223372036854775808) None
+3b8000000000000000
+= parts Int None None Some(-9223372036854775809) None
+3bffffffffffffffff
+= parts Int None None Some(-18446744073709551616) None
+c249010000000000000000
+= parts Int None None Some(18446744073709551616) Some(18446744073709551616)
+c349010000000000000000
+= parts Int None None Some(-18446744073709551617) None
+c24107
+= parts Int Some(7) Some(7) Some(7) Some(7)
+c25f4101420203ff
+= parts Int Some(66051) Some(66051) Some(66051) Some(66051)
+c2507fffffffffffffffffffffffffffffff
+= parts Int None None Some(170141183460469231731687303715884105727) Some(170141183460469231731687303715884105727)
+c25080000000000000000000000000000000
+= parts Int None None None Some(170141183460469231731687303715884105728)
+c250ffffffffffffffffffffffffffffffff
+= parts Int None None None Some(340282366920938463463374607431768211455)
+c3507fffffffffffffffffffffffffffffff
+= parts Int None None Some(-170141183460469231731687303715884105728) None
+60
+= parts Text Some("") "" true ""
+626162
+= parts Text Some("ab") "ab" true "ab"
+7fff
+= parts Text None "" true
+7f626162ff
+= parts Text Some("ab") "ab" true "ab"
+7f616160626263ff
+= parts Text None "abc" true "a" "" "bc"
+40
+= parts Bytes Some([]) []
+43010203
+= parts Bytes Some([1, 2, 3]) [1, 2, 3]
+5fff
+= parts Bytes None
+5f41014102ff
+= parts Bytes None [1] [2]
+5f420102ff
+= parts Bytes Some([1, 2]) [1, 2]
+80
+= parts Array 0
+9fff
+= parts Array 0
+a0
+= parts Map 0
+bfff
+= parts Map 0
+8301820203f6
+= parts Array 3; Int Some(1) Some(1) Some(1) Some(1); Array 2; Null null
+9f9f7f6161ffff5f4101ffa1f6f480ff
+= parts Array 4; Array 1; Bytes Some([1]) [1]; Map 1; Array 0
+a3616180f681f680f4
+= parts Map 3; Text Some("a") "a" true "a": Array 0; Null null: Array 1; Array 0: Bool false
+bf7f61616162ffbf00f5ff6161a16161f6ff
+= parts Map 2; Text None "ab" true "a" "b": Map 1; Text Some("a") "a" true "a": Map 1
+c1a1c16161c1820102
+= parts Map 1; Text Some("a") "a" true "a": Array 2
+"#;
+
+/// Maps, and their values of the name `a`: of equal names the last, names in chunks and behind tags, and keys that are
+/// no texts.
+const NAMED: &'static str = r#"
+f6
+= get nothing
+826161f6
+= get nothing
+a0
+= get nothing
+a16162f5
+= get nothing
+a16161f5
+= get Bool true
+a3616101616102616203
+= get Int Some(2) Some(2) Some(2) Some(2)
+bf7f6161ff0161620260f4ff
+= get Int Some(1) Some(1) Some(1) Some(1)
+a261610a7f606161ff80
+= get Array 0
+a26161017f616160ff02
+= get Int Some(2) Some(2) Some(2) Some(2)
+a24161f50af5
+= get nothing
+a1c16161c1f6
+= get Null null
+a281616101a1616102f5
+= get nothing
+a2a16161028080826161f5
+= get nothing
+a1616182a1616102f5
+= get Array 2; Map 1; Bool true
+a161627f6161ff
+= get nothing
+a162616101
+= get nothing
+"#;
+
+/// Arrays, and their items at index 1: behind strings, arrays and maps of both lengths.
+const SECOND: &'static str = r#"
+f5
+= item nothing
+80
+= item nothing
+81f5
+= item nothing
+82f4f5
+= item Bool true
+828201820203f5
+= item Bool true
+9f9f9f9fffff80fff5f4ff
+= item Bool true
+82bf00a1019fff02a0fff5
+= item Bool true
+827f61616162fff5
+= item Bool true
+825f41014102ff5f4101ff
+= item Bytes Some([1]) [1]
+82c24107c34107
+= item Int Some(-8) None Some(-8) None
+a200f401f5
+= item nothing
+"#;
+
+#[test]
+fn parts(rt: HostRuntime) -> Result<(), Fail> {
+    try_cases::<Parts>(&rt, rt.alloc(), PARTS)
+}
+
+#[test]
+fn values_by_name(rt: HostRuntime) -> Result<(), Fail> {
+    try_cases::<Named>(&rt, rt.alloc(), NAMED)
+}
+
+#[test]
+fn items_at_1(rt: HostRuntime) -> Result<(), Fail> {
+    try_cases::<Second>(&rt, rt.alloc(), SECOND)
+}
+
+/// 100,000 items, each an array of one byte string, and the last of them.
+#[test]
+fn many_items(rt: HostRuntime) -> Result<(), Fail> {
+    let alloc = rt.alloc();
+    let mut bytes = Vec::from_slice(alloc, b"\x9a\x00\x01\x86\xa0".as_slice())?;
+    for index in 0..100_000u32 {
+        bytes.extend_from_slice(b"\x81\x41".as_slice())?;
+        bytes.push((index % 251) as u8)?;
+    }
+    let doc = CborDoc::read(alloc, bytes.as_slice())?;
+    let root = doc.root();
+    assert_eq!(rt; root.len(), Some(100_000));
+    assert!(rt; root.item(100_000).is_none());
+    let last = root
+        .item(99_999)
+        .and_then(|item| item.item(0))
+        .and_then(|item| item.as_bytes());
+    assert_eq!(rt; last, Some(b"\x65".as_slice()));
+    Ok(())
+}
