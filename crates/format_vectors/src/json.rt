@@ -3,3 +3,4 @@
 mod depth;
 mod documents;
 mod lookups;
+mod parts;

@@ -136,6 +136,11 @@ pub record WithinObject (bytes : List ℕ) (nodes : List Node) (inner : List Nod
   pub are : AreOfMembers bytes inner
   pub is : value_in (tokens_in bytes (map seen_node nodes)) ≡ json.Object (members_in (tokens_in bytes (map seen_node inner)))
 
+-- the tokens of the nodes within stand between a begin and its end
+pub record StandsBetween (bytes : List ℕ) (nodes inner : List Node) (begin end : Token) : Type 0 where
+  pub place : Place
+  pub same : tokens_in bytes (map seen_node nodes) ≡ placed_at place begin ∷ (tokens_in bytes (map seen_node inner) ++ (placed_at place end ∷ []))
+
 module _ (bytes : List ℕ) (nodes : List Node) (a : AreOfValue bytes nodes) where
   abbrev pub inner : List Node
   inner = take (length nodes - 1 - 1) (drop 1 nodes)
@@ -184,3 +189,15 @@ module _ (bytes : List ℕ) (nodes : List Node) (a : AreOfValue bytes nodes) whe
         are = record { kept = kept_front bytes (length nodes - 1 - 1) (drop 1 nodes) (kept_behind bytes 1 nodes a.kept); members = parts.members; are_of = are_of };
         is = value-seen a.is_of ∙ parts.is ∙ ap json.Object (sym (members-seen are_of));
       }
+
+  pub array_tokens : (p : made_place.Place) → get_or nodes 0 (node.Null place.Alone) ≡ node.BeginArray p → 0 < length nodes → StandsBetween bytes nodes inner token.BeginArray token.EndArray
+  array_tokens p e l =
+      let parts = array_of a.is_of (first_is begins_array token.BeginArray (node.BeginArray p) e l tt) in
+      let t = inner_tokens _ _ parts.mid parts.same in
+      record { place = parts.place; same = parts.same ∙ ap (λ mid. placed_at parts.place token.BeginArray ∷ (mid ++ (placed_at parts.place token.EndArray ∷ []))) (sym t) }
+
+  pub object_tokens : (p : made_place.Place) → get_or nodes 0 (node.Null place.Alone) ≡ node.BeginObject p → 0 < length nodes → StandsBetween bytes nodes inner token.BeginObject token.EndObject
+  object_tokens p e l =
+      let parts = object_of a.is_of (first_is begins_object token.BeginObject (node.BeginObject p) e l tt) in
+      let t = inner_tokens _ _ parts.mid parts.same in
+      record { place = parts.place; same = parts.same ∙ ap (λ mid. placed_at parts.place token.BeginObject ∷ (mid ++ (placed_at parts.place token.EndObject ∷ []))) (sym t) }

@@ -41,3 +41,6 @@ mod SameTexts
 mod ParsedNaturals
 mod PartCounts
 mod Pointers
+mod Parts
+mod PartCalls
+mod ProperParts

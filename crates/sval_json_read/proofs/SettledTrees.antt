@@ -166,14 +166,22 @@ mutual
   pairs_mean no_members p = no_more_pairs
   pairs_mean (a_member text v row) p = one_pair plain_key (means v p.1) (pairs_mean row p.2)
 
+-- ---- of a proper value
+
+pub proper-real : (v : JsonValue) → IsProper v → IsReal (tree_of v) × KeepsPromises (tree_of v)
+proper-real v p = ((good v, in_range v p), promises v)
+
+pub proper-settles : (v : JsonValue) → IsProper v → (j : Json) × (json_of (tree_of v) ≡ Ok j) × IsTheValueOf j (settled v)
+proper-settles v p =
+    let r = proper-real v p in
+    let e = shaped v p in
+    let t = text_means Inside (tree_of v) (written v) r.0 r.1 e in
+    (written v, e, subst (λ x. IsTheValueOf (written v) x) (t.1.means_only (settled v) (means v p)) t.1)
+
 -- ---- of a value that some bytes denote
 
 pub denoted-real : {bytes : List ℕ} {v : JsonValue} → Denotes bytes v → IsReal (tree_of v) × KeepsPromises (tree_of v)
-denoted-real {v = v} d = ((good v, in_range v (denoted-proper d)), promises v)
+denoted-real {v = v} d = proper-real v (denoted-proper d)
 
 pub denoted-settles : {bytes : List ℕ} {v : JsonValue} → Denotes bytes v → (j : Json) × (json_of (tree_of v) ≡ Ok j) × IsTheValueOf j (settled v)
-denoted-settles {v = v} d =
-    let r = denoted-real d in
-    let e = shaped v (denoted-proper d) in
-    let t = text_means Inside (tree_of v) (written v) r.0 r.1 e in
-    (written v, e, subst (λ x. IsTheValueOf (written v) x) (t.1.means_only (settled v) (means v (denoted-proper d))) t.1)
+denoted-settles {v = v} d = proper-settles v (denoted-proper d)

@@ -177,8 +177,12 @@ mutual
   pairs_say (more_members {value = value} {members = row} k c v e vs) more =
       next_pair k (tree_of value) (entries_of row) (tokens_of Value v) (pair_tokens vs) more (value_says Value v (document_calls (pair_tokens vs) ++ more)) (pairs_say vs more)
 
--- the calls of a text that denotes a value spell its tree
+-- the calls of a value by itself spell its tree
+pub value-spells : {bytes rest : List ℕ} {v : JsonValue} (d : IsValue bytes v rest) → Spells (document_calls (tokens_of Alone d)) (tree_of v)
+value-spells {v = v} d =
+    let s = value_says Alone d [] in
+    (good v, subst (λ x. Says (tree_of v) (plain x) []) (sym s.begin ∙ append-nil (document_calls (tokens_of Alone d))) s.says)
+
+-- and so do those of a text that denotes it
 pub document-spells : {bytes : List ℕ} {v : JsonValue} (d : Denotes bytes v) → Spells (document_calls (tokens_of Alone d.is_value)) (tree_of v)
-document-spells {v = v} d =
-    let s = value_says Alone d.is_value [] in
-    (good v, subst (λ x. Says (tree_of v) (plain x) []) (sym s.begin ∙ append-nil (document_calls (tokens_of Alone d.is_value))) s.says)
+document-spells d = value-spells d.is_value

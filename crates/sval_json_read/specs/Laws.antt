@@ -12,6 +12,7 @@ use Rattle.sval_json.specs.Laws.{IsTheValueOf}
 use Rattle.sval_json_read.specs.Trees.{tree_of, settled}
 use Rattle.sval_json_read.specs.Tokens.{Placed, between_quotes}
 use Rattle.sval_json_read.specs.Documents.{IsDocument, IsBadJson}
+use Rattle.sval_json_read.specs.Pointers.{pointed}
 use Rattle.sval_json_read.specs.Calls.{Piece, run, escape, piece_bytes, pieces, document_calls}
 use Rattle.sval_json_read.specs.RawStrings.{AreProperTokens}
 use Rattle.sval_json_read.specs.Nodes.{Node, tokens_in, streamed}
@@ -28,6 +29,16 @@ TreesArePrintable = (bytes : List ℕ) (value : JsonValue) → length bytes < 2 
 -- what is written of that tree denotes the settled value, and no other
 abbrev pub WrittenAgainSettles : Type 0
 WrittenAgainSettles = (bytes : List ℕ) (value : JsonValue) → Denotes bytes value → (json : Json) × (json_of (tree_of value) ≡ Ok json) × IsTheValueOf json (settled value)
+
+-- so is the tree of what a pointer references in such a value
+abbrev pub ReferencedAreReal : Type 0
+ReferencedAreReal = (bytes pointer : List ℕ) (value part : JsonValue) → Denotes bytes value → pointed pointer value ≡ Some part → IsReal (tree_of part) × KeepsPromises (tree_of part)
+
+-- and what is written of that denotes it settled, and no other value
+abbrev pub ReferencedSettles : Type 0
+ReferencedSettles =
+    (bytes pointer : List ℕ) (value part : JsonValue) → Denotes bytes value → pointed pointer value ≡ Some part
+    → (json : Json) × (json_of (tree_of part) ≡ Ok json) × IsTheValueOf json (settled part)
 
 -- the pieces of a string's bytes are its text
 abbrev pub PiecesAreTheText : Type 0

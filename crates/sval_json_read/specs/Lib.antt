@@ -25,3 +25,4 @@ pub mod SeenParts
 pub mod Pointers
 pub mod ValueCodes
 pub mod KeptDocuments
+pub mod Parts

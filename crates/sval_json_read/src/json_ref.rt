@@ -1,13 +1,18 @@
 //! Values of a document.
 
 ghost use Rattle.std.specs.Prelude.{◌≡◌, ◌≤◌, ◌-◌, map, option_map, length, take, drop, IfSome, true};
+ghost use Rattle.sval_core.specs.Spells.{Spells};
 ghost use Rattle.sval_json.specs.Digits.{is_json_number};
+ghost use Rattle.sval_json_read.specs.Calls.{document_calls};
 ghost use Rattle.sval_json_read.specs.Nodes.{tokens_in};
+ghost use Rattle.sval_json_read.specs.Parts.{IsPart};
 ghost use Rattle.sval_json_read.specs.SeenNodes.{seen_node};
 ghost use Rattle.sval_json_read.specs.SeenValues.{value_in};
+ghost use Rattle.sval_json_read.specs.Trees.{tree_of};
 ghost use Rattle.sval_json_read.specs.ValueNodes.{AreOfValue};
 ghost use Rattle.sval_json_read.specs.Lookups.{json_kind_of, is_null, json_truth_of, json_number_of, i64_of, u64_of, i128_of, u128_of, json_text_of, items_of, item_at, members_of, member_of, len_of};
 
+use crate::json_part::JsonPart;
 use crate::json_parts::{JsonItems, JsonMembers};
 use crate::json_text::JsonText;
 use crate::node::Node;
@@ -69,6 +74,22 @@ impl<'d> JsonRef<'d> {
         ensures { result ≡ self.now }
     {
         JsonRef::new(self.text, self.nodes)
+    }
+
+    /// The value as one that any stream takes, as if it were the whole document. It takes no memory.
+    ///
+    /// ```
+    /// let doc = JsonDoc::read_str(alloc, "{\"tags\": [\"a\", {\"b\": 1.50}]}")?;
+    /// if let Some(tag) = doc.root().pointer("/tags/1") {
+    ///     assert_eq!(rt; stream_to_vec(alloc, &tag.part())?.as_slice(), b"{\"b\":1.50}".as_slice());
+    /// }
+    /// ```
+    pub fn part(&self) -> JsonPart<'d>
+        ensures part { IsPart result self.now }
+        ensures value { value_in result ≡ self.now }
+        ensures spells { Spells (document_calls result) (tree_of self.now) }
+    {
+        JsonPart::new(self.text, self.nodes)
     }
 
     /// Which of the six it is.
@@ -276,7 +297,7 @@ impl<'d> Clone for JsonRef<'d> {
 }
 
 /// The nodes between the first and the last.
-fn between_ends(nodes: &[Node]) -> &[Node]
+pub(crate) fn between_ends(nodes: &[Node]) -> &[Node]
     requires { 2 ≤ length nodes.now }
     ensures { result.now ≡ take (length nodes.now - 1 - 1) (drop 1 nodes.now) }
 {

@@ -13,6 +13,7 @@
 
 mod document;
 mod escape;
+mod json_part;
 mod json_parts;
 mod json_ref;
 mod json_text;
@@ -34,6 +35,7 @@ mod string_calls;
 mod word;
 
 pub use document::{JsonDoc, ReadError};
+pub use json_part::JsonPart;
 pub use json_parts::{JsonItems, JsonMember, JsonMembers};
 pub use json_ref::{JsonKind, JsonRef};
 pub use json_text::JsonText;

@@ -60,7 +60,7 @@ impl Node {
     }
 
     /// Makes the node's own calls, from the text of the document.
-    fn make<'v, S: Stream<Lent<'v>>>(self, text: &'v str, stream: &mut S) -> Result
+    pub(crate) fn make<'v, S: Stream<Lent<'v>>>(self, text: &'v str, stream: &mut S) -> Result
         requires { IsKeptOf text.now self }
         ensures { Emits S.law result (S.standing stream.old)
             (makes (token_own_calls (token_in text.now (seen_node self).kept))) (S.standing stream.new) }

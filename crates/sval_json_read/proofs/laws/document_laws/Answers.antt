@@ -1,6 +1,7 @@
 use Rattle.sval_json_read.proofs.laws.document_laws.Goals as goal
 use Rattle.sval_json_read.proofs.SettledTrees.{denoted-real, denoted-settles}
 use Rattle.sval_json_read.proofs.WritableTrees.{denoted-printable}
+use Rattle.sval_json_read.proofs.ProperParts.{pointed-real, pointed-settles}
 use Rattle.sval_json_read.proofs.PieceTexts.{pieces-text}
 use Rattle.sval_json_read.proofs.KeptNodes.{streamed-calls, streamed-spells}
 use Rattle.sval_json_read.proofs.RawStrings.{document-tokens}
@@ -14,6 +15,12 @@ returns-clause-trees_are_printable c = λ bytes value l d. denoted-printable l d
 
 pub returns-clause-written_again_settles : goal.returns-clause-written_again_settles
 returns-clause-written_again_settles c = λ bytes value d. denoted-settles d
+
+pub returns-clause-referenced_are_real : goal.returns-clause-referenced_are_real
+returns-clause-referenced_are_real c = pointed-real
+
+pub returns-clause-referenced_settles : goal.returns-clause-referenced_settles
+returns-clause-referenced_settles c = pointed-settles
 
 pub returns-clause-pieces_are_the_text : goal.returns-clause-pieces_are_the_text
 returns-clause-pieces_are_the_text c = λ bytes text rest s. pieces-text s

@@ -1,0 +1,152 @@
+//! Values of a document, taken by themselves: what is written of one, and the calls that it makes.
+
+use crate::cases::{Case, try_cases};
+use std::alloc::Global;
+use std::test::Fail;
+use sval_check::TokenBuf;
+use sval_json::stream_to_string;
+use sval_json_read::JsonDoc;
+use sval_ref::stream_ref;
+
+/// A line that is a document, a pointer (RFC 6901), and behind `json` what is written of the value that the pointer
+/// references in it.
+struct Written;
+
+impl Case for Written {
+    fn seen(alloc: Global, input: &str, _due: &str) -> Result<String, Fail> {
+        let (document, pointer) = input.split_once('\n').unwrap_or((input, ""));
+        let doc = JsonDoc::read_str(alloc, document)?;
+        match doc.root().pointer(pointer) {
+            Some(value) => Ok(format!(in alloc; "json {}", stream_to_string(alloc, &value.part())?)?),
+            None => Ok(String::from_str(alloc, "nothing")?),
+        }
+    }
+}
+
+/// A document and a pointer likewise, and behind `calls` the calls of the value that the pointer references.
+struct Calls;
+
+impl Case for Calls {
+    fn seen(alloc: Global, input: &str, _due: &str) -> Result<String, Fail> {
+        let (document, pointer) = input.split_once('\n').unwrap_or((input, ""));
+        let doc = JsonDoc::read_str(alloc, document)?;
+        let mut calls = TokenBuf::new(alloc);
+        if let Some(value) = doc.root().pointer(pointer) {
+            stream_ref(&mut calls, &value.part())?;
+        }
+        let tokens = calls.as_tokens();
+        let seen = format!(in alloc; "calls {tokens:?}")?;
+        Ok(seen)
+    }
+}
+
+/// The whole, items and members, and what is within those.
+const WRITTEN: &'static str = r#"
+ null 
+␄
+= json null
+-0
+␄
+= json 0
+"a\u0062\"\ud834\udd1e"
+␄
+= json "ab\"𝄞"
+[ ]
+␄
+= json []
+{ }
+␄
+= json {}
+[1, {"a" : [2]}]
+␄
+= json [1,{"a":[2]}]
+[null, 1]
+/0␄
+= json null
+[null, true]
+/1␄
+= json true
+[null, true, false, 1]
+/2␄
+= json false
+[1.50e+3]
+/0␄
+= json 1.50e+3
+[18446744073709551616]
+/0␄
+= json 18446744073709551616
+["", "a\tb", "c"]
+/1␄
+= json "a\tb"
+["", "a\tb", "c"]
+/0␄
+= json ""
+[[], 1]
+/0␄
+= json []
+[[], {}, 2]
+/1␄
+= json {}
+[[1], [2, [3], {"a": 4}], [5]]
+/1␄
+= json [2,[3],{"a":4}]
+[[1], [2, [3], {"a": 4}], [5]]
+/1/1␄
+= json [3]
+[[1], [2, [3], {"a": 4}], [5]]
+/1/2␄
+= json {"a":4}
+[[1], [2, [3], {"a": 4}], [5]]
+/1/2/a␄
+= json 4
+{"a": "\u0061\\", "b": 1}
+/a␄
+= json "a\\"
+{"a": 1, "b": {"a": [2, {}], "c": {"b": []}}, "d": 3}
+/b␄
+= json {"a":[2,{}],"c":{"b":[]}}
+{"a": 1, "b": {"a": [2, {}], "c": {"b": []}}, "d": 3}
+/b/c␄
+= json {"b":[]}
+{"a": 1, "b": {"a": [2, {}], "c": {"b": []}}, "d": 3}
+/b/c/b␄
+= json []
+{"a": 1, "b": {"a": [2, {}], "c": {"b": []}}, "d": 3}
+/b/a/1␄
+= json {}
+{"a": 1, "a": {"x": 1, "\u0078": 2}}
+/a␄
+= json {"x":1,"x":2}
+{"a/b": {"m~n": [8]}}
+/a~1b/m~0n␄
+= json [8]
+[0]
+/1␄
+= nothing
+"#;
+
+/// Of a string with an escape, its runs are lent. No call tells of the array or object around the value.
+const CALLS: &'static str = r#"
+[0, "a\nb"]
+/1␄
+= calls [TextBegin(None), TextFragment("a"), TextFragmentComputed("\n"), TextFragment("b"), TextEnd]
+{"a": null}
+/a␄
+= calls [Null]
+{"a": [true]}
+/a␄
+= calls [SeqBegin(None), SeqValueBegin, Bool(true), SeqValueEnd, SeqEnd]
+[{"b": 7}]
+/0␄
+= calls [MapBegin(None), MapKeyBegin, TextBegin(None), TextFragment("b"), TextEnd, MapKeyEnd, MapValueBegin, I64(7), MapValueEnd, MapEnd]
+"#;
+
+#[test]
+fn what_is_written_of_a_part(rt: HostRuntime) -> Result<(), Fail> {
+    try_cases::<Written>(&rt, rt.alloc(), WRITTEN)
+}
+
+#[test]
+fn the_calls_of_a_part(rt: HostRuntime) -> Result<(), Fail> {
+    try_cases::<Calls>(&rt, rt.alloc(), CALLS)
+}
