@@ -1,5 +1,5 @@
 -- The calls of a value taken by itself, in the order in which the code makes them.
-use Rattle.std.specs.Prelude.{◌≡◌, ℕ, ◌-◌, ◌<◌, List, [], ◌∷◌, ◌++◌, map, length, take, drop, get_or, None, Result, Ok, Err, refl, ⊤}
+use Rattle.std.specs.Prelude.{◌≡◌, ℕ, ◌-◌, List, [], ◌∷◌, ◌++◌, map, length, take, drop, get_or, None, Result, Ok, Err, refl, ⊤}
 use Rattle.std.proofs.Common.{sym, ap, subst, ◌∙◌, arith, append-nil}
 use Rattle.std.proofs.lemmas.Grind.{flat_map-append}
 use Rattle.sval_label.specs.declared.error.Error.{Error}

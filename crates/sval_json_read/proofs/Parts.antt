@@ -1,14 +1,12 @@
 -- The tokens of a value taken by itself, and its calls.
-use Rattle.std.specs.Prelude.{◌≡◌, ℕ, List, [], ◌∷◌, ◌++◌, map, None, get_or, take, drop, length, ◌-◌, ◌<◌, refl}
-use Rattle.std.proofs.Common.{sym, ap, subst, ◌∙◌, append-nil}
-use Rattle.std.proofs.lemmas.Grind.{flat_map-append}
-use Rattle.sval_label.specs.Calls.{Call, Head}
+use Rattle.std.specs.Prelude.{◌≡◌, ℕ, List, [], ◌∷◌, ◌++◌, refl}
+use Rattle.std.proofs.Common.{sym, ap, subst, ◌∙◌}
 use Rattle.sval_core.specs.Spells.{Spells}
 use Rattle.sval_json.specs.Grammar.{JsonValue, IsValue, null, truth, falsehood, number, string, empty_array, array, empty_object, object}
 use Rattle.sval_json_read.specs.Trees.{tree_of}
 use Rattle.sval_json_read.specs.Tokens as token
 use Rattle.sval_json_read.specs.Tokens.{Place, Alone, Item, Value, Token, Placed, placed_at, between_quotes, tokens_of, item_tokens, pair_tokens}
-use Rattle.sval_json_read.specs.Calls.{placed_token_calls, document_calls}
+use Rattle.sval_json_read.specs.Calls.{document_calls}
 use Rattle.sval_json_read.specs.Parts.{last_alone, by_itself, IsPart}
 use Rattle.sval_json_read.specs.SeenValues.{value_in}
 use Rattle.sval_json_read.specs.ValueNodes.{IsOfValue, alone, item, of_pair}

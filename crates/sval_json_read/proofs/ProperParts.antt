@@ -11,7 +11,7 @@ use Rattle.sval_json.specs.Grammar.{JsonValue, Values, no_values, a_value, Membe
 use Rattle.sval_json.specs.Promises.{KeepsPromises}
 use Rattle.sval_json.specs.Laws.{IsTheValueOf}
 use Rattle.sval_json_read.specs.Trees.{tree_of, settled}
-use Rattle.sval_json_read.specs.Lookups.{Member, values_listed, paired}
+use Rattle.sval_json_read.specs.Lookups.{values_listed, paired}
 use Rattle.sval_json_read.specs.Pointers.{reference_token, last_referenced, array_index, referenced, evaluated, pointed}
 use Rattle.sval_json_read.proofs.Utf8Texts.{IsProper, AreProper, PairsAreProper, denoted-proper}
 use Rattle.sval_json_read.proofs.SettledTrees.{proper-real, proper-settles}

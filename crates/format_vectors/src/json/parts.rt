@@ -17,7 +17,10 @@ impl Case for Written {
         let (document, pointer) = input.split_once('\n').unwrap_or((input, ""));
         let doc = JsonDoc::read_str(alloc, document)?;
         match doc.root().pointer(pointer) {
-            Some(value) => Ok(format!(in alloc; "json {}", stream_to_string(alloc, &value.part())?)?),
+            Some(value) => Ok(format!(in alloc;
+                "json {}",
+                stream_to_string(alloc, &value.part())?
+            )?),
             None => Ok(String::from_str(alloc, "nothing")?),
         }
     }
