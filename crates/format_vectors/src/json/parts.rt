@@ -132,7 +132,7 @@ const WRITTEN: &'static str = r#"
 const CALLS: &'static str = r#"
 [0, "a\nb"]
 /1␄
-= calls [TextBegin(None), TextFragment("a"), TextFragmentComputed("\n"), TextFragment("b"), TextEnd]
+= calls [TextBegin(None), TextFragment("a"), TextFragmentComputed(TokenText { text: "\n" }), TextFragment("b"), TextEnd]
 {"a": null}
 /a␄
 = calls [Null]
