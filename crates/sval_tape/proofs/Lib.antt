@@ -6,5 +6,6 @@ pub mod Names
 pub mod CallsRead
 pub mod BadPlaces
 pub mod TapeStreams
+pub mod Streamed
 pub mod Forms
 pub mod TextsRead

@@ -26,13 +26,13 @@ pub record IsReadUpTo (bytes rest : List ℕ) : Type 0 where
 pub read_nothing : (bytes : List ℕ) → IsBytes bytes → IsReadUpTo bytes bytes
 read_nothing bytes fits = record { calls = []; taped = tt; parts = ap (λ (w : List ℕ). w ++ bytes) (sym tape-nil); fits = fits }
 
-tape-append : (calls : List Call) (call : Call) → tape_of (calls ++ (call ∷ [])) ≡ tape_of calls ++ call_bytes call
+pub tape-append : (calls : List Call) (call : Call) → tape_of (calls ++ (call ∷ [])) ≡ tape_of calls ++ call_bytes call
 tape-append [] call = tape-cons call [] ∙ ap (λ (w : List ℕ). call_bytes call ++ w) tape-nil ∙ append-nil (call_bytes call) ∙ ap (λ (w : List ℕ). w ++ call_bytes call) (sym tape-nil)
 tape-append (first ∷ calls) call =
     tape-cons first (calls ++ (call ∷ [])) ∙ ap (λ (w : List ℕ). call_bytes first ++ w) (tape-append calls call)
     ∙ sym (append_assoc (call_bytes first) (tape_of calls) (call_bytes call)) ∙ ap (λ (w : List ℕ). w ++ call_bytes call) (sym (tape-cons first calls))
 
-all_append : (calls : List Call) (call : Call) → AllByRecursion IsTapedCall calls → IsTapedCall call → AllByRecursion IsTapedCall (calls ++ (call ∷ []))
+pub all_append : (calls : List Call) (call : Call) → AllByRecursion IsTapedCall calls → IsTapedCall call → AllByRecursion IsTapedCall (calls ++ (call ∷ []))
 all_append [] call all one = (one, tt)
 all_append (first ∷ calls) call all one = (all.0, all_append calls call all.1 one)
 

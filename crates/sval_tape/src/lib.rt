@@ -2,7 +2,7 @@
 //!
 //! A tape is the bytes of calls, one after another. A [`TapeWriter`] is a stream that writes each call, and
 //! [`Tape::read`] reads them: a [`Tape`] is a value, which makes the calls again and lends their texts from the bytes.
-//! Each list of calls has one tape. [`laws`] has what holds of tapes.
+//! [`stream_tape`] reads and makes the calls in one pass. Each list of calls has one tape. [`laws`] has what holds of tapes.
 //!
 //! # Format
 //!
@@ -57,10 +57,12 @@ mod numbers;
 mod operands;
 mod read_call;
 mod reading;
+mod streaming;
 mod tape;
 #[cfg(test)]
 mod tests;
 mod writer;
 
+pub use streaming::stream_tape;
 pub use tape::{Tape, TapeError};
 pub use writer::TapeWriter;
