@@ -75,6 +75,17 @@ static sval_report check(const uint8_t *bytes, size_t length, uint8_t *unused, s
     return sval_json_check(bytes, length);
 }
 
+static sval_report filter(const uint8_t *bytes, size_t length, uint8_t *to, size_t room)
+{
+    static const char paths[] = "a\nkey.a\nx.y.z\n";
+    return sval_json_filter(bytes, length, SVAL_DROP, (const uint8_t *)paths, sizeof paths - 1, to, room);
+}
+
+static sval_report tape_pretty(const uint8_t *tape, size_t length, uint8_t *to, size_t room)
+{
+    return sval_tape_to_json(tape, length, SVAL_PRETTY, to, room);
+}
+
 int main(void)
 {
     static const char part[] = "{\"key\":[1,\"text\",{\"a\":null,\"b\":[true,-12345678901234567890]}]},";
@@ -91,6 +102,7 @@ int main(void)
     long compact = failures_of(sval_json_compact, length);
     long pretty = failures_of(sval_json_pretty, length);
     long to_cbor = failures_of(sval_json_to_cbor, length);
+    long filtered = failures_of(filter, length);
     sval_report cbor = sval_json_to_cbor(input, length, out, sizeof out);
     memcpy(input, out, cbor.written);
     memcpy(out, before, sizeof out);
@@ -105,7 +117,21 @@ int main(void)
     }
     memcpy(input + length, "seq_end\n", 8);
     long script = failures_of(sval_script_to_json, length + 8);
-    printf("c: allocations of check %ld, compact %ld, pretty %ld, to_cbor %ld, from_cbor %ld, script_to_json %ld\n", checked,
-           compact, pretty, to_cbor, from_cbor, script);
-    return checked <= 0 || compact <= 0 || pretty <= 0 || to_cbor <= 0 || from_cbor <= 0 || script <= 0;
+    /* A tape: a sequence without a size, of whole numbers that are 1. */
+    static const uint8_t item[] = {36, 2, 1, 42};
+    length = 0;
+    input[length++] = 26;
+    input[length++] = 0;
+    while (length + sizeof item < sizeof input) {
+        memcpy(input + length, item, sizeof item);
+        length += sizeof item;
+    }
+    input[length++] = 31;
+    long tape_to_json = failures_of(tape_pretty, length);
+    long tape_to_cbor = failures_of(sval_tape_to_cbor, length);
+    printf("c: allocations of check %ld, compact %ld, pretty %ld, to_cbor %ld, from_cbor %ld, script_to_json %ld, filter %ld, "
+           "tape_to_json %ld, tape_to_cbor %ld\n",
+           checked, compact, pretty, to_cbor, from_cbor, script, filtered, tape_to_json, tape_to_cbor);
+    return checked <= 0 || compact <= 0 || pretty <= 0 || to_cbor <= 0 || from_cbor <= 0 || script <= 0 || filtered <= 0
+           || tape_to_json <= 0 || tape_to_cbor <= 0;
 }

@@ -1,12 +1,12 @@
-/* JSON, CBOR and scripts of calls: bytes in, bytes out.
+/* JSON, CBOR, and scripts and tapes of calls: bytes in, bytes out.
  *
  * The code behind these functions is proved (crates/sval_c); this header is written by hand. Each function is to be
  * called so, which nothing checks:
  *
- * - `input` points to `input_length` bytes, which nobody writes during the call;
+ * - `input`, `tape` and `paths` point to as many bytes as their lengths say, which nobody writes during the call;
  * - `out` points to `out_length` bytes that have values, which nobody else reads or writes during the call;
- * - neither pointer is null, even where the length is 0;
- * - `input` and `out` don't overlap, and each length is less than 2^63;
+ * - no pointer is null, even where the length is 0;
+ * - `out` overlaps none of the others, and each length is less than 2^63;
  * - malloc, realloc and free come from one allocator, and malloc aligns a block to each power of two up to 16 that
  *   divides its size;
  * - no call is made in a signal handler, or in the forked child of a process with threads.
@@ -29,7 +29,7 @@ enum sval_status {
     SVAL_DONE = 0,
     /* `at` is the first line of the script, counted from 1, that is no call. */
     SVAL_BAD_LINE = 3,
-    /* `at` is the line, counted from 1, with whose call no value goes on. */
+    /* No value goes on with a call. `at` is its line in the script, or its number in the tape, counted from 1. */
     SVAL_BAD_CALL = 4,
     /* The calls are not one whole value. */
     SVAL_UNFINISHED = 5,
@@ -51,7 +51,29 @@ enum sval_status {
     /* A number has a fraction or an exponent, or isn't from -2^127 to 2^128-1. */
     SVAL_NOT_INTEGER = 15,
     /* The input is not one item of CBOR, in the profile that is read. */
-    SVAL_BAD_CBOR = 16
+    SVAL_BAD_CBOR = 16,
+    /* The input is no tape. `at` is the offset of the first byte at which no call begins. */
+    SVAL_BAD_TAPE = 18,
+    /* The number of a style or a rule names none. */
+    SVAL_BAD_CHOICE = 19,
+    /* A line of the paths is no path. `at` is the line, counted from 1, or 0 where the paths are not UTF-8. */
+    SVAL_BAD_PATH = 20
+};
+
+/* How JSON is written. */
+enum sval_style {
+    /* Without white space. */
+    SVAL_COMPACT = 0,
+    /* A line for each element and member, and two spaces for each level. */
+    SVAL_PRETTY = 1
+};
+
+/* What becomes of the members that paths name. */
+enum sval_rule {
+    /* They are left out. */
+    SVAL_DROP = 0,
+    /* They are kept, and of the others only those on the way to them. */
+    SVAL_KEEP = 1
 };
 
 /* With any status but SVAL_DONE all bytes of `out` are as they were. */
@@ -81,6 +103,20 @@ sval_report sval_cbor_to_json(const uint8_t *input, size_t input_length, uint8_t
 
 /* Writes the one value that a script of calls spells as JSON. Answers 0, 3, 4, 5, 6, 7, 8 or 10. */
 sval_report sval_script_to_json(const uint8_t *input, size_t input_length, uint8_t *out, size_t out_length);
+
+/* Writes the one value that the calls of a tape spell as JSON; `style` is one of enum sval_style. A tape is calls as bytes,
+ * one after another: crates/sval_tape has the format. Answers 0, 4, 5, 6, 7, 8, 10, 18 or 19. */
+sval_report sval_tape_to_json(const uint8_t *tape, size_t tape_length, uint32_t style, uint8_t *out, size_t out_length);
+
+/* Writes the one value that the calls of a tape spell as CBOR (RFC 8949). Answers 0, 4, 5, 6, 7, 8, 10, 14, 15 or 18. */
+sval_report sval_tape_to_cbor(const uint8_t *tape, size_t tape_length, uint8_t *out, size_t out_length);
+
+/* Writes JSON without the members that paths name, or with no others, and without white space; `-0` as `0`. `rule` is one of
+ * enum sval_rule. `paths` is UTF-8: a path a line, each with a line feed behind it, which the last may lack. A path is labels
+ * with dots between them: `user.password` names the member `password` of the member `user`, also within arrays. Answers 0, 8,
+ * 10, 12, 13, 19 or 20. */
+sval_report sval_json_filter(const uint8_t *input, size_t input_length, uint32_t rule, const uint8_t *paths,
+                             size_t paths_length, uint8_t *out, size_t out_length);
 
 #ifdef __cplusplus
 }

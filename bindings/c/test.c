@@ -18,6 +18,69 @@ struct row {
     size_t due_length;
 };
 
+/* ---- exports with further arguments, as calls of four */
+
+static sval_report tape_compact(const uint8_t *tape, size_t length, uint8_t *out, size_t room)
+{
+    return sval_tape_to_json(tape, length, SVAL_COMPACT, out, room);
+}
+
+static sval_report tape_pretty(const uint8_t *tape, size_t length, uint8_t *out, size_t room)
+{
+    return sval_tape_to_json(tape, length, SVAL_PRETTY, out, room);
+}
+
+static sval_report tape_in_no_style(const uint8_t *tape, size_t length, uint8_t *out, size_t room)
+{
+    return sval_tape_to_json(tape, length, 2, out, room);
+}
+
+static sval_report filter(const uint8_t *input, size_t length, uint32_t rule, const char *paths, uint8_t *out, size_t room)
+{
+    return sval_json_filter(input, length, rule, (const uint8_t *)paths, strlen(paths), out, room);
+}
+
+static sval_report drop_secrets(const uint8_t *input, size_t length, uint8_t *out, size_t room)
+{
+    return filter(input, length, SVAL_DROP, "user.password\r\nkey\n", out, room);
+}
+
+static sval_report keep_secrets(const uint8_t *input, size_t length, uint8_t *out, size_t room)
+{
+    return filter(input, length, SVAL_KEEP, "user.password\nkey", out, room);
+}
+
+static sval_report drop_nothing(const uint8_t *input, size_t length, uint8_t *out, size_t room)
+{
+    return filter(input, length, SVAL_DROP, "", out, room);
+}
+
+static sval_report by_no_rule(const uint8_t *input, size_t length, uint8_t *out, size_t room)
+{
+    return filter(input, length, 2, "", out, room);
+}
+
+static sval_report by_empty_line(const uint8_t *input, size_t length, uint8_t *out, size_t room)
+{
+    return filter(input, length, SVAL_DROP, "a\n\nb", out, room);
+}
+
+static sval_report by_empty_label(const uint8_t *input, size_t length, uint8_t *out, size_t room)
+{
+    return filter(input, length, SVAL_KEEP, "a..b\n", out, room);
+}
+
+static sval_report by_no_text(const uint8_t *input, size_t length, uint8_t *out, size_t room)
+{
+    return filter(input, length, SVAL_KEEP, "a\n\xff\n", out, room);
+}
+
+/* A record with the field `id`, which is 1. */
+#define RECORD "\x1c\x00\x00\x00\x01\x01\x27\x00\x02id\x00\x02\x01\x2d\x00\x02id\x00\x21\x00\x00\x00"
+/* A text under a tag, each with its length. */
+#define TAGGED(tag, text) "\x18\x01" tag "\x00\x00\x0c\x00\x0d" text "\x0f\x19\x01" tag "\x00\x00"
+#define USER "{\"user\": [{\"name\": \"a\", \"password\": \"b\"}], \"key\": {\"x\": -0}}"
+
 #define GIVES(call, input, due) {call, input, sizeof(input) - 1, SVAL_DONE, 0, due, sizeof(due) - 1}
 #define FAILS(call, input, status, at) {call, input, sizeof(input) - 1, status, at, "", 0}
 
@@ -46,6 +109,31 @@ static const struct row rows[] = {
     FAILS(sval_script_to_json, "bool true\nnonsense\n", SVAL_BAD_LINE, 2),
     FAILS(sval_script_to_json, "null\nnull\n", SVAL_BAD_CALL, 2),
     FAILS(sval_script_to_json, "seq_begin -\n", SVAL_UNFINISHED, 0),
+    GIVES(tape_compact, RECORD, "{\"id\":1}"),
+    GIVES(tape_pretty, RECORD, "{\n  \"id\": 1\n}"),
+    GIVES(sval_tape_to_cbor, RECORD, "\xbf\x62id\x01\xff"),
+    FAILS(tape_compact, "", SVAL_UNFINISHED, 0),
+    FAILS(tape_compact, "\x1a\x00", SVAL_UNFINISHED, 0),
+    FAILS(tape_compact, "\x00\x00", SVAL_BAD_CALL, 2),
+    FAILS(tape_pretty, "\x00\x30", SVAL_BAD_TAPE, 1),
+    FAILS(tape_compact, "\x1b\x00\x25\x1a\x00\x1f\x2b\x26\x00\x2c\x20", SVAL_INVALID_KEY, 0),
+    FAILS(tape_compact, TAGGED("\x06NUMBER", "\x01x"), SVAL_INVALID_NUMBER, 0),
+    FAILS(tape_in_no_style, "", SVAL_BAD_CHOICE, 0),
+    FAILS(sval_tape_to_cbor, "", SVAL_UNFINISHED, 0),
+    FAILS(sval_tape_to_cbor, "\x00\x00", SVAL_BAD_CALL, 2),
+    FAILS(sval_tape_to_cbor, "\x01\x02", SVAL_BAD_TAPE, 0),
+    FAILS(sval_tape_to_cbor, TAGGED("\x06NUMBER", "\x01x"), SVAL_INVALID_NUMBER, 0),
+    FAILS(sval_tape_to_cbor, TAGGED("\x06NUMBER", "\x03" "1.5"), SVAL_NOT_INTEGER, 0),
+    FAILS(sval_tape_to_cbor, TAGGED("\x0aJSON_VALUE", "\x02[]"), SVAL_RAW, 0),
+    GIVES(drop_secrets, USER, "{\"user\":[{\"name\":\"a\"}]}"),
+    GIVES(keep_secrets, USER, "{\"user\":[{\"password\":\"b\"}],\"key\":{\"x\":0}}"),
+    GIVES(drop_nothing, " [1, -0]", "[1,0]"),
+    FAILS(drop_secrets, "[1,]", SVAL_BAD_JSON, 3),
+    FAILS(keep_secrets, "\"\xff\"", SVAL_NOT_UTF8, 1),
+    FAILS(by_no_rule, "[1,]", SVAL_BAD_CHOICE, 0),
+    FAILS(by_empty_line, "[1,]", SVAL_BAD_PATH, 2),
+    FAILS(by_empty_label, "[]", SVAL_BAD_PATH, 1),
+    FAILS(by_no_text, "[]", SVAL_BAD_PATH, 0),
 };
 
 static int failed = 0;

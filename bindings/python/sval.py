@@ -1,10 +1,12 @@
-"""JSON (RFC 8259), CBOR (RFC 8949) and scripts of calls, by a proved library: bytes in, bytes out.
+"""JSON (RFC 8259), CBOR (RFC 8949), and scripts and tapes of calls, by a proved library: bytes in, bytes out.
 
     >>> import sval
     >>> sval.compact(b'{"a" : [1, 2]}')
     b'{"a":[1,2]}'
     >>> sval.to_cbor(b'[1, null]').hex()
     '9f01f6ff'
+    >>> sval.filter(b'{"user": {"name": "a", "password": "b"}}', drop=["user.password"])
+    b'{"user":{"name":"a"}}'
 
 The library is libsval.so, which bindings/build makes. It is the file that SVAL_LIBRARY names, and else the one in bindings/out
 of this checkout, or in the folder lib beside this file's.
@@ -14,13 +16,16 @@ import ctypes
 import os
 import pathlib
 
-__all__ = ["Error", "TooShort", "check", "compact", "pretty", "to_cbor", "from_cbor", "script_to_json"]
+__all__ = ["Error", "TooShort", "check", "compact", "pretty", "filter", "to_cbor", "from_cbor", "script_to_json"]
+__all__ += ["tape_to_json", "tape_to_cbor"]
 
 DONE, TOO_SHORT, NO_MEMORY = 0, 8, 10
+COMPACT, PRETTY = 0, 1
+DROP, KEEP = 0, 1
 FOLDERS = ["out", "lib"]
 MESSAGES = {
     3: "line {at} is no call",
-    4: "no value goes on with the call of line {at}",
+    4: "no value goes on with call {at}",
     5: "the calls are not one whole value",
     6: "a key of a map can't be a key of JSON",
     7: "invalid number",
@@ -29,6 +34,8 @@ MESSAGES = {
     14: "text that says it is JSON has no CBOR",
     15: "a number is no integer from -2^127 to 2^128-1",
     16: "invalid CBOR",
+    18: "invalid tape at byte {at}",
+    20: "path {at} has an empty label",
 }
 
 
@@ -37,7 +44,7 @@ class Error(ValueError):
 
     def __init__(self, status, at):
         self.status = status
-        self.at = at if status in (3, 4, 12, 13) else None
+        self.at = at if status in (3, 4, 12, 13, 18, 20) else None
         super().__init__(MESSAGES.get(status, "status {status}").format(status=status, at=at))
 
 
@@ -64,6 +71,10 @@ def opened():
         function = getattr(library, f"sval_{name}")
         function.argtypes, function.restype = [*read, ctypes.c_char_p, ctypes.c_size_t], Report
     library.sval_json_check.argtypes, library.sval_json_check.restype = read, Report
+    write = [ctypes.c_char_p, ctypes.c_size_t]
+    library.sval_tape_to_json.argtypes, library.sval_tape_to_json.restype = [*read, ctypes.c_uint32, *write], Report
+    library.sval_tape_to_cbor.argtypes, library.sval_tape_to_cbor.restype = [*read, *write], Report
+    library.sval_json_filter.argtypes, library.sval_json_filter.restype = [*read, ctypes.c_uint32, *read, *write], Report
     return library
 
 
@@ -81,20 +92,20 @@ def written(report):
     raise Error(report.status, report.at)
 
 
-def call(function, data, room):
+def call(function, data, room, *words):
     """The bytes that are due, by a buffer of `room` bytes, and where that is too short by one of the right length."""
     data = bytes(data)
     try:
-        return call_once(function, data, room)
+        return call_once(function, data, room, *words)
     except TooShort as error:
-        return call_once(function, data, error.due)
+        return call_once(function, data, error.due, *words)
 
 
-def call_once(function, data, room):
-    """The bytes that are due, by a buffer of `room` bytes; TooShort where they are more."""
+def call_once(function, data, room, *words):
+    """The bytes that are due, by a buffer of `room` bytes; TooShort where they are more. `words` go before the buffer."""
     # A new object of no bytes is the one empty `bytes`, so the buffer has a byte more than is told.
     out = ctypes.create_string_buffer(room + 1)
-    count = written(function(data, len(data), out, room))
+    count = written(function(data, len(data), *words, out, room))
     return out.raw[:count]
 
 
@@ -114,6 +125,26 @@ def pretty(data):
     return call(LIBRARY.sval_json_pretty, data, 2 * len(data))
 
 
+def filter(document, drop=None, keep=None):
+    """JSON without the members that the paths of `drop` name, or with no others than those of `keep`, and without white space.
+
+    A path is a text of labels with dots between them: "user.password" names the member "password" of the member "user", also
+    within arrays. Either `drop` or `keep` is given, as an iterable of paths.
+    """
+    if (drop is None) == (keep is None):
+        raise TypeError("filter takes either drop or keep")
+    rule, paths = (DROP, drop) if keep is None else (KEEP, keep)
+    text = b"".join(path_line(path) for path in paths)
+    return call(LIBRARY.sval_json_filter, document, len(document), rule, text, len(text))
+
+
+def path_line(path):
+    """The line of a path."""
+    if "\n" in path or path.endswith("\r"):
+        raise ValueError("a path has no line feed, and no carriage return at its end")
+    return path.encode() + b"\n"
+
+
 def to_cbor(data):
     """The CBOR of the value that JSON denotes."""
     return call(LIBRARY.sval_json_to_cbor, data, len(data))
@@ -127,3 +158,13 @@ def from_cbor(data):
 def script_to_json(script):
     """The JSON of the one value that a script of calls spells."""
     return call(LIBRARY.sval_script_to_json, script, len(script))
+
+
+def tape_to_json(tape, pretty=False):
+    """The JSON of the one value that the calls of a tape spell, without white space, or laid out as `pretty` does."""
+    return call(LIBRARY.sval_tape_to_json, tape, 2 * len(tape), PRETTY if pretty else COMPACT)
+
+
+def tape_to_cbor(tape):
+    """The CBOR of the one value that the calls of a tape spell."""
+    return call(LIBRARY.sval_tape_to_cbor, tape, len(tape))

@@ -184,6 +184,83 @@ def test_script(rng, data):
     assert isinstance(ours, sval.Error) and ours.status in (3, 4, 5), (data, ours)
 
 
+def leb128(number):
+    """A number as a tape has it."""
+    return bytes([number]) if number < 128 else bytes([number % 128 + 128]) + leb128(number // 128)
+
+
+def text_calls(text):
+    """The calls of a text, in one fragment."""
+    data = text.encode()
+    return b"\x0c\x01" + leb128(len(data)) + b"\x0d" + leb128(len(data)) + data + b"\x0f"
+
+
+def tape_of(value):
+    """A tape of a value of whole numbers."""
+    if isinstance(value, Number):
+        return b"\x0b" + leb128(2 * int(value) if int(value) >= 0 else -2 * int(value) - 1) if int(value) < 2**127 else b"\x06" + leb128(int(value))
+    if isinstance(value, str):
+        return text_calls(value)
+    if isinstance(value, list):
+        return b"\x1a\x00" + b"".join(b"\x24" + tape_of(it) + b"\x2a" for it in value) + b"\x1f"
+    if isinstance(value, dict):
+        parts = [b"\x25" + text_calls(name) + b"\x2b\x26" + tape_of(it) + b"\x2c" for name, it in value.items()]
+        return b"\x1b\x00" + b"".join(parts) + b"\x20"
+    return {None: b"\x00", False: b"\x01\x00", True: b"\x01\x01"}[value]
+
+
+def test_tape(rng, value, data):
+    """A tape of a value of whole numbers gives what its JSON does; a changed one gives that of some value, or a fault."""
+    tape = tape_of(value)
+    assert sval.tape_to_json(tape) == sval.compact(data), (tape, data)
+    assert sval.tape_to_json(tape, pretty=True) == sval.pretty(data), (tape, data)
+    assert sval.tape_to_cbor(tape) == sval.to_cbor(data), (tape, data)
+    other = changed(rng, tape)
+    ours, cbor = outcome(sval.tape_to_json, other), outcome(sval.tape_to_cbor, other)
+    if isinstance(ours, Exception):
+        assert isinstance(ours, sval.Error) and ours.status in (4, 5, 6, 18), (other, ours)
+        assert isinstance(cbor, sval.Error) and (cbor.status, cbor.at) == (ours.status, ours.at), (other, ours, cbor)
+    else:
+        read(ours)
+
+
+def left_of(value, paths, keeps):
+    """What is left of a value, by paths as lists of names."""
+    if isinstance(value, list):
+        return [left_of(it, paths, keeps) for it in value]
+    if not isinstance(value, dict):
+        return value
+    left = {}
+    for name, it in value.items():
+        tails = [path[1:] for path in paths if path[0] == name]
+        if [] in tails or (keeps and not tails):
+            if keeps and tails:
+                left[name] = it
+        else:
+            left[name] = left_of(it, tails, keeps)
+    return left
+
+
+def names_in(value):
+    """The names of members that can be labels of a path."""
+    if isinstance(value, list):
+        return {name for it in value for name in names_in(it)}
+    if not isinstance(value, dict):
+        return set()
+    return {name for name in value if name} | {name for it in value.values() for name in names_in(it)}
+
+
+def test_filter(rng, value, data):
+    """Random paths leave what they leave of what Python read."""
+    names = sorted(names_in(value) | {"none"})
+    paths = [[rng.choice(names) for _ in range(rng.randrange(1, 3))] for _ in range(rng.randrange(4))]
+    words = [".".join(path) for path in paths]
+    for keeps in (False, True):
+        ours = sval.filter(data, keep=words) if keeps else sval.filter(data, drop=words)
+        assert read(ours) == settled(left_of(value, paths, keeps)), (data, words, keeps, ours)
+        assert len(ours) <= len(data), (data, words, ours)
+
+
 def changed(rng, data):
     """The bytes with one dropped, doubled, replaced or cut off."""
     at = rng.randrange(len(data) + 1)
@@ -205,6 +282,12 @@ def test_rows():
         error = outcome(call, data)
         assert isinstance(error, sval.Error) and error.status == status, (data, error)
         assert at is None or error.at == at, (data, error)
+    for paths, at in [([""], 1), (["a", "b..c"], 2), (["a."], 1)]:
+        error = outcome(sval.filter, b"[]", paths)
+        assert isinstance(error, sval.Error) and (error.status, error.at) == (20, at), (paths, error)
+    for tape, status, at in [(b"", 5, None), (b"\x00\x00", 4, 2), (b"\x00\x30", 18, 1)]:
+        error = outcome(sval.tape_to_json, tape)
+        assert isinstance(error, sval.Error) and (error.status, error.at) == (status, at), (tape, error)
     deep = b"[" * 100000 + b"]" * 100000
     assert sval.compact(deep) == deep and sval.from_cbor(sval.to_cbor(deep)) == deep
 
@@ -225,6 +308,8 @@ def main():
         value = random_value(rng, 3, True)
         data = spelled(rng, value, True).encode()
         test_cbor(value, data)
+        test_tape(rng, value, data)
+        test_filter(rng, value, data)
         test_item(changed(rng, sval.to_cbor(data)))
         test_item(rng.randbytes(rng.randrange(12)))
         test_script(rng, rng.choice([random_text(rng).encode(), rng.randbytes(rng.randrange(6))]))

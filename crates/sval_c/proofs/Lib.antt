@@ -1,6 +1,13 @@
 mod Reported
 mod Taken
 mod Texts
+mod NoTrees
 mod Packs
 mod Items
 mod Scripts
+mod TapeTexts
+mod TapePacks
+mod Lefts
+mod PathsRead
+mod TapeAtOnce
+mod Styles

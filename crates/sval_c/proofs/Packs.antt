@@ -1,13 +1,10 @@
 -- What is due of a text of JSON that was read, as CBOR, and why it has none.
 use Rattle.std.specs.Prelude.{◌≡◌, ℕ, List, [], Some, None, Ok, Err, refl}
-use Rattle.std.proofs.Common.{subst, inl, inr}
+use Rattle.std.proofs.Common.{subst}
 use Rattle.sval_label.specs.Calls.{Call}
-use Rattle.sval_core.specs.Law.{Emission}
 use Rattle.sval_core.specs.Values.{makes}
 use Rattle.sval_io.specs.Taken.{Taken, taken_told}
 use Rattle.sval_check.specs.Checks.{IsOneValue}
-use Rattle.sval_check.specs.declared.error.CheckError.TheVariants as check
-use Rattle.sval_check.proofs.OneAnswer.{one_due}
 use Rattle.sval_c.specs.declared.fault.Fault.TheVariants as fault
 use Rattle.sval_json_read.specs.ReadErrors.{IsReadText}
 use Rattle.sval_json_read.specs.Trees.{tree_of}
@@ -15,17 +12,14 @@ use Rattle.sval_cbor.specs.declared.error.CborError.{CborError}
 use Rattle.sval_cbor.specs.declared.error.CborError.TheVariants as error
 use Rattle.sval_cbor.specs.Cbor.{cbor}
 use Rattle.sval_cbor.specs.Packs.{PackRefusal, BadKey, BadNumber, RawJson, NotInteger}
-use Rattle.sval_cbor.specs.Streamed.{StreamsCbor, IsNoTree, IsRefusedAs}
+use Rattle.sval_cbor.specs.Streamed.{StreamsCbor, IsRefusedAs}
 use Rattle.sval_c.specs.declared.lack.Lack.{Lack}
 use Rattle.sval_c.specs.declared.lack.Lack.TheVariants as lack
-use Rattle.sval_c.specs.Due.{denotes, fault_of_pack, CborDue}
+use Rattle.sval_c.specs.Due.{denotes, CborDue}
+use Rattle.sval_c.specs.Faults.{fault_of_pack}
 use Rattle.sval_c.specs.Lacks.{lack_of_pack, IsLacking}
 use Rattle.sval_c.proofs.Taken.{no_rise, taken_whole}
-
--- a whole value is no other answer of the check
-no_tree_never : (e : Emission) → IsOneValue e → IsNoTree e → ⊥
-no_tree_never e one (inl (at, bad)) = let never : Ok tt ≡ Err (check.BadCall at) = one_due e (Ok tt) (Err (check.BadCall at)) one bad in cc never
-no_tree_never e one (inr unfinished) = unfinished.no_tree one.spells.0 one.spells.1
+use Rattle.sval_c.proofs.NoTrees.{no_tree_never}
 
 module _ (input : List ℕ) (calls : List Call) (r : IsReadText input calls) (old new : Taken) where
   one_value : IsOneValue (makes calls)

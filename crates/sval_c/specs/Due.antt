@@ -9,11 +9,12 @@ use Rattle.sval_json.specs.Shape.{json_of}
 use Rattle.sval_pretty.specs.Layout.{pretty}
 use Rattle.sval_c.specs.declared.fault.Fault.{Fault}
 use Rattle.sval_c.specs.declared.fault.Fault.TheVariants as fault
+use Rattle.sval_c.specs.Faults.{fault_of_pack}
 use Rattle.sval_json_read.specs.Documents.{IsBadJson}
 use Rattle.sval_json_read.specs.Serves.{IsJsonOfValue}
 use Rattle.sval_json_read.specs.Trees.{tree_of}
 use Rattle.sval_cbor.specs.Cbor.{cbor}
-use Rattle.sval_cbor.specs.Packs.{PackRefusal, BadKey, BadNumber, RawJson, NotInteger, pack_of}
+use Rattle.sval_cbor.specs.Packs.{PackRefusal, pack_of}
 use Rattle.sval_cbor_read.specs.Items.{IsItemOf}
 use Rattle.sval_cbor_read.specs.Serves.{TellsTreeValue}
 use Rattle.sval_relay.specs.declared.way.Way.TheVariants.{Direct}
@@ -41,13 +42,6 @@ CompactOf value (Some why) bytes = ⊥
 abbrev pub PrettyOf : JsonValue → Option Fault → List ℕ → Type 0
 PrettyOf value None bytes = (text : List ℕ) × IsJsonOfValue value text × (bytes ≡ pretty text)
 PrettyOf value (Some why) bytes = ⊥
-
--- the fault for which a value has no CBOR
-abbrev pub fault_of_pack : PackRefusal → Fault
-fault_of_pack BadKey = fault.InvalidKey
-fault_of_pack BadNumber = fault.InvalidNumber
-fault_of_pack RawJson = fault.Raw
-fault_of_pack NotInteger = fault.NotInteger
 
 -- its CBOR (RFC 8949)
 abbrev pub CborOf : JsonValue → Option Fault → List ℕ → Type 0

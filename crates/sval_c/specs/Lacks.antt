@@ -12,6 +12,14 @@ use Rattle.sval_cbor_read.specs.declared.document.CborReadError.{CborReadError}
 use Rattle.sval_cbor_read.specs.declared.document.CborReadError.TheVariants as item
 use Rattle.sval_relay.specs.declared.relaying.RelayError.{RelayError}
 use Rattle.sval_relay.specs.declared.relaying.RelayError.TheVariants as script
+use Rattle.sval_check.specs.declared.error.CheckError.{CheckError}
+use Rattle.sval_check.specs.declared.error.CheckError.TheVariants as check
+use Rattle.sval_tape.specs.declared.tape.TapeError.{TapeError}
+use Rattle.sval_tape.specs.declared.tape.TapeError.TheVariants as tape
+use Rattle.sval_filter.specs.declared.paths.PathError.{PathError}
+use Rattle.sval_filter.specs.declared.paths.PathError.TheVariants as path
+use Rattle.sval_tool.specs.declared.error.DocumentError.{DocumentError}
+use Rattle.sval_tool.specs.declared.error.DocumentError.TheVariants as document
 use Rattle.sval_c.specs.declared.lack.Lack.{Lack}
 use Rattle.sval_c.specs.declared.lack.Lack.TheVariants as lack
 
@@ -54,6 +62,38 @@ lack_of_relay script.InvalidKey = Some (lack.Fault fault.InvalidKey)
 lack_of_relay script.InvalidNumber = Some (lack.Fault fault.InvalidNumber)
 lack_of_relay script.NoMemory = Some lack.NoMemory
 lack_of_relay script.Write = None
+
+-- of bytes that are no tape
+abbrev pub lack_of_tape : TapeError → Lack
+lack_of_tape (tape.Bad at) = lack.Fault (fault.BadTape at)
+
+-- of a tape's calls, which don't refuse
+abbrev pub lack_of_check : CheckError → Option Lack
+lack_of_check (check.BadCall number) = Some (lack.Fault (fault.BadCall number))
+lack_of_check check.Unfinished = Some (lack.Fault fault.Unfinished)
+lack_of_check check.NoMemory = Some lack.NoMemory
+lack_of_check check.Refused = None
+
+-- of a tape's calls that are written to memory as JSON, where the others don't come
+abbrev pub lack_of_text : ErrorKind → Option Lack
+lack_of_text writing.InvalidKey = Some (lack.Fault fault.InvalidKey)
+lack_of_text writing.InvalidNumber = Some (lack.Fault fault.InvalidNumber)
+lack_of_text writing.NoMemory = Some lack.NoMemory
+lack_of_text writing.IO = None
+lack_of_text writing.Generic = None
+
+-- of a line that is no path; a word needs no path before it
+abbrev pub lack_of_path : ℕ → PathError → Option Lack
+lack_of_path line path.BadWord = Some (lack.Fault (fault.BadPath line))
+lack_of_path line path.NoMemory = Some lack.NoMemory
+lack_of_path line path.NoPath = None
+
+-- of a document that is filtered to memory, where no write fails
+abbrev pub lack_of_document : DocumentError → Option Lack
+lack_of_document (document.NotUtf8 at) = Some (lack.Fault (fault.NotUtf8 at))
+lack_of_document (document.BadJson at) = Some (lack.Fault (fault.BadJson at))
+lack_of_document document.NoMemory = Some lack.NoMemory
+lack_of_document document.WriteFault = None
 
 -- ---- what is made of an input
 

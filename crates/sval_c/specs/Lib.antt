@@ -1,3 +1,6 @@
+pub mod Faults
 pub mod Due
+pub mod OfTapes
+pub mod OfFilters
 pub mod Lacks
 pub mod Reports

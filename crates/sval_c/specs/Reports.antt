@@ -6,12 +6,12 @@ use Rattle.sval_program.specs.declared.status.TheConstants.{DONE, BAD_LINE, BAD_
 use Rattle.sval_c.specs.declared.lack.Lack.{Lack}
 use Rattle.sval_c.specs.declared.lack.Lack.TheVariants as lack
 use Rattle.sval_c.specs.declared.report.Report.{Report}
-use Rattle.sval_c.specs.declared.status.TheConstants.{TOO_SHORT}
+use Rattle.sval_c.specs.declared.status.TheConstants.{TOO_SHORT, BAD_TAPE, BAD_CHOICE, BAD_PATH}
 
 -- the status of a fault
 abbrev pub status_of_fault : Fault → ℕ
 status_of_fault (fault.BadLine line) = BAD_LINE
-status_of_fault (fault.BadCall line) = BAD_CALL
+status_of_fault (fault.BadCall number) = BAD_CALL
 status_of_fault fault.Unfinished = UNFINISHED
 status_of_fault fault.InvalidKey = INVALID_KEY
 status_of_fault fault.InvalidNumber = INVALID_NUMBER
@@ -20,13 +20,18 @@ status_of_fault (fault.BadJson at) = BAD_JSON
 status_of_fault fault.Raw = RAW
 status_of_fault fault.NotInteger = NOT_INTEGER
 status_of_fault fault.BadCbor = BAD_CBOR
+status_of_fault (fault.BadTape at) = BAD_TAPE
+status_of_fault fault.BadChoice = BAD_CHOICE
+status_of_fault (fault.BadPath line) = BAD_PATH
 
--- the place of a fault: the byte at which UTF-8 or JSON fails, or a line of a script, counted from 1; 0 where it has none
+-- the place of a fault: the byte at which UTF-8, JSON or a tape fails, or the number of a line or a call, counted from 1; 0 where it has none
 abbrev pub place_of : Fault → ℕ
 place_of (fault.BadLine line) = line
-place_of (fault.BadCall line) = line
+place_of (fault.BadCall number) = number
 place_of (fault.NotUtf8 at) = at
 place_of (fault.BadJson at) = at
+place_of (fault.BadTape at) = at
+place_of (fault.BadPath line) = line
 place_of _ = 0
 
 -- ---- the reports

@@ -3,6 +3,7 @@
 ghost use Rattle.std.specs.Prelude.{◌≡◌};
 ghost use Rattle.sval_c.specs.Reports.{status_of_fault, place_of};
 
+use crate::status::{BAD_CHOICE, BAD_PATH, BAD_TAPE};
 use sval_program::status;
 
 /// Why nothing is due of an input.
@@ -10,9 +11,9 @@ use sval_program::status;
 pub(crate) enum Fault {
     /// This line of a script, counted from 1, is the first that is no call.
     BadLine { line: u64 },
-    /// No value goes on with the call of this line of a script, counted from 1.
-    BadCall { line: u64 },
-    /// The calls of a script are not one whole value.
+    /// No value goes on with the call of this number, counted from 1: a line of a script, or a call of a tape.
+    BadCall { number: u64 },
+    /// The calls of a script or a tape are not one whole value.
     Unfinished,
     /// A map's key can't be a key of JSON.
     InvalidKey,
@@ -28,6 +29,12 @@ pub(crate) enum Fault {
     NotInteger,
     /// The input is not one item of CBOR, in the profile that is read.
     BadCbor,
+    /// The input is no tape. `at` is the offset of the first byte at which no call begins.
+    BadTape { at: u64 },
+    /// The number of a style or a rule names none.
+    BadChoice,
+    /// This line of the paths, counted from 1, is the first that is no path; 0 where the paths are not UTF-8.
+    BadPath { line: u64 },
 }
 
 impl Fault {
@@ -46,16 +53,20 @@ impl Fault {
             Fault::Raw => status::RAW,
             Fault::NotInteger => status::NOT_INTEGER,
             Fault::BadCbor => status::BAD_CBOR,
+            Fault::BadTape { .. } => BAD_TAPE,
+            Fault::BadChoice => BAD_CHOICE,
+            Fault::BadPath { .. } => BAD_PATH,
         }
     }
 
-    /// The place of a report: an offset, a line, or 0 where the fault has none.
+    /// The place of a report: an offset, the number of a line or a call, or 0 where the fault has none.
     pub(crate) fn place(self) -> u64
         ensures { result ≡ place_of self }
     {
         match self {
-            Fault::BadLine { line } | Fault::BadCall { line } => line,
-            Fault::NotUtf8 { at } | Fault::BadJson { at } => at,
+            Fault::BadLine { line } | Fault::BadPath { line } => line,
+            Fault::BadCall { number } => number,
+            Fault::NotUtf8 { at } | Fault::BadJson { at } | Fault::BadTape { at } => at,
             _ => 0,
         }
     }

@@ -51,7 +51,7 @@ fn compact(alloc: Global, input: &[u8]) -> Result<Vec<u8>, Lack>
 }
 
 /// Lays out the JSON of a text.
-fn laid_out(alloc: Global, json: &[u8]) -> Result<Vec<u8>, Lack>
+pub(crate) fn laid_out(alloc: Global, json: &[u8]) -> Result<Vec<u8>, Lack>
     ensures laid { IfOk result (λ bytes. bytes.items ≡ pretty json.now) }
     ensures want { IfErr result (λ lack. lack ≡ Lack.NoMemory) }
 {

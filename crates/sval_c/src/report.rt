@@ -13,7 +13,7 @@ use sval_program::status::{DONE, NO_MEMORY};
 /// |---|---|---|---|
 /// | 0 | the first `written` bytes of the buffer are exactly what is due | their number | 0 |
 /// | 3 | a line of the script is no call | 0 | the line, counted from 1 |
-/// | 4 | no value goes on with the call of a line | 0 | the line, counted from 1 |
+/// | 4 | no value goes on with a call | 0 | the line of the script, or the number of the tape's call, counted from 1 |
 /// | 5 | the calls are not one whole value | 0 | 0 |
 /// | 6 | a key of a map can't be a key of JSON | 0 | 0 |
 /// | 7 | text that stands for a number is none | 0 | 0 |
@@ -21,8 +21,12 @@ use sval_program::status::{DONE, NO_MEMORY};
 /// | 10 | memory was wanting | 0 | 0 |
 /// | 12 | the input is not UTF-8 | 0 | the length of its longest front that is UTF-8 |
 /// | 13 | the input is not JSON | 0 | the offset of the first byte that no JSON text could have there |
+/// | 14 | text says that it is JSON, which CBOR can't hold | 0 | 0 |
 /// | 15 | a number has a fraction, an exponent or more than 128 bits, which this CBOR can't hold | 0 | 0 |
 /// | 16 | the input is not one item of CBOR, in the profile that is read | 0 | 0 |
+/// | 18 | the input is no tape | 0 | the offset of the first byte at which no call begins |
+/// | 19 | the number of a style or a rule names none | 0 | 0 |
+/// | 20 | a line of the paths is no path | 0 | the line, counted from 1, or 0 where the paths are not UTF-8 |
 ///
 /// With status 0 the bytes of the buffer behind the first `written` ones stay as they were. With any other status the
 /// whole buffer does.

@@ -1,9 +1,9 @@
 //! Tapes of all calls: written by hand, read and written again, cut short and spoiled.
 
-use crate::{Tape, TapeError, TapeWriter};
+use crate::{Tape, TapeError, TapeWriter, stream_tape};
 use std::test::Fail;
 use sval_core::{Index, Label, Stream, Tag, Value};
-use sval_io::VecSink;
+use sval_io::{FixedSink, VecSink};
 
 /// Each call at least once, in the order of the numbers.
 const CALLS: [&'static [u8]; 55] = [
@@ -167,5 +167,33 @@ fn writes_the_bytes_of_a_record(rt: HostRuntime) -> Result<(), Fail> {
     ];
     let written = writer.into_inner();
     assert_eq!(rt; written.as_slice(), due.as_slice());
+    Ok(())
+}
+
+#[test]
+fn all_calls_are_streamed_as_they_are_read(rt: HostRuntime) -> Result<(), Fail> {
+    let mut bytes = Vec::new(rt.alloc());
+    for call in CALLS {
+        bytes.extend_from_slice(call)?;
+    }
+    let mut writer = TapeWriter::new(VecSink::new(rt.alloc()));
+    stream_tape(bytes.as_slice(), &mut writer)??;
+    let written = writer.into_inner();
+    assert_eq!(rt; written.as_slice(), bytes.as_slice());
+    Ok(())
+}
+
+#[test]
+fn streaming_ends_at_a_bad_or_a_refused_call(rt: HostRuntime) -> Result<(), Fail> {
+    let bytes: [u8; 3] = [0, 15, 48];
+    let mut writer = TapeWriter::new(VecSink::new(rt.alloc()));
+    let streamed = stream_tape(&bytes, &mut writer);
+    assert_eq!(rt; streamed.err(), Some(TapeError::Bad { at: 2 }));
+    assert_eq!(rt; writer.into_inner().as_slice(), &bytes[..2]);
+    let mut room = [0; 1];
+    let mut writer = TapeWriter::new(FixedSink::new(&mut room));
+    let streamed = stream_tape(&bytes, &mut writer)?;
+    assert_eq!(rt; streamed.is_err(), true);
+    assert_eq!(rt; writer.into_inner().as_slice(), &bytes[..1]);
     Ok(())
 }
