@@ -1,6 +1,7 @@
 //! The library's functions, as `bindings/c/sval.h` declares them.
 
 use crate::error::Error;
+use crate::filter::Rule;
 
 /// What a call answers.
 #[repr(C)]
@@ -42,10 +43,38 @@ extern "C" {
         out: *mut u8,
         out_length: usize,
     ) -> Report;
+    fn sval_tape_to_json(
+        tape: *const u8,
+        tape_length: usize,
+        style: u32,
+        out: *mut u8,
+        out_length: usize,
+    ) -> Report;
+    fn sval_tape_to_cbor(
+        tape: *const u8,
+        tape_length: usize,
+        out: *mut u8,
+        out_length: usize,
+    ) -> Report;
+    fn sval_json_filter(
+        input: *const u8,
+        input_length: usize,
+        rule: u32,
+        paths: *const u8,
+        paths_length: usize,
+        out: *mut u8,
+        out_length: usize,
+    ) -> Report;
 }
 
-/// A call that writes to a buffer, and answers how many bytes it wrote.
-pub(crate) type Call = fn(&[u8], &mut [u8]) -> Result<usize, Error>;
+/// How JSON is laid out.
+#[derive(Clone, Copy)]
+pub(crate) enum Style {
+    /// Without white space.
+    Compact,
+    /// A line for each element and member.
+    Pretty,
+}
 
 fn result_of(report: Report) -> Result<usize, Error> {
     Err(match report.status {
@@ -64,7 +93,17 @@ fn result_of(report: Report) -> Result<usize, Error> {
         14 => Error::Raw,
         15 => Error::NotInteger,
         16 => Error::BadCbor,
+        18 => Error::BadTape { at: report.at },
+        20 => Error::BadPath { path: report.at },
         status => Error::UnknownStatus(status),
+    })
+}
+
+/// The result of a call over a tape, which has calls where a script has lines.
+fn result_of_tape(report: Report) -> Result<usize, Error> {
+    result_of(report).map_err(|error| match error {
+        Error::BadCall { line: call } => Error::RefusedCall { call },
+        error => error,
     })
 }
 
@@ -106,5 +145,56 @@ pub(crate) fn script_to_json(script: &[u8], out: &mut [u8]) -> Result<usize, Err
     // SAFETY: see above.
     result_of(unsafe {
         sval_script_to_json(script.as_ptr(), script.len(), out.as_mut_ptr(), out.len())
+    })
+}
+
+pub(crate) fn tape_to_json(style: Style) -> impl Fn(&[u8], &mut [u8]) -> Result<usize, Error> {
+    let style = match style {
+        Style::Compact => 0,
+        Style::Pretty => 1,
+    };
+    move |tape, out| {
+        // SAFETY: see above.
+        result_of_tape(unsafe {
+            sval_tape_to_json(
+                tape.as_ptr(),
+                tape.len(),
+                style,
+                out.as_mut_ptr(),
+                out.len(),
+            )
+        })
+    }
+}
+
+pub(crate) fn tape_to_cbor(tape: &[u8], out: &mut [u8]) -> Result<usize, Error> {
+    // SAFETY: see above.
+    result_of_tape(unsafe {
+        sval_tape_to_cbor(tape.as_ptr(), tape.len(), out.as_mut_ptr(), out.len())
+    })
+}
+
+/// `paths` is the paths, each on a line.
+pub(crate) fn filter(
+    input: &[u8],
+    rule: Rule,
+    paths: &[u8],
+    out: &mut [u8],
+) -> Result<usize, Error> {
+    let rule = match rule {
+        Rule::Drop => 0,
+        Rule::Keep => 1,
+    };
+    // SAFETY: see above.
+    result_of(unsafe {
+        sval_json_filter(
+            input.as_ptr(),
+            input.len(),
+            rule,
+            paths.as_ptr(),
+            paths.len(),
+            out.as_mut_ptr(),
+            out.len(),
+        )
     })
 }

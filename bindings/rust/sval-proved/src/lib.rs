@@ -1,4 +1,4 @@
-//! JSON (RFC 8259), CBOR (RFC 8949) and scripts of calls, by a proved library: bytes in, bytes out.
+//! JSON (RFC 8259), CBOR (RFC 8949), and scripts and tapes of calls, by a proved library: bytes in, bytes out.
 //!
 //! ```
 //! use sval_proved::{compact, from_cbor, to_cbor, Error};
@@ -9,15 +9,24 @@
 //! # Ok::<(), Error>(())
 //! ```
 //!
+//! A value of a program's own is written by a [`TapeWriter`], whose [`Tape`] the library writes as JSON or CBOR.
+//!
 //! Each call has two forms. The one that answers a `Vec` asks for its memory by the global allocator, which ends the
 //! process where there is none. The one with `_into` writes to a buffer of the caller's.
 
 mod error;
 mod ffi;
+mod filter;
+mod names;
+mod operands;
+mod tape;
+mod writer;
 
 pub use error::Error;
-
-use ffi::Call;
+pub use filter::{filter, filter_into, Rule};
+pub use names::{tags, Index, Label, Tag};
+pub use tape::Tape;
+pub use writer::TapeWriter;
 
 /// Whether bytes are JSON.
 ///
@@ -120,7 +129,11 @@ pub fn script_to_json_into(script: &[u8], out: &mut [u8]) -> Result<usize, Error
 }
 
 /// Calls with the room that is expected, and where that is too short once more with the room that is due.
-fn in_vec(call: Call, input: &[u8], expected: usize) -> Result<Vec<u8>, Error> {
+fn in_vec(
+    call: impl Fn(&[u8], &mut [u8]) -> Result<usize, Error>,
+    input: &[u8],
+    expected: usize,
+) -> Result<Vec<u8>, Error> {
     let mut out = vec![0; expected];
     loop {
         match call(input, &mut out) {
