@@ -8,7 +8,7 @@ use std::fmt;
 pub enum Error {
     /// What the value's `Serialize` says.
     Value(String),
-    /// What the library says of the value's script.
+    /// What the library says of the value's tape.
     Library(sval_proved::Error),
 }
 

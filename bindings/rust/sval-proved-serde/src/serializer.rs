@@ -1,36 +1,88 @@
 //! serde's calls for one value.
 
+use crate::elements::{Items, Places};
 use crate::error::Error;
-use crate::parts::{Members, Parts};
-use crate::script::Script;
+use crate::members::{Entries, Fields};
 use serde::{ser, Serialize};
+use std::fmt::{self, Write};
+use sval_proved::{Index, Label, TapeWriter};
 
-/// Takes serde's calls for one value, and writes lines for them.
-pub struct Serializer<'a> {
-    script: &'a mut Script,
+/// The names of a variant.
+#[derive(Clone, Copy)]
+pub struct Variant {
+    /// The name of its enum.
+    pub of: &'static str,
+    pub name: &'static str,
+    /// Its number, from 0 on.
+    pub number: u32,
 }
 
-impl<'a> Serializer<'a> {
-    pub fn new(script: &'a mut Script) -> Self {
-        Serializer { script }
+impl Variant {
+    pub fn label(&self) -> Label<'static> {
+        Label::new(self.name)
     }
 
-    /// A float by digits that read back as the same float; null where it is no number.
-    fn float(self, is_finite: bool, digits: String) -> Result<(), Error> {
-        if is_finite {
-            self.script.number(&digits);
-        } else {
-            self.script.call("null");
-        }
+    pub fn index(&self) -> Index {
+        Index::new_u64(u64::from(self.number))
+    }
+
+    pub fn begin_enum(&self, tape: &mut TapeWriter) {
+        tape.enum_begin(None, Some(&Label::new(self.of)), None);
+    }
+
+    pub fn end_enum(&self, tape: &mut TapeWriter) {
+        tape.enum_end(None, Some(&Label::new(self.of)), None);
+    }
+}
+
+/// The digits of a float, of which there are at most 24.
+struct Digits {
+    bytes: [u8; 32],
+    length: usize,
+}
+
+impl Write for Digits {
+    fn write_str(&mut self, text: &str) -> fmt::Result {
+        let end = self.length + text.len();
+        let room = self.bytes.get_mut(self.length..end).ok_or(fmt::Error)?;
+        room.copy_from_slice(text.as_bytes());
+        self.length = end;
         Ok(())
     }
 }
 
-/// Methods for numbers that have a call of their type.
-macro_rules! numbers {
-    ($($method:ident: $type:ident),*) => {
+/// Takes serde's calls for one value, and writes them on a tape.
+pub struct Serializer<'a> {
+    tape: &'a mut TapeWriter,
+}
+
+impl<'a> Serializer<'a> {
+    pub fn new(tape: &'a mut TapeWriter) -> Self {
+        Serializer { tape }
+    }
+
+    /// A float by the shortest digits that read back as the same float; null where it is no number.
+    fn float(self, is_finite: bool, float: impl fmt::Debug) -> Result<(), Error> {
+        if !is_finite {
+            self.tape.null();
+            return Ok(());
+        }
+        let mut digits = Digits {
+            bytes: [0; 32],
+            length: 0,
+        };
+        write!(digits, "{float:?}").expect("a float has at most 24 digits");
+        let digits = std::str::from_utf8(&digits.bytes[..digits.length]);
+        self.tape.number(digits.expect("digits are ASCII"));
+        Ok(())
+    }
+}
+
+/// Methods for values that have a call of their type.
+macro_rules! calls {
+    ($($method:ident: $type:ty => $call:ident),*) => {
         $(fn $method(self, value: $type) -> Result<(), Error> {
-            self.script.call_with(stringify!($type), value);
+            self.tape.$call(value);
             Ok(())
         })*
     };
@@ -39,42 +91,40 @@ macro_rules! numbers {
 impl<'a> ser::Serializer for Serializer<'a> {
     type Ok = ();
     type Error = Error;
-    type SerializeSeq = Parts<'a>;
-    type SerializeTuple = Parts<'a>;
-    type SerializeTupleStruct = Parts<'a>;
-    type SerializeTupleVariant = Parts<'a>;
-    type SerializeMap = Members<'a>;
-    type SerializeStruct = Members<'a>;
-    type SerializeStructVariant = Members<'a>;
+    type SerializeSeq = Items<'a>;
+    type SerializeTuple = Places<'a>;
+    type SerializeTupleStruct = Places<'a>;
+    type SerializeTupleVariant = Places<'a>;
+    type SerializeMap = Entries<'a>;
+    type SerializeStruct = Fields<'a>;
+    type SerializeStructVariant = Fields<'a>;
 
-    numbers!(serialize_i8: i8, serialize_i16: i16, serialize_i32: i32, serialize_i64: i64, serialize_i128: i128);
-    numbers!(serialize_u8: u8, serialize_u16: u16, serialize_u32: u32, serialize_u64: u64, serialize_u128: u128);
-
-    fn serialize_bool(self, value: bool) -> Result<(), Error> {
-        self.script.call_with("bool", value);
-        Ok(())
-    }
+    calls!(
+        serialize_bool: bool => bool,
+        serialize_u8: u8 => u8,
+        serialize_u16: u16 => u16,
+        serialize_u32: u32 => u32,
+        serialize_u64: u64 => u64,
+        serialize_u128: u128 => u128,
+        serialize_i8: i8 => i8,
+        serialize_i16: i16 => i16,
+        serialize_i32: i32 => i32,
+        serialize_i64: i64 => i64,
+        serialize_i128: i128 => i128,
+        serialize_str: &str => text,
+        serialize_bytes: &[u8] => binary
+    );
 
     fn serialize_f32(self, value: f32) -> Result<(), Error> {
-        self.float(value.is_finite(), format!("{value:?}"))
+        self.float(value.is_finite(), value)
     }
 
     fn serialize_f64(self, value: f64) -> Result<(), Error> {
-        self.float(value.is_finite(), format!("{value:?}"))
+        self.float(value.is_finite(), value)
     }
 
     fn serialize_char(self, value: char) -> Result<(), Error> {
         self.serialize_str(value.encode_utf8(&mut [0; 4]))
-    }
-
-    fn serialize_str(self, value: &str) -> Result<(), Error> {
-        self.script.text(value);
-        Ok(())
-    }
-
-    fn serialize_bytes(self, value: &[u8]) -> Result<(), Error> {
-        self.script.binary(value);
-        Ok(())
     }
 
     fn serialize_none(self) -> Result<(), Error> {
@@ -86,7 +136,7 @@ impl<'a> ser::Serializer for Serializer<'a> {
     }
 
     fn serialize_unit(self) -> Result<(), Error> {
-        self.script.call("null");
+        self.tape.null();
         Ok(())
     }
 
@@ -96,74 +146,87 @@ impl<'a> ser::Serializer for Serializer<'a> {
 
     fn serialize_unit_variant(
         self,
-        _: &'static str,
-        _: u32,
-        variant: &'static str,
+        of: &'static str,
+        number: u32,
+        name: &'static str,
     ) -> Result<(), Error> {
-        self.serialize_str(variant)
+        let variant = Variant { of, name, number };
+        variant.begin_enum(self.tape);
+        self.tape
+            .tag(None, Some(&variant.label()), Some(&variant.index()));
+        variant.end_enum(self.tape);
+        Ok(())
     }
 
     fn serialize_newtype_struct<T: Serialize + ?Sized>(
         self,
-        _: &'static str,
+        name: &'static str,
         value: &T,
     ) -> Result<(), Error> {
-        value.serialize(self)
+        let label = Label::new(name);
+        self.tape.tagged_begin(None, Some(&label), None);
+        value.serialize(Serializer::new(self.tape))?;
+        self.tape.tagged_end(None, Some(&label), None);
+        Ok(())
     }
 
     fn serialize_newtype_variant<T: Serialize + ?Sized>(
         self,
-        _: &'static str,
-        _: u32,
-        variant: &'static str,
+        of: &'static str,
+        number: u32,
+        name: &'static str,
         value: &T,
     ) -> Result<(), Error> {
-        self.script.begin("map_begin", Some(1));
-        self.script.begin_member(variant);
-        value.serialize(Serializer::new(self.script))?;
-        self.script.end_member();
-        self.script.call("map_end");
+        let variant = Variant { of, name, number };
+        variant.begin_enum(self.tape);
+        self.tape
+            .tagged_begin(None, Some(&variant.label()), Some(&variant.index()));
+        value.serialize(Serializer::new(self.tape))?;
+        self.tape
+            .tagged_end(None, Some(&variant.label()), Some(&variant.index()));
+        variant.end_enum(self.tape);
         Ok(())
     }
 
-    fn serialize_seq(self, size: Option<usize>) -> Result<Parts<'a>, Error> {
-        Ok(Parts::new(self.script, size))
+    fn serialize_seq(self, size: Option<usize>) -> Result<Items<'a>, Error> {
+        Ok(Items::new(self.tape, size))
     }
 
-    fn serialize_tuple(self, size: usize) -> Result<Parts<'a>, Error> {
-        Ok(Parts::new(self.script, Some(size)))
+    fn serialize_tuple(self, size: usize) -> Result<Places<'a>, Error> {
+        Ok(Places::new(self.tape, None, size))
     }
 
-    fn serialize_tuple_struct(self, _: &'static str, size: usize) -> Result<Parts<'a>, Error> {
-        Ok(Parts::new(self.script, Some(size)))
+    fn serialize_tuple_struct(self, name: &'static str, size: usize) -> Result<Places<'a>, Error> {
+        Ok(Places::new(self.tape, Some(name), size))
     }
 
     fn serialize_tuple_variant(
         self,
-        _: &'static str,
-        _: u32,
-        variant: &'static str,
+        of: &'static str,
+        number: u32,
+        name: &'static str,
         size: usize,
-    ) -> Result<Parts<'a>, Error> {
-        Ok(Parts::of_variant(self.script, variant, size))
+    ) -> Result<Places<'a>, Error> {
+        let variant = Variant { of, name, number };
+        Ok(Places::of_variant(self.tape, variant, size))
     }
 
-    fn serialize_map(self, size: Option<usize>) -> Result<Members<'a>, Error> {
-        Ok(Members::new(self.script, size))
+    fn serialize_map(self, size: Option<usize>) -> Result<Entries<'a>, Error> {
+        Ok(Entries::new(self.tape, size))
     }
 
-    // A field may be left out (`skip_field`), so its number is not told.
-    fn serialize_struct(self, _: &'static str, _size: usize) -> Result<Members<'a>, Error> {
-        Ok(Members::new(self.script, None))
+    fn serialize_struct(self, name: &'static str, _size: usize) -> Result<Fields<'a>, Error> {
+        Ok(Fields::new(self.tape, name))
     }
 
     fn serialize_struct_variant(
         self,
-        _: &'static str,
-        _: u32,
-        variant: &'static str,
+        of: &'static str,
+        number: u32,
+        name: &'static str,
         _size: usize,
-    ) -> Result<Members<'a>, Error> {
-        Ok(Members::of_variant(self.script, variant))
+    ) -> Result<Fields<'a>, Error> {
+        let variant = Variant { of, name, number };
+        Ok(Fields::of_variant(self.tape, variant))
     }
 }

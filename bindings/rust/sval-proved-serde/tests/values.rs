@@ -4,7 +4,8 @@ use serde::ser::{SerializeMap, SerializeSeq};
 use serde::{Serialize, Serializer};
 use serde_json::Value;
 use std::collections::BTreeMap;
-use sval_proved_serde::{to_cbor, to_json, Error};
+use sval_proved::{Index, Label, TapeWriter};
+use sval_proved_serde::{to_cbor, to_json, to_json_pretty, to_tape, write_tape, Error};
 
 #[derive(Serialize)]
 struct Event<'a> {
@@ -27,6 +28,34 @@ enum Level {
 
 #[derive(Serialize)]
 struct Metres(f64);
+
+#[derive(Serialize)]
+struct Point(i8, Option<char>);
+
+#[derive(Serialize)]
+struct Origin;
+
+/// Names that JSON escapes.
+#[derive(Serialize)]
+#[serde(rename = "a \"name\"")]
+struct Renamed {
+    #[serde(rename = "a\n\"b\"")]
+    field: Renames,
+}
+
+#[derive(Serialize)]
+enum Renames {
+    #[serde(rename = "\\")]
+    Unit,
+    #[serde(rename = "\u{1}")]
+    Held(Option<Level>),
+}
+
+#[derive(Serialize, PartialEq, Eq, PartialOrd, Ord)]
+enum Key {
+    Name,
+    Other,
+}
 
 /// Both write the same value.
 fn compare<T: Serialize>(value: &T) {
@@ -75,6 +104,47 @@ fn structs_and_enums() {
     compare(&event(Level::Pair(true, '\u{1f600}'), None));
     compare(&event(Level::Named { name: "n" }, Some(0)));
     compare(&Metres(-0.0));
+    compare(&(Point(-1, Some('"')), Point(1, None), Origin));
+}
+
+#[test]
+fn names_that_are_escaped() {
+    compare(&Renamed {
+        field: Renames::Unit,
+    });
+    compare(&Renamed {
+        field: Renames::Held(None),
+    });
+    compare(&Renamed {
+        field: Renames::Held(Some(Level::Code(1))),
+    });
+    compare(&Renamed {
+        field: Renames::Held(Some(Level::Named { name: "\t" })),
+    });
+}
+
+#[test]
+fn the_calls_of_a_struct() {
+    let (metres, named) = (Label::new("Metres"), Label::new("Named"));
+    let mut due = TapeWriter::new();
+    due.tagged_begin(None, Some(&metres), None);
+    due.number("1.5");
+    due.tagged_end(None, Some(&metres), None);
+    due.enum_begin(None, Some(&Label::new("Level")), None);
+    due.record_begin(None, Some(&named), Some(&Index::new(3)), None);
+    due.record_value_begin(None, &Label::new("name"));
+    due.text("n");
+    due.record_value_end(None, &Label::new("name"));
+    due.record_end(None, Some(&named), Some(&Index::new(3)));
+    due.enum_end(None, Some(&Label::new("Level")), None);
+    let mut tape = to_tape(&Metres(1.5)).unwrap();
+    write_tape(&mut tape, &Level::Named { name: "n" }).unwrap();
+    assert_eq!(tape, due);
+}
+
+#[test]
+fn laid_out() {
+    assert_eq!(to_json_pretty(&[1]).unwrap(), b"[\n  1\n]");
 }
 
 #[test]
@@ -114,6 +184,7 @@ fn numbers_of_each_type() {
 fn maps() {
     compare(&BTreeMap::from([("b", vec![Some(1), None]), ("a", vec![])]));
     compare(&BTreeMap::from([(2, true), (1, false)]));
+    compare(&BTreeMap::from([(Key::Name, 1), (Key::Other, 2)]));
     assert_eq!(to_cbor(&[1, 2]).unwrap(), b"\x9f\x01\x02\xff");
 }
 
@@ -150,5 +221,8 @@ fn errors() {
         Err(Error::Library(sval_proved::Error::NotInteger))
     );
     // A size is a promise, which the library checks.
-    assert_eq!(to_json(&Liar), Err(Error::Library(sval_proved::Error::BadCall { line: 5 })));
+    assert_eq!(
+        to_json(&Liar),
+        Err(Error::Library(sval_proved::Error::RefusedCall { call: 5 }))
+    );
 }
