@@ -1,13 +1,15 @@
-//! The proved library beside serde_json, over random texts of JSON and texts that are no JSON.
+//! The proved library beside serde_json: over random texts of JSON and texts that are no JSON, and in speed.
 //!
-//! `compare [NUMBER [SEED]]`
+//! `compare [NUMBER [SEED]]`. With 0 it only measures.
 
+mod events;
 mod random;
+mod speed;
 
 use random::Random;
 use serde_json::Value;
 use std::env;
-use std::time::{Instant, SystemTime, UNIX_EPOCH};
+use std::time::{SystemTime, UNIX_EPOCH};
 use sval_proved::{check, compact, from_cbor, pretty, to_cbor, Error};
 
 /// Both read a text, or both refuse it, and what the library writes is the value that serde_json reads.
@@ -58,28 +60,6 @@ fn settled(value: Value) -> Value {
     }
 }
 
-/// The best time of nine runs, in milliseconds.
-fn best(mut run: impl FnMut()) -> f64 {
-    let times = (0..9).map(|_| {
-        let start = Instant::now();
-        run();
-        start.elapsed().as_secs_f64() * 1e3
-    });
-    times.fold(f64::MAX, f64::min)
-}
-
-/// How long both take for one text of many events.
-fn time() {
-    let event = r#"{"ts": "2024-01-02T03:04:05Z", "level": "Info", "message": "user login", "user": 42, "tags": ["a", "b"]}"#;
-    let text = format!("[{}]", vec![event; 20_000].join(", ")).into_bytes();
-    let ours = best(|| assert!(compact(&text).is_ok()));
-    let theirs = best(|| {
-        let value: Value = serde_json::from_slice(&text).expect("the text is JSON");
-        assert!(serde_json::to_vec(&value).is_ok());
-    });
-    println!("rust: compact {ours:.1} ms, serde_json's Value there and back {theirs:.1} ms, for {} bytes", text.len());
-}
-
 fn main() {
     let mut words = env::args()
         .skip(1)
@@ -98,6 +78,6 @@ fn main() {
         compare(&text);
         compare(&random.changed(text));
     }
-    time();
+    speed::print_all();
     println!("rust: ok");
 }

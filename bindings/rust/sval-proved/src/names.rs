@@ -3,13 +3,20 @@
 /// A hint of what a label, an index or a value is for. The library reads ten of them, which [`tags`] has.
 #[derive(Clone, Copy, Debug, PartialEq, Eq)]
 pub struct Tag {
-    text: &'static str,
+    /// The tag as an operand that is given: 1, the length of its text, and the text.
+    operand: &'static str,
 }
 
 impl Tag {
     /// The text by which the tag is known.
     pub fn as_str(&self) -> &'static str {
-        self.text
+        &self.operand[2..]
+    }
+
+    /// The tag as an operand that is given.
+    #[inline]
+    pub(crate) fn operand(&self) -> &'static [u8] {
+        self.operand.as_bytes()
     }
 }
 
@@ -19,45 +26,53 @@ pub mod tags {
 
     /// The value of an optional value that is there.
     pub const RUST_OPTION_SOME: Tag = Tag {
-        text: "RUST_OPTION_SOME",
+        operand: "\u{1}\u{10}RUST_OPTION_SOME",
     };
 
     /// An optional value that isn't there.
     pub const RUST_OPTION_NONE: Tag = Tag {
-        text: "RUST_OPTION_NONE",
+        operand: "\u{1}\u{10}RUST_OPTION_NONE",
     };
 
     /// The value of a type that has one value.
-    pub const RUST_UNIT: Tag = Tag { text: "RUST_UNIT" };
+    pub const RUST_UNIT: Tag = Tag {
+        operand: "\u{1}\u{9}RUST_UNIT",
+    };
 
     /// A number in a text.
-    pub const NUMBER: Tag = Tag { text: "NUMBER" };
+    pub const NUMBER: Tag = Tag {
+        operand: "\u{1}\u{6}NUMBER",
+    };
 
     /// A value whose size its type fixes.
     pub const CONSTANT_SIZE: Tag = Tag {
-        text: "CONSTANT_SIZE",
+        operand: "\u{1}\u{d}CONSTANT_SIZE",
     };
 
     /// A label that is a name in the program's text. JSON writes a field's label with this tag without escapes, so only
     /// a text that needs none may have it.
     pub const VALUE_IDENT: Tag = Tag {
-        text: "VALUE_IDENT",
+        operand: "\u{1}\u{b}VALUE_IDENT",
     };
 
     /// An index that is a place in an order.
     pub const VALUE_OFFSET: Tag = Tag {
-        text: "VALUE_OFFSET",
+        operand: "\u{1}\u{c}VALUE_OFFSET",
     };
 
     /// A text that is a value of JSON. It is written as it is, and nothing checks it.
-    pub const JSON_VALUE: Tag = Tag { text: "JSON_VALUE" };
+    pub const JSON_VALUE: Tag = Tag {
+        operand: "\u{1}\u{a}JSON_VALUE",
+    };
 
     /// A text as it may stand between the quotes of JSON. It is written as it is, and nothing checks it.
-    pub const JSON_TEXT: Tag = Tag { text: "JSON_TEXT" };
+    pub const JSON_TEXT: Tag = Tag {
+        operand: "\u{1}\u{9}JSON_TEXT",
+    };
 
     /// A text that is a number of JSON. It is written as it is, and nothing checks it.
     pub const JSON_NUMBER: Tag = Tag {
-        text: "JSON_NUMBER",
+        operand: "\u{1}\u{b}JSON_NUMBER",
     };
 }
 
@@ -70,11 +85,13 @@ pub struct Label<'a> {
 
 impl<'a> Label<'a> {
     /// The label with this text, without a tag.
+    #[inline]
     pub fn new(text: &'a str) -> Self {
         Label { text, tag: None }
     }
 
     /// This label with this tag, in place of its own if it had one.
+    #[inline]
     pub fn with_tag(self, tag: &Tag) -> Self {
         Label {
             tag: Some(*tag),
@@ -83,11 +100,13 @@ impl<'a> Label<'a> {
     }
 
     /// The text.
+    #[inline]
     pub fn as_str(&self) -> &'a str {
         self.text
     }
 
     /// The tag, if it has one.
+    #[inline]
     pub fn tag(&self) -> Option<&Tag> {
         self.tag.as_ref()
     }
@@ -96,33 +115,38 @@ impl<'a> Label<'a> {
 /// A name as a number: the place of a field or of a variant, from -2^63 to 2^64-1.
 #[derive(Clone, Copy, Debug)]
 pub struct Index {
-    pub(crate) number: i128,
+    /// The number without a sign: 0, -1, 1, -2 are 0, 1, 2, 3.
+    pub(crate) zigzag: u128,
     pub(crate) tag: Option<Tag>,
 }
 
 impl Index {
     /// The index with this number, without a tag.
+    #[inline]
     pub fn new(number: usize) -> Self {
         Index::new_u64(number as u64)
     }
 
     /// The index with this number, without a tag.
+    #[inline]
     pub fn new_u64(number: u64) -> Self {
         Index {
-            number: i128::from(number),
+            zigzag: u128::from(number) << 1,
             tag: None,
         }
     }
 
     /// The index with this number, without a tag.
+    #[inline]
     pub fn new_i64(number: i64) -> Self {
         Index {
-            number: i128::from(number),
+            zigzag: u128::from(((number << 1) ^ (number >> 63)) as u64),
             tag: None,
         }
     }
 
     /// This index with this tag, in place of its own if it had one.
+    #[inline]
     pub fn with_tag(self, tag: &Tag) -> Self {
         Index {
             tag: Some(*tag),
@@ -131,6 +155,7 @@ impl Index {
     }
 
     /// The tag, if it has one.
+    #[inline]
     pub fn tag(&self) -> Option<&Tag> {
         self.tag.as_ref()
     }

@@ -13,6 +13,7 @@ pub fn number(out: &mut Vec<u8>, mut number: u64) {
 }
 
 /// A number of up to 128 bits as LEB128 in the shortest form.
+#[inline]
 pub fn wide_number(out: &mut Vec<u8>, mut wide: u128) {
     while wide > u128::from(u64::MAX) {
         out.push(wide as u8 | 128);
@@ -55,10 +56,7 @@ pub fn size(out: &mut Vec<u8>, size: Option<usize>) {
 #[inline]
 pub fn tag(out: &mut Vec<u8>, tag: Option<&Tag>) {
     match tag {
-        Some(tag) => {
-            out.push(1);
-            block(out, tag.as_str().as_bytes());
-        }
+        Some(tag) => out.extend_from_slice(tag.operand()),
         None => out.push(0),
     }
 }
@@ -73,10 +71,7 @@ pub fn label(out: &mut Vec<u8>, label: &Label) {
 /// An index.
 #[inline]
 pub fn index(out: &mut Vec<u8>, index: &Index) {
-    match i64::try_from(index.number) {
-        Ok(number) => signed(out, number),
-        Err(_) => wide_signed(out, index.number),
-    }
+    wide_number(out, index.zigzag);
     tag(out, index.tag());
 }
 

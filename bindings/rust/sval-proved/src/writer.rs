@@ -184,7 +184,7 @@ impl TapeWriter {
     #[inline]
     pub fn tag_hint(&mut self, tag: &Tag) {
         self.bytes.push(21);
-        operands::block(&mut self.bytes, tag.as_str().as_bytes());
+        self.bytes.extend_from_slice(&tag.operand()[1..]);
     }
 
     named! {
