@@ -1,4 +1,6 @@
-//! The bytes of operands, as the crate `sval_tape` of the library defines them.
+//! The bytes of calls and operands, as the crate `sval_tape` of the library defines them.
+//!
+//! Bytes that are known together are written together, since each write looks for room.
 
 use crate::names::{Index, Label, Tag};
 
@@ -29,21 +31,30 @@ pub fn signed(out: &mut Vec<u8>, value: i64) {
 }
 
 /// A signed number of up to 128 bits.
+#[inline]
 pub fn wide_signed(out: &mut Vec<u8>, value: i128) {
     wide_number(out, ((value << 1) ^ (value >> 127)) as u128);
 }
 
-/// Bytes behind their number.
+/// Some bytes, and then the number of a block's bytes and the block.
 #[inline]
-pub fn block(out: &mut Vec<u8>, bytes: &[u8]) {
-    number(out, bytes.len() as u64);
-    out.extend_from_slice(bytes);
+pub fn block_behind<const N: usize>(out: &mut Vec<u8>, mut front: [u8; N], block: &[u8]) {
+    // The last of the bytes in front is the room for a short length.
+    if block.len() < 128 {
+        front[N - 1] = block.len() as u8;
+        out.extend_from_slice(&front);
+    } else {
+        out.extend_from_slice(&front[..N - 1]);
+        number(out, block.len() as u64);
+    }
+    out.extend_from_slice(block);
 }
 
 /// A size, where one is given.
 #[inline]
 pub fn size(out: &mut Vec<u8>, size: Option<usize>) {
     match size {
+        Some(size) if size < 128 => out.extend_from_slice(&[1, size as u8]),
         Some(size) => {
             out.push(1);
             number(out, size as u64);
@@ -61,13 +72,6 @@ pub fn tag(out: &mut Vec<u8>, tag: Option<&Tag>) {
     }
 }
 
-/// A label.
-#[inline]
-pub fn label(out: &mut Vec<u8>, label: &Label) {
-    block(out, label.text.as_bytes());
-    tag(out, label.tag());
-}
-
 /// An index.
 #[inline]
 pub fn index(out: &mut Vec<u8>, index: &Index) {
@@ -75,25 +79,44 @@ pub fn index(out: &mut Vec<u8>, index: &Index) {
     tag(out, index.tag());
 }
 
-/// A name: a tag, a label and an index, each where it is given.
+/// A call with a tag, where one is given, and a label.
 #[inline]
-pub fn name(out: &mut Vec<u8>, name: Name) {
-    tag(out, name.0);
-    match name.1 {
-        Some(it) => {
-            out.push(1);
-            label(out, it);
+pub fn field(out: &mut Vec<u8>, call: u8, before: Option<&Tag>, label: &Label) {
+    let text = label.text.as_bytes();
+    match before {
+        Some(_) => {
+            out.push(call);
+            tag(out, before);
+            block_behind(out, [0], text);
+        }
+        None => block_behind(out, [call, 0, 0], text),
+    }
+    tag(out, label.tag());
+}
+
+/// A call with a name: a tag, a label and an index, each where it is given.
+#[inline]
+pub fn named(
+    out: &mut Vec<u8>,
+    call: u8,
+    before: Option<&Tag>,
+    label: Option<&Label>,
+    place: Option<&Index>,
+) {
+    out.push(call);
+    tag(out, before);
+    match label {
+        Some(label) => {
+            block_behind(out, [1, 0], label.text.as_bytes());
+            tag(out, label.tag());
         }
         None => out.push(0),
     }
-    match name.2 {
-        Some(it) => {
+    match place {
+        Some(place) => {
             out.push(1);
-            index(out, it);
+            index(out, place);
         }
         None => out.push(0),
     }
 }
-
-/// The tag, the label and the index of a value.
-pub type Name<'a> = (Option<&'a Tag>, Option<&'a Label<'a>>, Option<&'a Index>);

@@ -55,8 +55,7 @@ macro_rules! fragments {
         $($(#[$doc])*
         #[inline]
         pub fn $method(&mut self, fragment: $type) {
-            self.bytes.push($number);
-            operands::block(&mut self.bytes, fragment.as_ref());
+            operands::block_behind(&mut self.bytes, [$number, 0], fragment.as_ref());
         })*
     };
 }
@@ -67,8 +66,7 @@ macro_rules! named {
         $($(#[$doc])*
         #[inline]
         pub fn $method(&mut self, tag: Option<&Tag>, label: Option<&Label>, index: Option<&Index>) {
-            self.bytes.push($number);
-            operands::name(&mut self.bytes, (tag, label, index));
+            operands::named(&mut self.bytes, $number, tag, label, index);
         })*
     };
 }
@@ -85,22 +83,44 @@ macro_rules! named_sized {
             index: Option<&Index>,
             size: Option<usize>,
         ) {
-            self.bytes.push($number);
-            operands::name(&mut self.bytes, (tag, label, index));
+            operands::named(&mut self.bytes, $number, tag, label, index);
             operands::size(&mut self.bytes, size);
         })*
     };
 }
 
-/// Methods for the begins and ends of fields, with the arguments that are given.
+/// Methods for the begins and ends of a record's fields.
 macro_rules! fields {
-    ($($(#[$doc:meta])* $method:ident($($argument:ident: $type:ty),*) = $number:literal;)*) => {
+    ($($(#[$doc:meta])* $method:ident = $number:literal;)*) => {
         $($(#[$doc])*
         #[inline]
-        pub fn $method(&mut self, tag: Option<&Tag>, $($argument: &$type),*) {
+        pub fn $method(&mut self, tag: Option<&Tag>, label: &Label) {
+            operands::field(&mut self.bytes, $number, tag, label);
+        })*
+    };
+}
+
+/// Methods for the begins and ends of a tuple's fields.
+macro_rules! places {
+    ($($(#[$doc:meta])* $method:ident = $number:literal;)*) => {
+        $($(#[$doc])*
+        #[inline]
+        pub fn $method(&mut self, tag: Option<&Tag>, index: &Index) {
             self.bytes.push($number);
             operands::tag(&mut self.bytes, tag);
-            $(operands::$argument(&mut self.bytes, $argument);)*
+            operands::index(&mut self.bytes, index);
+        })*
+    };
+}
+
+/// Methods for the begins and ends of the fields of a record that is a tuple too.
+macro_rules! field_places {
+    ($($(#[$doc:meta])* $method:ident = $number:literal;)*) => {
+        $($(#[$doc])*
+        #[inline]
+        pub fn $method(&mut self, tag: Option<&Tag>, label: &Label, index: &Index) {
+            operands::field(&mut self.bytes, $number, tag, label);
+            operands::index(&mut self.bytes, index);
         })*
     };
 }
@@ -241,11 +261,17 @@ impl TapeWriter {
 
     fields! {
         /// A field of a record begins.
-        record_value_begin(label: Label) = 39;
+        record_value_begin = 39;
+    }
+
+    places! {
         /// A field of a tuple begins.
-        tuple_value_begin(index: Index) = 40;
+        tuple_value_begin = 40;
+    }
+
+    field_places! {
         /// A field of a record that is a tuple too begins.
-        record_tuple_value_begin(label: Label, index: Index) = 41;
+        record_tuple_value_begin = 41;
     }
 
     alone! {
@@ -259,11 +285,17 @@ impl TapeWriter {
 
     fields! {
         /// A field of a record ends.
-        record_value_end(label: Label) = 45;
+        record_value_end = 45;
+    }
+
+    places! {
         /// A field of a tuple ends.
-        tuple_value_end(index: Index) = 46;
+        tuple_value_end = 46;
+    }
+
+    field_places! {
         /// A field of a record that is a tuple too ends.
-        record_tuple_value_end(label: Label, index: Index) = 47;
+        record_tuple_value_end = 47;
     }
 }
 
@@ -284,8 +316,14 @@ impl TapeWriter {
     /// A whole text, with its size.
     #[inline]
     pub fn text(&mut self, text: &str) {
-        self.text_begin(Some(text.len()));
-        self.text_fragment(text);
+        if text.len() < 128 {
+            let size = text.len() as u8;
+            self.bytes.extend_from_slice(&[12, 1, size, 13, size]);
+            self.bytes.extend_from_slice(text.as_bytes());
+        } else {
+            self.text_begin(Some(text.len()));
+            self.text_fragment(text);
+        }
         self.text_end();
     }
 
@@ -299,9 +337,9 @@ impl TapeWriter {
 
     /// A number by its digits: an optional sign, digits, and perhaps a fraction and an exponent. The library checks them.
     pub fn number(&mut self, digits: &str) {
-        self.tagged_begin(Some(&crate::tags::NUMBER), None, None);
+        self.bytes.extend_from_slice(b"\x18\x01\x06NUMBER\0\0");
         self.text(digits);
-        self.tagged_end(Some(&crate::tags::NUMBER), None, None);
+        self.bytes.extend_from_slice(b"\x19\x01\x06NUMBER\0\0");
     }
 
     /// The bytes so far.
