@@ -1,6 +1,7 @@
 //! The proved library beside serde_json: over random texts of JSON and texts that are no JSON, and in speed.
 //!
-//! `compare [NUMBER [SEED]]`. With 0 it only measures.
+//! - `compare [NUMBER [SEED]]` does both, with so many random texts.
+//! - `compare speed` only measures. Without the feature `exact` serde_json is as quick as it can be.
 
 mod events;
 mod random;
@@ -24,12 +25,26 @@ fn compare(text: &[u8]) {
             let json =
                 ours.unwrap_or_else(|error| panic!("{error}: {}", String::from_utf8_lossy(text)));
             let again: Value = serde_json::from_slice(&json).expect("the library writes JSON");
-            assert_eq!(again, settled(value));
+            let value = settled(value);
+            assert_eq!(again, value);
+            compare_tape(&value);
             compare_pretty(text, &json);
             compare_cbor(text, &json);
         }
         Err(error) => assert!(ours.is_err(), "{error}: {}", String::from_utf8_lossy(text)),
     }
+}
+
+/// By serde and a tape the value is what serde_json writes of it.
+fn compare_tape(value: &Value) {
+    let json = serde_json::to_vec(value).expect("it has JSON");
+    let laid = sval_proved_serde::to_json_pretty(value);
+    assert_eq!(compact(&laid.expect("it has JSON")).as_ref(), Ok(&json));
+    match sval_proved_serde::to_cbor(value) {
+        Ok(cbor) => assert_eq!(Ok(cbor), to_cbor(&json)),
+        Err(error) => assert_eq!(error, Error::NotInteger.into()),
+    }
+    assert_eq!(sval_proved_serde::to_json(value), Ok(json));
 }
 
 /// Laid out, the text is without white space what the library writes so at once, and is laid out the same again.
@@ -61,8 +76,12 @@ fn settled(value: Value) -> Value {
 }
 
 fn main() {
-    let mut words = env::args()
-        .skip(1)
+    let words: Vec<String> = env::args().skip(1).collect();
+    if words == ["speed"] {
+        return speed::print_all();
+    }
+    let mut words = words
+        .iter()
         .map(|word| word.parse::<u64>().expect("a number"));
     let number = words.next().unwrap_or(10_000);
     let now = || {

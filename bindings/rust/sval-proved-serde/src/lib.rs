@@ -13,6 +13,7 @@
 //! |---|---|
 //! | number, truth value, text, bytes, character | of its type; a character is a text |
 //! | float | its shortest digits under the tag `NUMBER`, or `null` where it is no number |
+//! | number of serde_json with `arbitrary_precision` | its digits under the tag `NUMBER` |
 //! | unit, unit struct, `None` | `null` |
 //! | `Some` | its value |
 //! | sequence, map | sequence, map |

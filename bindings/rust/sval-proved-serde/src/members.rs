@@ -3,7 +3,7 @@
 use crate::error::Error;
 use crate::serializer::{Serializer, Variant};
 use serde::{ser, Serialize};
-use sval_proved::{Label, TapeWriter};
+use sval_proved::{tags, Label, TapeWriter};
 
 /// Takes the entries of a map.
 pub struct Entries<'a> {
@@ -41,21 +41,36 @@ impl ser::SerializeMap for Entries<'_> {
     }
 }
 
+/// The struct and the field that serde_json has for a number with its feature `arbitrary_precision`. The field is a text.
+const NUMBER: &str = "$serde_json::private::Number";
+
+/// What the fields belong to.
+enum Owner {
+    Struct(&'static str),
+    Variant(Variant),
+    Number,
+}
+
 /// Takes the fields of a struct, or of a variant with named fields.
 pub struct Fields<'a> {
     tape: &'a mut TapeWriter,
-    name: &'static str,
-    variant: Option<Variant>,
+    owner: Owner,
 }
 
 impl<'a> Fields<'a> {
     // A field may be left out (`skip_field`), so the number of fields is not told.
     pub fn new(tape: &'a mut TapeWriter, name: &'static str) -> Self {
+        if name == NUMBER {
+            tape.tagged_begin(Some(&tags::NUMBER), None, None);
+            return Fields {
+                tape,
+                owner: Owner::Number,
+            };
+        }
         tape.record_begin(None, Some(&Label::new(name)), None, None);
         Fields {
             tape,
-            name,
-            variant: None,
+            owner: Owner::Struct(name),
         }
     }
 
@@ -64,12 +79,15 @@ impl<'a> Fields<'a> {
         tape.record_begin(None, Some(&variant.label()), Some(&variant.index()), None);
         Fields {
             tape,
-            name: variant.name,
-            variant: Some(variant),
+            owner: Owner::Variant(variant),
         }
     }
 
+    #[inline]
     fn field<T: Serialize + ?Sized>(&mut self, name: &'static str, value: &T) -> Result<(), Error> {
+        if let Owner::Number = self.owner {
+            return value.serialize(Serializer::new(self.tape));
+        }
         let label = Label::new(name);
         self.tape.record_value_begin(None, &label);
         value.serialize(Serializer::new(self.tape))?;
@@ -78,11 +96,14 @@ impl<'a> Fields<'a> {
     }
 
     fn finish(self) {
-        let index = self.variant.map(|variant| variant.index());
-        self.tape
-            .record_end(None, Some(&Label::new(self.name)), index.as_ref());
-        if let Some(variant) = self.variant {
-            variant.end_enum(self.tape);
+        match self.owner {
+            Owner::Number => self.tape.tagged_end(Some(&tags::NUMBER), None, None),
+            Owner::Struct(name) => self.tape.record_end(None, Some(&Label::new(name)), None),
+            Owner::Variant(variant) => {
+                self.tape
+                    .record_end(None, Some(&variant.label()), Some(&variant.index()));
+                variant.end_enum(self.tape);
+            }
         }
     }
 }
