@@ -35,6 +35,16 @@ impl Variant {
     }
 }
 
+/// Writes a text as it is formatted, a fragment at a time.
+struct Fragments<'a>(&'a mut TapeWriter);
+
+impl Write for Fragments<'_> {
+    fn write_str(&mut self, text: &str) -> fmt::Result {
+        self.0.text_fragment(text);
+        Ok(())
+    }
+}
+
 /// The digits of a float, of which there are at most 24.
 struct Digits {
     bytes: [u8; 32],
@@ -125,6 +135,13 @@ impl<'a> ser::Serializer for Serializer<'a> {
 
     fn serialize_char(self, value: char) -> Result<(), Error> {
         self.serialize_str(value.encode_utf8(&mut [0; 4]))
+    }
+
+    fn collect_str<T: fmt::Display + ?Sized>(self, value: &T) -> Result<(), Error> {
+        self.tape.text_begin(None);
+        write!(Fragments(self.tape), "{value}").map_err(<Error as ser::Error>::custom)?;
+        self.tape.text_end();
+        Ok(())
     }
 
     fn serialize_none(self) -> Result<(), Error> {

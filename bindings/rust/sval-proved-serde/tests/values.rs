@@ -186,6 +186,7 @@ fn maps() {
     compare(&BTreeMap::from([(2, true), (1, false)]));
     let value: Value = serde_json::from_str(r#"{"a":[1.50,-2e+7,null]}"#).unwrap();
     assert_eq!(to_json(&value).unwrap(), value.to_string().into_bytes());
+    compare(&format_args!("{}\n{:?}", 1, "a"));
     compare(&BTreeMap::from([(Key::Name, 1), (Key::Other, 2)]));
     assert_eq!(to_cbor(&[1, 2]).unwrap(), b"\x9f\x01\x02\xff");
 }
