@@ -1,12 +1,10 @@
-//! Values of a document, taken by themselves: what is written of one, and the calls that it makes.
+//! Values of a document, taken by themselves: what is written of one.
 
 use crate::cases::{Case, try_cases};
 use std::alloc::Global;
 use std::test::Fail;
-use sval_check::TokenBuf;
 use sval_json::stream_to_string;
 use sval_json_read::JsonDoc;
-use sval_ref::stream_ref;
 
 /// A line that is a document, a pointer (RFC 6901), and behind `json` what is written of the value that the pointer
 /// references in it.
@@ -23,23 +21,6 @@ impl Case for Written {
             )?),
             None => Ok(String::from_str(alloc, "nothing")?),
         }
-    }
-}
-
-/// A document and a pointer likewise, and behind `calls` the calls of the value that the pointer references.
-struct Calls;
-
-impl Case for Calls {
-    fn seen(alloc: Global, input: &str, _due: &str) -> Result<String, Fail> {
-        let (document, pointer) = input.split_once('\n').unwrap_or((input, ""));
-        let doc = JsonDoc::read_str(alloc, document)?;
-        let mut calls = TokenBuf::new(alloc);
-        if let Some(value) = doc.root().pointer(pointer) {
-            stream_ref(&mut calls, &value.part())?;
-        }
-        let tokens = calls.as_tokens();
-        let seen = format!(in alloc; "calls {tokens:?}")?;
-        Ok(seen)
     }
 }
 
@@ -128,28 +109,7 @@ const WRITTEN: &'static str = r#"
 = nothing
 "#;
 
-/// Of a string with an escape, its runs are lent. No call tells of the array or object around the value.
-const CALLS: &'static str = r#"
-[0, "a\nb"]
-/1␄
-= calls [TextBegin(None), TextFragment("a"), TextFragmentComputed(TokenText { text: "\n" }), TextFragment("b"), TextEnd]
-{"a": null}
-/a␄
-= calls [Null]
-{"a": [true]}
-/a␄
-= calls [SeqBegin(None), SeqValueBegin, Bool(true), SeqValueEnd, SeqEnd]
-[{"b": 7}]
-/0␄
-= calls [MapBegin(None), MapKeyBegin, TextBegin(None), TextFragment("b"), TextEnd, MapKeyEnd, MapValueBegin, I64(7), MapValueEnd, MapEnd]
-"#;
-
 #[test]
 fn what_is_written_of_a_part(rt: HostRuntime) -> Result<(), Fail> {
     try_cases::<Written>(&rt, rt.alloc(), WRITTEN)
-}
-
-#[test]
-fn the_calls_of_a_part(rt: HostRuntime) -> Result<(), Fail> {
-    try_cases::<Calls>(&rt, rt.alloc(), CALLS)
 }
