@@ -58,7 +58,7 @@ fn a_tape_is_written_to_a_buffer() {
         tape.to_json_into(&mut out[..5]),
         Err(Error::TooShort { due: 6 })
     );
-    assert_eq!(&out[..5], b"\x9f\xf6\xffnu");
+    assert_eq!(&out[..5], b"\x9f\xf6\xff n");
 }
 
 #[test]
