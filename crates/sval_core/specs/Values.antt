@@ -126,6 +126,15 @@ abbrev pub places_emission : ℕ → List Emission → Emission
 places_emission i [] = silent
 places_emission i (e ∷ es) = then_emits (part_emission (Slot.Place None (offset i)) e) (places_emission (i + 1) es)
 
+-- what was emitted before, and then fields under places from this one on
+abbrev pub then_places : Emission → ℕ → List Emission → Emission
+then_places before i [] = before
+then_places before i (e ∷ es) = then_places (then_emits before (part_emission (Slot.Place None (offset i)) e)) (i + 1) es
+
+-- a tuple without a name up to its last field
+abbrev pub begun_tuple : List Emission → Emission
+begun_tuple es = then_places (emits (Call.Begin (Head.Tuple no_name) (Some (length es)))) 0 es
+
 -- a tuple without a name, which tells how many parts it has, and whose parts are counted from 0
 abbrev pub tuple_emission : List Emission → Emission
 tuple_emission es = container_emission (Head.Tuple no_name) (length es) (places_emission 0 es)

@@ -2,15 +2,8 @@
 //!
 //! The calls of each are in `specs/Values.antt`, and the tree that these spell is in `specs/ValueTrees.antt`.
 
-/// References to fields, one before the others.
-macro_rules! fields {
-    () => { () };
-    ($first:expr $(, $others:expr)*) => { (&$first, fields!($($others),*)) };
-}
-
 mod arrays;
 mod collections;
-mod fields;
 mod leaves;
 mod long_tuples;
 mod maps;
@@ -19,6 +12,7 @@ mod options;
 mod pointers;
 mod sequences;
 mod texts;
+mod tuple_streaming;
 mod tuples;
 
 pub use leaves::Null;

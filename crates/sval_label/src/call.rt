@@ -7,6 +7,7 @@ use crate::label::Label;
 use crate::name::Name;
 use crate::tag::Tag;
 use std::alloc::AllocError;
+use std::fmt;
 use std::marker::PhantomData;
 
 /// What a stream may keep of the calls that it takes: texts and bytes that outlive the call.
@@ -83,7 +84,7 @@ impl<'sval> Lending for Lent<'sval> {
 /// bytes, or of a container's entries.
 ///
 /// [`AnyCall::grouped`] has the calls that differ in little more than their words as one.
-#[derive(Copy, Debug)]
+#[derive(Copy)]
 pub enum AnyCall<'c, T, B> {
     /// No value.
     Null,
@@ -245,6 +246,16 @@ impl<'c, T: Copy, B: Copy> Clone for AnyCall<'c, T, B> {
                 *tag, *label, *index,
             )),
             AnyCall::RecordTupleEnd(name) => Ok(AnyCall::RecordTupleEnd(*name)),
+        }
+    }
+}
+
+/// A call prints as [`AnyCall::grouped`] has it.
+impl<'c, T: Copy + fmt::Debug, B: Copy + fmt::Debug> fmt::Debug for AnyCall<'c, T, B> {
+    fn fmt<W: fmt::Write>(&self, f: &mut fmt::Formatter<W>) -> fmt::Result {
+        match self.clone() {
+            Ok(call) => fmt::Debug::fmt(&call.grouped(), f),
+            Err(_) => Err(fmt::Error),
         }
     }
 }

@@ -1,4 +1,4 @@
-//! Tuples of thirteen to sixteen fields, which are streamed in two halves.
+//! Tuples of thirteen to sixteen fields, each under its place.
 //!
 //! In clauses a tuple of thirteen to sixteen fields is a pair of its first field and of those after it: `tuple.1.1.0`
 //! is the third field.
@@ -8,7 +8,7 @@ ghost use Rattle.sval_core.specs.Values.{tuple_emission};
 
 use crate::stream::Stream;
 use crate::value::Value;
-use crate::values::fields::stream_long_tuple;
+use crate::values::tuple_streaming::TupleStreaming;
 use sval_label::{Lent, Result};
 
 impl<
@@ -34,14 +34,21 @@ impl<
         L.emission tuple.1.1.1.1.1.1.1.1.1.1.1.0 ∷ M.emission tuple.1.1.1.1.1.1.1.1.1.1.1.1.0 ∷ []) };
 
     fn stream<S: Stream<Lent<'v>>>(&'v self, stream: &mut S) -> Result {
-        stream_long_tuple(
-            stream,
-            13,
-            fields!(
-                self.0, self.1, self.2, self.3, self.4, self.5, self.6, self.7
-            ),
-            fields!(self.8, self.9, self.10, self.11, self.12),
-        )
+        TupleStreaming::begin(stream, 13)
+            .field(stream, 0, &self.0)
+            .field(stream, 1, &self.1)
+            .field(stream, 2, &self.2)
+            .field(stream, 3, &self.3)
+            .field(stream, 4, &self.4)
+            .field(stream, 5, &self.5)
+            .field(stream, 6, &self.6)
+            .field(stream, 7, &self.7)
+            .field(stream, 8, &self.8)
+            .field(stream, 9, &self.9)
+            .field(stream, 10, &self.10)
+            .field(stream, 11, &self.11)
+            .field(stream, 12, &self.12)
+            .end(stream)
     }
 }
 
@@ -70,14 +77,22 @@ impl<
         N.emission tuple.1.1.1.1.1.1.1.1.1.1.1.1.1.0 ∷ []) };
 
     fn stream<S: Stream<Lent<'v>>>(&'v self, stream: &mut S) -> Result {
-        stream_long_tuple(
-            stream,
-            14,
-            fields!(
-                self.0, self.1, self.2, self.3, self.4, self.5, self.6, self.7
-            ),
-            fields!(self.8, self.9, self.10, self.11, self.12, self.13),
-        )
+        TupleStreaming::begin(stream, 14)
+            .field(stream, 0, &self.0)
+            .field(stream, 1, &self.1)
+            .field(stream, 2, &self.2)
+            .field(stream, 3, &self.3)
+            .field(stream, 4, &self.4)
+            .field(stream, 5, &self.5)
+            .field(stream, 6, &self.6)
+            .field(stream, 7, &self.7)
+            .field(stream, 8, &self.8)
+            .field(stream, 9, &self.9)
+            .field(stream, 10, &self.10)
+            .field(stream, 11, &self.11)
+            .field(stream, 12, &self.12)
+            .field(stream, 13, &self.13)
+            .end(stream)
     }
 }
 
@@ -107,14 +122,23 @@ impl<
         N.emission tuple.1.1.1.1.1.1.1.1.1.1.1.1.1.0 ∷ O.emission tuple.1.1.1.1.1.1.1.1.1.1.1.1.1.1.0 ∷ []) };
 
     fn stream<S: Stream<Lent<'v>>>(&'v self, stream: &mut S) -> Result {
-        stream_long_tuple(
-            stream,
-            15,
-            fields!(
-                self.0, self.1, self.2, self.3, self.4, self.5, self.6, self.7
-            ),
-            fields!(self.8, self.9, self.10, self.11, self.12, self.13, self.14),
-        )
+        TupleStreaming::begin(stream, 15)
+            .field(stream, 0, &self.0)
+            .field(stream, 1, &self.1)
+            .field(stream, 2, &self.2)
+            .field(stream, 3, &self.3)
+            .field(stream, 4, &self.4)
+            .field(stream, 5, &self.5)
+            .field(stream, 6, &self.6)
+            .field(stream, 7, &self.7)
+            .field(stream, 8, &self.8)
+            .field(stream, 9, &self.9)
+            .field(stream, 10, &self.10)
+            .field(stream, 11, &self.11)
+            .field(stream, 12, &self.12)
+            .field(stream, 13, &self.13)
+            .field(stream, 14, &self.14)
+            .end(stream)
     }
 }
 
@@ -146,15 +170,23 @@ impl<
         P.emission tuple.1.1.1.1.1.1.1.1.1.1.1.1.1.1.1.0 ∷ []) };
 
     fn stream<S: Stream<Lent<'v>>>(&'v self, stream: &mut S) -> Result {
-        stream_long_tuple(
-            stream,
-            16,
-            fields!(
-                self.0, self.1, self.2, self.3, self.4, self.5, self.6, self.7
-            ),
-            fields!(
-                self.8, self.9, self.10, self.11, self.12, self.13, self.14, self.15
-            ),
-        )
+        TupleStreaming::begin(stream, 16)
+            .field(stream, 0, &self.0)
+            .field(stream, 1, &self.1)
+            .field(stream, 2, &self.2)
+            .field(stream, 3, &self.3)
+            .field(stream, 4, &self.4)
+            .field(stream, 5, &self.5)
+            .field(stream, 6, &self.6)
+            .field(stream, 7, &self.7)
+            .field(stream, 8, &self.8)
+            .field(stream, 9, &self.9)
+            .field(stream, 10, &self.10)
+            .field(stream, 11, &self.11)
+            .field(stream, 12, &self.12)
+            .field(stream, 13, &self.13)
+            .field(stream, 14, &self.14)
+            .field(stream, 15, &self.15)
+            .end(stream)
     }
 }

@@ -5,14 +5,16 @@ ghost use Rattle.sval_core.specs.Values.{tuple_emission};
 
 use crate::stream::Stream;
 use crate::value::Value;
-use crate::values::fields::stream_tuple;
+use crate::values::tuple_streaming::TupleStreaming;
 use sval_label::{Lent, Result};
 
 impl<'v, A: Value<'v, Lent<'v>>> Value<'v, Lent<'v>> for (A,) {
     ghost emission = { λ tuple. tuple_emission (A.emission tuple.0 ∷ []) };
 
     fn stream<S: Stream<Lent<'v>>>(&'v self, stream: &mut S) -> Result {
-        stream_tuple(stream, 1, fields!(self.0))
+        TupleStreaming::begin(stream, 1)
+            .field(stream, 0, &self.0)
+            .end(stream)
     }
 }
 
@@ -20,7 +22,10 @@ impl<'v, A: Value<'v, Lent<'v>>, B: Value<'v, Lent<'v>>> Value<'v, Lent<'v>> for
     ghost emission = { λ tuple. tuple_emission (A.emission tuple.0 ∷ B.emission tuple.1 ∷ []) };
 
     fn stream<S: Stream<Lent<'v>>>(&'v self, stream: &mut S) -> Result {
-        stream_tuple(stream, 2, fields!(self.0, self.1))
+        TupleStreaming::begin(stream, 2)
+            .field(stream, 0, &self.0)
+            .field(stream, 1, &self.1)
+            .end(stream)
     }
 }
 
@@ -30,7 +35,11 @@ impl<'v, A: Value<'v, Lent<'v>>, B: Value<'v, Lent<'v>>, C: Value<'v, Lent<'v>>>
         []) };
 
     fn stream<S: Stream<Lent<'v>>>(&'v self, stream: &mut S) -> Result {
-        stream_tuple(stream, 3, fields!(self.0, self.1, self.2))
+        TupleStreaming::begin(stream, 3)
+            .field(stream, 0, &self.0)
+            .field(stream, 1, &self.1)
+            .field(stream, 2, &self.2)
+            .end(stream)
     }
 }
 
@@ -45,7 +54,12 @@ impl<
         D.emission tuple.3 ∷ []) };
 
     fn stream<S: Stream<Lent<'v>>>(&'v self, stream: &mut S) -> Result {
-        stream_tuple(stream, 4, fields!(self.0, self.1, self.2, self.3))
+        TupleStreaming::begin(stream, 4)
+            .field(stream, 0, &self.0)
+            .field(stream, 1, &self.1)
+            .field(stream, 2, &self.2)
+            .field(stream, 3, &self.3)
+            .end(stream)
     }
 }
 
@@ -61,7 +75,13 @@ impl<
         D.emission tuple.3 ∷ E.emission tuple.4 ∷ []) };
 
     fn stream<S: Stream<Lent<'v>>>(&'v self, stream: &mut S) -> Result {
-        stream_tuple(stream, 5, fields!(self.0, self.1, self.2, self.3, self.4))
+        TupleStreaming::begin(stream, 5)
+            .field(stream, 0, &self.0)
+            .field(stream, 1, &self.1)
+            .field(stream, 2, &self.2)
+            .field(stream, 3, &self.3)
+            .field(stream, 4, &self.4)
+            .end(stream)
     }
 }
 
@@ -78,11 +98,14 @@ impl<
         D.emission tuple.3 ∷ E.emission tuple.4 ∷ F.emission tuple.5 ∷ []) };
 
     fn stream<S: Stream<Lent<'v>>>(&'v self, stream: &mut S) -> Result {
-        stream_tuple(
-            stream,
-            6,
-            fields!(self.0, self.1, self.2, self.3, self.4, self.5),
-        )
+        TupleStreaming::begin(stream, 6)
+            .field(stream, 0, &self.0)
+            .field(stream, 1, &self.1)
+            .field(stream, 2, &self.2)
+            .field(stream, 3, &self.3)
+            .field(stream, 4, &self.4)
+            .field(stream, 5, &self.5)
+            .end(stream)
     }
 }
 
@@ -100,11 +123,15 @@ impl<
         D.emission tuple.3 ∷ E.emission tuple.4 ∷ F.emission tuple.5 ∷ G.emission tuple.6 ∷ []) };
 
     fn stream<S: Stream<Lent<'v>>>(&'v self, stream: &mut S) -> Result {
-        stream_tuple(
-            stream,
-            7,
-            fields!(self.0, self.1, self.2, self.3, self.4, self.5, self.6),
-        )
+        TupleStreaming::begin(stream, 7)
+            .field(stream, 0, &self.0)
+            .field(stream, 1, &self.1)
+            .field(stream, 2, &self.2)
+            .field(stream, 3, &self.3)
+            .field(stream, 4, &self.4)
+            .field(stream, 5, &self.5)
+            .field(stream, 6, &self.6)
+            .end(stream)
     }
 }
 
@@ -124,13 +151,16 @@ impl<
         H.emission tuple.7 ∷ []) };
 
     fn stream<S: Stream<Lent<'v>>>(&'v self, stream: &mut S) -> Result {
-        stream_tuple(
-            stream,
-            8,
-            fields!(
-                self.0, self.1, self.2, self.3, self.4, self.5, self.6, self.7
-            ),
-        )
+        TupleStreaming::begin(stream, 8)
+            .field(stream, 0, &self.0)
+            .field(stream, 1, &self.1)
+            .field(stream, 2, &self.2)
+            .field(stream, 3, &self.3)
+            .field(stream, 4, &self.4)
+            .field(stream, 5, &self.5)
+            .field(stream, 6, &self.6)
+            .field(stream, 7, &self.7)
+            .end(stream)
     }
 }
 
@@ -151,13 +181,17 @@ impl<
         H.emission tuple.7 ∷ I.emission tuple.8 ∷ []) };
 
     fn stream<S: Stream<Lent<'v>>>(&'v self, stream: &mut S) -> Result {
-        stream_tuple(
-            stream,
-            9,
-            fields!(
-                self.0, self.1, self.2, self.3, self.4, self.5, self.6, self.7, self.8
-            ),
-        )
+        TupleStreaming::begin(stream, 9)
+            .field(stream, 0, &self.0)
+            .field(stream, 1, &self.1)
+            .field(stream, 2, &self.2)
+            .field(stream, 3, &self.3)
+            .field(stream, 4, &self.4)
+            .field(stream, 5, &self.5)
+            .field(stream, 6, &self.6)
+            .field(stream, 7, &self.7)
+            .field(stream, 8, &self.8)
+            .end(stream)
     }
 }
 
@@ -179,13 +213,18 @@ impl<
         H.emission tuple.7 ∷ I.emission tuple.8 ∷ J.emission tuple.9 ∷ []) };
 
     fn stream<S: Stream<Lent<'v>>>(&'v self, stream: &mut S) -> Result {
-        stream_tuple(
-            stream,
-            10,
-            fields!(
-                self.0, self.1, self.2, self.3, self.4, self.5, self.6, self.7, self.8, self.9
-            ),
-        )
+        TupleStreaming::begin(stream, 10)
+            .field(stream, 0, &self.0)
+            .field(stream, 1, &self.1)
+            .field(stream, 2, &self.2)
+            .field(stream, 3, &self.3)
+            .field(stream, 4, &self.4)
+            .field(stream, 5, &self.5)
+            .field(stream, 6, &self.6)
+            .field(stream, 7, &self.7)
+            .field(stream, 8, &self.8)
+            .field(stream, 9, &self.9)
+            .end(stream)
     }
 }
 
@@ -208,14 +247,19 @@ impl<
         H.emission tuple.7 ∷ I.emission tuple.8 ∷ J.emission tuple.9 ∷ K.emission tuple.10 ∷ []) };
 
     fn stream<S: Stream<Lent<'v>>>(&'v self, stream: &mut S) -> Result {
-        stream_tuple(
-            stream,
-            11,
-            fields!(
-                self.0, self.1, self.2, self.3, self.4, self.5, self.6, self.7, self.8, self.9,
-                self.10
-            ),
-        )
+        TupleStreaming::begin(stream, 11)
+            .field(stream, 0, &self.0)
+            .field(stream, 1, &self.1)
+            .field(stream, 2, &self.2)
+            .field(stream, 3, &self.3)
+            .field(stream, 4, &self.4)
+            .field(stream, 5, &self.5)
+            .field(stream, 6, &self.6)
+            .field(stream, 7, &self.7)
+            .field(stream, 8, &self.8)
+            .field(stream, 9, &self.9)
+            .field(stream, 10, &self.10)
+            .end(stream)
     }
 }
 
@@ -240,13 +284,19 @@ impl<
         L.emission tuple.11 ∷ []) };
 
     fn stream<S: Stream<Lent<'v>>>(&'v self, stream: &mut S) -> Result {
-        stream_tuple(
-            stream,
-            12,
-            fields!(
-                self.0, self.1, self.2, self.3, self.4, self.5, self.6, self.7, self.8, self.9,
-                self.10, self.11
-            ),
-        )
+        TupleStreaming::begin(stream, 12)
+            .field(stream, 0, &self.0)
+            .field(stream, 1, &self.1)
+            .field(stream, 2, &self.2)
+            .field(stream, 3, &self.3)
+            .field(stream, 4, &self.4)
+            .field(stream, 5, &self.5)
+            .field(stream, 6, &self.6)
+            .field(stream, 7, &self.7)
+            .field(stream, 8, &self.8)
+            .field(stream, 9, &self.9)
+            .field(stream, 10, &self.10)
+            .field(stream, 11, &self.11)
+            .end(stream)
     }
 }

@@ -1,0 +1,12 @@
+use Rattle.std.specs.Prelude.{[], ◌∷◌}
+use Rattle.sval_core.proofs.values.tuples.Tuple10ValueLent.stream.Goals as goal
+
+pub returns : goal.returns
+returns g c =
+    let fields = g.A.Value.emission c.args.self.now.0 ∷ g.B.Value.emission c.args.self.now.1 ∷ g.C.Value.emission c.args.self.now.2 ∷
+    g.D.Value.emission c.args.self.now.3 ∷ g.E.Value.emission c.args.self.now.4 ∷ g.F.Value.emission c.args.self.now.5 ∷
+    g.G.Value.emission c.args.self.now.6 ∷ g.H.Value.emission c.args.self.now.7 ∷ g.I.Value.emission c.args.self.now.8 ∷
+    g.J.Value.emission c.args.self.now.9 ∷ [] in
+    c.end.ensures _ fields (c.field-10.ensures _ _ (c.field-9.ensures _ _ (c.field-8.ensures _ _
+    (c.field-7.ensures _ _ (c.field-6.ensures _ _ (c.field-5.ensures _ _ (c.field-4.ensures _ _
+    (c.field-3.ensures _ _ (c.field-2.ensures _ _ (c.field.ensures _ _ c.begin.ensures))))))))))
