@@ -1,7 +1,7 @@
 -- The machine takes only what a text that denotes a value goes on with.
 use Rattle.std.specs.Prelude.{◌≡◌, ℕ, true, false, List, [], ◌∷◌, ◌++◌}
 use Rattle.sval_json.specs.Digits.{front, after_front, is_number_byte}
-use Rattle.sval_json.specs.Grammar.{JsonValue, Values, Members, after_space, IsString, IsValue, empty_array, array, empty_object, object, AreValues, last_value, more_values, AreMembers, last_member, more_members}
+use Rattle.sval_json.specs.Grammar.{JsonValue, Values, Members, after_space, IsString, IsValue, empty_array, array, empty_object, object, AreJsonValues, last_value, more_values, AreMembers, last_member, more_members}
 use Rattle.sval_json_read.specs.Numbers.{NumberPhase}
 use Rattle.sval_json_read.specs.Strings.{Within}
 use Rattle.sval_json_read.specs.Reader.{Opened, Array, Object, Expected, AValue, FirstItem, FirstKey, NextKey, Colon, Next, Letter, InNumber, InString}
@@ -51,7 +51,7 @@ pub data Fits : Expected → List Opened → List ℕ → Type 0 where
 pub record Items (around : List Opened) (bytes : List ℕ) : Type 0 where
   pub values : Values
   pub rest : List ℕ
-  pub are : AreValues bytes values rest
+  pub are : AreJsonValues bytes values rest
   pub then_ends : Ends around rest
 
 pub record Pairs (around : List Opened) (bytes : List ℕ) : Type 0 where

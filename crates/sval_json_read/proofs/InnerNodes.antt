@@ -2,7 +2,7 @@
 use Rattle.std.specs.Prelude.{◌≡◌, ℕ, zero, suc, ◌-◌, ◌<◌, ◌≤◌, List, [], ◌∷◌, ◌++◌, map, length, take, drop, get_or, refl, ⊤}
 use Rattle.std.proofs.Common.{sym, ap, subst, ◌∙◌, arith, append-nil, length-append}
 use Rattle.sval_json.specs.Grammar as json
-use Rattle.sval_json.specs.Grammar.{JsonValue, Values, no_values, Members, no_members, IsValue, null, truth, falsehood, number, string, empty_array, array, empty_object, object, AreValues, last_value, more_values, AreMembers, last_member, more_members}
+use Rattle.sval_json.specs.Grammar.{JsonValue, Values, no_values, Members, no_members, IsValue, null, truth, falsehood, number, string, empty_array, array, empty_object, object, AreJsonValues, last_value, more_values, AreMembers, last_member, more_members}
 use Rattle.sval_json_read.specs.declared.node.Node.{Node}
 use Rattle.sval_json_read.specs.declared.node.Node.TheVariants as node
 use Rattle.sval_json_read.specs.declared.node.Place as made_place
@@ -17,7 +17,7 @@ use Rattle.sval_json_read.proofs.SeenValues.{value-seen, values-seen, members-se
 
 -- ---- items and pairs one by one
 
-pub items_one_by_one : {bytes rest : List ℕ} {values : Values} (are : AreValues bytes values rest) → IsOfValues (item_tokens are) values
+pub items_one_by_one : {bytes rest : List ℕ} {values : Values} (are : AreJsonValues bytes values rest) → IsOfValues (item_tokens are) values
 items_one_by_one (last_value {value = value} is_value e) = subst (λ tokens. IsOfValues tokens (json.a_value value no_values)) (append-nil (tokens_of Item is_value)) (an_item is_value no_items)
 items_one_by_one (more_values is_value e are) = an_item is_value (items_one_by_one are)
 

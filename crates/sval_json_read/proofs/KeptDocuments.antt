@@ -76,14 +76,14 @@ cut_all : (bytes : List ℕ) (nodes : List Node) → IsUtf8 bytes → AllByRecur
 cut_all bytes [] u s p = tt
 cut_all bytes (node ∷ nodes) u s p = (record { cut = cut_one bytes node u s.0 p.0; proper = p.0 }, cut_all bytes nodes u s.1 p.1)
 
-pub document-kept : (bytes : List ℕ) (nodes : List Node) → IsUtf8 bytes → AllByRecursion (StandsIn bytes) nodes → IsDocument bytes (tokens_in bytes (map seen_node nodes)) → AreKeptOf bytes nodes
-document-kept bytes nodes u s d = cut_all bytes nodes u s (document-tokens bytes (tokens_in bytes (map seen_node nodes)) d)
+pub document-kept : (bytes denoting : List ℕ) (nodes : List Node) → IsUtf8 bytes → AllByRecursion (StandsIn bytes) nodes → IsDocument denoting (tokens_in bytes (map seen_node nodes)) → AreKeptOf bytes nodes
+document-kept bytes denoting nodes u s d = cut_all bytes nodes u s (document-tokens denoting (tokens_in bytes (map seen_node nodes)) d)
 
 root-is : {bytes : List ℕ} {tokens : List Placed} (d : IsDocument bytes tokens) → IsOfValue tokens d.value
 root-is d = subst (λ row. IsOfValue row d.value) (sym d.same) (alone d.denotes.is_value)
 
-pub kept-document : (bytes : List ℕ) (nodes : List Node) → IsUtf8 bytes → AllByRecursion (StandsIn bytes) nodes → IsDocument bytes (tokens_in bytes (map seen_node nodes)) → IsKeptDocument bytes nodes
-kept-document bytes nodes u s d = record { kept = document-kept bytes nodes u s d; document = d }
+pub kept-document : (bytes denoting : List ℕ) (nodes : List Node) → IsUtf8 bytes → AllByRecursion (StandsIn bytes) nodes → IsDocument denoting (tokens_in bytes (map seen_node nodes)) → IsKeptDocument bytes nodes
+kept-document bytes denoting nodes u s d = record { kept = document-kept bytes denoting nodes u s d; denoting = denoting; document = d }
 
 -- and they are those of a value, which the calls spell
 pub root-nodes : (bytes : List ℕ) (nodes : List Node) → IsKeptDocument bytes nodes → AreOfValue bytes nodes

@@ -7,21 +7,21 @@ use Rattle.sval_core.specs.Spells.{Spells}
 use Rattle.sval_json_read.specs.Trees.{tree_of}
 use Rattle.sval_json_read.specs.Documents.{IsDocument}
 use Rattle.sval_json_read.specs.Calls.{placed_token_calls, document_calls}
-use Rattle.sval_json_read.specs.Nodes.{Node, placed_in, tokens_in, streamed}
+use Rattle.sval_json_read.specs.Nodes.{JsonNode, placed_in, tokens_in, streamed}
 use Rattle.sval_json_read.proofs.Documents.{document-calls}
 
-pub streamed-calls : (bytes : List ℕ) (nodes : List Node) → streamed bytes nodes ≡ document_calls (tokens_in bytes nodes)
+pub streamed-calls : (bytes : List ℕ) (nodes : List JsonNode) → streamed bytes nodes ≡ document_calls (tokens_in bytes nodes)
 streamed-calls bytes [] = refl
 streamed-calls bytes (node ∷ nodes) = ap (λ x. placed_token_calls (placed_in bytes node) ++ x) (streamed-calls bytes nodes)
 
-pub streamed-spells : (bytes : List ℕ) (nodes : List Node) (d : IsDocument bytes (tokens_in bytes nodes)) → Spells (streamed bytes nodes) (tree_of d.value)
+pub streamed-spells : (bytes : List ℕ) (nodes : List JsonNode) (d : IsDocument bytes (tokens_in bytes nodes)) → Spells (streamed bytes nodes) (tree_of d.value)
 streamed-spells bytes nodes d = subst (λ x. Spells x (tree_of d.value)) (sym (streamed-calls bytes nodes)) (document-calls bytes (tokens_in bytes nodes) d)
 
-pub tokens_in-append : (bytes : List ℕ) (nodes others : List Node) → tokens_in bytes (nodes ++ others) ≡ tokens_in bytes nodes ++ tokens_in bytes others
+pub tokens_in-append : (bytes : List ℕ) (nodes others : List JsonNode) → tokens_in bytes (nodes ++ others) ≡ tokens_in bytes nodes ++ tokens_in bytes others
 tokens_in-append bytes [] others = refl
 tokens_in-append bytes (node ∷ nodes) others = ap (λ x. placed_in bytes node ∷ x) (tokens_in-append bytes nodes others)
 
-pub streamed-append : (bytes : List ℕ) (nodes others : List Node) → streamed bytes (nodes ++ others) ≡ streamed bytes nodes ++ streamed bytes others
+pub streamed-append : (bytes : List ℕ) (nodes others : List JsonNode) → streamed bytes (nodes ++ others) ≡ streamed bytes nodes ++ streamed bytes others
 streamed-append bytes nodes others =
     flat_map-append (λ node. placed_token_calls (placed_in bytes node)) nodes others
 

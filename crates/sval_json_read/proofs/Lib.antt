@@ -15,6 +15,10 @@ pub mod SettledNumbers
 pub mod SettledTrees
 pub mod Documents
 pub mod Loop
+pub mod TakenFronts
+pub mod FrontEnds
+pub mod ReadFronts
+pub mod FrontsOfBytes
 pub mod ParsedNumbers
 pub mod RawStrings
 pub mod KeptNodes
@@ -44,3 +48,4 @@ mod Pointers
 mod Parts
 mod PartCalls
 mod ProperParts
+mod ShorterTexts

@@ -54,28 +54,28 @@ module _ (bytes : List ℕ) (n : ℕ) (state : ReaderState) (l : n < length byte
       ap tokens_read (sym (split_at bytes n l)) ∙ ap (option_and_then tokens_at_end) (after-append (take n bytes) (get_or bytes n 0 ∷ drop (suc n) bytes) reader_start
       ∙ ap (option_and_then (λ next. after_bytes next (get_or bytes n 0 ∷ drop (suc n) bytes))) e ∙ (refused_rest state (get_or bytes n 0) (drop (suc n) bytes) r).0)
 
-  refused_taken : bytes_taken bytes ≡ n
-  refused_taken =
+  pub refused-taken : bytes_taken bytes ≡ n
+  refused-taken =
       let t = taken_all (take n bytes) (get_or bytes n 0 ∷ drop (suc n) bytes) reader_start state e in
       let z = (refused_rest state (get_or bytes n 0) (drop (suc n) bytes) r).1 in
       let k = length-take-le n bytes (omega arith) in
       ap bytes_taken (sym (split_at bytes n l)) ∙ omega (arith, t, z, k)
 
   pub refused-at : IsUtf8 bytes → IsBadJson bytes n
-  refused-at u = subst (IsBadJson bytes) refused_taken (refused-bad bytes u refused_read)
+  refused-at u = subst (IsBadJson bytes) refused-taken (refused-bad bytes u refused_read)
 
 -- all bytes are taken
 module _ (bytes : List ℕ) (state : ReaderState) (u : IsUtf8 bytes) (e : after_bytes reader_start bytes ≡ Some state) where
   ended_read : tokens_read bytes ≡ tokens_at_end state
   ended_read = ap (option_and_then tokens_at_end) e
 
-  ended_taken : bytes_taken bytes ≡ length bytes
-  ended_taken =
+  pub ended-taken : bytes_taken bytes ≡ length bytes
+  ended-taken =
       let t = taken_all bytes [] reader_start state e in
       ap bytes_taken (sym (append-nil bytes)) ∙ omega (arith, t)
 
   pub ended-bad : tokens_at_end state ≡ None → IsBadJson bytes (length bytes)
-  ended-bad k = subst (IsBadJson bytes) ended_taken (refused-bad bytes u (ended_read ∙ k))
+  ended-bad k = subst (IsBadJson bytes) ended-taken (refused-bad bytes u (ended_read ∙ k))
 
   pub ended-document : (tokens : List Placed) → tokens_at_end state ≡ Some tokens → IsDocument bytes tokens
   ended-document tokens k = read-document bytes tokens u (ended_read ∙ k)

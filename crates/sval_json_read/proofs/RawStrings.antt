@@ -6,7 +6,7 @@ use Rattle.std.proofs.lemmas.Bool.{and_parts}
 use Rattle.std.proofs.lemmas.Bool.Decides.{nat_tests}
 use Rattle.std.proofs.lemmas.Str.{IsUtf8-encode}
 use Rattle.sval_json.specs.Grammar as json
-use Rattle.sval_json.specs.Grammar.{JsonValue, Values, Members, is_unescaped, escaped_byte, code_unit, is_high_surrogate, is_low_surrogate, is_surrogate, pair_of, IsString, IsValue, AreValues, AreMembers, last_value, more_values, last_member, more_members}
+use Rattle.sval_json.specs.Grammar.{JsonValue, Values, Members, is_unescaped, escaped_byte, code_unit, is_high_surrogate, is_low_surrogate, is_surrogate, pair_of, IsString, IsValue, AreJsonValues, AreMembers, last_value, more_values, last_member, more_members}
 use Rattle.sval_json.proofs.NumberGrammar.{number_tested}
 use Rattle.sval_json_read.specs.Tokens as token
 use Rattle.sval_json_read.specs.Tokens.{Place, Alone, Item, Value, Token, Placed, placed_at, between_quotes, tokens_of, item_tokens, pair_tokens}
@@ -41,7 +41,7 @@ mutual
   value_tokens place (json.empty_object e) = (tt, (tt, tt))
   value_tokens place (json.object vs) = (tt, all_append (pair_tokens vs) (placed_at place token.EndObject ∷ []) (pairs_tokens vs) (tt, tt))
 
-  items_tokens : {bytes rest : List ℕ} {row : Values} (vs : AreValues bytes row rest) → AreProperTokens (item_tokens vs)
+  items_tokens : {bytes rest : List ℕ} {row : Values} (vs : AreJsonValues bytes row rest) → AreProperTokens (item_tokens vs)
   items_tokens (last_value v e) = value_tokens Item v
   items_tokens (more_values v e vs) = all_append (tokens_of Item v) (item_tokens vs) (value_tokens Item v) (items_tokens vs)
 

@@ -4,7 +4,7 @@ use Rattle.std.specs.Char.{is_ascii_digit}
 use Rattle.std.proofs.Common.{sym, ap, ◌∙◌, append_assoc, arith}
 use Rattle.std.proofs.lemmas.Bool.Decides.{nat_tests}
 use Rattle.sval_json.specs.Digits.{front, after_front, is_json_number, is_number_byte}
-use Rattle.sval_json.specs.Grammar.{JsonValue, Values, Members, after_space, IsValue, null, truth, falsehood, number, string, empty_array, array, empty_object, object, AreValues, last_value, more_values, AreMembers, last_member, more_members, Denotes}
+use Rattle.sval_json.specs.Grammar.{JsonValue, Values, Members, after_space, IsValue, null, truth, falsehood, number, string, empty_array, array, empty_object, object, AreJsonValues, last_value, more_values, AreMembers, last_member, more_members, Denotes}
 use Rattle.sval_json.proofs.NumberGrammar.{number_run, run_tested, starts_as_number, number_first, mark_follows, end_follows, EndsNumber}
 use Rattle.sval_json_read.specs.Tokens as token
 use Rattle.sval_json_read.specs.Tokens.{Place, Alone, Item, Key, Value, Placed, placed_at, between_quotes, tokens_of, item_tokens, pair_tokens}
@@ -57,7 +57,7 @@ first_is_any opened tokens (array v) = refl
 first_is_any opened tokens (empty_object e) = refl
 first_is_any opened tokens (object v) = refl
 
-first_of_row : {bytes rest : List ℕ} {values : Values} (opened : List Opened) (tokens : List Placed) → AreValues bytes values rest
+first_of_row : {bytes rest : List ℕ} {values : Values} (opened : List Opened) (tokens : List Placed) → AreJsonValues bytes values rest
     → read_from (at_state FirstItem opened tokens) bytes ≡ read_from (at_state AValue opened tokens) bytes
 first_of_row opened tokens (last_value v e) = first_is_any opened tokens v
 first_of_row opened tokens (more_values v e vs) = first_is_any opened tokens v
@@ -127,7 +127,7 @@ mutual
       ∙ pairs-run vs opened (tokens ++ (placed_at (place_in opened) token.BeginObject ∷ []))
       ∙ same_tokens opened rest (begun_and_ended tokens (pair_tokens vs) (placed_at (place_in opened) token.BeginObject) (placed_at (place_in opened) token.EndObject))
 
-  items-run : {bytes rest : List ℕ} {values : Values} (v : AreValues bytes values rest) (opened : List Opened) (tokens : List Placed)
+  items-run : {bytes rest : List ℕ} {values : Values} (v : AreJsonValues bytes values rest) (opened : List Opened) (tokens : List Placed)
       → read_from (at_state AValue (Array ∷ opened) tokens) bytes ≡ read_from (at_state Next opened ((tokens ++ item_tokens v) ++ (placed_at (place_in opened) token.EndArray ∷ []))) rest
   items-run (last_value {after = after} {rest = rest} v e) opened tokens =
       value-run v (mark_follows e refl) (Array ∷ opened) tokens ∙ to_byte (Array ∷ opened) (tokens ++ tokens_of Item v) after 93 rest e

@@ -2,7 +2,7 @@
 use Rattle.std.specs.Prelude.{◌≡◌, ℕ, Bool, true, false, List, [], ◌∷◌, ◌++◌, refl}
 use Rattle.std.proofs.Common.{sym, ap, ◌∙◌, append_assoc, append-nil}
 use Rattle.sval_json.specs.Grammar as json
-use Rattle.sval_json.specs.Grammar.{JsonValue, Values, no_values, a_value, Members, no_members, a_member, IsString, IsValue, null, truth, falsehood, number, string, empty_array, array, empty_object, object, AreValues, last_value, more_values, AreMembers, last_member, more_members}
+use Rattle.sval_json.specs.Grammar.{JsonValue, Values, no_values, a_value, Members, no_members, a_member, IsString, IsValue, null, truth, falsehood, number, string, empty_array, array, empty_object, object, AreJsonValues, last_value, more_values, AreMembers, last_member, more_members}
 use Rattle.sval_json_read.specs.Tokens as token
 use Rattle.sval_json_read.specs.Tokens.{Place, Alone, Item, Key, Value, Token, Placed, placed_at, between_quotes, tokens_of, item_tokens, pair_tokens}
 use Rattle.sval_json_read.specs.SeenValues.{first_value, text_in, Level, innermost_level, puts, names, puts_text, levels_of, values_in, members_in, value_in}
@@ -37,7 +37,7 @@ mutual
   value-levels place (object {members = members} are) more h =
       object_puts members (levels_of more) _ (ap levels_of (append_assoc (pair_tokens are) (placed_at place token.EndObject ∷ []) more) ∙ pairs-levels are (placed_at place token.EndObject ∷ more))
 
-  items-levels : {bytes rest : List ℕ} {values : Values} (are : AreValues bytes values rest) (more : List Placed) → levels_of (item_tokens are ++ more) ≡ puts_all values (levels_of more)
+  items-levels : {bytes rest : List ℕ} {values : Values} (are : AreJsonValues bytes values rest) (more : List Placed) → levels_of (item_tokens are ++ more) ≡ puts_all values (levels_of more)
   items-levels (last_value value e) more = value-levels Item value more refl
   items-levels (more_values {value = value} is_value e values) more =
       ap levels_of (append_assoc (tokens_of Item is_value) (item_tokens values) more) ∙ value-levels Item is_value (item_tokens values ++ more) refl

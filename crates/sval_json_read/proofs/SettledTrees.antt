@@ -79,11 +79,11 @@ mutual
 
 -- ---- what is written
 
-abbrev number_json : List ℕ → Json
+abbrev pub number_json : List ℕ → Json
 number_json text = if fits_i64 text then shape.number (signed_decimal (whole_value text)) else shape.raw text
 
 abbrev mutual
-  written : JsonValue → Json
+  pub written : JsonValue → Json
   written json.Null = shape.null
   written (json.Truth b) = shape.truth b
   written (json.Number text) = number_json text
@@ -91,11 +91,11 @@ abbrev mutual
   written (json.Array row) = shape.array (written_items row)
   written (json.Object row) = shape.object (written_pairs row)
 
-  written_items : Values → Items
+  pub written_items : Values → Items
   written_items no_values = no_item
   written_items (a_value v row) = item (written v) (written_items row)
 
-  written_pairs : Members → Pairs
+  pub written_pairs : Members → Pairs
   written_pairs no_members = no_pair
   written_pairs (a_member text v row) = pair (escaped_key text) (written v) (written_pairs row)
 
@@ -124,7 +124,7 @@ ok_pair : (text : List ℕ) (r : Result Json Refusal) (s : Result Pairs Refusal)
 ok_pair text r s j row e f = ap (λ o. on_ok o (λ x. map_ok (pair (escaped_key text) x) s)) e ∙ ap (map_ok (pair (escaped_key text) j)) f
 
 mutual
-  shaped : (v : JsonValue) → IsProper v → json_of (tree_of v) ≡ Ok (written v)
+  pub shaped : (v : JsonValue) → IsProper v → json_of (tree_of v) ≡ Ok (written v)
   shaped json.Null p = refl
   shaped (json.Truth b) p = refl
   shaped (json.Number text) p = number_shape text p

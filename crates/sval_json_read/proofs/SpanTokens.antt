@@ -1,11 +1,11 @@
 -- How many tokens a value has, by what is open behind each.
 use Rattle.std.specs.Prelude.{◌≡◌, ℕ, zero, suc, ◌+◌, ◌-◌, List, [], ◌∷◌, ◌++◌, length, refl}
 use Rattle.std.proofs.Common.{ap, ◌∙◌, arith, append_assoc, length-append}
-use Rattle.sval_json.specs.Grammar.{JsonValue, Values, Members, IsValue, null, truth, falsehood, number, string, empty_array, array, empty_object, object, AreValues, last_value, more_values, AreMembers, last_member, more_members}
+use Rattle.sval_json.specs.Grammar.{JsonValue, Values, Members, IsValue, null, truth, falsehood, number, string, empty_array, array, empty_object, object, AreJsonValues, last_value, more_values, AreMembers, last_member, more_members}
 use Rattle.sval_json_read.specs.Tokens as token
 use Rattle.sval_json_read.specs.Tokens.{Place, Alone, Item, Key, Value, Token, Placed, placed_at, between_quotes, tokens_of, item_tokens, pair_tokens}
 use Rattle.sval_json_read.specs.Nodes as kept
-use Rattle.sval_json_read.specs.Nodes.{Kept, Node, token_in, tokens_in}
+use Rattle.sval_json_read.specs.Nodes.{Kept, JsonNode, token_in, tokens_in}
 use Rattle.sval_json_read.specs.NodeSpans.{depth_behind, while_open, span}
 
 -- ---- the same of tokens
@@ -34,7 +34,7 @@ same_depth bytes kept.EndArray depth = refl
 same_depth bytes kept.BeginObject depth = refl
 same_depth bytes kept.EndObject depth = refl
 
-pub span-tokens : (bytes : List ℕ) (depth : ℕ) (nodes : List Node) → span depth nodes ≡ token_span depth (tokens_in bytes nodes)
+pub span-tokens : (bytes : List ℕ) (depth : ℕ) (nodes : List JsonNode) → span depth nodes ≡ token_span depth (tokens_in bytes nodes)
 span-tokens bytes depth [] = refl
 span-tokens bytes depth (node ∷ nodes) =
     ap (λ n. suc (while_open (depth_behind node.kept depth) n)) (span-tokens bytes (depth_behind node.kept depth) nodes)
@@ -75,7 +75,7 @@ mutual
   value-span depth place (empty_object e) more = in_brackets place token.EndObject depth [] more (one_less depth) (none (token_span (suc depth) (placed_at place token.EndObject ∷ more)))
   value-span depth place (object members) more = in_brackets place token.EndObject depth (pair_tokens members) more (one_less depth) (pairs-span depth members (placed_at place token.EndObject ∷ more))
 
-  pub items-span : {bytes rest : List ℕ} {values : Values} (depth : ℕ) (are : AreValues bytes values rest) (more : List Placed)
+  pub items-span : {bytes rest : List ℕ} {values : Values} (depth : ℕ) (are : AreJsonValues bytes values rest) (more : List Placed)
       → token_span (suc depth) (item_tokens are ++ more) ≡ length (item_tokens are) + token_span (suc depth) more
   items-span depth (last_value value e) more = value-span (suc depth) Item value more
   items-span depth (more_values value e values) more =

@@ -6,7 +6,7 @@ use Rattle.sval_label.specs.Calls.{Call, Slot, Head, I64}
 use Rattle.sval_core.specs.Trees.{Tree, Text, Parts, none, part as in_row, IsGood, AreGood, AreInOrder, Kind}
 use Rattle.sval_core.specs.Spells.{Says, SayParts, Spells, plain}
 use Rattle.sval_json.specs.Grammar as json
-use Rattle.sval_json.specs.Grammar.{JsonValue, Values, no_values, a_value, Members, no_members, a_member, IsString, IsValue, null, truth, falsehood, number, string, empty_array, array, empty_object, object, AreValues, last_value, more_values, AreMembers, last_member, more_members, Denotes}
+use Rattle.sval_json.specs.Grammar.{JsonValue, Values, no_values, a_value, Members, no_members, a_member, IsString, IsValue, null, truth, falsehood, number, string, empty_array, array, empty_object, object, AreJsonValues, last_value, more_values, AreMembers, last_member, more_members, Denotes}
 use Rattle.sval_json_read.specs.Trees.{fits_i64, whole_value, number_name, number_tree, tree_of, items_of, entries_of}
 use Rattle.sval_json_read.specs.Tokens as token
 use Rattle.sval_json_read.specs.Tokens.{Place, Alone, Item, Key, Value, Token, Placed, placed_at, between_quotes, tokens_of, item_tokens, pair_tokens}
@@ -55,7 +55,7 @@ piece_calls [] rest = refl
 piece_calls (run bytes ∷ row) rest = ap (λ x. Call.TextFragment false bytes ∷ x) (piece_calls row rest)
 piece_calls (part.escape bytes ∷ row) rest = ap (λ x. Call.TextFragment false bytes ∷ x) (piece_calls row rest)
 
-text_says : {bytes text rest : List ℕ} (s : IsString bytes text rest) (more : List Call) → Says (Text text) (plain (string_value_calls (between_quotes s) ++ more)) (plain more)
+pub text_says : {bytes text rest : List ℕ} (s : IsString bytes text rest) (more : List Call) → Says (Text text) (plain (string_value_calls (between_quotes s) ++ more)) (plain more)
 text_says s more = (None, map piece_bytes (pieces (between_quotes s)), tt, pieces-text s, ap (λ x. Call.TextBegin None ∷ x) (piece_calls (pieces (between_quotes s)) more))
 
 number_says : (text : List ℕ) (more : List Call) → Says (number_tree text) (plain (number_calls text ++ more)) (plain more)
@@ -156,7 +156,7 @@ next_pair k tree parts value others more s rest = (
 )
 
 mutual
-  value_says : {bytes rest : List ℕ} {v : JsonValue} (place : Place) (d : IsValue bytes v rest) (more : List Call) → SaysIn place (tree_of v) (document_calls (tokens_of place d) ++ more) more
+  pub value_says : {bytes rest : List ℕ} {v : JsonValue} (place : Place) (d : IsValue bytes v rest) (more : List Call) → SaysIn place (tree_of v) (document_calls (tokens_of place d) ++ more) more
   value_says place null more = leaf place Tree.Null (Call.Null ∷ []) more refl
   value_says place truth more = leaf place (Tree.Truth true) (Call.Truth true ∷ []) more refl
   value_says place falsehood more = leaf place (Tree.Truth false) (Call.Truth false ∷ []) more refl
@@ -167,7 +167,7 @@ mutual
   value_says place (empty_object e) more = object_says place no_members [] more (λ rest. refl)
   value_says place (object {members = row} vs) more = object_says place row (pair_tokens vs) more (λ rest. pairs_say vs rest)
 
-  items_say : {bytes rest : List ℕ} {row : Values} (vs : AreValues bytes row rest) (more : List Call) → SayParts (items_of row) (plain (document_calls (item_tokens vs) ++ more)) (plain more)
+  items_say : {bytes rest : List ℕ} {row : Values} (vs : AreJsonValues bytes row rest) (more : List Call) → SayParts (items_of row) (plain (document_calls (item_tokens vs) ++ more)) (plain more)
   items_say (last_value {value = value} v e) more = last_item (tree_of value) (document_calls (tokens_of Item v)) more (value_says Item v more)
   items_say (more_values {value = value} {values = row} v e vs) more =
       next_item (tree_of value) (items_of row) (tokens_of Item v) (item_tokens vs) more (value_says Item v (document_calls (item_tokens vs) ++ more)) (items_say vs more)

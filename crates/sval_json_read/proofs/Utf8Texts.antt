@@ -8,7 +8,7 @@ use Rattle.std.proofs.lemmas.Str.{IsUtf8-append, IsUtf8-take, IsUtf8-drop, IsUtf
 use Rattle.std.proofs.lemmas.List.{get_or-append-add}
 use Rattle.sval_json.specs.Digits.{is_json_number}
 use Rattle.sval_json.specs.Grammar as json
-use Rattle.sval_json.specs.Grammar.{JsonValue, Values, no_values, a_value, Members, no_members, a_member, after_space, is_space, is_unescaped, escaped_byte, code_unit, is_high_surrogate, is_low_surrogate, is_surrogate, pair_of, IsString, close, unescaped, escape, unit, pair, IsValue, null, truth, falsehood, number, string, empty_array, array, empty_object, object, AreValues, last_value, more_values, AreMembers, last_member, more_members, Denotes}
+use Rattle.sval_json.specs.Grammar.{JsonValue, Values, no_values, a_value, Members, no_members, a_member, after_space, is_space, is_unescaped, escaped_byte, code_unit, is_high_surrogate, is_low_surrogate, is_surrogate, pair_of, IsString, close, unescaped, escape, unit, pair, IsValue, null, truth, falsehood, number, string, empty_array, array, empty_object, object, AreJsonValues, last_value, more_values, AreMembers, last_member, more_members, Denotes}
 use Rattle.sval_json.proofs.NumberGrammar.{number_tested}
 use Rattle.sval_json.proofs.NumberTexts.{ascii_utf8, number_utf8}
 use Rattle.sval_json_read.specs.Strings.{is_hex}
@@ -171,7 +171,7 @@ mutual
   value_proper (empty_object {bytes = bytes} {rest = rest} e) u = (tt, after_mark bytes 125 rest (omega arith) e (after_ascii 123 bytes (omega arith) u))
   value_proper (object {bytes = bytes} vs) u = pairs_proper vs (spaces_utf8 bytes (after_ascii 123 bytes (omega arith) u))
 
-  row_proper : {bytes rest : List ℕ} {row : Values} → AreValues bytes row rest → IsUtf8 bytes → AreProper row × IsUtf8 rest
+  row_proper : {bytes rest : List ℕ} {row : Values} → AreJsonValues bytes row rest → IsUtf8 bytes → AreProper row × IsUtf8 rest
   row_proper (last_value {after = after} {rest = rest} v e) u = let i = value_proper v u in ((i.0, tt), after_mark after 93 rest (omega arith) e i.1)
   row_proper (more_values {after = after} {next = next} v e vs) u =
       let i = value_proper v u in

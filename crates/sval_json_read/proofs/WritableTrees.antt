@@ -7,7 +7,7 @@ use Rattle.sval_label.specs.Calls.{I64}
 use Rattle.sval_core.specs.Trees.{Tree, Text}
 use Rattle.sval_core.specs.Real.{IsWritable, AreWritable, IsPrintable}
 use Rattle.sval_json.specs.Grammar as json
-use Rattle.sval_json.specs.Grammar.{JsonValue, Values, no_values, a_value, Members, no_members, a_member, after_space, is_space, pair_of, IsString, close, unescaped, escape, unit, pair, IsValue, null, truth, falsehood, number, string, empty_array, array, empty_object, object, AreValues, last_value, more_values, AreMembers, last_member, more_members, Denotes}
+use Rattle.sval_json.specs.Grammar.{JsonValue, Values, no_values, a_value, Members, no_members, a_member, after_space, is_space, pair_of, IsString, close, unescaped, escape, unit, pair, IsValue, null, truth, falsehood, number, string, empty_array, array, empty_object, object, AreJsonValues, last_value, more_values, AreMembers, last_member, more_members, Denotes}
 use Rattle.sval_json_read.specs.Trees.{whole_value, fits_i64, number_name, number_tree, tree_of, items_of, entries_of}
 use Rattle.sval_json_read.proofs.SettledTrees.{denoted-real}
 
@@ -23,7 +23,7 @@ string_length (escape e s) = let i = string_length s in omega arith
 string_length (unit {u = u} {text = text} e f s) = let i = string_length s in let l = encoded_length u text in omega arith
 string_length (pair {high = high} {low = low} {text = text} p q r t s) = let i = string_length s in let l = encoded_length (pair_of high low) text in omega arith
 
-spaces_length : (bytes : List ℕ) → length (after_space bytes) ≤ length bytes
+pub spaces_length : (bytes : List ℕ) → length (after_space bytes) ≤ length bytes
 spaces_length [] = omega arith
 spaces_length (byte ∷ bytes) = go (is_space byte) (spaces_length bytes)
   where
@@ -31,7 +31,7 @@ spaces_length (byte ∷ bytes) = go (is_space byte) (spaces_length bytes)
     go true h = omega arith
     go false h = omega arith
 
-mark_length : (bytes : List ℕ) (byte : ℕ) (rest : List ℕ) → after_space bytes ≡ byte ∷ rest → length rest < length bytes
+pub mark_length : (bytes : List ℕ) (byte : ℕ) (rest : List ℕ) → after_space bytes ≡ byte ∷ rest → length rest < length bytes
 mark_length bytes byte rest e = let s = spaces_length bytes in let l = ap length e in omega arith
 
 abbrev mutual
@@ -63,7 +63,7 @@ mutual
   value_shorter n (empty_object {bytes = bytes} {rest = rest} e) l = let k = mark_length bytes 125 rest e in (tt, omega arith)
   value_shorter n (object {bytes = bytes} vs) l = let k = spaces_length bytes in pairs_shorter n vs (omega arith)
 
-  row_shorter : {bytes rest : List ℕ} {row : Values} (n : ℕ) → AreValues bytes row rest → length bytes < n → AreShorter n row × (length rest < n)
+  row_shorter : {bytes rest : List ℕ} {row : Values} (n : ℕ) → AreJsonValues bytes row rest → length bytes < n → AreShorter n row × (length rest < n)
   row_shorter n (last_value {after = after} {rest = rest} v e) l =
       let i = value_shorter n v l in let k = mark_length after 93 rest e in let m = i.1 in ((i.0, tt), omega arith)
   row_shorter n (more_values {after = after} {next = next} v e vs) l =

@@ -5,7 +5,8 @@ use Rattle.sval_json_read.specs.Documents.{IsDocument}
 use Rattle.sval_json_read.specs.Nodes.{tokens_in}
 use Rattle.sval_json_read.specs.SeenNodes.{seen_node, AreKeptOf}
 
--- the nodes are its tokens, and their numbers and strings can be cut from it
+-- the nodes are the tokens of what some of the bytes denote, and their numbers and strings can be cut from these
 pub record IsKeptDocument (bytes : List ℕ) (nodes : List made_node.Node) : Type 0 where
   pub kept : AreKeptOf bytes nodes
-  pub document : IsDocument bytes (tokens_in bytes (map seen_node nodes))
+  pub denoting : List ℕ
+  pub document : IsDocument denoting (tokens_in bytes (map seen_node nodes))

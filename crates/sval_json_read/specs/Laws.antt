@@ -1,9 +1,9 @@
 -- The laws of reading JSON, as facts.
-use Rattle.std.specs.Prelude.{◌≡◌, ℕ, ◌^◌, ◌<◌, length, List, ◌∷◌, [], map, Some, None, ◌⊎◌, Ok, IsUtf8, ⊤}
+use Rattle.std.specs.Prelude.{◌≡◌, ℕ, ◌^◌, ◌<◌, ◌≤◌, length, List, ◌∷◌, [], map, Some, None, ◌⊎◌, Ok, IsUtf8, ⊤}
 use Rattle.std.specs.List.{concat}
 use Rattle.sval_core.specs.Real.{IsReal, IsPrintable}
 use Rattle.sval_core.specs.Spells.{Spells}
-use Rattle.sval_json.specs.Json.{Json}
+use Rattle.sval_json.specs.Json.{Json, compact}
 use Rattle.sval_json.specs.Shape.{json_of}
 use Rattle.sval_json.specs.Grammar.{JsonValue, IsString, Denotes}
 use Rattle.sval_json.specs.Fronts.{FailsAt}
@@ -15,7 +15,7 @@ use Rattle.sval_json_read.specs.Documents.{IsDocument, IsBadJson}
 use Rattle.sval_json_read.specs.Pointers.{pointed}
 use Rattle.sval_json_read.specs.Calls.{Piece, run, escape, piece_bytes, pieces, document_calls}
 use Rattle.sval_json_read.specs.RawStrings.{AreProperTokens}
-use Rattle.sval_json_read.specs.Nodes.{Node, tokens_in, streamed}
+use Rattle.sval_json_read.specs.Nodes.{JsonNode, tokens_in, streamed}
 use Rattle.sval_json_read.specs.Reader.{tokens_read, bytes_taken}
 
 -- the tree of a value that some bytes denote is one that a program's calls can spell, and it promises nothing of raw texts
@@ -29,6 +29,11 @@ TreesArePrintable = (bytes : List ℕ) (value : JsonValue) → length bytes < 2 
 -- what is written of that tree denotes the settled value, and no other
 abbrev pub WrittenAgainSettles : Type 0
 WrittenAgainSettles = (bytes : List ℕ) (value : JsonValue) → Denotes bytes value → (json : Json) × (json_of (tree_of value) ≡ Ok json) × IsTheValueOf json (settled value)
+
+-- and is no longer than the bytes
+abbrev pub WrittenAgainIsNoLonger : Type 0
+WrittenAgainIsNoLonger =
+    (bytes : List ℕ) (value : JsonValue) (json : Json) → Denotes bytes value → json_of (tree_of value) ≡ Ok json → length (compact json) ≤ length bytes
 
 -- so is the tree of what a pointer references in such a value
 abbrev pub ReferencedAreReal : Type 0
@@ -62,11 +67,11 @@ JsonDocumentsSpell = (bytes : List ℕ) (tokens : List Placed) (document : IsDoc
 
 -- and so do those of the flat list in which it is kept, one node after the other
 abbrev pub NodesSpell : Type 0
-NodesSpell = (bytes : List ℕ) (nodes : List Node) (document : IsDocument bytes (tokens_in bytes nodes)) → Spells (streamed bytes nodes) (tree_of document.value)
+NodesSpell = (bytes : List ℕ) (nodes : List JsonNode) (document : IsDocument bytes (tokens_in bytes nodes)) → Spells (streamed bytes nodes) (tree_of document.value)
 
 -- nodes make the calls of the tokens that they keep
 abbrev pub NodesMakeTheCalls : Type 0
-NodesMakeTheCalls = (bytes : List ℕ) (nodes : List Node) → streamed bytes nodes ≡ document_calls (tokens_in bytes nodes)
+NodesMakeTheCalls = (bytes : List ℕ) (nodes : List JsonNode) → streamed bytes nodes ≡ document_calls (tokens_in bytes nodes)
 
 -- the numbers of a document are numbers of JSON, and its strings have unescaped bytes and whole escapes
 abbrev pub TokensAreProper : Type 0

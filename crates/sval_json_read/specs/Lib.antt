@@ -13,6 +13,8 @@ pub mod Words
 pub mod SeenNodes
 pub mod SeenReader
 pub mod ReadErrors
+pub mod FrontEnds
+pub mod JsonFronts
 pub mod ErrorTexts
 pub mod SeenPieces
 pub mod NodeCalls
@@ -26,3 +28,4 @@ pub mod Pointers
 pub mod ValueCodes
 pub mod KeptDocuments
 pub mod Parts
+pub mod TokenKinds

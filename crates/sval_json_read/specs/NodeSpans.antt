@@ -1,6 +1,6 @@
 -- How many nodes the value has that some nodes begin with.
 use Rattle.std.specs.Prelude.{ℕ, zero, suc, ◌-◌, List, [], ◌∷◌}
-use Rattle.sval_json_read.specs.Nodes.{Kept, Null, Truth, Number, Text, BeginArray, EndArray, BeginObject, EndObject, Node}
+use Rattle.sval_json_read.specs.Nodes.{Kept, Null, Truth, Number, Text, BeginArray, EndArray, BeginObject, EndObject, JsonNode}
 
 -- how many arrays and objects are open behind a node, where so many are before it
 abbrev pub depth_behind : Kept → ℕ → ℕ
@@ -19,6 +19,6 @@ while_open zero more = zero
 while_open (suc depth) more = more
 
 -- how many nodes stand up to the first behind which nothing is open
-abbrev pub span : ℕ → List Node → ℕ
+abbrev pub span : ℕ → List JsonNode → ℕ
 span depth [] = zero
 span depth (node ∷ nodes) = suc (while_open (depth_behind node.kept depth) (span (depth_behind node.kept depth) nodes))

@@ -18,7 +18,7 @@ pub data Kept : Type 0 where
   EndObject : Kept
 
 -- a token as it is kept, with its place
-pub record Node : Type 0 where
+pub record JsonNode : Type 0 where
   pub place : Place
   pub kept : Kept
 
@@ -34,13 +34,13 @@ token_in bytes BeginObject = token.BeginObject
 token_in bytes EndObject = token.EndObject
 
 -- the token of a node, in its place
-abbrev pub placed_in : List ℕ → Node → Placed
+abbrev pub placed_in : List ℕ → JsonNode → Placed
 placed_in bytes node = placed_at node.place (token_in bytes node.kept)
 
 -- the tokens of the nodes, in order
-abbrev pub tokens_in : List ℕ → List Node → List Placed
+abbrev pub tokens_in : List ℕ → List JsonNode → List Placed
 tokens_in bytes nodes = map (placed_in bytes) nodes
 
 -- the calls of the nodes, one node after the other
-abbrev pub streamed : List ℕ → List Node → List Call
+abbrev pub streamed : List ℕ → List JsonNode → List Call
 streamed bytes nodes = flat_map (λ node. placed_token_calls (placed_in bytes node)) nodes

@@ -17,11 +17,11 @@ node_place place.Key = tokens.Key
 node_place place.Value = tokens.Value
 
 -- a node with this place
-abbrev pub placed_node : made_place.Place → nodes.Kept → nodes.Node
+abbrev pub placed_node : made_place.Place → nodes.Kept → nodes.JsonNode
 placed_node place kept = record { place = node_place place; kept = kept }
 
 -- a node of the code: what has a length ends so many bytes behind its begin
-abbrev pub seen_node : made_node.Node → nodes.Node
+abbrev pub seen_node : made_node.Node → nodes.JsonNode
 seen_node (node.Null place) = placed_node place nodes.Null
 seen_node (node.Bool place value) = placed_node place (nodes.Truth value)
 seen_node (node.Number place length from) = placed_node place (nodes.Number from (from + length))

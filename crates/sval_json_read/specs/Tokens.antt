@@ -1,7 +1,7 @@
 -- The flat list of a text's tokens, each with the place that it stands in.
 use Rattle.std.specs.Prelude.{ℕ, Bool, true, false, List, [], ◌∷◌, ◌++◌}
 use Rattle.sval_json.specs.Grammar as json
-use Rattle.sval_json.specs.Grammar.{JsonValue, Values, Members, IsString, close, unescaped, escape, unit, pair, IsValue, AreValues, last_value, more_values, AreMembers, last_member, more_members}
+use Rattle.sval_json.specs.Grammar.{JsonValue, Values, Members, IsString, close, unescaped, escape, unit, pair, IsValue, AreJsonValues, last_value, more_values, AreMembers, last_member, more_members}
 
 -- by itself, an item of an array, or the key or the value of a pair of an object
 pub data Place : Type 0 where
@@ -53,7 +53,7 @@ abbrev mutual
   tokens_of place (json.object members) = placed_at place BeginObject ∷ (pair_tokens members ++ (placed_at place EndObject ∷ []))
 
   -- the tokens of an array's items, in order
-  pub item_tokens : {bytes rest : List ℕ} {values : Values} → AreValues bytes values rest → List Placed
+  pub item_tokens : {bytes rest : List ℕ} {values : Values} → AreJsonValues bytes values rest → List Placed
   item_tokens (last_value value _) = tokens_of Item value
   item_tokens (more_values value _ values) = tokens_of Item value ++ item_tokens values
 

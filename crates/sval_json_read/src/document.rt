@@ -11,7 +11,11 @@ ghost use Rattle.sval_json_read.specs.Nodes.{tokens_in};
 ghost use Rattle.sval_json_read.specs.SeenNodes.{seen_node, StandsIn};
 ghost use Rattle.sval_json_read.specs.ReadErrors.{IsJsonReadError, IsTextReadError, IsReadText};
 
+mod bytes;
+mod front;
+
 use crate::json_ref::JsonRef;
+use crate::json_tokens::JsonTokens;
 use crate::node::Node;
 use crate::node_calls::stream_nodes;
 use crate::reader::Reader;
@@ -105,6 +109,7 @@ impl<'a> JsonDoc<'a> {
     /// brace, or the first letter of a word.
     pub fn read(alloc: Global, bytes: &'a [u8]) -> Result<Self, ReadError>
         ensures ok { IfOk result (λ doc. IsReadText bytes.now (document_calls doc)) }
+        ensures document { IfOk result (λ doc. IsDocument bytes.now doc) }
         ensures value { IfOk result (λ doc. Denotes bytes.now (value_in doc)) }
         ensures err { IfErr result (IsJsonReadError bytes.now) }
     {
@@ -130,6 +135,7 @@ impl<'a> JsonDoc<'a> {
     /// [`JsonDoc::read`]. No other comes.
     pub fn read_str(alloc: Global, text: &'a str) -> Result<Self, ReadError>
         ensures ok { IfOk result (λ doc. IsReadText text.now (document_calls doc)) }
+        ensures document { IfOk result (λ doc. IsDocument text.now doc) }
         ensures value { IfOk result (λ doc. Denotes text.now (value_in doc)) }
         ensures err { IfErr result (IsTextReadError text.now) }
     {
@@ -144,6 +150,13 @@ impl<'a> JsonDoc<'a> {
         ensures { result ≡ value_in self.now }
     {
         JsonRef::new(self.text, self.nodes.as_slice())
+    }
+
+    /// The tokens of the text, in order.
+    pub fn tokens(&self) -> JsonTokens<'_>
+        ensures { result ≡ self.now }
+    {
+        JsonTokens::new(self.text, self.nodes.as_slice())
     }
 
     /// How many nodes are kept of the text.

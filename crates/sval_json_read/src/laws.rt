@@ -1,7 +1,7 @@
 //! The laws of reading JSON, each as a clause that is proved.
 
 ghost use Rattle.sval_program.specs.Jobs.{OneDue};
-ghost use Rattle.sval_json_read.specs.Laws.{TreesAreReal, TreesArePrintable, WrittenAgainSettles, ReferencedAreReal, ReferencedSettles, PiecesAreTheText, RunsAreLongest, JsonDocumentsSpell, NodesMakeTheCalls, NodesSpell, TokensAreProper, OneDocument, ReadsTheDocuments, RefusesTheOthers, IsReadOrBad, NotBoth, StopsWhereTheyFail, FailsAtOnePlace};
+ghost use Rattle.sval_json_read.specs.Laws.{TreesAreReal, TreesArePrintable, WrittenAgainSettles, WrittenAgainIsNoLonger, ReferencedAreReal, ReferencedSettles, PiecesAreTheText, RunsAreLongest, JsonDocumentsSpell, NodesMakeTheCalls, NodesSpell, TokensAreProper, OneDocument, ReadsTheDocuments, RefusesTheOthers, IsReadOrBad, NotBoth, StopsWhereTheyFail, FailsAtOnePlace};
 ghost use Rattle.sval_json_read.specs.Serves.{json_read_terms};
 
 /// What holds of all texts that denote a value.
@@ -9,6 +9,7 @@ pub fn document_laws()
     ensures trees_are_real { TreesAreReal }
     ensures trees_are_printable { TreesArePrintable }
     ensures written_again_settles { WrittenAgainSettles }
+    ensures written_again_is_no_longer { WrittenAgainIsNoLonger }
     ensures referenced_are_real { ReferencedAreReal }
     ensures referenced_settles { ReferencedSettles }
     ensures pieces_are_the_text { PiecesAreTheText }

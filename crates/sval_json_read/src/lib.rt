@@ -13,10 +13,12 @@
 
 mod document;
 mod escape;
+mod following;
 mod json_part;
 mod json_parts;
 mod json_ref;
 mod json_text;
+mod json_tokens;
 pub mod laws;
 mod node;
 mod node_calls;
@@ -35,9 +37,11 @@ mod string_calls;
 mod word;
 
 pub use document::{JsonDoc, ReadError};
+pub use following::goes_on;
 pub use json_part::JsonPart;
 pub use json_parts::{JsonItems, JsonMember, JsonMembers};
 pub use json_ref::{JsonKind, JsonRef};
 pub use json_text::JsonText;
+pub use json_tokens::{JsonToken, JsonTokens, TokenKind};
 pub use program::ReadJson;
 pub use running::run_read;

@@ -110,7 +110,7 @@ impl Node {
     }
 
     /// Makes the node's calls, from the text of the document.
-    fn stream<'v, S: Stream<Lent<'v>>>(self, text: &'v str, stream: &mut S) -> Result
+    pub(crate) fn stream<'v, S: Stream<Lent<'v>>>(self, text: &'v str, stream: &mut S) -> Result
         requires { IsKeptOf text.now self }
         ensures { Emits S.law result (S.standing stream.old)
             (makes (placed_token_calls (placed_in text.now (seen_node self)))) (S.standing stream.new) }

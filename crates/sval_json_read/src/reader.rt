@@ -7,6 +7,7 @@ ghost use Rattle.sval_json_read.specs.SeenNodes.{node_place, seen_node, StandsIn
 ghost use Rattle.sval_json_read.specs.SeenReader.{seen_state, HasToken, EndsText, AddsNode, TakesByte, KeepsRead, WantsOnlyFor, IsReadTo};
 
 mod container;
+mod front;
 mod runs;
 mod scalar;
 

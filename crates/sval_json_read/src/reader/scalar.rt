@@ -77,7 +77,7 @@ impl Reader {
 
     /// Ends a number with the byte before.
     #[tactic(auto, using(crate::proofs::ReaderPlaces::of_places))]
-    fn end_number(&mut self, bytes: &[u8], at: usize) -> Result<(), NoMemory>
+    pub(crate) fn end_number(&mut self, bytes: &[u8], at: usize) -> Result<(), NoMemory>
         requires at_in { at ≤ length bytes.now }
         requires reads { IsReadTo bytes.now at self.old }
         ensures ends { IfOk result (λ done. seen_state bytes.now at self.new

@@ -1,6 +1,7 @@
 use Rattle.sval_json_read.proofs.laws.document_laws.Goals as goal
 use Rattle.sval_json_read.proofs.SettledTrees.{denoted-real, denoted-settles}
 use Rattle.sval_json_read.proofs.WritableTrees.{denoted-printable}
+use Rattle.sval_json_read.proofs.ShorterTexts.{denoted-shorter}
 use Rattle.sval_json_read.proofs.ProperParts.{pointed-real, pointed-settles}
 use Rattle.sval_json_read.proofs.PieceTexts.{pieces-text}
 use Rattle.sval_json_read.proofs.KeptNodes.{streamed-calls, streamed-spells}
@@ -15,6 +16,9 @@ returns-clause-trees_are_printable c = λ bytes value l d. denoted-printable l d
 
 pub returns-clause-written_again_settles : goal.returns-clause-written_again_settles
 returns-clause-written_again_settles c = λ bytes value d. denoted-settles d
+
+pub returns-clause-written_again_is_no_longer : goal.returns-clause-written_again_is_no_longer
+returns-clause-written_again_is_no_longer c = λ bytes value json d e. denoted-shorter json d e
 
 pub returns-clause-referenced_are_real : goal.returns-clause-referenced_are_real
 returns-clause-referenced_are_real c = pointed-real

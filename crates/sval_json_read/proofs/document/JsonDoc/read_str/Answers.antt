@@ -8,7 +8,7 @@ use Rattle.sval_json_read.proofs.document.JsonDoc.read_str.Goals as goal
 
 pub invariant_of-result : goal.invariant_of-result
 invariant_of-result c =
-    kept-document c.args.text.now c.in-Ok.nodes.items c.utf8.text (subst (λ bytes. AllByRecursion (StandsIn bytes) c.in-Ok.nodes.items) c.as_bytes.ensures.value c.in-Ok.ensures.stand)
+    kept-document c.args.text.now c.args.text.now c.in-Ok.nodes.items c.utf8.text (subst (λ bytes. AllByRecursion (StandsIn bytes) c.in-Ok.nodes.items) c.as_bytes.ensures.value c.in-Ok.ensures.stand)
     (subst (λ bytes. IsDocument bytes (tokens_in bytes (map seen_node c.in-Ok.nodes.items))) c.as_bytes.ensures.value c.in-Ok.ensures.ok)
 
 pub returns-in-Ok-clause-ok : goal.returns-in-Ok-clause-ok
@@ -18,3 +18,6 @@ returns-in-Ok-clause-ok c =
 pub returns-in-Ok-clause-value : goal.returns-in-Ok-clause-value
 returns-in-Ok-clause-value c =
     document-denotes c.args.text.now _ (subst (λ bytes. IsDocument bytes (tokens_in bytes (map seen_node c.in-Ok.nodes.items))) c.as_bytes.ensures.value c.in-Ok.ensures.ok)
+
+pub returns-in-Ok-clause-document : goal.returns-in-Ok-clause-document
+returns-in-Ok-clause-document c = subst (λ bytes. IsDocument bytes (tokens_in bytes (map seen_node c.in-Ok.nodes.items))) c.as_bytes.ensures.value c.in-Ok.ensures.ok
