@@ -18,3 +18,4 @@ pub mod Words
 pub mod Forms
 pub mod Verdict
 pub mod Serves
+pub mod Walks

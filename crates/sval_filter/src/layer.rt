@@ -97,7 +97,12 @@ impl<'p> Mode<'p> {
 impl<'p> Fate<'p> {
     /// What becomes of the pair of a map whose key has this label, where `self` is what becomes of the map. It takes
     /// memory only for a label.
-    fn of_entry(&self, alloc: Global, rule: Rule, label: Option<&str>) -> Result<Self, NoMemory>
+    pub(crate) fn of_entry(
+        &self,
+        alloc: Global,
+        rule: Rule,
+        label: Option<&str>,
+    ) -> Result<Self, NoMemory>
         ensures fate { let label = option_map (λ text. text.now) label.entry in
             IfOk result (λ fate. seen_fate fate ≡ fate_in rule (seen_fate self.now) label) }
         ensures want { OnErr result (is_some label.entry ≡ true) }

@@ -20,6 +20,7 @@ mod pruning;
 mod running;
 mod sieve;
 mod tails;
+mod walk;
 
 pub use filter::Filter;
 pub use paths::{PathError, Paths, Rule};
@@ -27,3 +28,4 @@ pub use program::FilterFields;
 pub use pruning::{PruneError, prune};
 pub use running::run_filter;
 pub use sval_check::Why;
+pub use walk::Walk;
