@@ -1,3 +1,4 @@
 pub mod ErrorTexts
 pub mod SourceLines
 pub mod LineParts
+pub mod SeenLines

@@ -5,8 +5,6 @@
 
 mod error;
 mod lines;
-#[cfg(test)]
-mod tests;
 
 pub use error::LineError;
 pub use lines::Lines;

@@ -47,13 +47,15 @@ fn first_feed(bytes: &[u8]) -> Option<usize>
 }
 
 impl<I: Source + Drop> Lines<I> {
+    ghost use Rattle.sval_lines.specs.SeenLines.{bytes_left, supply_of_lines, last_line, lines_taken};
+
     /// The lines of this source, before the first is read.
     ///
     /// It answers an error where there is no memory for what is read ahead.
     pub fn new(alloc: Global, source: I) -> Result<Self, AllocError>
-        ensures source { IfOk result (λ lines. lines.source ≡ source) }
-        ensures unread { IfOk result (λ lines. unread lines.chunk.items lines.from lines.upto ≡ []) }
-        ensures number { IfOk result (λ lines. lines.number ≡ 0) }
+        ensures left { IfOk result (λ lines. bytes_left I.told lines ≡ (I.told source).left) }
+        ensures source { IfOk result (λ lines. supply_of_lines I.told lines ≡ I.told source) }
+        ensures number { IfOk result (λ lines. lines_taken lines ≡ 0) }
     {
         let mut chunk = Vec::new(alloc);
         chunk.resize(CHUNK, 0)?;
@@ -69,14 +71,14 @@ impl<I: Source + Drop> Lines<I> {
 
     /// The bytes of the line that was taken last, without its line feed.
     pub fn line(&self) -> &[u8]
-        ensures { result.now ≡ self.now.line.items }
+        ensures { result.now ≡ last_line self.now }
     {
         &self.line
     }
 
     /// The number of the line that was taken last. The first is line 1.
     pub fn number(&self) -> u64
-        ensures { result ≡ self.now.number }
+        ensures { result ≡ lines_taken self.now }
     {
         self.number
     }
@@ -163,20 +165,18 @@ impl<I: Source + Drop> Lines<I> {
     /// the line, and [`LineError::TooManyLines`] where the number of lines is the greatest `u64`. What was read of the
     /// line is [`line`](Lines::line) then, and nothing behind it is lost.
     pub fn take_line(&mut self) -> Result<bool, LineError>
-        ensures ok { IfOk result (λ found. IfSome
-            (ahead_of (unread self.old.chunk.items self.old.from self.old.upto) (I.told self.old.source))
-            (λ all. TakesOrEnds found all self.new.line.items
-            (ahead_of (unread self.new.chunk.items self.new.from self.new.upto) (I.told self.new.source)))) }
-        ensures faults { OnOk result ((I.told self.new.source).faults ≡ (I.told self.old.source).faults) }
+        ensures ok { IfOk result (λ found. IfSome (bytes_left I.told self.old)
+            (λ all. TakesOrEnds found all (last_line self.new) (bytes_left I.told self.new))) }
+        ensures faults { OnOk result
+            ((supply_of_lines I.told self.new).faults ≡ (supply_of_lines I.told self.old).faults) }
         ensures err { IfErr result (λ why.
-            HasLineCause why self.old.number (I.told self.old.source) (I.told self.new.source)) }
-        ensures part { OnErr result (IfSome
-            (ahead_of (unread self.old.chunk.items self.old.from self.old.upto) (I.told self.old.source))
-            (λ all. TakesPart all self.new.line.items
-            (ahead_of (unread self.new.chunk.items self.new.from self.new.upto) (I.told self.new.source)))) }
-        ensures number { IfOk result (λ found. self.new.number ≡ number_behind found self.old.number) }
-        ensures uncounted { OnErr result (self.new.number ≡ self.old.number) }
-        ensures below { OnOk result (self.old.number < 2 ^ 64 - 1) }
+            HasLineCause why (lines_taken self.old)
+            (supply_of_lines I.told self.old) (supply_of_lines I.told self.new)) }
+        ensures part { OnErr result (IfSome (bytes_left I.told self.old)
+            (λ all. TakesPart all (last_line self.new) (bytes_left I.told self.new))) }
+        ensures number { IfOk result (λ found. lines_taken self.new ≡ number_behind found (lines_taken self.old)) }
+        ensures uncounted { OnErr result (lines_taken self.new ≡ lines_taken self.old) }
+        ensures below { OnOk result (lines_taken self.old < 2 ^ 64 - 1) }
     {
         if self.number == u64::MAX {
             self.line.clear();
@@ -195,20 +195,18 @@ impl<I: Source + Drop> Lines<I> {
     ///
     /// Those of [`take_line`](Lines::take_line).
     pub fn next_line(&mut self) -> Result<bool, LineError>
-        ensures ok { IfOk result (λ found. IfSome
-            (ahead_of (unread self.old.chunk.items self.old.from self.old.upto) (I.told self.old.source))
-            (λ all. TakesNext found all self.new.line.items
-            (ahead_of (unread self.new.chunk.items self.new.from self.new.upto) (I.told self.new.source))
-            self.old.number self.new.number)) }
-        ensures some { result ≡ Ok true → self.new.line.items ≢ [] }
-        ensures faults { OnOk result ((I.told self.new.source).faults ≡ (I.told self.old.source).faults) }
+        ensures ok { IfOk result (λ found. IfSome (bytes_left I.told self.old)
+            (λ all. TakesNext found all (last_line self.new) (bytes_left I.told self.new)
+            (lines_taken self.old) (lines_taken self.new))) }
+        ensures some { result ≡ Ok true → last_line self.new ≢ [] }
+        ensures faults { OnOk result
+            ((supply_of_lines I.told self.new).faults ≡ (supply_of_lines I.told self.old).faults) }
         ensures err { IfErr result (λ why.
-            HasLineCause why self.new.number (I.told self.old.source) (I.told self.new.source)) }
-        ensures part { OnErr result (IfSome
-            (ahead_of (unread self.old.chunk.items self.old.from self.old.upto) (I.told self.old.source))
-            (λ all. TakesNextPart all self.new.line.items
-            (ahead_of (unread self.new.chunk.items self.new.from self.new.upto) (I.told self.new.source))
-            self.old.number self.new.number)) }
+            HasLineCause why (lines_taken self.new)
+            (supply_of_lines I.told self.old) (supply_of_lines I.told self.new)) }
+        ensures part { OnErr result (IfSome (bytes_left I.told self.old)
+            (λ all. TakesNextPart all (last_line self.new) (bytes_left I.told self.new)
+            (lines_taken self.old) (lines_taken self.new))) }
     {
         while self.take_line()? {
             if !self.line.is_empty() {

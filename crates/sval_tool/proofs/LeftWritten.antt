@@ -1,9 +1,9 @@
 -- From what was streamed of a document to what was written of what is left of it.
-use Rattle.std.specs.Prelude.{◌≡◌, ℕ, true, false, List, [], ◌++◌, Option, Some, None, Ok, Err, refl}
+use Rattle.std.specs.Prelude.{◌≡◌, ℕ, true, false, List, [], ◌++◌, Ok, Err, refl}
 use Rattle.std.specs.Borrow.{MutBor}
 use Rattle.std.proofs.Common.{sym, ap, subst, ◌∙◌, inl, inr}
 use Rattle.sval_label.specs.Calls.{Call}
-use Rattle.sval_core.specs.Law.{Stops}
+use Rattle.sval_core.specs.Law.{Streams, Stops}
 use Rattle.sval_core.specs.Spells.{Spells}
 use Rattle.sval_core.specs.Trees.{Tree}
 use Rattle.sval_core.specs.Values.{makes}
@@ -25,40 +25,42 @@ use Rattle.sval_json.specs.declared.writer.JsonWriter.{JsonWriter}
 use Rattle.sval_json.proofs.Refused.{written_as_they_come}
 use Rattle.sval_json.proofs.Streaming.{ran_is_written, stopped_is_begun}
 use Rattle.sval_json.proofs.WritingPlain.{spelling_written}
-use Rattle.sval_check.specs.declared.checked.Why.{Why}
-use Rattle.sval_check.specs.declared.checked.Why.TheVariants as filter
-use Rattle.sval_filter.specs.Filtering.{fresh, all_due}
 use Rattle.sval_filter.specs.Paths.{Path}
 use Rattle.sval_filter.specs.declared.paths.Rule.{Rule}
 use Rattle.sval_filter.specs.declared.paths.Rule.TheVariants as by
 use Rattle.sval_filter.specs.Pruned.{pruned}
-use Rattle.sval_filter.specs.Pruning.{PassesPruned}
-use Rattle.sval_filter.proofs.DueCalls.{due_spells_pruned}
 use Rattle.sval_filter.proofs.NothingDropped.{drop_nothing}
-use Rattle.sval_json_read.specs.ReadErrors.{IsReadText}
+use Rattle.sval_json_read.specs.Calls.{document_calls}
+use Rattle.sval_json_read.specs.Documents.{IsDocument}
+use Rattle.sval_json_read.specs.Tokens.{Placed}
 use Rattle.sval_json_read.specs.Trees.{tree_of}
+use Rattle.sval_json_read.proofs.Documents.{document-calls}
 use Rattle.sval_tool.specs.Conversions.{IsTextLeft, WritesLeftJson}
-use Rattle.sval_tool.specs.Passing.{TakesFirst, StopsAt, IsSinkStop, stop_by}
+use Rattle.sval_tool.specs.LeftTokens.{left_calls}
+use Rattle.sval_tool.specs.Passing.{TakesFirstCalls, StopsAt, IsSinkStop, sink_error_of}
 use Rattle.sval_tool.specs.declared.convert.Target.TheVariants as target
+use Rattle.sval_tool.specs.declared.left.Halt.{Halt}
+use Rattle.sval_tool.specs.declared.left.Halt.TheVariants as halt
 use Rattle.sval_tool.proofs.LeftJson.{HasJson, left_has_json}
+use Rattle.sval_tool.proofs.LeftTokens.{left_spells}
 
-module _ (rule : Rule) (paths : List Path) (input : List ℕ) (calls : List Call) (r : IsReadText input calls) where
+module _ (rule : Rule) (paths : List Path) (input : List ℕ) (tokens : List Placed) (r : IsDocument input tokens) where
   -- what is left of the document's tree
   abbrev left : Tree
-  left = pruned rule paths (tree_of r.document.value)
+  left = pruned rule paths (tree_of r.value)
 
   has_json : HasJson left
-  has_json = left_has_json rule paths r.document.denotes
+  has_json = left_has_json rule paths r.denotes
 
   left_due : (found : Json) → json_of left ≡ Ok found → IsTextLeft rule paths target.Json input (compact found)
-  left_due found shape = record { value = r.document.value; denotes = r.document.denotes; is = record { json = found; shape = shape; is_text = refl } }
+  left_due found shape = record { value = r.value; denotes = r.denotes; is = record { json = found; shape = shape; is_text = refl } }
 
-  -- the calls that a filter passes on of it
+  -- the calls of the tokens that stay
   abbrev due : List Call
-  due = all_due rule paths fresh calls
+  due = left_calls rule paths tokens
 
   due_spells : Spells due left
-  due_spells = due_spells_pruned rule paths calls (tree_of r.document.value) r.spells
+  due_spells = left_spells rule paths input tokens r
 
   due_written : (spelled : List Call) (found : Json) → Spells spelled left → json_of left ≡ Ok found → (written_in Inside spelled).written ≡ compact found
   due_written spelled found spells shape = (subst (λ found. IsWrittenAs found (written_in Inside spelled)) shape (spelling_written Inside spelled left spells)).0
@@ -120,34 +122,33 @@ module _ (rule : Rule) (paths : List Path) (input : List ℕ) (calls : List Call
         }
 
     -- the writer was stopped
-    pub by_kind : (spelled : List Call) (found : ErrorKind) → Spells spelled left → StreamsJson Inside (makes spelled) (Err found) old new → WritesLeftJson rule paths input (Err (stop_by (Some filter.Inner) found)) old new
+    pub by_kind : (spelled : List Call) (found : ErrorKind) → Spells spelled left → StreamsJson Inside (makes spelled) (Err found) old new → WritesLeftJson rule paths input (Err (sink_error_of halt.Refused found)) old new
     by_kind spelled kind.IO p s = fails_left spelled p s
     by_kind spelled kind.NoMemory p s = lacks_left spelled p s
     by_kind spelled kind.InvalidKey p s = absurd (no_refusal spelled InvalidKey p s)
     by_kind spelled kind.InvalidNumber p s = absurd (no_refusal spelled InvalidNumber p s)
     by_kind spelled kind.Generic p s = absurd (no_generic spelled s)
 
-    pub known_kind : (spelled : List Call) (found : ErrorKind) → Spells spelled left → StreamsJson Inside (makes spelled) (Err found) old new → IsSinkStop (Some filter.Inner) found
+    pub known_kind : (spelled : List Call) (found : ErrorKind) → Spells spelled left → StreamsJson Inside (makes spelled) (Err found) old new → IsSinkStop halt.Refused found
     known_kind spelled kind.IO p s = tt
     known_kind spelled kind.NoMemory p s = tt
     known_kind spelled kind.InvalidKey p s = no_refusal spelled InvalidKey p s
     known_kind spelled kind.InvalidNumber p s = no_refusal spelled InvalidNumber p s
     known_kind spelled kind.Generic p s = no_generic spelled s
 
-  -- ---- a fresh writer behind the filter
+  -- ---- a fresh writer
 
   module _ {K : Type 0} (told : K → Told) (sink : MutBor K) (begun now : JsonWriter K) (is : begun ≡ fresh_writer sink Inside) where
     -- the writer still has its sink
     abbrev Keeps : Type 0
     Keeps = (sink_of now).ghost_name ≡ sink.ghost_name
 
-    pub all_written : PassesPruned writer_law (writer_standing told begun) (makes calls) rule paths (writer_standing told now) → WritesLeftJson rule paths input (Ok tt) (told sink.now) (told (sink_of now).now) × Keeps
-    all_written p =
-        let t = (p (tree_of r.document.value) r.spells).1 in
-        let after = ran_is_written told sink Inside (makes t.0) now begun is t.1.willing t.1.ran in
-        (writes_left (told sink.now) (told (sink_of now).now) t.0 t.2 after.0, after.1)
+    pub all_written : Streams writer_law (writer_standing told begun) (makes due) (writer_standing told now) → WritesLeftJson rule paths input (Ok tt) (told sink.now) (told (sink_of now).now) × Keeps
+    all_written s =
+        let after = ran_is_written told sink Inside (makes due) now begun is s.willing s.ran in
+        (writes_left (told sink.now) (told (sink_of now).now) due due_spells after.0, after.1)
 
-    paused_written : TakesFirst writer_law (writer_standing told begun) due (writer_standing told now) → WritesLeftJson rule paths input (Err NoMemory) (told sink.now) (told (sink_of now).now) × Keeps
+    paused_written : TakesFirstCalls writer_law (writer_standing told begun) due (writer_standing told now) → WritesLeftJson rule paths input (Err NoMemory) (told sink.now) (told (sink_of now).now) × Keeps
     paused_written t =
         let after = ran_is_written told sink Inside (makes t.taken) now begun is t.streams.willing t.streams.ran in
         (pauses_left (told sink.now) (told (sink_of now).now) t.taken t.rest t.same after.0, after.1)
@@ -155,21 +156,17 @@ module _ (rule : Rule) (paths : List Path) (input : List ℕ) (calls : List Call
     stopped_written : Stops writer_law (writer_standing told begun) (makes due) (writer_standing told now) → StreamsJson Inside (makes due) (Err (error_kind (stop_of now))) (told sink.now) (told (sink_of now).now) × Keeps
     stopped_written s = stopped_is_begun told sink Inside (makes due) now begun is s
 
-    -- the filter stopped
-    pub part_written : (why : Option Why) → StopsAt writer_law why (writer_standing told begun) due (writer_standing told now)
-        → WritesLeftJson rule paths input (Err (stop_by why (error_kind (stop_of now)))) (told sink.now) (told (sink_of now).now) × Keeps
-    part_written (Some filter.NoMemory) h = paused_written h
-    part_written (Some filter.Inner) h =
+    -- the streaming stopped
+    pub part_written : (why : Halt) → StopsAt writer_law why (writer_standing told begun) due (writer_standing told now)
+        → WritesLeftJson rule paths input (Err (sink_error_of why (error_kind (stop_of now)))) (told sink.now) (told (sink_of now).now) × Keeps
+    part_written halt.NoMemory h = paused_written h
+    part_written halt.Refused h =
         let s = stopped_written h in (by_kind (told sink.now) (told (sink_of now).now) due (error_kind (stop_of now)) due_spells s.0, s.1)
-    part_written (Some filter.NotViable) h = absurd h
-    part_written None h = absurd h
 
-    pub known_stop : (why : Option Why) → StopsAt writer_law why (writer_standing told begun) due (writer_standing told now) → IsSinkStop why (error_kind (stop_of now))
-    known_stop (Some filter.NoMemory) h = tt
-    known_stop (Some filter.Inner) h = known_kind (told sink.now) (told (sink_of now).now) due (error_kind (stop_of now)) due_spells (stopped_written h).0
-    known_stop (Some filter.NotViable) h = absurd h
-    known_stop None h = absurd h
+    pub known_stop : (why : Halt) → StopsAt writer_law why (writer_standing told begun) due (writer_standing told now) → IsSinkStop why (error_kind (stop_of now))
+    known_stop halt.NoMemory h = tt
+    known_stop halt.Refused h = known_kind (told sink.now) (told (sink_of now).now) due (error_kind (stop_of now)) due_spells (stopped_written h).0
 
 -- where nothing is dropped, a document's own calls spell what is left of it
-pub whole_spells : (input : List ℕ) (calls : List Call) (r : IsReadText input calls) → Spells calls (pruned by.Drop [] (tree_of r.document.value))
-whole_spells input calls r = subst (Spells calls) (sym (drop_nothing (tree_of r.document.value))) r.spells
+pub whole_spells : (input : List ℕ) (tokens : List Placed) (r : IsDocument input tokens) → Spells (document_calls tokens) (pruned by.Drop [] (tree_of r.value))
+whole_spells input tokens r = subst (Spells (document_calls tokens)) (sym (drop_nothing (tree_of r.value))) (document-calls input tokens r)

@@ -1,4 +1,5 @@
-pub mod FilterStops
+pub mod LeftTokens
+pub mod LeftStreams
 pub mod LeftJson
 pub mod LeftWritten
 pub mod DocumentCauses

@@ -7,8 +7,8 @@ use Rattle.sval_filter.specs.Paths.{Path}
 use Rattle.sval_filter.specs.declared.paths.Rule.{Rule}
 use Rattle.sval_filter.specs.declared.paths.Rule.TheVariants.{Drop, Keep}
 use Rattle.sval_tool.specs.PathWords.{is_bad_path, path_labels}
-use Rattle.sval_tool.specs.Words.{Asked, Part, Turned, Given, Named, Wrong, asked_for, file_in, first_of, first_stop, input_in, input_named, is_lines, is_other, once, output_in, output_named, path_in, rule_in, stop_at, stop_at_path, stop_within, unless}
-use Rattle.sval_tool.specs.WordReading.{with_part}
+use Rattle.sval_tool.specs.Words.{Asked, Part, Turned, Given, Named, Wrong, asked_for, file_in, first_of, first_stop, input_in, input_named, is_lines, is_other, is_progress, once, output_in, output_named, path_in, pointer_in, pointer_named, rule_of_part, stop_at, stop_at_path, stop_beside, stop_within, unless}
+use Rattle.sval_tool.specs.WordReading.{asked_with_part}
 use Rattle.sval_tool.specs.declared.switch.Flag.TheVariants as flag
 use Rattle.sval_tool.specs.declared.switch.Setting.{Setting}
 use Rattle.sval_tool.specs.declared.switch.Setting.TheVariants as setting
@@ -69,32 +69,52 @@ path_none at which rule before word e = by_other (is_other rule before) e
     by_other true e = cc
     by_other false e = refl
 
-abbrev asked_of : Command → Option Input → Option Output → Bool → Option Rule → List Path → List (List ℕ) → Asked
-asked_of what from to lines rule paths files = record {
+-- nothing was given before beside which this may not come
+beside_none : {X : Type 0} (at : ℕ) (before : Option X) (other : Option Stop) → stop_beside at before other ≡ None → other ≡ None
+beside_none at (Some x) other e = cc
+beside_none at None other e = e
+
+abbrev asked_of : Command → Option Input → Option Output → Bool → Bool → Option Rule → List Path → Option (List ℕ) → List (List ℕ) → Asked
+asked_of what from to lines progress rule paths pointer files = record {
   command = what;
   from = from;
   to = to;
   lines = lines;
+  progress = progress;
   rule = rule;
   paths = paths;
+  pointer = pointer;
   files = files;
 }
 
-asked_same : (what : Command) {f g : Option Input} {t u : Option Output} {l m : Bool} {r s : Option Rule} {p q : List Path} {x y : List (List ℕ)}
-    → f ≡ g → t ≡ u → l ≡ m → r ≡ s → p ≡ q → x ≡ y → asked_of what f t l r p x ≡ asked_of what g u m s q y
-asked_same what a b c d e h = rw (a, b, c, d, e, h) refl
+asked_same : (what : Command) {f g : Option Input} {t u : Option Output} {l m h k : Bool} {r s : Option Rule} {p q : List Path} {i j : Option (List ℕ)} {x y : List (List ℕ)}
+    → f ≡ g → t ≡ u → l ≡ m → h ≡ k → r ≡ s → p ≡ q → i ≡ j → x ≡ y → asked_of what f t l h r p i x ≡ asked_of what g u m k s q j y
+asked_same what a b c d e n o v = rw (a, b, c, d, e, n, o, v) refl
 
 module _ (what : Command) (before : List Part) where
   -- what is asked for with a part more
-  pub asked_more : (part : Part) → stop_at (asked_for what before) part ≡ None → with_part (asked_for what before) part ≡ asked_for what (before ++ (part ∷ []))
+  pub asked_more : (part : Part) → stop_at (asked_for what before) part ≡ None → asked_with_part (asked_for what before) part ≡ asked_for what (before ++ (part ∷ []))
   asked_more (Turned flag.Lines) none =
       let part : Part = Turned flag.Lines in
       asked_same what
       (ap (λ (xs : List Input). first_of xs) (sym (kept input_in before part refl)))
       (ap (λ (xs : List Output). first_of xs) (sym (kept output_in before part refl)))
       (sym (any_more is_lines before part refl))
-      (ap (λ (xs : List Rule). first_of xs) (sym (kept rule_in before part refl)))
+      (sym (any_kept is_progress before part refl))
+      (ap (λ (xs : List Rule). first_of xs) (sym (kept rule_of_part before part refl)))
       (sym (kept path_in before part refl))
+      (ap (λ (xs : List (List ℕ)). first_of xs) (sym (kept pointer_in before part refl)))
+      (sym (kept file_in before part refl))
+  asked_more (Turned flag.Progress) none =
+      let part : Part = Turned flag.Progress in
+      asked_same what
+      (ap (λ (xs : List Input). first_of xs) (sym (kept input_in before part refl)))
+      (ap (λ (xs : List Output). first_of xs) (sym (kept output_in before part refl)))
+      (sym (any_kept is_lines before part refl))
+      (sym (any_more is_progress before part refl))
+      (ap (λ (xs : List Rule). first_of xs) (sym (kept rule_of_part before part refl)))
+      (sym (kept path_in before part refl))
+      (ap (λ (xs : List (List ℕ)). first_of xs) (sym (kept pointer_in before part refl)))
       (sym (kept file_in before part refl))
   asked_more (Turned flag.Help) none = cc
   asked_more (Turned flag.Version) none = cc
@@ -107,8 +127,10 @@ module _ (what : Command) (before : List Part) where
       (sym it)
       (ap (λ (xs : List Output). first_of xs) (sym (kept output_in before part refl)))
       (sym (any_kept is_lines before part refl))
-      (ap (λ (xs : List Rule). first_of xs) (sym (kept rule_in before part refl)))
+      (sym (any_kept is_progress before part refl))
+      (ap (λ (xs : List Rule). first_of xs) (sym (kept rule_of_part before part refl)))
       (sym (kept path_in before part refl))
+      (ap (λ (xs : List (List ℕ)). first_of xs) (sym (kept pointer_in before part refl)))
       (sym (kept file_in before part refl))
   asked_more (Given at setting.To word) none =
       let part : Part = Given at setting.To word in
@@ -119,32 +141,53 @@ module _ (what : Command) (before : List Part) where
       (ap (λ (xs : List Input). first_of xs) (sym (kept input_in before part refl)))
       (sym it)
       (sym (any_kept is_lines before part refl))
-      (ap (λ (xs : List Rule). first_of xs) (sym (kept rule_in before part refl)))
+      (sym (any_kept is_progress before part refl))
+      (ap (λ (xs : List Rule). first_of xs) (sym (kept rule_of_part before part refl)))
       (sym (kept path_in before part refl))
+      (ap (λ (xs : List (List ℕ)). first_of xs) (sym (kept pointer_in before part refl)))
       (sym (kept file_in before part refl))
   asked_more (Given at setting.Keep word) none =
       let part : Part = Given at setting.Keep word in
-      let same = path_none at setting.Keep Keep (first_of (filter_map rule_in before)) word none in
-      let it : first_of (filter_map rule_in (before ++ (part ∷ []))) ≡ Some Keep =
-      ap (λ (xs : List Rule). first_of xs) (more rule_in before part Keep refl) ∙ rule_more (filter_map rule_in before) Keep same in
+      let same = path_none at setting.Keep Keep (first_of (filter_map rule_of_part before)) word (beside_none at (first_of (filter_map pointer_in before)) (stop_at_path at setting.Keep Keep (first_of (filter_map rule_of_part before)) word) none) in
+      let it : first_of (filter_map rule_of_part (before ++ (part ∷ []))) ≡ Some Keep =
+      ap (λ (xs : List Rule). first_of xs) (more rule_of_part before part Keep refl) ∙ rule_more (filter_map rule_of_part before) Keep same in
       asked_same what
       (ap (λ (xs : List Input). first_of xs) (sym (kept input_in before part refl)))
       (ap (λ (xs : List Output). first_of xs) (sym (kept output_in before part refl)))
       (sym (any_kept is_lines before part refl))
+      (sym (any_kept is_progress before part refl))
       (sym it)
       (sym (more path_in before part (path_labels word) refl))
+      (ap (λ (xs : List (List ℕ)). first_of xs) (sym (kept pointer_in before part refl)))
       (sym (kept file_in before part refl))
   asked_more (Given at setting.Drop word) none =
       let part : Part = Given at setting.Drop word in
-      let same = path_none at setting.Drop Drop (first_of (filter_map rule_in before)) word none in
-      let it : first_of (filter_map rule_in (before ++ (part ∷ []))) ≡ Some Drop =
-      ap (λ (xs : List Rule). first_of xs) (more rule_in before part Drop refl) ∙ rule_more (filter_map rule_in before) Drop same in
+      let same = path_none at setting.Drop Drop (first_of (filter_map rule_of_part before)) word (beside_none at (first_of (filter_map pointer_in before)) (stop_at_path at setting.Drop Drop (first_of (filter_map rule_of_part before)) word) none) in
+      let it : first_of (filter_map rule_of_part (before ++ (part ∷ []))) ≡ Some Drop =
+      ap (λ (xs : List Rule). first_of xs) (more rule_of_part before part Drop refl) ∙ rule_more (filter_map rule_of_part before) Drop same in
       asked_same what
       (ap (λ (xs : List Input). first_of xs) (sym (kept input_in before part refl)))
       (ap (λ (xs : List Output). first_of xs) (sym (kept output_in before part refl)))
       (sym (any_kept is_lines before part refl))
+      (sym (any_kept is_progress before part refl))
       (sym it)
       (sym (more path_in before part (path_labels word) refl))
+      (ap (λ (xs : List (List ℕ)). first_of xs) (sym (kept pointer_in before part refl)))
+      (sym (kept file_in before part refl))
+  asked_more (Given at setting.Pointer word) none =
+      let part : Part = Given at setting.Pointer word in
+      let free = beside_none at (first_of (filter_map rule_of_part before)) (once at setting.Pointer (first_of (filter_map pointer_in before)) (pointer_named word)) none in
+      let new = once_none at setting.Pointer (first_of (filter_map pointer_in before)) (pointer_named word) free in
+      let it : first_of (filter_map pointer_in (before ++ (part ∷ []))) ≡ pointer_named word =
+      ap (λ (xs : List (List ℕ)). first_of xs) (more pointer_in before part new.1.0 new.1.1) ∙ (first_more (filter_map pointer_in before) new.1.0 new.0 ∙ sym new.1.1) in
+      asked_same what
+      (ap (λ (xs : List Input). first_of xs) (sym (kept input_in before part refl)))
+      (ap (λ (xs : List Output). first_of xs) (sym (kept output_in before part refl)))
+      (sym (any_kept is_lines before part refl))
+      (sym (any_kept is_progress before part refl))
+      (ap (λ (xs : List Rule). first_of xs) (sym (kept rule_of_part before part refl)))
+      (sym (kept path_in before part refl))
+      (sym it)
       (sym (kept file_in before part refl))
   asked_more (Named word) none =
       let part : Part = Named word in
@@ -152,8 +195,10 @@ module _ (what : Command) (before : List Part) where
       (ap (λ (xs : List Input). first_of xs) (sym (kept input_in before part refl)))
       (ap (λ (xs : List Output). first_of xs) (sym (kept output_in before part refl)))
       (sym (any_kept is_lines before part refl))
-      (ap (λ (xs : List Rule). first_of xs) (sym (kept rule_in before part refl)))
+      (sym (any_kept is_progress before part refl))
+      (ap (λ (xs : List Rule). first_of xs) (sym (kept rule_of_part before part refl)))
       (sym (kept path_in before part refl))
+      (ap (λ (xs : List (List ℕ)). first_of xs) (sym (kept pointer_in before part refl)))
       (sym (more file_in before part word refl))
   asked_more (Wrong at why) none = cc
 
@@ -167,7 +212,7 @@ after_stop None later = later
 -- what is asked for with parts more, one by one
 abbrev pub with_parts : Asked → List Part → Result Asked Stop
 with_parts asked [] = Ok asked
-with_parts asked (part ∷ parts) = after_stop (stop_at asked part) (with_parts (with_part asked part) parts)
+with_parts asked (part ∷ parts) = after_stop (stop_at asked part) (with_parts (asked_with_part asked part) parts)
 
 -- they ask for what all of them ask for together
 pub parts_asked : (what : Command) (before parts : List Part) → with_parts (asked_for what before) parts ≡ unless (stop_within what before parts) (asked_for what (before ++ parts))
@@ -176,7 +221,7 @@ parts_asked what before (part ∷ parts) = by_stop (stop_at (asked_for what befo
   where
     by_stop : (s : Option Stop) → stop_at (asked_for what before) part ≡ s
         → with_parts (asked_for what (before ++ (part ∷ []))) parts ≡ unless (stop_within what (before ++ (part ∷ [])) parts) (asked_for what ((before ++ (part ∷ [])) ++ parts))
-        → after_stop s (with_parts (with_part (asked_for what before) part) parts) ≡ unless (first_stop s (stop_within what (before ++ (part ∷ [])) parts)) (asked_for what (before ++ (part ∷ parts)))
+        → after_stop s (with_parts (asked_with_part (asked_for what before) part) parts) ≡ unless (first_stop s (stop_within what (before ++ (part ∷ [])) parts)) (asked_for what (before ++ (part ∷ parts)))
     by_stop (Some why) is rest = refl
     by_stop None is rest =
         ap (λ (asked : Asked). with_parts asked parts) (asked_more what before part is)

@@ -3,12 +3,12 @@ use Rattle.std.specs.Prelude.{◌≡◌, ℕ, zero, suc, ◌<◌, ◌≤◌, Boo
 use Rattle.std.proofs.Common.{ap, sym, ◌∙◌, arith, get_or, drop}
 use Rattle.std.proofs.lemmas.List.{length-map}
 use Rattle.sval_tool.specs.declared.switch.OptionRow.{OptionRow}
-use Rattle.sval_tool.specs.Switches.{SeenRow, seen_row, name_at, option_rows, row_named, row_shortened}
+use Rattle.sval_tool.specs.Switches.{SeenRow, seen_row, option_name_at, option_rows, row_named, row_shortened}
 
 -- how many rows there are
-pub seven_rows : (rows : List OptionRow) → map seen_row rows ≡ option_rows → length rows ≡ 7
+pub rows_counted : (rows : List OptionRow) → map seen_row rows ≡ option_rows → length rows ≡ 9
 unfolding option_rows
-seven_rows rows seen = sym (length-map rows seen_row) ∙ ap length seen
+rows_counted rows seen = sym (length-map rows seen_row) ∙ ap length seen
 
 -- what a test chooses
 chosen : (x y : Option SeenRow) (b : Bool) → true ≡ b → (if b then x else y) ≡ x
@@ -16,7 +16,7 @@ chosen x y true is = refl
 chosen x y false is = cc
 
 -- the name in a row
-name_in_row : (rows : List OptionRow) (index : ℕ) (default : OptionRow) → (get_or rows index default).name.now ≡ name_at default.name.now index (map seen_row rows)
+name_in_row : (rows : List OptionRow) (index : ℕ) (default : OptionRow) → (get_or rows index default).name.now ≡ option_name_at default.name.now index (map seen_row rows)
 name_in_row [] zero default = refl
 name_in_row [] (suc index) default = refl
 name_in_row (first ∷ rows) zero default = refl
@@ -24,10 +24,10 @@ name_in_row (first ∷ rows) (suc index) default = name_in_row rows index defaul
 
 -- and by the table of the rows
 pub name_by_table : (rows : List OptionRow) (index place : ℕ) (table : List SeenRow) (default : OptionRow) → map seen_row rows ≡ table → index ≡ place
-    → (get_or rows index default).name.now ≡ name_at default.name.now place table
+    → (get_or rows index default).name.now ≡ option_name_at default.name.now place table
 name_by_table rows index place table default seen same =
     name_in_row rows index default
-    ∙ (ap (λ (rows : List SeenRow). name_at default.name.now index rows) seen ∙ ap (λ (i : ℕ). name_at default.name.now i table) same)
+    ∙ (ap (λ (rows : List SeenRow). option_name_at default.name.now index rows) seen ∙ ap (λ (i : ℕ). option_name_at default.name.now i table) same)
 
 -- the first of the rows left that has this name
 pub named_found : (rows : List OptionRow) (index : ℕ) (default : OptionRow) (name : List ℕ) → index < length rows → true ≡ bytes_eq (get_or rows index default).name.now name

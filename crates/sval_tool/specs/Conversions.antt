@@ -69,7 +69,7 @@ pub record StopsInDue (why : SinkError) (Due : List ℕ → Type 0) (old new : T
   pub stops : WritesParts (Err why) old text new
 
 -- memory was wanting to keep what was read, and nothing was written
-pub record IsUnread {K : Type 0} (bytes : List ℕ) (old new : K) : Type 0 where
+pub record LacksMemoryToKeep {K : Type 0} (bytes : List ℕ) (old new : K) : Type 0 where
   pub utf8 : IsUtf8 bytes
   pub keeps : KeepsSome bytes
   pub same : new ≡ old
@@ -80,7 +80,7 @@ IsDocumentCause told Due bytes (document.NotUtf8 at) old new = (IsUtf8 bytes →
 IsDocumentCause told Due bytes (document.BadJson at) old new = IsBadJson bytes at × (new ≡ old)
 IsDocumentCause told Due bytes document.WriteFault old new = StopsInDue sink.Failed Due (told old) (told new)
 IsDocumentCause told Due bytes document.NoMemory old new =
-    IsUnread bytes old new ⊎ StopsInDue sink.NoMemory Due (told old) (told new)
+    LacksMemoryToKeep bytes old new ⊎ StopsInDue sink.NoMemory Due (told old) (told new)
 
 -- ---- errors of what is below
 

@@ -1,6 +1,7 @@
 pub mod Conversions
 pub mod ConvertedLines
 pub mod ErrorTexts
+pub mod LeftTokens
 pub mod Passing
 pub mod PathWords
 pub mod Switches

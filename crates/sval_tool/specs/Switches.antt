@@ -28,6 +28,8 @@ option_rows =
     row (switch.Flag flag.Lines) (codes "lines") [] true ∷
     row (switch.Setting setting.Keep) (codes "keep") [] false ∷
     row (switch.Setting setting.Drop) (codes "drop") [] false ∷
+    row (switch.Setting setting.Pointer) (codes "pointer") [] false ∷
+    row (switch.Flag flag.Progress) (codes "progress") [] true ∷
     row (switch.Flag flag.Help) (codes "help") (codes "h") true ∷
     row (switch.Flag flag.Version) (codes "version") (codes "V") true ∷
     []
@@ -43,21 +45,23 @@ row_shortened letters [] = None
 row_shortened letters (first ∷ rows) = if bytes_eq first.short letters then Some first else row_shortened letters rows
 
 -- where an option stands in the table
-abbrev pub place_of : Switch → ℕ
-place_of (switch.Setting setting.From) = 0
-place_of (switch.Setting setting.To) = 1
-place_of (switch.Flag flag.Lines) = 2
-place_of (switch.Setting setting.Keep) = 3
-place_of (switch.Setting setting.Drop) = 4
-place_of (switch.Flag flag.Help) = 5
-place_of (switch.Flag flag.Version) = 6
+abbrev pub option_row : Switch → ℕ
+option_row (switch.Setting setting.From) = 0
+option_row (switch.Setting setting.To) = 1
+option_row (switch.Flag flag.Lines) = 2
+option_row (switch.Setting setting.Keep) = 3
+option_row (switch.Setting setting.Drop) = 4
+option_row (switch.Setting setting.Pointer) = 5
+option_row (switch.Flag flag.Progress) = 6
+option_row (switch.Flag flag.Help) = 7
+option_row (switch.Flag flag.Version) = 8
 
 -- the name in the row at an index, or this past the last row
-abbrev pub name_at : List ℕ → ℕ → List SeenRow → List ℕ
-name_at past index [] = past
-name_at past zero (first ∷ rows) = first.name
-name_at past (suc index) (first ∷ rows) = name_at past index rows
+abbrev pub option_name_at : List ℕ → ℕ → List SeenRow → List ℕ
+option_name_at past index [] = past
+option_name_at past zero (first ∷ rows) = first.name
+option_name_at past (suc index) (first ∷ rows) = option_name_at past index rows
 
 -- the name of an option
-abbrev pub name_of : Switch → List ℕ
-name_of option = name_at [] (place_of option) option_rows
+abbrev pub option_name : Switch → List ℕ
+option_name option = option_name_at [] (option_row option) option_rows

@@ -3,7 +3,7 @@ use Rattle.std.specs.Prelude.{◌≡◌, ℕ, ◌+◌, ◌-◌, ◌==◌, Bool, 
 use Rattle.sval_filter.specs.declared.paths.Rule.{Rule}
 use Rattle.sval_filter.specs.declared.paths.Rule.TheVariants.{Drop, Keep}
 use Rattle.sval_tool.specs.PathWords.{path_labels}
-use Rattle.sval_tool.specs.Words.{Asked, Part, Turned, Given, Named, Wrong, Saying, Says, Needs, Ends, IsStop, asked_for, asked_in, input_named, output_named, said_by, stop_at}
+use Rattle.sval_tool.specs.Words.{Asked, Part, Turned, Given, Named, Wrong, Saying, Says, Needs, Ends, IsStop, asked_for, asked_by_options, input_named, output_named, pointer_named, said_by, stop_at}
 use Rattle.sval_tool.specs.declared.switch.Flag.TheVariants as flag
 use Rattle.sval_tool.specs.declared.switch.Setting.{Setting}
 use Rattle.sval_tool.specs.declared.switch.Setting.TheVariants as setting
@@ -21,26 +21,28 @@ pub record Reading : Type 0 where
 
 -- what a reader has read
 abbrev pub reading_in : WordReader → Reading
-reading_in reader = record { asked = asked_in reader.options; due = reader.due; ended = reader.ended }
+reading_in reader = record { asked = asked_by_options reader.options; due = reader.due; ended = reader.ended }
 
 -- before the first word
 abbrev pub before_words : Reading
 before_words = record { asked = asked_for command.Convert []; due = None; ended = false }
 
 -- what is asked for with a path more of this rule
-abbrev pub with_path : Rule → Asked → List ℕ → Asked
-with_path rule asked word = record asked { rule = Some rule; paths = asked.paths ++ (path_labels word ∷ []) }
+abbrev pub asked_with_path : Rule → Asked → List ℕ → Asked
+asked_with_path rule asked word = record asked { rule = Some rule; paths = asked.paths ++ (path_labels word ∷ []) }
 
 -- what is asked for with a part more that ends no reading
-abbrev pub with_part : Asked → Part → Asked
-with_part asked (Turned flag.Lines) = record asked { lines = true }
-with_part asked (Turned _) = asked
-with_part asked (Given at setting.From word) = record asked { from = input_named word }
-with_part asked (Given at setting.To word) = record asked { to = output_named word }
-with_part asked (Given at setting.Keep word) = with_path Keep asked word
-with_part asked (Given at setting.Drop word) = with_path Drop asked word
-with_part asked (Named word) = record asked { files = asked.files ++ (word ∷ []) }
-with_part asked (Wrong at why) = asked
+abbrev pub asked_with_part : Asked → Part → Asked
+asked_with_part asked (Turned flag.Lines) = record asked { lines = true }
+asked_with_part asked (Turned flag.Progress) = record asked { progress = true }
+asked_with_part asked (Turned _) = asked
+asked_with_part asked (Given at setting.From word) = record asked { from = input_named word }
+asked_with_part asked (Given at setting.To word) = record asked { to = output_named word }
+asked_with_part asked (Given at setting.Keep word) = asked_with_path Keep asked word
+asked_with_part asked (Given at setting.Drop word) = asked_with_path Drop asked word
+asked_with_part asked (Given at setting.Pointer word) = record asked { pointer = pointer_named word }
+asked_with_part asked (Named word) = record asked { files = asked.files ++ (word ∷ []) }
+asked_with_part asked (Wrong at why) = asked
 
 -- with this asked for, unless there is a stop
 abbrev pub reads_unless : Option Stop → Reading → Asked → Result Reading Stop
@@ -49,7 +51,7 @@ reads_unless None reading asked = Ok (record { asked = asked; due = None; ended 
 
 -- with a part more
 abbrev pub reads_part : Reading → Part → Result Reading Stop
-reads_part reading part = reads_unless (stop_at reading.asked part) reading (with_part reading.asked part)
+reads_part reading part = reads_unless (stop_at reading.asked part) reading (asked_with_part reading.asked part)
 
 -- with what a word says
 abbrev pub reads_saying : Reading → Saying → Result Reading Stop
@@ -79,16 +81,16 @@ at_last count (Some setting) asked = Err (stop.Usage (count - 1) (complaint.NoAr
 at_last count None asked = Ok asked
 
 -- what follows what was read, if that ends no reading
-abbrev pub and_then : {A B E : Type 0} → Result A E → (A → Result B E) → Result B E
-and_then (Ok it) next = next it
-and_then (Err why) next = Err why
+abbrev pub if_read : {A B E : Type 0} → Result A E → (A → Result B E) → Result B E
+if_read (Ok it) next = next it
+if_read (Err why) next = Err why
 
 -- these words, of which the first has this index, after what was read
 abbrev pub reads_from : ℕ → Reading → List (List ℕ) → Result Asked Stop
 reads_from at reading [] = at_last at reading.due reading.asked
-reads_from at reading (word ∷ words) = and_then (reads_word at reading word) (λ next. reads_from (at + 1) next words)
+reads_from at reading (word ∷ words) = if_read (reads_word at reading word) (λ next. reads_from (at + 1) next words)
 
 -- what is due was read, and this is known now; or a stop is due
-abbrev pub Reads : {A : Type 0} → Result A Stop → Result (Unit {0}) Stop → A → Type 0
-Reads due (Ok done) new = due ≡ Ok new
-Reads due (Err why) new = IsStop due why
+abbrev pub ReadsOrStops : {A : Type 0} → Result A Stop → Result (Unit {0}) Stop → A → Type 0
+ReadsOrStops due (Ok done) new = due ≡ Ok new
+ReadsOrStops due (Err why) new = IsStop due why

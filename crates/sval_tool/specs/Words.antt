@@ -1,5 +1,5 @@
 -- What the words of the command line ask for.
-use Rattle.std.specs.Prelude.{◌≡◌, ℕ, ◌+◌, ◌==◌, nat_lt, Bool, true, false, ◌&&◌, not, if◌then◌else◌, List, [], ◌∷◌, ◌++◌, length, map, codes, Option, Some, None, Result, Ok, Err, bytes_eq, string_bytes}
+use Rattle.std.specs.Prelude.{◌≡◌, ℕ, ◌+◌, ◌==◌, nat_lt, Bool, true, false, ◌&&◌, not, if◌then◌else◌, List, [], ◌∷◌, ◌++◌, length, map, codes, Option, Some, None, Result, Ok, Err, option_map, bytes_eq, string_bytes}
 use Rattle.std.specs.List.{before_first, after_first, filter_map, list_any, position_or_len}
 use Rattle.sval_filter.specs.Paths.{Path}
 use Rattle.sval_filter.specs.declared.paths.Rule.{Rule}
@@ -30,19 +30,23 @@ pub record Asked : Type 0 where
   pub from : Option Input
   pub to : Option Output
   pub lines : Bool
+  pub progress : Bool
   pub rule : Option Rule
   pub paths : List Path
+  pub pointer : Option (List ℕ)
   pub files : List (List ℕ)
 
 -- what options ask for
-abbrev pub asked_in : Options → Asked
-asked_in options = record {
+abbrev pub asked_by_options : Options → Asked
+asked_by_options options = record {
   command = options.command;
   from = options.from;
   to = options.to;
   lines = options.lines;
+  progress = options.progress;
   rule = options.rule;
   paths = options.paths;
+  pointer = option_map string_bytes options.pointer;
   files = map string_bytes options.files.items;
 }
 
@@ -124,11 +128,11 @@ parts_before at next words (Needs setting) here later = Given (at + 1) setting n
 parts_before at next words Ends here later = map Named (next ∷ words)
 
 -- the parts of words, of which the first has this index
-abbrev pub parts_of : Command → ℕ → List (List ℕ) → List Part
-parts_of what at [] = []
-parts_of what at (word ∷ []) = last_parts at (said_by what at word)
-parts_of what at (word ∷ next ∷ words) =
-    parts_before at next words (said_by what at word) (parts_of what (at + 1) (next ∷ words)) (parts_of what (at + 1 + 1) words)
+abbrev pub parts_of_words : Command → ℕ → List (List ℕ) → List Part
+parts_of_words what at [] = []
+parts_of_words what at (word ∷ []) = last_parts at (said_by what at word)
+parts_of_words what at (word ∷ next ∷ words) =
+    parts_before at next words (said_by what at word) (parts_of_words what (at + 1) (next ∷ words)) (parts_of_words what (at + 1 + 1) words)
 
 -- ---- what the parts ask for
 
@@ -136,16 +140,23 @@ parts_of what at (word ∷ next ∷ words) =
 abbrev pub input_named : List ℕ → Option Input
 input_named word =
     if bytes_eq word (codes "json") then Some input.Json
-    else if bytes_eq word (codes "cbor") then Some input.Cbor else None
+    else if bytes_eq word (codes "cbor") then Some input.Cbor
+    else if bytes_eq word (codes "script") then Some input.Script else None
 
 -- a format that is written
 abbrev pub output_named : List ℕ → Option Output
 output_named word =
     if bytes_eq word (codes "json") then Some output.Json
     else if bytes_eq word (codes "pretty") then Some output.Pretty
-    else if bytes_eq word (codes "cbor") then Some output.Cbor else None
+    else if bytes_eq word (codes "cbor") then Some output.Cbor
+    else if bytes_eq word (codes "script") then Some output.Script else None
 
--- the format, the rule, the path or the file that a part asks for
+-- a JSON Pointer (RFC 6901, section 3): it is empty, or begins with `/`
+abbrev pub pointer_named : List ℕ → Option (List ℕ)
+pointer_named [] = Some []
+pointer_named (byte ∷ bytes) = if byte == 47 then Some (byte ∷ bytes) else None
+
+-- the format, the rule, the path, the pointer or the file that a part asks for
 abbrev pub input_in : Part → Option Input
 input_in (Given at setting.From word) = input_named word
 input_in _ = None
@@ -154,15 +165,19 @@ abbrev pub output_in : Part → Option Output
 output_in (Given at setting.To word) = output_named word
 output_in _ = None
 
-abbrev pub rule_in : Part → Option Rule
-rule_in (Given at setting.Keep word) = Some Keep
-rule_in (Given at setting.Drop word) = Some Drop
-rule_in _ = None
+abbrev pub rule_of_part : Part → Option Rule
+rule_of_part (Given at setting.Keep word) = Some Keep
+rule_of_part (Given at setting.Drop word) = Some Drop
+rule_of_part _ = None
 
 abbrev pub path_in : Part → Option Path
 path_in (Given at setting.Keep word) = Some (path_labels word)
 path_in (Given at setting.Drop word) = Some (path_labels word)
 path_in _ = None
+
+abbrev pub pointer_in : Part → Option (List ℕ)
+pointer_in (Given at setting.Pointer word) = pointer_named word
+pointer_in _ = None
 
 abbrev pub file_in : Part → Option (List ℕ)
 file_in (Named word) = Some word
@@ -172,6 +187,11 @@ file_in _ = None
 abbrev pub is_lines : Part → Bool
 is_lines (Turned flag.Lines) = true
 is_lines _ = false
+
+-- a part is `--progress`
+abbrev pub is_progress : Part → Bool
+is_progress (Turned flag.Progress) = true
+is_progress _ = false
 
 -- the first of a list, if it isn't empty
 abbrev pub first_of : {A : Type 0} → List A → Option A
@@ -185,8 +205,10 @@ asked_for what parts = record {
   from = first_of (filter_map input_in parts);
   to = first_of (filter_map output_in parts);
   lines = list_any is_lines parts;
-  rule = first_of (filter_map rule_in parts);
+  progress = list_any is_progress parts;
+  rule = first_of (filter_map rule_of_part parts);
   paths = filter_map path_in parts;
+  pointer = first_of (filter_map pointer_in parts);
   files = filter_map file_in parts;
 }
 
@@ -210,15 +232,22 @@ stop_at_path at setting rule before word =
     if is_other rule before then Some (stop.Usage at complaint.KeepAndDrop)
     else if is_bad_path word then Some (stop.Usage at (complaint.BadArgument setting)) else None
 
+-- where this was given before, a path beside a pointer, and else the other stop
+abbrev pub stop_beside : {A : Type 0} → ℕ → Option A → Option Stop → Option Stop
+stop_beside at (Some before) other = Some (stop.Usage at complaint.PointerAndPath)
+stop_beside at None other = other
+
 -- why a part ends the reading, if it does, where those before it ask for this
 abbrev pub stop_at : Asked → Part → Option Stop
 stop_at before (Turned flag.Lines) = None
+stop_at before (Turned flag.Progress) = None
 stop_at before (Turned flag.Help) = Some stop.Help
 stop_at before (Turned flag.Version) = Some stop.Version
 stop_at before (Given at setting.From word) = once at setting.From before.from (input_named word)
 stop_at before (Given at setting.To word) = once at setting.To before.to (output_named word)
-stop_at before (Given at setting.Keep word) = stop_at_path at setting.Keep Keep before.rule word
-stop_at before (Given at setting.Drop word) = stop_at_path at setting.Drop Drop before.rule word
+stop_at before (Given at setting.Keep word) = stop_beside at before.pointer (stop_at_path at setting.Keep Keep before.rule word)
+stop_at before (Given at setting.Drop word) = stop_beside at before.pointer (stop_at_path at setting.Drop Drop before.rule word)
+stop_at before (Given at setting.Pointer word) = stop_beside at before.rule (once at setting.Pointer before.pointer (pointer_named word))
 stop_at before (Named word) = None
 stop_at before (Wrong at why) = Some (stop.Usage at why)
 
@@ -244,11 +273,11 @@ abbrev pub asked_by_parts : Command → List Part → Result Asked Stop
 asked_by_parts what parts = unless (stop_within what [] parts) (asked_for what parts)
 
 -- what words ask for, or the first that ends the reading. The first word may be `check`
-abbrev pub asked_by : List (List ℕ) → Result Asked Stop
-asked_by [] = Ok (asked_for command.Convert [])
-asked_by (word ∷ words) =
-    if bytes_eq word (codes "check") then asked_by_parts command.Check (parts_of command.Check 1 words)
-    else asked_by_parts command.Convert (parts_of command.Convert 0 (word ∷ words))
+abbrev pub asked_by_words : List (List ℕ) → Result Asked Stop
+asked_by_words [] = Ok (asked_for command.Convert [])
+asked_by_words (word ∷ words) =
+    if bytes_eq word (codes "check") then asked_by_parts command.Check (parts_of_words command.Check 1 words)
+    else asked_by_parts command.Convert (parts_of_words command.Convert 0 (word ∷ words))
 
 -- ---- answers
 
@@ -258,6 +287,6 @@ IsStop due stop.NoMemory = Unit {0}
 IsStop due why = due ≡ Err why
 
 -- what is due was read; or this stop is due
-abbrev pub Gives : {A B : Type 0} → (A → B) → Result B Stop → Result A Stop → Type 0
-Gives seen due (Ok it) = due ≡ Ok (seen it)
-Gives seen due (Err why) = IsStop due why
+abbrev pub GivesOrStops : {A B : Type 0} → (A → B) → Result B Stop → Result A Stop → Type 0
+GivesOrStops seen due (Ok it) = due ≡ Ok (seen it)
+GivesOrStops seen due (Err why) = IsStop due why

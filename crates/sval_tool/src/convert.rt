@@ -2,15 +2,13 @@
 
 ghost use Rattle.std.specs.Prelude.{◌≡◌, ℕ, List, [], OnOk, IfErr};
 ghost use Rattle.sval_filter.specs.declared.paths.Rule.TheVariants as by;
-ghost use Rattle.sval_json_read.specs.Calls.{document_calls};
-ghost use Rattle.sval_json_read.specs.ReadErrors.{IsReadText};
-ghost use Rattle.sval_tool.specs.Passing.{IsSinkStop, stop_by};
+ghost use Rattle.sval_json_read.specs.Documents.{IsDocument};
+ghost use Rattle.sval_tool.specs.Passing.{IsSinkStop, sink_error_of};
 ghost use Rattle.sval_tool.specs.Conversions.{WritesLeftJson, IsDocumentDue, WritesDue, IsDocumentCause};
 
 use crate::error::DocumentError;
-use crate::left::stream_left;
+use crate::left::{Halt, stream_left};
 use std::alloc::Global;
-use sval_check::Why;
 use sval_filter::{Paths, Rule};
 use sval_io::{Sink, SinkError};
 use sval_json::{ErrorKind, JsonWriter, Variants, stream_to_io_write};
@@ -38,13 +36,13 @@ pub struct Conversion<'p> {
 
 /// Writes the JSON of a whole document: nothing is left out.
 fn write_whole<K: Sink>(doc: &JsonDoc<'_>, out: &mut K) -> Result<(), SinkError>
-    requires { (input : List ℕ) × IsReadText input (document_calls doc.now) }
-    ensures { (input : List ℕ) → IsReadText input (document_calls doc.now)
+    requires { (input : List ℕ) × IsDocument input doc.now }
+    ensures { (input : List ℕ) → IsDocument input doc.now
         → WritesLeftJson by.Drop [] input result (K.told out.old) (K.told out.new) }
 {
     match stream_to_io_write(out, doc) {
         Ok(()) => Ok(()),
-        Err(error) => Err(stop_of(Some(Why::Inner), error.kind())),
+        Err(error) => Err(stop_of(Halt::Refused, error.kind())),
     }
 }
 
@@ -56,34 +54,32 @@ fn write_left<K: Sink>(
     doc: &JsonDoc<'_>,
     out: &mut K,
 ) -> Result<(), SinkError>
-    requires { (input : List ℕ) × IsReadText input (document_calls doc.now) }
-    ensures { (input : List ℕ) → IsReadText input (document_calls doc.now)
+    requires { (input : List ℕ) × IsDocument input doc.now }
+    ensures { (input : List ℕ) → IsDocument input doc.now
         → WritesLeftJson rule paths.now input result (K.told out.old) (K.told out.new) }
 {
     if rule == Rule::Drop && paths.as_slice().is_empty() {
         return write_whole(doc, out);
     }
-    let writer = JsonWriter::new(out, Variants::Inside);
-    let passed = stream_left(alloc, doc, rule, paths, writer);
-    match passed.result {
+    let mut writer = JsonWriter::new(out, Variants::Inside);
+    match stream_left(alloc, doc, rule, paths, &mut writer) {
         Ok(()) => Ok(()),
-        Err(why) => Err(stop_of(why, passed.stream.error().kind())),
+        Err(why) => Err(stop_of(why, writer.error().kind())),
     }
 }
 
-/// What stopped a filter before a writer of JSON, by the last refusals of both.
-fn stop_of(why: Option<Why>, kind: ErrorKind) -> SinkError
+/// What stopped the streaming of a document to a writer of JSON, by the writer's last refusal.
+fn stop_of(why: Halt, kind: ErrorKind) -> SinkError
     requires { IsSinkStop why kind }
-    ensures { result ≡ stop_by why kind }
+    ensures { result ≡ sink_error_of why kind }
 {
     match why {
-        Some(Why::NoMemory) => SinkError::NoMemory,
-        Some(Why::Inner) => match kind {
+        Halt::NoMemory => SinkError::NoMemory,
+        Halt::Refused => match kind {
             ErrorKind::IO => SinkError::Failed,
             ErrorKind::NoMemory => SinkError::NoMemory,
             _ => unreachable!("what is left of a document has a JSON"),
         },
-        _ => unreachable!("the calls of a document are one whole value"),
     }
 }
 

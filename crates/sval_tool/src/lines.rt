@@ -1,7 +1,8 @@
 //! Lines, each a document.
 
 ghost use Rattle.std.specs.Prelude.{◌≡◌, ◌<◌, ◌-◌, ◌^◌, OnOk, IfOk, IfErr, IfSome};
-ghost use Rattle.sval_lines.specs.SourceLines.{unread, ahead_of, number_behind};
+ghost use Rattle.sval_lines.specs.SeenLines.{bytes_left, supply_of_lines, lines_taken};
+ghost use Rattle.sval_lines.specs.SourceLines.{number_behind};
 ghost use Rattle.sval_tool.specs.Conversions.{WritesDue, IsDocumentCause};
 ghost use Rattle.sval_tool.specs.ConvertedLines.{IsLineDue};
 ghost use Rattle.sval_tool.specs.ConvertedLines.{ConvertsOne, ConvertsLines, HasLinesCause};
@@ -75,16 +76,17 @@ fn convert_line<I: Source + Drop, K: Sink>(
     lines: &mut Lines<I>,
     out: &mut K,
 ) -> Result<bool, LinesError>
-    ensures lines { IfSome
-        (ahead_of (unread lines.old.chunk.items lines.old.from lines.old.upto) (I.told lines.old.source))
+    ensures lines { IfSome (bytes_left I.told lines.old)
         (λ bytes. ConvertsOne K.told conversion.now bytes result
-        (ahead_of (unread lines.new.chunk.items lines.new.from lines.new.upto) (I.told lines.new.source))
+        (bytes_left I.told lines.new)
         out.old out.new) }
-    ensures faults { OnOk result ((I.told lines.new.source).faults ≡ (I.told lines.old.source).faults) }
+    ensures faults { OnOk result
+        ((supply_of_lines I.told lines.new).faults ≡ (supply_of_lines I.told lines.old).faults) }
     ensures err { IfErr result (λ why.
-        HasLinesCause why lines.new.number (I.told lines.old.source) (I.told lines.new.source)) }
-    ensures number { IfOk result (λ found. lines.new.number ≡ number_behind found lines.old.number) }
-    ensures below { OnOk result (lines.old.number < 2 ^ 64 - 1) }
+        HasLinesCause why (lines_taken lines.new)
+        (supply_of_lines I.told lines.old) (supply_of_lines I.told lines.new)) }
+    ensures number { IfOk result (λ found. lines_taken lines.new ≡ number_behind found (lines_taken lines.old)) }
+    ensures below { OnOk result (lines_taken lines.old < 2 ^ 64 - 1) }
 {
     if !lines.take_line()? {
         return Ok(false);
@@ -120,14 +122,15 @@ pub fn write_lines<I: Source + Drop, K: Sink>(
     lines: &mut Lines<I>,
     out: &mut K,
 ) -> Result<(), LinesError>
-    ensures lines { IfSome
-        (ahead_of (unread lines.old.chunk.items lines.old.from lines.old.upto) (I.told lines.old.source))
+    ensures lines { IfSome (bytes_left I.told lines.old)
         (λ bytes. ConvertsLines K.told conversion.now bytes result
-        (ahead_of (unread lines.new.chunk.items lines.new.from lines.new.upto) (I.told lines.new.source))
+        (bytes_left I.told lines.new)
         out.old out.new) }
-    ensures faults { OnOk result ((I.told lines.new.source).faults ≡ (I.told lines.old.source).faults) }
+    ensures faults { OnOk result
+        ((supply_of_lines I.told lines.new).faults ≡ (supply_of_lines I.told lines.old).faults) }
     ensures err { IfErr result (λ why.
-        HasLinesCause why lines.new.number (I.told lines.old.source) (I.told lines.new.source)) }
+        HasLinesCause why (lines_taken lines.new)
+        (supply_of_lines I.told lines.old) (supply_of_lines I.told lines.new)) }
 {
     while convert_line(alloc, conversion, lines, out)? {}
     Ok(())

@@ -1,13 +1,15 @@
 //! The options of the command line, in one table.
 
 ghost use Rattle.std.specs.Prelude.{◌≡◌, ◌<◌, map, option_map};
-ghost use Rattle.sval_tool.specs.Switches.{option_rows, seen_row, row_named, row_shortened, place_of, name_of};
+ghost use Rattle.sval_tool.specs.Switches.{option_rows, seen_row, row_named, row_shortened, option_row, option_name};
 
 /// An option that takes no argument.
 #[derive(Clone, Copy, Debug, PartialEq, Eq)]
 pub enum Flag {
     /// Each line is a value of its own.
     Lines,
+    /// How far a file is read is told.
+    Progress,
     /// The help is asked for.
     Help,
     /// The version is asked for.
@@ -25,6 +27,8 @@ pub enum Setting {
     Keep,
     /// A path of fields that are left out.
     Drop,
+    /// The JSON Pointer (RFC 6901) of the part that is written.
+    Pointer,
 }
 
 /// An option of the command line.
@@ -55,14 +59,14 @@ pub struct OptionRow {
 
 /// The options, in the order of the help. The parser takes their names from here, the help its lines, and
 /// `bench/cli_pages` the man page and the completions.
-pub static OPTIONS: [OptionRow; 7] = [
+pub static OPTIONS: [OptionRow; 9] = [
     OptionRow {
         switch: Switch::Setting(Setting::From),
         name: "from",
         short: "",
         checks: true,
         argument: "FORMAT",
-        help: "read json or cbor (without it json)",
+        help: "read json, cbor or script (without it json)",
     },
     OptionRow {
         switch: Switch::Setting(Setting::To),
@@ -70,7 +74,7 @@ pub static OPTIONS: [OptionRow; 7] = [
         short: "",
         checks: false,
         argument: "FORMAT",
-        help: "write json, pretty or cbor (without it json)",
+        help: "write json, pretty, cbor or script (without it json)",
     },
     OptionRow {
         switch: Switch::Flag(Flag::Lines),
@@ -78,7 +82,7 @@ pub static OPTIONS: [OptionRow; 7] = [
         short: "",
         checks: true,
         argument: "",
-        help: "take each line as a value of its own; of CBOR, each item of a sequence",
+        help: "take each line as a value of its own; of CBOR each item of a sequence, of a script each value",
     },
     OptionRow {
         switch: Switch::Setting(Setting::Keep),
@@ -86,7 +90,7 @@ pub static OPTIONS: [OptionRow; 7] = [
         short: "",
         checks: false,
         argument: "PATH",
-        help: "keep the fields of this path alone; may be given many times",
+        help: "keep the fields of this path, and leave all others out; give one --keep for each",
     },
     OptionRow {
         switch: Switch::Setting(Setting::Drop),
@@ -95,6 +99,22 @@ pub static OPTIONS: [OptionRow; 7] = [
         checks: false,
         argument: "PATH",
         help: "leave the fields of this path out; may be given many times",
+    },
+    OptionRow {
+        switch: Switch::Setting(Setting::Pointer),
+        name: "pointer",
+        short: "",
+        checks: false,
+        argument: "POINTER",
+        help: "write the value that this JSON Pointer names, as /user/tags/0",
+    },
+    OptionRow {
+        switch: Switch::Flag(Flag::Progress),
+        name: "progress",
+        short: "",
+        checks: true,
+        argument: "",
+        help: "after two seconds tell each second how much of a file is read",
     },
     OptionRow {
         switch: Switch::Flag(Flag::Help),
@@ -116,7 +136,7 @@ pub static OPTIONS: [OptionRow; 7] = [
 
 /// The table, whose rows are known by what the parser reads of them.
 #[tactic(auto, unfolding(crate::specs::Switches::option_rows))]
-pub(crate) fn rows() -> &'static [OptionRow; 7]
+pub(crate) fn rows() -> &'static [OptionRow; 9]
     ensures { map seen_row result.now ≡ option_rows }
 {
     &OPTIONS
@@ -150,8 +170,8 @@ pub(crate) fn row_shortened(letters: &str) -> Option<OptionRow>
 
 /// The index of an option in the table.
 fn place_of(switch: Switch) -> usize
-    ensures place { result ≡ place_of switch }
-    ensures within { result < 7 }
+    ensures place { result ≡ option_row switch }
+    ensures within { result < 9 }
 {
     match switch {
         Switch::Setting(Setting::From) => 0,
@@ -159,14 +179,16 @@ fn place_of(switch: Switch) -> usize
         Switch::Flag(Flag::Lines) => 2,
         Switch::Setting(Setting::Keep) => 3,
         Switch::Setting(Setting::Drop) => 4,
-        Switch::Flag(Flag::Help) => 5,
-        Switch::Flag(Flag::Version) => 6,
+        Switch::Setting(Setting::Pointer) => 5,
+        Switch::Flag(Flag::Progress) => 6,
+        Switch::Flag(Flag::Help) => 7,
+        Switch::Flag(Flag::Version) => 8,
     }
 }
 
 /// The name of an option.
 pub fn name_of(switch: Switch) -> &'static str
-    ensures { result.now ≡ name_of switch }
+    ensures { result.now ≡ option_name switch }
 {
     rows()[place_of(switch)].name
 }

@@ -1,12 +1,13 @@
 //! What the words of the command line ask for.
 
-ghost use Rattle.std.specs.Prelude.{◌≡◌, ◌<◌, ◌+◌, ◌^◌, codes, length, map, option_map, string_bytes, None, Some};
+ghost use Rattle.std.specs.Prelude.{◌≡◌, ◌<◌, ◌+◌, ◌^◌, not, codes, length, map, option_map, string_bytes, None, Some};
+ghost use Rattle.std.specs.Option.{is_some};
 ghost use Rattle.sval_tool.specs.PathWords.{is_bad_path, path_labels};
 ghost use Rattle.sval_tool.specs.Switches.{seen_row, option_rows, row_named, row_shortened};
 ghost use Rattle.sval_tool.specs.Words as spec;
-ghost use Rattle.sval_tool.specs.Words.{Gives, Says, Given, Named, Turned, asked_by, asked_in, name_in, argument_in, behind_dash};
+ghost use Rattle.sval_tool.specs.Words.{GivesOrStops, Says, Given, Named, Turned, asked_by_words, asked_by_options, name_in, argument_in, behind_dash};
 ghost use Rattle.sval_tool.specs.WordReading as reading;
-ghost use Rattle.sval_tool.specs.WordReading.{Reads, reading_in, reads_part, reads_saying, reads_unless, with_path};
+ghost use Rattle.sval_tool.specs.WordReading.{ReadsOrStops, reading_in, reads_part, reads_saying, reads_unless, asked_with_path};
 
 use crate::path_word::add_path;
 use crate::switch::{Flag, OptionRow, Setting, Switch, row_named, row_shortened};
@@ -30,6 +31,8 @@ pub enum Input {
     Json,
     /// CBOR (RFC 8949).
     Cbor,
+    /// A script of calls.
+    Script,
 }
 
 /// A format that is written.
@@ -41,6 +44,8 @@ pub enum Output {
     Pretty,
     /// CBOR.
     Cbor,
+    /// A canonical script of calls.
+    Script,
 }
 
 /// What the words ask for.
@@ -54,10 +59,14 @@ pub struct Options {
     pub to: Option<Output>,
     /// `--lines` was given.
     pub lines: bool,
+    /// `--progress` was given.
+    pub progress: bool,
     /// Whether the paths are those of `--keep` or of `--drop`, if one was given.
     pub rule: Option<Rule>,
     /// The paths of `--keep` or `--drop`, in their order.
     pub paths: Paths,
+    /// The JSON Pointer of `--pointer`, if it was given.
+    pub pointer: Option<String>,
     /// The files, in their order. `-` is standard input.
     pub files: Vec<String>,
 }
@@ -71,12 +80,14 @@ pub enum Complaint {
     UnwantedArgument(Flag),
     /// The option's argument doesn't come: the words end.
     NoArgument(Setting),
-    /// The option doesn't take this argument: it is no format, or no path.
+    /// The option doesn't take this argument: it is no format, no path, or no pointer.
     BadArgument(Setting),
     /// The option has an argument already.
     Twice(Setting),
     /// A path of `--keep` comes with one of `--drop`.
     KeepAndDrop,
+    /// A path of `--keep` or `--drop` comes with a pointer.
+    PointerAndPath,
     /// The option isn't one of `sval check`.
     NotOfCheck,
 }
@@ -131,6 +142,7 @@ fn input_named(word: &str) -> Option<Input>
     match word {
         "json" => Some(Input::Json),
         "cbor" => Some(Input::Cbor),
+        "script" => Some(Input::Script),
         _ => None,
     }
 }
@@ -143,7 +155,18 @@ fn output_named(word: &str) -> Option<Output>
         "json" => Some(Output::Json),
         "pretty" => Some(Output::Pretty),
         "cbor" => Some(Output::Cbor),
+        "script" => Some(Output::Script),
         _ => None,
+    }
+}
+
+/// Whether this is no JSON Pointer (RFC 6901, section 3): it isn't empty, and doesn't begin with `/`.
+fn is_bad_pointer(word: &str) -> bool
+    ensures { result ≡ not (is_some (spec.pointer_named word.now)) }
+{
+    match word.as_bytes().first() {
+        None => false,
+        Some(byte) => *byte != b'/',
     }
 }
 
@@ -196,8 +219,10 @@ impl WordReader {
                 from: None,
                 to: None,
                 lines: false,
+                progress: false,
                 rule: None,
                 paths: Paths::new(alloc),
+                pointer: None,
                 files: Vec::new(alloc),
             },
             due: None,
@@ -207,7 +232,8 @@ impl WordReader {
 
     /// A format that is read.
     fn from(&mut self, at: usize, word: &str) -> Result<(), Stop>
-        ensures { Reads (reads_part (reading_in self.old) (Given at Setting.From word.now)) result (reading_in self.new) }
+        ensures { ReadsOrStops (reads_part (reading_in self.old) (Given at Setting.From word.now)) result
+            (reading_in self.new) }
     {
         let Some(format) = input_named(word) else {
             return Err(Stop::Usage(at, Complaint::BadArgument(Setting::From)));
@@ -222,7 +248,8 @@ impl WordReader {
 
     /// A format that is written.
     fn to(&mut self, at: usize, word: &str) -> Result<(), Stop>
-        ensures { Reads (reads_part (reading_in self.old) (Given at Setting.To word.now)) result (reading_in self.new) }
+        ensures { ReadsOrStops (reads_part (reading_in self.old) (Given at Setting.To word.now)) result
+            (reading_in self.new) }
     {
         let Some(format) = output_named(word) else {
             return Err(Stop::Usage(at, Complaint::BadArgument(Setting::To)));
@@ -244,10 +271,13 @@ impl WordReader {
         rule: Rule,
         word: &str,
     ) -> Result<(), Stop>
-        ensures { let old = reading_in self.old in Reads
-            (reads_unless (spec.stop_at_path at setting rule old.asked.rule word.now) old (with_path rule old.asked word.now))
-            result (reading_in self.new) }
+        ensures { let old = reading_in self.old in ReadsOrStops
+            (reads_unless (spec.stop_beside at old.asked.pointer (spec.stop_at_path at setting rule old.asked.rule word.now))
+            old (asked_with_path rule old.asked word.now)) result (reading_in self.new) }
     {
+        if self.options.pointer.is_some() {
+            return Err(Stop::Usage(at, Complaint::PointerAndPath));
+        }
         if is_other(rule, self.options.rule) {
             return Err(Stop::Usage(at, Complaint::KeepAndDrop));
         }
@@ -263,6 +293,25 @@ impl WordReader {
         }
     }
 
+    /// A JSON Pointer.
+    fn pointer(&mut self, alloc: Global, at: usize, word: &str) -> Result<(), Stop>
+        ensures { ReadsOrStops (reads_part (reading_in self.old) (Given at Setting.Pointer word.now)) result
+            (reading_in self.new) }
+    {
+        if self.options.rule.is_some() {
+            return Err(Stop::Usage(at, Complaint::PointerAndPath));
+        }
+        if is_bad_pointer(word) {
+            return Err(Stop::Usage(at, Complaint::BadArgument(Setting::Pointer)));
+        }
+        if self.options.pointer.is_some() {
+            return Err(Stop::Usage(at, Complaint::Twice(Setting::Pointer)));
+        }
+        self.options.pointer = Some(String::from_str(alloc, word)?);
+        self.due = None;
+        Ok(())
+    }
+
     /// The argument of an option.
     fn argument(
         &mut self,
@@ -271,24 +320,30 @@ impl WordReader {
         setting: Setting,
         word: &str,
     ) -> Result<(), Stop>
-        ensures { Reads (reads_part (reading_in self.old) (Given at setting word.now)) result (reading_in self.new) }
+        ensures { ReadsOrStops (reads_part (reading_in self.old) (Given at setting word.now)) result
+            (reading_in self.new) }
     {
         match setting {
             Setting::From => self.from(at, word),
             Setting::To => self.to(at, word),
             Setting::Keep => self.path(alloc, at, setting, Rule::Keep, word),
             Setting::Drop => self.path(alloc, at, setting, Rule::Drop, word),
+            Setting::Pointer => self.pointer(alloc, at, word),
         }
     }
 
     /// An option without an argument.
     fn flag(&mut self, flag: Flag) -> Result<(), Stop>
-        ensures { Reads (reads_part (reading_in self.old) (Turned flag)) result (reading_in self.new) }
+        ensures { ReadsOrStops (reads_part (reading_in self.old) (Turned flag)) result (reading_in self.new) }
     {
         self.due = None;
         match flag {
             Flag::Lines => {
                 self.options.lines = true;
+                Ok(())
+            }
+            Flag::Progress => {
+                self.options.progress = true;
                 Ok(())
             }
             Flag::Help => Err(Stop::Help),
@@ -304,8 +359,9 @@ impl WordReader {
         switch: Switch,
         argument: Option<&str>,
     ) -> Result<(), Stop>
-        ensures { Reads (reads_saying (reading_in self.old)
-            (spec.said_by_switch at switch (option_map (λ word. word.now) argument.entry))) result (reading_in self.new) }
+        ensures { ReadsOrStops (reads_saying (reading_in self.old)
+            (spec.said_by_switch at switch (option_map (λ word. word.now) argument.entry))) result
+            (reading_in self.new) }
     {
         match (switch, argument) {
             (Switch::Flag(flag), None) => self.flag(flag),
@@ -328,7 +384,7 @@ impl WordReader {
         row: Option<OptionRow>,
         argument: Option<&str>,
     ) -> Result<(), Stop>
-        ensures { Reads (reads_saying (reading_in self.old)
+        ensures { ReadsOrStops (reads_saying (reading_in self.old)
             (spec.said_by_row self.old.options.command at (option_map seen_row row)
             (option_map (λ word. word.now) argument.entry))) result (reading_in self.new) }
     {
@@ -343,7 +399,7 @@ impl WordReader {
 
     /// A file.
     fn file(&mut self, alloc: Global, word: &str) -> Result<(), Stop>
-        ensures { Reads (reads_part (reading_in self.old) (Named word.now)) result (reading_in self.new) }
+        ensures { ReadsOrStops (reads_part (reading_in self.old) (Named word.now)) result (reading_in self.new) }
     {
         let file = String::from_str(alloc, word)?;
         self.options.files.push(file)?;
@@ -353,7 +409,7 @@ impl WordReader {
 
     /// What follows the `-` of an option.
     fn option(&mut self, alloc: Global, at: usize, letters: &str) -> Result<(), Stop>
-        ensures { Reads (reads_saying (reading_in self.old)
+        ensures { ReadsOrStops (reads_saying (reading_in self.old)
             (spec.said_by_option self.old.options.command at letters.now (behind_dash letters.now))) result
             (reading_in self.new) }
     {
@@ -368,7 +424,7 @@ impl WordReader {
 
     /// A word that begins with `-` or names a file.
     fn dashed(&mut self, alloc: Global, at: usize, word: &str) -> Result<(), Stop>
-        ensures { Reads (reads_saying (reading_in self.old)
+        ensures { ReadsOrStops (reads_saying (reading_in self.old)
             (spec.said_by_dashes self.old.options.command at word.now (behind_dash word.now))) result
             (reading_in self.new) }
     {
@@ -380,7 +436,7 @@ impl WordReader {
 
     /// A word where an option may come.
     fn option_or_file(&mut self, alloc: Global, at: usize, word: &str) -> Result<(), Stop>
-        ensures { Reads (reads_saying (reading_in self.old)
+        ensures { ReadsOrStops (reads_saying (reading_in self.old)
             (spec.said_by self.old.options.command at word.now)) result (reading_in self.new) }
     {
         match word {
@@ -395,7 +451,7 @@ impl WordReader {
 
     /// A word that isn't an option's argument.
     fn free(&mut self, alloc: Global, at: usize, word: &str) -> Result<(), Stop>
-        ensures { Reads (reading.reads_free at (reading_in self.old) word.now) result (reading_in self.new) }
+        ensures { ReadsOrStops (reading.reads_free at (reading_in self.old) word.now) result (reading_in self.new) }
     {
         if self.ended {
             return self.file(alloc, word);
@@ -409,7 +465,7 @@ impl WordReader {
 
     /// One more word.
     fn word(&mut self, alloc: Global, at: usize, word: &str) -> Result<(), Stop>
-        ensures { Reads (reading.reads_word at (reading_in self.old) word.now) result (reading_in self.new) }
+        ensures { ReadsOrStops (reading.reads_word at (reading_in self.old) word.now) result (reading_in self.new) }
     {
         match self.due {
             Some(setting) => self.argument(alloc, at, setting, word),
@@ -419,7 +475,8 @@ impl WordReader {
 
     /// Behind the last word.
     fn finish(self, count: usize) -> Result<Options, Stop>
-        ensures { Gives asked_in (reading.at_last count self.due (asked_in self.options)) result }
+        ensures { GivesOrStops asked_by_options
+            (reading.at_last count self.due (asked_by_options self.options)) result }
     {
         match self.due {
             Some(setting) => Err(Stop::Usage(
@@ -446,7 +503,7 @@ impl WordReader {
 /// wrong. [`Stop::NoMemory`] may come in the place of each of these, and of what the words ask for.
 #[tactic(auto, using(crate::proofs::WordsRead::word_read, crate::proofs::WordsRead::gives_all))]
 pub fn read_words(alloc: Global, words: &[String]) -> Result<Options, Stop>
-    ensures { Gives asked_in (asked_by (map string_bytes words.now)) result }
+    ensures { GivesOrStops asked_by_options (asked_by_words (map string_bytes words.now)) result }
 {
     let mut reader = WordReader::new(alloc);
     for (at, word) in words.iter().enumerate() {

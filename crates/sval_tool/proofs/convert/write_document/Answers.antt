@@ -9,15 +9,15 @@ returns-in_err-doc-clause-err g c =
     rw (p.1, p.2) (unread g.K.Sink.told (IsDocumentDue c.args.conversion.now c.args.bytes.now) c.args.bytes.now c.args.out.now c.in_err-doc.field-0.0 c.in_err-doc.ensures.err)
 
 pub write_left-requires : goal.write_left-requires
-write_left-requires g c = (c.args.bytes.now, c.in_ok-doc.ensures.ok)
+write_left-requires g c = (c.args.bytes.now, c.in_ok-doc.ensures.document)
 
 pub returns-in_err-write_left-clause-err : goal.returns-in_err-write_left-clause-err
 returns-in_err-write_left-clause-err g c =
     let p = err_from_is_err_and c.from_residual-in_err-write_left.result c.from_residual-in_err-write_left.ensures.1 in
     rw (p.1, p.2) (left_stopped c.args.conversion.now c.args.bytes.now (only_json c.args.conversion.now.target) g.K.Sink.told c.args.out.now c.write_left.new.out c.in_err-write_left.field-0.0
-    (c.in_err-write_left.ensures c.args.bytes.now c.in_ok-doc.ensures.ok))
+    (c.in_err-write_left.ensures c.args.bytes.now c.in_ok-doc.ensures.document))
 
 pub returns-clause-ok : goal.returns-clause-ok
 returns-clause-ok g c =
     left_done c.args.conversion.now c.args.bytes.now (only_json c.args.conversion.now.target) (g.K.Sink.told c.args.out.now) (g.K.Sink.told c.write_left.new.out)
-    (c.in_ok-write_left.ensures c.args.bytes.now c.in_ok-doc.ensures.ok)
+    (c.in_ok-write_left.ensures c.args.bytes.now c.in_ok-doc.ensures.document)

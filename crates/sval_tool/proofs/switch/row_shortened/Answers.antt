@@ -1,13 +1,13 @@
 use Rattle.std.proofs.Common.{sym, ◌∙◌, arith}
-use Rattle.sval_tool.proofs.Rows.{seven_rows, shortened_found, shortened_none}
+use Rattle.sval_tool.proofs.Rows.{rows_counted, shortened_found, shortened_none}
 use Rattle.sval_tool.proofs.switch.row_shortened.Goals as goal
 
 pub returns-then-eq : goal.returns-then-eq
 returns-then-eq c =
-    let seven = seven_rows c.rows-table.result.now c.rows-table.ensures in
+    let count = rows_counted c.rows-table.result.now c.rows-table.ensures in
     sym (shortened_found c.rows-table.result.now c.loop-row.row-index _ c.args.letters.now (omega arith) c.if-eq.ensures) ∙ c.loop-row.invariant
 
 pub returns : goal.returns
 returns c =
-    let seven = seven_rows c.rows-table.result.now c.rows-table.ensures in
+    let count = rows_counted c.rows-table.result.now c.rows-table.ensures in
     sym (shortened_none c.rows-table.result.now c.loop-row.row-index c.args.letters.now (omega arith)) ∙ c.loop-row.invariant
