@@ -1,11 +1,14 @@
 //! What is read and written of one input.
 
-use crate::cbor::{check_items, convert_item, convert_items, pack_document};
-use crate::trouble::{Trouble, of_document, of_input};
+use crate::cbor::{check_items, convert_item, convert_items};
+use crate::script::{check_script, convert_script};
+use crate::trouble::{Trouble, Unwritten, of_document};
+use crate::values::{write_asked, write_pointed};
+use crate::whole::read_whole;
 use crate::words::{Input, Options, Output};
 use std::alloc::Global;
 use sval_filter::Rule;
-use sval_io::{Sink, Source, VecSink, read_input, write_all};
+use sval_io::{Sink, Source, VecSink, write_all};
 use sval_json_read::JsonDoc;
 use sval_lines::Lines;
 use sval_pretty::write_pretty;
@@ -41,10 +44,12 @@ fn write_one<K: Sink>(
     number: Option<u64>,
     out: &mut K,
 ) -> Result<(), Trouble> {
+    if needs_document(options) {
+        return rewrite_one(alloc, options, name, bytes, number, out);
+    }
     let written = match options.to {
-        Some(Output::Cbor) => return pack_one(alloc, options, name, bytes, number, out),
         Some(Output::Pretty) => lay_out(alloc, options, bytes, out),
-        Some(Output::Json) | None => write_document(alloc, &conversion(options), bytes, out),
+        _ => write_document(alloc, &conversion(options), bytes, out),
     };
     match written.and_then(|_| Ok(write_all(out, b"\n".as_slice())?)) {
         Ok(()) => Ok(()),
@@ -52,8 +57,26 @@ fn write_one<K: Sink>(
     }
 }
 
-/// Writes the CBOR that is due of a text of JSON.
-fn pack_one<K: Sink>(
+/// Whether a document is read before something of it is written: for a form that isn't JSON, and for a pointer.
+fn needs_document(options: &Options) -> bool {
+    options.pointer.is_some() || matches!(options.to, Some(Output::Cbor | Output::Script))
+}
+
+/// Writes what is due of a document.
+fn rewrite<K: Sink>(
+    alloc: Global,
+    options: &Options,
+    doc: &JsonDoc<'_>,
+    out: &mut K,
+) -> Result<(), Unwritten> {
+    match &options.pointer {
+        Some(pointer) => write_pointed(alloc, options.to, pointer.as_str(), doc, out),
+        None => write_asked(alloc, options, doc, out),
+    }
+}
+
+/// Reads a text of JSON, and writes what is due of its document.
+fn rewrite_one<K: Sink>(
     alloc: Global,
     options: &Options,
     name: &str,
@@ -62,9 +85,7 @@ fn pack_one<K: Sink>(
     out: &mut K,
 ) -> Result<(), Trouble> {
     match JsonDoc::read(alloc, bytes) {
-        Ok(doc) => {
-            pack_document(alloc, options, &doc, out).map_err(|why| why.of(alloc, name, number))
-        }
+        Ok(doc) => rewrite(alloc, options, &doc, out).map_err(|why| why.of(alloc, name, number)),
         Err(error) => Err(of_document(alloc, DocumentError::from(error), bytes, name, number)),
     }
 }
@@ -114,18 +135,19 @@ pub(crate) fn convert_input<I: Source + Drop, K: Sink>(
     mut source: I,
     out: &mut K,
 ) -> Result<(), Trouble> {
-    let is_cbor = options.from == Some(Input::Cbor);
-    if options.lines && !is_cbor {
-        return match options.to {
-            Some(Output::Pretty | Output::Cbor) => reform_lines(alloc, options, name, source, out),
-            _ => convert_lines(alloc, options, name, source, out),
-        };
+    let from = options.from.unwrap_or(Input::Json);
+    if options.lines && from == Input::Json {
+        if needs_document(options) || options.to == Some(Output::Pretty) {
+            return reform_lines(alloc, options, name, source, out);
+        }
+        return convert_lines(alloc, options, name, source, out);
     }
-    let bytes = read_input(alloc, &mut source).map_err(|why| of_input(alloc, name, why))?;
-    match (is_cbor, options.lines) {
-        (true, true) => convert_items(alloc, options, name, &bytes, out),
-        (true, false) => convert_item(alloc, options, name, &bytes, out),
-        (false, _) => write_one(alloc, options, name, &bytes, None, out),
+    let bytes = read_whole(alloc, &mut source)?;
+    match from {
+        Input::Json => write_one(alloc, options, name, &bytes, None, out),
+        Input::Cbor if options.lines => convert_items(alloc, options, name, &bytes, out),
+        Input::Cbor => convert_item(alloc, options, name, &bytes, out),
+        Input::Script => convert_script(alloc, options, name, &bytes, out),
     }
 }
 
@@ -148,15 +170,16 @@ pub(crate) fn check_input<I: Source + Drop>(
     name: &str,
     mut source: I,
 ) -> Result<(), Trouble> {
-    let is_cbor = options.from == Some(Input::Cbor);
-    if options.lines && !is_cbor {
+    let from = options.from.unwrap_or(Input::Json);
+    if options.lines && from == Input::Json {
         return check_lines(alloc, name, source);
     }
-    let bytes = read_input(alloc, &mut source).map_err(|why| of_input(alloc, name, why))?;
-    if is_cbor {
-        return check_items(alloc, options, name, &bytes);
+    let bytes = read_whole(alloc, &mut source)?;
+    match from {
+        Input::Json => check_text(alloc, name, &bytes, None),
+        Input::Cbor => check_items(alloc, options, name, &bytes),
+        Input::Script => check_script(alloc, options, name, &bytes),
     }
-    check_text(alloc, name, &bytes, None)
 }
 
 /// Reads a text of JSON.

@@ -4,10 +4,10 @@ use std::alloc::AllocError;
 use sval_tool::{OPTIONS, OptionRow};
 
 /// What the help says before the options.
-const HEAD: &str = "sval reads JSON or CBOR, and writes what it read in another form.
+const HEAD: &str = "sval reads JSON, CBOR or scripts, and writes what it read in another form.
 
 usage: sval [OPTION]... [FILE]...
-       sval check [--from FORMAT] [--lines] [FILE]...
+       sval check [--from FORMAT] [--lines] [--progress] [FILE]...
 
 Without a FILE, or where it is -, it reads standard input. Files are read one
 after the other. `sval check` writes nothing, and tells what is wrong.
@@ -17,20 +17,26 @@ options:
 
 /// What the help says behind the options.
 const TAIL: &str = "
-A PATH is the names of fields with dots between them, as user.password; `\\.` is
-a dot in a name. It goes through arrays. --keep and --drop don't go together.
+A PATH is the names of fields with dots between them: `a.b` is the field b of a,
+and `a\\.b` the field whose name is a.b. It goes through arrays. With --keep,
+fields that no --keep names are left out. --keep and --drop don't go together.
+A POINTER (RFC 6901) has a `/` before each name or index: /user/tags/0. There
+`~1` is a slash in a name, and `~0` a tilde. It goes with no --keep and no --drop.
 An argument may stand behind `=`, as --to=pretty. Behind -- each word is a FILE.
 
 examples:
   sval --to pretty event.json           lay JSON out
   sval --lines --drop user.password     leave a field of each line out
   sval --lines --keep ts --keep msg     keep two fields of each line
+  sval --pointer /user/tags/0 a.json    write a part of a value
   sval --lines --to cbor log.json       write a CBOR sequence
+  sval --to script event.json           write the calls of a value
   sval check --lines log.json           find the first bad line
 
 exit status:
   0  all was read and written
-  1  an input is wrong; what was due before that place is written
+  1  an input is wrong, or has no value at the pointer; what was due before that
+     place is written
   2  the command line is wrong; nothing is read
   3  reading or writing failed, or memory was wanting
 A reader that closes the output early ends the program with 0 and no message.

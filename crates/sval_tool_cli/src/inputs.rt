@@ -2,6 +2,8 @@
 
 use crate::convert::{check_input, convert_input};
 use crate::end::End;
+use crate::noted::NotedReader;
+use crate::progress::Progress;
 use crate::trouble::Trouble;
 use std::fs;
 use std::io::{self, BufWriter, ErrorKind, Read, Stdout};
@@ -14,33 +16,38 @@ const BUFFER: usize = 1 << 16;
 /// The output, behind a buffer.
 pub(crate) type Out = RealSink<BufWriter<Stdout>>;
 
-/// What is said of the output where it failed: nothing where its reader closed it.
-fn output_failed(rt: &HostRuntime, out: &Out) -> End {
-    match out.last_error() {
-        Some(ErrorKind::BrokenPipe) => End::Done,
-        _ => {
-            let _ = eprint!(rt; "sval: writing failed\n");
-            End::Fault
-        }
-    }
+/// What is said of the output where it failed by an error of this kind: nothing where its reader closed it.
+pub(crate) fn output_failed(rt: &HostRuntime, kind: Option<ErrorKind>) -> End {
+    let _ = match kind {
+        Some(ErrorKind::BrokenPipe) => return End::Done,
+        Some(kind) => eprint!(rt; "sval: writing to standard output failed: {kind}\n"),
+        None => eprint!(rt; "sval: writing to standard output failed\n"),
+    };
+    End::Fault
 }
 
-/// Tells what went wrong with an input.
-fn tell(rt: &HostRuntime, out: &Out, trouble: Trouble) -> End {
+/// What is said of an input where it failed by an error of this kind.
+fn input_failed(rt: &HostRuntime, name: &str, kind: Option<ErrorKind>) -> End {
+    let _ = match kind {
+        Some(kind) => eprint!(rt; "sval: {name}: reading failed: {kind}\n"),
+        None => eprint!(rt; "sval: {name}: reading failed\n"),
+    };
+    End::Fault
+}
+
+/// Tells what went wrong with an input. The kind is that of the last error of its reader.
+fn tell(rt: &HostRuntime, name: &str, kind: Option<ErrorKind>, out: &Out, trouble: Trouble) -> End {
     match trouble {
         Trouble::Bad(text) => {
             let _ = eprint!(rt; "{text}");
             End::BadInput
         }
-        Trouble::Read => {
-            let _ = eprint!(rt; "sval: reading failed\n");
-            End::Fault
-        }
+        Trouble::Read => input_failed(rt, name, kind),
         Trouble::NoMemory => {
-            let _ = eprint!(rt; "sval: out of memory\n");
+            let _ = eprint!(rt; "sval: {name}: out of memory\n");
             End::Fault
         }
-        Trouble::Write => output_failed(rt, out),
+        Trouble::Write => output_failed(rt, out.last_error()),
     }
 }
 
@@ -49,20 +56,21 @@ fn run_source<R: Read + Drop>(
     rt: &HostRuntime,
     options: &Options,
     name: &str,
-    reader: R,
+    mut reader: NotedReader<'_, R>,
     out: &mut Out,
 ) -> End {
-    let source = RealSource::new(reader);
+    let source = RealSource::new(&mut reader);
     let done = match options.command {
         Command::Convert => convert_input(rt.alloc(), options, name, source, out),
         Command::Check => check_input(rt.alloc(), options, name, source),
     };
+    reader.finish();
     match done {
         Ok(()) => End::Done,
         Err(trouble) => {
             // What is due of what came before is written first.
             let _ = out.flush();
-            tell(rt, out, trouble)
+            tell(rt, name, reader.last_error(), out, trouble)
         }
     }
 }
@@ -70,10 +78,17 @@ fn run_source<R: Read + Drop>(
 /// One input by its name.
 fn run_input(rt: &HostRuntime, options: &Options, name: &str, out: &mut Out) -> End {
     if name == "-" {
-        return run_source(rt, options, "-", rt.stdin(), out);
+        return run_source(rt, options, "-", NotedReader::new(rt.stdin(), None), out);
     }
     match fs::open(rt, name) {
-        Ok(file) => run_source(rt, options, name, file, out),
+        Ok(file) => {
+            let progress = if options.progress {
+                Progress::of_file(rt, name)
+            } else {
+                None
+            };
+            run_source(rt, options, name, NotedReader::new(file, progress), out)
+        }
         Err(error) => {
             let _ = out.flush();
             let _ = eprint!(rt; "sval: {name}: {error}\n");
@@ -115,7 +130,7 @@ pub(crate) fn run_inputs(rt: &HostRuntime, options: &Options) -> End {
     let end = run_names(rt, options, &mut out);
     match out.flush() {
         Ok(()) => end,
-        Err(_) if end == End::Done => output_failed(rt, &out),
+        Err(_) if end == End::Done => output_failed(rt, out.last_error()),
         Err(_) => end,
     }
 }

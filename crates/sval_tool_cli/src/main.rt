@@ -1,4 +1,4 @@
-//! The program `sval`: reads JSON or CBOR, and writes what it read in another form.
+//! The program `sval`: reads JSON, CBOR or a script of calls, and writes what it read in another form.
 //!
 //! It ends with 0 where all was read and written, with 1 where an input is wrong, with 2 where the command line is, and
 //! with 3 where reading or writing failed or memory was wanting. A reader that closes the output early ends it with 0
@@ -10,12 +10,18 @@ mod convert;
 mod end;
 mod help;
 mod inputs;
+mod noted;
+mod numbers;
+mod progress;
 mod report;
+mod script;
 mod trouble;
+mod values;
+mod whole;
 
 use crate::end::End;
 use crate::help::{push_help, version};
-use crate::inputs::run_inputs;
+use crate::inputs::{output_failed, run_inputs};
 use crate::report::push_usage;
 use std::alloc::{AllocError, Global};
 use std::env::Args;
@@ -49,11 +55,11 @@ fn tell_usage(rt: &HostRuntime, word: &str, complaint: Complaint) -> io::Result<
     eprint!(rt; "{text}")
 }
 
-/// Ends well where the output took what was printed.
-fn printed(done: io::Result<()>) -> End {
+/// Ends well where the output took what was printed, or its reader closed it.
+fn printed(rt: &HostRuntime, done: io::Result<()>) -> End {
     match done {
         Ok(()) => End::Done,
-        Err(_) => End::Fault,
+        Err(error) => output_failed(rt, Some(error.kind())),
     }
 }
 
@@ -61,8 +67,8 @@ fn printed(done: io::Result<()>) -> End {
 fn run(rt: &HostRuntime, words: &[String]) -> End {
     match read_words(rt.alloc(), words) {
         Ok(options) => run_inputs(rt, &options),
-        Err(Stop::Help) => printed(print_help(rt)),
-        Err(Stop::Version) => printed(print!(rt; "{}", version())),
+        Err(Stop::Help) => printed(rt, print_help(rt)),
+        Err(Stop::Version) => printed(rt, print!(rt; "{}", version())),
         Err(Stop::Usage(at, complaint)) => {
             let word = words.get(at).map_or("", |word| word.as_str());
             let _ = tell_usage(rt, word, complaint);

@@ -28,6 +28,11 @@ fn char_count(text: &str) -> usize {
     text.chars().count()
 }
 
+/// Adds the first 72 characters of a line of an input, with a dot for a control character.
+pub(crate) fn push_shown(out: &mut String, line: &str) -> Result<(), AllocError> {
+    push_between(out, line, 0, BEFORE.saturating_add(BEHIND))
+}
+
 /// Adds a line of an input, which a place parts in two, and below it a caret under the place.
 ///
 /// Of a long line 36 characters are shown before the place, and as many from it on. A dot stands for a control

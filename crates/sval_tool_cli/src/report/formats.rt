@@ -1,7 +1,7 @@
 //! Errors of each format.
 
 use crate::report::expected::{Expected, is_unknown, push_expected};
-use crate::report::found::{Found, push_found, push_hex};
+use crate::report::found::{Found, begins_value, push_found, push_hex};
 use crate::report::place::Place;
 use std::alloc::AllocError;
 
@@ -20,7 +20,28 @@ pub(crate) fn push_bad_json(
     place.push(out)?;
     push_wrong(out, expected, place.found())?;
     out.push_str("\n")?;
-    place.push_line(out)
+    place.push_line(out)?;
+    if place.begins_line() && is_second_value(expected, place.found()) {
+        out.push_str("hint: several values, one a line: give --lines\n")?;
+    }
+    Ok(())
+}
+
+/// Whether what was found in place of the end of a text may begin a value.
+fn is_second_value(expected: Expected, found: Found) -> bool {
+    matches!(expected, Expected::End) && begins_value(found)
+}
+
+/// Adds the error of a text of JSON that a byte order mark begins.
+///
+/// ```
+/// let mut out = String::new(alloc);
+/// push_byte_order_mark(&mut out, &Place::in_document("a.json", [0xef, 0xbb, 0xbf, 0x31].as_slice(), 0))?;
+/// assert_eq!(rt; out.as_str(), "sval: a.json:1:1: a byte order mark (EF BB BF) begins the text; JSON has none\n");
+/// ```
+pub(crate) fn push_byte_order_mark(out: &mut String, place: &Place<'_>) -> Result<(), AllocError> {
+    place.push(out)?;
+    out.push_str("a byte order mark (EF BB BF) begins the text; JSON has none\n")
 }
 
 /// Adds what is wrong, and what was expected if that is known.

@@ -13,6 +13,14 @@ pub(crate) enum Found {
     Byte(u8),
 }
 
+/// Whether a value of JSON may begin with what was found (RFC 8259, section 3).
+pub(crate) fn begins_value(found: Found) -> bool {
+    matches!(
+        found,
+        Found::Character('{' | '[' | '"' | '-' | '0'..='9' | 't' | 'f' | 'n')
+    )
+}
+
 /// Adds two digits of base 16.
 pub(crate) fn push_hex(out: &mut String, byte: u8) -> Result<(), AllocError> {
     write!(out, "{byte:02x}")
@@ -30,6 +38,7 @@ pub(crate) fn push_found(out: &mut String, found: Found) -> Result<(), AllocErro
     match found {
         Found::End => out.push_str("the end of the text"),
         Found::Character('\n') => out.push_str("the end of the line"),
+        Found::Character('\u{feff}') => out.push_str("a byte order mark (EF BB BF)"),
         Found::Character(character) if character < ' ' => {
             out.push_str("the control character 0x")?;
             push_hex(out, character as u8)

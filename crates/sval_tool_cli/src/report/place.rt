@@ -107,6 +107,11 @@ impl<'a> Place<'a> {
         self.found
     }
 
+    /// Whether the place is in a second line or a later one, and only white space is before it there.
+    pub(crate) fn begins_line(&self) -> bool {
+        self.line > 1 && self.before.trim().is_empty()
+    }
+
     /// Adds the program's name and the place.
     pub(crate) fn push(&self, out: &mut String) -> Result<(), AllocError> {
         let line = self.line;

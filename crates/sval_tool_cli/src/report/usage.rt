@@ -6,10 +6,11 @@ use sval_tool::{Complaint, Flag, Setting, Switch, name_of};
 /// What an option takes.
 fn taken(setting: Setting) -> &'static str {
     match setting {
-        Setting::From => "json or cbor",
-        Setting::To => "json, pretty or cbor",
+        Setting::From => "json, cbor or script",
+        Setting::To => "json, pretty, cbor or script",
         Setting::Keep => "a path without an empty name",
         Setting::Drop => "a path without an empty name",
+        Setting::Pointer => "a JSON Pointer, which is empty or has a `/` before each name",
     }
 }
 
@@ -42,6 +43,7 @@ fn push_complaint(out: &mut String, complaint: Complaint) -> Result<(), AllocErr
             out.push_str(" comes a second time")
         }
         Complaint::KeepAndDrop => out.push_str("--keep and --drop don't go together"),
+        Complaint::PointerAndPath => out.push_str("--pointer goes with no --keep and no --drop"),
         Complaint::NotOfCheck => out.push_str("not an option of `sval check`"),
     }
 }
