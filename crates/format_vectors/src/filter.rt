@@ -3,3 +3,4 @@
 mod paths;
 mod refused;
 mod values;
+mod walks;

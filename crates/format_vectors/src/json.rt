@@ -2,5 +2,7 @@
 
 mod depth;
 mod documents;
+mod fronts;
 mod lookups;
 mod parts;
+mod tokens;

@@ -1,5 +1,6 @@
-//! Tests of the readers and writers of formats and of the programs, by their public calls: JSON, the filter, CBOR, and
-//! what the programs take from a process, answer, write and tell, over devices that fail at any call.
+//! Tests of the readers and writers of formats and of the programs, by their public calls: JSON, laid out or not, lines of
+//! a source, the filter, CBOR, and what the programs take from a process, answer, write and tell, over devices that fail
+//! at any call.
 #![tactic(auto)]
 
 #[cfg(test)]
@@ -15,6 +16,10 @@ mod json;
 #[cfg(test)]
 mod levels;
 #[cfg(test)]
+mod pretty;
+#[cfg(test)]
 mod process;
 #[cfg(test)]
 mod rows;
+#[cfg(test)]
+mod source_lines;

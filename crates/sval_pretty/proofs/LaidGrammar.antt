@@ -3,7 +3,7 @@ use Rattle.std.specs.Prelude.{◌≡◌, ℕ, zero, suc, Bool, true, false, cond
 use Rattle.std.specs.Char.{encode_utf8}
 use Rattle.std.proofs.Common.{sym, ap, ◌∙◌, subst, append_assoc}
 use Rattle.sval_json.specs.Grammar as grammar
-use Rattle.sval_json.specs.Grammar.{JsonValue, Values, Members, Denotes, IsString, close, unescaped, escape, unit, IsValue, AreValues, last_value, more_values, AreMembers, last_member, more_members, after_space, is_space, pair_of}
+use Rattle.sval_json.specs.Grammar.{JsonValue, Values, Members, Denotes, IsString, close, unescaped, escape, unit, IsValue, AreJsonValues, last_value, more_values, AreMembers, last_member, more_members, after_space, is_space, pair_of}
 use Rattle.sval_json.specs.Json.{Json, compact}
 use Rattle.sval_json.proofs.CompactText.{value_first}
 use Rattle.sval_pretty.specs.declared.layout.Gap.{Gap}
@@ -95,18 +95,18 @@ mutual
   value_laid (grammar.empty_array {bytes = bytes} {rest = rest} e) gap depth =
       begins gap depth (91 ∷ bytes) (begun gap depth 91 bytes refl) (grammar.empty_array (ap after_space (laid_after_space First (suc depth) bytes ∙ ap (laid_out (Outside First) (suc depth)) e)))
   value_laid (grammar.array {bytes = bytes} {rest = rest} {values = values} v) gap depth =
-      begins gap depth (91 ∷ bytes) (begun gap depth 91 bytes refl) (grammar.array (moved First (suc depth) bytes (λ x. AreValues x values (laid_out (Outside Nothing) depth rest)) (values_laid v First depth)))
+      begins gap depth (91 ∷ bytes) (begun gap depth 91 bytes refl) (grammar.array (moved First (suc depth) bytes (λ x. AreJsonValues x values (laid_out (Outside Nothing) depth rest)) (values_laid v First depth)))
   value_laid (grammar.empty_object {bytes = bytes} {rest = rest} e) gap depth =
       begins gap depth (123 ∷ bytes) (begun gap depth 123 bytes refl) (grammar.empty_object (ap after_space (laid_after_space First (suc depth) bytes ∙ ap (laid_out (Outside First) (suc depth)) e)))
   value_laid (grammar.object {bytes = bytes} {rest = rest} {members = members} v) gap depth =
       begins gap depth (123 ∷ bytes) (begun gap depth 123 bytes refl) (grammar.object (moved First (suc depth) bytes (λ x. AreMembers x members (laid_out (Outside Nothing) depth rest)) (members_laid v First depth)))
 
-  values_laid : {bytes rest : List ℕ} {values : Values} → AreValues bytes values rest → (gap : Gap) (depth : ℕ)
-      → AreValues (after_space (laid_out (Outside gap) (suc depth) bytes)) values (laid_out (Outside Nothing) depth rest)
+  values_laid : {bytes rest : List ℕ} {values : Values} → AreJsonValues bytes values rest → (gap : Gap) (depth : ℕ)
+      → AreJsonValues (after_space (laid_out (Outside gap) (suc depth) bytes)) values (laid_out (Outside Nothing) depth rest)
   values_laid (last_value {after = after} v e) gap depth = last_value (value_laid v gap (suc depth)) (closes depth 93 after e refl refl)
   values_laid (more_values {after = after} {next = next} {rest = rest} {values = values} v e w) gap depth =
       more_values (value_laid v gap (suc depth)) (follows (suc depth) 44 after e refl refl)
-      (moved Line (suc depth) next (λ x. AreValues x values (laid_out (Outside Nothing) depth rest)) (values_laid w Line depth))
+      (moved Line (suc depth) next (λ x. AreJsonValues x values (laid_out (Outside Nothing) depth rest)) (values_laid w Line depth))
 
   members_laid : {bytes rest : List ℕ} {members : Members} → AreMembers bytes members rest → (gap : Gap) (depth : ℕ)
       → AreMembers (after_space (laid_out (Outside gap) (suc depth) bytes)) members (laid_out (Outside Nothing) depth rest)

@@ -6,8 +6,6 @@
 
 pub mod laws;
 pub mod layout;
-#[cfg(test)]
-mod tests;
 mod to_memory;
 mod to_sink;
 

@@ -1,9 +1,8 @@
 //! Texts, what is written of them, and a sink that fails on the way.
 
-use crate::to_memory::pretty_to_vec;
-use crate::to_sink::write_pretty;
 use std::test::Fail;
 use sval_io::{FixedSink, SinkError};
+use sval_pretty::{pretty_to_vec, write_pretty};
 
 /// A text, and its pretty text as `jq --indent 2 .` prints it, but for its last line feed.
 const ROWS: [(&'static str, &'static str); 10] = [
