@@ -19,7 +19,7 @@ use Rattle.sval_buffer.specs.CapturedValues.{IsTakenOwned, KeepsTree}
 use Rattle.event_log.specs.declared.checking.RecordError.{RecordError}
 use Rattle.event_log.specs.declared.checking.RecordError.TheVariants as error
 use Rattle.event_log.specs.Events.{HasJson, IsRecordCause}
-use Rattle.event_log.specs.Logs.{Log, event_calls, line_of, IsLine, HasLine, AreLines, KeepsEvent}
+use Rattle.event_log.specs.Logs.{Log, event_calls, event_line, IsLine, HasLine, AreLines, KeepsEvent}
 
 -- what the writer makes of calls that spell a tree
 pub written_as : (calls : List Call) (tree : Tree) (shape : Result Json Refusal) → Spells calls tree → json_of tree ≡ shape → IsWrittenAs shape (written calls)
@@ -30,8 +30,8 @@ pub never_refused : (event : FlatForest) → HasLine event → (written (event_c
 never_refused event line = (written_as (event_calls event) line.tree (Ok line.json) line.spells line.shape).1
 
 -- the line is that of any calls that spell the same tree
-same_line : (calls : List Call) (event : FlatForest) (tree : Tree) (json : Json) → Spells calls tree → Spells (event_calls event) tree → json_of tree ≡ Ok json → IsLine calls (line_of event)
-unfolding line_of
+same_line : (calls : List Call) (event : FlatForest) (tree : Tree) (json : Json) → Spells calls tree → Spells (event_calls event) tree → json_of tree ≡ Ok json → IsLine calls (event_line event)
+unfolding event_line
 same_line calls event tree json spells again shape =
     record { tree = tree; spells = spells; json = json; shape = shape; text = ap (λ text. text ++ codes "\n") (written_as (event_calls event) tree (Ok json) again shape).0 }
 

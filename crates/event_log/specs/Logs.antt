@@ -27,12 +27,12 @@ event_calls event = replayed (forest_in event)
 -- ---- the lines
 
 -- what the writer writes for a captured event, and a line feed
-unfoldable pub line_of : FlatForest → List ℕ
-line_of event = (written (event_calls event)).written ++ codes "\n"
+unfoldable pub event_line : FlatForest → List ℕ
+event_line event = (written (event_calls event)).written ++ codes "\n"
 
 -- the lines of all, one after another
 abbrev pub lines_of : List FlatForest → List ℕ
-lines_of events = flat_map line_of events
+lines_of events = flat_map event_line events
 
 -- the calls spell a tree, and the line is the text of its JSON and a line feed
 pub record IsLine (calls : List Call) (line : List ℕ) : Type 0 where
@@ -44,7 +44,7 @@ pub record IsLine (calls : List Call) (line : List ℕ) : Type 0 where
 
 -- what is written for each event is the line of the calls that it makes again
 abbrev pub HasLine : FlatForest → Type 0
-HasLine event = IsLine (event_calls event) (line_of event)
+HasLine event = IsLine (event_calls event) (event_line event)
 
 abbrev pub AreLines : List FlatForest → Type 0
 AreLines events = All HasLine events
@@ -56,6 +56,6 @@ AreLines events = All HasLine events
 pub record KeepsEvent (e : Emission) (old new : Log) : Type 0 where
   pub event : FlatForest
   pub captured : IsTakenOwned e (forest_in event)
-  pub line : IsLine e.calls (line_of event)
+  pub line : IsLine e.calls (event_line event)
   pub events : new.events ≡ keep_last old.capacity (old.events ++ event ∷ [])
   pub capacity : new.capacity ≡ old.capacity

@@ -2,7 +2,7 @@
 
 ghost use Rattle.sval_io.specs.Sinks.{WritesAll};
 ghost use Rattle.sval_json.specs.Steps.{written};
-ghost use Rattle.event_log.specs.Logs.{HasLine, AreLines, event_calls, line_of, lines_of};
+ghost use Rattle.event_log.specs.Logs.{HasLine, AreLines, event_calls, event_line, lines_of};
 
 use sval_buffer::Value;
 use sval_io::{Sink, SinkError, write_all};
@@ -28,7 +28,7 @@ fn write_json<K: Sink>(sink: &mut K, event: &Value<'_>) -> Result<(), SinkError>
 /// Writes the line of an event.
 fn write_line<K: Sink>(sink: &mut K, event: &Value<'_>) -> Result<(), SinkError>
     requires { HasLine event.now }
-    ensures { WritesAll result (K.told sink.old) (line_of event.now) (K.told sink.new) }
+    ensures { WritesAll result (K.told sink.old) (event_line event.now) (K.told sink.new) }
 {
     write_json(sink, event)?;
     write_all(sink, b"\n")

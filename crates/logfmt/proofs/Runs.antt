@@ -6,7 +6,7 @@ use Rattle.sval_label.specs.Calls.{Call}
 use Rattle.sval_core.specs.Law.{Standing, Answers, Refuses, Ran, Streams, StoppedIn, Stops, Emission}
 use Rattle.logfmt.specs.declared.LogfmtError.{LogfmtError}
 use Rattle.logfmt.specs.declared.LogfmtError.TheVariants as error
-use Rattle.logfmt.specs.Pairs.{and_then}
+use Rattle.logfmt.specs.Pairs.{logfmt_then}
 use Rattle.logfmt.specs.Steps.{Begun, LogfmtStep, logfmt_step, logfmt_steps}
 use Rattle.logfmt.specs.Writing.{Writing, nothing_written, LeavesText, LacksTextMemory, IsStoppedFor, DoesStep, begun_after, writing_law, writing_standing, cause_of, ended_line, written_line, StepsWriteText, Fails}
 
@@ -47,7 +47,7 @@ answers call (Err refusal) old new does = refuses call old new new.why refl does
 
 -- ---- many calls
 
-ok_then : (s : LogfmtStep) (begun : Begun) (next : Begun → LogfmtStep) → is_ok s ≡ true → and_then s next ≡ next (begun_after s begun)
+ok_then : (s : LogfmtStep) (begun : Begun) (next : Begun → LogfmtStep) → is_ok s ≡ true → logfmt_then s next ≡ next (begun_after s begun)
 ok_then (Ok b) begun next is = refl
 ok_then (Err why) begun next is = cc is
 
@@ -59,23 +59,23 @@ ran_steps (call ∷ calls) v u ran =
 
 -- a call that was stopped gives its cause
 at_call : (why : Option LogfmtError) (s : LogfmtStep) (next : Begun → LogfmtStep) (last : Begun → Result (List ℕ) LogfmtError) (v left : Writing) → IsStoppedFor why s v left
-    → Fails (cause_of why) (and_then (and_then s next) last)
+    → Fails (cause_of why) (logfmt_then (logfmt_then s next) last)
 at_call None s next last v left stop = absurd stop
 at_call (Some error.NoMemory) s next last v left stop = tt
-at_call (Some error.NotFlat) s next last v left stop = ap (λ is. and_then (and_then is next) last) stop.0
-at_call (Some error.InvalidKey) s next last v left stop = ap (λ is. and_then (and_then is next) last) stop.0
-at_call (Some error.Refused) s next last v left stop = ap (λ is. and_then (and_then is next) last) stop.0
-at_call (Some error.Unfinished) s next last v left stop = ap (λ is. and_then (and_then is next) last) stop.0
+at_call (Some error.NotFlat) s next last v left stop = ap (λ is. logfmt_then (logfmt_then is next) last) stop.0
+at_call (Some error.InvalidKey) s next last v left stop = ap (λ is. logfmt_then (logfmt_then is next) last) stop.0
+at_call (Some error.Refused) s next last v left stop = ap (λ is. logfmt_then (logfmt_then is next) last) stop.0
+at_call (Some error.Unfinished) s next last v left stop = ap (λ is. logfmt_then (logfmt_then is next) last) stop.0
 
 itself : (refuses : Bool) (why : Option LogfmtError) (begun : Begun) → refuses ≡ true → why ≡ None → Fails (cause_of why) (ended_line refuses begun)
 itself refuses why begun is none = rw (is, none) refl
 
 stopped : (calls : List Call) (refuses : Bool) (old new : Standing Writing) (v : Writing) → v.why ≡ None → StoppedIn writing_law old new v calls refuses
-    → Fails (cause_of new.view.why) (and_then (logfmt_steps calls v.begun) (ended_line refuses))
+    → Fails (cause_of new.view.why) (logfmt_then (logfmt_steps calls v.begun) (ended_line refuses))
 stopped [] refuses old new v none s = itself refuses new.view.why v.begun s.0 (ap (λ (w : Writing). w.why) s.1 ∙ none)
 stopped (call ∷ calls) refuses old new v none (inl s) = at_call new.view.why (logfmt_step call v.begun) (logfmt_steps calls) (ended_line refuses) v new.view s.1
 stopped (call ∷ calls) refuses old new v none (inr s) =
-    subst (λ is. Fails (cause_of new.view.why) (and_then is (ended_line refuses)))
+    subst (λ is. Fails (cause_of new.view.why) (logfmt_then is (ended_line refuses)))
     (sym (ok_then (logfmt_step call v.begun) v.begun (logfmt_steps calls) s.0))
     (stopped calls refuses old new (record v { begun = begun_after (logfmt_step call v.begun) v.begun }) none s.1)
 
@@ -91,12 +91,12 @@ streamed e first last new s =
 pub stops : (e : Emission) (first last : Writing) → first ≡ nothing_written → Stops writing_law (writing_standing first) e (writing_standing last)
     → Fails (cause_of last.why) (written_line e)
 stops e first last new s =
-    subst (λ (v : Writing). Fails (cause_of last.why) (and_then (logfmt_steps e.calls v.begun) (ended_line e.refuses))) new
+    subst (λ (v : Writing). Fails (cause_of last.why) (logfmt_then (logfmt_steps e.calls v.begun) (ended_line e.refuses))) new
     (stopped e.calls e.refuses (writing_standing first) (writing_standing last) first (ap (λ (v : Writing). v.why) new) s.stopped)
 
 -- ---- want of memory
 
-last_step : (s : LogfmtStep) → LeavesText s → LeavesText (and_then s (logfmt_steps []))
+last_step : (s : LogfmtStep) → LeavesText s → LeavesText (logfmt_then s (logfmt_steps []))
 last_step (Ok begun) text = text
 last_step (Err why) text = text
 

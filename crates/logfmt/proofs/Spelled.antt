@@ -14,7 +14,7 @@ use Rattle.logfmt.specs.declared.LogfmtError.{LogfmtError}
 use Rattle.logfmt.specs.declared.LogfmtError.TheVariants.{NotFlat}
 use Rattle.logfmt.specs.declared.writer.Due.{Due}
 use Rattle.logfmt.specs.declared.writer.Due.TheVariants as due
-use Rattle.logfmt.specs.Pairs.{and_then, a_key, leaf, pair, and_pairs, field_pairs, line, record_line}
+use Rattle.logfmt.specs.Pairs.{logfmt_then, a_key, leaf, pair, and_pairs, field_pairs, logfmt_line, record_line}
 use Rattle.logfmt.specs.Steps.{Begun, LogfmtStep, space_after, key_step, logfmt_step, logfmt_steps}
 use Rattle.logfmt.specs.Writing.{nothing_written, ended_line, written_line}
 
@@ -23,11 +23,11 @@ at due text = record { due = due; text = text }
 
 -- ---- one thing after another
 
-then_same : {T U : Type 0} (r : Result T LogfmtError) (f g : T → Result U LogfmtError) → ((x : T) → f x ≡ g x) → and_then r f ≡ and_then r g
+then_same : {T U : Type 0} (r : Result T LogfmtError) (f g : T → Result U LogfmtError) → ((x : T) → f x ≡ g x) → logfmt_then r f ≡ logfmt_then r g
 then_same (Ok x) f g same = same x
 then_same (Err why) f g same = refl
 
-then_then : {T U V : Type 0} (r : Result T LogfmtError) (f : T → Result U LogfmtError) (g : U → Result V LogfmtError) → and_then (and_then r f) g ≡ and_then r (λ x. and_then (f x) g)
+then_then : {T U V : Type 0} (r : Result T LogfmtError) (f : T → Result U LogfmtError) (g : U → Result V LogfmtError) → logfmt_then (logfmt_then r f) g ≡ logfmt_then r (λ x. logfmt_then (f x) g)
 then_then (Ok x) f g = refl
 then_then (Err why) f g = refl
 
@@ -65,8 +65,8 @@ same_step _ begun = refl
 
 plain_one : (other : Option Call) (call : Call) (plainly calls : List Call) (begun : Begun) → SameStep other call begun → ((b : Begun) → logfmt_steps plainly b ≡ logfmt_steps calls b)
     → logfmt_steps (cons_option other plainly) begun ≡ logfmt_steps (call ∷ calls) begun
-plain_one None call plainly calls begun same rest = rest begun ∙ sym (ap (λ s. and_then s (logfmt_steps calls)) same)
-plain_one (Some other) call plainly calls begun same rest = ap (λ s. and_then s (logfmt_steps plainly)) same ∙ then_same (logfmt_step call begun) (logfmt_steps plainly) (logfmt_steps calls) rest
+plain_one None call plainly calls begun same rest = rest begun ∙ sym (ap (λ s. logfmt_then s (logfmt_steps calls)) same)
+plain_one (Some other) call plainly calls begun same rest = ap (λ s. logfmt_then s (logfmt_steps plainly)) same ∙ then_same (logfmt_step call begun) (logfmt_steps plainly) (logfmt_steps calls) rest
 
 steps_plain : (calls : List Call) (begun : Begun) → logfmt_steps (plain calls) begun ≡ logfmt_steps calls begun
 steps_plain [] begun = refl
@@ -91,7 +91,7 @@ begin_in_value (Head.Tuple name) size t = refl
 begin_in_value (Head.RecordTuple name) size t = refl
 
 -- a leaf is written, or refused at its first call
-leaf_written : (tree : Tree) (calls rest : List Call) (t : List ℕ) → Says tree calls rest → logfmt_steps calls (at due.Value t) ≡ and_then (leaf tree) (λ text. logfmt_steps rest (at due.ValueEnd (t ++ text)))
+leaf_written : (tree : Tree) (calls rest : List Call) (t : List ℕ) → Says tree calls rest → logfmt_steps calls (at due.Value t) ≡ logfmt_then (leaf tree) (λ text. logfmt_steps rest (at due.ValueEnd (t ++ text)))
 leaf_written tree.Null calls rest t s = ap (λ c. logfmt_steps c (at due.Value t)) s
 leaf_written (tree.Truth b) calls rest t s = ap (λ c. logfmt_steps c (at due.Value t)) s
 leaf_written (tree.Int type number) calls rest t s = ap (λ c. logfmt_steps c (at due.Value t)) s
@@ -104,13 +104,13 @@ leaf_written (tree.Standalone name) calls rest t s = ap (λ c. logfmt_steps c (a
 leaf_written (tree.Tagged name inner) calls rest t s = ap (λ c. logfmt_steps c (at due.Value t)) s.1
 leaf_written (tree.EmptyEnum name) calls rest t s = ap (λ c. logfmt_steps c (at due.Value t)) s
 leaf_written (tree.Enum name inner) calls rest t s = ap (λ c. logfmt_steps c (at due.Value t)) s.1
-leaf_written (tree.Container head parts) calls rest t s = ap (λ c. logfmt_steps c (at due.Value t)) s.3 ∙ ap (λ is. and_then is (logfmt_steps s.1)) (begin_in_value head s.0 t)
+leaf_written (tree.Container head parts) calls rest t s = ap (λ c. logfmt_steps c (at due.Value t)) s.3 ∙ ap (λ is. logfmt_then is (logfmt_steps s.1)) (begin_in_value head s.0 t)
 
 -- ---- pairs
 
 -- these pairs after this text
 more : List ℕ → List (List ℕ) → List ℕ
-more [] all = line all
+more [] all = logfmt_line all
 more (b ∷ t) all = flat_map (λ next. codes " " ++ next) all
 
 nothing_more : (t : List ℕ) → t ++ more t [] ≡ t
@@ -135,8 +135,8 @@ pair_more [] key text all = ap (λ x. (key ++ codes "=" ++ text) ++ x) (after_pa
 pair_more (b ∷ t) key text all = regroup (b ∷ t) (codes " ") key (codes "=") text (flat_map (λ next. codes " " ++ next) all)
 
 entry : (key value : Result (List ℕ) LogfmtError) (others : Result (List (List ℕ)) LogfmtError) (f : List (List ℕ) → LogfmtStep) →
-    and_then (and_pairs (and_then key (λ k. and_then value (λ w. Ok (k ++ codes "=" ++ w)))) others) f
-    ≡ and_then key (λ k. and_then value (λ w. and_then others (λ all. f ((k ++ codes "=" ++ w) ∷ all))))
+    logfmt_then (and_pairs (logfmt_then key (λ k. logfmt_then value (λ w. Ok (k ++ codes "=" ++ w)))) others) f
+    ≡ logfmt_then key (λ k. logfmt_then value (λ w. logfmt_then others (λ all. f ((k ++ codes "=" ++ w) ∷ all))))
 entry (Ok k) (Ok w) (Ok all) f = refl
 entry (Ok k) (Ok w) (Err why) f = refl
 entry (Ok k) (Err why) others f = refl
@@ -149,21 +149,21 @@ EndsValue call = (now : List ℕ) → logfmt_step call (at due.ValueEnd now) ≡
 -- the value of a key, and what comes after it
 value_written : (value : Tree) (parts : Parts) (end : Call) (inner after rest : List Call) (t key : List ℕ)
     → EndsValue end → Says value inner (end ∷ after)
-    → ((now : List ℕ) → logfmt_steps after (at due.Pair now) ≡ and_then (field_pairs parts) (λ all. logfmt_steps rest (at due.Pair (now ++ more now all))))
+    → ((now : List ℕ) → logfmt_steps after (at due.Pair now) ≡ logfmt_then (field_pairs parts) (λ all. logfmt_steps rest (at due.Pair (now ++ more now all))))
     → logfmt_steps inner (at due.Value (t ++ (space_after t ++ key ++ codes "=")))
-    ≡ and_then (leaf value) (λ text. and_then (field_pairs parts) (λ all. logfmt_steps rest (at due.Pair (t ++ more t ((key ++ codes "=" ++ text) ∷ all)))))
+    ≡ logfmt_then (leaf value) (λ text. logfmt_then (field_pairs parts) (λ all. logfmt_steps rest (at due.Pair (t ++ more t ((key ++ codes "=" ++ text) ∷ all)))))
 value_written value parts end inner after rest t key ends says others =
     leaf_written value inner (end ∷ after) (t ++ (space_after t ++ key ++ codes "=")) says
     ∙ then_same (leaf value) _ _ (λ text.
-    ap (λ is. and_then is (logfmt_steps after)) (ends ((t ++ (space_after t ++ key ++ codes "=")) ++ text))
+    ap (λ is. logfmt_then is (logfmt_steps after)) (ends ((t ++ (space_after t ++ key ++ codes "=")) ++ text))
     ∙ others ((t ++ (space_after t ++ key ++ codes "=")) ++ text)
     ∙ then_same (field_pairs parts) _ _ (λ all. ap (λ x. logfmt_steps rest (at due.Pair x)) (pair_more t key text all)))
 
 -- a field with this label, and the fields after it
 field_written : (value : Tree) (parts : Parts) (end : Call) (label : List ℕ) (inner after rest : List Call) (t : List ℕ)
     → EndsValue end → Says value inner (end ∷ after)
-    → ((now : List ℕ) → logfmt_steps after (at due.Pair now) ≡ and_then (field_pairs parts) (λ all. logfmt_steps rest (at due.Pair (now ++ more now all))))
-    → and_then (key_step label t) (logfmt_steps inner) ≡ and_then (and_pairs (pair label value) (field_pairs parts)) (λ all. logfmt_steps rest (at due.Pair (t ++ more t all)))
+    → ((now : List ℕ) → logfmt_steps after (at due.Pair now) ≡ logfmt_then (field_pairs parts) (λ all. logfmt_steps rest (at due.Pair (now ++ more now all))))
+    → logfmt_then (key_step label t) (logfmt_steps inner) ≡ logfmt_then (and_pairs (pair label value) (field_pairs parts)) (λ all. logfmt_steps rest (at due.Pair (t ++ more t all)))
 field_written value parts end label inner after rest t ends says others =
     then_then (a_key label) (λ key. Ok (at due.Value (t ++ (space_after t ++ key ++ codes "=")))) (logfmt_steps inner)
     ∙ then_same (a_key label) (λ key. logfmt_steps inner (at due.Value (t ++ (space_after t ++ key ++ codes "=")))) _
@@ -177,7 +177,7 @@ place_ends : (tag : Option Tag) (label : Label) (index : Index) → EndsValue (C
 place_ends tag label index now = refl
 
 parts_written : (parts : Parts) (kind : Kind) (calls rest : List Call) (t : List ℕ) → AreInOrder kind parts → SayParts parts calls rest
-    → logfmt_steps calls (at due.Pair t) ≡ and_then (field_pairs parts) (λ all. logfmt_steps rest (at due.Pair (t ++ more t all)))
+    → logfmt_steps calls (at due.Pair t) ≡ logfmt_then (field_pairs parts) (λ all. logfmt_steps rest (at due.Pair (t ++ more t all)))
 parts_written none kind calls rest t o s = ap (λ c. logfmt_steps c (at due.Pair t)) s ∙ ap (λ x. logfmt_steps rest (at due.Pair x)) (sym (nothing_more t))
 parts_written (part (Slot.Field tag label) value parts) kind calls rest t o s =
     ap (λ c. logfmt_steps c (at due.Pair t)) s.2
@@ -202,35 +202,35 @@ abbrev EndsLine : Call → Type 0
 EndsLine call = (text : List ℕ) → logfmt_step call (at due.Pair text) ≡ Ok (at due.Nothing text)
 
 finished : (parts : Parts) (kind : Kind) (end : Call) (inner : List Call) → EndsLine end → AreInOrder kind parts → SayParts parts inner (end ∷ [])
-    → and_then (logfmt_steps inner (at due.Pair [])) (ended_line false) ≡ and_then (field_pairs parts) (λ all. Ok (line all))
+    → logfmt_then (logfmt_steps inner (at due.Pair [])) (ended_line false) ≡ logfmt_then (field_pairs parts) (λ all. Ok (logfmt_line all))
 unfolding more
 finished parts kind end inner ends o s =
-    ap (λ is. and_then is (ended_line false)) (parts_written parts kind inner (end ∷ []) [] o s)
-    ∙ then_then (field_pairs parts) (λ all. logfmt_steps (end ∷ []) (at due.Pair (line all))) (ended_line false)
-    ∙ then_same (field_pairs parts) _ _ (λ all. ap (λ is. and_then (and_then is (logfmt_steps [])) (ended_line false)) (ends (line all)))
+    ap (λ is. logfmt_then is (ended_line false)) (parts_written parts kind inner (end ∷ []) [] o s)
+    ∙ then_then (field_pairs parts) (λ all. logfmt_steps (end ∷ []) (at due.Pair (logfmt_line all))) (ended_line false)
+    ∙ then_same (field_pairs parts) _ _ (λ all. ap (λ is. logfmt_then (logfmt_then is (logfmt_steps [])) (ended_line false)) (ends (logfmt_line all)))
 
-tree_written : (t : Tree) (calls : List Call) → IsGood t → Says t calls [] → and_then (logfmt_steps calls start) (ended_line false) ≡ record_line t
-tree_written tree.Null calls good s = ap (λ c. and_then (logfmt_steps c start) (ended_line false)) s
-tree_written (tree.Truth b) calls good s = ap (λ c. and_then (logfmt_steps c start) (ended_line false)) s
-tree_written (tree.Int type number) calls good s = ap (λ c. and_then (logfmt_steps c start) (ended_line false)) s
-tree_written (tree.Text text) calls good s = ap (λ c. and_then (logfmt_steps c start) (ended_line false)) s.4
-tree_written (tree.Binary bytes) calls good s = ap (λ c. and_then (logfmt_steps c start) (ended_line false)) s.4
-tree_written (tree.Standalone name) calls good s = ap (λ c. and_then (logfmt_steps c start) (ended_line false)) s
-tree_written (tree.Tagged name inner) calls good s = ap (λ c. and_then (logfmt_steps c start) (ended_line false)) s.1
-tree_written (tree.EmptyEnum name) calls good s = ap (λ c. and_then (logfmt_steps c start) (ended_line false)) s
-tree_written (tree.Enum name inner) calls good s = ap (λ c. and_then (logfmt_steps c start) (ended_line false)) s.1
-tree_written (tree.Container Head.Seq parts) calls good s = ap (λ c. and_then (logfmt_steps c start) (ended_line false)) s.3
-tree_written (tree.Container Head.Map parts) calls good s = ap (λ c. and_then (logfmt_steps c start) (ended_line false)) s.3
+tree_written : (t : Tree) (calls : List Call) → IsGood t → Says t calls [] → logfmt_then (logfmt_steps calls start) (ended_line false) ≡ record_line t
+tree_written tree.Null calls good s = ap (λ c. logfmt_then (logfmt_steps c start) (ended_line false)) s
+tree_written (tree.Truth b) calls good s = ap (λ c. logfmt_then (logfmt_steps c start) (ended_line false)) s
+tree_written (tree.Int type number) calls good s = ap (λ c. logfmt_then (logfmt_steps c start) (ended_line false)) s
+tree_written (tree.Text text) calls good s = ap (λ c. logfmt_then (logfmt_steps c start) (ended_line false)) s.4
+tree_written (tree.Binary bytes) calls good s = ap (λ c. logfmt_then (logfmt_steps c start) (ended_line false)) s.4
+tree_written (tree.Standalone name) calls good s = ap (λ c. logfmt_then (logfmt_steps c start) (ended_line false)) s
+tree_written (tree.Tagged name inner) calls good s = ap (λ c. logfmt_then (logfmt_steps c start) (ended_line false)) s.1
+tree_written (tree.EmptyEnum name) calls good s = ap (λ c. logfmt_then (logfmt_steps c start) (ended_line false)) s
+tree_written (tree.Enum name inner) calls good s = ap (λ c. logfmt_then (logfmt_steps c start) (ended_line false)) s.1
+tree_written (tree.Container Head.Seq parts) calls good s = ap (λ c. logfmt_then (logfmt_steps c start) (ended_line false)) s.3
+tree_written (tree.Container Head.Map parts) calls good s = ap (λ c. logfmt_then (logfmt_steps c start) (ended_line false)) s.3
 tree_written (tree.Container (Head.Record name) parts) calls good s =
-    ap (λ c. and_then (logfmt_steps c start) (ended_line false)) s.3 ∙ finished parts tree.Field (Call.End (Head.Record (bare_name name))) s.1 (λ text. refl) good.1 s.4
-tree_written (tree.Container (Head.Tuple name) parts) calls good s = ap (λ c. and_then (logfmt_steps c start) (ended_line false)) s.3
+    ap (λ c. logfmt_then (logfmt_steps c start) (ended_line false)) s.3 ∙ finished parts tree.Field (Call.End (Head.Record (bare_name name))) s.1 (λ text. refl) good.1 s.4
+tree_written (tree.Container (Head.Tuple name) parts) calls good s = ap (λ c. logfmt_then (logfmt_steps c start) (ended_line false)) s.3
 tree_written (tree.Container (Head.RecordTuple name) parts) calls good s =
-    ap (λ c. and_then (logfmt_steps c start) (ended_line false)) s.3
+    ap (λ c. logfmt_then (logfmt_steps c start) (ended_line false)) s.3
     ∙ finished parts tree.FieldPlace (Call.End (Head.RecordTuple (bare_name name))) s.1 (λ text. refl) good.1 s.4
 
 -- the line of a value that tells a tree
 pub told_line : (e : Emission) (t : Tree) → Tells e t → written_line e ≡ record_line t
 told_line e t tells =
-    ap (λ refuses. and_then (logfmt_steps e.calls start) (ended_line refuses)) tells.willing
-    ∙ ap (λ is. and_then is (ended_line false)) (sym (steps_plain e.calls start))
+    ap (λ refuses. logfmt_then (logfmt_steps e.calls start) (ended_line refuses)) tells.willing
+    ∙ ap (λ is. logfmt_then is (ended_line false)) (sym (steps_plain e.calls start))
     ∙ tree_written t (plain e.calls) tells.spells.0 tells.spells.1

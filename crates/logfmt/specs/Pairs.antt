@@ -10,9 +10,9 @@ use Rattle.logfmt.specs.declared.LogfmtError.{LogfmtError}
 use Rattle.logfmt.specs.declared.LogfmtError.TheVariants.{NotFlat, InvalidKey}
 
 -- what comes next, unless there was an error
-abbrev pub and_then : {T U : Type 0} → Result T LogfmtError → (T → Result U LogfmtError) → Result U LogfmtError
-and_then (Ok x) next = next x
-and_then (Err why) next = Err why
+abbrev pub logfmt_then : {T U : Type 0} → Result T LogfmtError → (T → Result U LogfmtError) → Result U LogfmtError
+logfmt_then (Ok x) next = next x
+logfmt_then (Err why) next = Err why
 
 -- a key's bytes: no space, and nothing below it, no quote and no `=`
 abbrev pub is_key_byte : ℕ → Bool
@@ -37,11 +37,11 @@ leaf _ = Err NotFlat
 
 -- a pair: the field's label as the key, `=` and the value
 abbrev pub pair : List ℕ → Tree → Result (List ℕ) LogfmtError
-pair label value = and_then (a_key label) (λ key. and_then (leaf value) (λ text. Ok (key ++ codes "=" ++ text)))
+pair label value = logfmt_then (a_key label) (λ key. logfmt_then (leaf value) (λ text. Ok (key ++ codes "=" ++ text)))
 
 -- this pair in front of those
 abbrev pub and_pairs : Result (List ℕ) LogfmtError → Result (List (List ℕ)) LogfmtError → Result (List (List ℕ)) LogfmtError
-and_pairs first rest = and_then first (λ pair. and_then rest (λ others. Ok (pair ∷ others)))
+and_pairs first rest = logfmt_then first (λ pair. logfmt_then rest (λ others. Ok (pair ∷ others)))
 
 -- the pairs of the fields of a record or a struct
 abbrev pub field_pairs : Parts → Result (List (List ℕ)) LogfmtError
@@ -51,12 +51,12 @@ field_pairs (part (Slot.FieldPlace tag label index) value parts) = and_pairs (pa
 field_pairs (part _ _ _) = Err NotFlat
 
 -- one space between each two
-abbrev pub line : List (List ℕ) → List ℕ
-line [] = []
-line (pair ∷ field_pairs) = pair ++ flat_map (λ next. codes " " ++ next) field_pairs
+abbrev pub logfmt_line : List (List ℕ) → List ℕ
+logfmt_line [] = []
+logfmt_line (pair ∷ field_pairs) = pair ++ flat_map (λ next. codes " " ++ next) field_pairs
 
 -- the line of a record or a struct of leaves
 abbrev pub record_line : Tree → Result (List ℕ) LogfmtError
-record_line (Container (Head.Record name) parts) = and_then (field_pairs parts) (λ all. Ok (line all))
-record_line (Container (Head.RecordTuple name) parts) = and_then (field_pairs parts) (λ all. Ok (line all))
+record_line (Container (Head.Record name) parts) = logfmt_then (field_pairs parts) (λ all. Ok (logfmt_line all))
+record_line (Container (Head.RecordTuple name) parts) = logfmt_then (field_pairs parts) (λ all. Ok (logfmt_line all))
 record_line _ = Err NotFlat

@@ -8,7 +8,7 @@ use Rattle.logfmt.specs.declared.LogfmtError.{LogfmtError}
 use Rattle.logfmt.specs.declared.LogfmtError.TheVariants.{NotFlat}
 use Rattle.logfmt.specs.declared.writer.Due.{Due}
 use Rattle.logfmt.specs.declared.writer.Due.TheVariants as due
-use Rattle.logfmt.specs.Pairs.{and_then, a_key}
+use Rattle.logfmt.specs.Pairs.{logfmt_then, a_key}
 
 -- what is due, and the text so far
 pub record Begun : Type 0 where
@@ -33,7 +33,7 @@ space_after (byte ∷ text) = codes " "
 
 -- a label is a key
 abbrev pub key_step : List ℕ → List ℕ → LogfmtStep
-key_step label text = and_then (a_key label) (λ key. adds_text text (space_after text ++ key ++ codes "=") due.Value)
+key_step label text = logfmt_then (a_key label) (λ key. adds_text text (space_after text ++ key ++ codes "=") due.Value)
 
 -- what a call does where this is due, after this text; hints are passed over
 abbrev pub step_at : Call → Due → List ℕ → LogfmtStep
@@ -60,4 +60,4 @@ logfmt_step call begun = step_at call begun.due begun.text
 -- many calls, up to the first that is refused
 abbrev pub logfmt_steps : List Call → Begun → LogfmtStep
 logfmt_steps [] begun = Ok begun
-logfmt_steps (call ∷ calls) begun = and_then (logfmt_step call begun) (logfmt_steps calls)
+logfmt_steps (call ∷ calls) begun = logfmt_then (logfmt_step call begun) (logfmt_steps calls)

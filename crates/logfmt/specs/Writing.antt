@@ -7,7 +7,7 @@ use Rattle.logfmt.specs.declared.LogfmtError.{LogfmtError}
 use Rattle.logfmt.specs.declared.LogfmtError.TheVariants as error
 use Rattle.logfmt.specs.declared.writer.Due.{Due}
 use Rattle.logfmt.specs.declared.writer.Due.TheVariants as due
-use Rattle.logfmt.specs.Pairs.{and_then}
+use Rattle.logfmt.specs.Pairs.{logfmt_then}
 use Rattle.logfmt.specs.Steps.{Begun, LogfmtStep, logfmt_step, logfmt_steps}
 
 -- what the writer has begun, why it refused a call, and how often memory was wanting
@@ -85,7 +85,7 @@ ended_line false begun = whole begun.due begun.text
 
 -- the line of a value by its calls
 abbrev pub written_line : Emission → Result (List ℕ) LogfmtError
-written_line e = and_then (logfmt_steps e.calls nothing_written.begun) (ended_line e.refuses)
+written_line e = logfmt_then (logfmt_steps e.calls nothing_written.begun) (ended_line e.refuses)
 
 -- the steps of some first calls are done, and text stands then
 pub record StepsWriteText (calls : List Call) (begun : Begun) : Type 0 where

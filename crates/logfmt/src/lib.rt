@@ -1,4 +1,4 @@
-//! Values as lines of logfmt: a writer of a format of one's own, as a user of these crates writes one.
+//! Values as lines of logfmt. It shows how a user of these crates writes a format of their own.
 //!
 //! - [`to_logfmt`] gives the line of a struct or a record of leaves. What a line is, over trees, is in
 //!   `specs/Pairs.antt`.

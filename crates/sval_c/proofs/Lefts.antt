@@ -17,8 +17,8 @@ use Rattle.sval_c.specs.declared.fault.Fault.TheVariants as fault
 use Rattle.sval_c.specs.declared.lack.Lack.{Lack}
 use Rattle.sval_c.specs.declared.lack.Lack.TheVariants as lack
 use Rattle.sval_c.specs.Due.{OfText, denotes, no_utf8, no_json}
-use Rattle.sval_c.specs.Lacks.{lack_of_document, IsLacking, Gives}
-use Rattle.sval_c.specs.OfFilters.{LeftOf, ArePaths, HasNoPaths, FilteredBy, is_left, no_paths, FilterDue}
+use Rattle.sval_c.specs.Lacks.{lack_of_document, IsLacking, GivesOrLacks}
+use Rattle.sval_c.specs.OfFilters.{LeftOf, ArePaths, HasNoPaths, FilteredBy, is_left, no_paths, FilteredTextDue}
 use Rattle.sval_c.proofs.Taken.{no_rise, taken_whole}
 
 module _ (rule : Rule) (paths : List Path) (input : List ℕ) (old new : Taken) where
@@ -51,7 +51,7 @@ module _ (rule : Rule) (paths : List Path) (input : List ℕ) (old new : Taken) 
 -- ---- by the paths of a text
 
 pub left_gives : {Bytes : Type 0} (rule : Rule) (paths : List Path) (input text : List ℕ) (made : Result Bytes Lack) (items : Bytes → List ℕ) → ArePaths text paths
-    → Gives (OfText (LeftOf rule paths) input) made items → Gives (FilteredBy rule input text) made items
+    → GivesOrLacks (OfText (LeftOf rule paths) input) made items → GivesOrLacks (FilteredBy rule input text) made items
 left_gives rule paths input text (Ok made) items are given = is_left paths are given
 left_gives rule paths input text (Err (lack.Fault why)) items are given = (given.0, is_left paths are given.1)
 left_gives rule paths input text (Err lack.NoMemory) items are given = tt
@@ -61,7 +61,7 @@ none_left rule input text (lack.Fault why) lacking = (lacking.0, no_paths lackin
 none_left rule input text lack.NoMemory lacking = tt
 
 -- a number names no rule
-pub no_rule : (rule : ℕ) (input text : List ℕ) → (rule ≡ 0 → ⊥) → (rule ≡ 1 → ⊥) → FilterDue rule input text (Some fault.BadChoice) []
+pub no_rule : (rule : ℕ) (input text : List ℕ) → (rule ≡ 0 → ⊥) → (rule ≡ 1 → ⊥) → FilteredTextDue rule input text (Some fault.BadChoice) []
 no_rule zero input text first second = absurd (first refl)
 no_rule (suc zero) input text first second = absurd (second refl)
 no_rule (suc (suc rule)) input text first second = (refl, refl)

@@ -15,7 +15,7 @@ use Rattle.sval_cbor.specs.Packs.{PackRefusal, BadKey, BadNumber, RawJson, NotIn
 use Rattle.sval_cbor.specs.Streamed.{StreamsCbor, IsRefusedAs}
 use Rattle.sval_c.specs.declared.lack.Lack.{Lack}
 use Rattle.sval_c.specs.declared.lack.Lack.TheVariants as lack
-use Rattle.sval_c.specs.Due.{denotes, CborDue}
+use Rattle.sval_c.specs.Due.{denotes, CborOfTextDue}
 use Rattle.sval_c.specs.Faults.{fault_of_pack}
 use Rattle.sval_c.specs.Lacks.{lack_of_pack, IsLacking}
 use Rattle.sval_c.proofs.Taken.{no_rise, taken_whole}
@@ -25,7 +25,7 @@ module _ (input : List ℕ) (calls : List Call) (r : IsReadText input calls) (ol
   one_value : IsOneValue (makes calls)
   one_value = record { willing = refl; spells = (tree_of r.document.value, r.spells) }
 
-  pub packed : old.bytes ≡ [] → StreamsCbor (makes calls) (Ok tt) (taken_told old) (taken_told new) → CborDue input None new.bytes
+  pub packed : old.bytes ≡ [] → StreamsCbor (makes calls) (Ok tt) (taken_told old) (taken_told new) → CborOfTextDue input None new.bytes
   packed empty streams =
       let wrote = streams.written (tree_of r.document.value) r.spells in
       denotes r.document.value r.document.denotes (wrote.json, wrote.packs, taken_whole old new (cbor wrote.json) empty wrote.appends)
@@ -43,19 +43,19 @@ module _ (input : List ℕ) (calls : List Call) (r : IsReadText input calls) (ol
 
   -- ---- the others
 
-  refused : (why : PackRefusal) → IsRefusedAs (makes calls) why → IsLacking (CborDue input) (lack.Fault (fault_of_pack why))
+  refused : (why : PackRefusal) → IsRefusedAs (makes calls) why → IsLacking (CborOfTextDue input) (lack.Fault (fault_of_pack why))
   refused why is = ([], denotes r.document.value r.document.denotes (why, is.packs (tree_of r.document.value) r.spells, refl, refl))
 
-  pub unpacked : (why : CborError) (found : Lack) → lack_of_pack why ≡ Some found → StreamsCbor (makes calls) (Err why) (taken_told old) (taken_told new) → IsLacking (CborDue input) found
+  pub unpacked : (why : CborError) (found : Lack) → lack_of_pack why ≡ Some found → StreamsCbor (makes calls) (Err why) (taken_told old) (taken_told new) → IsLacking (CborOfTextDue input) found
   unpacked error.Key found is streams =
-      let same : lack.Fault fault.InvalidKey ≡ found = cc is in subst (IsLacking (CborDue input)) same (refused BadKey (streams.only_where tt))
+      let same : lack.Fault fault.InvalidKey ≡ found = cc is in subst (IsLacking (CborOfTextDue input)) same (refused BadKey (streams.only_where tt))
   unpacked error.Number found is streams =
-      let same : lack.Fault fault.InvalidNumber ≡ found = cc is in subst (IsLacking (CborDue input)) same (refused BadNumber (streams.only_where tt))
+      let same : lack.Fault fault.InvalidNumber ≡ found = cc is in subst (IsLacking (CborOfTextDue input)) same (refused BadNumber (streams.only_where tt))
   unpacked error.Raw found is streams =
-      let same : lack.Fault fault.Raw ≡ found = cc is in subst (IsLacking (CborDue input)) same (refused RawJson (streams.only_where tt))
+      let same : lack.Fault fault.Raw ≡ found = cc is in subst (IsLacking (CborOfTextDue input)) same (refused RawJson (streams.only_where tt))
   unpacked error.NotInteger found is streams =
-      let same : lack.Fault fault.NotInteger ≡ found = cc is in subst (IsLacking (CborDue input)) same (refused NotInteger (streams.only_where tt))
-  unpacked error.NoMemory found is streams = let same : lack.NoMemory ≡ found = cc is in subst (IsLacking (CborDue input)) same tt
+      let same : lack.Fault fault.NotInteger ≡ found = cc is in subst (IsLacking (CborOfTextDue input)) same (refused NotInteger (streams.only_where tt))
+  unpacked error.NoMemory found is streams = let same : lack.NoMemory ≡ found = cc is in subst (IsLacking (CborOfTextDue input)) same tt
   unpacked error.Write found is streams = let never : None ≡ Some found = is in absurd (cc never)
   unpacked error.NotATree found is streams = let never : None ≡ Some found = is in absurd (cc never)
   unpacked error.Refused found is streams = let never : None ≡ Some found = is in absurd (cc never)

@@ -21,7 +21,7 @@ use Rattle.sval_c.specs.declared.fault.Fault.{Fault}
 use Rattle.sval_c.specs.declared.fault.Fault.TheVariants as fault
 use Rattle.sval_c.specs.declared.lack.Lack.{Lack}
 use Rattle.sval_c.specs.declared.lack.Lack.TheVariants as lack
-use Rattle.sval_c.specs.Lacks.{lack_of_tape, lack_of_check, lack_of_text, IsLacking, Gives}
+use Rattle.sval_c.specs.Lacks.{lack_of_tape, lack_of_check, lack_of_text, IsLacking, GivesOrLacks}
 use Rattle.sval_c.specs.Faults.{fault_of_refusal}
 use Rattle.sval_c.specs.OfTapes.{SpellsTree, SpellsNone, bad_tape, bad_call, unfinished, CompactOfTape, has_json, no_json, PrettyOfTape, WritesTape}
 use Rattle.sval_c.proofs.Taken.{taken_whole}
@@ -100,6 +100,6 @@ unlaid tape lack.NoMemory lacking = tt
 
 -- what laying out answers, where only memory may be wanting
 pub lays_out : {Bytes : Type 0} (tape text : List ℕ) (made : Result Bytes Lack) (items : Bytes → List ℕ)
-    → CompactOfTape tape None text → IfOk made (λ bytes. items bytes ≡ pretty text) → IfErr made (λ why. why ≡ lack.NoMemory) → Gives (PrettyOfTape tape) made items
+    → CompactOfTape tape None text → IfOk made (λ bytes. items bytes ≡ pretty text) → IfErr made (λ why. why ≡ lack.NoMemory) → GivesOrLacks (PrettyOfTape tape) made items
 lays_out tape text (Ok bytes) items due is want = subst (PrettyOfTape tape None) (sym is) (laid tape text due)
 lays_out tape text (Err why) items due is want = subst (IsLacking (PrettyOfTape tape)) (sym want) tt

@@ -23,7 +23,7 @@ use Rattle.sval_pretty.specs.Layout.{pretty}
 use Rattle.sval_c.specs.declared.lack.Lack.{Lack}
 use Rattle.sval_c.specs.declared.lack.Lack.TheVariants as lack
 use Rattle.sval_c.specs.Due.{OfText, denotes, no_utf8, no_json, CheckDue, CompactDue, PrettyDue}
-use Rattle.sval_c.specs.Lacks.{lack_of_json, IsLacking, Gives}
+use Rattle.sval_c.specs.Lacks.{lack_of_json, IsLacking, GivesOrLacks}
 use Rattle.sval_c.specs.Reports.{report_of_lack, Judges, has_fault, lacks_memory}
 
 -- ---- why it wasn't read
@@ -77,6 +77,6 @@ unlaid input lack.NoMemory lacking = tt
 
 -- what laying out answers, where only memory may be wanting
 pub lays_out : {Bytes : Type 0} (input text : List ℕ) (made : Result Bytes Lack) (items : Bytes → List ℕ)
-    → CompactDue input None text → IfOk made (λ bytes. items bytes ≡ pretty text) → IfErr made (λ why. why ≡ lack.NoMemory) → Gives (PrettyDue input) made items
+    → CompactDue input None text → IfOk made (λ bytes. items bytes ≡ pretty text) → IfErr made (λ why. why ≡ lack.NoMemory) → GivesOrLacks (PrettyDue input) made items
 lays_out input text (Ok bytes) items due is want = subst (PrettyDue input None) (sym is) (laid input text due)
 lays_out input text (Err why) items due is want = subst (IsLacking (PrettyDue input)) (sym want) tt

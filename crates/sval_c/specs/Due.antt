@@ -60,8 +60,8 @@ CompactDue = OfText CompactOf
 abbrev pub PrettyDue : List ℕ → Option Fault → List ℕ → Type 0
 PrettyDue = OfText PrettyOf
 
-abbrev pub CborDue : List ℕ → Option Fault → List ℕ → Type 0
-CborDue = OfText CborOf
+abbrev pub CborOfTextDue : List ℕ → Option Fault → List ℕ → Type 0
+CborOfTextDue = OfText CborOf
 
 -- of an item of CBOR (RFC 8949): the JSON of its tree, which denotes what is meant
 pub data JsonOfCborDue (input : List ℕ) : Option Fault → List ℕ → Type 0 where

@@ -103,6 +103,6 @@ IsLacking Due (lack.Fault why) = (before : List ℕ) × Due (Some why) before
 IsLacking Due lack.NoMemory = ⊤
 
 -- the bytes are what is due of the input, or there are none for this lack
-abbrev pub Gives : {Bytes : Type 0} → (Option Fault → List ℕ → Type 0) → Result Bytes Lack → (Bytes → List ℕ) → Type 0
-Gives Due (Ok made) items = Due None (items made)
-Gives Due (Err why) items = IsLacking Due why
+abbrev pub GivesOrLacks : {Bytes : Type 0} → (Option Fault → List ℕ → Type 0) → Result Bytes Lack → (Bytes → List ℕ) → Type 0
+GivesOrLacks Due (Ok made) items = Due None (items made)
+GivesOrLacks Due (Err why) items = IsLacking Due why

@@ -61,7 +61,7 @@ pub data FilteredBy (rule : Rule) (input text : List ℕ) : Option Fault → Lis
   no_paths : {found : Option Fault} {bytes : List ℕ} → HasNoPaths text found bytes → FilteredBy rule input text found bytes
 
 -- by the rule of this number: 0 drops what the paths name, 1 keeps it
-abbrev pub FilterDue : ℕ → List ℕ → List ℕ → Option Fault → List ℕ → Type 0
-FilterDue zero input text found bytes = FilteredBy Drop input text found bytes
-FilterDue (suc zero) input text found bytes = FilteredBy Keep input text found bytes
-FilterDue (suc (suc rule)) input text found bytes = IsBadChoice found bytes
+abbrev pub FilteredTextDue : ℕ → List ℕ → List ℕ → Option Fault → List ℕ → Type 0
+FilteredTextDue zero input text found bytes = FilteredBy Drop input text found bytes
+FilteredTextDue (suc zero) input text found bytes = FilteredBy Keep input text found bytes
+FilteredTextDue (suc (suc rule)) input text found bytes = IsBadChoice found bytes

@@ -39,13 +39,13 @@ pub data SpellsNone (tape : List ℕ) : Fault → Type 0 where
 -- ---- as JSON
 
 -- the text of the tree's JSON, which denotes what is meant where the tree's raw texts and identifiers are what their tags promise
-pub record IsJsonOfTree (tree : Tree) (text : List ℕ) : Type 0 where
+pub record IsTextAndValueOf (tree : Tree) (text : List ℕ) : Type 0 where
   pub is_text : IsTreeTextIn Inside tree text
   pub denotes : KeepsPromises tree → IsTreeValueIn Inside tree text
 
 -- the JSON of the tree, without white space
 pub data CompactOfTape (tape : List ℕ) : Option Fault → List ℕ → Type 0 where
-  has_json : {text : List ℕ} (tree : Tree) → SpellsTree tape tree → IsJsonOfTree tree text → CompactOfTape tape None text
+  has_json : {text : List ℕ} (tree : Tree) → SpellsTree tape tree → IsTextAndValueOf tree text → CompactOfTape tape None text
   no_json : (tree : Tree) (why : Refusal) → SpellsTree tape tree → json_of tree ≡ Err why → CompactOfTape tape (Some (fault_of_refusal why)) []
   no_tree : (why : Fault) → SpellsNone tape why → CompactOfTape tape (Some why) []
 

@@ -9,30 +9,30 @@ use Rattle.sval_c.specs.declared.report.Report.{Report}
 use Rattle.sval_c.specs.declared.status.TheConstants.{TOO_SHORT, BAD_TAPE, BAD_CHOICE, BAD_PATH}
 
 -- the status of a fault
-abbrev pub status_of_fault : Fault → ℕ
-status_of_fault (fault.BadLine line) = BAD_LINE
-status_of_fault (fault.BadCall number) = BAD_CALL
-status_of_fault fault.Unfinished = UNFINISHED
-status_of_fault fault.InvalidKey = INVALID_KEY
-status_of_fault fault.InvalidNumber = INVALID_NUMBER
-status_of_fault (fault.NotUtf8 at) = NOT_UTF8
-status_of_fault (fault.BadJson at) = BAD_JSON
-status_of_fault fault.Raw = RAW
-status_of_fault fault.NotInteger = NOT_INTEGER
-status_of_fault fault.BadCbor = BAD_CBOR
-status_of_fault (fault.BadTape at) = BAD_TAPE
-status_of_fault fault.BadChoice = BAD_CHOICE
-status_of_fault (fault.BadPath line) = BAD_PATH
+abbrev pub report_status : Fault → ℕ
+report_status (fault.BadLine line) = BAD_LINE
+report_status (fault.BadCall number) = BAD_CALL
+report_status fault.Unfinished = UNFINISHED
+report_status fault.InvalidKey = INVALID_KEY
+report_status fault.InvalidNumber = INVALID_NUMBER
+report_status (fault.NotUtf8 at) = NOT_UTF8
+report_status (fault.BadJson at) = BAD_JSON
+report_status fault.Raw = RAW
+report_status fault.NotInteger = NOT_INTEGER
+report_status fault.BadCbor = BAD_CBOR
+report_status (fault.BadTape at) = BAD_TAPE
+report_status fault.BadChoice = BAD_CHOICE
+report_status (fault.BadPath line) = BAD_PATH
 
 -- the place of a fault: the byte at which UTF-8, JSON or a tape fails, or the number of a line or a call, counted from 1; 0 where it has none
-abbrev pub place_of : Fault → ℕ
-place_of (fault.BadLine line) = line
-place_of (fault.BadCall number) = number
-place_of (fault.NotUtf8 at) = at
-place_of (fault.BadJson at) = at
-place_of (fault.BadTape at) = at
-place_of (fault.BadPath line) = line
-place_of _ = 0
+abbrev pub fault_place : Fault → ℕ
+fault_place (fault.BadLine line) = line
+fault_place (fault.BadCall number) = number
+fault_place (fault.NotUtf8 at) = at
+fault_place (fault.BadJson at) = at
+fault_place (fault.BadTape at) = at
+fault_place (fault.BadPath line) = line
+fault_place _ = 0
 
 -- ---- the reports
 
@@ -47,7 +47,7 @@ abbrev pub short_report : List ℕ → Report
 short_report bytes = record { status = TOO_SHORT; written = length bytes; at = 0 }
 
 abbrev pub fault_report : Fault → Report
-fault_report why = record { status = status_of_fault why; written = 0; at = place_of why }
+fault_report why = record { status = report_status why; written = 0; at = fault_place why }
 
 abbrev pub want_report : Report
 want_report = record { status = NO_MEMORY; written = 0; at = 0 }
@@ -79,18 +79,18 @@ pub record TellsLack (why : Lack) (report : Report) (old new : List ℕ) : Type 
   pub out : new ≡ old
 
 -- by what was made of an input
-abbrev pub TellsMade : {Bytes : Type 0} → Result Bytes Lack → (Bytes → List ℕ) → Report → List ℕ → List ℕ → Type 0
-TellsMade (Ok made) items report old new = TellsBytes (items made) report old new
-TellsMade (Err why) items report old new = TellsLack why report old new
+abbrev pub TellsMadeOrLack : {Bytes : Type 0} → Result Bytes Lack → (Bytes → List ℕ) → Report → List ℕ → List ℕ → Type 0
+TellsMadeOrLack (Ok made) items report old new = TellsBytes (items made) report old new
+TellsMadeOrLack (Err why) items report old new = TellsLack why report old new
 
 -- ---- what an export answers, by what is due of its input
 
 -- Either bytes are due, and the buffer begins with them or has no room for them; or a fault is due, which the report tells with its place;
 -- or memory was wanting.
-pub data Reports (Due : Option Fault → List ℕ → Type 0) (report : Report) (old new : List ℕ) : Type 0 where
-  bytes_due : (bytes : List ℕ) → Due None bytes → TellsBytes bytes report old new → Reports Due report old new
-  fault_due : (why : Fault) (before : List ℕ) → Due (Some why) before → TellsLack (lack.Fault why) report old new → Reports Due report old new
-  no_memory : TellsLack lack.NoMemory report old new → Reports Due report old new
+pub data ReportsDue (Due : Option Fault → List ℕ → Type 0) (report : Report) (old new : List ℕ) : Type 0 where
+  bytes_due : (bytes : List ℕ) → Due None bytes → TellsBytes bytes report old new → ReportsDue Due report old new
+  fault_due : (why : Fault) (before : List ℕ) → Due (Some why) before → TellsLack (lack.Fault why) report old new → ReportsDue Due report old new
+  no_memory : TellsLack lack.NoMemory report old new → ReportsDue Due report old new
 
 -- the same of an export that only checks its input
 pub data Judges (Due : Option Fault → Type 0) (report : Report) : Type 0 where

@@ -1,7 +1,7 @@
 //! Why nothing is due of an input.
 
 ghost use Rattle.std.specs.Prelude.{◌≡◌};
-ghost use Rattle.sval_c.specs.Reports.{status_of_fault, place_of};
+ghost use Rattle.sval_c.specs.Reports.{report_status, fault_place};
 
 use crate::status::{BAD_CHOICE, BAD_PATH, BAD_TAPE};
 use sval_program::status;
@@ -40,7 +40,7 @@ pub(crate) enum Fault {
 impl Fault {
     /// The status of a report.
     pub(crate) fn status(self) -> u8
-        ensures { result ≡ status_of_fault self }
+        ensures { result ≡ report_status self }
     {
         match self {
             Fault::BadLine { .. } => status::BAD_LINE,
@@ -61,7 +61,7 @@ impl Fault {
 
     /// The place of a report: an offset, the number of a line or a call, or 0 where the fault has none.
     pub(crate) fn place(self) -> u64
-        ensures { result ≡ place_of self }
+        ensures { result ≡ fault_place self }
     {
         match self {
             Fault::BadLine { line } | Fault::BadPath { line } => line,

@@ -1,9 +1,9 @@
 //! Texts of JSON, without the members that paths name, or with no others.
 
-ghost use Rattle.sval_c.specs.Lacks.{Gives};
-ghost use Rattle.sval_c.specs.OfFilters.{ReadsPaths, FilterDue, FilteredBy, LeftOf};
+ghost use Rattle.sval_c.specs.Lacks.{GivesOrLacks};
+ghost use Rattle.sval_c.specs.OfFilters.{ReadsPaths, FilteredTextDue, FilteredBy, LeftOf};
 ghost use Rattle.sval_c.specs.Due.{OfText};
-ghost use Rattle.sval_c.specs.Reports.{Reports};
+ghost use Rattle.sval_c.specs.Reports.{ReportsDue};
 
 use crate::fault::Fault;
 use crate::lack::{Lack, of_document, of_path};
@@ -41,7 +41,7 @@ fn read_paths(alloc: Global, text: &[u8]) -> Result<Paths, Lack>
 
 /// The JSON of what the rule and the paths leave of a text's value.
 fn left_of(alloc: Global, input: &[u8], rule: Rule, paths: &Paths) -> Result<Vec<u8>, Lack>
-    ensures { Gives (OfText (LeftOf rule paths.now) input.now) result (λ json. json.items) }
+    ensures { GivesOrLacks (OfText (LeftOf rule paths.now) input.now) result (λ json. json.items) }
 {
     let conversion = Conversion {
         rule,
@@ -57,7 +57,7 @@ fn left_of(alloc: Global, input: &[u8], rule: Rule, paths: &Paths) -> Result<Vec
 
 /// The JSON of what the rule and the paths of a text leave of the input's value.
 fn filtered(alloc: Global, input: &[u8], rule: Rule, paths: &[u8]) -> Result<Vec<u8>, Lack>
-    ensures { Gives (FilteredBy rule input.now paths.now) result (λ json. json.items) }
+    ensures { GivesOrLacks (FilteredBy rule input.now paths.now) result (λ json. json.items) }
 {
     match read_paths(alloc, paths) {
         Ok(paths) => left_of(alloc, input, rule, &paths),
@@ -67,7 +67,7 @@ fn filtered(alloc: Global, input: &[u8], rule: Rule, paths: &[u8]) -> Result<Vec
 
 /// What is left of a document by the rule of this number: 0 drops what the paths name, and 1 keeps it alone.
 fn by_number(alloc: Global, input: &[u8], rule: u32, paths: &[u8]) -> Result<Vec<u8>, Lack>
-    ensures { Gives (FilterDue rule input.now paths.now) result (λ json. json.items) }
+    ensures { GivesOrLacks (FilteredTextDue rule input.now paths.now) result (λ json. json.items) }
 {
     match rule {
         0 => filtered(alloc, input, Rule::Drop, paths),
@@ -94,7 +94,7 @@ pub extern "C" fn sval_json_filter(
     paths: &[u8],
     out: &mut [u8],
 ) -> Report
-    ensures { Reports (FilterDue rule input.now paths.now) result out.old out.new }
+    ensures { ReportsDue (FilteredTextDue rule input.now paths.now) result out.old out.new }
 {
     answer(by_number(alloc, input, rule, paths), out)
 }

@@ -4,8 +4,8 @@ ghost use Rattle.std.specs.Prelude.{ℕ, List};
 ghost use Rattle.sval_cbor_read.specs.ReadErrors.{IsReadItem};
 ghost use Rattle.sval_cbor_read.specs.Serves.{IsInMemory};
 ghost use Rattle.sval_c.specs.Due.{JsonOfCborDue};
-ghost use Rattle.sval_c.specs.Lacks.{Gives};
-ghost use Rattle.sval_c.specs.Reports.{Reports};
+ghost use Rattle.sval_c.specs.Lacks.{GivesOrLacks};
+ghost use Rattle.sval_c.specs.Reports.{ReportsDue};
 
 use crate::lack::{Lack, of_cbor, of_writing};
 use crate::report::{Report, answer};
@@ -17,7 +17,7 @@ use sval_json::stream_to_vec;
 fn json_of(alloc: Global, doc: &CborDoc<'_>) -> Result<Vec<u8>, Lack>
     requires { (input : List ℕ) × IsReadItem input doc.now × IsInMemory input }
     ensures { (input : List ℕ) → IsReadItem input doc.now → IsInMemory input
-        → Gives (JsonOfCborDue input) result (λ bytes. bytes.items) }
+        → GivesOrLacks (JsonOfCborDue input) result (λ bytes. bytes.items) }
 {
     match stream_to_vec(alloc, doc) {
         Ok(json) => Ok(json),
@@ -27,7 +27,7 @@ fn json_of(alloc: Global, doc: &CborDoc<'_>) -> Result<Vec<u8>, Lack>
 
 /// Reads an item, and writes its JSON.
 fn to_json(alloc: Global, input: &[u8]) -> Result<Vec<u8>, Lack>
-    ensures { Gives (JsonOfCborDue input.now) result (λ bytes. bytes.items) }
+    ensures { GivesOrLacks (JsonOfCborDue input.now) result (λ bytes. bytes.items) }
 {
     // So its length is known to fit.
     let _length = input.len();
@@ -43,7 +43,7 @@ fn to_json(alloc: Global, input: &[u8]) -> Result<Vec<u8>, Lack>
 /// It answers status 0, 6, 8, 10 or 16.
 #[unsafe(no_mangle)]
 pub extern "C" fn sval_cbor_to_json(alloc: Global, input: &[u8], out: &mut [u8]) -> Report
-    ensures { Reports (JsonOfCborDue input.now) result out.old out.new }
+    ensures { ReportsDue (JsonOfCborDue input.now) result out.old out.new }
 {
     answer(to_json(alloc, input), out)
 }

@@ -4,9 +4,9 @@ ghost use Rattle.std.specs.Prelude.{◌≡◌, ℕ, List, IfOk, IfErr};
 ghost use Rattle.sval_json_read.specs.Calls.{document_calls};
 ghost use Rattle.sval_json_read.specs.ReadErrors.{IsReadText};
 ghost use Rattle.sval_pretty.specs.Layout.{pretty};
-ghost use Rattle.sval_c.specs.Due.{CheckDue, CompactDue, PrettyDue, CborDue};
-ghost use Rattle.sval_c.specs.Lacks.{Gives};
-ghost use Rattle.sval_c.specs.Reports.{Judges, Reports};
+ghost use Rattle.sval_c.specs.Due.{CheckDue, CompactDue, PrettyDue, CborOfTextDue};
+ghost use Rattle.sval_c.specs.Lacks.{GivesOrLacks};
+ghost use Rattle.sval_c.specs.Reports.{Judges, ReportsDue};
 
 use crate::lack::{Lack, of_json, of_layout, of_pack};
 use crate::report::{Report, answer, of_checked, of_lack};
@@ -32,7 +32,7 @@ fn want(error: Error) -> Lack
 fn json_of(alloc: Global, doc: &JsonDoc<'_>) -> Result<Vec<u8>, Lack>
     requires { (input : List ℕ) × IsReadText input (document_calls doc.now) }
     ensures { (input : List ℕ) → IsReadText input (document_calls doc.now)
-        → Gives (CompactDue input) result (λ bytes. bytes.items) }
+        → GivesOrLacks (CompactDue input) result (λ bytes. bytes.items) }
 {
     match stream_to_vec(alloc, doc) {
         Ok(json) => Ok(json),
@@ -42,7 +42,7 @@ fn json_of(alloc: Global, doc: &JsonDoc<'_>) -> Result<Vec<u8>, Lack>
 
 /// Reads a text, and writes its JSON.
 fn compact(alloc: Global, input: &[u8]) -> Result<Vec<u8>, Lack>
-    ensures { Gives (CompactDue input.now) result (λ bytes. bytes.items) }
+    ensures { GivesOrLacks (CompactDue input.now) result (λ bytes. bytes.items) }
 {
     match JsonDoc::read(alloc, input) {
         Ok(doc) => json_of(alloc, &doc),
@@ -63,7 +63,7 @@ pub(crate) fn laid_out(alloc: Global, json: &[u8]) -> Result<Vec<u8>, Lack>
 
 /// Reads a text, and lays out its JSON.
 fn to_pretty(alloc: Global, input: &[u8]) -> Result<Vec<u8>, Lack>
-    ensures { Gives (PrettyDue input.now) result (λ bytes. bytes.items) }
+    ensures { GivesOrLacks (PrettyDue input.now) result (λ bytes. bytes.items) }
 {
     match compact(alloc, input) {
         Ok(json) => laid_out(alloc, json.as_slice()),
@@ -75,7 +75,7 @@ fn to_pretty(alloc: Global, input: &[u8]) -> Result<Vec<u8>, Lack>
 fn cbor_of(alloc: Global, doc: &JsonDoc<'_>) -> Result<Vec<u8>, Lack>
     requires { (input : List ℕ) × IsReadText input (document_calls doc.now) }
     ensures { (input : List ℕ) → IsReadText input (document_calls doc.now)
-        → Gives (CborDue input) result (λ bytes. bytes.items) }
+        → GivesOrLacks (CborOfTextDue input) result (λ bytes. bytes.items) }
 {
     let mut sink = VecSink::new(alloc);
     match stream_to_cbor(alloc, &mut sink, doc) {
@@ -86,7 +86,7 @@ fn cbor_of(alloc: Global, doc: &JsonDoc<'_>) -> Result<Vec<u8>, Lack>
 
 /// Reads a text, and writes its CBOR.
 fn to_cbor(alloc: Global, input: &[u8]) -> Result<Vec<u8>, Lack>
-    ensures { Gives (CborDue input.now) result (λ bytes. bytes.items) }
+    ensures { GivesOrLacks (CborOfTextDue input.now) result (λ bytes. bytes.items) }
 {
     match JsonDoc::read(alloc, input) {
         Ok(doc) => cbor_of(alloc, &doc),
@@ -113,7 +113,7 @@ pub extern "C" fn sval_json_check(alloc: Global, input: &[u8]) -> Report
 /// It answers status 0, 8, 10, 12 or 13.
 #[unsafe(no_mangle)]
 pub extern "C" fn sval_json_compact(alloc: Global, input: &[u8], out: &mut [u8]) -> Report
-    ensures { Reports (CompactDue input.now) result out.old out.new }
+    ensures { ReportsDue (CompactDue input.now) result out.old out.new }
 {
     answer(compact(alloc, input), out)
 }
@@ -124,7 +124,7 @@ pub extern "C" fn sval_json_compact(alloc: Global, input: &[u8], out: &mut [u8])
 /// It answers status 0, 8, 10, 12 or 13.
 #[unsafe(no_mangle)]
 pub extern "C" fn sval_json_pretty(alloc: Global, input: &[u8], out: &mut [u8]) -> Report
-    ensures { Reports (PrettyDue input.now) result out.old out.new }
+    ensures { ReportsDue (PrettyDue input.now) result out.old out.new }
 {
     answer(to_pretty(alloc, input), out)
 }
@@ -134,7 +134,7 @@ pub extern "C" fn sval_json_pretty(alloc: Global, input: &[u8], out: &mut [u8]) 
 /// It answers status 0, 8, 10, 12, 13 or 15.
 #[unsafe(no_mangle)]
 pub extern "C" fn sval_json_to_cbor(alloc: Global, input: &[u8], out: &mut [u8]) -> Report
-    ensures { Reports (CborDue input.now) result out.old out.new }
+    ensures { ReportsDue (CborOfTextDue input.now) result out.old out.new }
 {
     answer(to_cbor(alloc, input), out)
 }

@@ -1,8 +1,8 @@
 //! Scripts of calls, written as JSON.
 
 ghost use Rattle.sval_c.specs.Due.{JsonOfScriptDue};
-ghost use Rattle.sval_c.specs.Lacks.{Gives};
-ghost use Rattle.sval_c.specs.Reports.{Reports};
+ghost use Rattle.sval_c.specs.Lacks.{GivesOrLacks};
+ghost use Rattle.sval_c.specs.Reports.{ReportsDue};
 
 use crate::lack::{Lack, of_relay};
 use crate::report::{Report, answer};
@@ -12,7 +12,7 @@ use sval_relay::{Way, relay};
 
 /// The JSON of the value that a script spells.
 fn to_json(alloc: Global, script: &[u8]) -> Result<Vec<u8>, Lack>
-    ensures { Gives (JsonOfScriptDue script.now) result (λ bytes. bytes.items) }
+    ensures { GivesOrLacks (JsonOfScriptDue script.now) result (λ bytes. bytes.items) }
 {
     let mut sink = VecSink::new(alloc);
     match relay(alloc, script, Way::Direct, &mut sink) {
@@ -26,7 +26,7 @@ fn to_json(alloc: Global, script: &[u8]) -> Result<Vec<u8>, Lack>
 /// It answers status 0, 3, 4, 5, 6, 7, 8 or 10.
 #[unsafe(no_mangle)]
 pub extern "C" fn sval_script_to_json(alloc: Global, script: &[u8], out: &mut [u8]) -> Report
-    ensures { Reports (JsonOfScriptDue script.now) result out.old out.new }
+    ensures { ReportsDue (JsonOfScriptDue script.now) result out.old out.new }
 {
     answer(to_json(alloc, script), out)
 }

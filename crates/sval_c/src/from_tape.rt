@@ -7,9 +7,9 @@ ghost use Rattle.sval_check.specs.Checks.{IsOneValue};
 ghost use Rattle.sval_io.specs.Taken.{Taken, taken_told};
 ghost use Rattle.sval_tape.specs.Taped.{IsTape};
 ghost use Rattle.sval_cbor.specs.Streamed.{StreamsCbor, IsNoTree};
-ghost use Rattle.sval_c.specs.Lacks.{Gives, IsLacking};
+ghost use Rattle.sval_c.specs.Lacks.{GivesOrLacks, IsLacking};
 ghost use Rattle.sval_c.specs.OfTapes.{CompactOfTape, PrettyOfTape, JsonOfTapeDue, CborOfTapeDue, PassesTape, WritesTape};
-ghost use Rattle.sval_c.specs.Reports.{Reports};
+ghost use Rattle.sval_c.specs.Reports.{ReportsDue};
 
 use crate::fault::Fault;
 use crate::from_json::laid_out;
@@ -79,7 +79,8 @@ fn in_one_pass(alloc: Global, tape: &[u8]) -> Option<Vec<u8>>
 /// The JSON of a tape whose calls are one whole value.
 fn json_of(alloc: Global, tape: &Tape<'_>) -> Result<Vec<u8>, Lack>
     requires { IsOneValue (makes tape.now) }
-    ensures { (bytes : List ℕ) → IsTape bytes tape.now → Gives (CompactOfTape bytes) result (λ json. json.items) }
+    ensures { (bytes : List ℕ) → IsTape bytes tape.now
+        → GivesOrLacks (CompactOfTape bytes) result (λ json. json.items) }
 {
     match stream_to_vec(alloc, tape) {
         Ok(json) => Ok(json),
@@ -89,7 +90,8 @@ fn json_of(alloc: Global, tape: &Tape<'_>) -> Result<Vec<u8>, Lack>
 
 /// The JSON of a tape that was read, or the first fault of its calls.
 fn json_or_fault(alloc: Global, tape: &Tape<'_>) -> Result<Vec<u8>, Lack>
-    ensures { (bytes : List ℕ) → IsTape bytes tape.now → Gives (CompactOfTape bytes) result (λ json. json.items) }
+    ensures { (bytes : List ℕ) → IsTape bytes tape.now
+        → GivesOrLacks (CompactOfTape bytes) result (λ json. json.items) }
 {
     match check(alloc, tape) {
         Ok(()) => json_of(alloc, tape),
@@ -99,7 +101,7 @@ fn json_or_fault(alloc: Global, tape: &Tape<'_>) -> Result<Vec<u8>, Lack>
 
 /// The JSON of a tape, or its first fault: it is read, checked and written in three passes.
 fn in_three_passes(alloc: Global, tape: &[u8]) -> Result<Vec<u8>, Lack>
-    ensures { Gives (CompactOfTape tape.now) result (λ json. json.items) }
+    ensures { GivesOrLacks (CompactOfTape tape.now) result (λ json. json.items) }
 {
     match Tape::read(tape) {
         Ok(tape) => json_or_fault(alloc, &tape),
@@ -109,7 +111,7 @@ fn in_three_passes(alloc: Global, tape: &[u8]) -> Result<Vec<u8>, Lack>
 
 /// The JSON of a tape, without white space. A second try finds why the first one gave none.
 fn compact(alloc: Global, tape: &[u8]) -> Result<Vec<u8>, Lack>
-    ensures { Gives (CompactOfTape tape.now) result (λ json. json.items) }
+    ensures { GivesOrLacks (CompactOfTape tape.now) result (λ json. json.items) }
 {
     match in_one_pass(alloc, tape) {
         Some(json) => Ok(json),
@@ -119,7 +121,7 @@ fn compact(alloc: Global, tape: &[u8]) -> Result<Vec<u8>, Lack>
 
 /// The JSON of a tape, laid out.
 fn pretty(alloc: Global, tape: &[u8]) -> Result<Vec<u8>, Lack>
-    ensures { Gives (PrettyOfTape tape.now) result (λ json. json.items) }
+    ensures { GivesOrLacks (PrettyOfTape tape.now) result (λ json. json.items) }
 {
     match compact(alloc, tape) {
         Ok(json) => laid_out(alloc, json.as_slice()),
@@ -129,7 +131,7 @@ fn pretty(alloc: Global, tape: &[u8]) -> Result<Vec<u8>, Lack>
 
 /// The JSON of a tape in the style of this number.
 fn to_json(alloc: Global, tape: &[u8], style: u32) -> Result<Vec<u8>, Lack>
-    ensures { Gives (JsonOfTapeDue style tape.now) result (λ json. json.items) }
+    ensures { GivesOrLacks (JsonOfTapeDue style tape.now) result (λ json. json.items) }
 {
     match style {
         0 => compact(alloc, tape),
@@ -162,7 +164,8 @@ fn why_no_cbor(alloc: Global, tape: &Tape<'_>, error: CborError) -> Lack
 
 /// The CBOR of a tape that was read.
 fn cbor_of(alloc: Global, tape: &Tape<'_>) -> Result<Vec<u8>, Lack>
-    ensures { (bytes : List ℕ) → IsTape bytes tape.now → Gives (CborOfTapeDue bytes) result (λ cbor. cbor.items) }
+    ensures { (bytes : List ℕ) → IsTape bytes tape.now
+        → GivesOrLacks (CborOfTapeDue bytes) result (λ cbor. cbor.items) }
 {
     let mut sink = VecSink::new(alloc);
     match stream_to_cbor(alloc, &mut sink, tape) {
@@ -173,7 +176,7 @@ fn cbor_of(alloc: Global, tape: &Tape<'_>) -> Result<Vec<u8>, Lack>
 
 /// The CBOR of a tape.
 fn to_cbor(alloc: Global, tape: &[u8]) -> Result<Vec<u8>, Lack>
-    ensures { Gives (CborOfTapeDue tape.now) result (λ cbor. cbor.items) }
+    ensures { GivesOrLacks (CborOfTapeDue tape.now) result (λ cbor. cbor.items) }
 {
     match Tape::read(tape) {
         Ok(tape) => cbor_of(alloc, &tape),
@@ -192,7 +195,7 @@ pub extern "C" fn sval_tape_to_json(
     style: u32,
     out: &mut [u8],
 ) -> Report
-    ensures { Reports (JsonOfTapeDue style tape.now) result out.old out.new }
+    ensures { ReportsDue (JsonOfTapeDue style tape.now) result out.old out.new }
 {
     answer(to_json(alloc, tape, style), out)
 }
@@ -202,7 +205,7 @@ pub extern "C" fn sval_tape_to_json(
 /// It answers status 0, 4, 5, 6, 7, 8, 10, 14, 15 or 18.
 #[unsafe(no_mangle)]
 pub extern "C" fn sval_tape_to_cbor(alloc: Global, tape: &[u8], out: &mut [u8]) -> Report
-    ensures { Reports (CborOfTapeDue tape.now) result out.old out.new }
+    ensures { ReportsDue (CborOfTapeDue tape.now) result out.old out.new }
 {
     answer(to_cbor(alloc, tape), out)
 }

@@ -1,7 +1,7 @@
 //! What an export answers.
 
 ghost use Rattle.std.specs.Prelude.{◌≡◌};
-ghost use Rattle.sval_c.specs.Reports.{report_of_lack, checked_report, TellsBytes, TellsMade};
+ghost use Rattle.sval_c.specs.Reports.{report_of_lack, checked_report, TellsBytes, TellsMadeOrLack};
 
 use crate::lack::Lack;
 use crate::status::TOO_SHORT;
@@ -92,7 +92,7 @@ fn copy_out(bytes: &[u8], out: &mut [u8]) -> Report
 
 /// Answers what was made of an input.
 pub(crate) fn answer(made: Result<Vec<u8>, Lack>, out: &mut [u8]) -> Report
-    ensures { TellsMade made (λ bytes. bytes.items) result out.old out.new }
+    ensures { TellsMadeOrLack made (λ bytes. bytes.items) result out.old out.new }
 {
     match made {
         Ok(bytes) => copy_out(bytes.as_slice(), out),

@@ -16,7 +16,7 @@ use Rattle.sval_json.specs.Json as shape
 use Rattle.sval_json.specs.Json.{Key, escaped_key, raw_key, Json, Items, no_item, item, Pairs, no_pair, pair}
 use Rattle.sval_cbor.specs.Packs.{pack_of}
 use Rattle.sval_cbor.specs.Cbor.{head_bytes, without_zero_bytes, short_bytes, string, bignum, integer, truth_bytes, cbor, cbor_items, cbor_pairs}
-use Rattle.sval_cbor.specs.Premises.{IsShort}
+use Rattle.sval_cbor.specs.Premises.{IsShortTree}
 use Rattle.sval_cbor.proofs.Packed.{IsPacked, ArePacked, PairsArePacked, packed}
 
 number_bytes : (width n : ℕ) → AreBytes (bytes_high_first width n)
@@ -110,5 +110,5 @@ mutual
       bytes_joined (string 3 bytes ++ cbor json) (cbor_pairs row) (bytes_joined (string 3 bytes) (cbor json) (strings 3 bytes (omega arith) (utf8_bytes bytes h.0.0)) (shape_bytes json h.1)) (pair_bytes row h.2)
   pair_bytes (pair (raw_key bytes) json row) h = absurd h.0
 
-pub cbor_is_bytes : (tree : Tree) (json : Json) → IsReal tree → IsShort tree → pack_of tree ≡ Ok json → AllByRecursion (λ byte. byte < 256) (cbor json)
+pub cbor_is_bytes : (tree : Tree) (json : Json) → IsReal tree → IsShortTree tree → pack_of tree ≡ Ok json → AllByRecursion (λ byte. byte < 256) (cbor json)
 cbor_is_bytes tree json r s e = shape_bytes json (packed tree json r s e)

@@ -24,7 +24,7 @@ use Rattle.sval_json.proofs.NumberGrammar.{front_and_rest, number_tested}
 use Rattle.sval_json.proofs.Texts.{normal_twice}
 use Rattle.sval_json.proofs.NumberTexts.{ascii_utf8, number_utf8, signed_number, normal_form}
 use Rattle.sval_cbor.specs.Packs.{PackRefusal, NotInteger, on_packed, map_packed, has_128_bits, is_whole_number, number_pack, tagged_pack, is_raw, key_bytes, pack_key_as, pack_key, packs, packed_items, packed_pairs, pack_of}
-use Rattle.sval_cbor.specs.Premises.{IsShortText, IsShortLabel, IsShortName, IsShort, AreShort}
+use Rattle.sval_cbor.specs.Premises.{IsShortText, IsShortLabel, IsShortName, IsShortTree, AreShort}
 use Rattle.sval_cbor.proofs.Numbers.{short_of_128, whole_back}
 
 abbrev pub IsPackedText : List ℕ → Type 0
@@ -255,14 +255,14 @@ normal_key : (text : List ℕ) (r : Result (List ℕ) json.Refusal) → normal t
 normal_key text (Ok out) e s = normal_text text out e s
 normal_key text (Err why) e s = tt
 
-tagged_key_packed : (kind : TextKind) (tree : Tree) (r : Result Key json.Refusal) → IsInRange tree → IsShort tree → IfOk HasPackedText r → IfOk HasPackedText (tagged_key kind tree r)
+tagged_key_packed : (kind : TextKind) (tree : Tree) (r : Result Key json.Refusal) → IsInRange tree → IsShortTree tree → IfOk HasPackedText r → IfOk HasPackedText (tagged_key kind tree r)
 tagged_key_packed Number (Text bytes) r u s h = normal_key bytes (normal bytes) refl s
 tagged_key_packed JsonText (Text bytes) r u s h = (u, s)
 tagged_key_packed JsonValue (Text bytes) r u s h = tt
 tagged_key_packed JsonNumber (Text bytes) r u s h = (u, s)
 tagged_key_packed kind tree r u s h = h
 
-key_packed : (t : Tree) (variant : Bool) → IsInRange t → IsShort t → IfOk HasPackedText (key t variant)
+key_packed : (t : Tree) (variant : Bool) → IsInRange t → IsShortTree t → IfOk HasPackedText (key t variant)
 key_packed Null variant r s = null_text
 key_packed (Truth b) variant r s = truth_packed b
 key_packed (Int type n) variant r s = signed_text n (short_of_type type n r)
@@ -283,13 +283,13 @@ key_as (Err json.InvalidNumber) false h = tt
 key_as (Ok k) true h = tt
 key_as (Ok k) false h = h
 
-pack_key_packed : (t : Tree) → IsInRange t → IsShort t → IfOk IsPackedKey (pack_key t)
+pack_key_packed : (t : Tree) → IsInRange t → IsShortTree t → IfOk IsPackedKey (pack_key t)
 pack_key_packed t r s = key_as (key t false) (is_raw t) (key_packed t false r s)
 
 -- ---- trees
 
 mutual
-  packs_packed : (t : Tree) (variant : Bool) → IsInRange t → IsShort t → IfOk IsPacked (packs t variant)
+  packs_packed : (t : Tree) (variant : Bool) → IsInRange t → IsShortTree t → IfOk IsPacked (packs t variant)
   packs_packed Null variant r s = tt
   packs_packed (Truth b) variant r s = tt
   packs_packed (Int type n) variant r s = (n, refl, type_128 type n r)
@@ -333,5 +333,5 @@ mutual
   pairs_packed parts r s = tt
 
 -- a real tree with short texts packs to such a shape
-pub packed : (tree : Tree) (json : Json) → IsReal tree → IsShort tree → pack_of tree ≡ Ok json → IsPacked json
+pub packed : (tree : Tree) (json : Json) → IsReal tree → IsShortTree tree → pack_of tree ≡ Ok json → IsPacked json
 packed tree json r s e = subst (IfOk IsPacked) e (packs_packed tree false r.1 s)

@@ -11,11 +11,11 @@ use Rattle.sval_buffer.specs.Forest.{Forest, Holds, forest, replayed}
 use Rattle.sval_cbor.specs.Packs.{PackRefusal, map_packed, pack_of}
 use Rattle.sval_cbor.specs.Cbor.{cbor}
 use Rattle.sval_cbor.specs.Writing.{CborState, cbor_step, written_cbor, Went, HaveWholeTexts}
-use Rattle.sval_cbor.specs.Premises.{IsShort, HasPlainIdentifiers}
+use Rattle.sval_cbor.specs.Premises.{IsShortTree, HasPlainIdentifiers}
 
 -- the bytes of a packed shape are bytes
 abbrev pub CborIsBytes : Type 0
-CborIsBytes = (tree : Tree) (json : Json) → IsReal tree → IsShort tree → pack_of tree ≡ Ok json → AllByRecursion (λ byte. byte < 256) (cbor json)
+CborIsBytes = (tree : Tree) (json : Json) → IsReal tree → IsShortTree tree → pack_of tree ≡ Ok json → AllByRecursion (λ byte. byte < 256) (cbor json)
 
 -- where a tree packs and its identifiers need no escapes, the tree has a shape too, and both have the same text
 abbrev pub PacksAsWritten : Type 0

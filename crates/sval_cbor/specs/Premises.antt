@@ -25,19 +25,19 @@ IsShortSlot _ = ⊤
 
 abbrev mutual
   -- each text and each label is shorter than 2 ^ 64 bytes
-  pub IsShort : Tree → Type 0
-  IsShort (Text bytes) = IsShortText bytes
-  IsShort (Standalone name) = IsShortName name
-  IsShort (Tagged name tree) = IsShortName name × IsShort tree
-  IsShort (EmptyEnum name) = IsShortName name
-  IsShort (Enum name tree) = IsShortName name × IsShort tree
-  IsShort (Container head parts) = IsShortName (head_name head) × AreShort parts
-  IsShort _ = ⊤
+  pub IsShortTree : Tree → Type 0
+  IsShortTree (Text bytes) = IsShortText bytes
+  IsShortTree (Standalone name) = IsShortName name
+  IsShortTree (Tagged name tree) = IsShortName name × IsShortTree tree
+  IsShortTree (EmptyEnum name) = IsShortName name
+  IsShortTree (Enum name tree) = IsShortName name × IsShortTree tree
+  IsShortTree (Container head parts) = IsShortName (head_name head) × AreShort parts
+  IsShortTree _ = ⊤
 
   -- each text and each label in the parts is shorter than 2 ^ 64 bytes
   pub AreShort : Parts → Type 0
   AreShort none = ⊤
-  AreShort (part slot tree parts) = IsShortSlot slot × IsShort tree × AreShort parts
+  AreShort (part slot tree parts) = IsShortSlot slot × IsShortTree tree × AreShort parts
 
 abbrev mutual
   -- each field's label that is tagged `VALUE_IDENT` needs no escapes

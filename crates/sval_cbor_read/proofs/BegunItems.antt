@@ -11,7 +11,7 @@ use Rattle.sval_cbor_read.specs.declared.bignum.Bignum.{Bignum as MadeBignum}
 use Rattle.sval_cbor_read.specs.declared.item.Item as made_item
 use Rattle.sval_cbor_read.specs.declared.item.Item.TheVariants as item
 use Rattle.sval_cbor_read.specs.declared.item.Begun.{Begun}
-use Rattle.sval_cbor_read.specs.Items.{head, head_of, is_piece, big_endian, ArePieces, break, piece, IsByteString, definite, in_pieces}
+use Rattle.sval_cbor_read.specs.Items.{head, head_at_front, is_piece, big_endian, ArePieces, break, piece, IsByteString, definite, in_pieces}
 use Rattle.sval_cbor_read.specs.Reading.{OpenItem, ItemState, Item, Ended, Bignum, BignumPieces, Move, moves, mark_of, first_step, item_step, head_step, body_step, string_step, string_calls, tag_step, fits, number_call, reading_step, Reached, onward}
 use Rattle.sval_cbor_read.specs.Steps.{Spot, spot, ItemSteps, one_step, more_steps, IsStuck}
 use Rattle.sval_cbor_read.specs.SeenHeads.{IsHead}
@@ -168,24 +168,24 @@ pub marked_begins : (bytes : List ℕ) (at : ℕ) (found : made_item.Item) → a
 marked_begins bytes at found l m =
     let first = get_or bytes at 0 in
     let behind = drop (at + 1) bytes in
-    let here : item_step (drop at bytes) [] ≡ first_step (mark_of first) behind (head_of (first ∷ behind)) [] = ap (λ x. item_step x []) (bytes_at bytes at l) in
+    let here : item_step (drop at bytes) [] ≡ first_step (mark_of first) behind (head_at_front (first ∷ behind)) [] = ap (λ x. item_step x []) (bytes_at bytes at l) in
     record {
       leads = λ frames made.
           let e : reading_step (Item frames) (drop at bytes) ≡ moves (item_begin_calls found bytes (item_step (drop at bytes) [])) behind (state_behind found frames) =
-          ap (λ x. item_step x frames) (bytes_at bytes at l) ∙ m.moves bytes behind (head_of (first ∷ behind)) frames ∙ ap (λ x. moves (item_begin_calls found bytes x) behind (state_behind found frames)) (sym here) in
+          ap (λ x. item_step x frames) (bytes_at bytes at l) ∙ m.moves bytes behind (head_at_front (first ∷ behind)) frames ∙ ap (λ x. moves (item_begin_calls found bytes x) behind (state_behind found frames)) (sym here) in
           one_step e;
-      is = subst (IsBegun found bytes) (sym here) (m.is bytes behind (head_of (first ∷ behind)));
+      is = subst (IsBegun found bytes) (sym here) (m.is bytes behind (head_at_front (first ∷ behind)));
       later = omega arith;
       within = omega arith;
     }
 
 -- a first byte that is no mark begins a head
-unmarked_step : (bytes : List ℕ) (at : ℕ) (frames : List OpenItem) → at < length bytes → mark_of (get_or bytes at 0) ≡ None → reading_step (Item frames) (drop at bytes) ≡ head_step (head_of (drop at bytes)) frames
+unmarked_step : (bytes : List ℕ) (at : ℕ) (frames : List OpenItem) → at < length bytes → mark_of (get_or bytes at 0) ≡ None → reading_step (Item frames) (drop at bytes) ≡ head_step (head_at_front (drop at bytes)) frames
 unmarked_step bytes at frames l e =
     let here = bytes_at bytes at l in
-    ap (λ x. item_step x frames) here ∙ ap (λ o. first_step o (drop (at + 1) bytes) (head_of (get_or bytes at 0 ∷ drop (at + 1) bytes)) frames) e ∙ ap (λ x. head_step (head_of x) frames) (sym here)
+    ap (λ x. item_step x frames) here ∙ ap (λ o. first_step o (drop (at + 1) bytes) (head_at_front (get_or bytes at 0 ∷ drop (at + 1) bytes)) frames) e ∙ ap (λ x. head_step (head_at_front x) frames) (sym here)
 
-pub headed_begins : (bytes : List ℕ) (at : ℕ) (h : made_head.Head) (begun : Begun) → at < length bytes → mark_of (get_or bytes at 0) ≡ None → (at < h.next) × IsHead bytes at h (head_of (drop at bytes))
+pub headed_begins : (bytes : List ℕ) (at : ℕ) (h : made_head.Head) (begun : Begun) → at < length bytes → mark_of (get_or bytes at 0) ≡ None → (at < h.next) × IsHead bytes at h (head_at_front (drop at bytes))
     → BeginsBehind bytes h begun → Begins bytes at begun
 headed_begins bytes at h begun l e (later, (is, before, within)) b =
     let here : item_step (drop at bytes) [] ≡ body_step h.major h.number (drop h.next bytes) [] = unmarked_step bytes at [] l e ∙ ap (λ x. head_step x []) is in
@@ -198,12 +198,12 @@ headed_begins bytes at h begun l e (later, (is, before, within)) b =
       within = b.within;
     }
 
-pub headed_begins_nothing : (bytes : List ℕ) (at : ℕ) (h : made_head.Head) → at < length bytes → mark_of (get_or bytes at 0) ≡ None → (at < h.next) × IsHead bytes at h (head_of (drop at bytes))
+pub headed_begins_nothing : (bytes : List ℕ) (at : ℕ) (h : made_head.Head) → at < length bytes → mark_of (get_or bytes at 0) ≡ None → (at < h.next) × IsHead bytes at h (head_at_front (drop at bytes))
     → BeginsNothingBehind bytes h → BeginsNothing bytes at
 headed_begins_nothing bytes at h l e (later, (is, before, within)) (no_step_behind n) = no_step (λ frames. unmarked_step bytes at frames l e ∙ ap (λ x. head_step x frames) is ∙ n frames)
 headed_begins_nothing bytes at h l e (later, (is, before, within)) (no_number_behind m t n) = no_number (is ∙ ap (λ x. Some (head x h.number (drop h.next bytes))) m) t n
 
-pub no_head_begins_nothing : (bytes : List ℕ) (at : ℕ) → at < length bytes → mark_of (get_or bytes at 0) ≡ None → head_of (drop at bytes) ≡ None → BeginsNothing bytes at
+pub no_head_begins_nothing : (bytes : List ℕ) (at : ℕ) → at < length bytes → mark_of (get_or bytes at 0) ≡ None → head_at_front (drop at bytes) ≡ None → BeginsNothing bytes at
 no_head_begins_nothing bytes at l e h = no_step (λ frames. unmarked_step bytes at frames l e ∙ ap (λ x. head_step x frames) h)
 
 pub end_begins_nothing : (bytes : List ℕ) (at : ℕ) → length bytes ≤ at → BeginsNothing bytes at

@@ -6,8 +6,8 @@ use Rattle.sval_label.specs.Calls.{Call}
 use Rattle.sval_core.specs.Trees.{Tree}
 use Rattle.sval_cbor_read.specs.declared.node.Node.{Node}
 use Rattle.sval_cbor_read.specs.Items.{IsItem}
-use Rattle.sval_cbor_read.specs.Document.{item_calls}
-use Rattle.sval_cbor_read.specs.CborValues.{CborValue, no_values, a_value, cbor_values_in, innermost_level}
+use Rattle.sval_cbor_read.specs.Document.{cbor_calls}
+use Rattle.sval_cbor_read.specs.CborValues.{CborValue, no_values, a_value, cbor_values_in, cbor_innermost_level}
 use Rattle.sval_cbor_read.specs.SeenNodes.{streamed_items, NodesStand}
 use Rattle.sval_cbor_read.specs.NodeSpans.{is_first, BeginsItem}
 use Rattle.sval_cbor_read.proofs.CborValues.{item_means}
@@ -21,5 +21,5 @@ by_value bytes (n ∷ nodes) value s e = by_test (is_first n.kind) refl
     by_test true f = f
     by_test false f = absurd (cc (sym e ∙ no_item_here bytes (n ∷ nodes) s (λ t. false≢true (sym f ∙ t))))
 
-pub begins_by : (bytes : List ℕ) (nodes : List Node) {rest : List ℕ} {tree : Tree} (item : IsItem bytes tree rest) → streamed_items bytes nodes ≡ item_calls item [] → NodesStand bytes nodes → BeginsItem nodes
-begins_by bytes nodes item same s = let m = item_means item [] in by_value bytes nodes m.value s (ap cbor_values_in same ∙ ap (λ levels. (innermost_level levels).values) m.levels)
+pub begins_by : (bytes : List ℕ) (nodes : List Node) {rest : List ℕ} {tree : Tree} (item : IsItem bytes tree rest) → streamed_items bytes nodes ≡ cbor_calls item [] → NodesStand bytes nodes → BeginsItem nodes
+begins_by bytes nodes item same s = let m = item_means item [] in by_value bytes nodes m.value s (ap cbor_values_in same ∙ ap (λ levels. (cbor_innermost_level levels).values) m.levels)

@@ -8,8 +8,8 @@ use Rattle.sval_cbor_read.specs.declared.found.Found as made_found
 use Rattle.sval_cbor_read.specs.declared.found.Found.TheVariants as found
 use Rattle.sval_cbor_read.specs.Reading.{Move, moves, Item, Bignum, body_step, string_step, tag_step, number_call}
 use Rattle.sval_cbor_read.specs.Items.{big_endian}
-use Rattle.sval_cbor_read.specs.CborValues.{CborLevel, innermost_level, first_value}
-use Rattle.sval_cbor_read.specs.CborLookups.{cbor_truth_of, signed_of, unsigned_of, cbor_text_of, cbor_bytes_of, cbor_items_of, cbor_entries_of}
+use Rattle.sval_cbor_read.specs.CborValues.{CborLevel, cbor_innermost_level, cbor_first_value}
+use Rattle.sval_cbor_read.specs.CborLookups.{cbor_truth_of, signed_of, cbor_unsigned_of, cbor_text_of, cbor_bytes_of, cbor_items_of, cbor_entries_of}
 use Rattle.sval_cbor_read.specs.NodeSpans.{is_first}
 use Rattle.sval_cbor_read.specs.SeenNodes.{node_offset, step_calls, node_own_calls, NodeStands}
 use Rattle.sval_cbor_read.specs.SeenFound.{found_value, found_puts, AreFound, level_behind, value_at, AreOfItem}
@@ -58,7 +58,7 @@ negative_found content n e = subst (λ m. AreFound (Call.Int I128 (negsuc m) ∷
 
 -- ---- the first node
 
-found_first : (f : made_found.Found) (levels : List CborLevel) → first_value (innermost_level (found_puts f levels)).values ≡ found_value f (innermost_level levels)
+found_first : (f : made_found.Found) (levels : List CborLevel) → cbor_first_value (cbor_innermost_level (found_puts f levels)).values ≡ found_value f (cbor_innermost_level levels)
 found_first found.Null levels = refl
 found_first (found.Bool b) levels = refl
 found_first (found.Unsigned n) levels = refl
@@ -73,7 +73,7 @@ found_first found.Map levels = refl
 pub value_found : (bytes : List ℕ) (nodes : List Node) (d : Node) (f : made_found.Found) → AreOfItem bytes nodes → AreFound (node_own_calls (get_or nodes 0 d).kind (drop (node_offset (get_or nodes 0 d)) bytes)) f
     → value_at bytes nodes ≡ found_value f (level_behind bytes nodes)
 value_found bytes [] d f a w = absurd a.begins
-value_found bytes (n ∷ nodes) d f a w = ap (λ x. first_value (innermost_level x).values) (first_levels bytes n nodes ∙ w.puts_it (levels_at bytes nodes)) ∙ found_first f (levels_at bytes nodes)
+value_found bytes (n ∷ nodes) d f a w = ap (λ x. cbor_first_value (cbor_innermost_level x).values) (first_levels bytes n nodes ∙ w.puts_it (levels_at bytes nodes)) ∙ found_first f (levels_at bytes nodes)
 
 module _ {bytes : List ℕ} where
   pub some_node : (nodes : List Node) → AreOfItem bytes nodes → 0 < length nodes
@@ -104,7 +104,7 @@ no_truth found.Array level a = refl
 no_truth found.Map level a = refl
 
 -- it is no number from 0 on
-pub no_natural : (bits : ℕ) (f : made_found.Found) (level : CborLevel) → ((n : ℕ) → f ≡ found.Unsigned n → ⊥) → unsigned_of bits (found_value f level) ≡ None
+pub no_natural : (bits : ℕ) (f : made_found.Found) (level : CborLevel) → ((n : ℕ) → f ≡ found.Unsigned n → ⊥) → cbor_unsigned_of bits (found_value f level) ≡ None
 no_natural bits found.Null level a = refl
 no_natural bits (found.Bool b) level a = refl
 no_natural bits (found.Unsigned n) level a = absurd (a n refl)

@@ -8,11 +8,11 @@ use Rattle.sval_cbor_read.specs.declared.node.Place.TheVariants as place
 use Rattle.sval_cbor_read.specs.declared.node.Kind as made_kind
 use Rattle.sval_cbor_read.specs.declared.node.Kind.TheVariants as kind
 use Rattle.sval_cbor_read.specs.declared.node.Node.{Node}
-use Rattle.sval_cbor_read.specs.Items.{ItemHead, head, head_of, is_piece}
+use Rattle.sval_cbor_read.specs.Items.{ItemHead, head, head_at_front, is_piece}
 use Rattle.sval_cbor_read.specs.Reading.{Ended, moves, fragment_call, with_piece}
-use Rattle.sval_cbor_read.specs.CborValues.{CborValue, CborValues, no_values, a_value, CborLevel, empty_level, innermost_level, under, puts, closes, puts_text, puts_binary, puts_call, puts_calls, levels_of, first_value, cbor_values_in, cbor_value_in}
-use Rattle.sval_cbor_read.specs.SeenNodes.{node_offset, item_place_begins, item_place_ends, step_calls, piece_calls, item_begins_before, node_own_calls, item_ends_behind, node_calls, streamed_items, NodeBegins, NodeStands, NodesStand}
-use Rattle.sval_cbor_read.specs.NodeSpans.{is_first, depth_behind, while_open, span, BeginsItem, IsBehindItem}
+use Rattle.sval_cbor_read.specs.CborValues.{CborValue, CborValues, no_values, a_value, CborLevel, cbor_empty_level, cbor_innermost_level, cbor_under, cbor_puts, cbor_closes, cbor_puts_text, puts_binary, puts_call, puts_calls, cbor_levels_of, cbor_first_value, cbor_values_in, cbor_value_in}
+use Rattle.sval_cbor_read.specs.SeenNodes.{node_offset, item_place_begins, item_place_ends, step_calls, piece_calls, item_begins_before, node_own_calls, item_ends_behind, cbor_node_calls, streamed_items, NodeBegins, NodeStands, NodesStand}
+use Rattle.sval_cbor_read.specs.NodeSpans.{is_first, cbor_depth_behind, cbor_while_open, cbor_span, BeginsItem, IsBehindItem}
 use Rattle.sval_cbor_read.specs.SeenFound.{value_at}
 use Rattle.sval_cbor_read.proofs.NodeStreams.{calls_at}
 
@@ -60,7 +60,7 @@ behind_nothing kind.EndMap p levels = ends_nothing p levels
 
 -- the levels that nodes leave
 abbrev pub levels_at : List ℕ → List Node → List CborLevel
-levels_at bytes nodes = levels_of (streamed_items bytes nodes)
+levels_at bytes nodes = cbor_levels_of (streamed_items bytes nodes)
 
 -- a node puts its own calls before those that follow
 pub first_levels : (bytes : List ℕ) (n : Node) (nodes : List Node) → levels_at bytes (n ∷ nodes) ≡ puts_calls (calls_at bytes n) (levels_at bytes nodes)
@@ -68,7 +68,7 @@ first_levels bytes n nodes =
     let own : List Call = calls_at bytes n in
     let before : List Call = item_begins_before n.kind n.place in
     let ends : List Call = item_ends_behind n.kind n.place in
-    puts_then (node_calls bytes n) (streamed_items bytes nodes) [] ∙ puts_then before (own ++ ends) (levels_at bytes nodes) ∙ before_nothing n.kind n.place (puts_calls (own ++ ends) (levels_at bytes nodes))
+    puts_then (cbor_node_calls bytes n) (streamed_items bytes nodes) [] ∙ puts_then before (own ++ ends) (levels_at bytes nodes) ∙ before_nothing n.kind n.place (puts_calls (own ++ ends) (levels_at bytes nodes))
     ∙ puts_then own ends (levels_at bytes nodes) ∙ ap (puts_calls own) (behind_nothing n.kind n.place (levels_at bytes nodes))
 
 -- ---- chunks
@@ -79,7 +79,7 @@ pub record IsOneChunk (major : ℕ) (bytes : List ℕ) : Type 0 where
   pub is : piece_calls major bytes ≡ fragment_call major content ∷ []
 
 pub one_chunk : (major : ℕ) (bytes : List ℕ) → 0 < length (piece_calls major bytes) → IsOneChunk major bytes
-one_chunk major bytes l = let r = by_head (head_of bytes) l in record { content = r.0; is = r.1 }
+one_chunk major bytes l = let r = by_head (head_at_front bytes) l in record { content = r.0; is = r.1 }
   where
     by_test : (b : Bool) (content left : List ℕ) → 0 < length (step_calls (if b then moves (fragment_call major content ∷ []) left (Ended []) else None))
         → (some : List ℕ) × (step_calls (if b then moves (fragment_call major content ∷ []) left (Ended []) else None) ≡ fragment_call major some ∷ [])
@@ -96,7 +96,7 @@ one_chunk major bytes l = let r = by_head (head_of bytes) l in record { content 
 -- the levels around this many
 abbrev pub outer : ℕ → List CborLevel → List CborLevel
 outer zero levels = levels
-outer (suc depth) levels = outer depth (under levels)
+outer (suc depth) levels = outer depth (cbor_under levels)
 
 outer_none : (depth : ℕ) → outer depth [] ≡ []
 outer_none zero = refl
@@ -106,7 +106,7 @@ less : (depth : ℕ) (levels : List CborLevel) → outer depth levels ≡ outer 
 less depth levels = let e : depth ≡ suc depth - 1 = omega arith in ap (λ d. outer d levels) e
 
 -- a node changes none of the levels around what it opens or closes
-own_outer : (k : made_kind.Kind) (bytes : List ℕ) (levels : List CborLevel) (depth : ℕ) → NodeBegins k bytes → outer (suc depth) (puts_calls (node_own_calls k bytes) levels) ≡ outer (depth_behind k (suc depth)) levels
+own_outer : (k : made_kind.Kind) (bytes : List ℕ) (levels : List CborLevel) (depth : ℕ) → NodeBegins k bytes → outer (suc depth) (puts_calls (node_own_calls k bytes) levels) ≡ outer (cbor_depth_behind k (suc depth)) levels
 own_outer kind.Item bytes levels depth s = ap (outer (suc depth)) (s.1.puts_it levels)
 own_outer kind.Big bytes levels depth s = refl
 own_outer kind.NegativeBig bytes levels depth s = refl
@@ -119,21 +119,21 @@ own_outer kind.EndSeq bytes levels depth s = less depth levels
 own_outer kind.EndMap bytes levels depth s = less depth levels
 
 -- what is open is closed behind the nodes that are counted
-pub skipped : (bytes : List ℕ) (nodes : List Node) (depth : ℕ) → NodesStand bytes nodes → outer depth (levels_at bytes nodes) ≡ levels_at bytes (drop (while_open depth (span depth nodes)) nodes)
+pub skipped : (bytes : List ℕ) (nodes : List Node) (depth : ℕ) → NodesStand bytes nodes → outer depth (levels_at bytes nodes) ≡ levels_at bytes (drop (cbor_while_open depth (cbor_span depth nodes)) nodes)
 skipped bytes nodes zero s = refl
 skipped bytes [] (suc depth) s = outer_none depth
 skipped bytes (n ∷ nodes) (suc depth) s =
-    ap (outer (suc depth)) (first_levels bytes n nodes) ∙ own_outer n.kind (drop (node_offset n) bytes) (levels_at bytes nodes) depth s.0 ∙ skipped bytes nodes (depth_behind n.kind (suc depth)) s.1
+    ap (outer (suc depth)) (first_levels bytes n nodes) ∙ own_outer n.kind (drop (node_offset n) bytes) (levels_at bytes nodes) depth s.0 ∙ skipped bytes nodes (cbor_depth_behind n.kind (suc depth)) s.1
 
 -- ---- the first item
 
 -- the first node of an item puts its value before those behind the item
 own_first : (k : made_kind.Kind) (bytes : List ℕ) (levels : List CborLevel) → NodeBegins k bytes → is_first k ≡ true
-    → (value : CborValue) × ((innermost_level (puts_calls (node_own_calls k bytes) levels)).values ≡ a_value value (innermost_level (outer (depth_behind k zero) levels)).values)
-own_first kind.Item bytes levels s f = (s.1.value, ap (λ x. (innermost_level x).values) (s.1.puts_it levels))
+    → (value : CborValue) × ((cbor_innermost_level (puts_calls (node_own_calls k bytes) levels)).values ≡ a_value value (cbor_innermost_level (outer (cbor_depth_behind k zero) levels)).values)
+own_first kind.Item bytes levels s f = (s.1.value, ap (λ x. (cbor_innermost_level x).values) (s.1.puts_it levels))
 own_first kind.Big bytes levels s f = (_, refl)
 own_first kind.NegativeBig bytes levels s f = (_, refl)
-own_first kind.Begin bytes levels s f = (s.1.of (innermost_level levels), ap (λ x. (innermost_level x).values) (s.1.closes_it levels))
+own_first kind.Begin bytes levels s f = (s.1.of (cbor_innermost_level levels), ap (λ x. (cbor_innermost_level x).values) (s.1.closes_it levels))
 own_first kind.TextPiece bytes levels s f = absurd (false≢true f)
 own_first kind.BinaryPiece bytes levels s f = absurd (false≢true f)
 own_first kind.EndText bytes levels s f = absurd (false≢true f)
@@ -142,13 +142,13 @@ own_first kind.EndSeq bytes levels s f = absurd (false≢true f)
 own_first kind.EndMap bytes levels s f = absurd (false≢true f)
 
 -- another node puts none
-own_none : (k : made_kind.Kind) (bytes : List ℕ) (levels : List CborLevel) → NodeBegins k bytes → (is_first k ≡ true → ⊥) → (innermost_level (puts_calls (node_own_calls k bytes) levels)).values ≡ no_values
+own_none : (k : made_kind.Kind) (bytes : List ℕ) (levels : List CborLevel) → NodeBegins k bytes → (is_first k ≡ true → ⊥) → (cbor_innermost_level (puts_calls (node_own_calls k bytes) levels)).values ≡ no_values
 own_none kind.Item bytes levels s n = absurd (n refl)
 own_none kind.Big bytes levels s n = absurd (n refl)
 own_none kind.NegativeBig bytes levels s n = absurd (n refl)
 own_none kind.Begin bytes levels s n = absurd (n refl)
-own_none kind.TextPiece bytes levels s n = ap (λ made. (innermost_level (puts_calls made levels)).values) (one_chunk 3 bytes s).is
-own_none kind.BinaryPiece bytes levels s n = ap (λ made. (innermost_level (puts_calls made levels)).values) (one_chunk 2 bytes s).is
+own_none kind.TextPiece bytes levels s n = ap (λ made. (cbor_innermost_level (puts_calls made levels)).values) (one_chunk 3 bytes s).is
+own_none kind.BinaryPiece bytes levels s n = ap (λ made. (cbor_innermost_level (puts_calls made levels)).values) (one_chunk 2 bytes s).is
 own_none kind.EndText bytes levels s n = refl
 own_none kind.EndBinary bytes levels s n = refl
 own_none kind.EndSeq bytes levels s n = refl
@@ -159,16 +159,16 @@ pub item_then : (bytes : List ℕ) (nodes behind : List Node) → NodesStand byt
 item_then bytes [] behind s b = absurd b.begins
 item_then bytes (n ∷ nodes) behind s b =
     let (value, own) = own_first n.kind (drop (node_offset n) bytes) (levels_at bytes nodes) s.0 b.begins in
-    let left : CborValues = (innermost_level (outer (depth_behind n.kind zero) (levels_at bytes nodes))).values in
-    let all : cbor_values_in (streamed_items bytes (n ∷ nodes)) ≡ a_value value left = ap (λ x. (innermost_level x).values) (first_levels bytes n nodes) ∙ own in
+    let left : CborValues = (cbor_innermost_level (outer (cbor_depth_behind n.kind zero) (levels_at bytes nodes))).values in
+    let all : cbor_values_in (streamed_items bytes (n ∷ nodes)) ≡ a_value value left = ap (λ x. (cbor_innermost_level x).values) (first_levels bytes n nodes) ∙ own in
     let more : left ≡ cbor_values_in (streamed_items bytes behind) =
-    ap (λ x. (innermost_level x).values) (skipped bytes nodes (depth_behind n.kind zero) s.1) ∙ ap (λ x. cbor_values_in (streamed_items bytes x)) (sym b.behind_is) in
-    all ∙ ap (λ x. a_value x left) (sym (ap first_value all)) ∙ ap (a_value (value_at bytes (n ∷ nodes))) more
+    ap (λ x. (cbor_innermost_level x).values) (skipped bytes nodes (cbor_depth_behind n.kind zero) s.1) ∙ ap (λ x. cbor_values_in (streamed_items bytes x)) (sym b.behind_is) in
+    all ∙ ap (λ x. a_value x left) (sym (ap cbor_first_value all)) ∙ ap (a_value (value_at bytes (n ∷ nodes))) more
 
 -- where no item begins there are no values
 pub no_item_here : (bytes : List ℕ) (nodes : List Node) → NodesStand bytes nodes → (BeginsItem nodes → ⊥) → cbor_values_in (streamed_items bytes nodes) ≡ no_values
 no_item_here bytes [] s n = refl
-no_item_here bytes (node ∷ nodes) s n = ap (λ x. (innermost_level x).values) (first_levels bytes node nodes) ∙ own_none node.kind (drop (node_offset node) bytes) (levels_at bytes nodes) s.0 n
+no_item_here bytes (node ∷ nodes) s n = ap (λ x. (cbor_innermost_level x).values) (first_levels bytes node nodes) ∙ own_none node.kind (drop (node_offset node) bytes) (levels_at bytes nodes) s.0 n
 
 -- nodes behind others stand too
 pub stand_behind : (bytes : List ℕ) (nodes : List Node) (count : ℕ) → NodesStand bytes nodes → NodesStand bytes (drop count nodes)

@@ -6,7 +6,7 @@ use Rattle.std.proofs.Math.Seq.{take-append_seam, drop-append_seam}
 use Rattle.std.proofs.lemmas.Bool.Decides.{nat_tests}
 use Rattle.std.proofs.lemmas.List.{length-drop}
 use Rattle.sval_core.specs.Trees.{Tree, Text, Binary, Parts}
-use Rattle.sval_cbor_read.specs.Items.{ItemHead, head, wide_head, head_of, is_piece, IsDefiniteString, string, ArePieces, break, piece, IsByteString, definite, in_pieces, IsItem, by_head, bytes_in_pieces, texts_in_pieces, seq_to_break, map_to_break, falsehood, truth, null, IsBody, unsigned, negative, binary, text, seq, map, big, negative_big, tagged, AreItems, no_items, an_item, AreEntries, no_pairs, a_pair, ItemsToBreak, items_end, items_go_on, EntriesToBreak, entries_end, entries_go_on, IsItemOf}
+use Rattle.sval_cbor_read.specs.Items.{ItemHead, head, wide_head, head_at_front, is_piece, IsDefiniteString, string, ArePieces, break, piece, IsByteString, definite, in_pieces, IsItem, by_head, bytes_in_pieces, texts_in_pieces, seq_to_break, map_to_break, falsehood, truth, null, IsBody, unsigned, negative, binary, text, seq, map, big, negative_big, tagged, AreItems, no_items, an_item, AreEntries, no_pairs, a_pair, ItemsToBreak, items_end, items_go_on, EntriesToBreak, entries_end, entries_go_on, IsItemOf}
 use Rattle.sval_cbor_read.proofs.Strings.{no_head}
 
 -- the bytes begin with a front of which this holds whatever comes behind it
@@ -69,8 +69,8 @@ first_front first bytes major n after false false false true f e = wide_front (f
 first_front first bytes major n after false false false false true e = wide_front (first / 32) 8 bytes major n after e
 first_front first bytes major n after false false false false false e = absurd (cc e)
 
-head_front : {bytes : List ℕ} {major n : ℕ} {after : List ℕ} → head_of bytes ≡ Some (head major n after) → IsRead head_of major n bytes after
-unfolding head_of
+head_front : {bytes : List ℕ} {major n : ℕ} {after : List ℕ} → head_at_front bytes ≡ Some (head major n after) → IsRead head_at_front major n bytes after
+unfolding head_at_front
 head_front {bytes = []} e = absurd (no_head e)
 head_front {bytes = first ∷ bytes} {major = major} {n = n} {after = after} e =
     let low = first % 32 in
@@ -154,7 +154,7 @@ binary_front n after holds l f = record { front = take n after; joins = sym (tak
 mutual
   item_front : {bytes rest : List ℕ} {tree : Tree} → IsItem bytes tree rest → ItemFront tree bytes rest
   item_front (by_head {major = major} {number = n} {tree = tree} e b) =
-      both_fronts (λ x y. IsItem x tree y) (λ x y. head_of x ≡ Some (head major n y)) (λ x y. IsBody major n x tree y) (head_front e) (body_front b) (λ x y z h k. by_head h k)
+      both_fronts (λ x y. IsItem x tree y) (λ x y. head_at_front x ≡ Some (head major n y)) (λ x y. IsBody major n x tree y) (head_front e) (body_front b) (λ x y z h k. by_head h k)
   item_front (bytes_in_pieces p) = begun_by 95 _ _ (pieces_front p) (λ x y q. bytes_in_pieces q)
   item_front (texts_in_pieces p) = begun_by 127 _ _ (pieces_front p) (λ x y q. texts_in_pieces q)
   item_front (seq_to_break s) = begun_by 159 _ _ (to_break_front s) (λ x y q. seq_to_break q)

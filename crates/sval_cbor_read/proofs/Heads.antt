@@ -9,7 +9,7 @@ use Rattle.std.proofs.lemmas.List.{take_at, drop_at}
 use Rattle.std.proofs.lemmas.Int.Digits.{number_push, number_lt}
 use Rattle.std.proofs.Math.Nat.{pow-suc, pow-succ', pow-le-pow_right, div-div-eq-div-mul}
 use Rattle.sval_cbor.specs.Cbor.{head_bytes, without_zero_bytes, short_bytes}
-use Rattle.sval_cbor_read.specs.Items.{head, wide_head, head_of}
+use Rattle.sval_cbor_read.specs.Items.{head, wide_head, head_at_front}
 
 -- ---- the bytes of a number
 
@@ -93,36 +93,36 @@ wide_read major width n rest h =
 bits_of : (major low : ℕ) → low < 32 → ((32 * major + low) / 32 ≡ major) × ((32 * major + low) % 32 ≡ low)
 bits_of major low h = (omega arith, omega arith)
 
-small_read : (major n : ℕ) (rest : List ℕ) → n < 24 → head_of ((32 * major + n) ∷ rest) ≡ Some (head major n rest)
-unfolding head_of
+small_read : (major n : ℕ) (rest : List ℕ) → n < 24 → head_at_front ((32 * major + n) ∷ rest) ≡ Some (head major n rest)
+unfolding head_at_front
 small_read major n rest h =
     let bits = bits_of major n (omega arith) in
     let g : nat_lt n 24 ≡ true = grind (arith, nat_tests) in
     rw (bits.0, bits.1, g) refl
 
-one_byte : (major : ℕ) (bytes : List ℕ) → head_of ((32 * major + 24) ∷ bytes) ≡ wide_head major 1 bytes
-unfolding head_of
+one_byte : (major : ℕ) (bytes : List ℕ) → head_at_front ((32 * major + 24) ∷ bytes) ≡ wide_head major 1 bytes
+unfolding head_at_front
 one_byte major bytes = let bits = bits_of major 24 (omega arith) in rw (bits.0, bits.1) refl
 
-two_bytes : (major : ℕ) (bytes : List ℕ) → head_of ((32 * major + 25) ∷ bytes) ≡ wide_head major 2 bytes
-unfolding head_of
+two_bytes : (major : ℕ) (bytes : List ℕ) → head_at_front ((32 * major + 25) ∷ bytes) ≡ wide_head major 2 bytes
+unfolding head_at_front
 two_bytes major bytes = let bits = bits_of major 25 (omega arith) in rw (bits.0, bits.1) refl
 
-four_bytes : (major : ℕ) (bytes : List ℕ) → head_of ((32 * major + 26) ∷ bytes) ≡ wide_head major 4 bytes
-unfolding head_of
+four_bytes : (major : ℕ) (bytes : List ℕ) → head_at_front ((32 * major + 26) ∷ bytes) ≡ wide_head major 4 bytes
+unfolding head_at_front
 four_bytes major bytes = let bits = bits_of major 26 (omega arith) in rw (bits.0, bits.1) refl
 
-eight_bytes : (major : ℕ) (bytes : List ℕ) → head_of ((32 * major + 27) ∷ bytes) ≡ wide_head major 8 bytes
-unfolding head_of
+eight_bytes : (major : ℕ) (bytes : List ℕ) → head_at_front ((32 * major + 27) ∷ bytes) ≡ wide_head major 8 bytes
+unfolding head_at_front
 eight_bytes major bytes = let bits = bits_of major 27 (omega arith) in rw (bits.0, bits.1) refl
 
 -- a head of the least width is read
-pub head_read : (major n : ℕ) (rest : List ℕ) → n < 2 ^ 64 → head_of (head_bytes major n ++ rest) ≡ Some (head major n rest)
+pub head_read : (major n : ℕ) (rest : List ℕ) → n < 2 ^ 64 → head_at_front (head_bytes major n ++ rest) ≡ Some (head major n rest)
 unfolding head_bytes
 head_read major n rest bound = go (nat_lt n 24) (nat_lt n (2 ^ 8)) (nat_lt n (2 ^ 16)) (nat_lt n (2 ^ 32)) refl refl refl refl
   where
     go : (a b c d : Bool) → nat_lt n 24 ≡ a → nat_lt n (2 ^ 8) ≡ b → nat_lt n (2 ^ 16) ≡ c → nat_lt n (2 ^ 32) ≡ d
-        → head_of ((if a then (32 * major + n) ∷ [] else if b then (32 * major + 24) ∷ bytes_high_first 1 n else if c then (32 * major + 25) ∷ bytes_high_first 2 n else if d then (32 * major + 26) ∷ bytes_high_first 4 n else (32 * major + 27) ∷ bytes_high_first 8 n) ++ rest) ≡ Some (head major n rest)
+        → head_at_front ((if a then (32 * major + n) ∷ [] else if b then (32 * major + 24) ∷ bytes_high_first 1 n else if c then (32 * major + 25) ∷ bytes_high_first 2 n else if d then (32 * major + 26) ∷ bytes_high_first 4 n else (32 * major + 27) ∷ bytes_high_first 8 n) ++ rest) ≡ Some (head major n rest)
     go true b c d e f g h = let less : n < 24 = grind (arith, nat_tests) in small_read major n rest less
     go false true c d e f g h = let less : n < 2 ^ 8 = grind (arith, nat_tests) in one_byte major (bytes_high_first 1 n ++ rest) ∙ wide_read major 1 n rest (omega arith)
     go false false true d e f g h = let less : n < 2 ^ 16 = grind (arith, nat_tests) in two_bytes major (bytes_high_first 2 n ++ rest) ∙ wide_read major 2 n rest (omega arith)

@@ -6,7 +6,7 @@ use Rattle.std.proofs.lemmas.List.{length-drop}
 use Rattle.std.proofs.lemmas.Str.{IsUtf8-from_is_utf8}
 use Rattle.sval_cbor_read.specs.declared.head.Head as made_head
 use Rattle.sval_cbor_read.specs.declared.bignum.Bignum.{Bignum}
-use Rattle.sval_cbor_read.specs.Items.{ItemHead, head, head_of, is_piece, big_endian, string, IsByteString, definite, in_pieces}
+use Rattle.sval_cbor_read.specs.Items.{ItemHead, head, head_at_front, is_piece, big_endian, string, IsByteString, definite, in_pieces}
 use Rattle.sval_cbor_read.specs.Reading.{Mark, BinaryPieces, TextPieces, SeqToBreak, MapToBreak, Falsehood, Truth, Null, Move, mark_of, first_step, item_step, head_step, string_step, string_calls, fragment_call, with_piece, moves, Ended}
 use Rattle.sval_cbor_read.specs.SeenHeads.{IsHead}
 use Rattle.sval_cbor_read.specs.SeenBignums.{IsNumberAt, HasNoNumber}
@@ -35,15 +35,15 @@ any_mark (Some Null) all bytes begun n = refl
 pub mark_calls : (bytes : List ℕ) (at : ℕ) → at < length bytes → mark_of (get_or bytes at 0) ≢ None
     → step_calls (first_step (mark_of (get_or bytes at 0)) [] None []) ≡ step_calls (item_step (drop at bytes) [])
 mark_calls bytes at l n =
-    sym (ap (λ x. step_calls (item_step x [])) (bytes_at bytes at l) ∙ any_mark (mark_of (get_or bytes at 0)) [] (drop (at + 1) bytes) (head_of (get_or bytes at 0 ∷ drop (at + 1) bytes)) n)
+    sym (ap (λ x. step_calls (item_step x [])) (bytes_at bytes at l) ∙ any_mark (mark_of (get_or bytes at 0)) [] (drop (at + 1) bytes) (head_at_front (get_or bytes at 0 ∷ drop (at + 1) bytes)) n)
 
 -- ---- heads
 
 -- the item of a head is its step
-pub headed_step : (bytes : List ℕ) (at : ℕ) (o : Option ItemHead) → at < length bytes → mark_of (get_or bytes at 0) ≡ None → head_of (drop at bytes) ≡ o → item_step (drop at bytes) [] ≡ head_step o []
+pub headed_step : (bytes : List ℕ) (at : ℕ) (o : Option ItemHead) → at < length bytes → mark_of (get_or bytes at 0) ≡ None → head_at_front (drop at bytes) ≡ o → item_step (drop at bytes) [] ≡ head_step o []
 headed_step bytes at o l e h =
     let here = bytes_at bytes at l in
-    ap (λ x. item_step x []) here ∙ ap (λ m. first_step m (drop (at + 1) bytes) (head_of (get_or bytes at 0 ∷ drop (at + 1) bytes)) []) e ∙ ap (λ x. head_step (head_of x) []) (sym here) ∙ ap (λ x. head_step x []) h
+    ap (λ x. item_step x []) here ∙ ap (λ m. first_step m (drop (at + 1) bytes) (head_at_front (get_or bytes at 0 ∷ drop (at + 1) bytes)) []) e ∙ ap (λ x. head_step (head_at_front x) []) (sym here) ∙ ap (λ x. head_step x []) h
 
 -- ---- strings
 
@@ -84,20 +84,20 @@ with_all true false c o l = no_call l
 with_all false b c o l = no_call l
 
 module _ (major : ℕ) (bytes : List ℕ) (at : ℕ) where
-  pub no_piece_head : 0 < length (piece_calls major (drop at bytes)) → head_of (drop at bytes) ≡ None → ⊥
+  pub no_piece_head : 0 < length (piece_calls major (drop at bytes)) → head_at_front (drop at bytes) ≡ None → ⊥
   no_piece_head l e = no_call (subst (λ o. 0 < length (step_calls (with_piece major o (λ piece left. moves (fragment_call major piece ∷ []) left (Ended []))))) e l)
 
-  piece_at : (h : made_head.Head) → 0 < length (piece_calls major (drop at bytes)) → IsHead bytes at h (head_of (drop at bytes))
+  piece_at : (h : made_head.Head) → 0 < length (piece_calls major (drop at bytes)) → IsHead bytes at h (head_at_front (drop at bytes))
       → 0 < length (step_calls (with_piece major (Some (head h.major h.number (drop h.next bytes))) (λ piece left. moves (fragment_call major piece ∷ []) left (Ended []))))
   piece_at h l is = subst (λ o. 0 < length (step_calls (with_piece major o (λ piece left. moves (fragment_call major piece ∷ []) left (Ended []))))) is.0 l
 
-  pub whole_piece : (h : made_head.Head) → 0 < length (piece_calls major (drop at bytes)) → IsHead bytes at h (head_of (drop at bytes)) → IsWhole major h.number (drop h.next bytes)
+  pub whole_piece : (h : made_head.Head) → 0 < length (piece_calls major (drop at bytes)) → IsHead bytes at h (head_at_front (drop at bytes)) → IsWhole major h.number (drop h.next bytes)
   whole_piece h l is =
       let after = drop h.next bytes in
       let (a, b, c) = with_all (h.major == major) (nat_le h.number (length after)) (is_piece major (take h.number after)) (moves (fragment_call major (take h.number after) ∷ []) (drop h.number after) (Ended [])) (piece_at h l is) in
       record { within = grind (arith, nat_tests); utf8 = c }
 
-  pub piece_calls_are : (h : made_head.Head) (content : List ℕ) → 0 < length (piece_calls major (drop at bytes)) → IsHead bytes at h (head_of (drop at bytes)) → content ≡ take h.number (drop h.next bytes)
+  pub piece_calls_are : (h : made_head.Head) (content : List ℕ) → 0 < length (piece_calls major (drop at bytes)) → IsHead bytes at h (head_at_front (drop at bytes)) → content ≡ take h.number (drop h.next bytes)
       → fragment_call major content ∷ [] ≡ piece_calls major (drop at bytes)
   piece_calls_are h content l is e =
       let after = drop h.next bytes in
@@ -111,7 +111,7 @@ number_some : (tag : ℕ) (left : List ℕ) → IsBignum tag left → 0 < length
 number_some tag [] b = string_some b.stands refl
   where
     string_some : {bytes content rest : List ℕ} → IsByteString bytes content rest → bytes ≡ [] → 0 < length (let none : List ℕ = [] in none)
-    string_some (definite (string {number = n} {after = after} e l u)) f = absurd (no_head (subst (λ x. head_of x ≡ Some (head 2 n after)) f e))
+    string_some (definite (string {number = n} {after = after} e l u)) f = absurd (no_head (subst (λ x. head_at_front x ≡ Some (head 2 n after)) f e))
     string_some (in_pieces p) f = cc f
 number_some tag (first ∷ left) b = omega arith
 
@@ -119,7 +119,7 @@ pub number_within : (tag : ℕ) (bytes : List ℕ) (at : ℕ) → IsBignum tag (
 number_within tag bytes at b = let some = number_some tag (drop at bytes) b in omega (arith, some, length-drop at bytes)
 
 piece_some : (major : ℕ) (left : List ℕ) → 0 < length (piece_calls major left) → 0 < length left
-unfolding head_of
+unfolding head_at_front
 piece_some major [] l = no_call l
 piece_some major (first ∷ left) l = omega arith
 

@@ -5,14 +5,14 @@ use Rattle.std.proofs.lemmas.List.{take-append-drop}
 use Rattle.sval_core.specs.Trees.{Tree, Parts}
 use Rattle.sval_core.specs.Real.{IsWritable, AreWritable, IsPrintable}
 use Rattle.sval_json.specs.Promises.{KeepsPromises, KeepPromises}
-use Rattle.sval_cbor_read.specs.Items.{head, head_of, IsDefiniteString, string, ArePieces, break, piece, IsByteString, definite, in_pieces, IsItem, by_head, bytes_in_pieces, texts_in_pieces, seq_to_break, map_to_break, falsehood, truth, null, IsBody, unsigned, negative, binary, text, seq, map, big, negative_big, tagged, AreItems, no_items, an_item, AreEntries, no_pairs, a_pair, ItemsToBreak, items_end, items_go_on, EntriesToBreak, entries_end, entries_go_on, IsItemOf}
+use Rattle.sval_cbor_read.specs.Items.{head, head_at_front, IsDefiniteString, string, ArePieces, break, piece, IsByteString, definite, in_pieces, IsItem, by_head, bytes_in_pieces, texts_in_pieces, seq_to_break, map_to_break, falsehood, truth, null, IsBody, unsigned, negative, binary, text, seq, map, big, negative_big, tagged, AreItems, no_items, an_item, AreEntries, no_pairs, a_pair, ItemsToBreak, items_end, items_go_on, EntriesToBreak, entries_end, entries_go_on, IsItemOf}
 use Rattle.sval_cbor_read.specs.Serves.{IsInMemory}
 use Rattle.sval_cbor_read.proofs.Nearer.{IsShorter, head_shorter}
 use Rattle.sval_cbor_read.proofs.RealItems.{item_is_real}
 
 -- ---- what is read is no longer than the bytes
 
-after_length : (bytes : List ℕ) {major n : ℕ} {after : List ℕ} → head_of bytes ≡ Some (head major n after) → length after < length bytes
+after_length : (bytes : List ℕ) {major n : ℕ} {after : List ℕ} → head_at_front bytes ≡ Some (head major n after) → length after < length bytes
 after_length bytes e = subst (IsShorter bytes) e (head_shorter bytes)
 
 taken_length : (n : ℕ) (after : List ℕ) → length (take n after) + length (drop n after) ≤ length after

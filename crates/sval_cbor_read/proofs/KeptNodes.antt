@@ -11,7 +11,7 @@ use Rattle.sval_cbor_read.specs.declared.item.Item as made_item
 use Rattle.sval_cbor_read.specs.declared.item.Item.TheVariants as item
 use Rattle.sval_cbor_read.specs.Reading.{OpenItem, Items, Keys, Values, ItemState, Ended, Move}
 use Rattle.sval_cbor_read.specs.Steps.{Spot, spot, ItemSteps, one_step, more_steps}
-use Rattle.sval_cbor_read.specs.SeenNodes.{node_offset, item_node, item_begins_before, node_own_calls, item_ends_behind, node_calls, item_place_ends, streamed_items, NodeBegins, NodeStands, NodesStand}
+use Rattle.sval_cbor_read.specs.SeenNodes.{node_offset, item_node, item_begins_before, node_own_calls, item_ends_behind, cbor_node_calls, item_place_ends, streamed_items, NodeBegins, NodeStands, NodesStand}
 use Rattle.sval_cbor_read.specs.SeenFrames.{item_place_in}
 use Rattle.sval_cbor_read.specs.SeenItems.{item_begin_calls, IsBegun, IsNoTag}
 use Rattle.sval_cbor_read.specs.SeenReader.{item_state_of, calls_before, expected_after, opened_after}
@@ -51,8 +51,8 @@ module _ (bytes : List ℕ) where
   pub kept-add : (nodes : List Node) (k : made_kind.Kind) (place : Place) (at : ℕ) → NodesStand bytes nodes → NodeBegins k (drop at bytes) → NodesStand bytes (nodes ++ (item_node k place at ∷ []))
   kept-add nodes k place at all s = all_add nodes (item_node k place at) all (subst (λ n. NodeBegins k (drop n bytes)) (sym (same_place k place at)) s)
 
-  streamed-add : (nodes : List Node) (n : Node) → streamed_items bytes (nodes ++ (n ∷ [])) ≡ streamed_items bytes nodes ++ node_calls bytes n
-  streamed-add nodes n = flat_map-append (node_calls bytes) nodes (n ∷ []) ∙ ap (λ x. streamed_items bytes nodes ++ x) (append-nil (node_calls bytes n))
+  streamed-add : (nodes : List Node) (n : Node) → streamed_items bytes (nodes ++ (n ∷ [])) ≡ streamed_items bytes nodes ++ cbor_node_calls bytes n
+  streamed-add nodes n = flat_map-append (cbor_node_calls bytes) nodes (n ∷ []) ∙ ap (λ x. streamed_items bytes nodes ++ x) (append-nil (cbor_node_calls bytes n))
 
   regroup : (s before own ends more : List Call) → (s ++ before ++ own) ++ (ends ++ more) ≡ (s ++ (before ++ (own ++ ends))) ++ more
   regroup s before own ends more = simp append_assoc

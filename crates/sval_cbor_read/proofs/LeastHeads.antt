@@ -8,7 +8,7 @@ use Rattle.std.proofs.lemmas.Bool.Decides.{nat_tests}
 use Rattle.std.proofs.lemmas.List.{length-take-le, length-drop}
 use Rattle.std.proofs.lemmas.Int.Digits.{number_lt}
 use Rattle.sval_cbor.specs.Cbor.{head_bytes}
-use Rattle.sval_cbor_read.specs.Items.{ItemHead, head, wide_head, head_of}
+use Rattle.sval_cbor_read.specs.Items.{ItemHead, head, wide_head, head_at_front}
 use Rattle.sval_cbor_read.proofs.Heads.{bytes_length, all_front}
 
 -- how long a number's head is at most
@@ -43,8 +43,8 @@ wide_length m width major n bytes rest all e = go (nat_le width (length bytes)) 
     go false f g = absurd (cc g)
 
 -- a head that is read is no shorter than the one that is written for its number
-pub head_least : (bytes : List ℕ) (major n : ℕ) (rest : List ℕ) → AllByRecursion (λ d. d < 256) bytes → head_of bytes ≡ Some (head major n rest) → length (head_bytes major n) + length rest ≤ length bytes
-unfolding head_of
+pub head_least : (bytes : List ℕ) (major n : ℕ) (rest : List ℕ) → AllByRecursion (λ d. d < 256) bytes → head_at_front bytes ≡ Some (head major n rest) → length (head_bytes major n) + length rest ≤ length bytes
+unfolding head_at_front
 head_least [] major n rest all e = absurd (cc e)
 head_least (first ∷ bytes) major n rest all e = go (nat_lt (first % 32) 24) (first % 32 == 24) (first % 32 == 25) (first % 32 == 26) (first % 32 == 27) refl e
   where
@@ -74,8 +74,8 @@ bounded_wide first m width bytes None h k all e = tt
 bounded_wide first m width bytes (Some (head major n after)) h k all e =
     let w = wide_length m width major n bytes after all e in (omega (arith, w.0), omega (arith, w.1), omega (arith, w.2))
 
-pub head_bounded : (bytes : List ℕ) → AllByRecursion (λ d. d < 256) bytes → IsBoundedHead bytes (head_of bytes)
-unfolding head_of
+pub head_bounded : (bytes : List ℕ) → AllByRecursion (λ d. d < 256) bytes → IsBoundedHead bytes (head_at_front bytes)
+unfolding head_at_front
 head_bounded [] all = tt
 head_bounded (first ∷ bytes) all = go (nat_lt (first % 32) 24) (first % 32 == 24) (first % 32 == 25) (first % 32 == 26) (first % 32 == 27) refl
   where

@@ -5,7 +5,7 @@ use Rattle.std.proofs.Common.{sym, subst, arith}
 use Rattle.std.proofs.lemmas.List.{length-drop}
 use Rattle.sval_label.specs.Calls.{Call, U64, U128, I128}
 use Rattle.sval_label.specs.Calls as calls
-use Rattle.sval_cbor_read.specs.Items.{ItemHead, head, wide_head, head_of, is_piece, negative_type}
+use Rattle.sval_cbor_read.specs.Items.{ItemHead, head, wide_head, head_at_front, is_piece, negative_type}
 use Rattle.sval_cbor_read.specs.Reading.{OpenItem, Items, Keys, Values, ItemState, Item, Part, Ended, Pieces, Bignum, BignumPieces, Move, moves, Mark, BinaryPieces, TextPieces, SeqToBreak, MapToBreak, Falsehood, mark_of, marked, string_calls, string_step, tag_step, body_step, head_step, first_step, item_step, fragment_call, string_end, with_piece, piece_step, fits, number_call, bignum_step, bignum_begins, bignum_piece, part_or_end, part_step, ended_step, reading_step, distance}
 use Rattle.sval_cbor_read.specs.Reading as reading
 
@@ -29,8 +29,8 @@ wide_by false first major n width bytes = tt
 wide_shorter : (first major width : ℕ) (bytes : List ℕ) → IsShorter (first ∷ bytes) (wide_head major width bytes)
 wide_shorter first major width bytes = wide_by (nat_le width (length bytes)) first major (number_from_digits 256 (take width bytes)) width bytes
 
-pub head_shorter : (bytes : List ℕ) → IsShorter bytes (head_of bytes)
-unfolding head_of
+pub head_shorter : (bytes : List ℕ) → IsShorter bytes (head_at_front bytes)
+unfolding head_at_front
 head_shorter [] = tt
 head_shorter (first ∷ bytes) = go (nat_lt (first % 32) 24) (first % 32 == 24) (first % 32 == 25) (first % 32 == 26) (first % 32 == 27)
   where
@@ -104,9 +104,9 @@ marked_nearer Falsehood first bytes frames m e = near e (omega arith)
 marked_nearer reading.Truth first bytes frames m e = near e (omega arith)
 marked_nearer reading.Null first bytes frames m e = near e (omega arith)
 
-first_nearer : (first : ℕ) (bytes : List ℕ) (frames : List OpenItem) (m : Move) (o : Option Mark) → first_step o bytes (head_of (first ∷ bytes)) frames ≡ Some m → distance m.next m.left < distance (Item frames) (first ∷ bytes)
+first_nearer : (first : ℕ) (bytes : List ℕ) (frames : List OpenItem) (m : Move) (o : Option Mark) → first_step o bytes (head_at_front (first ∷ bytes)) frames ≡ Some m → distance m.next m.left < distance (Item frames) (first ∷ bytes)
 first_nearer first bytes frames m (Some mark) e = marked_nearer mark first bytes frames m e
-first_nearer first bytes frames m None e = head_nearer (first ∷ bytes) frames m (head_of (first ∷ bytes)) (head_shorter (first ∷ bytes)) e
+first_nearer first bytes frames m None e = head_nearer (first ∷ bytes) frames m (head_at_front (first ∷ bytes)) (head_shorter (first ∷ bytes)) e
 
 bignum_nearer : (tag : ℕ) (content left : List ℕ) (frames : List OpenItem) (k : ℕ) (m : Move) → 6 * length left + 3 * length frames + 2 < k → bignum_step tag content left frames ≡ Some m
     → distance m.next m.left < k
@@ -150,24 +150,24 @@ step_nearer (Ended (Values left ∷ frames)) bytes m e = near e (omega arith)
 step_nearer (Pieces major frames) [] m e = absurd (no_move e)
 step_nearer (Pieces major frames) (first ∷ bytes) m e = go (first == 0xff) e
   where
-    go : (b : Bool) → (if b then moves (string_end major ∷ []) bytes (Ended frames) else with_piece major (head_of (first ∷ bytes)) (λ piece left. moves (fragment_call major piece ∷ []) left (Pieces major frames))) ≡ Some m
+    go : (b : Bool) → (if b then moves (string_end major ∷ []) bytes (Ended frames) else with_piece major (head_at_front (first ∷ bytes)) (λ piece left. moves (fragment_call major piece ∷ []) left (Pieces major frames))) ≡ Some m
         → distance m.next m.left < distance (Pieces major frames) (first ∷ bytes)
     go true f = near f (omega arith)
-    go false f = piece_nearer major (first ∷ bytes) (distance (Pieces major frames) (first ∷ bytes)) (λ piece left. moves (fragment_call major piece ∷ []) left (Pieces major frames)) m (head_of (first ∷ bytes)) (head_shorter (first ∷ bytes))
+    go false f = piece_nearer major (first ∷ bytes) (distance (Pieces major frames) (first ∷ bytes)) (λ piece left. moves (fragment_call major piece ∷ []) left (Pieces major frames)) m (head_at_front (first ∷ bytes)) (head_shorter (first ∷ bytes))
         (λ content left l g. near g (omega arith)) f
 step_nearer (Bignum tag frames) [] m e = absurd (no_move e)
 step_nearer (Bignum tag frames) (first ∷ bytes) m e = go (first == 0x5f) e
   where
-    go : (b : Bool) → (if b then moves [] bytes (BignumPieces tag [] frames) else with_piece 2 (head_of (first ∷ bytes)) (λ piece left. bignum_step tag piece left frames)) ≡ Some m
+    go : (b : Bool) → (if b then moves [] bytes (BignumPieces tag [] frames) else with_piece 2 (head_at_front (first ∷ bytes)) (λ piece left. bignum_step tag piece left frames)) ≡ Some m
         → distance m.next m.left < distance (Bignum tag frames) (first ∷ bytes)
     go true f = near f (omega arith)
-    go false f = piece_nearer 2 (first ∷ bytes) (distance (Bignum tag frames) (first ∷ bytes)) (λ piece left. bignum_step tag piece left frames) m (head_of (first ∷ bytes)) (head_shorter (first ∷ bytes))
+    go false f = piece_nearer 2 (first ∷ bytes) (distance (Bignum tag frames) (first ∷ bytes)) (λ piece left. bignum_step tag piece left frames) m (head_at_front (first ∷ bytes)) (head_shorter (first ∷ bytes))
         (λ content left l g. bignum_nearer tag content left frames (distance (Bignum tag frames) (first ∷ bytes)) m (omega arith) g) f
 step_nearer (BignumPieces tag front frames) [] m e = absurd (no_move e)
 step_nearer (BignumPieces tag front frames) (first ∷ bytes) m e = go (first == 0xff) e
   where
-    go : (b : Bool) → (if b then bignum_step tag front bytes frames else with_piece 2 (head_of (first ∷ bytes)) (λ piece left. moves [] left (BignumPieces tag (front ++ piece) frames))) ≡ Some m
+    go : (b : Bool) → (if b then bignum_step tag front bytes frames else with_piece 2 (head_at_front (first ∷ bytes)) (λ piece left. moves [] left (BignumPieces tag (front ++ piece) frames))) ≡ Some m
         → distance m.next m.left < distance (BignumPieces tag front frames) (first ∷ bytes)
     go true f = bignum_nearer tag front bytes frames (distance (BignumPieces tag front frames) (first ∷ bytes)) m (omega arith) f
-    go false f = piece_nearer 2 (first ∷ bytes) (distance (BignumPieces tag front frames) (first ∷ bytes)) (λ piece left. moves [] left (BignumPieces tag (front ++ piece) frames)) m (head_of (first ∷ bytes)) (head_shorter (first ∷ bytes))
+    go false f = piece_nearer 2 (first ∷ bytes) (distance (BignumPieces tag front frames) (first ∷ bytes)) (λ piece left. moves [] left (BignumPieces tag (front ++ piece) frames)) m (head_at_front (first ∷ bytes)) (head_shorter (first ∷ bytes))
         (λ content left l g. near g (omega arith)) f

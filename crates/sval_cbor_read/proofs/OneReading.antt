@@ -5,7 +5,7 @@ use Rattle.sval_label.specs.Calls.{Call}
 use Rattle.sval_core.specs.Trees.{Tree}
 use Rattle.sval_cbor_read.specs.Items.{IsItem, IsItemOf}
 use Rattle.sval_cbor_read.specs.Reading.{OpenItem, ItemState, Item, Ended, BignumPieces, Move, fits, reading_step, ReadsTo, at_end, goes_on, IsReadAs, Reached, at_start, onward, IsAtEnd}
-use Rattle.sval_cbor_read.specs.Document.{item_calls, cbor_document_calls}
+use Rattle.sval_cbor_read.specs.Document.{cbor_calls, cbor_document_calls}
 use Rattle.sval_cbor_read.proofs.Sound.{read_is_item, too_large}
 use Rattle.sval_cbor_read.proofs.Complete.{item_is_read, front_is_read}
 
@@ -29,7 +29,7 @@ pub one_document : (bytes : List ℕ) (made other : List Call) → IsReadAs byte
 one_document bytes made other r s = one_reading r s
 
 -- what is read is an item, and the calls are its own
-pub front_spells : (last bytes : List ℕ) (made : List Call) → ReadsTo last (Item []) bytes made → (tree : Tree) × (i : IsItem bytes tree last) × (made ≡ item_calls i [])
+pub front_spells : (last bytes : List ℕ) (made : List Call) → ReadsTo last (Item []) bytes made → (tree : Tree) × (i : IsItem bytes tree last) × (made ≡ cbor_calls i [])
 front_spells last bytes made r =
     let (tree, i) = read_is_item last r in
     (tree, i, one_reading r (front_is_read last bytes tree i).0)

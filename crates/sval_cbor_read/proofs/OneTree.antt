@@ -3,39 +3,39 @@ use Rattle.std.specs.Prelude.{◌≡◌, ℕ, List, ◌∷◌, Option, Some, ref
 use Rattle.std.proofs.Common.{ap}
 use Rattle.sval_label.specs.Calls.{U128, I128, Seq, Map, Item, Key, Value}
 use Rattle.sval_core.specs.Trees.{Tree, Int, Text, Binary, Container, Parts, part}
-use Rattle.sval_cbor_read.specs.Items.{ItemHead, head, head_of, big_endian, IsDefiniteString, string, ArePieces, break, piece, IsByteString, definite, in_pieces, IsItem, by_head, bytes_in_pieces, texts_in_pieces, seq_to_break, map_to_break, falsehood, truth, null, IsBody, unsigned, negative, binary, text, seq, map, big, negative_big, tagged, AreItems, no_items, an_item, AreEntries, no_pairs, a_pair, ItemsToBreak, items_end, items_go_on, EntriesToBreak, entries_end, entries_go_on}
+use Rattle.sval_cbor_read.specs.Items.{ItemHead, head, head_at_front, big_endian, IsDefiniteString, string, ArePieces, break, piece, IsByteString, definite, in_pieces, IsItem, by_head, bytes_in_pieces, texts_in_pieces, seq_to_break, map_to_break, falsehood, truth, null, IsBody, unsigned, negative, binary, text, seq, map, big, negative_big, tagged, AreItems, no_items, an_item, AreEntries, no_pairs, a_pair, ItemsToBreak, items_end, items_go_on, EntriesToBreak, entries_end, entries_go_on}
 
 -- the first bytes of what stands up to a break, and the break itself, begin no head
-pub no_head_95 : (bytes : List ℕ) {h : ItemHead} → head_of (95 ∷ bytes) ≡ Some h → ⊥
-unfolding head_of
+pub no_head_95 : (bytes : List ℕ) {h : ItemHead} → head_at_front (95 ∷ bytes) ≡ Some h → ⊥
+unfolding head_at_front
 no_head_95 bytes e = cc e
 
-pub no_head_127 : (bytes : List ℕ) {h : ItemHead} → head_of (127 ∷ bytes) ≡ Some h → ⊥
-unfolding head_of
+pub no_head_127 : (bytes : List ℕ) {h : ItemHead} → head_at_front (127 ∷ bytes) ≡ Some h → ⊥
+unfolding head_at_front
 no_head_127 bytes e = cc e
 
-pub no_head_159 : (bytes : List ℕ) {h : ItemHead} → head_of (159 ∷ bytes) ≡ Some h → ⊥
-unfolding head_of
+pub no_head_159 : (bytes : List ℕ) {h : ItemHead} → head_at_front (159 ∷ bytes) ≡ Some h → ⊥
+unfolding head_at_front
 no_head_159 bytes e = cc e
 
-pub no_head_191 : (bytes : List ℕ) {h : ItemHead} → head_of (191 ∷ bytes) ≡ Some h → ⊥
-unfolding head_of
+pub no_head_191 : (bytes : List ℕ) {h : ItemHead} → head_at_front (191 ∷ bytes) ≡ Some h → ⊥
+unfolding head_at_front
 no_head_191 bytes e = cc e
 
-pub no_head_255 : (bytes : List ℕ) {h : ItemHead} → head_of (255 ∷ bytes) ≡ Some h → ⊥
-unfolding head_of
+pub no_head_255 : (bytes : List ℕ) {h : ItemHead} → head_at_front (255 ∷ bytes) ≡ Some h → ⊥
+unfolding head_at_front
 no_head_255 bytes e = cc e
 
-pub head_244 : (bytes : List ℕ) → head_of (244 ∷ bytes) ≡ Some (head 7 20 bytes)
-unfolding head_of
+pub head_244 : (bytes : List ℕ) → head_at_front (244 ∷ bytes) ≡ Some (head 7 20 bytes)
+unfolding head_at_front
 head_244 bytes = refl
 
-pub head_245 : (bytes : List ℕ) → head_of (245 ∷ bytes) ≡ Some (head 7 21 bytes)
-unfolding head_of
+pub head_245 : (bytes : List ℕ) → head_at_front (245 ∷ bytes) ≡ Some (head 7 21 bytes)
+unfolding head_at_front
 head_245 bytes = refl
 
-pub head_246 : (bytes : List ℕ) → head_of (246 ∷ bytes) ≡ Some (head 7 22 bytes)
-unfolding head_of
+pub head_246 : (bytes : List ℕ) → head_at_front (246 ∷ bytes) ≡ Some (head 7 22 bytes)
+unfolding head_at_front
 head_246 bytes = refl
 
 pub same_heads : {major number m n : ℕ} {after other : List ℕ} {o : Option ItemHead} → o ≡ Some (head major number after) → o ≡ Some (head m n other)

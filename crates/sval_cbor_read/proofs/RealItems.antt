@@ -13,7 +13,7 @@ use Rattle.sval_json.specs.Json as shape
 use Rattle.sval_json.specs.Number.{Refusal, InvalidKey, InvalidNumber}
 use Rattle.sval_json.specs.declared.style.Variants.TheVariants.{Inside}
 use Rattle.sval_json.specs.Shape.{on_ok, map_ok, key, shape as shape_of, items, pairs, json_of}
-use Rattle.sval_cbor_read.specs.Items.{ItemHead, head, wide_head, head_of, negative_type, big_endian, IsDefiniteString, string, ArePieces, break, piece, IsByteString, definite, in_pieces, IsItem, by_head, bytes_in_pieces, texts_in_pieces, seq_to_break, map_to_break, falsehood, truth, null, IsBody, unsigned, negative, binary, text, seq, map, big, negative_big, tagged, AreItems, no_items, an_item, AreEntries, no_pairs, a_pair, ItemsToBreak, items_end, items_go_on, EntriesToBreak, entries_end, entries_go_on, IsItemOf}
+use Rattle.sval_cbor_read.specs.Items.{ItemHead, head, wide_head, head_at_front, negative_type, big_endian, IsDefiniteString, string, ArePieces, break, piece, IsByteString, definite, in_pieces, IsItem, by_head, bytes_in_pieces, texts_in_pieces, seq_to_break, map_to_break, falsehood, truth, null, IsBody, unsigned, negative, binary, text, seq, map, big, negative_big, tagged, AreItems, no_items, an_item, AreEntries, no_pairs, a_pair, ItemsToBreak, items_end, items_go_on, EntriesToBreak, entries_end, entries_go_on, IsItemOf}
 use Rattle.sval_cbor_read.proofs.Heads.{all_front, all_after}
 use Rattle.sval_cbor_read.proofs.LeastHeads.{IsBoundedHead, head_bounded}
 use Rattle.sval_cbor_read.proofs.Complete.{item_is_read}
@@ -122,8 +122,8 @@ after_wide : (b : Bool) (major n width : ℕ) (bytes : List ℕ) → AreBytes by
 after_wide true major n width bytes h = all_after width bytes h
 after_wide false major n width bytes h = tt
 
-after_head : (bytes : List ℕ) → AreBytes bytes → AfterAreBytes (head_of bytes)
-unfolding head_of
+after_head : (bytes : List ℕ) → AreBytes bytes → AfterAreBytes (head_at_front bytes)
+unfolding head_at_front
 after_head [] h = tt
 after_head (first ∷ bytes) h = go (nat_lt (first % 32) 24) (first % 32 == 24) (first % 32 == 25) (first % 32 == 26) (first % 32 == 27)
   where
@@ -135,10 +135,10 @@ after_head (first ∷ bytes) h = go (nat_lt (first % 32) 24) (first % 32 == 24) 
     go false false false false true = after_wide (nat_le 8 (length bytes)) (first / 32) (number_from_digits 256 (take 8 bytes)) 8 bytes h.1
     go false false false false false = tt
 
-after_is : (bytes : List ℕ) (major n : ℕ) (after : List ℕ) → head_of bytes ≡ Some (head major n after) → AreBytes bytes → AreBytes after
+after_is : (bytes : List ℕ) (major n : ℕ) (after : List ℕ) → head_at_front bytes ≡ Some (head major n after) → AreBytes bytes → AreBytes after
 after_is bytes major n after e h = subst AfterAreBytes e (after_head bytes h)
 
-number_is : (bytes : List ℕ) (major n : ℕ) (after : List ℕ) → head_of bytes ≡ Some (head major n after) → AreBytes bytes → n < 2 ^ 64
+number_is : (bytes : List ℕ) (major n : ℕ) (after : List ℕ) → head_at_front bytes ≡ Some (head major n after) → AreBytes bytes → n < 2 ^ 64
 number_is bytes major n after e h = (subst (IsBoundedHead bytes) e (head_bounded bytes h)).1
 
 string_range : {major : ℕ} {bytes content rest : List ℕ} → IsDefiniteString major bytes content rest → AreBytes bytes → AreBytes content × AreBytes rest

@@ -15,23 +15,23 @@ use Rattle.sval_json.specs.declared.style.Variants.TheVariants.{Inside}
 use Rattle.sval_json.specs.Shape.{shape as shape_of, items, pairs, json_of}
 use Rattle.sval_cbor.specs.Packs.{has_128_bits, pack_of}
 use Rattle.sval_cbor.specs.Cbor.{head_bytes, short_bytes, string as string_bytes, bignum, integer, cbor, cbor_items, cbor_pairs}
-use Rattle.sval_cbor.specs.Premises.{IsShort}
+use Rattle.sval_cbor.specs.Premises.{IsShortTree}
 use Rattle.sval_cbor.proofs.Numbers.{value_of_decimal, short_of_128}
 use Rattle.sval_cbor.proofs.Packed.{IsPackedText, IsPackedNumber, IsPacked, ArePacked, PairsArePacked, packed}
-use Rattle.sval_cbor_read.specs.Items.{head, head_of, negative_type, is_piece, IsDefiniteString, string, definite, IsItem, by_head, seq_to_break, map_to_break, falsehood, truth, null, IsBody, unsigned, negative, text, big, negative_big, ItemsToBreak, items_end, items_go_on, EntriesToBreak, entries_end, entries_go_on, IsItemOf}
+use Rattle.sval_cbor_read.specs.Items.{head, head_at_front, negative_type, is_piece, IsDefiniteString, string, definite, IsItem, by_head, seq_to_break, map_to_break, falsehood, truth, null, IsBody, unsigned, negative, text, big, negative_big, ItemsToBreak, items_end, items_go_on, EntriesToBreak, entries_end, entries_go_on, IsItemOf}
 use Rattle.sval_cbor_read.proofs.Heads.{head_read, short_length, short_value}
 use Rattle.sval_cbor_read.proofs.OneTree.{one_item}
 
 -- ---- strings
 
-string_at : (major n : ℕ) (bytes after content rest : List ℕ) → head_of bytes ≡ Some (head major n after) → n ≤ length after → IsTrue (is_piece major content)
+string_at : (major n : ℕ) (bytes after content rest : List ℕ) → head_at_front bytes ≡ Some (head major n after) → n ≤ length after → IsTrue (is_piece major content)
     → take n after ≡ content → drop n after ≡ rest → IsDefiniteString major bytes content rest
 string_at major n bytes after content rest e h k f g = subst (λ x. IsDefiniteString major bytes x rest) f (subst (λ x. IsDefiniteString major bytes (take n after) x) g (string e h (rw f k)))
 
 string_read : (major : ℕ) (content rest : List ℕ) → length content < 2 ^ 64 → IsTrue (is_piece major content) → IsDefiniteString major (string_bytes major content ++ rest) content rest
 string_read major content rest h k =
     let n = length content in
-    let e : head_of (string_bytes major content ++ rest) ≡ Some (head major n (content ++ rest)) = ap head_of (append_assoc (head_bytes major n) content rest) ∙ head_read major n (content ++ rest) h in
+    let e : head_at_front (string_bytes major content ++ rest) ≡ Some (head major n (content ++ rest)) = ap head_at_front (append_assoc (head_bytes major n) content rest) ∙ head_read major n (content ++ rest) h in
     string_at major n (string_bytes major content ++ rest) (content ++ rest) content rest e (omega (arith, length-append content rest)) k (take_at content rest n refl) (drop_at content rest n refl)
 
 text_body : (n : ℕ) (after content rest : List ℕ) → n ≤ length after → IsTrue (is_utf8 content) → take n after ≡ content → drop n after ≡ rest → IsBody 3 n after (Text content) rest
@@ -40,7 +40,7 @@ text_body n after content rest h k f g = subst (λ x. IsBody 3 n after (Text x) 
 text_read : (content rest : List ℕ) → IsPackedText content → IsItem (string_bytes 3 content ++ rest) (Text content) rest
 text_read content rest h =
     let n = length content in
-    let e : head_of (string_bytes 3 content ++ rest) ≡ Some (head 3 n (content ++ rest)) = ap head_of (append_assoc (head_bytes 3 n) content rest) ∙ head_read 3 n (content ++ rest) h.1 in
+    let e : head_at_front (string_bytes 3 content ++ rest) ≡ Some (head 3 n (content ++ rest)) = ap head_at_front (append_assoc (head_bytes 3 n) content rest) ∙ head_read 3 n (content ++ rest) h.1 in
     by_head e (text_body n (content ++ rest) content rest (omega (arith, length-append content rest)) (is_utf8-from_IsUtf8 content h.0) (take_at content rest n refl) (drop_at content rest n refl))
 
 -- ---- numbers
@@ -59,7 +59,7 @@ negative_big_body n rest h =
 
 big_read : (tag n : ℕ) (rest : List ℕ) (tree : Tree) → tag < 24 → IsBody 6 tag (string_bytes 2 (short_bytes n) ++ rest) tree rest → IsItem (bignum tag n ++ rest) tree rest
 big_read tag n rest tree h b =
-    by_head (ap head_of (append_assoc (head_bytes 6 tag) (string_bytes 2 (short_bytes n)) rest) ∙ head_read 6 tag (string_bytes 2 (short_bytes n) ++ rest) (omega arith)) b
+    by_head (ap head_at_front (append_assoc (head_bytes 6 tag) (string_bytes 2 (short_bytes n)) rest) ∙ head_read 6 tag (string_bytes 2 (short_bytes n) ++ rest) (omega arith)) b
 
 unsigned_bound : (n : ℕ) → has_128_bits (pos n) ≡ true → n < 2 ^ 128
 unsigned_bound n h = grind (arith, nat_tests)
@@ -170,7 +170,7 @@ mutual
   pairs_back (pair (raw_key bytes) json row) h = absurd h.0
 
 -- what a real tree with short texts is written as is an item of one tree, whose shape is what the tree packs to
-pub written_is_read_back : (tree : Tree) (json : Json) → IsReal tree → IsShort tree → pack_of tree ≡ Ok json
+pub written_is_read_back : (tree : Tree) (json : Json) → IsReal tree → IsShortTree tree → pack_of tree ≡ Ok json
     → (read : Tree) × IsItemOf (cbor json) read × ((other : Tree) → IsItemOf (cbor json) other → other ≡ read) × (json_of read ≡ Ok json)
 written_is_read_back tree json r s e =
     let back = read_back json (packed tree json r s e) in

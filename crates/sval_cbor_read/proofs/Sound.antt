@@ -7,7 +7,7 @@ use Rattle.std.proofs.lemmas.Int.Digits.{number_after_append, number_after_ge}
 use Rattle.sval_label.specs.Calls.{Call, U64, U128, I128}
 use Rattle.sval_label.specs.Calls as calls
 use Rattle.sval_core.specs.Trees.{Tree, Null, Truth, Int, Text, Binary, Container, Parts, none, part}
-use Rattle.sval_cbor_read.specs.Items.{ItemHead, head, head_of, is_piece, negative_type, big_endian, IsDefiniteString, string, ArePieces, break, piece, IsByteString, definite, in_pieces, IsItem, by_head, bytes_in_pieces, texts_in_pieces, seq_to_break, map_to_break, falsehood, truth, null, IsBody, unsigned, negative, binary, text, seq, map, big, negative_big, tagged, AreItems, no_items, an_item, AreEntries, no_pairs, a_pair, ItemsToBreak, items_end, items_go_on, EntriesToBreak, entries_end, entries_go_on}
+use Rattle.sval_cbor_read.specs.Items.{ItemHead, head, head_at_front, is_piece, negative_type, big_endian, IsDefiniteString, string, ArePieces, break, piece, IsByteString, definite, in_pieces, IsItem, by_head, bytes_in_pieces, texts_in_pieces, seq_to_break, map_to_break, falsehood, truth, null, IsBody, unsigned, negative, binary, text, seq, map, big, negative_big, tagged, AreItems, no_items, an_item, AreEntries, no_pairs, a_pair, ItemsToBreak, items_end, items_go_on, EntriesToBreak, entries_end, entries_go_on}
 use Rattle.sval_cbor_read.specs.Reading.{OpenItem, Items, Keys, Values, ItemState, Item, Part, Ended, Pieces, Bignum, BignumPieces, Move, moves, Mark, BinaryPieces, TextPieces, SeqToBreak, MapToBreak, Falsehood, mark_of, marked, string_calls, string_step, tag_step, body_step, head_step, first_step, item_step, fragment_call, string_end, with_piece, piece_step, fits, number_call, bignum_step, bignum_begins, bignum_piece, part_or_end, part_step, ended_step, reading_step, ReadsTo, at_end, goes_on}
 use Rattle.sval_cbor_read.specs.Reading as reading
 use Rattle.sval_cbor_read.proofs.Nearer.{no_move}
@@ -61,18 +61,18 @@ abbrev IsRead : ℕ → List ℕ → (List ℕ → List ℕ → Option Move) →
 IsRead major bytes next m = (content : List ℕ) × (left : List ℕ) × IsDefiniteString major bytes content left × (next content left ≡ Some m)
 
 piece_by : (major m n : ℕ) (bytes after : List ℕ) (next : List ℕ → List ℕ → Option Move) (move : Move) (b : Bool)
-    → (m == major && nat_le n (length after) && is_piece major (take n after)) ≡ b → head_of bytes ≡ Some (head m n after)
+    → (m == major && nat_le n (length after) && is_piece major (take n after)) ≡ b → head_at_front bytes ≡ Some (head m n after)
     → (let o : Option Move = if b then next (take n after) (drop n after) else None in o) ≡ Some move → IsRead major bytes next move
 piece_by major m n bytes after next move true f h e =
     let (ab, c) = and_parts (m == major && nat_le n (length after)) (is_piece major (take n after)) f in
     let (a, b) = and_parts (m == major) (nat_le n (length after)) ab in
     let same : m ≡ major = grind (arith, nat_tests) in
     let l : n ≤ length after = grind (arith, nat_tests) in
-    let g : head_of bytes ≡ Some (head major n after) = subst (λ x. head_of bytes ≡ Some (head x n after)) same h in
+    let g : head_at_front bytes ≡ Some (head major n after) = subst (λ x. head_at_front bytes ≡ Some (head x n after)) same h in
     (take n after, drop n after, string g l c, e)
 piece_by major m n bytes after next move false f h e = absurd (no_move e)
 
-piece_from : (major : ℕ) (bytes : List ℕ) (next : List ℕ → List ℕ → Option Move) (move : Move) (h : Option ItemHead) → head_of bytes ≡ h → with_piece major h next ≡ Some move → IsRead major bytes next move
+piece_from : (major : ℕ) (bytes : List ℕ) (next : List ℕ → List ℕ → Option Move) (move : Move) (h : Option ItemHead) → head_at_front bytes ≡ h → with_piece major h next ≡ Some move → IsRead major bytes next move
 piece_from major bytes next move None h e = absurd (no_move e)
 piece_from major bytes next move (Some (head m n after)) h e = piece_by major m n bytes after next move (m == major && nat_le n (length after) && is_piece major (take n after)) refl h e
 
@@ -139,11 +139,11 @@ module _ (last : List ℕ) where
   piece_back major (first ∷ bytes) frames m e r = go (first == 0xff) refl e
     where
       go : (b : Bool) → (first == 0xff) ≡ b
-          → (if b then moves (string_end major ∷ []) bytes (Ended frames) else with_piece major (head_of (first ∷ bytes)) (λ piece left. moves (fragment_call major piece ∷ []) left (Pieces major frames))) ≡ Some m
+          → (if b then moves (string_end major ∷ []) bytes (Ended frames) else with_piece major (head_at_front (first ∷ bytes)) (λ piece left. moves (fragment_call major piece ∷ []) left (Pieces major frames))) ≡ Some m
           → Rest (Pieces major frames) (first ∷ bytes)
       go true f k = let is : first ≡ 0xff = grind (arith, nat_tests) in ([], bytes, subst (λ x. ArePieces major (x ∷ bytes) [] bytes) (sym is) break, moved k r)
       go false f k =
-          let (content, left, s, g) = piece_from major (first ∷ bytes) (λ piece left. moves (fragment_call major piece ∷ []) left (Pieces major frames)) m (head_of (first ∷ bytes)) refl k in
+          let (content, left, s, g) = piece_from major (first ∷ bytes) (λ piece left. moves (fragment_call major piece ∷ []) left (Pieces major frames)) m (head_at_front (first ∷ bytes)) refl k in
           let (more, rest, p, a) = moved g r in
           (content ++ more, rest, piece s p, a)
 
@@ -163,14 +163,14 @@ module _ (last : List ℕ) where
   bignum_back tag (first ∷ bytes) frames m e r = go (first == 0x5f) refl e
     where
       go : (b : Bool) → (first == 0x5f) ≡ b
-          → (if b then moves [] bytes (BignumPieces tag [] frames) else with_piece 2 (head_of (first ∷ bytes)) (λ piece left. bignum_step tag piece left frames)) ≡ Some m
+          → (if b then moves [] bytes (BignumPieces tag [] frames) else with_piece 2 (head_at_front (first ∷ bytes)) (λ piece left. bignum_step tag piece left frames)) ≡ Some m
           → Rest (Bignum tag frames) (first ∷ bytes)
       go true f k =
           let is : first ≡ 0x5f = grind (arith, nat_tests) in
           let (content, rest, p, h, a) = moved k r in
           (content, rest, subst (λ x. IsByteString (x ∷ bytes) content rest) (sym is) (in_pieces p), h, a)
       go false f k =
-          let (content, left, s, g) = piece_from 2 (first ∷ bytes) (λ piece left. bignum_step tag piece left frames) m (head_of (first ∷ bytes)) refl k in
+          let (content, left, s, g) = piece_from 2 (first ∷ bytes) (λ piece left. bignum_step tag piece left frames) m (head_at_front (first ∷ bytes)) refl k in
           let (h, a) = fits_back tag content left frames m g r in
           (content, left, definite s, h, a)
 
@@ -179,14 +179,14 @@ module _ (last : List ℕ) where
   bignum_piece_back tag front (first ∷ bytes) frames m e r = go (first == 0xff) refl e
     where
       go : (b : Bool) → (first == 0xff) ≡ b
-          → (if b then bignum_step tag front bytes frames else with_piece 2 (head_of (first ∷ bytes)) (λ piece left. moves [] left (BignumPieces tag (front ++ piece) frames))) ≡ Some m
+          → (if b then bignum_step tag front bytes frames else with_piece 2 (head_at_front (first ∷ bytes)) (λ piece left. moves [] left (BignumPieces tag (front ++ piece) frames))) ≡ Some m
           → Rest (BignumPieces tag front frames) (first ∷ bytes)
       go true f k =
           let is : first ≡ 0xff = grind (arith, nat_tests) in
           let (h, a) = fits_back tag front bytes frames m k r in
           ([], bytes, subst (λ x. ArePieces 2 (x ∷ bytes) [] bytes) (sym is) break, ap (fits tag) (append-nil front) ∙ h, a)
       go false f k =
-          let (content, left, s, g) = piece_from 2 (first ∷ bytes) (λ piece left. moves [] left (BignumPieces tag (front ++ piece) frames)) m (head_of (first ∷ bytes)) refl k in
+          let (content, left, s, g) = piece_from 2 (first ∷ bytes) (λ piece left. moves [] left (BignumPieces tag (front ++ piece) frames)) m (head_at_front (first ∷ bytes)) refl k in
           let (more, rest, p, h, a) = moved g r in
           (content ++ more, rest, piece s p, ap (fits tag) (sym (append_assoc front content more)) ∙ h, a)
 
@@ -240,14 +240,14 @@ module _ (last : List ℕ) where
       go false false false false false false true ea eb ec ed ef eg eh k = body_is 6 major n after frames eh (tag_back n after frames m k r)
       go false false false false false false false ea eb ec ed ef eg eh k = absurd (no_move k)
 
-  head_back : (bytes : List ℕ) (frames : List OpenItem) (m : Move) (h : Option ItemHead) → head_of bytes ≡ h → head_step h frames ≡ Some m → Rest m.next m.left → Rest (Item frames) bytes
+  head_back : (bytes : List ℕ) (frames : List OpenItem) (m : Move) (h : Option ItemHead) → head_at_front bytes ≡ h → head_step h frames ≡ Some m → Rest m.next m.left → Rest (Item frames) bytes
   head_back bytes frames m None h e r = absurd (no_move e)
   head_back bytes frames m (Some (head major n after)) h e r = let (tree, rest, b, a) = body_back major n after frames m e r in (tree, rest, by_head h b, a)
 
-  first_back : (first : ℕ) (bytes : List ℕ) (frames : List OpenItem) (m : Move) (o : Option Mark) → mark_of first ≡ o → first_step o bytes (head_of (first ∷ bytes)) frames ≡ Some m → Rest m.next m.left
+  first_back : (first : ℕ) (bytes : List ℕ) (frames : List OpenItem) (m : Move) (o : Option Mark) → mark_of first ≡ o → first_step o bytes (head_at_front (first ∷ bytes)) frames ≡ Some m → Rest m.next m.left
       → Rest (Item frames) (first ∷ bytes)
   first_back first bytes frames m (Some mark) f e r = subst (λ x. Rest (Item frames) (x ∷ bytes)) (sym (mark_is first mark f)) (marked_back mark bytes frames m e r)
-  first_back first bytes frames m None f e r = head_back (first ∷ bytes) frames m (head_of (first ∷ bytes)) refl e r
+  first_back first bytes frames m None f e r = head_back (first ∷ bytes) frames m (head_at_front (first ∷ bytes)) refl e r
 
   item_back : (bytes : List ℕ) (frames : List OpenItem) (m : Move) → item_step bytes frames ≡ Some m → Rest m.next m.left → Rest (Item frames) bytes
   item_back [] frames m e r = absurd (no_move e)

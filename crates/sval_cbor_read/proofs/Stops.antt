@@ -5,7 +5,7 @@ use Rattle.std.proofs.lemmas.Bool.{and_parts}
 use Rattle.std.proofs.lemmas.Bool.Decides.{nat_tests}
 use Rattle.sval_label.specs.Calls.{Call}
 use Rattle.sval_cbor_read.specs.declared.head.Head as made_head
-use Rattle.sval_cbor_read.specs.Items.{ItemHead, head, head_of, is_piece, IsDefiniteString, string, ArePieces, break, piece, definite, in_pieces}
+use Rattle.sval_cbor_read.specs.Items.{ItemHead, head, head_at_front, is_piece, IsDefiniteString, string, ArePieces, break, piece, definite, in_pieces}
 use Rattle.sval_cbor_read.specs.Reading.{OpenItem, ItemState, Ended, Pieces, Bignum, BignumPieces, Move, moves, fragment_call, string_end, with_piece, piece_step, fits, number_call, bignum_step, bignum_begins, bignum_piece}
 use Rattle.sval_cbor_read.specs.Steps.{spot, one_step, StopsWith, at_once, after_steps}
 use Rattle.sval_cbor_read.specs.SeenHeads.{IsHead}
@@ -20,7 +20,7 @@ use Rattle.sval_cbor_read.proofs.Strings.{bignum_piece_read}
 -- ---- definite strings
 
 lacks_by : (major m n : ℕ) (bytes after : List ℕ) (next : List ℕ → List ℕ → Option Move) (b : Bool)
-    → (m == major && nat_le n (length after) && is_piece major (take n after)) ≡ b → head_of bytes ≡ Some (head m n after)
+    → (m == major && nat_le n (length after) && is_piece major (take n after)) ≡ b → head_at_front bytes ≡ Some (head m n after)
     → ((content rest : List ℕ) → IsDefiniteString major bytes content rest → next content rest ≡ None)
     → (let o : Option Move = if b then next (take n after) (drop n after) else None in o) ≡ None
 lacks_by major m n bytes after next true f h none =
@@ -28,19 +28,19 @@ lacks_by major m n bytes after next true f h none =
     let (a, b) = and_parts (m == major) (nat_le n (length after)) ab in
     let same : m ≡ major = grind (arith, nat_tests) in
     let l : n ≤ length after = grind (arith, nat_tests) in
-    let g : head_of bytes ≡ Some (head major n after) = subst (λ x. head_of bytes ≡ Some (head x n after)) same h in
+    let g : head_at_front bytes ≡ Some (head major n after) = subst (λ x. head_at_front bytes ≡ Some (head x n after)) same h in
     none (take n after) (drop n after) (string g l c)
 lacks_by major m n bytes after next false f h none = refl
 
-lacks_from : (major : ℕ) (bytes : List ℕ) (next : List ℕ → List ℕ → Option Move) (h : Option ItemHead) → head_of bytes ≡ h
+lacks_from : (major : ℕ) (bytes : List ℕ) (next : List ℕ → List ℕ → Option Move) (h : Option ItemHead) → head_at_front bytes ≡ h
     → ((content rest : List ℕ) → IsDefiniteString major bytes content rest → next content rest ≡ None) → with_piece major h next ≡ None
 lacks_from major bytes next None h none = refl
 lacks_from major bytes next (Some (head m n after)) h none = lacks_by major m n bytes after next (m == major && nat_le n (length after) && is_piece major (take n after)) refl h none
 
 -- where nothing is made of a definite string, no step is made
 pub nothing_goes : (major : ℕ) (bytes : List ℕ) (next : List ℕ → List ℕ → Option Move)
-    → ((content rest : List ℕ) → IsDefiniteString major bytes content rest → next content rest ≡ None) → with_piece major (head_of bytes) next ≡ None
-nothing_goes major bytes next none = lacks_from major bytes next (head_of bytes) refl none
+    → ((content rest : List ℕ) → IsDefiniteString major bytes content rest → next content rest ≡ None) → with_piece major (head_at_front bytes) next ≡ None
+nothing_goes major bytes next none = lacks_from major bytes next (head_at_front bytes) refl none
 
 -- neither a chunk nor the break
 pub no_piece_step : (major : ℕ) (bytes : List ℕ) (frames : List OpenItem) → ((left : List ℕ) → bytes ≡ 255 ∷ left → ⊥) → HasNoString major bytes → piece_step major bytes frames ≡ None
@@ -48,7 +48,7 @@ no_piece_step major [] frames n h = refl
 no_piece_step major (first ∷ bytes) frames n h = go (first == 0xff) refl
   where
     go : (b : Bool) → (first == 0xff) ≡ b
-        → (if b then moves (string_end major ∷ []) bytes (Ended frames) else with_piece major (head_of (first ∷ bytes)) (λ piece left. moves (fragment_call major piece ∷ []) left (Pieces major frames))) ≡ None
+        → (if b then moves (string_end major ∷ []) bytes (Ended frames) else with_piece major (head_at_front (first ∷ bytes)) (λ piece left. moves (fragment_call major piece ∷ []) left (Pieces major frames))) ≡ None
     go true f = let is : first ≡ 0xff = grind (arith, nat_tests) in absurd (n bytes (ap (λ x. x ∷ bytes) is))
     go false f = nothing_goes major (first ∷ bytes) (λ piece left. moves (fragment_call major piece ∷ []) left (Pieces major frames)) (λ content rest s. absurd (h content rest s))
 
@@ -66,7 +66,7 @@ no_chunk tag front [] frames n l = refl
 no_chunk tag front (first ∷ bytes) frames n l = go (first == 0xff) refl
   where
     go : (b : Bool) → (first == 0xff) ≡ b
-        → (if b then bignum_step tag front bytes frames else with_piece 2 (head_of (first ∷ bytes)) (λ piece left. moves [] left (BignumPieces tag (front ++ piece) frames))) ≡ None
+        → (if b then bignum_step tag front bytes frames else with_piece 2 (head_at_front (first ∷ bytes)) (λ piece left. moves [] left (BignumPieces tag (front ++ piece) frames))) ≡ None
     go true f =
         let is : first ≡ 0xff = grind (arith, nat_tests) in
         unfit tag front bytes frames (λ k. l [] bytes (subst (λ x. ArePieces 2 (x ∷ bytes) [] bytes) (sym is) break) (ap (fits tag) (append-nil front) ∙ k))
@@ -77,7 +77,7 @@ no_definite tag [] frames n l = refl
 no_definite tag (first ∷ bytes) frames n l = go (first == 0x5f) refl
   where
     go : (b : Bool) → (first == 0x5f) ≡ b
-        → (if b then moves [] bytes (BignumPieces tag [] frames) else with_piece 2 (head_of (first ∷ bytes)) (λ piece left. bignum_step tag piece left frames)) ≡ None
+        → (if b then moves [] bytes (BignumPieces tag [] frames) else with_piece 2 (head_at_front (first ∷ bytes)) (λ piece left. bignum_step tag piece left frames)) ≡ None
     go true f = let is : first ≡ 0x5f = grind (arith, nat_tests) in absurd (n bytes (ap (λ x. x ∷ bytes) is))
     go false f = nothing_goes 2 (first ∷ bytes) (λ piece left. bignum_step tag piece left frames) (λ content rest s. unfit tag content rest frames (l content rest (definite s)))
 
@@ -149,14 +149,14 @@ number_stops_behind bytes at stop l e c =
 
 -- ---- items
 
-lacks_behind : (bytes : List ℕ) (tag : ℕ) (after : List ℕ) → head_of bytes ≡ Some (head 6 tag after) → IsNumberTag tag → BeginsNoItem bytes → LacksNumber tag after
+lacks_behind : (bytes : List ℕ) (tag : ℕ) (after : List ℕ) → head_at_front bytes ≡ Some (head 6 tag after) → IsNumberTag tag → BeginsNoItem bytes → LacksNumber tag after
 lacks_behind bytes tag after e t (no_step n) = let f = sym (n []) ∙ item_goes bytes 6 tag after [] e refl ∙ t after [] in absurd (cc f)
 lacks_behind bytes tag after e t (no_number {tag = other} f s l) = let (a, b, c) = same_head f e in subst (λ x. LacksNumber x after) b (subst (λ x. LacksNumber other x) c l)
 
-pub item_stops_behind : (bytes : List ℕ) (at stop tag : ℕ) (h : made_head.Head) → (at < h.next) × IsHead bytes at h (head_of (drop at bytes)) → h.major ≡ 6 → h.number ≡ tag → IsNumberTag tag
+pub item_stops_behind : (bytes : List ℕ) (at stop tag : ℕ) (h : made_head.Head) → (at < h.next) × IsHead bytes at h (head_at_front (drop at bytes)) → h.major ≡ 6 → h.number ≡ tag → IsNumberTag tag
     → BeginsNothing bytes at → NumberStops bytes h.next stop → ItemStops bytes at stop
 item_stops_behind bytes at stop tag h (later, (is, before, within)) m n t b s =
-    let e : head_of (drop at bytes) ≡ Some (head 6 tag (drop h.next bytes)) = is ∙ ap (λ x. Some (head x h.number (drop h.next bytes))) m ∙ ap (λ x. Some (head 6 x (drop h.next bytes))) n in
+    let e : head_at_front (drop at bytes) ≡ Some (head 6 tag (drop h.next bytes)) = is ∙ ap (λ x. Some (head x h.number (drop h.next bytes))) m ∙ ap (λ x. Some (head 6 x (drop h.next bytes))) n in
     record {
       stops = λ frames made.
           after_steps (one_step (item_goes (drop at bytes) 6 tag (drop h.next bytes) frames e refl ∙ t (drop h.next bytes) frames))
@@ -164,7 +164,7 @@ item_stops_behind bytes at stop tag h (later, (is, before, within)) m n t b s =
       within = s.within;
     }
 
-item_stops_by : (bytes : List ℕ) (at : ℕ) → at ≤ length bytes → ((tag : ℕ) (after : List ℕ) → head_of (drop at bytes) ≡ Some (head 6 tag after) → IsNumberTag tag → ⊥) → BeginsNothing bytes at → ItemStops bytes at at
+item_stops_by : (bytes : List ℕ) (at : ℕ) → at ≤ length bytes → ((tag : ℕ) (after : List ℕ) → head_at_front (drop at bytes) ≡ Some (head 6 tag after) → IsNumberTag tag → ⊥) → BeginsNothing bytes at → ItemStops bytes at at
 item_stops_by bytes at w n (no_step e) = record { stops = λ frames made. at_once (e frames); within = w }
 item_stops_by bytes at w n (no_number {tag = tag} {after = after} e t l) = absurd (n tag after e t)
 
@@ -176,14 +176,14 @@ next_in (Some move) = move.next
 no_number_tag : (tag : ℕ) → tag ≢ 2 → tag ≢ 3 → IsNumberTag tag → ⊥
 no_number_tag tag a b t = let e = ap next_in (sym (other_tag tag [] [] a b) ∙ t [] []) in cc e
 
-pub item_stops_at_tag : (bytes : List ℕ) (at : ℕ) (h : made_head.Head) → at ≤ length bytes → (at < h.next) × IsHead bytes at h (head_of (drop at bytes)) → h.number ≢ 2 → h.number ≢ 3
+pub item_stops_at_tag : (bytes : List ℕ) (at : ℕ) (h : made_head.Head) → at ≤ length bytes → (at < h.next) × IsHead bytes at h (head_at_front (drop at bytes)) → h.number ≢ 2 → h.number ≢ 3
     → BeginsNothing bytes at → ItemStops bytes at at
 item_stops_at_tag bytes at h w (later, (is, before, within)) a b n =
     item_stops_by bytes at w (λ tag after e t. let (c, d, f) = same_head is e in no_number_tag h.number a b (subst IsNumberTag (sym d) t)) n
 
-pub item_stops_at_head : (bytes : List ℕ) (at : ℕ) (h : made_head.Head) → at ≤ length bytes → (at < h.next) × IsHead bytes at h (head_of (drop at bytes)) → h.major ≢ 6
+pub item_stops_at_head : (bytes : List ℕ) (at : ℕ) (h : made_head.Head) → at ≤ length bytes → (at < h.next) × IsHead bytes at h (head_at_front (drop at bytes)) → h.major ≢ 6
     → BeginsNothing bytes at → ItemStops bytes at at
 item_stops_at_head bytes at h w (later, (is, before, within)) m n = item_stops_by bytes at w (λ tag after e t. let (c, d, f) = same_head is e in m c) n
 
-pub item_stops_at_none : (bytes : List ℕ) (at : ℕ) → at ≤ length bytes → head_of (drop at bytes) ≡ None → BeginsNothing bytes at → ItemStops bytes at at
+pub item_stops_at_none : (bytes : List ℕ) (at : ℕ) → at ≤ length bytes → head_at_front (drop at bytes) ≡ None → BeginsNothing bytes at → ItemStops bytes at at
 item_stops_at_none bytes at w is n = item_stops_by bytes at w (λ tag after e t. let f = sym is ∙ e in cc f) n

@@ -4,7 +4,7 @@ use Rattle.std.specs.List.{concat}
 use Rattle.std.proofs.Common.{sym, ap, ◌∙◌, subst, arith, append_assoc, append-nil}
 use Rattle.std.proofs.lemmas.Bool.Decides.{nat_tests}
 use Rattle.sval_label.specs.Calls.{Call}
-use Rattle.sval_cbor_read.specs.Items.{ItemHead, head, head_of, is_piece, IsDefiniteString, string, ArePieces, break, piece, IsByteString, definite, in_pieces}
+use Rattle.sval_cbor_read.specs.Items.{ItemHead, head, head_at_front, is_piece, IsDefiniteString, string, ArePieces, break, piece, IsByteString, definite, in_pieces}
 use Rattle.sval_cbor_read.specs.Reading.{OpenItem, Ended, Pieces, Bignum, BignumPieces, Move, moves, string_calls, string_step, fragment_call, string_end, with_piece, piece_step, fits, number_call, bignum_step, bignum_begins, bignum_piece, ReadsTo, goes_on}
 use Rattle.sval_cbor_read.specs.Document.{pieces_of}
 use Rattle.sval_cbor_read.proofs.OneTree.{no_head_95, no_head_255}
@@ -24,26 +24,26 @@ piece_fits major n after l k =
     let f : (major == major) ≡ true = grind (arith, nat_tests) in
     rw (f, e, k) refl
 
-pub piece_goes : (major : ℕ) (bytes content rest : List ℕ) (next : List ℕ → List ℕ → Option Move) → IsDefiniteString major bytes content rest → with_piece major (head_of bytes) next ≡ next content rest
+pub piece_goes : (major : ℕ) (bytes content rest : List ℕ) (next : List ℕ → List ℕ → Option Move) → IsDefiniteString major bytes content rest → with_piece major (head_at_front bytes) next ≡ next content rest
 piece_goes major bytes content rest next (string {number = n} {after = after} e l k) = rw (e, piece_fits major n after l k) refl
 
 -- a head begins with neither the break nor the byte of pieces
-pub no_break : (first : ℕ) (bytes : List ℕ) (h : ItemHead) → head_of (first ∷ bytes) ≡ Some h → (first == 0xff) ≡ false
+pub no_break : (first : ℕ) (bytes : List ℕ) (h : ItemHead) → head_at_front (first ∷ bytes) ≡ Some h → (first == 0xff) ≡ false
 no_break first bytes h e = go (first == 0xff) refl
   where
     go : (b : Bool) → (first == 0xff) ≡ b → b ≡ false
-    go true g = let is : first ≡ 0xff = grind (arith, nat_tests) in absurd (no_head_255 bytes (subst (λ x. head_of (x ∷ bytes) ≡ Some h) is e))
+    go true g = let is : first ≡ 0xff = grind (arith, nat_tests) in absurd (no_head_255 bytes (subst (λ x. head_at_front (x ∷ bytes) ≡ Some h) is e))
     go false g = refl
 
-pub no_pieces : (first : ℕ) (bytes : List ℕ) (h : ItemHead) → head_of (first ∷ bytes) ≡ Some h → (first == 0x5f) ≡ false
+pub no_pieces : (first : ℕ) (bytes : List ℕ) (h : ItemHead) → head_at_front (first ∷ bytes) ≡ Some h → (first == 0x5f) ≡ false
 no_pieces first bytes h e = go (first == 0x5f) refl
   where
     go : (b : Bool) → (first == 0x5f) ≡ b → b ≡ false
-    go true g = let is : first ≡ 0x5f = grind (arith, nat_tests) in absurd (no_head_95 bytes (subst (λ x. head_of (x ∷ bytes) ≡ Some h) is e))
+    go true g = let is : first ≡ 0x5f = grind (arith, nat_tests) in absurd (no_head_95 bytes (subst (λ x. head_at_front (x ∷ bytes) ≡ Some h) is e))
     go false g = refl
 
-pub no_head : {h : ItemHead} → head_of [] ≡ Some h → ⊥
-unfolding head_of
+pub no_head : {h : ItemHead} → head_at_front [] ≡ Some h → ⊥
+unfolding head_at_front
 no_head e = cc e
 
 pub piece_read : (major : ℕ) (bytes content rest : List ℕ) (frames : List OpenItem) → IsDefiniteString major bytes content rest → piece_step major bytes frames ≡ moves (fragment_call major content ∷ []) rest (Pieces major frames)

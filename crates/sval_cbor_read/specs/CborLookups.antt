@@ -18,9 +18,9 @@ cbor_kind_of (Array _) = kind.Array
 cbor_kind_of (Map _) = kind.Map
 
 -- a value is null
-abbrev pub is_null : CborValue → Bool
-is_null Null = true
-is_null _ = false
+abbrev pub cbor_is_null : CborValue → Bool
+cbor_is_null Null = true
+cbor_is_null _ = false
 
 -- the truth that a value is
 abbrev pub cbor_truth_of : CborValue → Option Bool
@@ -45,9 +45,9 @@ signed_of bits (Int number) = within_bits bits number
 signed_of bits _ = None
 
 -- the number that a value is, where it is from 0 to 2 ^ bits - 1
-abbrev pub unsigned_of : ℕ → CborValue → Option ℕ
-unsigned_of bits (Int number) = natural_within bits number
-unsigned_of bits _ = None
+abbrev pub cbor_unsigned_of : ℕ → CborValue → Option ℕ
+cbor_unsigned_of bits (Int number) = natural_within bits number
+cbor_unsigned_of bits _ = None
 
 -- ---- strings
 
@@ -79,18 +79,18 @@ cbor_slice_of _ = None
 -- ---- arrays and maps
 
 -- the values, in order
-abbrev pub values_listed : CborValues → List CborValue
-values_listed no_values = []
-values_listed (a_value value values) = value ∷ values_listed values
+abbrev pub cbor_values_listed : CborValues → List CborValue
+cbor_values_listed no_values = []
+cbor_values_listed (a_value value values) = value ∷ cbor_values_listed values
 
 -- the items of the array that a value is, in order
 abbrev pub cbor_items_of : CborValue → Option (List CborValue)
-cbor_items_of (Array values) = Some (values_listed values)
+cbor_items_of (Array values) = Some (cbor_values_listed values)
 cbor_items_of _ = None
 
 -- the item at this index of the array that a value is, from 0 on
 abbrev pub cbor_item_at : ℕ → CborValue → Option CborValue
-cbor_item_at index (Array values) = slice_get (values_listed values) index
+cbor_item_at index (Array values) = slice_get (cbor_values_listed values) index
 cbor_item_at index _ = None
 
 -- a pair of a map
@@ -99,20 +99,20 @@ pub record Entry : Type 0 where
   pub value : CborValue
 
 -- the pairs of keys and values, in order
-abbrev pub paired : List CborValue → List Entry
-paired [] = []
-paired (key ∷ []) = []
-paired (key ∷ value ∷ values) = record { key = key; value = value } ∷ paired values
+abbrev pub cbor_paired : List CborValue → List Entry
+cbor_paired [] = []
+cbor_paired (key ∷ []) = []
+cbor_paired (key ∷ value ∷ values) = record { key = key; value = value } ∷ cbor_paired values
 
 -- the pairs of the map that a value is, in order
 abbrev pub cbor_entries_of : CborValue → Option (List Entry)
-cbor_entries_of (Map values) = Some (paired (values_listed values))
+cbor_entries_of (Map values) = Some (cbor_paired (cbor_values_listed values))
 cbor_entries_of _ = None
 
 -- how many items the array, or pairs the map, has that a value is
 abbrev pub cbor_len_of : CborValue → Option ℕ
-cbor_len_of (Array values) = Some (length (values_listed values))
-cbor_len_of (Map values) = Some (length (paired (values_listed values)))
+cbor_len_of (Array values) = Some (length (cbor_values_listed values))
+cbor_len_of (Map values) = Some (length (cbor_paired (cbor_values_listed values)))
 cbor_len_of _ = None
 
 -- a value is this text
@@ -121,11 +121,11 @@ is_this_text name (Text chunks) = bytes_eq (concat chunks) name
 is_this_text name _ = false
 
 -- the value of the last pair whose key is this text
-abbrev pub last_named : List ℕ → List Entry → Option CborValue
-last_named name [] = None
-last_named name (entry ∷ entries) = option_or (last_named name entries) (if is_this_text name entry.key then Some entry.value else None)
+abbrev pub cbor_last_named : List ℕ → List Entry → Option CborValue
+cbor_last_named name [] = None
+cbor_last_named name (entry ∷ entries) = option_or (cbor_last_named name entries) (if is_this_text name entry.key then Some entry.value else None)
 
 -- the value of the last pair of the map that a value is whose key is this text
 abbrev pub cbor_entry_of : List ℕ → CborValue → Option CborValue
-cbor_entry_of name (Map values) = last_named name (paired (values_listed values))
+cbor_entry_of name (Map values) = cbor_last_named name (cbor_paired (cbor_values_listed values))
 cbor_entry_of name _ = None

@@ -16,15 +16,15 @@ item_part_calls slot value more = Call.PartBegin slot ∷ value (Call.PartEnd sl
 
 abbrev mutual
   -- the calls of an item, in front of others
-  pub item_calls : {bytes rest : List ℕ} {tree : Tree} → IsItem bytes tree rest → List Call → List Call
-  item_calls (by_head e b) more = body_calls b more
-  item_calls (bytes_in_pieces p) more = Call.BinaryBegin None ∷ map (Call.BinaryFragment true) (pieces_of p) ++ Call.BinaryEnd ∷ more
-  item_calls (texts_in_pieces p) more = Call.TextBegin None ∷ map (Call.TextFragment true) (pieces_of p) ++ Call.TextEnd ∷ more
-  item_calls (seq_to_break s) more = Call.Begin calls.Seq None ∷ items_to_break_calls s (Call.End calls.Seq ∷ more)
-  item_calls (map_to_break s) more = Call.Begin calls.Map None ∷ entries_to_break_calls s (Call.End calls.Map ∷ more)
-  item_calls falsehood more = Call.Truth false ∷ more
-  item_calls truth more = Call.Truth true ∷ more
-  item_calls null more = Call.Null ∷ more
+  pub cbor_calls : {bytes rest : List ℕ} {tree : Tree} → IsItem bytes tree rest → List Call → List Call
+  cbor_calls (by_head e b) more = body_calls b more
+  cbor_calls (bytes_in_pieces p) more = Call.BinaryBegin None ∷ map (Call.BinaryFragment true) (pieces_of p) ++ Call.BinaryEnd ∷ more
+  cbor_calls (texts_in_pieces p) more = Call.TextBegin None ∷ map (Call.TextFragment true) (pieces_of p) ++ Call.TextEnd ∷ more
+  cbor_calls (seq_to_break s) more = Call.Begin calls.Seq None ∷ items_to_break_calls s (Call.End calls.Seq ∷ more)
+  cbor_calls (map_to_break s) more = Call.Begin calls.Map None ∷ entries_to_break_calls s (Call.End calls.Map ∷ more)
+  cbor_calls falsehood more = Call.Truth false ∷ more
+  cbor_calls truth more = Call.Truth true ∷ more
+  cbor_calls null more = Call.Null ∷ more
 
   -- the calls of what a head stands for, in front of others
   pub body_calls : {major n : ℕ} {after rest : List ℕ} {tree : Tree} → IsBody major n after tree rest → List Call → List Call
@@ -36,28 +36,28 @@ abbrev mutual
   body_calls (map_body {n = n} s) more = Call.Begin calls.Map (Some n) ∷ entries_calls s (Call.End calls.Map ∷ more)
   body_calls (big {content = content} s h) more = Call.Int U128 (pos (big_endian content)) ∷ more
   body_calls (negative_big {content = content} s h) more = Call.Int I128 (negsuc (big_endian content)) ∷ more
-  body_calls (tagged h k i) more = item_calls i more
+  body_calls (tagged h k i) more = cbor_calls i more
 
   -- the calls of as many items as a head says, each as a part, in front of others
   pub items_calls : {n : ℕ} {bytes rest : List ℕ} {parts : Parts} → AreItems n bytes parts rest → List Call → List Call
   items_calls no_items more = more
-  items_calls (an_item i s) more = item_part_calls calls.Item (item_calls i) (items_calls s more)
+  items_calls (an_item i s) more = item_part_calls calls.Item (cbor_calls i) (items_calls s more)
 
   -- the calls of as many pairs as a head says, each as a key and a value, in front of others
   pub entries_calls : {n : ℕ} {bytes rest : List ℕ} {parts : Parts} → AreEntries n bytes parts rest → List Call → List Call
   entries_calls no_pairs more = more
-  entries_calls (a_pair i v s) more = item_part_calls calls.Key (item_calls i) (item_part_calls calls.Value (item_calls v) (entries_calls s more))
+  entries_calls (a_pair i v s) more = item_part_calls calls.Key (cbor_calls i) (item_part_calls calls.Value (cbor_calls v) (entries_calls s more))
 
   -- the calls of the items up to a break, each as a part, in front of others
   pub items_to_break_calls : {bytes rest : List ℕ} {parts : Parts} → ItemsToBreak bytes parts rest → List Call → List Call
   items_to_break_calls items_end more = more
-  items_to_break_calls (items_go_on i s) more = item_part_calls calls.Item (item_calls i) (items_to_break_calls s more)
+  items_to_break_calls (items_go_on i s) more = item_part_calls calls.Item (cbor_calls i) (items_to_break_calls s more)
 
   -- the calls of the pairs up to a break, each as a key and a value, in front of others
   pub entries_to_break_calls : {bytes rest : List ℕ} {parts : Parts} → EntriesToBreak bytes parts rest → List Call → List Call
   entries_to_break_calls entries_end more = more
-  entries_to_break_calls (entries_go_on i v s) more = item_part_calls calls.Key (item_calls i) (item_part_calls calls.Value (item_calls v) (entries_to_break_calls s more))
+  entries_to_break_calls (entries_go_on i v s) more = item_part_calls calls.Key (cbor_calls i) (item_part_calls calls.Value (cbor_calls v) (entries_to_break_calls s more))
 
 -- the calls of the whole document
 abbrev pub cbor_document_calls : {bytes : List ℕ} {tree : Tree} → IsItemOf bytes tree → List Call
-cbor_document_calls i = item_calls i []
+cbor_document_calls i = cbor_calls i []

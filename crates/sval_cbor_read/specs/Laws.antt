@@ -10,8 +10,8 @@ use Rattle.sval_json.specs.Number.{Refusal, InvalidKey}
 use Rattle.sval_json.specs.Shape.{json_of}
 use Rattle.sval_cbor.specs.Packs.{pack_of}
 use Rattle.sval_cbor.specs.Cbor.{head_bytes, cbor}
-use Rattle.sval_cbor.specs.Premises.{IsShort}
-use Rattle.sval_cbor_read.specs.Items.{head, head_of, IsItem, IsItemOf}
+use Rattle.sval_cbor.specs.Premises.{IsShortTree}
+use Rattle.sval_cbor_read.specs.Items.{head, head_at_front, IsItem, IsItemOf}
 use Rattle.sval_cbor_read.specs.Document.{cbor_document_calls}
 use Rattle.sval_cbor_read.specs.ReadErrors.{StepsStopAt}
 use Rattle.sval_cbor_read.specs.Reading.{OpenItem, ItemState, Ended, BignumPieces, Move, fits, reading_step, IsReadAs, Reached, IsAtEnd, distance}
@@ -68,14 +68,14 @@ StepsComeNearer = (state : ItemState) (bytes : List ℕ) (move : Move) → readi
 
 -- the head that is written is read
 abbrev pub HeadsAreRead : Type 0
-HeadsAreRead = (major number : ℕ) (rest : List ℕ) → number < 2 ^ 64 → head_of (head_bytes major number ++ rest) ≡ Some (head major number rest)
+HeadsAreRead = (major number : ℕ) (rest : List ℕ) → number < 2 ^ 64 → head_at_front (head_bytes major number ++ rest) ≡ Some (head major number rest)
 
 -- and no head that is read as the same number is shorter
 abbrev pub HeadsAreShortest : Type 0
-HeadsAreShortest = (bytes : List ℕ) (major number : ℕ) (rest : List ℕ) → AllByRecursion (λ byte. byte < 256) bytes → head_of bytes ≡ Some (head major number rest)
+HeadsAreShortest = (bytes : List ℕ) (major number : ℕ) (rest : List ℕ) → AllByRecursion (λ byte. byte < 256) bytes → head_at_front bytes ≡ Some (head major number rest)
     → length (head_bytes major number) + length rest ≤ length bytes
 
 -- what a real tree with short texts is written as is an item of one tree, and that tree has the shape that was written
 abbrev pub WrittenIsReadBack : Type 0
-WrittenIsReadBack = (tree : Tree) (json : Json) → IsReal tree → IsShort tree → pack_of tree ≡ Ok json
+WrittenIsReadBack = (tree : Tree) (json : Json) → IsReal tree → IsShortTree tree → pack_of tree ≡ Ok json
     → (read : Tree) × IsItemOf (cbor json) read × ((other : Tree) → IsItemOf (cbor json) other → other ≡ read) × (json_of read ≡ Ok json)

@@ -18,27 +18,27 @@ is_first kind.EndSeq = false
 is_first kind.EndMap = false
 
 -- how many strings, arrays and maps are open behind a node, where so many are before it
-abbrev pub depth_behind : made_kind.Kind → ℕ → ℕ
-depth_behind kind.Item depth = depth
-depth_behind kind.Big depth = depth
-depth_behind kind.NegativeBig depth = depth
-depth_behind kind.Begin depth = suc depth
-depth_behind kind.TextPiece depth = depth
-depth_behind kind.BinaryPiece depth = depth
-depth_behind kind.EndText depth = depth - 1
-depth_behind kind.EndBinary depth = depth - 1
-depth_behind kind.EndSeq depth = depth - 1
-depth_behind kind.EndMap depth = depth - 1
+abbrev pub cbor_depth_behind : made_kind.Kind → ℕ → ℕ
+cbor_depth_behind kind.Item depth = depth
+cbor_depth_behind kind.Big depth = depth
+cbor_depth_behind kind.NegativeBig depth = depth
+cbor_depth_behind kind.Begin depth = suc depth
+cbor_depth_behind kind.TextPiece depth = depth
+cbor_depth_behind kind.BinaryPiece depth = depth
+cbor_depth_behind kind.EndText depth = depth - 1
+cbor_depth_behind kind.EndBinary depth = depth - 1
+cbor_depth_behind kind.EndSeq depth = depth - 1
+cbor_depth_behind kind.EndMap depth = depth - 1
 
 -- nothing more counts where nothing is open
-abbrev pub while_open : ℕ → ℕ → ℕ
-while_open zero more = zero
-while_open (suc depth) more = more
+abbrev pub cbor_while_open : ℕ → ℕ → ℕ
+cbor_while_open zero more = zero
+cbor_while_open (suc depth) more = more
 
 -- how many nodes there are up to the first behind which nothing is open
-abbrev pub span : ℕ → List Node → ℕ
-span depth [] = zero
-span depth (node ∷ nodes) = suc (while_open (depth_behind node.kind depth) (span (depth_behind node.kind depth) nodes))
+abbrev pub cbor_span : ℕ → List Node → ℕ
+cbor_span depth [] = zero
+cbor_span depth (node ∷ nodes) = suc (cbor_while_open (cbor_depth_behind node.kind depth) (cbor_span (cbor_depth_behind node.kind depth) nodes))
 
 -- the nodes begin with an item
 abbrev pub BeginsItem : List Node → Type 0
@@ -48,4 +48,4 @@ BeginsItem (node ∷ nodes) = is_first node.kind ≡ true
 -- they do, and these are the nodes behind it
 pub record IsBehindItem (nodes behind : List Node) : Type 0 where
   pub begins : BeginsItem nodes
-  pub behind_is : behind ≡ drop (span 0 nodes) nodes
+  pub behind_is : behind ≡ drop (cbor_span 0 nodes) nodes

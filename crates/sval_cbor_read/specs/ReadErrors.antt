@@ -6,7 +6,7 @@ use Rattle.sval_core.specs.Spells.{Spells}
 use Rattle.sval_cbor_read.specs.declared.document.CborReadError.{CborReadError}
 use Rattle.sval_cbor_read.specs.declared.document.CborReadError.TheVariants.{Bad, NoMemory}
 use Rattle.sval_cbor_read.specs.Items.{IsItem, IsItemOf}
-use Rattle.sval_cbor_read.specs.Document.{item_calls, cbor_document_calls}
+use Rattle.sval_cbor_read.specs.Document.{cbor_calls, cbor_document_calls}
 use Rattle.sval_cbor_read.specs.Reading.{ItemState, reading_step, Reached}
 use Rattle.sval_cbor_read.specs.Steps.{Spot, IsReached}
 
@@ -28,7 +28,7 @@ pub record IsReadFront (bytes : List ℕ) (calls : List Call) (used : ℕ) : Typ
   pub tree : Tree
   pub item : IsItem bytes tree (drop used bytes)
   pub alone : IsItemOf (take used bytes) tree
-  pub same : calls ≡ item_calls item []
+  pub same : calls ≡ cbor_calls item []
   pub spells : Spells calls tree
   pub within : used ≤ length bytes
 

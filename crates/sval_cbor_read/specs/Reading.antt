@@ -2,7 +2,7 @@
 use Rattle.std.specs.Prelude.{◌≡◌, ℕ, zero, suc, ◌+◌, ◌*◌, ◌^◌, pos, negsuc, Bool, true, false, ◌&&◌, ◌==◌, nat_lt, nat_le, if◌then◌else◌, List, [], ◌∷◌, ◌++◌, length, take, drop, Option, Some, None}
 use Rattle.sval_label.specs.Calls.{Call, U64, U128, I128}
 use Rattle.sval_label.specs.Calls as calls
-use Rattle.sval_cbor_read.specs.Items.{ItemHead, head, head_of, is_piece, negative_type, big_endian}
+use Rattle.sval_cbor_read.specs.Items.{ItemHead, head, head_at_front, is_piece, negative_type, big_endian}
 
 -- what is open: an array's items or a map's pairs, with how many are still to come, or none where a break ends them
 pub data OpenItem : Type 0 where
@@ -110,7 +110,7 @@ first_step None _ begun frames = head_step begun frames
 -- an item begins
 abbrev pub item_step : List ℕ → List OpenItem → Option Move
 item_step [] frames = None
-item_step (first ∷ bytes) frames = first_step (mark_of first) bytes (head_of (first ∷ bytes)) frames
+item_step (first ∷ bytes) frames = first_step (mark_of first) bytes (head_at_front (first ∷ bytes)) frames
 
 -- ---- strings in pieces
 
@@ -132,7 +132,7 @@ abbrev pub piece_step : ℕ → List ℕ → List OpenItem → Option Move
 piece_step major [] frames = None
 piece_step major (first ∷ bytes) frames =
     if first == 0xff then moves (string_end major ∷ []) bytes (Ended frames)
-    else with_piece major (head_of (first ∷ bytes)) (λ piece left. moves (fragment_call major piece ∷ []) left (Pieces major frames))
+    else with_piece major (head_at_front (first ∷ bytes)) (λ piece left. moves (fragment_call major piece ∷ []) left (Pieces major frames))
 
 -- ---- numbers as byte strings
 
@@ -153,14 +153,14 @@ abbrev pub bignum_begins : ℕ → List ℕ → List OpenItem → Option Move
 bignum_begins tag [] frames = None
 bignum_begins tag (first ∷ bytes) frames =
     if first == 0x5f then moves [] bytes (BignumPieces tag [] frames)
-    else with_piece 2 (head_of (first ∷ bytes)) (λ piece left. bignum_step tag piece left frames)
+    else with_piece 2 (head_at_front (first ∷ bytes)) (λ piece left. bignum_step tag piece left frames)
 
 -- the next piece of its pieces, or the break
 abbrev pub bignum_piece : ℕ → List ℕ → List ℕ → List OpenItem → Option Move
 bignum_piece tag content [] frames = None
 bignum_piece tag content (first ∷ bytes) frames =
     if first == 0xff then bignum_step tag content bytes frames
-    else with_piece 2 (head_of (first ∷ bytes)) (λ piece left. moves [] left (BignumPieces tag (content ++ piece) frames))
+    else with_piece 2 (head_at_front (first ∷ bytes)) (λ piece left. moves [] left (BignumPieces tag (content ++ piece) frames))
 
 -- ---- parts of arrays and maps
 

@@ -4,7 +4,7 @@ use Rattle.sval_label.specs.Calls.{Call}
 use Rattle.sval_cbor_read.specs.declared.node.Node.{Node}
 use Rattle.sval_cbor_read.specs.declared.found.Found as made_found
 use Rattle.sval_cbor_read.specs.declared.found.Found.TheVariants as found
-use Rattle.sval_cbor_read.specs.CborValues.{CborValue, Null, Truth, Int, Text, Binary, Array, Map, CborLevel, innermost_level, levels_of, puts, closes, puts_calls, cbor_values_in, cbor_value_in}
+use Rattle.sval_cbor_read.specs.CborValues.{CborValue, Null, Truth, Int, Text, Binary, Array, Map, CborLevel, cbor_innermost_level, cbor_levels_of, cbor_puts, cbor_closes, puts_calls, cbor_values_in, cbor_value_in}
 use Rattle.sval_cbor_read.specs.SeenNodes.{streamed_items, NodesStand}
 use Rattle.sval_cbor_read.specs.NodeSpans.{BeginsItem}
 
@@ -23,16 +23,16 @@ found_value found.Map level = Map level.values
 
 -- what is found before these levels
 abbrev pub found_puts : made_found.Found → List CborLevel → List CborLevel
-found_puts found.Null levels = puts Null levels
-found_puts (found.Bool b) levels = puts (Truth b) levels
-found_puts (found.Unsigned n) levels = puts (Int (pos n)) levels
-found_puts (found.Negative n) levels = puts (Int (negsuc n)) levels
-found_puts (found.Text text) levels = puts (Text (text.now ∷ [])) levels
-found_puts (found.Bytes bytes) levels = puts (Binary (bytes.now ∷ [])) levels
-found_puts found.TextChunks levels = closes (λ level. Text level.texts) levels
-found_puts found.ByteChunks levels = closes (λ level. Binary level.binaries) levels
-found_puts found.Array levels = closes (λ level. Array level.values) levels
-found_puts found.Map levels = closes (λ level. Map level.values) levels
+found_puts found.Null levels = cbor_puts Null levels
+found_puts (found.Bool b) levels = cbor_puts (Truth b) levels
+found_puts (found.Unsigned n) levels = cbor_puts (Int (pos n)) levels
+found_puts (found.Negative n) levels = cbor_puts (Int (negsuc n)) levels
+found_puts (found.Text text) levels = cbor_puts (Text (text.now ∷ [])) levels
+found_puts (found.Bytes bytes) levels = cbor_puts (Binary (bytes.now ∷ [])) levels
+found_puts found.TextChunks levels = cbor_closes (λ level. Text level.texts) levels
+found_puts found.ByteChunks levels = cbor_closes (λ level. Binary level.binaries) levels
+found_puts found.Array levels = cbor_closes (λ level. Array level.values) levels
+found_puts found.Map levels = cbor_closes (λ level. Map level.values) levels
 
 -- calls are what is found, whatever follows
 pub record AreFound (made : List Call) (found : made_found.Found) : Type 0 where
@@ -40,7 +40,7 @@ pub record AreFound (made : List Call) (found : made_found.Found) : Type 0 where
 
 -- the level of what follows the first node
 abbrev pub level_behind : List ℕ → List Node → CborLevel
-level_behind bytes nodes = innermost_level (levels_of (streamed_items bytes (drop 1 nodes)))
+level_behind bytes nodes = cbor_innermost_level (cbor_levels_of (streamed_items bytes (drop 1 nodes)))
 
 -- the value of the item that nodes begin with
 abbrev pub value_at : List ℕ → List Node → CborValue
@@ -53,10 +53,10 @@ pub record AreOfItem (bytes : List ℕ) (nodes : List Node) : Type 0 where
 
 -- the chunks of a text that begin some calls, and those of a byte string
 abbrev pub texts_in : List Call → List (List ℕ)
-texts_in made = (innermost_level (levels_of made)).texts
+texts_in made = (cbor_innermost_level (cbor_levels_of made)).texts
 
 abbrev pub binaries_in : List Call → List (List ℕ)
-binaries_in made = (innermost_level (levels_of made)).binaries
+binaries_in made = (cbor_innermost_level (cbor_levels_of made)).binaries
 
 -- one more chunk in front, where there is one
 abbrev pub with_whole : Option (List ℕ) → List (List ℕ) → List (List ℕ)

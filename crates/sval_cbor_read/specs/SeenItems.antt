@@ -2,7 +2,7 @@
 use Rattle.std.specs.Prelude.{◌≡◌, ℕ, ◌<◌, ◌≤◌, List, [], ◌∷◌, ◌++◌, length, drop, Option, Some, None, ⊤}
 use Rattle.sval_label.specs.Calls.{Call}
 use Rattle.sval_cbor_read.specs.declared.head.Head as made_head
-use Rattle.sval_cbor_read.specs.Items.{ItemHead, head, head_of}
+use Rattle.sval_cbor_read.specs.Items.{ItemHead, head, head_at_front}
 use Rattle.sval_cbor_read.specs.declared.item.Medium as made_medium
 use Rattle.sval_cbor_read.specs.declared.item.Medium.TheVariants as medium
 use Rattle.sval_cbor_read.specs.declared.item.Item as made_item
@@ -88,7 +88,7 @@ pub record Begins (bytes : List ℕ) (at : ℕ) (begun : Begun) : Type 0 where
 -- no item begins the bytes: no step leads on, or they begin with the tag of a number that doesn't stand behind it
 pub data BeginsNoItem (bytes : List ℕ) : Type 0 where
   no_step : ((frames : List OpenItem) → item_step bytes frames ≡ None) → BeginsNoItem bytes
-  no_number : {tag : ℕ} {after : List ℕ} → head_of bytes ≡ Some (head 6 tag after) → IsNumberTag tag → LacksNumber tag after → BeginsNoItem bytes
+  no_number : {tag : ℕ} {after : List ℕ} → head_at_front bytes ≡ Some (head 6 tag after) → IsNumberTag tag → LacksNumber tag after → BeginsNoItem bytes
 
 -- no item begins at a place
 abbrev pub BeginsNothing : List ℕ → ℕ → Type 0

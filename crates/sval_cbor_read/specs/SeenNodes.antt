@@ -9,8 +9,8 @@ use Rattle.sval_cbor_read.specs.declared.node.Kind as made_kind
 use Rattle.sval_cbor_read.specs.declared.node.Kind.TheVariants as kind
 use Rattle.sval_cbor_read.specs.declared.node.Node.{Node}
 use Rattle.sval_cbor_read.specs.declared.head.Head as made_head
-use Rattle.sval_cbor_read.specs.Items.{ItemHead, head, head_of, IsByteString}
-use Rattle.sval_cbor_read.specs.CborValues.{IsOneValue, OpensValue}
+use Rattle.sval_cbor_read.specs.Items.{ItemHead, head, head_at_front, IsByteString}
+use Rattle.sval_cbor_read.specs.CborValues.{IsOneItem, OpensValue}
 use Rattle.sval_cbor_read.specs.Reading.{Move, moves, Ended, item_step, string_step, fragment_call, with_piece, fits, number_call}
 
 -- ---- places in the bytes
@@ -34,12 +34,12 @@ with_string (Some (head major n after)) go = go (take n after) (drop n after)
 abbrev pub joined_strings : ℕ → List ℕ → List ℕ
 joined_strings zero bytes = []
 joined_strings (suc most) [] = []
-joined_strings (suc most) (first ∷ bytes) = if first == 0xff then [] else with_string (head_of (first ∷ bytes)) (λ content left. content ++ joined_strings most left)
+joined_strings (suc most) (first ∷ bytes) = if first == 0xff then [] else with_string (head_at_front (first ∷ bytes)) (λ content left. content ++ joined_strings most left)
 
 -- the content of the byte string with which the bytes begin, definite or in pieces
 abbrev pub byte_string : List ℕ → List ℕ
 byte_string [] = []
-byte_string (first ∷ bytes) = if first == 0x5f then joined_strings (length bytes) bytes else with_string (head_of (first ∷ bytes)) (λ content left. content)
+byte_string (first ∷ bytes) = if first == 0x5f then joined_strings (length bytes) bytes else with_string (head_at_front (first ∷ bytes)) (λ content left. content)
 
 -- the bytes begin with a byte string that is a number under this tag
 pub record IsBignum (tag : ℕ) (bytes : List ℕ) : Type 0 where
@@ -80,7 +80,7 @@ map_key_calls item = Call.PartBegin calls.Key ∷ (item ++ (Call.PartEnd calls.K
 
 -- the fragment that a definite string of this major type is, with which the bytes begin
 abbrev pub piece_calls : ℕ → List ℕ → List Call
-piece_calls major bytes = step_calls (with_piece major (head_of bytes) (λ piece left. moves (fragment_call major piece ∷ []) left (Ended [])))
+piece_calls major bytes = step_calls (with_piece major (head_at_front bytes) (λ piece left. moves (fragment_call major piece ∷ []) left (Ended [])))
 
 -- the begin of the part that a node stands in, where it is the first of an item
 abbrev pub item_begins_before : made_kind.Kind → made_place.Place → List Call
@@ -122,18 +122,18 @@ item_ends_behind kind.EndSeq place = item_place_ends place
 item_ends_behind kind.EndMap place = item_place_ends place
 
 -- the calls of a node in these bytes
-abbrev pub node_calls : List ℕ → Node → List Call
-node_calls bytes node = item_begins_before node.kind node.place ++ (node_own_calls node.kind (drop (node_offset node) bytes) ++ item_ends_behind node.kind node.place)
+abbrev pub cbor_node_calls : List ℕ → Node → List Call
+cbor_node_calls bytes node = item_begins_before node.kind node.place ++ (node_own_calls node.kind (drop (node_offset node) bytes) ++ item_ends_behind node.kind node.place)
 
 -- the calls of the nodes, one node after the other
 abbrev pub streamed_items : List ℕ → List Node → List Call
-streamed_items bytes nodes = flat_map (node_calls bytes) nodes
+streamed_items bytes nodes = flat_map (cbor_node_calls bytes) nodes
 
 -- ---- what stands at the places
 
 -- calls that are a whole item
 abbrev pub AreWhole : List Call → Type 0
-AreWhole made = (0 < length made) × IsOneValue made
+AreWhole made = (0 < length made) × IsOneItem made
 
 -- calls that begin a string, an array or a map
 abbrev pub AreBegin : List Call → Type 0

@@ -2,7 +2,7 @@
 
 ghost use Rattle.std.specs.Prelude.{◌≡◌, length, slice_get};
 ghost use Rattle.sval_cbor_read.specs.CborValues.{cbor_values_in};
-ghost use Rattle.sval_cbor_read.specs.CborLookups.{last_named, values_listed, paired};
+ghost use Rattle.sval_cbor_read.specs.CborLookups.{cbor_last_named, cbor_values_listed, cbor_paired};
 ghost use Rattle.sval_cbor_read.specs.SeenNodes.{streamed_items, NodesStand};
 ghost use Rattle.sval_cbor_read.specs.SeenEntries.{TakesFirstItem, TakesFirstEntry};
 
@@ -23,14 +23,14 @@ impl<'d> Model for CborItems<'d> {
     ghost use Rattle.std.specs.Coded.{coded_list};
     ghost use Rattle.sval_cbor_read.specs.CborValues.{CborValue, cbor_values_in};
     ghost use Rattle.sval_cbor_read.specs.CborCodes.{cbor_value_code};
-    ghost use Rattle.sval_cbor_read.specs.CborLookups.{values_listed};
+    ghost use Rattle.sval_cbor_read.specs.CborLookups.{cbor_values_listed};
     ghost use Rattle.sval_cbor_read.specs.SeenNodes.{streamed_items, NodesStand};
 
     ghost Value = { List CborValue };
 
     ghost coded = { coded_list cbor_value_code };
 
-    ghost view = { λ items. values_listed (cbor_values_in (streamed_items items.bytes.now items.nodes.now)) };
+    ghost view = { λ items. cbor_values_listed (cbor_values_in (streamed_items items.bytes.now items.nodes.now)) };
 
     ghost invariant = { λ items. NodesStand items.bytes.now items.nodes.now };
 }
@@ -39,7 +39,7 @@ impl<'d> CborItems<'d> {
     /// The items that these nodes of the bytes begin with, up to the end of the array.
     pub(crate) fn new(bytes: &'d [u8], nodes: &'d [Node]) -> Self
         requires { NodesStand bytes.now nodes.now }
-        ensures { result ≡ values_listed (cbor_values_in (streamed_items bytes.now nodes.now)) }
+        ensures { result ≡ cbor_values_listed (cbor_values_in (streamed_items bytes.now nodes.now)) }
     {
         CborItems { bytes, nodes }
     }
@@ -107,14 +107,15 @@ impl<'d> Model for CborEntries<'d> {
     ghost use Rattle.std.specs.Coded.{coded_list};
     ghost use Rattle.sval_cbor_read.specs.CborValues.{cbor_values_in};
     ghost use Rattle.sval_cbor_read.specs.CborCodes.{entry_code};
-    ghost use Rattle.sval_cbor_read.specs.CborLookups.{Entry, values_listed, paired};
+    ghost use Rattle.sval_cbor_read.specs.CborLookups.{Entry, cbor_values_listed, cbor_paired};
     ghost use Rattle.sval_cbor_read.specs.SeenNodes.{streamed_items, NodesStand};
 
     ghost Value = { List Entry };
 
     ghost coded = { coded_list entry_code };
 
-    ghost view = { λ entries. paired (values_listed (cbor_values_in (streamed_items entries.bytes.now entries.nodes.now))) };
+    ghost view = { λ entries.
+        cbor_paired (cbor_values_listed (cbor_values_in (streamed_items entries.bytes.now entries.nodes.now))) };
 
     ghost invariant = { λ entries. NodesStand entries.bytes.now entries.nodes.now };
 }
@@ -123,7 +124,7 @@ impl<'d> CborEntries<'d> {
     /// The pairs that these nodes of the bytes begin with, up to the end of the map.
     pub(crate) fn new(bytes: &'d [u8], nodes: &'d [Node]) -> Self
         requires { NodesStand bytes.now nodes.now }
-        ensures { result ≡ paired (values_listed (cbor_values_in (streamed_items bytes.now nodes.now))) }
+        ensures { result ≡ cbor_paired (cbor_values_listed (cbor_values_in (streamed_items bytes.now nodes.now))) }
     {
         CborEntries { bytes, nodes }
     }
@@ -161,7 +162,7 @@ impl<'d> CborEntries<'d> {
 
     /// The value of the last pair that is left whose key is this text.
     pub(crate) fn last_named(self, name: &str) -> Option<CborRef<'d>>
-        ensures { result ≡ last_named name.now self.entry }
+        ensures { result ≡ cbor_last_named name.now self.entry }
     {
         let mut left = self;
         let mut found = None;

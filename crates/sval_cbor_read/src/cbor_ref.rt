@@ -3,7 +3,7 @@
 ghost use Rattle.std.specs.Prelude.{◌≡◌, ◌^◌, ℤ, pos, negsuc, nat_lt, if◌then◌else◌, option_map, Some, None, drop};
 ghost use Rattle.sval_cbor_read.specs.SeenNodes.{NodesStand};
 ghost use Rattle.sval_cbor_read.specs.SeenFound.{AreOfItem, value_at};
-ghost use Rattle.sval_cbor_read.specs.CborLookups.{cbor_kind_of, is_null, cbor_truth_of, within_bits, signed_of, unsigned_of, cbor_text_of, cbor_str_of, cbor_bytes_of, cbor_slice_of, cbor_items_of, cbor_item_at, cbor_entries_of, cbor_len_of, cbor_entry_of, is_this_text};
+ghost use Rattle.sval_cbor_read.specs.CborLookups.{cbor_kind_of, cbor_is_null, cbor_truth_of, within_bits, signed_of, cbor_unsigned_of, cbor_text_of, cbor_str_of, cbor_bytes_of, cbor_slice_of, cbor_items_of, cbor_item_at, cbor_entries_of, cbor_len_of, cbor_entry_of, is_this_text};
 
 use crate::cbor_parts::{CborEntries, CborItems};
 use crate::cbor_text::{CborBytes, CborText};
@@ -93,7 +93,7 @@ impl<'d> CborRef<'d> {
 
     /// Whether it is null.
     pub fn is_null(&self) -> bool
-        ensures { result ≡ is_null self.now }
+        ensures { result ≡ cbor_is_null self.now }
     {
         match self.kind() {
             CborKind::Null => true,
@@ -135,7 +135,7 @@ impl<'d> CborRef<'d> {
 
     /// The integer, if this is one and fits a `u64`.
     pub fn as_u64(&self) -> Option<u64>
-        ensures { result ≡ unsigned_of 64 self.now }
+        ensures { result ≡ cbor_unsigned_of 64 self.now }
     {
         match first_found(self.bytes, self.nodes) {
             Found::Unsigned(n) => if n < 1 << 64 { Some(n as u64) } else { None },
@@ -161,7 +161,7 @@ impl<'d> CborRef<'d> {
 
     /// The integer, if this is one and fits a `u128`.
     pub fn as_u128(&self) -> Option<u128>
-        ensures { result ≡ unsigned_of 128 self.now }
+        ensures { result ≡ cbor_unsigned_of 128 self.now }
     {
         match first_found(self.bytes, self.nodes) {
             Found::Unsigned(n) => Some(n),

@@ -32,7 +32,9 @@ impl<'d> Model for CborText<'d> {
 
     ghost Value = { List (List ℕ) };
 
-    ghost view = { λ here. with_whole (option_map (λ text. text.now) here.whole) (texts_in (streamed_items here.bytes.now here.nodes.now)) };
+    ghost view = { λ here.
+        with_whole (option_map (λ text. text.now) here.whole)
+        (texts_in (streamed_items here.bytes.now here.nodes.now)) };
 
     ghost invariant = { λ here. NodesStand here.bytes.now here.nodes.now };
 }
@@ -212,7 +214,9 @@ impl<'d> Model for CborBytes<'d> {
 
     ghost Value = { List (List ℕ) };
 
-    ghost view = { λ here. with_whole (option_map (λ content. content.now) here.whole) (binaries_in (streamed_items here.bytes.now here.nodes.now)) };
+    ghost view = { λ here.
+        with_whole (option_map (λ content. content.now) here.whole)
+        (binaries_in (streamed_items here.bytes.now here.nodes.now)) };
 
     ghost invariant = { λ here. NodesStand here.bytes.now here.nodes.now };
 }

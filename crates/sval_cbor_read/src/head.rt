@@ -2,7 +2,7 @@
 
 ghost use Rattle.std.specs.Prelude.{◌≡◌, ◌+◌, ◌<◌, ◌≤◌, length, drop, get_or, None, IfSome};
 ghost use Rattle.std.specs.Int.Digits.{number_from_digits};
-ghost use Rattle.sval_cbor_read.specs.Items.{wide_head, head_of};
+ghost use Rattle.sval_cbor_read.specs.Items.{wide_head, head_at_front};
 ghost use Rattle.sval_cbor_read.specs.Reading.{mark_of};
 ghost use Rattle.sval_cbor_read.specs.SeenHeads.{IsHead};
 
@@ -46,12 +46,12 @@ fn read_wide(bytes: &[u8], at: usize, width: usize, major: u8) -> Option<Head>
 }
 
 /// The head at a place.
-#[tactic(auto, unfolding(crate::specs::Items::head_of))]
+#[tactic(auto, unfolding(crate::specs::Items::head_at_front))]
 #[inline(always)]
 pub(crate) fn read_head(bytes: &[u8], at: usize) -> Option<Head>
     requires { at ≤ length bytes.now }
-    ensures found { IfSome result (λ h. (at < h.next) × IsHead bytes.now at h (head_of (drop at bytes.now))) }
-    ensures nothing { result ≡ None → head_of (drop at bytes.now) ≡ None }
+    ensures found { IfSome result (λ h. (at < h.next) × IsHead bytes.now at h (head_at_front (drop at bytes.now))) }
+    ensures nothing { result ≡ None → head_at_front (drop at bytes.now) ≡ None }
 {
     if at >= bytes.len() {
         return None;
@@ -74,11 +74,11 @@ pub(crate) fn read_head(bytes: &[u8], at: usize) -> Option<Head>
 }
 
 /// The head of a text of less than 24 bytes, if there is one at a place. It is one byte, as most texts have it.
-#[tactic(auto, unfolding(crate::specs::Items::head_of))]
+#[tactic(auto, unfolding(crate::specs::Items::head_at_front))]
 #[inline(always)]
 pub(crate) fn short_text_head(bytes: &[u8], at: usize) -> Option<Head>
     requires { at < length bytes.now }
-    ensures found { IfSome result (λ h. (at < h.next) × IsHead bytes.now at h (head_of (drop at bytes.now))) }
+    ensures found { IfSome result (λ h. (at < h.next) × IsHead bytes.now at h (head_at_front (drop at bytes.now))) }
     ensures text { IfSome result (λ h. h.major ≡ 3) }
     ensures no_mark { IfSome result (λ h. mark_of (get_or bytes.now at 0) ≡ None) }
 {

@@ -6,7 +6,7 @@ ghost use Rattle.sval_core.specs.Law.{Emits};
 ghost use Rattle.sval_core.specs.Values.{makes};
 ghost use Rattle.sval_cbor_read.specs.Items.{negative_type, big_endian};
 ghost use Rattle.sval_cbor_read.specs.Reading.{mark_of, first_step, item_step, body_step, string_step, number_call};
-ghost use Rattle.sval_cbor_read.specs.SeenNodes.{item_place_begins, item_place_ends, byte_string, step_calls, piece_calls, IsBignum, IsTextAt, map_key_calls, item_begins_before, node_own_calls, item_ends_behind, node_offset, node_calls, NodeStands, NodesStand, streamed_items};
+ghost use Rattle.sval_cbor_read.specs.SeenNodes.{item_place_begins, item_place_ends, byte_string, step_calls, piece_calls, IsBignum, IsTextAt, map_key_calls, item_begins_before, node_own_calls, item_ends_behind, node_offset, cbor_node_calls, NodeStands, NodesStand, streamed_items};
 
 use crate::bignum::read_bignum;
 use crate::head::{Head, read_head, short_text_head};
@@ -330,7 +330,7 @@ impl Node {
     fn stream<'v, S: Stream<Lent<'v>>>(self, bytes: &'v [u8], stream: &mut S) -> Result
         requires { NodeStands bytes.now self }
         ensures { Emits S.law result (S.standing stream.old)
-            (makes (node_calls bytes.now self)) (S.standing stream.new) }
+            (makes (cbor_node_calls bytes.now self)) (S.standing stream.new) }
     {
         if let (Kind::Item, Place::Key) = (self.kind, self.place) {
             if let Some(head) = text_head(bytes, self.at()) {

@@ -1,14 +1,14 @@
 //! How many nodes an item has.
 
 ghost use Rattle.std.specs.Prelude.{◌≡◌, ◌+◌, ◌<◌, ◌≤◌, ◌^◌, None, length, drop, IfSome};
-ghost use Rattle.sval_cbor_read.specs.NodeSpans.{is_first, depth_behind, span, BeginsItem, IsBehindItem};
+ghost use Rattle.sval_cbor_read.specs.NodeSpans.{is_first, cbor_depth_behind, cbor_span, BeginsItem, IsBehindItem};
 
 use crate::node::{Kind, Node};
 
 /// The number of strings, arrays and maps that are open behind a node. `depth` is the number before it.
 fn depth_behind(kind: Kind, depth: usize) -> usize
     requires { depth + 1 < 2 ^ 64 }
-    ensures { result ≡ depth_behind kind depth }
+    ensures { result ≡ cbor_depth_behind kind depth }
 {
     match kind {
         Kind::Begin => depth + 1,
@@ -20,7 +20,7 @@ fn depth_behind(kind: Kind, depth: usize) -> usize
 /// How many nodes the item has that these begin with.
 #[tactic(auto, using(crate::proofs::NodeStreams::here))]
 fn item_len(nodes: &[Node]) -> usize
-    ensures len { result ≡ span 0 nodes.now }
+    ensures len { result ≡ cbor_span 0 nodes.now }
     ensures within { result ≤ length nodes.now }
 {
     let mut depth = 0;

@@ -1,7 +1,7 @@
 //! Where bytes fail that no item begins.
 
 ghost use Rattle.std.specs.Prelude.{◌≡◌, ◌<◌, ◌≤◌, length, drop};
-ghost use Rattle.sval_cbor_read.specs.Items.{head_of};
+ghost use Rattle.sval_cbor_read.specs.Items.{head_at_front};
 ghost use Rattle.sval_cbor_read.specs.SeenHeads.{IsHead};
 ghost use Rattle.sval_cbor_read.specs.SeenItems.{BeginsNothing};
 ghost use Rattle.sval_cbor_read.specs.SeenStops.{ChunksStop, NumberStops, ItemStops};
@@ -43,7 +43,7 @@ fn number_stop(bytes: &[u8], at: usize) -> usize
 /// tag.
 fn tag_stop(bytes: &[u8], at: usize, head: Head) -> usize
     requires within { at ≤ length bytes.now }
-    requires is { (at < head.next) × IsHead bytes.now at head (head_of (drop at bytes.now)) }
+    requires is { (at < head.next) × IsHead bytes.now at head (head_at_front (drop at bytes.now)) }
     requires major { head.major ≡ 6 }
     requires nothing { BeginsNothing bytes.now at }
     ensures { ItemStops bytes.now at result }

@@ -2,10 +2,10 @@
 //!
 //! [`check`] streams a value into a machine with a stack, which takes the calls that can still be completed and no
 //! others. Its definitions are in `specs/Checks.antt`. [`check_all`] checks values one after another, and gives where
-//! each of them ends. Its definitions are in `specs/ManyChecks.antt`. [`Checked`] puts the same machine before a stream
-//! of one's own. Its law is in `specs/Checked.antt`. All three use [`Machine`]. Its step is in two parts, and its
-//! definitions are in `specs/Dues.antt`. [`TokenBuf`] keeps calls as [`Token`]s, so that a test can compare them. Its law
-//! is in `specs/TokenBufs.antt`.
+//! each of them ends. Its definitions are in `specs/ManyChecks.antt`. [`Checked`] puts the same machine before the
+//! caller's stream. Its law is in `specs/Checked.antt`. All three use [`Machine`]. Its step is in two parts, and its
+//! definitions are in `specs/Dues.antt`. [`TokenBuf`] keeps calls as [`Token`]s, so that a test can compare them. Its
+//! law is in `specs/TokenBufs.antt`.
 #![tactic(auto)]
 
 ghost use Rattle.std.specs.Prelude.{◌≡◌, ◌⊎◌, ℕ, Err, IfOk, OnOk};

@@ -14,7 +14,7 @@ use Rattle.sval_io.proofs.Appending.{writes_nothing, writes_both, stops_after}
 use Rattle.sval_json.specs.Escape.{escape, escaped, is_escaped, is_plain}
 use Rattle.sval_json.proofs.Texts.{escaped-append}
 
-escape-plain : (byte : ℕ) → is_plain byte ≡ true → escape byte ≡ byte ∷ []
+pub escape-plain : (byte : ℕ) → is_plain byte ≡ true → escape byte ≡ byte ∷ []
 escape-plain byte h =
     let low : nat_lt byte 32 ≡ false = grind (arith, nat_tests) in
     let b8 : (byte == 8) ≡ false = grind (arith, nat_tests) in

@@ -69,9 +69,9 @@ abbrev pub status_of : Result (Unit {0}) Failure → ℕ
 status_of (Ok done) = DONE
 status_of (Err why) = status_of_failure why
 
-abbrev pub line_of : List ℕ → Result (Unit {0}) Failure → List ℕ
-line_of usage (Ok done) = []
-line_of usage (Err why) = line_of_failure usage why
+abbrev pub failure_line : List ℕ → Result (Unit {0}) Failure → List ℕ
+failure_line usage (Ok done) = []
+failure_line usage (Err why) = line_of_failure usage why
 
 -- ---- kinds of statuses
 

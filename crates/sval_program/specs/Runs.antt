@@ -8,7 +8,7 @@ use Rattle.sval_program.specs.declared.failure.Fault.{Fault}
 use Rattle.sval_program.specs.declared.failure.Failure.{Failure}
 use Rattle.sval_program.specs.declared.failure.Failure.TheVariants as failure
 use Rattle.sval_program.specs.declared.status.TheConstants.{DONE, USAGE, WRITE, READ, NO_MEMORY, TOO_LONG}
-use Rattle.sval_program.specs.Failures.{status_of_fault, status_of_found, status_of, line_of, is_fault, is_read}
+use Rattle.sval_program.specs.Failures.{status_of_fault, status_of_found, status_of, failure_line, is_fault, is_read}
 use Rattle.sval_program.specs.Inputs.{OnBoth, OnShort, OnLong, IsSpentIf, input_if}
 use Rattle.sval_program.specs.Jobs.{Terms, may_write, Works}
 use Rattle.sval_program.specs.Outputs.{Grows, IsWantIf}
@@ -127,4 +127,4 @@ pub record Reports {Form I K : Type 0} (terms : Terms Form) (source : I → Supp
   -- a fault in the line is one of the input
   pub found : (why : Fault) → ended ≡ Err (failure.Fault why) → OnNamed terms words (source before) (HasFault terms why)
   -- the one fact that names the device
-  pub tells : TellsLine diag_old (line_of terms.usage ended) diag_new
+  pub tells : TellsLine diag_old (failure_line terms.usage ended) diag_new

@@ -1,7 +1,7 @@
 //! Programs that write what is due of an input: a program says what, and its run is the same for all.
 
 ghost use Rattle.std.specs.Prelude.{◌≡◌, map, string_bytes};
-ghost use Rattle.sval_program.specs.Failures.{status_of, line_of, line_of_failure};
+ghost use Rattle.sval_program.specs.Failures.{status_of, failure_line, line_of_failure};
 ghost use Rattle.sval_program.specs.Jobs.{Serves, Works};
 ghost use Rattle.sval_program.specs.Reports.{TellsLine};
 ghost use Rattle.sval_program.specs.Runs.{Ends, Reports};
@@ -85,7 +85,7 @@ fn line<J: Job>(failure: Failure) -> Line
 /// Tells the third device how the program ended, and answers the status.
 fn conclude<J: Job, D: Sink>(ended: Result<(), Failure>, diag: &mut D) -> u8
     ensures status { result ≡ status_of ended }
-    ensures tells { TellsLine (D.told diag.old) (line_of J.terms.usage ended) (D.told diag.new) }
+    ensures tells { TellsLine (D.told diag.old) (failure_line J.terms.usage ended) (D.told diag.new) }
 {
     match ended {
         Ok(()) => DONE,

@@ -6,7 +6,7 @@ use Rattle.std.proofs.lemmas.List.{length-append, take-append-drop, length-take}
 use Rattle.sval_label.specs.Calls.{Call}
 use Rattle.sval_tape.specs.Tapes.{call_bytes, tape_of}
 use Rattle.sval_tape.specs.Taped.{IsTapedCall, IsTape, IsBadAt}
-use Rattle.sval_tape.specs.Reading.{call_at}
+use Rattle.sval_tape.specs.Reading.{call_at_front}
 use Rattle.sval_tape.proofs.Tapes.{tape-cons, tape-nil}
 use Rattle.sval_tape.proofs.CallsRead.{call_again, calls_of_tape}
 
@@ -20,7 +20,7 @@ NoCallIn bytes = (call : Call) (rest : List ℕ) → IsTapedCall call → bytes 
 -- one call begins bytes
 same_call : (call other : Call) (rest more : List ℕ) → IsTapedCall call → IsTapedCall other → call_bytes call ++ rest ≡ call_bytes other ++ more → rest ≡ more
 same_call call other rest more taped fits e =
-    let both = sym (call_again call rest taped) ∙ ap call_at e ∙ call_again other more fits in
+    let both = sym (call_again call rest taped) ∙ ap call_at_front e ∙ call_again other more fits in
     ap (λ (r : Call × List ℕ). r.1) (same_Some (call, rest) (other, more) both)
 
 next : (call : Call) (calls : List Call) (rest : List ℕ) → tape_of (call ∷ calls) ++ rest ≡ call_bytes call ++ (tape_of calls ++ rest)

@@ -6,23 +6,23 @@ use Rattle.std.proofs.lemmas.Option.{same_Some}
 use Rattle.std.proofs.lemmas.List.{length-append}
 use Rattle.sval_label.specs.Calls.{U8, U16, U32, U64, U128, I8, I16, I32, I64, I128, Call, Null, Truth, Int, Standalone, TagHint, TextBegin, TextFragment, TextEnd, BinaryBegin, BinaryFragment, BinaryEnd, EnumBegin, EnumEnd, TaggedBegin, TaggedEnd, Begin, End, PartBegin, PartEnd, Seq, Map, Record, Tuple, RecordTuple, Item, Key, Value, Field, Place, FieldPlace}
 use Rattle.sval_tape.specs.Tapes.{operands, call_number, call_bytes, tape_of}
-use Rattle.sval_tape.specs.Reading.{Reads, seen_at, forms, operands_at, call_at, calls_up_to, calls_in}
+use Rattle.sval_tape.specs.Reading.{ReadsAtFront, seen_at, tape_forms, operands_at, call_at_front, calls_up_to, calls_on_tape}
 use Rattle.sval_tape.specs.Taped.{IsTapedCall, IsTape}
 use Rattle.sval_tape.proofs.Tapes.{tape-cons, tape-nil}
 use Rattle.sval_tape.proofs.OperandReads.{IsBytes, Takes, IsOperand, some_then, some_seen, bytes_rest, nothing_operand, truth_operand, block_operand}
 use Rattle.sval_tape.proofs.Names.{int_operand, size_operand, text_operand, tag_operand, name_operand, name_and_size_operand, field_operand, place_operand, field_place_operand}
 
 -- what is read behind this number are the operands of a call that has it
-pub record IsRow (number : ℕ) (form : Reads Call) : Type 0 where
+pub record IsRow (number : ℕ) (form : ReadsAtFront Call) : Type 0 where
   pub takes : (bytes : List ℕ) (call : Call) (rest : List ℕ) → IsBytes bytes → form bytes ≡ Some (call, rest) → Takes bytes (operands call) rest × IsTapedCall call × (call_number call ≡ number)
 
 -- these forms, from this number on
-AreRows : ℕ → List (Reads Call) → Type 0
+AreRows : ℕ → List (ReadsAtFront Call) → Type 0
 AreRows number [] = ⊤
-AreRows number (form ∷ forms) = IsRow number form × AreRows (suc number) forms
+AreRows number (form ∷ tape_forms) = IsRow number form × AreRows (suc number) tape_forms
 
 -- an operand makes the call of its row
-module _ {A : Type 0} {Fits : A → Type 0} {put : A → List ℕ} {get : Reads A} (operand : IsOperand Fits put get) where
+module _ {A : Type 0} {Fits : A → Type 0} {put : A → List ℕ} {get : ReadsAtFront A} (operand : IsOperand Fits put get) where
   row : (number : ℕ) (make : A → Call) → ((x : A) → Fits x → IsTapedCall (make x)) → ((x : A) → operands (make x) ≡ put x) → ((x : A) → call_number (make x) ≡ number) → IsRow number (seen_at make get)
   row number make taped written numbered = record {
     takes = λ bytes call rest fits e.
@@ -37,8 +37,8 @@ module _ {A : Type 0} {Fits : A → Type 0} {put : A → List ℕ} {get : Reads 
   again make x rest fits = ap (option_map (λ (r : A × List ℕ). (make r.0, r.1))) (operand.again x rest fits)
 
 -- each form of the table
-rows : AreRows 0 forms
-unfolding forms AreRows
+rows : AreRows 0 tape_forms
+unfolding tape_forms AreRows
 rows = (
   row nothing_operand 0 (λ _. Null) (λ x fits. tt) (λ x. refl) (λ x. refl),
   (
@@ -185,25 +185,25 @@ rows = (
   ),
 )
 
-row_at : (number : ℕ) (forms : List (Reads Call)) (i : ℕ) (form : Reads Call) (which : ℕ) → which ≡ i + number → AreRows number forms → slice_get forms i ≡ Some form → IsRow which form
+row_at : (number : ℕ) (tape_forms : List (ReadsAtFront Call)) (i : ℕ) (form : ReadsAtFront Call) (which : ℕ) → which ≡ i + number → AreRows number tape_forms → slice_get tape_forms i ≡ Some form → IsRow which form
 unfolding AreRows
 row_at number [] i form which is rows got = absurd (cc got)
-row_at number (first ∷ forms) zero form which is rows got =
+row_at number (first ∷ tape_forms) zero form which is rows got =
     let same : number ≡ which = omega (arith, is) in
     subst (λ f. IsRow which f) (same_Some first form got) (subst (λ k. IsRow k first) same rows.0)
-row_at number (first ∷ forms) (suc i) form which is rows got = row_at (suc number) forms i form which (omega (arith, is)) rows.1 got
+row_at number (first ∷ tape_forms) (suc i) form which is rows got = row_at (suc number) tape_forms i form which (omega (arith, is)) rows.1 got
 
-pub call_takes : (bytes : List ℕ) (call : Call) (rest : List ℕ) → IsBytes bytes → call_at bytes ≡ Some (call, rest) → Takes bytes (call_bytes call) rest × IsTapedCall call
+pub call_takes : (bytes : List ℕ) (call : Call) (rest : List ℕ) → IsBytes bytes → call_at_front bytes ≡ Some (call, rest) → Takes bytes (call_bytes call) rest × IsTapedCall call
 unfolding operands_at
 call_takes [] call rest fits e = absurd (cc e)
 call_takes (number ∷ bytes) call rest fits e =
-    let (form, got, read) = some_then (λ (form : Reads Call). form bytes) (slice_get forms number) (call, rest) e in
-    let r = row_at 0 forms number form number (omega arith) rows got in
+    let (form, got, read) = some_then (λ (form : ReadsAtFront Call). form bytes) (slice_get tape_forms number) (call, rest) e in
+    let r = row_at 0 tape_forms number form number (omega arith) rows got in
     let (taken, taped, numbered) = r.takes bytes call rest (bytes_rest number bytes fits) read in
     (record { parts = ap (λ (w : List ℕ). number ∷ w) taken.parts ∙ ap (λ k. k ∷ (operands call ++ rest)) (sym numbered); rest_fits = taken.rest_fits }, taped)
 
-pub call_again : (call : Call) (rest : List ℕ) → IsTapedCall call → call_at (call_bytes call ++ rest) ≡ Some (call, rest)
-unfolding operands_at forms
+pub call_again : (call : Call) (rest : List ℕ) → IsTapedCall call → call_at_front (call_bytes call ++ rest) ≡ Some (call, rest)
+unfolding operands_at tape_forms
 call_again Null rest fits = refl
 call_again (Truth b) rest fits = again truth_operand Truth b rest tt
 call_again (Int U8 n) rest fits = again (int_operand U8) (Int U8) n rest fits
@@ -267,11 +267,11 @@ up_to_tape (suc count) (call ∷ calls) bytes taped are le =
     let spelled : bytes ≡ call_bytes call ++ tape_of calls = are ∙ tape-cons call calls in
     let size : length bytes ≡ suc (length (operands call ++ tape_of calls)) = ap length spelled in
     let whole : length (operands call ++ tape_of calls) ≡ length (operands call) + length (tape_of calls) = length-append (operands call) (tape_of calls) in
-    let read : call_at bytes ≡ Some (call, tape_of calls) = ap call_at spelled ∙ call_again call (tape_of calls) taped.0 in
+    let read : call_at_front bytes ≡ Some (call, tape_of calls) = ap call_at_front spelled ∙ call_again call (tape_of calls) taped.0 in
     let Rest : Option (Call × List ℕ) → List Call = λ o. elim o [ None ↦ [] | Some x ↦ x.0 ∷ calls_up_to count x.1 ] in
     ap Rest read ∙ ap (λ (cs : List Call). call ∷ cs) (up_to_tape count calls (tape_of calls) taped.1 refl (omega arith))
 
 -- the calls of a tape are those that it is read as
-pub calls_of_tape : (bytes : List ℕ) (calls : List Call) → IsTape bytes calls → calls_in bytes ≡ calls
-unfolding calls_in
+pub calls_of_tape : (bytes : List ℕ) (calls : List Call) → IsTape bytes calls → calls_on_tape bytes ≡ calls
+unfolding calls_on_tape
 calls_of_tape bytes calls tape = up_to_tape (length bytes) calls bytes tape.taped tape.bytes_are (omega arith)

@@ -7,7 +7,7 @@ use Rattle.sval_label.specs.Calls.{Tag, Label, Index, Name, IntType, U8, U16, U3
 use Rattle.sval_label.specs.Ranges.{is_unsigned, is_signed, is_of_type, is_index}
 use Rattle.sval_label.specs.Tags.{is_tag_name}
 use Rattle.sval_tape.specs.Tapes.{leb128, zigzag, block, optional, size_bytes, tag_bytes, label_bytes, index_bytes, name_bytes, int_bytes}
-use Rattle.sval_tape.specs.Reading.{seen_at, kept_at, leb128_at, unzigzag, int_at, text_at, size_at, tag_at, tag_option_at, label_of, label_at, index_number_at, index_of, index_at, name_from, label_and_index_at, name_at, name_and_size_at, field_at, place_at, label_then_index_at, field_place_at}
+use Rattle.sval_tape.specs.Reading.{seen_at, kept_at, leb128_at, unzigzag, int_at, text_at, size_at, tag_at, tag_option_at, label_of, label_at, index_number_at, index_of_parts, index_at, name_of_parts, label_and_index_at, name_at_front, name_and_size_at, field_at, place_at, label_then_index_at, field_place_at}
 use Rattle.sval_tape.specs.Taped.{IsTapedText, IsTapedTag, IsTapedSize, IsTapedLabel, IsTapedIndex, IsTapedName}
 use Rattle.sval_tape.proofs.OperandReads.{IsOperand, same_operand, seen_operand, kept_operand, optional_operand, both_operand, leb128_operand, block_operand}
 
@@ -109,7 +109,7 @@ index_number_operand =
 index_operand : IsOperand IsTapedIndex index_bytes index_at
 unfolding index_at
 index_operand =
-    seen_operand (both_operand index_number_operand tag_option_operand) IsTapedIndex index_bytes index_of
+    seen_operand (both_operand index_number_operand tag_option_operand) IsTapedIndex index_bytes index_of_parts
     (λ index fits. ((index.number, index.tag), (fits.number, fits.tag), refl, refl))
     (λ parts fits. (record { number = fits.0; tag = fits.1 }, refl))
 
@@ -117,10 +117,10 @@ label_and_index_operand : IsOperand (λ (p : Option Label × Option Index). IfSo
 unfolding label_and_index_at
 label_and_index_operand = both_operand (optional_operand label_operand) (optional_operand index_operand)
 
-pub name_operand : IsOperand IsTapedName name_bytes name_at
-unfolding name_at
+pub name_operand : IsOperand IsTapedName name_bytes name_at_front
+unfolding name_at_front
 name_operand =
-    seen_operand (both_operand tag_option_operand label_and_index_operand) IsTapedName name_bytes name_from
+    seen_operand (both_operand tag_option_operand label_and_index_operand) IsTapedName name_bytes name_of_parts
     (λ name fits. ((name.tag, (name.label, name.index)), (fits.tag, (fits.label, fits.index)), refl, refl))
     (λ parts fits. (record { tag = fits.0; label = fits.1.0; index = fits.1.1 }, refl))
 

@@ -4,8 +4,8 @@ use Rattle.std.specs.Prelude.{IfSome, option_map, option_and_then, ◌⊎◌, �
 use Rattle.std.proofs.lemmas.Bool.{cases_lt, ltb-false, le-ltb, ltb-true, lt-ltb, ne_eqb, eqb-false}
 use Rattle.std.proofs.lemmas.Option.{same_Some, cond_some}
 use Rattle.std.proofs.lemmas.List.{take_at, drop_at, take-append-drop, length-append, length-take, get_or-drop}
-use Rattle.sval_tape.specs.Tapes.{leb128_in, leb128, optional, truth_bytes, block}
-use Rattle.sval_tape.specs.Reading.{Reads, nothing_at, seen_at, kept_at, both_at, optional_at, truth_at, above, leb128_at_in, leb128_at, cut_block, block_at}
+use Rattle.sval_tape.specs.Tapes.{leb128_in, leb128, optional, tape_truth_bytes, block}
+use Rattle.sval_tape.specs.Reading.{ReadsAtFront, nothing_at, seen_at, kept_at, both_at, optional_at, truth_at, above, leb128_at_in, leb128_at, cut_block, block_at}
 use Rattle.sval_tape.specs.Taped.{IsBlock}
 
 -- each is a byte
@@ -27,7 +27,7 @@ takes_both : (a x b y c : List ℕ) → Takes a x b → Takes b y c → Takes a 
 takes_both a x b y c p q = record { parts = p.parts ∙ ap (λ (t : List ℕ). x ++ t) q.parts ∙ sym (append_assoc x y c); rest_fits = q.rest_fits }
 
 -- what is written is read again, whatever follows it; what is read was written, and fits
-pub record IsOperand {A : Type 0} (Fits : A → Type 0) (put : A → List ℕ) (get : Reads A) : Type 0 where
+pub record IsOperand {A : Type 0} (Fits : A → Type 0) (put : A → List ℕ) (get : ReadsAtFront A) : Type 0 where
   pub again : (x : A) (rest : List ℕ) → Fits x → get (put x ++ rest) ≡ Some (x, rest)
   pub takes : (bytes : List ℕ) (x : A) (rest : List ℕ) → IsBytes bytes → get bytes ≡ Some (x, rest) → Takes bytes (put x) rest × Fits x
 
@@ -47,7 +47,7 @@ nothing_operand = record {
   takes = λ bytes x rest fits e. (record { parts = ap (λ (p : Unit {0} × List ℕ). p.1) (same_Some (tt, bytes) (x, rest) e); rest_fits = subst (λ (p : Unit {0} × List ℕ). IsBytes p.1) (same_Some (tt, bytes) (x, rest) e) fits }, tt);
 }
 
-module _ {A : Type 0} {Fits : A → Type 0} {put : A → List ℕ} {get : Reads A} (operand : IsOperand Fits put get) where
+module _ {A : Type 0} {Fits : A → Type 0} {put : A → List ℕ} {get : ReadsAtFront A} (operand : IsOperand Fits put get) where
   -- the same with other words for what fits
   pub same_operand : (Now : A → Type 0) → ((x : A) → Now x → Fits x) → ((x : A) → Fits x → Now x) → IsOperand Now put get
   same_operand Now back forth = record {
@@ -102,7 +102,7 @@ module _ {A : Type 0} {Fits : A → Type 0} {put : A → List ℕ} {get : Reads 
   pub optional_operand : IsOperand (λ o. IfSome o Fits) (optional put) (optional_at get)
   optional_operand = record { again = optional_again; takes = optional_takes }
 
-module _ {A B : Type 0} {Fits : A → Type 0} {put : A → List ℕ} {get : Reads A} {More : B → Type 0} {add : B → List ℕ} {go : Reads B} (first : IsOperand Fits put get) (second : IsOperand More add go) where
+module _ {A B : Type 0} {Fits : A → Type 0} {put : A → List ℕ} {get : ReadsAtFront A} {More : B → Type 0} {add : B → List ℕ} {go : ReadsAtFront B} (first : IsOperand Fits put get) (second : IsOperand More add go) where
   pub both_operand : IsOperand (λ (p : A × B). Fits p.0 × More p.1) (λ p. put p.0 ++ add p.1) (both_at get go)
   both_operand = record {
     again = λ p rest fits.
@@ -120,21 +120,21 @@ module _ {A B : Type 0} {Fits : A → Type 0} {put : A → List ℕ} {get : Read
 
 -- ---- truth values
 
-truth_again : (b : Bool) (rest : List ℕ) → ⊤ → truth_at (truth_bytes b ++ rest) ≡ Some (b, rest)
+truth_again : (b : Bool) (rest : List ℕ) → ⊤ → truth_at (tape_truth_bytes b ++ rest) ≡ Some (b, rest)
 truth_again false rest fits = refl
 truth_again true rest fits = refl
 
-truth_takes : (bytes : List ℕ) (b : Bool) (rest : List ℕ) → IsBytes bytes → truth_at bytes ≡ Some (b, rest) → Takes bytes (truth_bytes b) rest × ⊤
+truth_takes : (bytes : List ℕ) (b : Bool) (rest : List ℕ) → IsBytes bytes → truth_at bytes ≡ Some (b, rest) → Takes bytes (tape_truth_bytes b) rest × ⊤
 truth_takes [] b rest fits e = absurd cc
 truth_takes (zero ∷ bytes) b rest fits e =
-    let made : Takes (0 ∷ bytes) (truth_bytes false) bytes = record { parts = refl; rest_fits = bytes_rest 0 bytes fits } in
-    (subst (λ (r : Bool × List ℕ). Takes (0 ∷ bytes) (truth_bytes r.0) r.1) (same_Some (false, bytes) (b, rest) e) made, tt)
+    let made : Takes (0 ∷ bytes) (tape_truth_bytes false) bytes = record { parts = refl; rest_fits = bytes_rest 0 bytes fits } in
+    (subst (λ (r : Bool × List ℕ). Takes (0 ∷ bytes) (tape_truth_bytes r.0) r.1) (same_Some (false, bytes) (b, rest) e) made, tt)
 truth_takes (suc zero ∷ bytes) b rest fits e =
-    let made : Takes (1 ∷ bytes) (truth_bytes true) bytes = record { parts = refl; rest_fits = bytes_rest 1 bytes fits } in
-    (subst (λ (r : Bool × List ℕ). Takes (1 ∷ bytes) (truth_bytes r.0) r.1) (same_Some (true, bytes) (b, rest) e) made, tt)
+    let made : Takes (1 ∷ bytes) (tape_truth_bytes true) bytes = record { parts = refl; rest_fits = bytes_rest 1 bytes fits } in
+    (subst (λ (r : Bool × List ℕ). Takes (1 ∷ bytes) (tape_truth_bytes r.0) r.1) (same_Some (true, bytes) (b, rest) e) made, tt)
 truth_takes (suc (suc byte) ∷ bytes) b rest fits e = absurd cc
 
-pub truth_operand : IsOperand (λ (b : Bool). ⊤) truth_bytes truth_at
+pub truth_operand : IsOperand (λ (b : Bool). ⊤) tape_truth_bytes truth_at
 truth_operand = record { again = truth_again; takes = truth_takes }
 
 -- ---- numbers

@@ -7,8 +7,8 @@ use Rattle.sval_core.specs.Values.{makes}
 use Rattle.sval_core.specs.Law.{Standing, Law, Takes, Refuses, Streams, Stops, emits, then_emits}
 use Rattle.sval_core.proofs.Emissions.{streams_one, stops_one, streams_then, stops_later}
 use Rattle.sval_tape.specs.Tapes.{call_bytes, tape_of}
-use Rattle.sval_tape.specs.Taped.{IsTapedCall, IsTape}
-use Rattle.sval_tape.specs.Reading.{call_at}
+use Rattle.sval_tape.specs.Taped.{IsTapedCall}
+use Rattle.sval_tape.specs.Reading.{call_at_front}
 use Rattle.sval_tape.specs.Streaming.{StreamsTape, StreamsFront, StopsInTape}
 use Rattle.sval_tape.proofs.OperandReads.{IsBytes}
 use Rattle.sval_tape.proofs.Tapes.{tape-nil}
@@ -43,7 +43,7 @@ parts_more calls call behind parts is =
     parts ∙ ap (λ (w : List ℕ). tape_of calls ++ w) is ∙ sym (append_assoc (tape_of calls) (call_bytes call) behind) ∙ ap (λ (w : List ℕ). w ++ behind) (sym (tape-append calls call))
 
 module _ {V : Type 0} {law : Law V} {old mid : Standing V} {bytes rest : List ℕ} (new : Standing V) (call : Call) (behind : List ℕ) where
-  pub streamed_more : IsStreamedUpTo law old mid bytes rest → call_at rest ≡ Some (call, behind) → Takes law mid call new → IsStreamedUpTo law old new bytes behind
+  pub streamed_more : IsStreamedUpTo law old mid bytes rest → call_at_front rest ≡ Some (call, behind) → Takes law mid call new → IsStreamedUpTo law old new bytes behind
   unfolding emits then_emits
   streamed_more m e t =
       let c = call_takes rest call behind m.fits e in
@@ -55,7 +55,7 @@ module _ {V : Type 0} {law : Law V} {old mid : Standing V} {bytes rest : List �
         streams = streams_then m.streams (streams_one t);
       }
 
-  pub streamed_stop : IsStreamedUpTo law old mid bytes rest → call_at rest ≡ Some (call, behind) → Refuses law mid call new → StopsInTape law bytes old new
+  pub streamed_stop : IsStreamedUpTo law old mid bytes rest → call_at_front rest ≡ Some (call, behind) → Refuses law mid call new → StopsInTape law bytes old new
   unfolding emits then_emits
   streamed_stop m e r =
       let c = call_takes rest call behind m.fits e in
@@ -69,10 +69,10 @@ module _ {V : Type 0} {law : Law V} {old mid : Standing V} {bytes rest : List �
       }
 
 module _ {V : Type 0} {law : Law V} {old now : Standing V} {bytes rest : List ℕ} where
-  pub streamed_less : (call : Call) (behind : List ℕ) → IsStreamedUpTo law old now bytes rest → call_at rest ≡ Some (call, behind) → length behind < length rest
+  pub streamed_less : (call : Call) (behind : List ℕ) → IsStreamedUpTo law old now bytes rest → call_at_front rest ≡ Some (call, behind) → length behind < length rest
   streamed_less call behind m e = read_less call behind (as_read m) e
 
-  pub streamed_bad : IsStreamedUpTo law old now bytes rest → 0 < length rest → call_at rest ≡ None → StreamsFront law bytes (length bytes - length rest) old now
+  pub streamed_bad : IsStreamedUpTo law old now bytes rest → 0 < length rest → call_at_front rest ≡ None → StreamsFront law bytes (length bytes - length rest) old now
   streamed_bad m some none =
       let size : length bytes ≡ length (tape_of m.calls) + length rest = ap length m.parts ∙ length-append (tape_of m.calls) rest in
       let at : length bytes - length rest ≡ length (tape_of m.calls) = omega arith in

@@ -9,7 +9,7 @@ use Rattle.sval_core.specs.Law.{Standing, Law, Takes, Refuses, Streams, Stops, e
 use Rattle.sval_core.proofs.Emissions.{streams_one, stops_one, streams_then, stops_first, stops_later}
 use Rattle.sval_tape.specs.Tapes.{operands, call_bytes, tape_of}
 use Rattle.sval_tape.specs.Taped.{IsTapedCall, IsTape, IsBadAt}
-use Rattle.sval_tape.specs.Reading.{call_at, calls_in}
+use Rattle.sval_tape.specs.Reading.{call_at_front, calls_on_tape}
 use Rattle.sval_tape.proofs.OperandReads.{IsBytes}
 use Rattle.sval_tape.proofs.Tapes.{tape-cons, tape-nil}
 use Rattle.sval_tape.proofs.CallsRead.{call_takes, call_again, calls_of_tape}
@@ -36,7 +36,7 @@ pub all_append : (calls : List Call) (call : Call) → AllByRecursion IsTapedCal
 all_append [] call all one = (one, tt)
 all_append (first ∷ calls) call all one = (all.0, all_append calls call all.1 one)
 
-pub read_more : {bytes rest : List ℕ} (call : Call) (behind : List ℕ) → IsReadUpTo bytes rest → call_at rest ≡ Some (call, behind) → IsReadUpTo bytes behind
+pub read_more : {bytes rest : List ℕ} (call : Call) (behind : List ℕ) → IsReadUpTo bytes rest → call_at_front rest ≡ Some (call, behind) → IsReadUpTo bytes behind
 read_more {bytes} {rest} call behind r e =
     let t = call_takes rest call behind r.fits e in
     record {
@@ -46,13 +46,13 @@ read_more {bytes} {rest} call behind r e =
       fits = t.0.rest_fits;
     }
 
-pub read_less : {bytes rest : List ℕ} (call : Call) (behind : List ℕ) → IsReadUpTo bytes rest → call_at rest ≡ Some (call, behind) → length behind < length rest
+pub read_less : {bytes rest : List ℕ} (call : Call) (behind : List ℕ) → IsReadUpTo bytes rest → call_at_front rest ≡ Some (call, behind) → length behind < length rest
 read_less {rest = rest} call behind r e =
     let t = call_takes rest call behind r.fits e in
     let size : length rest ≡ suc (length (operands call ++ behind)) = ap length t.0.parts in
     omega (arith, length-append (operands call) behind)
 
-pub read_bad : {bytes rest : List ℕ} → IsReadUpTo bytes rest → 0 < length rest → call_at rest ≡ None → IsBadAt bytes (length bytes - length rest)
+pub read_bad : {bytes rest : List ℕ} → IsReadUpTo bytes rest → 0 < length rest → call_at_front rest ≡ None → IsBadAt bytes (length bytes - length rest)
 read_bad {bytes} {rest} r some none =
     let size : length bytes ≡ length (tape_of r.calls) + length rest = ap length r.parts ∙ length-append (tape_of r.calls) rest in
     let at : length bytes - length rest ≡ length (tape_of r.calls) = omega arith in
@@ -62,10 +62,10 @@ read_bad {bytes} {rest} r some none =
       within = omega arith;
       calls = r.calls;
       before = record { taped = r.taped; bytes_are = front };
-      bad = λ call more taped e. let read = sym none ∙ ap call_at (sym back ∙ e) ∙ call_again call more taped in cc read;
+      bad = λ call more taped e. let read = sym none ∙ ap call_at_front (sym back ∙ e) ∙ call_again call more taped in cc read;
     }
 
-pub read_all : {bytes rest : List ℕ} → IsReadUpTo bytes rest → length rest ≡ 0 → IsTape bytes (calls_in bytes)
+pub read_all : {bytes rest : List ℕ} → IsReadUpTo bytes rest → length rest ≡ 0 → IsTape bytes (calls_on_tape bytes)
 read_all {bytes} {rest} r none =
     let nothing : rest ≡ [] = nil_from_length rest none in
     let tape : IsTape bytes r.calls = record { taped = r.taped; bytes_are = r.parts ∙ ap (λ (w : List ℕ). tape_of r.calls ++ w) nothing ∙ append-nil (tape_of r.calls) } in
@@ -90,11 +90,11 @@ record IsNext (left : List Call) (call : Call) (behind : List ℕ) : Type 0 wher
   left_is : left ≡ call ∷ others
   tape : IsTape behind others
 
-next_is : (rest : List ℕ) (left : List Call) (call : Call) (behind : List ℕ) → IsTape rest left → call_at rest ≡ Some (call, behind) → IsNext left call behind
+next_is : (rest : List ℕ) (left : List Call) (call : Call) (behind : List ℕ) → IsTape rest left → call_at_front rest ≡ Some (call, behind) → IsNext left call behind
 next_is rest [] call behind tape e =
-    let read : call_at [] ≡ Some (call, behind) = ap call_at (sym (tape.bytes_are ∙ tape-nil)) ∙ e in absurd (cc read)
+    let read : call_at_front [] ≡ Some (call, behind) = ap call_at_front (sym (tape.bytes_are ∙ tape-nil)) ∙ e in absurd (cc read)
 next_is rest (first ∷ others) call behind tape e =
-    let read : call_at rest ≡ Some (first, tape_of others) = ap call_at (tape.bytes_are ∙ tape-cons first others) ∙ call_again first (tape_of others) tape.taped.0 in
+    let read : call_at_front rest ≡ Some (first, tape_of others) = ap call_at_front (tape.bytes_are ∙ tape-cons first others) ∙ call_again first (tape_of others) tape.taped.0 in
     let same = same_Some (first, tape_of others) (call, behind) (sym read ∙ e) in
     record {
       others = others;
@@ -103,7 +103,7 @@ next_is rest (first ∷ others) call behind tape e =
     }
 
 module _ {V : Type 0} {law : Law V} {old mid : Standing V} {all : List Call} {rest : List ℕ} (new : Standing V) (call : Call) (behind : List ℕ) where
-  pub made_more : IsMadeUpTo law old mid all rest → call_at rest ≡ Some (call, behind) → Takes law mid call new → IsMadeUpTo law old new all behind
+  pub made_more : IsMadeUpTo law old mid all rest → call_at_front rest ≡ Some (call, behind) → Takes law mid call new → IsMadeUpTo law old new all behind
   unfolding emits then_emits
   made_more m e t =
       let n = next_is rest m.left call behind m.tape e in
@@ -115,7 +115,7 @@ module _ {V : Type 0} {law : Law V} {old mid : Standing V} {all : List Call} {re
         streams = streams_then m.streams (streams_one t);
       }
 
-  pub made_stop : IsMadeUpTo law old mid all rest → call_at rest ≡ Some (call, behind) → Refuses law mid call new → Stops law old (makes all) new
+  pub made_stop : IsMadeUpTo law old mid all rest → call_at_front rest ≡ Some (call, behind) → Refuses law mid call new → Stops law old (makes all) new
   unfolding emits then_emits
   made_stop m e r =
       let n = next_is rest m.left call behind m.tape e in
@@ -123,19 +123,19 @@ module _ {V : Type 0} {law : Law V} {old mid : Standing V} {all : List Call} {re
       let stops : Stops law old (makes (m.done ++ (call ∷ n.others))) new = stops_later m.streams (stops_first (makes n.others) (stops_one r)) in
       rw all_is stops
 
-no_more : (rest : List ℕ) (left : List Call) → IsTape rest left → call_at rest ≡ None → left ≡ []
+no_more : (rest : List ℕ) (left : List Call) → IsTape rest left → call_at_front rest ≡ None → left ≡ []
 no_more rest [] tape e = refl
 no_more rest (first ∷ others) tape e =
-    let read : call_at rest ≡ Some (first, tape_of others) = ap call_at (tape.bytes_are ∙ tape-cons first others) ∙ call_again first (tape_of others) tape.taped.0 in
+    let read : call_at_front rest ≡ Some (first, tape_of others) = ap call_at_front (tape.bytes_are ∙ tape-cons first others) ∙ call_again first (tape_of others) tape.taped.0 in
     let never = sym e ∙ read in absurd (cc never)
 
-pub made_all : {V : Type 0} {law : Law V} {old now : Standing V} {all : List Call} {rest : List ℕ} → IsMadeUpTo law old now all rest → call_at rest ≡ None → Streams law old (makes all) now
+pub made_all : {V : Type 0} {law : Law V} {old now : Standing V} {all : List Call} {rest : List ℕ} → IsMadeUpTo law old now all rest → call_at_front rest ≡ None → Streams law old (makes all) now
 made_all {law = law} {old} {now} {all} {rest} m e =
     let all_is : all ≡ m.done = m.all_is ∙ ap (λ (left : List Call). m.done ++ left) (no_more rest m.left m.tape e) ∙ append-nil m.done in
     subst (λ (calls : List Call). Streams law old (makes calls) now) (sym all_is) m.streams
 
 -- bytes behind a call are fewer
-pub made_less : {V : Type 0} {law : Law V} {old now : Standing V} {all : List Call} {rest : List ℕ} (call : Call) (behind : List ℕ) → IsMadeUpTo law old now all rest → call_at rest ≡ Some (call, behind) → length behind < length rest
+pub made_less : {V : Type 0} {law : Law V} {old now : Standing V} {all : List Call} {rest : List ℕ} (call : Call) (behind : List ℕ) → IsMadeUpTo law old now all rest → call_at_front rest ≡ Some (call, behind) → length behind < length rest
 made_less {rest = rest} call behind m e = by_left m.left m.tape
   where
     by_left : (left : List Call) → IsTape rest left → length behind < length rest

@@ -9,7 +9,7 @@ use Rattle.sval_io.specs.declared.sink.SinkError.TheVariants.{Failed, NoMemory}
 use Rattle.sval_io.specs.Sinks.{Told, IsCounted, appended, less_room, WritesWhole, WritesFront}
 use Rattle.sval_io.proofs.Appending.{appended-appended, appended-nothing, less_room-zero, less_room-less_room}
 use Rattle.sval_tape.specs.Tapes.{call_bytes, tape_of}
-use Rattle.sval_tape.specs.Taping.{Taping, with_taped, writer_law}
+use Rattle.sval_tape.specs.Taping.{Taping, with_taped, tape_writer_law}
 use Rattle.sval_tape.proofs.Tapes.{tape-cons, tape-nil}
 
 -- what a sink tells but for what it holds back
@@ -36,12 +36,12 @@ front_unheld {old} {new} {why = why} bytes f = record {
 }
 
 front_cause : (old new : Told) (before : Option SinkError) (why : SinkError) (call : Call) → WritesFront why old (call_bytes call) new
-    → HasCause writer_law (stands old before).view call (stands old before) (stands new (Some why))
+    → HasCause tape_writer_law (stands old before).view call (stands old before) (stands new (Some why))
 front_cause old new before Failed call front = inr (inl front.cause)
 front_cause old new before NoMemory call front = inr (inr front.cause)
 
 pub refuses_call : (old new : Told) (before : Option SinkError) (why : SinkError) (call : Call) → WritesFront why old (call_bytes call) new
-    → Refuses writer_law (stands old before) call (stands new (Some why))
+    → Refuses tape_writer_law (stands old before) call (stands new (Some why))
 refuses_call old new before why call front =
     record { cause = front_cause old new before why call front; left = front_unheld (call_bytes call) front; faults = front.counts.faults; wants = front.counts.wants }
 
@@ -49,7 +49,7 @@ told_after : (old new : Told) (why : Option SinkError) (bytes : List ℕ) → Wr
 told_after old new why bytes w =
     let text = w.appends.text in let room = w.appends.room in let faults = w.steady.faults in let wants = w.steady.wants in cc
 
-pub takes_call : (old new : Told) (why : Option SinkError) (call : Call) → WritesWhole old (call_bytes call) new → Takes writer_law (stands old why) call (stands new why)
+pub takes_call : (old new : Told) (why : Option SinkError) (call : Call) → WritesWhole old (call_bytes call) new → Takes tape_writer_law (stands old why) call (stands new why)
 takes_call old new why call w = record {
   accepted = w.appends.fits;
   view = told_after old new why (call_bytes call) w;
@@ -72,7 +72,7 @@ with_more taping xs ys =
     ap (λ text. with_both taping text (less_room (less_room taping.told.room (length xs)) (length ys))) (appended-appended taping.told.text xs ys)
     ∙ ap (with_both taping (appended taping.told.text (xs ++ ys))) (less_room-less_room taping.told.room (length xs) (length ys) ∙ ap (less_room taping.told.room) (sym (length-append xs ys)))
 
-pub writes_all : (calls : List Call) (begun done : Taping) → Ran writer_law begun calls done → done ≡ with_taped (tape_of calls) begun
+pub writes_all : (calls : List Call) (begun done : Taping) → Ran tape_writer_law begun calls done → done ≡ with_taped (tape_of calls) begun
 writes_all [] begun done ran = ran ∙ sym (with_nothing begun) ∙ ap (λ bytes. with_taped bytes begun) (sym tape-nil)
 writes_all (call ∷ calls) begun done (may, ran) =
     writes_all calls (with_taped (call_bytes call) begun) done ran ∙ with_more begun (call_bytes call) (tape_of calls)

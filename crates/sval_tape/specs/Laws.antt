@@ -4,16 +4,16 @@ use Rattle.sval_label.specs.Calls.{Call}
 use Rattle.sval_core.specs.Law.{Ran}
 use Rattle.sval_tape.specs.Tapes.{tape_of}
 use Rattle.sval_tape.specs.Taped.{IsTape, IsBadAt}
-use Rattle.sval_tape.specs.Taping.{Taping, with_taped, writer_law}
-use Rattle.sval_tape.specs.Reading.{calls_in}
+use Rattle.sval_tape.specs.Taping.{Taping, with_taped, tape_writer_law}
+use Rattle.sval_tape.specs.Reading.{calls_on_tape}
 
 -- a writer that took these calls wrote their tape and nothing else
 abbrev pub WritersWrite : Type 0
-WritersWrite = (calls : List Call) (begun done : Taping) → Ran writer_law begun calls done → done ≡ with_taped (tape_of calls) begun
+WritersWrite = (calls : List Call) (begun done : Taping) → Ran tape_writer_law begun calls done → done ≡ with_taped (tape_of calls) begun
 
 -- what was written reads back as the same calls
 abbrev pub TapesReadBack : Type 0
-TapesReadBack = (bytes : List ℕ) (calls : List Call) → IsTape bytes calls → calls_in bytes ≡ calls
+TapesReadBack = (bytes : List ℕ) (calls : List Call) → IsTape bytes calls → calls_on_tape bytes ≡ calls
 
 -- bytes are the tape of one list of calls
 abbrev pub OneListOfCalls : Type 0

@@ -25,9 +25,9 @@ optional operand None = 0 ∷ []
 optional operand (Some x) = 1 ∷ operand x
 
 -- a truth value: 0 or 1
-abbrev pub truth_bytes : Bool → List ℕ
-truth_bytes false = 0 ∷ []
-truth_bytes true = 1 ∷ []
+abbrev pub tape_truth_bytes : Bool → List ℕ
+tape_truth_bytes false = 0 ∷ []
+tape_truth_bytes true = 1 ∷ []
 
 -- a text or a binary: the number of its bytes, and the bytes
 abbrev pub block : List ℕ → List ℕ
@@ -64,12 +64,12 @@ int_bytes type (pos n) = leb128 n
 int_bytes type (negsuc n) = []
 
 -- the name of a container, where its kind has one
-abbrev pub head_bytes : Head → List ℕ
-head_bytes Seq = []
-head_bytes Map = []
-head_bytes (Record name) = name_bytes name
-head_bytes (Tuple name) = name_bytes name
-head_bytes (RecordTuple name) = name_bytes name
+abbrev pub tape_head_bytes : Head → List ℕ
+tape_head_bytes Seq = []
+tape_head_bytes Map = []
+tape_head_bytes (Record name) = name_bytes name
+tape_head_bytes (Tuple name) = name_bytes name
+tape_head_bytes (RecordTuple name) = name_bytes name
 
 -- the tag, the label and the index of a part, as far as its kind has them
 abbrev pub slot_bytes : Slot → List ℕ
@@ -140,7 +140,7 @@ call_number (PartEnd slot) = 42 + slot_number slot
 
 -- the operands of a call
 abbrev pub operands : Call → List ℕ
-operands (Truth b) = truth_bytes b
+operands (Truth b) = tape_truth_bytes b
 operands (Int type n) = int_bytes type n
 operands (TextBegin size) = size_bytes size
 operands (TextFragment borrowed text) = block text
@@ -152,8 +152,8 @@ operands (EnumBegin name) = name_bytes name
 operands (EnumEnd name) = name_bytes name
 operands (TaggedBegin name) = name_bytes name
 operands (TaggedEnd name) = name_bytes name
-operands (Begin head size) = head_bytes head ++ size_bytes size
-operands (End head) = head_bytes head
+operands (Begin head size) = tape_head_bytes head ++ size_bytes size
+operands (End head) = tape_head_bytes head
 operands (PartBegin slot) = slot_bytes slot
 operands (PartEnd slot) = slot_bytes slot
 operands call = []

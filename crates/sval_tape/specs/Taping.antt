@@ -23,8 +23,8 @@ IsTapedBy (Some why) call old new = WritesFront why old (call_bytes call) new
 IsTapedBy None call old new = ⊥
 
 -- a call is taken where its bytes have room, and then they were written
-abbrev pub writer_law : Law Taping
-writer_law = record {
+abbrev pub tape_writer_law : Law Taping
+tape_writer_law = record {
   accepts = λ taping call. HasRoom taping.told (call_bytes call);
   after = λ taping call. with_taped (call_bytes call) taping;
   stopped = λ taping call left. IsTapedBy left.why call taping.told left.told;
@@ -37,14 +37,14 @@ abbrev pub tape_sink : {K : Type 0} → TapeWriter K → K
 tape_sink writer = writer.out
 
 -- the cause of the last refusal
-abbrev pub last_error : {K : Type 0} → TapeWriter K → Option SinkError
-last_error writer = writer.why
+abbrev pub tape_error : {K : Type 0} → TapeWriter K → Option SinkError
+tape_error writer = writer.why
 
 -- the writer as its law sees it; `told` is what the sink tells
 abbrev pub taping_of : {K : Type 0} → (K → Told) → TapeWriter K → Taping
-taping_of told writer = record { told = record (told (tape_sink writer)) { held = None }; why = last_error writer }
+taping_of told writer = record { told = record (told (tape_sink writer)) { held = None }; why = tape_error writer }
 
 -- the same with the two counts of the sink
-abbrev pub writer_standing : {K : Type 0} → (K → Told) → TapeWriter K → Standing Taping
-writer_standing told writer =
+abbrev pub tape_writer_standing : {K : Type 0} → (K → Told) → TapeWriter K → Standing Taping
+tape_writer_standing told writer =
     let sink = told (tape_sink writer) in record { view = taping_of told writer; faults = sink.faults; wants = sink.wants }

@@ -2,7 +2,7 @@
 
 ghost use Rattle.std.specs.Prelude.{◌≡◌, option_map};
 ghost use Rattle.sval_label.specs.Calls as call;
-ghost use Rattle.sval_tape.specs.ReadCalls.{alone_call, opening_call, named_call, head_of, part_call, type_of, call_read};
+ghost use Rattle.sval_tape.specs.ReadCalls.{tape_alone_call, tape_opening_call, tape_named_call, tape_head_of, tape_part_call, tape_int_type, call_read};
 ghost use Rattle.sval_tape.specs.Reading as tape;
 
 use crate::ints::{IntType, read_int};
@@ -13,14 +13,16 @@ use crate::reading::{
 };
 
 /// A call without operands.
-fn alone(word: Alone, bytes: &[u8]) -> Option<(CallRead<'_>, &[u8])>
-    ensures { option_map (λ x. (call_read x.0, x.1.now)) result ≡ tape.alone (alone_call word) bytes.now }
+#[inline(always)]
+pub(crate) fn alone(word: Alone, bytes: &[u8]) -> Option<(CallRead<'_>, &[u8])>
+    ensures { option_map (λ x. (call_read x.0, x.1.now)) result ≡ tape.alone (tape_alone_call word) bytes.now }
 {
     Some((CallRead::Alone(word), bytes))
 }
 
 /// A truth value.
-fn truth(bytes: &[u8]) -> Option<(CallRead<'_>, &[u8])>
+#[inline(always)]
+pub(crate) fn truth(bytes: &[u8]) -> Option<(CallRead<'_>, &[u8])>
     ensures { option_map (λ x. (call_read x.0, x.1.now)) result ≡ tape.seen_at call.Truth tape.truth_at bytes.now }
 {
     let (value, rest) = read_truth(bytes)?;
@@ -28,24 +30,27 @@ fn truth(bytes: &[u8]) -> Option<(CallRead<'_>, &[u8])>
 }
 
 /// A whole number.
-fn int(kind: IntType, bytes: &[u8]) -> Option<(CallRead<'_>, &[u8])>
-    ensures { option_map (λ x. (call_read x.0, x.1.now)) result ≡ tape.int_form (type_of kind) bytes.now }
+#[inline(always)]
+pub(crate) fn int(kind: IntType, bytes: &[u8]) -> Option<(CallRead<'_>, &[u8])>
+    ensures { option_map (λ x. (call_read x.0, x.1.now)) result ≡ tape.int_form (tape_int_type kind) bytes.now }
 {
     let (number, rest) = read_int(kind, bytes)?;
     Some((CallRead::Int(number), rest))
 }
 
 /// A begin with a size.
-fn opening(word: Opening, bytes: &[u8]) -> Option<(CallRead<'_>, &[u8])>
+#[inline(always)]
+pub(crate) fn opening(word: Opening, bytes: &[u8]) -> Option<(CallRead<'_>, &[u8])>
     ensures { option_map (λ x. (call_read x.0, x.1.now)) result
-        ≡ tape.seen_at (opening_call word) tape.size_at bytes.now }
+        ≡ tape.seen_at (tape_opening_call word) tape.size_at bytes.now }
 {
     let (size, rest) = read_size(bytes)?;
     Some((CallRead::Opening(word, size), rest))
 }
 
 /// A text's fragment.
-fn text(borrowed: bool, bytes: &[u8]) -> Option<(CallRead<'_>, &[u8])>
+#[inline(always)]
+pub(crate) fn text(borrowed: bool, bytes: &[u8]) -> Option<(CallRead<'_>, &[u8])>
     ensures { option_map (λ x. (call_read x.0, x.1.now)) result
         ≡ tape.seen_at (call.TextFragment borrowed) tape.text_at bytes.now }
 {
@@ -54,7 +59,8 @@ fn text(borrowed: bool, bytes: &[u8]) -> Option<(CallRead<'_>, &[u8])>
 }
 
 /// A binary's fragment.
-fn binary(borrowed: bool, bytes: &[u8]) -> Option<(CallRead<'_>, &[u8])>
+#[inline(always)]
+pub(crate) fn binary(borrowed: bool, bytes: &[u8]) -> Option<(CallRead<'_>, &[u8])>
     ensures { option_map (λ x. (call_read x.0, x.1.now)) result
         ≡ tape.seen_at (call.BinaryFragment borrowed) tape.block_at bytes.now }
 {
@@ -63,7 +69,8 @@ fn binary(borrowed: bool, bytes: &[u8]) -> Option<(CallRead<'_>, &[u8])>
 }
 
 /// A hint.
-fn hint(bytes: &[u8]) -> Option<(CallRead<'_>, &[u8])>
+#[inline(always)]
+pub(crate) fn hint(bytes: &[u8]) -> Option<(CallRead<'_>, &[u8])>
     ensures { option_map (λ x. (call_read x.0, x.1.now)) result ≡ tape.seen_at call.TagHint tape.tag_at bytes.now }
 {
     let (tag, rest) = read_tag(bytes)?;
@@ -71,9 +78,10 @@ fn hint(bytes: &[u8]) -> Option<(CallRead<'_>, &[u8])>
 }
 
 /// A call with a name.
-fn named(word: Named, bytes: &[u8]) -> Option<(CallRead<'_>, &[u8])>
+#[inline(always)]
+pub(crate) fn named(word: Named, bytes: &[u8]) -> Option<(CallRead<'_>, &[u8])>
     ensures { option_map (λ x. (call_read x.0, x.1.now)) result
-        ≡ tape.seen_at (named_call word) tape.name_at bytes.now }
+        ≡ tape.seen_at (tape_named_call word) tape.name_at_front bytes.now }
 {
     let (name, rest) = read_name(bytes)?;
     Some((CallRead::Named(word, name), rest))
@@ -81,8 +89,9 @@ fn named(word: Named, bytes: &[u8]) -> Option<(CallRead<'_>, &[u8])>
 
 /// The begin of a container with a name and a size.
 #[tactic(auto, unfolding(crate::specs::Reading::name_and_size_at))]
-fn begin(word: Container, bytes: &[u8]) -> Option<(CallRead<'_>, &[u8])>
-    ensures { option_map (λ x. (call_read x.0, x.1.now)) result ≡ tape.begin_form (head_of word) bytes.now }
+#[inline(always)]
+pub(crate) fn begin(word: Container, bytes: &[u8]) -> Option<(CallRead<'_>, &[u8])>
+    ensures { option_map (λ x. (call_read x.0, x.1.now)) result ≡ tape.begin_form (tape_head_of word) bytes.now }
 {
     let (name, rest) = read_name(bytes)?;
     let (size, behind) = read_size(rest)?;
@@ -90,25 +99,28 @@ fn begin(word: Container, bytes: &[u8]) -> Option<(CallRead<'_>, &[u8])>
 }
 
 /// A part with a tag and a label.
-fn field(side: Side, bytes: &[u8]) -> Option<(CallRead<'_>, &[u8])>
-    ensures { option_map (λ x. (call_read x.0, x.1.now)) result ≡ tape.field_form (part_call side) bytes.now }
+#[inline(always)]
+pub(crate) fn field(side: Side, bytes: &[u8]) -> Option<(CallRead<'_>, &[u8])>
+    ensures { option_map (λ x. (call_read x.0, x.1.now)) result ≡ tape.field_form (tape_part_call side) bytes.now }
 {
     let ((tag, label), rest) = read_field(bytes)?;
     Some((CallRead::Field(side, tag, label), rest))
 }
 
 /// A part with a tag and an index.
-fn place(side: Side, bytes: &[u8]) -> Option<(CallRead<'_>, &[u8])>
-    ensures { option_map (λ x. (call_read x.0, x.1.now)) result ≡ tape.place_form (part_call side) bytes.now }
+#[inline(always)]
+pub(crate) fn place(side: Side, bytes: &[u8]) -> Option<(CallRead<'_>, &[u8])>
+    ensures { option_map (λ x. (call_read x.0, x.1.now)) result ≡ tape.place_form (tape_part_call side) bytes.now }
 {
     let ((tag, index), rest) = read_place(bytes)?;
     Some((CallRead::Place(side, tag, index), rest))
 }
 
 /// A part with a tag, a label and an index.
-fn field_place(side: Side, bytes: &[u8]) -> Option<(CallRead<'_>, &[u8])>
+#[inline(always)]
+pub(crate) fn field_place(side: Side, bytes: &[u8]) -> Option<(CallRead<'_>, &[u8])>
     ensures { option_map (λ x. (call_read x.0, x.1.now)) result
-        ≡ tape.field_place_form (part_call side) bytes.now }
+        ≡ tape.field_place_form (tape_part_call side) bytes.now }
 {
     let ((tag, label, index), rest) = read_field_place(bytes)?;
     Some((CallRead::FieldPlace(side, tag, label, index), rest))
@@ -174,7 +186,7 @@ fn read_operands(number: u8, bytes: &[u8]) -> Option<(CallRead<'_>, &[u8])>
 
 /// The call at the front of bytes, and the bytes behind it.
 pub(crate) fn read_call(bytes: &[u8]) -> Option<(CallRead<'_>, &[u8])>
-    ensures { option_map (λ x. (call_read x.0, x.1.now)) result ≡ tape.call_at bytes.now }
+    ensures { option_map (λ x. (call_read x.0, x.1.now)) result ≡ tape.call_at_front bytes.now }
 {
     let [number, rest @ ..] = bytes else {
         return None;

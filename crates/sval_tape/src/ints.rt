@@ -3,7 +3,7 @@
 ghost use Rattle.std.specs.Prelude.{◌≡◌, pos, option_map};
 ghost use Rattle.sval_label.specs.Grouped.{int_call};
 ghost use Rattle.sval_label.specs.SeenIndex.{in_unsigned, in_signed};
-ghost use Rattle.sval_tape.specs.ReadCalls.{type_of, int_value};
+ghost use Rattle.sval_tape.specs.ReadCalls.{tape_int_type, int_value};
 ghost use Rattle.sval_tape.specs.Reading as tape;
 
 use crate::reading::read_number;
@@ -25,6 +25,7 @@ pub(crate) enum IntType {
 }
 
 /// The number, where it is in the range of a `u8`.
+#[inline(always)]
 fn in_u8(number: u128) -> Option<u8>
     ensures { result ≡ in_unsigned 8 (pos number) }
 {
@@ -32,6 +33,7 @@ fn in_u8(number: u128) -> Option<u8>
 }
 
 /// The number, where it is in the range of a `u16`.
+#[inline(always)]
 fn in_u16(number: u128) -> Option<u16>
     ensures { result ≡ in_unsigned 16 (pos number) }
 {
@@ -39,6 +41,7 @@ fn in_u16(number: u128) -> Option<u16>
 }
 
 /// The number, where it is in the range of a `u32`.
+#[inline(always)]
 fn in_u32(number: u128) -> Option<u32>
     ensures { result ≡ in_unsigned 32 (pos number) }
 {
@@ -46,6 +49,7 @@ fn in_u32(number: u128) -> Option<u32>
 }
 
 /// The number, where it is in the range of a `u64`.
+#[inline(always)]
 fn in_u64(number: u128) -> Option<u64>
     ensures { result ≡ in_unsigned 64 (pos number) }
 {
@@ -53,6 +57,7 @@ fn in_u64(number: u128) -> Option<u64>
 }
 
 /// The number, where it is in the range of an `i8`.
+#[inline(always)]
 fn in_i8(number: i128) -> Option<i8>
     ensures { result ≡ in_signed 7 number }
 {
@@ -60,6 +65,7 @@ fn in_i8(number: i128) -> Option<i8>
 }
 
 /// The number, where it is in the range of an `i16`.
+#[inline(always)]
 fn in_i16(number: i128) -> Option<i16>
     ensures { result ≡ in_signed 15 number }
 {
@@ -67,6 +73,7 @@ fn in_i16(number: i128) -> Option<i16>
 }
 
 /// The number, where it is in the range of an `i32`.
+#[inline(always)]
 fn in_i32(number: i128) -> Option<i32>
     ensures { result ≡ in_signed 31 number }
 {
@@ -74,6 +81,7 @@ fn in_i32(number: i128) -> Option<i32>
 }
 
 /// The number, where it is in the range of an `i64`.
+#[inline(always)]
 fn in_i64(number: i128) -> Option<i64>
     ensures { result ≡ in_signed 63 number }
 {
@@ -81,6 +89,7 @@ fn in_i64(number: i128) -> Option<i64>
 }
 
 /// The number with a sign that a number without one stands for.
+#[inline(always)]
 pub(crate) fn unzigzag(number: u128) -> i128
     ensures { result ≡ tape.unzigzag number }
 {
@@ -92,8 +101,9 @@ pub(crate) fn unzigzag(number: u128) -> i128
 }
 
 /// The whole number of this type, where the number is in its range.
+#[inline(always)]
 fn int_of(kind: IntType, number: u128) -> Option<Int>
-    ensures { option_map int_call result ≡ int_value (type_of kind) number }
+    ensures { option_map int_call result ≡ int_value (tape_int_type kind) number }
 {
     match kind {
         IntType::U8 => match in_u8(number) {
@@ -135,8 +145,9 @@ fn int_of(kind: IntType, number: u128) -> Option<Int>
 
 /// A whole number of this type.
 #[tactic(auto, unfolding(crate::specs::Reading::int_at))]
+#[inline(always)]
 pub(crate) fn read_int(kind: IntType, bytes: &[u8]) -> Option<(Int, &[u8])>
-    ensures { option_map (λ x. (int_call x.0, x.1.now)) result ≡ tape.int_form (type_of kind) bytes.now }
+    ensures { option_map (λ x. (int_call x.0, x.1.now)) result ≡ tape.int_form (tape_int_type kind) bytes.now }
 {
     let (number, rest) = read_number(bytes)?;
     match int_of(kind, number) {

@@ -58,6 +58,7 @@ mod numbers;
 mod operands;
 mod read_call;
 mod reading;
+mod step;
 mod streaming;
 mod tape;
 #[cfg(test)]

@@ -189,7 +189,7 @@ fn write_slot<K: Sink>(sink: &mut K, slot: Slot) -> Result<(), SinkError>
 
 /// Writes the name of a container, where its kind has one.
 fn write_head<K: Sink>(sink: &mut K, head: Head) -> Result<(), SinkError>
-    ensures { WritesAll result (K.told sink.old) (tape.head_bytes (seen_head head.entry)) (K.told sink.new) }
+    ensures { WritesAll result (K.told sink.old) (tape.tape_head_bytes (seen_head head.entry)) (K.told sink.new) }
 {
     match head {
         Head::Seq | Head::Map => write_all(sink, &[]),
@@ -200,7 +200,7 @@ fn write_head<K: Sink>(sink: &mut K, head: Head) -> Result<(), SinkError>
 /// Writes the operands of a container's begin.
 fn write_begin<K: Sink>(sink: &mut K, head: Head, size: Option<usize>) -> Result<(), SinkError>
     ensures { WritesAll result (K.told sink.old)
-        (tape.head_bytes (seen_head head.entry) ++ tape.size_bytes size) (K.told sink.new) }
+        (tape.tape_head_bytes (seen_head head.entry) ++ tape.size_bytes size) (K.told sink.new) }
 {
     write_head(sink, head)?;
     write_size(sink, size)

@@ -8,7 +8,7 @@ ghost use Rattle.sval_label.specs.SeenIndex.{seen_index, untagged};
 ghost use Rattle.sval_label.specs.SeenTags.{seen_tag};
 ghost use Rattle.sval_label.specs.Calls as call;
 ghost use Rattle.sval_core.specs.Law.{Answers};
-ghost use Rattle.sval_tape.specs.ReadCalls.{alone_call, opening_call, named_call, head_of, part_call, tag_read, number_read, index_read, label_read, name_read, call_read};
+ghost use Rattle.sval_tape.specs.ReadCalls.{tape_alone_call, tape_opening_call, tape_named_call, tape_head_of, tape_part_call, tag_read, index_number_read, index_read, label_read, name_read, call_read};
 
 use sval_core::{Lent, Result, Stream};
 use sval_label::{AnyCall, GroupedCall, Index, Int, Label, Lending, Name, Slot, Tag};
@@ -129,8 +129,9 @@ pub(crate) enum CallRead<'sval> {
 
 impl Alone {
     /// The call.
+    #[inline(always)]
     fn call<'c, T, B>(self) -> AnyCall<'c, T, B>
-        ensures { (text : T → List ℕ) (bytes : B → List ℕ) → call_of text bytes result ≡ alone_call self }
+        ensures { (text : T → List ℕ) (bytes : B → List ℕ) → call_of text bytes result ≡ tape_alone_call self }
     {
         match self {
             Alone::Null => AnyCall::Null,
@@ -150,9 +151,10 @@ impl Alone {
 
 impl Opening {
     /// The call with this size.
+    #[inline(always)]
     fn call<'c, T, B>(self, size: Option<usize>) -> AnyCall<'c, T, B>
         ensures { (text : T → List ℕ) (bytes : B → List ℕ)
-            → call_of text bytes result ≡ opening_call self size }
+            → call_of text bytes result ≡ tape_opening_call self size }
     {
         match self {
             Opening::Text => AnyCall::TextBegin(size),
@@ -165,9 +167,10 @@ impl Opening {
 
 impl Named {
     /// The call with this name.
+    #[inline(always)]
     fn call<'c, T, B>(self, name: Name<'c>) -> AnyCall<'c, T, B>
         ensures { (text : T → List ℕ) (bytes : B → List ℕ)
-            → call_of text bytes result ≡ named_call self (seen_name name.entry) }
+            → call_of text bytes result ≡ tape_named_call self (seen_name name.entry) }
     {
         match self {
             Named::Tag => AnyCall::Tag(name),
@@ -184,9 +187,10 @@ impl Named {
 
 impl Container {
     /// The begin with this name and size.
+    #[inline(always)]
     fn call<'c, T, B>(self, name: Name<'c>, size: Option<usize>) -> AnyCall<'c, T, B>
         ensures { (text : T → List ℕ) (bytes : B → List ℕ)
-            → call_of text bytes result ≡ call.Begin (head_of self (seen_name name.entry)) size }
+            → call_of text bytes result ≡ call.Begin (tape_head_of self (seen_name name.entry)) size }
     {
         match self {
             Container::Record => AnyCall::RecordBegin(name, size),
@@ -198,9 +202,10 @@ impl Container {
 
 impl Side {
     /// The call of this part.
+    #[inline(always)]
     fn call<'c, T, B>(self, slot: Slot<'c>) -> AnyCall<'c, T, B>
         ensures { (text : T → List ℕ) (bytes : B → List ℕ)
-            → call_of text bytes result ≡ part_call self (seen_slot slot.entry) }
+            → call_of text bytes result ≡ tape_part_call self (seen_slot slot.entry) }
     {
         match self {
             Side::Begin => GroupedCall::PartBegin(slot).call(),
@@ -211,6 +216,7 @@ impl Side {
 
 impl TagRead {
     /// The tag.
+    #[inline(always)]
     fn tag(self) -> Tag
         ensures { seen_tag result ≡ tag_read self }
     {
@@ -230,6 +236,7 @@ impl TagRead {
 }
 
 /// The tag, where one is given.
+#[inline(always)]
 fn tag_option(tag: Option<TagRead>) -> Option<Tag>
     ensures { option_map seen_tag result ≡ option_map tag_read tag }
 {
@@ -240,6 +247,7 @@ fn tag_option(tag: Option<TagRead>) -> Option<Tag>
 }
 
 /// The label of this text and this tag.
+#[inline(always)]
 fn make_label(label: LabelRead<'_>) -> Label<'_>
     ensures { result ≡ label_read label.entry }
 {
@@ -251,8 +259,9 @@ fn make_label(label: LabelRead<'_>) -> Label<'_>
 }
 
 /// The index of this number.
+#[inline(always)]
 fn untagged_index(number: IndexNumber) -> Index
-    ensures { seen_index result ≡ untagged (number_read number) }
+    ensures { seen_index result ≡ untagged (index_number_read number) }
 {
     match number {
         IndexNumber::Unsigned(number) => Index::new_u64(number),
@@ -261,6 +270,7 @@ fn untagged_index(number: IndexNumber) -> Index
 }
 
 /// The index of this number and this tag.
+#[inline(always)]
 fn make_index(index: IndexRead) -> Index
     ensures { seen_index result ≡ index_read index }
 {
@@ -273,7 +283,7 @@ fn make_index(index: IndexRead) -> Index
 
 /// Makes the call without an operand.
 fn make_alone<L: Lending, S: Stream<L>>(alone: Alone, stream: &mut S) -> Result
-    ensures { Answers S.law result (S.standing stream.old) (alone_call alone) (S.standing stream.new) }
+    ensures { Answers S.law result (S.standing stream.old) (tape_alone_call alone) (S.standing stream.new) }
 {
     stream.take(alone.call())
 }
@@ -291,7 +301,7 @@ fn make_opening<L: Lending, S: Stream<L>>(
     size: Option<usize>,
     stream: &mut S,
 ) -> Result
-    ensures { Answers S.law result (S.standing stream.old) (opening_call opening size) (S.standing stream.new) }
+    ensures { Answers S.law result (S.standing stream.old) (tape_opening_call opening size) (S.standing stream.new) }
 {
     stream.take(opening.call(size))
 }
@@ -326,6 +336,7 @@ fn make_hint<L: Lending, S: Stream<L>>(tag: TagRead, stream: &mut S) -> Result
 }
 
 /// The label, where one is given.
+#[inline(always)]
 fn label_option(label: Option<LabelRead<'_>>) -> Option<Label<'_>>
     ensures { result ≡ option_map label_read label.entry }
 {
@@ -336,6 +347,7 @@ fn label_option(label: Option<LabelRead<'_>>) -> Option<Label<'_>>
 }
 
 /// The index, where one is given.
+#[inline(always)]
 fn index_option(index: Option<IndexRead>) -> Option<Index>
     ensures { option_map seen_index result ≡ option_map index_read index }
 {
@@ -348,7 +360,7 @@ fn index_option(index: Option<IndexRead>) -> Option<Index>
 /// Makes the call with this name.
 fn make_named<L: Lending, S: Stream<L>>(word: Named, name: NameRead<'_>, stream: &mut S) -> Result
     ensures { Answers S.law result (S.standing stream.old)
-        (named_call word (name_read name.entry)) (S.standing stream.new) }
+        (tape_named_call word (name_read name.entry)) (S.standing stream.new) }
 {
     let tag = tag_option(name.tag);
     let label = label_option(name.label);
@@ -369,7 +381,7 @@ fn make_begin<L: Lending, S: Stream<L>>(
     stream: &mut S,
 ) -> Result
     ensures { Answers S.law result (S.standing stream.old)
-        (call.Begin (head_of container (name_read name.entry)) size) (S.standing stream.new) }
+        (call.Begin (tape_head_of container (name_read name.entry)) size) (S.standing stream.new) }
 {
     let tag = tag_option(name.tag);
     let label = label_option(name.label);
@@ -390,7 +402,7 @@ fn make_field<L: Lending, S: Stream<L>>(
     stream: &mut S,
 ) -> Result
     ensures { let slot = call.Field (option_map tag_read tag) (label_read label.entry) in
-        Answers S.law result (S.standing stream.old) (part_call side slot) (S.standing stream.new) }
+        Answers S.law result (S.standing stream.old) (tape_part_call side slot) (S.standing stream.new) }
 {
     let tag = tag_option(tag);
     let label = make_label(label);
@@ -405,7 +417,7 @@ fn make_place<L: Lending, S: Stream<L>>(
     stream: &mut S,
 ) -> Result
     ensures { let slot = call.Place (option_map tag_read tag) (index_read index) in
-        Answers S.law result (S.standing stream.old) (part_call side slot) (S.standing stream.new) }
+        Answers S.law result (S.standing stream.old) (tape_part_call side slot) (S.standing stream.new) }
 {
     let tag = tag_option(tag);
     let index = make_index(index);
@@ -421,7 +433,7 @@ fn make_field_place<L: Lending, S: Stream<L>>(
     stream: &mut S,
 ) -> Result
     ensures { let slot = call.FieldPlace (option_map tag_read tag) (label_read label.entry) (index_read index) in
-        Answers S.law result (S.standing stream.old) (part_call side slot) (S.standing stream.new) }
+        Answers S.law result (S.standing stream.old) (tape_part_call side slot) (S.standing stream.new) }
 {
     let tag = tag_option(tag);
     let label = make_label(label);
@@ -431,6 +443,7 @@ fn make_field_place<L: Lending, S: Stream<L>>(
 
 impl<'sval> CallRead<'sval> {
     /// Makes the call.
+    #[inline(always)]
     pub(crate) fn make<S: Stream<Lent<'sval>>>(self, stream: &mut S) -> Result
         ensures { Answers S.law result (S.standing stream.old) (call_read self.entry) (S.standing stream.new) }
     {

@@ -1,10 +1,11 @@
 //! Operands, read from the front of bytes.
 
 ghost use Rattle.std.specs.Prelude.{◌≡◌, Some, None, option_map, if◌then◌else◌};
+ghost use Rattle.std.specs.Bool.{Decides};
 ghost use Rattle.sval_label.specs.Ranges.{is_index};
 ghost use Rattle.sval_label.specs.Tags.{is_tag_name};
 ghost use Rattle.sval_tape.specs.Reading as tape;
-ghost use Rattle.sval_tape.specs.ReadCalls.{tag_read, number_read, index_read, label_read, name_read};
+ghost use Rattle.sval_tape.specs.ReadCalls.{tag_read, index_number_read, index_read, label_read, name_read};
 
 use crate::ints::unzigzag;
 use crate::read_call::{IndexNumber, IndexRead, LabelRead, NameRead, TagRead};
@@ -13,6 +14,7 @@ use crate::read_call::{IndexNumber, IndexRead, LabelRead, NameRead, TagRead};
 const ABOVE: u128 = 0x0200_0000_0000_0000_0000_0000_0000_0000;
 
 /// A number in `room` bytes at most.
+#[inline(never)]
 fn read_number_in(bytes: &[u8], room: usize) -> Option<(u128, &[u8])>
     ensures { option_map (λ x. (x.0, x.1.now)) result ≡ tape.leb128_at_in room bytes.now }
 {
@@ -34,14 +36,21 @@ fn read_number_in(bytes: &[u8], room: usize) -> Option<(u128, &[u8])>
 
 /// A number.
 #[tactic(auto, unfolding(crate::specs::Reading::leb128_at))]
+#[inline(always)]
 pub(crate) fn read_number(bytes: &[u8]) -> Option<(u128, &[u8])>
     ensures { option_map (λ x. (x.0, x.1.now)) result ≡ tape.leb128_at bytes.now }
 {
+    if let [byte, rest @ ..] = bytes {
+        if *byte < 128 {
+            return Some((u128::from(*byte), rest));
+        }
+    }
     read_number_in(bytes, 19)
 }
 
 /// Bytes behind their number.
 #[tactic(auto, unfolding(crate::specs::Reading::block_at))]
+#[inline(always)]
 pub(crate) fn read_block(bytes: &[u8]) -> Option<(&[u8], &[u8])>
     ensures { option_map (λ x. (x.0.now, x.1.now)) result ≡ tape.block_at bytes.now }
 {
@@ -64,38 +73,46 @@ pub(crate) fn read_text(bytes: &[u8]) -> Option<(&str, &[u8])>
     }
 }
 
+/// Whether these bytes are that name. Most names differ in their lengths.
+#[inline(always)]
+fn is_text(text: &[u8], name: &[u8]) -> bool
+    ensures { Decides result (text.now ≡ name.now) }
+{
+    text.len() == name.len() && text == name
+}
+
 /// The tag of the ten with this text.
 fn known_tag(text: &[u8]) -> Option<TagRead>
     ensures { option_map tag_read result ≡ (if is_tag_name text.now then Some text.now else None) }
 {
-    if text == b"RUST_OPTION_SOME".as_slice() {
-        return Some(TagRead::RustOptionSome);
-    }
-    if text == b"RUST_OPTION_NONE".as_slice() {
-        return Some(TagRead::RustOptionNone);
-    }
-    if text == b"RUST_UNIT".as_slice() {
-        return Some(TagRead::RustUnit);
-    }
-    if text == b"NUMBER".as_slice() {
-        return Some(TagRead::Number);
-    }
-    if text == b"CONSTANT_SIZE".as_slice() {
-        return Some(TagRead::ConstantSize);
-    }
-    if text == b"VALUE_IDENT".as_slice() {
+    if is_text(text, b"VALUE_IDENT") {
         return Some(TagRead::ValueIdent);
     }
-    if text == b"VALUE_OFFSET".as_slice() {
+    if is_text(text, b"VALUE_OFFSET") {
         return Some(TagRead::ValueOffset);
     }
-    if text == b"JSON_VALUE".as_slice() {
+    if is_text(text, b"RUST_OPTION_SOME") {
+        return Some(TagRead::RustOptionSome);
+    }
+    if is_text(text, b"RUST_OPTION_NONE") {
+        return Some(TagRead::RustOptionNone);
+    }
+    if is_text(text, b"NUMBER") {
+        return Some(TagRead::Number);
+    }
+    if is_text(text, b"RUST_UNIT") {
+        return Some(TagRead::RustUnit);
+    }
+    if is_text(text, b"CONSTANT_SIZE") {
+        return Some(TagRead::ConstantSize);
+    }
+    if is_text(text, b"JSON_VALUE") {
         return Some(TagRead::JsonValue);
     }
-    if text == b"JSON_TEXT".as_slice() {
+    if is_text(text, b"JSON_TEXT") {
         return Some(TagRead::JsonText);
     }
-    if text == b"JSON_NUMBER".as_slice() {
+    if is_text(text, b"JSON_NUMBER") {
         return Some(TagRead::JsonNumber);
     }
     None
@@ -115,6 +132,7 @@ pub(crate) fn read_tag(bytes: &[u8]) -> Option<(TagRead, &[u8])>
 
 /// A tag, where one is given.
 #[tactic(auto, unfolding(crate::specs::Reading::tag_option_at))]
+#[inline(always)]
 fn read_tag_option(bytes: &[u8]) -> Option<(Option<TagRead>, &[u8])>
     ensures { option_map (λ x. (option_map tag_read x.0, x.1.now)) result ≡ tape.tag_option_at bytes.now }
 {
@@ -130,6 +148,7 @@ fn read_tag_option(bytes: &[u8]) -> Option<(Option<TagRead>, &[u8])>
 }
 
 /// A truth value.
+#[inline(always)]
 pub(crate) fn read_truth(bytes: &[u8]) -> Option<(bool, &[u8])>
     ensures { option_map (λ x. (x.0, x.1.now)) result ≡ tape.truth_at bytes.now }
 {
@@ -143,6 +162,7 @@ pub(crate) fn read_truth(bytes: &[u8]) -> Option<(bool, &[u8])>
 
 /// A size, where one is given.
 #[tactic(auto, unfolding(crate::specs::Reading::size_at))]
+#[inline(always)]
 pub(crate) fn read_size(bytes: &[u8]) -> Option<(Option<usize>, &[u8])>
     ensures { option_map (λ x. (x.0, x.1.now)) result ≡ tape.size_at bytes.now }
 {
@@ -162,6 +182,7 @@ pub(crate) fn read_size(bytes: &[u8]) -> Option<(Option<usize>, &[u8])>
 
 /// A label.
 #[tactic(auto, unfolding(crate::specs::Reading::label_at))]
+#[inline(always)]
 pub(crate) fn read_label(bytes: &[u8]) -> Option<(LabelRead<'_>, &[u8])>
     ensures { option_map (λ x. (label_read x.0, x.1.now)) result ≡ tape.label_at bytes.now }
 {
@@ -171,8 +192,9 @@ pub(crate) fn read_label(bytes: &[u8]) -> Option<(LabelRead<'_>, &[u8])>
 }
 
 /// The number of an index, where it is in the range of indexes.
+#[inline(always)]
 fn index_number(number: i128) -> Option<IndexNumber>
-    ensures { option_map number_read result ≡ (if is_index number then Some number else None) }
+    ensures { option_map index_number_read result ≡ (if is_index number then Some number else None) }
 {
     if let Ok(number) = u64::try_from(number) {
         return Some(IndexNumber::Unsigned(number));
@@ -185,8 +207,9 @@ fn index_number(number: i128) -> Option<IndexNumber>
 
 /// The number of an index.
 #[tactic(auto, unfolding(crate::specs::Reading::index_number_at))]
+#[inline(always)]
 fn read_index_number(bytes: &[u8]) -> Option<(IndexNumber, &[u8])>
-    ensures { option_map (λ x. (number_read x.0, x.1.now)) result ≡ tape.index_number_at bytes.now }
+    ensures { option_map (λ x. (index_number_read x.0, x.1.now)) result ≡ tape.index_number_at bytes.now }
 {
     let (number, rest) = read_number(bytes)?;
     match index_number(unzigzag(number)) {
@@ -197,6 +220,7 @@ fn read_index_number(bytes: &[u8]) -> Option<(IndexNumber, &[u8])>
 
 /// An index.
 #[tactic(auto, unfolding(crate::specs::Reading::index_at))]
+#[inline(always)]
 pub(crate) fn read_index(bytes: &[u8]) -> Option<(IndexRead, &[u8])>
     ensures { option_map (λ x. (index_read x.0, x.1.now)) result ≡ tape.index_at bytes.now }
 {
@@ -206,6 +230,7 @@ pub(crate) fn read_index(bytes: &[u8]) -> Option<(IndexRead, &[u8])>
 }
 
 /// A label, where one is given.
+#[inline(always)]
 fn read_label_option(bytes: &[u8]) -> Option<(Option<LabelRead<'_>>, &[u8])>
     ensures { option_map (λ x. (option_map label_read x.0, x.1.now)) result
         ≡ tape.optional_at tape.label_at bytes.now }
@@ -222,6 +247,7 @@ fn read_label_option(bytes: &[u8]) -> Option<(Option<LabelRead<'_>>, &[u8])>
 }
 
 /// An index, where one is given.
+#[inline(always)]
 fn read_index_option(bytes: &[u8]) -> Option<(Option<IndexRead>, &[u8])>
     ensures { option_map (λ x. (option_map index_read x.0, x.1.now)) result
         ≡ tape.optional_at tape.index_at bytes.now }
@@ -238,9 +264,10 @@ fn read_index_option(bytes: &[u8]) -> Option<(Option<IndexRead>, &[u8])>
 }
 
 /// A name.
-#[tactic(auto, unfolding(crate::specs::Reading::name_at, crate::specs::Reading::label_and_index_at))]
+#[tactic(auto, unfolding(crate::specs::Reading::name_at_front, crate::specs::Reading::label_and_index_at))]
+#[inline(never)]
 pub(crate) fn read_name(bytes: &[u8]) -> Option<(NameRead<'_>, &[u8])>
-    ensures { option_map (λ x. (name_read x.0, x.1.now)) result ≡ tape.name_at bytes.now }
+    ensures { option_map (λ x. (name_read x.0, x.1.now)) result ≡ tape.name_at_front bytes.now }
 {
     let (tag, rest) = read_tag_option(bytes)?;
     let (label, rest) = read_label_option(rest)?;
@@ -250,6 +277,7 @@ pub(crate) fn read_name(bytes: &[u8]) -> Option<(NameRead<'_>, &[u8])>
 
 /// A tag, where one is given, and a label.
 #[tactic(auto, unfolding(crate::specs::Reading::field_at))]
+#[inline(always)]
 pub(crate) fn read_field(bytes: &[u8]) -> Option<((Option<TagRead>, LabelRead<'_>), &[u8])>
     ensures { option_map (λ x. ((option_map tag_read x.0.0, label_read x.0.1), x.1.now)) result
         ≡ tape.field_at bytes.now }
@@ -261,6 +289,7 @@ pub(crate) fn read_field(bytes: &[u8]) -> Option<((Option<TagRead>, LabelRead<'_
 
 /// A tag, where one is given, and an index.
 #[tactic(auto, unfolding(crate::specs::Reading::place_at))]
+#[inline(always)]
 pub(crate) fn read_place(bytes: &[u8]) -> Option<((Option<TagRead>, IndexRead), &[u8])>
     ensures { option_map (λ x. ((option_map tag_read x.0.0, index_read x.0.1), x.1.now)) result
         ≡ tape.place_at bytes.now }
@@ -272,6 +301,7 @@ pub(crate) fn read_place(bytes: &[u8]) -> Option<((Option<TagRead>, IndexRead), 
 
 /// A tag, where one is given, a label and an index.
 #[tactic(auto, unfolding(crate::specs::Reading::field_place_at, crate::specs::Reading::label_then_index_at))]
+#[inline(always)]
 pub(crate) fn read_field_place(
     bytes: &[u8],
 ) -> Option<((Option<TagRead>, LabelRead<'_>, IndexRead), &[u8])>

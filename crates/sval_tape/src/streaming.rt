@@ -2,7 +2,7 @@
 
 ghost use Rattle.sval_tape.specs.Streaming.{TellsStreamed};
 
-use crate::calls::read_call;
+use crate::step::{Step, make_first};
 use crate::tape::TapeError;
 use sval_core::{Lent, Stream};
 
@@ -27,12 +27,10 @@ pub fn stream_tape<'v, S: Stream<Lent<'v>>>(
 {
     let mut rest = bytes;
     'calls: while !rest.is_empty() {
-        match read_call(rest) {
-            Some((call, behind)) => match call.make(stream) {
-                Ok(()) => rest = behind,
-                Err(refusal) => return Ok(Err(refusal)),
-            },
-            None => {
+        match make_first(rest, stream) {
+            Step::Taken(behind) => rest = behind,
+            Step::Refused(refusal) => return Ok(Err(refusal)),
+            Step::Bad => {
                 return Err(TapeError::Bad {
                     at: bytes.len() - rest.len(),
                 });

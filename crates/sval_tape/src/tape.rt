@@ -4,7 +4,7 @@ ghost use Rattle.std.specs.Prelude.{◌≡◌, ℕ, IfOk};
 ghost use Rattle.sval_core.specs.Law.{Emits};
 ghost use Rattle.sval_core.specs.Values.{makes};
 ghost use Rattle.sval_tape.specs.Taped.{IsTape, IsBadAt};
-ghost use Rattle.sval_tape.specs.Reading.{calls_in};
+ghost use Rattle.sval_tape.specs.Reading.{calls_on_tape};
 
 use crate::calls::read_call;
 use std::error::Error;
@@ -46,14 +46,14 @@ pub struct Tape<'sval> {
 impl<'sval> Model for Tape<'sval> {
     ghost use Rattle.std.specs.Prelude.{List};
     ghost use Rattle.sval_label.specs.Calls.{Call};
-    ghost use Rattle.sval_tape.specs.Reading.{calls_in};
+    ghost use Rattle.sval_tape.specs.Reading.{calls_on_tape};
     ghost use Rattle.sval_tape.specs.Taped.{IsTape};
 
     ghost Value = { List Call };
 
-    ghost view = { λ tape. calls_in tape.bytes.now };
+    ghost view = { λ tape. calls_on_tape tape.bytes.now };
 
-    ghost invariant = { λ tape. IsTape tape.bytes.now (calls_in tape.bytes.now) };
+    ghost invariant = { λ tape. IsTape tape.bytes.now (calls_on_tape tape.bytes.now) };
 }
 
 impl<'sval> Tape<'sval> {
@@ -83,8 +83,8 @@ impl<'sval> Tape<'sval> {
 
 /// Makes the calls of a tape.
 fn make_calls<'v, S: Stream<Lent<'v>>>(bytes: &'v [u8], stream: &mut S) -> sval_core::Result
-    requires { IsTape bytes.now (calls_in bytes.now) }
-    ensures { Emits S.law result (S.standing stream.old) (makes (calls_in bytes.now)) (S.standing stream.new) }
+    requires { IsTape bytes.now (calls_on_tape bytes.now) }
+    ensures { Emits S.law result (S.standing stream.old) (makes (calls_on_tape bytes.now)) (S.standing stream.new) }
 {
     let mut rest = bytes;
     'calls: while let Some((call, behind)) = read_call(rest) {

@@ -6,7 +6,7 @@ ghost use Rattle.sval_label.specs.Grouped.{grouped_call};
 ghost use Rattle.sval_core.specs.Law.{Answers};
 ghost use Rattle.sval_io.specs.Sinks.{WritesAll};
 ghost use Rattle.sval_tape.specs.Tapes.{call_bytes};
-ghost use Rattle.sval_tape.specs.Taping.{Taping, last_error, writer_law, writer_standing, tape_sink};
+ghost use Rattle.sval_tape.specs.Taping.{Taping, tape_error, tape_writer_law, tape_writer_standing, tape_sink};
 
 use crate::operands::write_call;
 use sval_core::{Call, Error, Lent, Stream};
@@ -24,14 +24,14 @@ impl<K: Sink> TapeWriter<K> {
     /// A writer to a sink, which has refused no call yet.
     pub fn new(out: K) -> Self
         ensures sink { tape_sink result ≡ out }
-        ensures why { last_error result ≡ None }
+        ensures why { tape_error result ≡ None }
     {
         TapeWriter { out, why: None }
     }
 
     /// The cause of the last refusal. A call that is taken leaves it.
     pub fn why(&self) -> Option<SinkError>
-        ensures { result ≡ last_error self.now }
+        ensures { result ≡ tape_error self.now }
     {
         self.why
     }
@@ -47,13 +47,13 @@ impl<K: Sink> TapeWriter<K> {
 impl<'v, K: Sink> Stream<Lent<'v>> for TapeWriter<K> {
     ghost View = { Taping };
 
-    ghost law = { writer_law };
+    ghost law = { tape_writer_law };
 
-    ghost standing = { writer_standing K.told };
+    ghost standing = { tape_writer_standing K.told };
 
     fn take(&mut self, call: Call<'v, '_>) -> sval_core::Result
-        ensures { Answers writer_law result
-            (writer_standing K.told self.old) (lent_call call.entry) (writer_standing K.told self.new) }
+        ensures { Answers tape_writer_law result
+            (tape_writer_standing K.told self.old) (lent_call call.entry) (tape_writer_standing K.told self.new) }
     {
         match write_call(&mut self.out, call.grouped()) {
             Ok(()) => Ok(()),

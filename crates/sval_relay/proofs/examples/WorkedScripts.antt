@@ -70,17 +70,17 @@ no_forms = (refl, refl, refl, refl, refl, refl, refl)
 
 -- ---- what the third device is told
 
-usage : failures.line_of relay_terms.usage (Err failure.Usage) ≡ codes "usage: sval_relay direct [beside] [lines]|buffered [beside] [lines]|calls [lines]|made N\n"
+usage : failures.failure_line relay_terms.usage (Err failure.Usage) ≡ codes "usage: sval_relay direct [beside] [lines]|buffered [beside] [lines]|calls [lines]|made N\n"
 usage = refl
 
-lines_that_are_named : (failures.line_of [] (Err (failure.Fault (fault.BadLine 1))) ≡ codes "line 1: not a call\n")
-    × (failures.line_of [] (Err (failure.Fault (fault.BadCall 120))) ≡ codes "line 120: no value goes on with this call\n")
+lines_that_are_named : (failures.failure_line [] (Err (failure.Fault (fault.BadLine 1))) ≡ codes "line 1: not a call\n")
+    × (failures.failure_line [] (Err (failure.Fault (fault.BadCall 120))) ≡ codes "line 120: no value goes on with this call\n")
 unfolding digits
 lines_that_are_named = (refl, refl)
 
-not_whole : (failures.line_of [] (Err (failure.Fault (fault.Unfinished false))) ≡ codes "the calls are not one whole value\n")
-    × (failures.line_of [] (Err (failure.Fault (fault.Unfinished true))) ≡ codes "the calls are not whole values\n")
+not_whole : (failures.failure_line [] (Err (failure.Fault (fault.Unfinished false))) ≡ codes "the calls are not one whole value\n")
+    × (failures.failure_line [] (Err (failure.Fault (fault.Unfinished true))) ≡ codes "the calls are not whole values\n")
 not_whole = (refl, refl)
 
-nothing_is_told : failures.line_of [] (Ok tt) ≡ []
+nothing_is_told : failures.failure_line [] (Ok tt) ≡ []
 nothing_is_told = refl

@@ -5,14 +5,14 @@ use Rattle.sval_io.specs.Taken.{Taken, taken_told}
 use Rattle.sval_json_read.specs.Calls.{document_calls}
 use Rattle.sval_cbor.specs.declared.error.CborError.{CborError}
 use Rattle.sval_cbor.specs.Streamed.{StreamsCbor}
-use Rattle.sval_c.specs.Due.{CborDue}
+use Rattle.sval_c.specs.Due.{CborOfTextDue}
 use Rattle.sval_c.proofs.Packs.{packed, write_never, no_value_never, refusal_never, unpacked}
 use Rattle.sval_c.proofs.from_json.cbor_of.Goals as goal
 
 pub returns-in-Ok : goal.returns-in-Ok
 returns-in-Ok c = λ input r.
     let empty = ap (λ (sink : Taken). sink.bytes) c.new-sink.ensures in
-    subst (CborDue input None) (sym c.into_vec.ensures)
+    subst (CborOfTextDue input None) (sym c.into_vec.ensures)
     (packed input (document_calls c.args.doc.now) r c.new-sink.result c.stream_to_cbor.new.out empty c.in-Ok.ensures.streams)
 
 pub of_pack-requires-clause-unlike_fault : goal.of_pack-requires-clause-unlike_fault

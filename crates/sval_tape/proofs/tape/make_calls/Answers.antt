@@ -1,7 +1,7 @@
 use Rattle.std.proofs.Common.{rules, arith, ◌≡◌, None, sym}
 use Rattle.std.proofs.lemmas.Grind.{common_steps}
 use Rattle.sval_core.proofs.Emissions.{passes_on}
-use Rattle.sval_tape.specs.Reading.{call_at}
+use Rattle.sval_tape.specs.Reading.{call_at_front}
 use Rattle.sval_tape.proofs.TapeStreams.{made_more, made_stop, made_less, made_all}
 use Rattle.sval_tape.proofs.tape.make_calls.Goals as goal
 
@@ -17,5 +17,5 @@ calls-preserved g c = made_more _ _ c.in-Some.behind.now c.calls.invariant (sym 
 
 pub returns : goal.returns
 returns g c =
-    let none : call_at c.calls.rest.now ≡ None = first_of (cc c.in_default.ensures, grind (arith, common_steps, c.in_default.ensures), search rules) in
+    let none : call_at_front c.calls.rest.now ≡ None = first_of (cc c.in_default.ensures, grind (arith, common_steps, c.in_default.ensures), search rules) in
     made_all c.calls.invariant none

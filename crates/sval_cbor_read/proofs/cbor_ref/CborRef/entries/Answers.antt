@@ -1,5 +1,5 @@
 use Rattle.std.proofs.Common.{sym, ap, ◌∙◌, Some, subst}
-use Rattle.sval_cbor_read.specs.CborLookups.{cbor_entries_of, values_listed, paired}
+use Rattle.sval_cbor_read.specs.CborLookups.{cbor_entries_of, cbor_values_listed, cbor_paired}
 use Rattle.sval_cbor_read.specs.CborValues.{cbor_values_in}
 use Rattle.sval_cbor_read.specs.SeenNodes.{streamed_items, NodesStand}
 use Rattle.sval_cbor_read.specs.SeenFound.{level_behind}
@@ -14,7 +14,7 @@ pub behind_first-requires : goal.behind_first-requires
 behind_first-requires c = some_node c.self.inside.nodes.now c.self.invariant
 
 pub returns-in-Map : goal.returns-in-Map
-returns-in-Map c = ap Some (c.new.ensures ∙ ap (λ nodes. paired (values_listed (cbor_values_in (streamed_items c.self.inside.bytes.now nodes)))) c.behind_first.ensures) ∙ ap cbor_entries_of (sym c.in-Map.ensures ∙ c.self.view_is)
+returns-in-Map c = ap Some (c.new.ensures ∙ ap (λ nodes. cbor_paired (cbor_values_listed (cbor_values_in (streamed_items c.self.inside.bytes.now nodes)))) c.behind_first.ensures) ∙ ap cbor_entries_of (sym c.in-Map.ensures ∙ c.self.view_is)
 
 pub returns-in_default : goal.returns-in_default
 returns-in_default c =

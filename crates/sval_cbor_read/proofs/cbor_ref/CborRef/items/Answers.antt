@@ -1,5 +1,5 @@
 use Rattle.std.proofs.Common.{sym, ap, ◌∙◌, Some, subst}
-use Rattle.sval_cbor_read.specs.CborLookups.{cbor_items_of, values_listed}
+use Rattle.sval_cbor_read.specs.CborLookups.{cbor_items_of, cbor_values_listed}
 use Rattle.sval_cbor_read.specs.CborValues.{cbor_values_in}
 use Rattle.sval_cbor_read.specs.SeenNodes.{streamed_items, NodesStand}
 use Rattle.sval_cbor_read.specs.SeenFound.{level_behind}
@@ -14,7 +14,7 @@ pub behind_first-requires : goal.behind_first-requires
 behind_first-requires c = some_node c.self.inside.nodes.now c.self.invariant
 
 pub returns-in-Array : goal.returns-in-Array
-returns-in-Array c = ap Some (c.new.ensures ∙ ap (λ nodes. values_listed (cbor_values_in (streamed_items c.self.inside.bytes.now nodes))) c.behind_first.ensures) ∙ ap cbor_items_of (sym c.in-Array.ensures ∙ c.self.view_is)
+returns-in-Array c = ap Some (c.new.ensures ∙ ap (λ nodes. cbor_values_listed (cbor_values_in (streamed_items c.self.inside.bytes.now nodes))) c.behind_first.ensures) ∙ ap cbor_items_of (sym c.in-Array.ensures ∙ c.self.view_is)
 
 pub returns-in_default : goal.returns-in_default
 returns-in_default c =
