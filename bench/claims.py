@@ -163,8 +163,11 @@ def bases(statement):
 
 
 def is_there(path, statement):
-    """Whether a file is there, below one of these folders, as a folder that crates have, or as an edit by its name."""
-    if is_made(path, statement.page) or any((base / path).exists() for base in bases(statement)):
+    """Whether a file is there, below one of these folders, as a folder that crates have, or as an edit by its name.
+
+    The folder that `rt` leaves its work in is no part of a clone, and counts as there.
+    """
+    if path == "out/" or is_made(path, statement.page) or any((base / path).exists() for base in bases(statement)):
         return True
     folders = ["crates/*"] if re.fullmatch(r"\w+/", path) else ["crates/*/must-fail", "bench/edits/*"]
     return any(found for folder in folders for found in TOP.glob(f"{folder}/{path}"))

@@ -2,6 +2,7 @@
 """Writes the scripts that time.py times, each below the 16,777,216 bytes that the program reads."""
 
 import os
+import random
 import sys
 
 LIMIT = 1 << 24
@@ -114,6 +115,36 @@ def with_escapes(content, every):
     return bytes(changed)
 
 
+def random_ascii(count):
+    """Printable characters, among them quotes and backslashes, in an order that repeats on each run."""
+    source = random.Random(1)
+    return bytes(source.randrange(32, 127) for _ in range(count))
+
+
+def random_utf8(count):
+    """Characters of one to four bytes, up to so many bytes in all. A fragment may cut one, so pieces are made apart."""
+    source, whole, size = random.Random(2), [], 0
+    ranges = [(32, 127), (0xA0, 0x800), (0x800, 0xD800), (0x10000, 0x110000)]
+    while size < count:
+        character = chr(source.randrange(*source.choice(ranges))).encode()
+        whole.append(character)
+        size += len(character)
+    return whole
+
+
+def text_of_characters(characters):
+    """One text in pieces that cut no character."""
+    pieces, last = [], b""
+    for character in characters:
+        if len(last) + len(character) > PIECE:
+            pieces.append(last)
+            last = b""
+        last += character
+    pieces.append(last)
+    fragments = [f"text_fragment ={piece.hex()}" for piece in pieces]
+    return [f"text_begin {sum(map(len, pieces))}", *fragments, "text_end"]
+
+
 def main():
     if len(sys.argv) != 2:
         sys.exit("usage: make_scripts.py OUTDIR")
@@ -126,6 +157,8 @@ def main():
         "text_clean": text(clean),
         "text_escapes": text(with_escapes(clean, 16)),
         "nested": nested(),
+        "random_ascii": text(random_ascii(TEXT_BYTES)),
+        "random_utf8": text_of_characters(random_utf8(TEXT_BYTES)),
     }
     for name, lines in scripts.items():
         script = "".join(line + "\n" for line in lines).encode()
