@@ -13,6 +13,8 @@ pub mod Names
 pub mod ValueCalls
 pub mod Values
 pub mod ValueTrees
+pub mod OneValue
+pub mod Glances
 pub mod ValueLaws
 pub mod SameNames
 pub mod Stacks

@@ -22,6 +22,10 @@ impl<'a, L: Lending, S: Stream<L>> Stream<L> for &'a mut S {
         (**self).take(call)
     }
 
+    fn asks_if_whole(&self) -> bool {
+        (**self).asks_if_whole()
+    }
+
     fn whole_text(&mut self, text: L::Text, size: Option<usize>) -> Result
         ensures { Emits (law_through S.law) result
             (through (S.standing self.old.now) self.old.ghost_name) (makes (whole_text_calls size (L.text text)))
@@ -51,6 +55,14 @@ impl<L: Lending, S: Stream<L>> Stream<L> for Box<S> {
             (S.standing self.old.value) (call_of L.text L.bytes call.entry) (S.standing self.new.value) }
     {
         self.as_mut().take(call)
+    }
+
+    fn asks_if_whole(&self) -> bool {
+        self.as_ref().asks_if_whole()
+    }
+
+    fn skip_value(&mut self) -> bool {
+        self.as_mut().skip_value()
     }
 
     fn whole_text(&mut self, text: L::Text, size: Option<usize>) -> Result {

@@ -6,6 +6,7 @@
 
 mod computed;
 mod forwards;
+mod glance;
 pub mod laws;
 pub mod name_laws;
 mod stream;
@@ -14,6 +15,7 @@ pub mod value_laws;
 mod values;
 
 pub use computed::Computed;
+pub use glance::{is_surely_whole, skip_around};
 pub use stream::Stream;
 pub use sval_label::{
     AnyCall, Call, Error, Fragment, GroupedCall, Head, Index, Int, Label, Lending, Lent, Name,

@@ -1,12 +1,13 @@
 //! What takes calls.
 
-ghost use Rattle.std.specs.Prelude.{true, false, pos};
+ghost use Rattle.std.specs.Prelude.{◌≡◌, true, false, pos};
 ghost use Rattle.sval_label.specs.Made.{call_of};
 ghost use Rattle.sval_label.specs.Calls as call;
 ghost use Rattle.sval_label.specs.SeenTags.{seen_tag};
 ghost use Rattle.sval_label.specs.SeenIndex.{seen_index};
 ghost use Rattle.sval_label.specs.SeenName.{seen_option_tag, name_of};
 ghost use Rattle.sval_core.specs.Law.{Law, Standing, Answers, Emits, as_computed};
+ghost use Rattle.sval_core.specs.OneValue.{TakesAnyValue};
 ghost use Rattle.sval_core.specs.Values.{makes, whole_text_calls, whole_key_calls};
 
 use crate::computed::Computed;
@@ -231,6 +232,24 @@ pub trait Stream<L: Lending> {
         self.take(AnyCall::TextFragment(text))?;
         self.take(AnyCall::TextEnd)?;
         self.take(AnyCall::MapKeyEnd)
+    }
+
+    /// Whether this stream only asks if a value is whole. Then a value that is may be [skipped](Stream::skip_value).
+    ///
+    /// A value whose parts may be of any type asks this first, so that its parts are asked for no other stream.
+    fn asks_if_whole(&self) -> bool {
+        false
+    }
+
+    /// Takes a whole value unseen, if this stream asks no more of a value than that it is whole. `false` leaves it
+    /// unchanged.
+    ///
+    /// A value whose calls are known to be one whole value calls this before it makes them, and on `true` it is done.
+    fn skip_value(&mut self) -> bool
+        ensures skipped { result ≡ true → TakesAnyValue law (standing self.old) (standing self.new) }
+        ensures left { result ≡ false → standing self.new ≡ standing self.old }
+    {
+        false
     }
 
     /// A binary begins, of `size` bytes where that is given.

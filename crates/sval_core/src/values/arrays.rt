@@ -8,7 +8,7 @@ ghost use Rattle.sval_core.specs.Values.{array_emission};
 use crate::stream::Stream;
 use crate::value::Value;
 use crate::values::names::constant_size;
-use crate::values::sequences::stream_seq;
+use crate::values::sequences::{skip_items, stream_seq};
 use sval_label::{Lending, Lent, Result};
 
 /// Begins what has a size that its type fixes.
@@ -33,6 +33,9 @@ impl<'v, T: Value<'v, Lent<'v>>, const N: usize> Value<'v, Lent<'v>> for [T; N] 
 
     #[tactic(auto, using(crate::proofs::Between::of_between))]
     fn stream<S: Stream<Lent<'v>>>(&'v self, stream: &mut S) -> Result {
+        if skip_items::<Lent<'v>, T, S>(stream, self.as_slice()) {
+            return Ok(());
+        }
         begin_constant_size(stream)?;
         stream_seq(stream, self.as_slice())?;
         end_constant_size(stream)

@@ -3,8 +3,9 @@
 ghost use Rattle.sval_label.specs.Calls.{TaggedBegin, TaggedEnd};
 ghost use Rattle.sval_core.specs.Law.{Answers, Emits};
 ghost use Rattle.sval_core.specs.Names.{some_name, none_name};
-ghost use Rattle.sval_core.specs.Values.{option_emission, tag_emission};
+ghost use Rattle.sval_core.specs.Values.{option_emission, tag_emission, tagged_emission};
 
+use crate::glance::skip_around;
 use crate::stream::Stream;
 use crate::value::Value;
 use crate::values::names::{none_label, option_none, option_some, place, some_label};
@@ -32,17 +33,31 @@ fn stream_none<L: Lending, S: Stream<L>>(stream: &mut S) -> Result
     stream.tag(Some(option_none()), Some(&none_label()), Some(&place(0)))
 }
 
+/// Streams an optional value that is there.
+#[tactic(auto, using(crate::proofs::Between::of_between))]
+fn stream_some<'v, T: Value<'v, Lent<'v>>, S: Stream<Lent<'v>>>(
+    stream: &mut S,
+    value: &'v T,
+) -> Result
+    ensures { Emits S.law result (S.standing stream.old)
+        (tagged_emission some_name (T.emission value.now)) (S.standing stream.new) }
+{
+    begin_some(stream)?;
+    value.stream(stream)?;
+    end_some(stream)
+}
+
 /// An optional value: the value under the name `Some`, or the name `None` alone.
 impl<'v, T: Value<'v, Lent<'v>>> Value<'v, Lent<'v>> for Option<T> {
     ghost emission = { option_emission T.emission };
 
-    #[tactic(auto, using(crate::proofs::Between::of_between))]
     fn stream<S: Stream<Lent<'v>>>(&'v self, stream: &mut S) -> Result {
         match self {
             Some(value) => {
-                begin_some(stream)?;
-                value.stream(stream)?;
-                end_some(stream)
+                if skip_around::<Lent<'v>, T, S>(stream, value) {
+                    return Ok(());
+                }
+                stream_some(stream, value)
             }
             None => stream_none(stream),
         }

@@ -1,12 +1,15 @@
 //! Sequences.
 
+ghost use Rattle.std.specs.Prelude.{◌≡◌, true, false};
 ghost use Rattle.sval_label.specs.Calls.{Item};
 ghost use Rattle.sval_core.specs.Law.{Emits};
+ghost use Rattle.sval_core.specs.OneValue.{EachIsOneValue, TakesAnyValue};
 ghost use Rattle.sval_core.specs.Values.{part_emission, seq_emission};
 
+use crate::glance::is_surely_whole;
 use crate::stream::Stream;
 use crate::value::Value;
-use sval_label::{Lent, Result};
+use sval_label::{Lending, Lent, Result};
 
 /// Streams an item of a sequence.
 #[tactic(auto, using(crate::proofs::Between::of_between))]
@@ -20,6 +23,33 @@ pub(crate) fn stream_item<'v, T: Value<'v, Lent<'v>>, S: Stream<Lent<'v>>>(
     stream.seq_value_begin()?;
     item.stream(stream)?;
     stream.seq_value_end()
+}
+
+/// Whether each of these items is surely whole.
+fn are_surely_whole<'v, L: Lending, T: Value<'v, L>>(items: &'v [T]) -> bool
+    ensures { result ≡ true → EachIsOneValue T.emission items.now }
+{
+    for item in items {
+        if !is_surely_whole::<L, T>(item) {
+            return false;
+        }
+    }
+    true
+}
+
+/// Skips what holds these items, where the stream asks if it is whole and each of them is.
+pub(crate) fn skip_items<'v, L: Lending, T: Value<'v, L>, S: Stream<L>>(
+    stream: &mut S,
+    items: &'v [T],
+) -> bool
+    ensures whole { result ≡ true → EachIsOneValue T.emission items.now }
+    ensures skipped { result ≡ true → TakesAnyValue S.law (S.standing stream.old) (S.standing stream.new) }
+    ensures left { result ≡ false → S.standing stream.new ≡ S.standing stream.old }
+{
+    if !stream.asks_if_whole() || !are_surely_whole::<L, T>(items) {
+        return false;
+    }
+    stream.skip_value()
 }
 
 /// Streams items as a sequence that tells how many they are, as the values `&[T]` and `Vec<T>` do.
@@ -36,6 +66,20 @@ pub(crate) fn stream_item<'v, T: Value<'v, Lent<'v>>, S: Stream<Lent<'v>>>(
 /// }
 /// ```
 pub fn stream_seq<'v, T: Value<'v, Lent<'v>>, S: Stream<Lent<'v>>>(
+    stream: &mut S,
+    items: &'v [T],
+) -> Result
+    ensures { Emits S.law result
+        (S.standing stream.old) (seq_emission T.emission items.now) (S.standing stream.new) }
+{
+    if skip_items::<Lent<'v>, T, S>(stream, items) {
+        return Ok(());
+    }
+    stream_each(stream, items)
+}
+
+/// Makes the calls of a sequence of these items.
+fn stream_each<'v, T: Value<'v, Lent<'v>>, S: Stream<Lent<'v>>>(
     stream: &mut S,
     items: &'v [T],
 ) -> Result

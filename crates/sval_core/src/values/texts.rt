@@ -15,6 +15,9 @@ use sval_label::{Lent, Result};
 pub fn stream_str<'v, S: Stream<Lent<'v>>>(stream: &mut S, text: &'v str) -> Result
     ensures { Emits S.law result (S.standing stream.old) (str_emission text.now) (S.standing stream.new) }
 {
+    if stream.skip_value() {
+        return Ok(());
+    }
     stream.whole_text(text, Some(text.len()))
 }
 
@@ -38,6 +41,9 @@ impl<'v> Value<'v, Lent<'v>> for char {
     ghost emission = { char_emission };
 
     fn stream<S: Stream<Lent<'v>>>(&'v self, stream: &mut S) -> Result {
+        if stream.skip_value() {
+            return Ok(());
+        }
         let mut bytes = [0; 4];
         let text = self.encode_utf8(&mut bytes);
         stream.text_begin(Some(text.len()))?;
