@@ -5,6 +5,7 @@ use Rattle.sval_core.specs.Law.{Emission}
 use Rattle.sval_core.specs.Names.{ident, offset, no_name}
 use Rattle.sval_core.specs.Trees.{Tree, Standalone, Enum, Container, Parts, none, part, plain_name, plain_head, plain_slot}
 use Rattle.sval_core.specs.ValueTrees.{Tells, tagged_tree, place_parts}
+use Rattle.sval_core.specs.OneValue.{EachIsOneValue}
 use Rattle.sval_core.specs.ValueLaws.{TellEach}
 use Rattle.sval.specs.Structs.{Field, field_label, type_name, variant_name, record_emission, struct_emission, unit_struct_emission, newtype_emission, tuple_struct_emission, unit_variant_emission, value_variant_emission, tuple_variant_emission, struct_variant_emission}
 
@@ -66,6 +67,10 @@ abbrev pub FieldsTell : List Field → List NamedTree → Type 0
 FieldsTell [] [] = ⊤
 FieldsTell (f ∷ fs) (t ∷ ts) = ((f.name ≡ t.name) × Tells f.value t.tree) × FieldsTell fs ts
 FieldsTell _ _ = ⊥
+
+-- the value of each field is one whole value
+abbrev pub HoldWholeValues : List Field → Type 0
+HoldWholeValues fs = EachIsOneValue (λ field. field.value) fs
 
 -- where the values of the fields are whole values, a record of them is one
 abbrev pub RecordsTell : Type 0

@@ -45,6 +45,9 @@ impl<'a> BinarySlice<'a> {
 pub fn stream_binary<'v, S: Stream<Lent<'v>>>(stream: &mut S, bytes: &'v [u8]) -> Result
     ensures { Emits S.law result (S.standing stream.old) (binary_emission bytes.now) (S.standing stream.new) }
 {
+    if stream.skip_value() {
+        return Ok(());
+    }
     stream.binary_begin(Some(bytes.len()))?;
     stream.binary_fragment(bytes)?;
     stream.binary_end()

@@ -1,6 +1,6 @@
 //! Fields with their names.
 
-ghost use Rattle.std.specs.Prelude.{◌≡◌, ℕ, ◌+◌, ◌^◌, ◌<◌, List, [], ◌∷◌, length, None};
+ghost use Rattle.std.specs.Prelude.{◌≡◌, ℕ, ◌+◌, ◌^◌, ◌<◌, true, List, [], ◌∷◌, length, None};
 ghost use Rattle.sval_label.specs.SeenIndex.{seen_index};
 ghost use Rattle.sval_label.specs.Calls.{PartBegin, PartEnd, FieldPlace, Field as FieldSlot};
 ghost use Rattle.sval_core.specs.Law.{Answers, Emits};
@@ -8,8 +8,9 @@ ghost use Rattle.sval_core.specs.Names.{ident, offset};
 ghost use Rattle.sval_core.specs.Values.{part_emission};
 ghost use Rattle.sval.specs.Structs as structs;
 ghost use Rattle.sval.specs.Structs.{field_label, fields_emission, placed_emission};
+ghost use Rattle.sval.specs.StructTrees.{HoldWholeValues};
 
-use sval_core::{Index, Label, Lending, Result, Stream, Value, tags};
+use sval_core::{Index, Label, Lending, Result, Stream, Value, is_surely_whole, tags};
 
 /// References to fields with their names, one before the others: [`Fields`] for [`stream_struct`](crate::stream_struct)
 /// and its like.
@@ -73,6 +74,10 @@ pub trait Fields<'v, L: Lending>: Copy {
         requires { length (listed self) < 2 ^ 64 }
         ensures { result ≡ length (listed self) };
 
+    /// Whether the value of each is surely whole, as [`is_surely_whole`] says.
+    fn are_whole(self) -> bool
+        ensures { result ≡ true → HoldWholeValues (listed self) };
+
     /// Streams the fields of a record.
     fn stream_fields<S: Stream<L>>(self, stream: &mut S) -> Result
         ensures { Emits S.law result
@@ -92,6 +97,10 @@ impl<'v, L: Lending> Fields<'v, L> for () {
         0
     }
 
+    fn are_whole(self) -> bool {
+        true
+    }
+
     #[tactic(auto, unfolding(sval_core::specs::Law::silent))]
     fn stream_fields<S: Stream<L>>(self, _stream: &mut S) -> Result {
         Ok(())
@@ -108,6 +117,10 @@ impl<'v, L: Lending, N: Named, T: Value<'v, L>, F: Fields<'v, L>> Fields<'v, L> 
 
     fn count(self) -> usize {
         1 + self.2.count()
+    }
+
+    fn are_whole(self) -> bool {
+        is_surely_whole::<L, T>(self.1) && self.2.are_whole()
     }
 
     #[tactic(auto, using(sval_core::proofs::ValueProofs::of_emissions))]

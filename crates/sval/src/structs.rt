@@ -1,13 +1,27 @@
 //! Structs and enums of a user's own.
 
-ghost use Rattle.std.specs.Prelude.{◌≡◌, ◌^◌, ◌<◌, length, Some};
+ghost use Rattle.std.specs.Prelude.{◌≡◌, ◌^◌, ◌<◌, true, false, length, Some};
 ghost use Rattle.sval_label.specs.Calls.{Begin, End, EnumBegin, EnumEnd, TaggedBegin, TaggedEnd, RecordTuple};
 ghost use Rattle.sval_core.specs.Law.{Answers, Emits};
 ghost use Rattle.sval_core.specs.Values.{container_emission, tag_emission, tagged_emission};
+ghost use Rattle.sval_core.specs.OneValue.{TakesAnyValue};
 ghost use Rattle.sval.specs.Structs.{record_emission, placed_emission, type_name, variant_name, struct_emission, unit_variant_emission, value_variant_emission, struct_variant_emission};
+ghost use Rattle.sval.specs.StructTrees.{HoldWholeValues};
 
 use crate::fields::{Fields, Named, identifier, place};
-use sval_core::{Lending, Result, Stream, Value};
+use sval_core::{Lending, Result, Stream, Value, skip_around};
+
+/// Skips what holds these fields, where the stream asks if it is whole and each of them surely is.
+fn skip_fields<'v, L: Lending, F: Fields<'v, L>, S: Stream<L>>(stream: &mut S, fields: F) -> bool
+    ensures whole { result ≡ true → HoldWholeValues (F.listed fields) }
+    ensures skipped { result ≡ true → TakesAnyValue S.law (S.standing stream.old) (S.standing stream.new) }
+    ensures left { result ≡ false → S.standing stream.new ≡ S.standing stream.old }
+{
+    if !stream.asks_if_whole() || !fields.are_whole() {
+        return false;
+    }
+    stream.skip_value()
+}
 
 /// Streams fields as a record without a name. Their names may be any texts.
 ///
@@ -23,6 +37,9 @@ pub fn stream_record<'v, L: Lending, F: Fields<'v, L>, S: Stream<L>>(
     ensures { Emits S.law result
         (S.standing stream.old) (record_emission (F.listed fields)) (S.standing stream.new) }
 {
+    if skip_fields(stream, fields) {
+        return Ok(());
+    }
     stream.record_begin(None, None, None, Some(fields.count()))?;
     fields.stream_fields(stream)?;
     stream.record_end(None, None, None)
@@ -72,6 +89,9 @@ pub fn stream_struct<'v, L: Lending, N: Named, F: Fields<'v, L>, S: Stream<L>>(
     ensures { Emits S.law result
         (S.standing stream.old) (struct_emission (N.text name) (F.listed fields)) (S.standing stream.new) }
 {
+    if skip_fields(stream, fields) {
+        return Ok(());
+    }
     begin_struct(stream, name, fields.count())?;
     fields.stream_placed(stream, 0)?;
     end_struct(stream, name)
@@ -120,6 +140,9 @@ pub fn stream_unit_variant<L: Lending, N: Named, M: Named, S: Stream<L>>(
     ensures { Emits S.law result
         (S.standing stream.old) (unit_variant_emission (N.text name) (M.text variant) number) (S.standing stream.new) }
 {
+    if stream.skip_value() {
+        return Ok(());
+    }
     begin_enum(stream, name)?;
     stream_name(stream, variant, number)?;
     end_enum(stream, name)
@@ -181,6 +204,9 @@ pub fn stream_value_variant<'v, L: Lending, N: Named, M: Named, T: Value<'v, L>,
     ensures { Emits S.law result (S.standing stream.old)
         (value_variant_emission (N.text name) (M.text variant) number (T.emission value.now)) (S.standing stream.new) }
 {
+    if skip_around(stream, value) {
+        return Ok(());
+    }
     begin_enum(stream, name)?;
     stream_tagged(stream, variant, number, value)?;
     end_enum(stream, name)
@@ -252,6 +278,9 @@ pub fn stream_struct_variant<'v, L: Lending, N: Named, M: Named, F: Fields<'v, L
     ensures { Emits S.law result (S.standing stream.old)
         (struct_variant_emission (N.text name) (M.text variant) number (F.listed fields)) (S.standing stream.new) }
 {
+    if skip_fields(stream, fields) {
+        return Ok(());
+    }
     begin_enum(stream, name)?;
     stream_variant_fields(stream, variant, number, fields)?;
     end_enum(stream, name)

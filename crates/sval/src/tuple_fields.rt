@@ -1,13 +1,14 @@
 //! The fields of tuple structs and of tuple variants.
 
-ghost use Rattle.std.specs.Prelude.{◌≡◌, ◌+◌, ◌^◌, ◌<◌, List, [], ◌∷◌, length, None};
+ghost use Rattle.std.specs.Prelude.{◌≡◌, ◌+◌, ◌^◌, ◌<◌, true, List, [], ◌∷◌, length, None};
 ghost use Rattle.sval_label.specs.Calls.{PartBegin, PartEnd, Place};
 ghost use Rattle.sval_core.specs.Law.{Emission, Answers, Emits};
 ghost use Rattle.sval_core.specs.Names.{offset};
+ghost use Rattle.sval_core.specs.OneValue.{EachIsOneValue};
 ghost use Rattle.sval_core.specs.Values.{part_emission, places_emission};
 
 use crate::fields::place;
-use sval_core::{Lending, Result, Stream, Value};
+use sval_core::{Lending, Result, Stream, Value, is_surely_whole};
 
 /// References to the fields of a tuple struct or a tuple variant, in nested pairs: `()` for no field, and
 /// `(&first, others)` for one before the others.
@@ -23,6 +24,10 @@ pub trait TupleFields<'v, L: Lending>: Copy {
         requires { length (listed self) < 2 ^ 64 }
         ensures { result ≡ length (listed self) };
 
+    /// Whether the value of each field is surely whole, as [`is_surely_whole`] says.
+    fn are_whole(self) -> bool
+        ensures { result ≡ true → EachIsOneValue (λ value. value) (listed self) };
+
     /// Streams the fields of a tuple. `first` is the index of the first field.
     fn stream_fields<S: Stream<L>>(self, stream: &mut S, first: usize) -> Result
         requires { first + length (listed self) < 2 ^ 64 }
@@ -37,6 +42,10 @@ impl<'v, L: Lending> TupleFields<'v, L> for () {
         0
     }
 
+    fn are_whole(self) -> bool {
+        true
+    }
+
     #[tactic(auto, unfolding(sval_core::specs::Law::silent))]
     fn stream_fields<S: Stream<L>>(self, _stream: &mut S, _first: usize) -> Result {
         Ok(())
@@ -48,6 +57,10 @@ impl<'v, L: Lending, T: Value<'v, L>, F: TupleFields<'v, L>> TupleFields<'v, L> 
 
     fn count(self) -> usize {
         1 + self.1.count()
+    }
+
+    fn are_whole(self) -> bool {
+        is_surely_whole::<L, T>(self.0) && self.1.are_whole()
     }
 
     #[tactic(auto, using(sval_core::proofs::ValueProofs::of_emissions))]

@@ -1,15 +1,16 @@
 //! Tuple structs and tuple variants, structs that hold one value, and structs that hold nothing.
 
-ghost use Rattle.std.specs.Prelude.{◌≡◌, ◌^◌, ◌<◌, length, Some};
+ghost use Rattle.std.specs.Prelude.{◌≡◌, ◌^◌, ◌<◌, true, false, length, Some};
 ghost use Rattle.sval_label.specs.Calls.{Begin, End, TaggedBegin, TaggedEnd, Tuple};
 ghost use Rattle.sval_core.specs.Law.{Answers, Emits};
 ghost use Rattle.sval_core.specs.Values.{container_emission, places_emission};
+ghost use Rattle.sval_core.specs.OneValue.{EachIsOneValue, TakesAnyValue};
 ghost use Rattle.sval.specs.Structs.{type_name, variant_name, unit_struct_emission, newtype_emission, tuple_struct_emission, tuple_variant_emission};
 
 use crate::fields::{Named, identifier, place};
 use crate::structs::{begin_enum, end_enum};
 use crate::tuple_fields::TupleFields;
-use sval_core::{Lending, Result, Stream, Value};
+use sval_core::{Lending, Result, Stream, Value, skip_around};
 
 /// Streams a struct without fields, as sval's derive does: a tag that is its name. JSON has the name as a text.
 ///
@@ -32,6 +33,21 @@ pub fn stream_unit_struct<L: Lending, N: Named, S: Stream<L>>(stream: &mut S, na
         (S.standing stream.old) (unit_struct_emission (N.text name)) (S.standing stream.new) }
 {
     stream.tag(None, Some(&identifier(name)), None)
+}
+
+/// Skips what holds these fields, where the stream asks if it is whole and each of them surely is.
+fn skip_fields<'v, L: Lending, F: TupleFields<'v, L>, S: Stream<L>>(
+    stream: &mut S,
+    fields: F,
+) -> bool
+    ensures whole { result ≡ true → EachIsOneValue (λ value. value) (F.listed fields) }
+    ensures skipped { result ≡ true → TakesAnyValue S.law (S.standing stream.old) (S.standing stream.new) }
+    ensures left { result ≡ false → S.standing stream.new ≡ S.standing stream.old }
+{
+    if !stream.asks_if_whole() || !fields.are_whole() {
+        return false;
+    }
+    stream.skip_value()
 }
 
 /// Begins a struct that holds one value.
@@ -75,6 +91,9 @@ pub fn stream_newtype<'v, L: Lending, N: Named, T: Value<'v, L>, S: Stream<L>>(
     ensures { Emits S.law result (S.standing stream.old)
         (newtype_emission (N.text name) (T.emission value.now)) (S.standing stream.new) }
 {
+    if skip_around(stream, value) {
+        return Ok(());
+    }
     begin_newtype(stream, name)?;
     value.stream(stream)?;
     end_newtype(stream, name)
@@ -122,6 +141,9 @@ pub fn stream_tuple_struct<'v, L: Lending, N: Named, F: TupleFields<'v, L>, S: S
     ensures { Emits S.law result
         (S.standing stream.old) (tuple_struct_emission (N.text name) (F.listed fields)) (S.standing stream.new) }
 {
+    if skip_fields(stream, fields) {
+        return Ok(());
+    }
     begin_struct(stream, name, fields.count())?;
     fields.stream_fields(stream, 0)?;
     end_struct(stream, name)
@@ -203,6 +225,9 @@ pub fn stream_tuple_variant<
     ensures { Emits S.law result (S.standing stream.old)
         (tuple_variant_emission (N.text name) (M.text variant) number (F.listed fields)) (S.standing stream.new) }
 {
+    if skip_fields(stream, fields) {
+        return Ok(());
+    }
     begin_enum(stream, name)?;
     stream_variant_fields(stream, variant, number, fields)?;
     end_enum(stream, name)

@@ -1,0 +1,8 @@
+use Rattle.sval.specs.Structs.{tuple_struct_emission}
+use Rattle.sval.proofs.WholeStructs.{tuple_struct_is_whole}
+use Rattle.sval.proofs.tuple_structs.stream_tuple_struct.Goals as goal
+
+pub returns-then-skip_fields : goal.returns-then-skip_fields
+returns-then-skip_fields g c =
+    let whole = c.skip_fields.ensures.whole c.if-skip_fields.true in
+    c.skip_fields.ensures.skipped c.if-skip_fields.true (tuple_struct_emission (g.N.Named.text c.args.name) (g.F.TupleFields.listed c.args.fields)) (tuple_struct_is_whole (g.N.Named.text c.args.name) (g.F.TupleFields.listed c.args.fields) whole)
