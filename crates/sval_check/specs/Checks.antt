@@ -4,13 +4,9 @@ use Rattle.sval_label.specs.Calls.{Call, TextBegin, BinaryBegin, EnumBegin, Tagg
 use Rattle.sval_core.specs.Trees.{Tree}
 use Rattle.sval_core.specs.Spells.{Spells, IsViable}
 use Rattle.sval_core.specs.Law.{Emission}
+pub use Rattle.sval_core.specs.OneValue.{IsOneValue}
 use Rattle.sval_check.specs.declared.error.CheckError.{CheckError}
 use Rattle.sval_check.specs.declared.error.CheckError.TheVariants as error
-
--- the value doesn't refuse, and its calls spell a tree
-pub record IsOneValue (e : Emission) : Type 0 where
-  pub willing : e.refuses ≡ false
-  pub spells : (tree : Tree) × Spells e.calls tree
 
 -- the calls before this one can be completed, and with it they cannot; its number is counted from 1 and stops at the greatest u64
 pub record IsFirstBadCall (calls : List Call) (at : ℕ) : Type 0 where

@@ -40,11 +40,14 @@ pub use fragments::{TokenBytes, TokenText};
 pub use frame::Content;
 pub use machine::{Due, Machine, Refusal};
 use std::alloc::Global;
-use sval_core::{Lent, Value};
+use sval_core::{Lent, Value, is_surely_whole};
 pub use token::{Token, TokenName};
 pub use token_buf::TokenBuf;
 
 /// Checks that a value's calls spell one whole value, and that the value itself doesn't refuse.
+///
+/// A value that is surely whole ([`is_surely_whole`]) is only asked, without its calls and without memory. That is a
+/// number or a text, say, or a struct whose fields are numbers and texts. Any other value is streamed.
 ///
 /// What has begun and has no end yet is kept in memory of `alloc`, with the name that its end has to say, so a deep
 /// value needs no deep stack of calls. An end says its begin's name where both say or leave out the same of tag, label
@@ -69,6 +72,23 @@ pub use token_buf::TokenBuf;
 /// }
 /// ```
 pub fn check<'v, V: Value<'v, Lent<'v>>>(alloc: Global, value: &'v V) -> Result<(), CheckError>
+    ensures ok { OnOk result (IsOneValue (V.emission value.now)) }
+    ensures bad_call { (at : ℕ) → result ≡ Err (CheckError.BadCall at)
+        → IsFirstBadCall (V.emission value.now).calls at }
+    ensures refused { result ≡ Err CheckError.Refused → OnlyRefuses (V.emission value.now) }
+    ensures unfinished { result ≡ Err CheckError.Unfinished → IsUnfinished (V.emission value.now) }
+    ensures no_memory { result ≡ Err CheckError.NoMemory → NeedsMemory (V.emission value.now).calls }
+    ensures comes { (due : CheckAnswer) → IsCheckDue (V.emission value.now) due
+        → (result ≡ due) ⊎ (result ≡ Err CheckError.NoMemory) }
+{
+    if is_surely_whole::<Lent<'v>, V>(value) {
+        return Ok(());
+    }
+    check_calls(alloc, value)
+}
+
+/// Checks the calls of a value one by one.
+fn check_calls<'v, V: Value<'v, Lent<'v>>>(alloc: Global, value: &'v V) -> Result<(), CheckError>
     ensures ok { OnOk result (IsOneValue (V.emission value.now)) }
     ensures bad_call { (at : ℕ) → result ≡ Err (CheckError.BadCall at)
         → IsFirstBadCall (V.emission value.now).calls at }
