@@ -2,7 +2,6 @@
 use Rattle.std.specs.Prelude.{ℕ, List, [], ◌∷◌, refl}
 use Rattle.sval_core.specs.Law.{Emission}
 use Rattle.sval_core.specs.OneValue.{IsOneValue, EachIsOneValue}
-use Rattle.sval_core.specs.ValueLaws.{TellEach}
 use Rattle.sval_core.proofs.SurelyWhole.{whole_from_told, told_from_whole, trees_of_wholes}
 use Rattle.sval.specs.Structs.{Field, record_emission, struct_emission, newtype_emission, tuple_struct_emission, unit_variant_emission, value_variant_emission, struct_variant_emission, tuple_variant_emission}
 use Rattle.sval.specs.StructTrees.{NamedTree, FieldsTell, HoldWholeValues}

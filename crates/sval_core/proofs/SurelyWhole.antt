@@ -1,21 +1,21 @@
 -- Where the parts of a value are whole values, the value is one.
-use Rattle.std.specs.Prelude.{◌≡◌, ℕ, ◌+◌, ◌<◌, ℤ, Bool, length, take, get_or, map, List, [], ◌∷◌, ◌++◌, Option, Some, None, refl}
+use Rattle.std.specs.Prelude.{◌≡◌, ℕ, ◌+◌, ◌<◌, ℤ, Bool, length, take, get_or, map, List, [], ◌∷◌, ◌++◌, Some, None, refl}
 use Rattle.std.specs.List.{AllByRecursion}
 use Rattle.std.proofs.Common.{arith, ap, ◌∙◌, sym, subst}
 use Rattle.std.proofs.ByRecursion.{All-push}
 use Rattle.std.proofs.lemmas.List.{take_more, map-append}
 use Rattle.sval_label.specs.Calls.{Head, Slot, Name, IntType}
 use Rattle.sval_core.specs.Trees as tree
-use Rattle.sval_core.specs.Trees.{Tree, Parts, none, part, text_kind, MayHold, IsVariant, AreInOrder, Ordinary}
+use Rattle.sval_core.specs.Trees.{Tree, Parts, none, part, text_kind, MayHold, AreInOrder, Ordinary}
 use Rattle.sval_core.specs.Spells.{entries}
 use Rattle.sval_core.specs.Law.{Emission, then_emits}
 use Rattle.sval_core.specs.Names.{tag_alone, constant_size_tag, some_name, none_name}
-use Rattle.sval_core.specs.Values.{part_emission, entry_emission, tagged_emission, tag_emission, enum_emission, parts_emission, null_emission, truth_emission, int_emission, unit_emission, one_text_emission, binary_emission, binary_array_emission, constant_size_emission, seq_emission, array_emission, map_emission, option_emission, tuple_emission}
+use Rattle.sval_core.specs.Values.{part_emission, entry_emission, tagged_emission, tag_emission, parts_emission, null_emission, truth_emission, int_emission, one_text_emission, binary_emission, binary_array_emission, seq_emission, array_emission, map_emission, option_emission, tuple_emission}
 use Rattle.sval_core.specs.ValueTrees.{Tells, TellsParts}
 use Rattle.sval_core.specs.ValueLaws.{TellEach}
 use Rattle.sval_core.specs.OneValue.{IsOneValue, EachIsOneValue, EachEntryIsWhole}
 use Rattle.sval_core.proofs.Joining.{associate}
-use Rattle.sval_core.proofs.ToldTrees.{tagged_tells, enum_tells, enums_tell, no_part_tells, part_tells, container_tells, plain_values_tell, tuple_tells}
+use Rattle.sval_core.proofs.ToldTrees.{tagged_tells, enums_tell, no_part_tells, part_tells, container_tells, plain_values_tell, tuple_tells}
 
 -- what tells a tree is one whole value, and the other way round
 pub whole_from_told : {e : Emission} {t : Tree} → Tells e t → IsOneValue e

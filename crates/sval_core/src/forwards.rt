@@ -61,10 +61,6 @@ impl<L: Lending, S: Stream<L>> Stream<L> for Box<S> {
         self.as_ref().asks_if_whole()
     }
 
-    fn skip_value(&mut self) -> bool {
-        self.as_mut().skip_value()
-    }
-
     fn whole_text(&mut self, text: L::Text, size: Option<usize>) -> Result {
         self.as_mut().whole_text(text, size)
     }

@@ -49,3 +49,4 @@ mod Parts
 mod PartCalls
 mod ProperParts
 mod ShorterTexts
+mod WholeDocuments

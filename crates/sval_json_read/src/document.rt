@@ -193,7 +193,12 @@ impl<'v, 'a> Value<'v, Lent<'v>> for JsonDoc<'a> {
     ghost emission = { λ doc. makes (document_calls doc) };
 
     fn stream<S: Stream<Lent<'v>>>(&'v self, stream: &mut S) -> StreamResult {
-        stream_nodes(self.text, self.nodes.as_slice(), stream)
+        let text = self.text;
+        let nodes = self.nodes.as_slice();
+        if stream.skip_value() {
+            return Ok(());
+        }
+        stream_nodes(text, nodes, stream)
     }
 }
 

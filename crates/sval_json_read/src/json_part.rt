@@ -81,7 +81,12 @@ impl<'v, 'd> Value<'v, Lent<'v>> for JsonPart<'d> {
     ghost emission = { λ part. makes (document_calls part) };
 
     fn stream<S: Stream<Lent<'v>>>(&'v self, stream: &mut S) -> StreamResult {
-        stream_alone(self.text, self.nodes, stream)
+        let text = self.text;
+        let nodes = self.nodes;
+        if stream.skip_value() {
+            return Ok(());
+        }
+        stream_alone(text, nodes, stream)
     }
 }
 
