@@ -7,6 +7,7 @@ pub mod Faulty
 pub mod OverWriter
 pub mod OverBuffer
 pub mod Known
+pub mod Watched
 pub mod Sources
 pub mod FaultySources
 pub mod OverReader

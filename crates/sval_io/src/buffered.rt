@@ -1,11 +1,12 @@
 //! A sink over a buffer of std, and a source over a reader, that tell their bytes.
 
 ghost use Rattle.std.specs.Prelude.{◌≡◌, [], IfOk, IfErr};
-ghost use Rattle.std.specs.Io.Buffered.{writer_buffer, writer_contents};
 ghost use Rattle.std.specs.IoError.{error_kind};
 ghost use Rattle.sval_core.specs.Law.{one_more};
 ghost use Rattle.sval_io.specs.Known.{IsPassedOn};
-ghost use Rattle.sval_io.specs.OverBuffer.{buffered_told, known_supply};
+ghost use Rattle.sval_io.specs.OverBuffer.{taken_bytes, bytes_held, sink_faults};
+ghost use Rattle.sval_io.specs.OverBuffer.{over_buffer_told, known_reader_told};
+ghost use Rattle.sval_io.specs.OverReader.{OverReader};
 ghost use Rattle.sval_io.specs.Sinks.{Declines};
 
 use crate::patient::Patient;
@@ -16,6 +17,7 @@ use crate::tells::{Tells, TellsLeft};
 use std::alloc::Global;
 use std::io;
 use std::io::{BufWriter, ErrorKind, Write};
+use std::marker::Model;
 
 /// A sink over a writer, which holds back what it took until its buffer is full, or is flushed. It tells what it took
 /// where the writer tells what it holds.
@@ -39,9 +41,9 @@ impl<W: Write + Drop> BufferedSink<W> {
     /// is dropped.
     #[tactic(auto, using(crate::proofs::Buffering::nothing_behind))]
     pub fn with_capacity(alloc: Global, capacity: usize, writer: W) -> io::Result<Self>
-        ensures contents { IfOk result (λ sink. writer_contents W.contents sink.writer ≡ W.contents writer) }
-        ensures empty { IfOk result (λ sink. writer_buffer sink.writer ≡ []) }
-        ensures faults { IfOk result (λ sink. sink.faults ≡ 0) }
+        ensures contents { IfOk result (λ sink. taken_bytes W.contents sink ≡ W.contents writer) }
+        ensures empty { IfOk result (λ sink. bytes_held sink ≡ []) }
+        ensures faults { IfOk result (λ sink. sink_faults sink ≡ 0) }
         ensures err { IfErr result (λ error. error_kind error ≡ ErrorKind.OutOfMemory) }
     {
         Ok(BufferedSink {
@@ -53,7 +55,7 @@ impl<W: Write + Drop> BufferedSink<W> {
     /// Passes on what is held back, and gives the writer back. Where the writer fails, the rest is lost, and that isn't
     /// told.
     pub fn into_writer(self) -> W
-        ensures { IsPassedOn (writer_contents W.contents self.writer) (writer_buffer self.writer) (W.contents result) }
+        ensures { IsPassedOn (taken_bytes W.contents self) (bytes_held self) (W.contents result) }
     {
         if self.writer.buffer().is_empty() {
             let (patient, _) = self.writer.into_parts();
@@ -72,11 +74,8 @@ impl<W: Write + Drop> BufferedSink<W> {
     #[cold]
     fn fault(&mut self) -> SinkError
         ensures failed { result ≡ SinkError.Failed }
-        ensures declines { Declines result
-            (buffered_told (writer_contents W.contents self.old.writer) (writer_buffer self.old.writer)
-            self.old.faults)
-            (buffered_told (writer_contents W.contents self.new.writer) (writer_buffer self.new.writer)
-            self.new.faults) }
+        ensures declines { Declines result (over_buffer_told W.contents self.old)
+            (over_buffer_told W.contents self.new) }
         ensures counted { self.new ≡ record self.old { faults = one_more self.old.faults } }
     {
         self.faults = self.faults.saturating_add(1);
@@ -85,8 +84,7 @@ impl<W: Write + Drop> BufferedSink<W> {
 }
 
 impl<W: Tells + Drop> Sink for BufferedSink<W> {
-    ghost told = { λ sink.
-        buffered_told (writer_contents W.contents sink.writer) (writer_buffer sink.writer) sink.faults };
+    ghost told = { over_buffer_told W.contents };
 
     #[inline(always)]
     fn write(&mut self, piece: &[u8]) -> Result<usize, SinkError> {
@@ -112,10 +110,16 @@ pub struct KnownSource<R> {
     source: RealSource<R>,
 }
 
+impl<R> Model for KnownSource<R> {
+    ghost Value = { OverReader R };
+
+    ghost view = { λ known. known.source };
+}
+
 impl<R> KnownSource<R> {
     /// A source over this reader, with no fault.
     pub fn new(reader: R) -> Self
-        ensures { result.source ≡ record { reader = reader; faults = 0 } }
+        ensures { result ≡ record { reader = reader; faults = 0 } }
     {
         KnownSource {
             source: RealSource::new(reader),
@@ -124,7 +128,7 @@ impl<R> KnownSource<R> {
 }
 
 impl<R: TellsLeft> Source for KnownSource<R> {
-    ghost told = { λ known. known_supply (R.remaining known.source.reader) known.source.faults };
+    ghost told = { known_reader_told R.remaining };
 
     fn read(&mut self, buffer: &mut [u8]) -> Result<usize, SourceError> {
         self.source.read(buffer)

@@ -45,11 +45,13 @@ pub struct WatchedWriter<'a, W: Write, N: Watch> {
 }
 
 impl<'a, W: Write, N: Watch> WatchedWriter<'a, W, N> {
+    ghost use Rattle.sval_io.specs.Watched.{watched_writer};
+
     /// Watches this writer.
     pub fn new(writer: &'a mut W) -> Self
         requires same { writer.ghost_name ≡ N.writer }
         requires told { is_some (W.contents writer.old) ≡ N.tells }
-        ensures { result.writer ≡ writer.entry }
+        ensures { watched_writer result ≡ writer.entry }
     {
         WatchedWriter {
             writer,
@@ -60,7 +62,7 @@ impl<'a, W: Write, N: Watch> WatchedWriter<'a, W, N> {
     /// The writer, which is the one that was lent.
     pub fn into_writer(self) -> &'a mut W
         ensures same { result.ghost_name ≡ N.writer }
-        ensures now { result.now ≡ self.entry.writer.now }
+        ensures now { result.now ≡ (watched_writer self.entry).now }
     {
         self.writer
     }
@@ -97,10 +99,12 @@ pub struct WatchedReader<R: Read, N: Watch> {
 }
 
 impl<R: Read, N: Watch> WatchedReader<R, N> {
+    ghost use Rattle.sval_io.specs.Watched.{watched_reader};
+
     /// Watches this reader.
     pub fn new(reader: R) -> Self
         requires { is_some (R.remaining reader) ≡ N.tells_left }
-        ensures { result.reader ≡ reader }
+        ensures { watched_reader result ≡ reader }
     {
         WatchedReader {
             reader,
