@@ -11,3 +11,4 @@ pub mod JobLeaves
 pub mod JobEnds
 pub mod ToldRuns
 pub mod Streaming
+mod LineTexts

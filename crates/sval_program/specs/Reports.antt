@@ -61,6 +61,22 @@ not_integer = codes "attempt to write a number that is no whole number of 128 bi
 abbrev pub bad_cbor : List ℕ
 bad_cbor = codes "not one CBOR item of this profile\n"
 
+-- words that are no form, told as an error: a program has a line of its own for them
+abbrev pub no_form_line : List ℕ
+no_form_line = codes "the arguments are no form that the program takes\n"
+
+-- ---- the text of a line, as an error prints it
+
+-- bytes behind this one, without the line feed at their end
+abbrev pub behind_byte : ℕ → List ℕ → List ℕ
+behind_byte byte [] = if byte == 10 then [] else byte ∷ []
+behind_byte byte (next ∷ bytes) = byte ∷ behind_byte next bytes
+
+-- a line without the line feed at its end, if it has one
+abbrev pub line_text : List ℕ → List ℕ
+line_text [] = []
+line_text (byte ∷ bytes) = behind_byte byte bytes
+
 -- ---- tables of statuses and their lines
 
 -- those of a script: whether many values may come, and the number of a line of it

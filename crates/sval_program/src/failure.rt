@@ -1,16 +1,19 @@
 //! Why a program failed.
 
 ghost use Rattle.std.specs.Prelude.{◌≡◌, Some};
-ghost use Rattle.sval_program.specs.Failures.{status_of_fault, row_of_fault, status_of_failure, failure_of_check};
+ghost use Rattle.sval_program.specs.Failures.{status_of_fault, row_of_fault, failure_of_check};
+ghost use Rattle.sval_program.specs.Failures.{status_of_failure, line_of_failure};
 
 use crate::line::Line;
 use crate::{lines, status};
+use std::error::Error;
+use std::fmt;
 use sval_check::CheckError;
 use sval_io::{InputError, SinkError};
 use sval_script::ScriptError;
 
 /// Why nothing more is due of an input.
-#[derive(Clone, Copy)]
+#[derive(Clone, Copy, Debug)]
 pub enum Fault {
     /// This line of a script, counted from 1, is the first that is no call.
     BadLine {
@@ -84,8 +87,24 @@ impl Fault {
     }
 }
 
+/// Prints the line of the fault, without its line feed.
+impl fmt::Display for Fault {
+    ghost use Rattle.sval_program.specs.Reports.{line_text};
+
+    ghost output = { λ fault. Some (line_text (row_of_fault fault).1) };
+
+    fn fmt<W: fmt::Write>(&self, f: &mut fmt::Formatter<W>) -> fmt::Result {
+        write!(f, "{}", self.line())
+    }
+}
+
+impl Error for Fault {}
+
 /// Why a program failed: each failure has a status and a line.
-#[derive(Clone, Copy)]
+///
+/// It prints its line without the line feed. Words that are no form have a line of the program's own, and print that of
+/// [`lines::no_form`].
+#[derive(Clone, Copy, Debug)]
 pub enum Failure {
     /// The words are no form.
     Usage,
@@ -159,4 +178,30 @@ impl Failure {
             Failure::Write(SinkError::NoMemory) => status::NO_MEMORY,
         }
     }
+
+    /// The line that the third device is told, where `usage` is the program's line for words that are no form.
+    pub fn line(self, usage: Line) -> Line
+        ensures { result ≡ line_of_failure usage self }
+    {
+        match self {
+            Failure::Usage => usage,
+            Failure::Input(error) => lines::of_input(error),
+            Failure::Fault(fault) => fault.line(),
+            Failure::NoMemory => lines::out_of_memory(),
+            Failure::Write(SinkError::Failed) => lines::write_fault(),
+            Failure::Write(SinkError::NoMemory) => lines::out_of_memory(),
+        }
+    }
 }
+
+impl fmt::Display for Failure {
+    ghost use Rattle.sval_program.specs.Reports.{line_text, no_form_line};
+
+    ghost output = { λ failure. Some (line_text (line_of_failure no_form_line failure)) };
+
+    fn fmt<W: fmt::Write>(&self, f: &mut fmt::Formatter<W>) -> fmt::Result {
+        write!(f, "{}", self.line(lines::no_form()))
+    }
+}
+
+impl Error for Failure {}

@@ -1,17 +1,16 @@
 //! Programs that write what is due of an input: a program says what, and its run is the same for all.
 
 ghost use Rattle.std.specs.Prelude.{◌≡◌, map, string_bytes};
-ghost use Rattle.sval_program.specs.Failures.{status_of, failure_line, line_of_failure};
+ghost use Rattle.sval_program.specs.Failures.{status_of, failure_line};
 ghost use Rattle.sval_program.specs.Jobs.{Serves, Works};
 ghost use Rattle.sval_program.specs.Reports.{TellsLine};
 ghost use Rattle.sval_program.specs.Runs.{Ends, Reports};
 
 use crate::failure::Failure;
 use crate::line::{Line, tell};
-use crate::lines;
 use crate::status::DONE;
 use std::alloc::Global;
-use sval_io::{Sink, SinkError, Source};
+use sval_io::{Sink, Source};
 
 /// A program that writes what is due of an input, which it reads whole where its words ask for it.
 pub trait Job {
@@ -68,20 +67,6 @@ pub fn work<J: Job, I: Source, K: Sink>(
     Ok(out.flush()?)
 }
 
-/// The line that the third device is told of a failure.
-fn line<J: Job>(failure: Failure) -> Line
-    ensures { result ≡ line_of_failure J.terms.usage failure }
-{
-    match failure {
-        Failure::Usage => J::usage(),
-        Failure::Input(error) => lines::of_input(error),
-        Failure::Fault(fault) => fault.line(),
-        Failure::NoMemory => lines::out_of_memory(),
-        Failure::Write(SinkError::Failed) => lines::write_fault(),
-        Failure::Write(SinkError::NoMemory) => lines::out_of_memory(),
-    }
-}
-
 /// Tells the third device how the program ended, and answers the status.
 fn conclude<J: Job, D: Sink>(ended: Result<(), Failure>, diag: &mut D) -> u8
     ensures status { result ≡ status_of ended }
@@ -90,7 +75,7 @@ fn conclude<J: Job, D: Sink>(ended: Result<(), Failure>, diag: &mut D) -> u8
     match ended {
         Ok(()) => DONE,
         Err(failure) => {
-            tell(&line::<J>(failure), diag);
+            tell(&failure.line(J::usage()), diag);
             failure.status()
         }
     }

@@ -2,9 +2,10 @@
 
 ghost use Rattle.std.specs.Prelude.{◌≡◌, ◌++◌, decimal};
 ghost use Rattle.sval_io.specs.Sinks.{WritesAll};
-ghost use Rattle.sval_program.specs.Reports.{TellsLine, shown};
+ghost use Rattle.sval_program.specs.Reports.{TellsLine, line_text, shown};
 
 use itoa::Buffer;
+use std::fmt;
 use std::marker::Model;
 use sval_io::{Sink, SinkError, write_all};
 
@@ -23,12 +24,37 @@ pub struct Line {
 }
 
 impl Model for Line {
-    ghost use Rattle.std.specs.Prelude.{◌++◌, ℕ, List};
+    ghost use Rattle.std.specs.Prelude.{◌≡◌, ◌++◌, ℕ, List, [], None};
     ghost use Rattle.sval_program.specs.Reports.{shown};
 
     ghost Value = { List ℕ };
 
     ghost view = { λ line. line.before.now ++ (shown line.number ++ line.after.now) };
+
+    ghost invariant = { λ line. line.number ≡ None → line.before.now ≡ [] };
+}
+
+/// Prints the line without the line feed at its end.
+impl fmt::Display for Line {
+    ghost use Rattle.std.specs.Prelude.{Some};
+
+    ghost output = { λ line. Some (line_text line) };
+
+    #[tactic(auto, using(crate::proofs::LineTexts::line_without_number, crate::proofs::LineTexts::numbered_line))]
+    fn fmt<W: fmt::Write>(&self, f: &mut fmt::Formatter<W>) -> fmt::Result {
+        let after = without_line_feed(self.after);
+        match self.number {
+            None => f.write_str(after),
+            Some(number) => write!(f, "{}{number}{after}", self.before),
+        }
+    }
+}
+
+/// The text without the line feed at its end, if it has one.
+fn without_line_feed(text: &str) -> &str
+    ensures { result.now ≡ line_text text.now }
+{
+    text.strip_suffix('\n').unwrap_or(text)
 }
 
 impl Line {

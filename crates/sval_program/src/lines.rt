@@ -110,6 +110,13 @@ pub fn bad_cbor() -> Line
     Line::text("not one CBOR item of this profile\n")
 }
 
+/// The words are no form, as [`Failure`](crate::Failure) prints it. A program tells its own line for them.
+pub fn no_form() -> Line
+    ensures { result ≡ reports.no_form_line }
+{
+    Line::text("the arguments are no form that the program takes\n")
+}
+
 /// The line where an input wasn't read.
 pub fn of_input(error: InputError) -> Line
     ensures { result ≡ report_among (status_of_input error) device_reports }
