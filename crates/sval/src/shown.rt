@@ -60,7 +60,7 @@ pub struct Display<V> {
 /// The text that a value prints.
 fn rendered<V: Render>(alloc: Global, value: &V) -> Result<String, DisplayError>
     ensures ok { IfOk result (λ text. IsPrinted (V.printed value.now) (string_bytes text)) }
-    ensures err { IfErr result (CantRender (V.unprintable value.now)) }
+    ensures err { IfErr result (CantRender (V.printed value.now) (V.unprintable value.now)) }
 {
     let mut text = String::new(alloc);
     match value.render(&mut text) {
@@ -75,12 +75,12 @@ impl<V: Render + Drop> Display<V> {
     ///
     /// # Errors
     ///
-    /// [`DisplayError::Format`] only for a value that can't be printed, and [`DisplayError::NoMemory`]. The value is
-    /// dropped then.
+    /// [`DisplayError::Format`] only for a value that can't be printed, and [`DisplayError::NoMemory`] only for one that
+    /// prints something. The value is dropped then.
     pub fn new(alloc: Global, value: V) -> Result<Display<V>, DisplayError>
         ensures text { IfOk result (λ shown. IsPrinted (V.printed value) (shown_text shown)) }
         ensures value { IfOk result (λ shown. shown_value shown ≡ value) }
-        ensures err { IfErr result (CantRender (V.unprintable value)) }
+        ensures err { IfErr result (CantRender (V.printed value) (V.unprintable value)) }
     {
         let text = rendered(alloc, &value)?;
         Ok(Display { value, text })
@@ -110,7 +110,7 @@ impl<'a, V: Render> Display<&'a V> {
     pub fn new_borrowed(alloc: Global, value: &'a V) -> Result<Display<&'a V>, DisplayError>
         ensures text { IfOk result (λ shown. IsPrinted (V.printed value.now) (shown_text shown)) }
         ensures value { IfOk result (λ shown. (shown_value shown).now ≡ value.now) }
-        ensures err { IfErr result (CantRender (V.unprintable value.now)) }
+        ensures err { IfErr result (CantRender (V.printed value.now) (V.unprintable value.now)) }
     {
         Display::new(alloc, value)
     }
@@ -169,9 +169,9 @@ fn stream_number_text<L: Lending, S: Stream<L>>(stream: &mut S, text: &str) -> s
 ///
 /// # Errors
 ///
-/// [`DisplayError::Format`] only for a value that can't be printed; [`DisplayError::NoMemory`]; after both the stream
-/// is as it was. [`DisplayError::Refused`] only where the stream refused one of the calls, and then it has taken those
-/// before that one.
+/// [`DisplayError::Format`] only for a value that can't be printed; [`DisplayError::NoMemory`] only for one that prints
+/// something; after both the stream is as it was. [`DisplayError::Refused`] only where the stream refused one of the
+/// calls, and then it has taken those before that one.
 ///
 /// ```
 /// stream_display(alloc, &mut stream, &42u8)?; // text_begin(None), text_fragment_computed("42"), text_end
