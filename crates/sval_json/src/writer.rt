@@ -132,10 +132,10 @@ impl<'k, K: Sink> JsonWriter<'k, K> {
         }
     }
 
-    /// Writes the bytes of several calls, which are few. Where the sink failed, it has no room left, if it tells its
-    /// room.
+    /// Writes a few bytes within its caller: a mark of a byte or two, or what several calls write together. Where the
+    /// sink failed, it has no room left, if it tells its room.
     #[inline(always)]
-    fn write_joined(&mut self, bytes: &[u8]) -> Result
+    fn write_few(&mut self, bytes: &[u8]) -> Result
         ensures does { Does (write bytes.now) result (writer_view K.told self.old) (writer_view K.told self.new) }
         ensures full { OnErr result
             (self.new.why ≡ Some (Stop.Sink SinkError.Failed) → IsFull (K.told self.new.sink.now)) }
@@ -154,20 +154,6 @@ impl<'k, K: Sink> JsonWriter<'k, K> {
         ensures { OnTrue result (seen_handler self.now.handler ≡ escapes) }
     {
         matches!(self.handler, Handler::Escapes)
-    }
-
-    /// Writes a mark of a byte or two.
-    #[inline(always)]
-    fn write_mark(&mut self, mark: &[u8]) -> Result
-        ensures { Does (write mark.now) result (writer_view K.told self.old) (writer_view K.told self.new) }
-    {
-        match write_in_place(self.sink, mark) {
-            Ok(()) => Ok(()),
-            Err(why) => {
-                self.why = Some(Stop::Sink(why));
-                Err(Error::new())
-            }
-        }
     }
 
     /// Writes a text with its escapes, and without quotes.
@@ -254,7 +240,7 @@ impl<'k, K: Sink> JsonWriter<'k, K> {
             (writer_view K.told self.old) (writer_view K.told self.new) }
     {
         self.empty = false;
-        self.write_mark(b"null")
+        self.write_few(b"null")
     }
 
     /// Writes a whole number.
@@ -274,7 +260,7 @@ impl<'k, K: Sink> JsonWriter<'k, K> {
     {
         self.refuse_in_key()?;
         self.empty = true;
-        self.write_mark(bracket)
+        self.write_few(bracket)
     }
 
     /// Closes what was opened.
@@ -283,7 +269,7 @@ impl<'k, K: Sink> JsonWriter<'k, K> {
         ensures { Does (closes bracket.now) result (writer_view K.told self.old) (writer_view K.told self.new) }
     {
         self.empty = false;
-        self.write_mark(bracket)
+        self.write_few(bracket)
     }
 
     /// Does what a call's step does.
@@ -337,7 +323,7 @@ impl<'k, 'sval, K: Sink> Stream<Lent<'sval>> for JsonWriter<'k, K> {
         let mut joined = ArrayString::new();
         if self.quoted && self.escapes() && push_plain(&mut joined, "\"", text, "\"") {
             self.empty = false;
-            return self.write_joined(joined.as_bytes());
+            return self.write_few(joined.as_bytes());
         }
         self.take(Call::TextBegin(size))?;
         self.take(Call::TextFragment(text))?;
@@ -356,7 +342,7 @@ impl<'k, 'sval, K: Sink> Stream<Lent<'sval>> for JsonWriter<'k, K> {
             self.named = false;
             self.empty = false;
             self.quoted = true;
-            return self.write_joined(&joined.as_bytes()[no_comma..]);
+            return self.write_few(&joined.as_bytes()[no_comma..]);
         }
         self.take(Call::MapKeyBegin)?;
         self.take(Call::TextBegin(size))?;

@@ -81,7 +81,7 @@ impl<'k, K: Sink> JsonWriter<'k, K> {
         if self.empty {
             return Ok(());
         }
-        self.write_mark(b",")
+        self.write_few(b",")
     }
 
     /// Begins a pair of a map, up to the key's text.
@@ -91,9 +91,9 @@ impl<'k, K: Sink> JsonWriter<'k, K> {
     {
         self.named = false;
         if self.empty {
-            return self.write_mark(b"\"");
+            return self.write_few(b"\"");
         }
-        self.write_mark(b",\"")
+        self.write_few(b",\"")
     }
 
     /// Begins a key of a map.
@@ -111,7 +111,7 @@ impl<'k, K: Sink> JsonWriter<'k, K> {
     fn end_key(&mut self) -> Result
         ensures { Does (part_ends call.Key) result (writer_view K.told self.old) (writer_view K.told self.new) }
     {
-        self.write_mark(b"\":")?;
+        self.write_few(b"\":")?;
         self.quoted = true;
         self.named = false;
         Ok(())

@@ -24,7 +24,7 @@ impl<'k, K: Sink> JsonWriter<'k, K> {
         ensures { Does quote_if_quoted result (writer_view K.told self.old) (writer_view K.told self.new) }
     {
         if self.quoted {
-            return self.write_mark(b"\"");
+            return self.write_few(b"\"");
         }
         Ok(())
     }

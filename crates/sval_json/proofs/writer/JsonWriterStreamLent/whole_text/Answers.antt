@@ -18,6 +18,6 @@ returns-then-push_plain g c =
     let joins : JoinsAs w.variants (writer_state w) calls bytes (set_empty false (writer_state w)) =
     subst (λ (s : WriterState). JoinsAs w.variants s calls bytes (set_empty false s)) (sym state_is) (text_joins w.variants w.named w.empty c.args.size text c.if-push_plain.ensures.plain) in
     let u : IsUtf8 text = c.text_is_real.ensures in
-    emits_passed c.write_joined.result _ _ (makes calls) ((tt, tt), ((u, tt), ((tt, tt), tt))) (emits_joined g.K.Sink.told w c.write_joined.new.self c.write_joined.result calls bytes (set_empty false (writer_state w)) joins
-    (subst (λ b. Does (write b) c.write_joined.result (writer_view g.K.Sink.told (record w { empty = false })) (writer_view g.K.Sink.told c.write_joined.new.self)) is c.write_joined.ensures.does)
-    c.write_joined.ensures.full)
+    emits_passed c.write_few.result _ _ (makes calls) ((tt, tt), ((u, tt), ((tt, tt), tt))) (emits_joined g.K.Sink.told w c.write_few.new.self c.write_few.result calls bytes (set_empty false (writer_state w)) joins
+    (subst (λ b. Does (write b) c.write_few.result (writer_view g.K.Sink.told (record w { empty = false })) (writer_view g.K.Sink.told c.write_few.new.self)) is c.write_few.ensures.does)
+    c.write_few.ensures.full)

@@ -31,6 +31,6 @@ returns-then-push_plain g c =
     subst (λ (s : WriterState). JoinsAs w.variants s calls bytes (record { named = false; empty = false; quoted = true; handler = s.handler })) (sym state_is)
     (key_joins w.variants w.named w.empty w.quoted c.args.size text c.if-push_plain.ensures.plain) in
     let u : IsUtf8 text = c.text_is_real.ensures in
-    emits_passed c.write_joined.result _ _ (makes calls) ((tt, tt), ((tt, tt), ((u, tt), ((tt, tt), ((tt, tt), tt))))) (emits_joined g.K.Sink.told w c.write_joined.new.self c.write_joined.result calls bytes last joins
-    (subst (λ b. Does (write b) c.write_joined.result (writer_view g.K.Sink.told (record w { named = false; empty = false; quoted = true })) (writer_view g.K.Sink.told c.write_joined.new.self)) bytes_are c.write_joined.ensures.does)
-    c.write_joined.ensures.full)
+    emits_passed c.write_few.result _ _ (makes calls) ((tt, tt), ((tt, tt), ((u, tt), ((tt, tt), ((tt, tt), tt))))) (emits_joined g.K.Sink.told w c.write_few.new.self c.write_few.result calls bytes last joins
+    (subst (λ b. Does (write b) c.write_few.result (writer_view g.K.Sink.told (record w { named = false; empty = false; quoted = true })) (writer_view g.K.Sink.told c.write_few.new.self)) bytes_are c.write_few.ensures.does)
+    c.write_few.ensures.full)
