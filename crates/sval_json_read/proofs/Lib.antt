@@ -18,6 +18,7 @@ pub mod Loop
 pub mod TakenFronts
 pub mod FrontEnds
 pub mod ReadFronts
+pub mod Outlining
 pub mod FrontsOfBytes
 pub mod ParsedNumbers
 pub mod RawStrings

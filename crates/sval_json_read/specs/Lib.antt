@@ -13,6 +13,10 @@ pub mod Words
 pub mod SeenNodes
 pub mod SeenReader
 pub mod ReadErrors
+pub mod Outlines
+pub mod JsonLimits
+pub mod SeenLimits
+pub mod LimitedTexts
 pub mod FrontEnds
 pub mod JsonFronts
 pub mod ErrorTexts

@@ -13,6 +13,9 @@ ghost use Rattle.sval_json_read.specs.ReadErrors.{IsJsonReadError, IsTextReadErr
 
 mod bytes;
 mod front;
+mod limited;
+
+pub use limited::LimitedError;
 
 use crate::json_ref::JsonRef;
 use crate::json_tokens::JsonTokens;

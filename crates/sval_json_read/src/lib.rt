@@ -36,7 +36,7 @@ mod string;
 mod string_calls;
 mod word;
 
-pub use document::{JsonDoc, ReadError};
+pub use document::{JsonDoc, LimitedError, ReadError};
 pub use following::goes_on;
 pub use json_part::JsonPart;
 pub use json_parts::{JsonItems, JsonMember, JsonMembers};
@@ -45,3 +45,4 @@ pub use json_text::JsonText;
 pub use json_tokens::{JsonToken, JsonTokens, TokenKind};
 pub use program::ReadJson;
 pub use running::run_read;
+pub use sval_io::Limits;

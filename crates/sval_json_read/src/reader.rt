@@ -6,6 +6,7 @@ ghost use Rattle.sval_json_read.specs.Nodes.{tokens_in};
 ghost use Rattle.sval_json_read.specs.SeenNodes.{node_place, seen_node, StandsIn};
 ghost use Rattle.sval_json_read.specs.SeenReader.{seen_state, HasToken, EndsText, AddsNode, TakesByte, KeepsRead, WantsOnlyFor, IsReadTo};
 
+mod begins;
 mod container;
 mod front;
 mod runs;

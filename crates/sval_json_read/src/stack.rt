@@ -1,6 +1,6 @@
 //! What is open.
 
-ghost use Rattle.std.specs.Prelude.{◌≡◌, [], ◌∷◌, if◌then◌else◌, is_ok};
+ghost use Rattle.std.specs.Prelude.{◌≡◌, [], ◌∷◌, if◌then◌else◌, is_ok, length};
 ghost use Rattle.sval_json_read.specs.SeenOpened.{opened_of, TopContainerIs, around_container};
 
 use std::alloc::Global;
@@ -38,6 +38,13 @@ impl Stack {
         Stack {
             opened: Vec::new(alloc),
         }
+    }
+
+    /// How many containers are open.
+    pub(crate) fn len(&self) -> usize
+        ensures { result ≡ length self.now }
+    {
+        self.opened.len()
     }
 
     /// The innermost container.
