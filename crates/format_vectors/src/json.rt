@@ -3,6 +3,7 @@
 mod depth;
 mod documents;
 mod fronts;
+mod limits;
 mod lookups;
 mod parts;
 mod tokens;

@@ -79,7 +79,7 @@ cut_all bytes (node ∷ nodes) u s p = (record { cut = cut_one bytes node u s.0 
 pub document-kept : (bytes denoting : List ℕ) (nodes : List Node) → IsUtf8 bytes → AllByRecursion (StandsIn bytes) nodes → IsDocument denoting (tokens_in bytes (map seen_node nodes)) → AreKeptOf bytes nodes
 document-kept bytes denoting nodes u s d = cut_all bytes nodes u s (document-tokens denoting (tokens_in bytes (map seen_node nodes)) d)
 
-root-is : {bytes : List ℕ} {tokens : List Placed} (d : IsDocument bytes tokens) → IsOfValue tokens d.value
+pub root-is : {bytes : List ℕ} {tokens : List Placed} (d : IsDocument bytes tokens) → IsOfValue tokens d.value
 root-is d = subst (λ row. IsOfValue row d.value) (sym d.same) (alone d.denotes.is_value)
 
 pub kept-document : (bytes denoting : List ℕ) (nodes : List Node) → IsUtf8 bytes → AllByRecursion (StandsIn bytes) nodes → IsDocument denoting (tokens_in bytes (map seen_node nodes)) → IsKeptDocument bytes nodes

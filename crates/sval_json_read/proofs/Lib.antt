@@ -19,6 +19,9 @@ pub mod TakenFronts
 pub mod FrontEnds
 pub mod ReadFronts
 pub mod Outlining
+pub mod Outlines
+pub mod LimitedFronts
+pub mod LimitedValues
 pub mod FrontsOfBytes
 pub mod ParsedNumbers
 pub mod RawStrings

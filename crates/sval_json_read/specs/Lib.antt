@@ -17,6 +17,7 @@ pub mod Outlines
 pub mod JsonLimits
 pub mod SeenLimits
 pub mod LimitedTexts
+pub mod ValueSizes
 pub mod FrontEnds
 pub mod JsonFronts
 pub mod ErrorTexts

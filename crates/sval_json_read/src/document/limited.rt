@@ -13,6 +13,7 @@ ghost use Rattle.sval_json_read.specs.SeenLimits.{StaysWithin, PassesLimit};
 ghost use Rattle.sval_json_read.specs.SeenNodes.{seen_node, StandsIn};
 ghost use Rattle.sval_json_read.specs.SeenReader.{expected_of};
 ghost use Rattle.sval_json_read.specs.SeenValues.{value_in};
+ghost use Rattle.sval_json_read.specs.ValueSizes.{FitsIn};
 
 use super::{JsonDoc, ReadError};
 use crate::node::Node;
@@ -101,6 +102,7 @@ impl<'a> JsonDoc<'a> {
         ensures document { IfOk result (λ doc. IsDocument bytes.now doc) }
         ensures value { IfOk result (λ doc. Denotes bytes.now (value_in doc)) }
         ensures within { IfOk result (λ doc. IsWithin bytes.now limits) }
+        ensures fits { IfOk result (λ doc. FitsIn limits (value_in doc)) }
         ensures err { IfErr result (IsLimitedJsonError bytes.now limits) }
     {
         match from_utf8(bytes) {
@@ -121,6 +123,7 @@ impl<'a> JsonDoc<'a> {
         ensures document { IfOk result (λ doc. IsDocument text.now doc) }
         ensures value { IfOk result (λ doc. Denotes text.now (value_in doc)) }
         ensures within { IfOk result (λ doc. IsWithin text.now limits) }
+        ensures fits { IfOk result (λ doc. FitsIn limits (value_in doc)) }
         ensures err { IfErr result (IsLimitedTextError text.now limits) }
     {
         match limited_nodes(alloc, text.as_bytes(), limits) {
