@@ -6,6 +6,7 @@ use std::test::Fail;
 use sval_json_read::{JsonDoc, LimitedError, Limits};
 
 /// A text, how many levels and nodes it may have, and the error of reading it.
+#[derive(Clone, Copy)]
 struct Row {
     text: &'static str,
     depth: usize,
