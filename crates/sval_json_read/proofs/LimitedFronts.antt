@@ -1,5 +1,5 @@
 -- What a loop that tests limits knows, from its first byte to its last.
-use Rattle.std.specs.Prelude.{◌≡◌, ℕ, zero, suc, ◌+◌, ◌-◌, ◌<◌, ◌≤◌, Bool, true, false, cond, ◌==◌, List, [], ◌∷◌, ◌++◌, length, take, drop, get_or, map, Option, Some, None, option_and_then, refl, IsUtf8}
+use Rattle.std.specs.Prelude.{◌≡◌, ℕ, zero, suc, ◌+◌, ◌-◌, ◌<◌, ◌≤◌, Bool, true, false, cond, ◌==◌, List, [], ◌∷◌, length, take, drop, get_or, Option, Some, None, option_and_then, refl, IsUtf8}
 use Rattle.std.specs.Char.{is_ascii_digit}
 use Rattle.std.proofs.Common.{sym, ap, subst, ◌∙◌, arith, inl, inr}
 use Rattle.std.proofs.lemmas.Bool.{cases_Bool, cases_lt, false≢true}
@@ -20,7 +20,7 @@ use Rattle.sval_json_read.specs.JsonLimits.{IsWithinTo, IsTooDeep, IsTooMany}
 use Rattle.sval_json_read.specs.SeenLimits.{begins_value, begins_node, nodes_behind, StaysWithin}
 use Rattle.sval_json_read.proofs.Loop.{after-byte}
 use Rattle.sval_json_read.proofs.TakenFronts.{taken-front}
-use Rattle.sval_json_read.proofs.Outlining.{IsOutlineOf, in_progress, token_nodes, Agrees, AgreesOn, refused, taken, step-agrees}
+use Rattle.sval_json_read.proofs.Outlining.{IsOutlineOf, in_progress, Agrees, AgreesOn, refused, taken, step-agrees}
 use Rattle.sval_json_read.proofs.Outlines.{grows, no-deeper, one-deeper, run-grows, outline-next, outline-run}
 
 -- ---- along the bytes
@@ -118,11 +118,13 @@ module _ (bytes : List ℕ) (at : ℕ) (limits : Limits) (state : ReaderState) (
         elim (cases_Bool (begins_node state.expected byte)) [
           | inl b ↦
               let more : begun_nodes (take (at + 1) bytes) ≡ begun_nodes (take at bytes) + 1 = stepped.1 ∙ ap (λ t. cond t (begun_nodes (take at bytes) + 1) (begun_nodes (take at bytes))) b in
-              let less = stays.not_many b in
-              (elim (cases_Bool (opens_level byte)) [
-                | inl o ↦ let d = stays.not_deep b o in let v = levels_behind b o in let a = agrees.levels in omega (arith, d, v, a)
-                | inr o ↦ let v = levels_within o in omega (arith, v, k.0)
-              ], omega (arith, more, less, counted))
+              let less = stays.not_many b in (
+                elim (cases_Bool (opens_level byte)) [
+                  | inl o ↦ let d = stays.not_deep b o in let v = levels_behind b o in let a = agrees.levels in omega (arith, d, v, a)
+                  | inr o ↦ let v = levels_within o in omega (arith, v, k.0)
+                ],
+                omega (arith, more, less, counted),
+              )
           | inr b ↦
               let same : begun_nodes (take (at + 1) bytes) ≡ begun_nodes (take at bytes) = stepped.1 ∙ ap (λ t. cond t (begun_nodes (take at bytes) + 1) (begun_nodes (take at bytes))) b in
               let v = grows_on same in
@@ -152,7 +154,7 @@ module _ (bytes : List ℕ) (at : ℕ) (limits : Limits) (state : ReaderState) (
         let r = run-grows (outline_of (take (at + 1) bytes)) (take n (drop (at + 1) bytes)) k run_same in
         let w = kept_next begun count counted stays (seen_state bytes (at + 1) reader) steps in
         let part : outline_bytes (outline_of (take (at + 1) bytes)) (take k (take n (drop (at + 1) bytes))) ≡ outline_of (take ((at + 1) + k) bytes) =
-            ap (outline_bytes (outline_of (take (at + 1) bytes))) (take_part k n (drop (at + 1) bytes) le) ∙ sym (outline-run bytes (at + 1) k) in
+        ap (outline_bytes (outline_of (take (at + 1) bytes))) (take_part k n (drop (at + 1) bytes) le) ∙ sym (outline-run bytes (at + 1) k) in
         let a = ap (λ o. o.levels) part in
         let b = ap (λ o. o.nodes) part in
         (omega (arith, r.0, w.0, a), omega (arith, r.1, w.1, b))

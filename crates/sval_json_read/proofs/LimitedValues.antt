@@ -1,5 +1,5 @@
 -- A text within limits denotes a value that is within them.
-use Rattle.std.specs.Prelude.{◌≡◌, ℕ, ◌+◌, ◌-◌, ◌≤◌, max, Bool, true, false, cond, ◌==◌, List, [], ◌∷◌, ◌++◌, length, take, get_or, suc, Option, Some, None, option_map, option_and_then, refl}
+use Rattle.std.specs.Prelude.{◌≡◌, ℕ, ◌+◌, ◌-◌, ◌≤◌, Bool, true, false, cond, ◌==◌, List, [], ◌∷◌, ◌++◌, length, take, suc, Option, Some, None, option_map, option_and_then, refl}
 use Rattle.std.proofs.Common.{sym, ap, subst, ◌∙◌, arith, append_assoc, append-nil, take_all, inl, inr}
 use Rattle.std.proofs.lemmas.Bool.{cases_lt}
 use Rattle.sval_io.specs.declared.limits.Limits.{Limits}
@@ -8,15 +8,15 @@ use Rattle.sval_json.specs.Grammar as json
 use Rattle.sval_json.specs.Grammar.{JsonValue, Values, Members, IsValue, AreJsonValues, last_value, more_values, AreMembers, last_member, more_members, is_space}
 use Rattle.sval_json_read.specs.Tokens as token
 use Rattle.sval_json_read.specs.Tokens.{Token, Placed, placed_at, tokens_of, item_tokens, pair_tokens}
-use Rattle.sval_json_read.specs.Numbers.{NumberPhase, first_phase, next_phase, number_may_end}
-use Rattle.sval_json_read.specs.Strings.{Within, Plain, next_within, closes_string}
+use Rattle.sval_json_read.specs.Numbers.{first_phase, next_phase, number_may_end}
+use Rattle.sval_json_read.specs.Strings.{Plain, next_within, closes_string}
 use Rattle.sval_json_read.specs.Documents.{IsDocument}
-use Rattle.sval_json_read.specs.Reader.{Opened, Array, Object, Expected, AValue, FirstItem, FirstKey, NextKey, Colon, Next, Letter, InNumber, InString, ReaderState, reader_start, reader_step, after_bytes, place_in, expects, adds_token, opens_container, ends_container, begins, begins_key, comma_or_close, follows, letters_left, number_is_ended, string_ends, step_in, at_end_in, tokens_at_end, tokens_read}
+use Rattle.sval_json_read.specs.Reader.{Opened, Array, Object, Expected, AValue, FirstItem, FirstKey, NextKey, Colon, Next, Letter, InNumber, InString, ReaderState, reader_start, reader_step, after_bytes, place_in, begins, begins_key, comma_or_close, follows, letters_left, string_ends, step_in, at_end_in, tokens_at_end, tokens_read}
 use Rattle.sval_json_read.specs.Outlines.{Outlined, BetweenTokens, outlined, outline_byte, outline_bytes, open_levels, begun_nodes}
 use Rattle.sval_json_read.specs.SeenLimits.{begins_node}
 use Rattle.sval_json_read.specs.SeenValues.{value_in}
 use Rattle.sval_json_read.specs.JsonLimits.{IsWithin}
-use Rattle.sval_json_read.specs.ValueSizes.{depth_of, depth_of_values, depth_of_members, size_of, size_of_values, size_of_members, FitsIn}
+use Rattle.sval_json_read.specs.ValueSizes.{depth_of, depth_of_values, depth_of_members, nodes_of, nodes_of_values, nodes_of_members, FitsIn}
 use Rattle.sval_json_read.proofs.ReadTexts.{denoted-read}
 use Rattle.sval_json_read.proofs.SeenValues.{value-seen}
 use Rattle.sval_json_read.proofs.KeptDocuments.{root-is}
@@ -30,7 +30,7 @@ nodes-append [] ys = omega arith
 nodes-append (first ∷ xs) ys = let h = nodes-append xs ys in omega (arith, h)
 
 mutual
-  value_nodes : {bytes rest : List ℕ} {value : JsonValue} (place : token.Place) (v : IsValue bytes value rest) → token_nodes (tokens_of place v) ≡ size_of value
+  value_nodes : {bytes rest : List ℕ} {value : JsonValue} (place : token.Place) (v : IsValue bytes value rest) → token_nodes (tokens_of place v) ≡ nodes_of value
   value_nodes place json.null = refl
   value_nodes place json.truth = refl
   value_nodes place json.falsehood = refl
@@ -43,12 +43,12 @@ mutual
   value_nodes place (json.object members) =
       let h = pairs_nodes members in let a = nodes-append (pair_tokens members) (placed_at place token.EndObject ∷ []) in omega (arith, h, a)
 
-  items_nodes : {bytes rest : List ℕ} {values : Values} (v : AreJsonValues bytes values rest) → token_nodes (item_tokens v) ≡ size_of_values values
+  items_nodes : {bytes rest : List ℕ} {values : Values} (v : AreJsonValues bytes values rest) → token_nodes (item_tokens v) ≡ nodes_of_values values
   items_nodes (last_value value e) = let h = value_nodes token.Item value in omega (arith, h)
   items_nodes (more_values value e values) =
       let h = value_nodes token.Item value in let k = items_nodes values in let a = nodes-append (tokens_of token.Item value) (item_tokens values) in omega (arith, h, k, a)
 
-  pairs_nodes : {bytes rest : List ℕ} {members : Members} (m : AreMembers bytes members rest) → token_nodes (pair_tokens m) ≡ size_of_members members
+  pairs_nodes : {bytes rest : List ℕ} {members : Members} (m : AreMembers bytes members rest) → token_nodes (pair_tokens m) ≡ nodes_of_members members
   pairs_nodes (last_member key e value f) = let h = value_nodes token.Value value in omega (arith, h)
   pairs_nodes (more_members key e value f members) =
       let h = value_nodes token.Value value in let k = pairs_nodes members in let a = nodes-append (tokens_of token.Value value) (pair_tokens members) in omega (arith, h, k, a)

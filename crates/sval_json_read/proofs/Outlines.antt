@@ -1,8 +1,7 @@
 -- What single bytes do to an outline, and so what a run of them does.
 use Rattle.std.specs.Prelude.{◌≡◌, ℕ, zero, suc, ◌+◌, ◌-◌, ◌<◌, ◌≤◌, Bool, true, false, cond, ◌==◌, List, [], ◌∷◌, ◌++◌, length, take, drop, get_or, refl}
-use Rattle.std.proofs.Common.{sym, ap, subst, ◌∙◌, arith, take-suc}
+use Rattle.std.proofs.Common.{sym, ap, ◌∙◌, arith, take-suc}
 use Rattle.std.proofs.Math.Seq.{take-add}
-use Rattle.std.proofs.lemmas.Bool.{cases_Bool}
 use Rattle.std.proofs.lemmas.Bool.Decides.{nat_tests}
 use Rattle.sval_json_read.specs.Outlines.{Outline, BetweenTokens, InScalar, InQuotes, BehindBackslash, Outlined, outlined, outline_byte, outline_bytes, outline_of, opens_level, closes_level, is_separator}
 

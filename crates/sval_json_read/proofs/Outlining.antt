@@ -1,17 +1,17 @@
 -- The outline of a text agrees with the machine that reads it.
-use Rattle.std.specs.Prelude.{◌≡◌, ℕ, ◌+◌, ◌-◌, ◌<◌, ◌≤◌, ◌⊎◌, Bool, true, false, cond, ◌&&◌, ◌==◌, nat_lt, nat_le, List, [], ◌∷◌, ◌++◌, length, Option, Some, None, is_some, option_map, option_and_then, refl, ⊤}
+use Rattle.std.specs.Prelude.{◌≡◌, ℕ, ◌+◌, ◌-◌, ◌<◌, ◌⊎◌, Bool, true, false, cond, ◌&&◌, ◌==◌, nat_lt, nat_le, List, [], ◌∷◌, ◌++◌, length, Option, Some, None, is_some, option_map, refl, ⊤}
 use Rattle.std.specs.Char.{is_ascii_digit, digit_value}
 use Rattle.std.proofs.Common.{sym, ap, subst, ◌∙◌, arith, inl, inr}
 use Rattle.std.proofs.lemmas.Bool.{cases_Bool, and_parts, false≢true}
 use Rattle.std.proofs.lemmas.Bool.Decides.{nat_tests}
 use Rattle.sval_json.specs.Digits.{is_number_byte}
-use Rattle.sval_json.specs.Grammar.{is_space, is_unescaped, escaped_byte}
+use Rattle.sval_json.specs.Grammar.{is_space, escaped_byte}
 use Rattle.sval_json_read.specs.Tokens as token
 use Rattle.sval_json_read.specs.Tokens.{Token, Placed, placed_at}
-use Rattle.sval_json_read.specs.Numbers.{NumberPhase, first_phase, next_phase, number_may_end}
+use Rattle.sval_json_read.specs.Numbers.{NumberPhase, next_phase, number_may_end}
 use Rattle.sval_json_read.specs.Strings.{Within, Plain, Backslash, Unit, UnitD, ThreeLeft, TwoLeft, OneLeft, HighTwoLeft, HighOneLeft, High, LowBackslash, LowUnit, LowD, LowTwoLeft, LowOneLeft, within_when, is_hex, is_d, next_within}
-use Rattle.sval_json_read.specs.Reader.{Opened, Array, Object, Expected, AValue, FirstItem, FirstKey, NextKey, Colon, Next, Letter, InNumber, InString, ReaderState, reader_start, reader_step, after_bytes, place_in, expects, begins, begins_key, comma_or_close, follows, letters_left, number_is_ended, string_ends, step_in}
-use Rattle.sval_json_read.specs.Outlines.{Outline, BetweenTokens, InScalar, InQuotes, BehindBackslash, Outlined, outlined, outline_byte, outline_bytes, outline_of, opens_level, closes_level, is_separator}
+use Rattle.sval_json_read.specs.Reader.{Opened, Array, Object, Expected, AValue, FirstItem, FirstKey, NextKey, Colon, Next, Letter, InNumber, InString, ReaderState, place_in, begins, begins_key, comma_or_close, follows, letters_left, number_is_ended, string_ends, step_in}
+use Rattle.sval_json_read.specs.Outlines.{Outline, BetweenTokens, InScalar, InQuotes, BehindBackslash, Outlined, outlined, outline_byte}
 use Rattle.sval_json_read.specs.SeenLimits.{begins_value, begins_node}
 use Rattle.sval_json_read.proofs.Runs.{at_state}
 

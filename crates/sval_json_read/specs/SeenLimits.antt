@@ -31,7 +31,7 @@ pub record StaysWithin (expected : Expected) (levels : ℕ) (byte begun : ℕ) (
 
 -- what begins with the byte at this place passes a limit
 abbrev pub PassesLimit : Expected → ℕ → ℕ → ℕ → Limits → ℕ → LimitedError → Type 0
-PassesLimit expected levels byte begun limits at (Read error) = false ≡ true
+PassesLimit expected levels byte begun limits at (Read error) = ⊥
 PassesLimit expected levels byte begun limits at (TooDeep n) = (n ≡ at) × (begins_node expected byte ≡ true) × (opens_level byte ≡ true) × (limits.depth ≤ levels)
 PassesLimit expected levels byte begun limits at (TooMany n) =
     (n ≡ at) × (begins_node expected byte ≡ true) × (limits.nodes ≤ begun) × (opens_level byte ≡ true → levels < limits.depth)

@@ -1,7 +1,7 @@
 -- How large a value is: how deeply its arrays and objects are nested, and how many values and names it has.
 use Rattle.std.specs.Prelude.{ℕ, ◌+◌, ◌≤◌, max}
 use Rattle.sval_io.specs.declared.limits.Limits.{Limits}
-use Rattle.sval_json.specs.Grammar.{JsonValue, Null, Truth, Number, Text, Array, Object, Values, no_values, a_value, Members, no_members, a_member}
+use Rattle.sval_json.specs.Grammar.{JsonValue, Array, Object, Values, no_values, a_value, Members, no_members, a_member}
 
 abbrev mutual
   -- how many arrays and objects are open at once, at most
@@ -22,22 +22,22 @@ abbrev mutual
 
 abbrev mutual
   -- the value itself, and each value and name in it
-  pub size_of : JsonValue → ℕ
-  size_of (Array values) = size_of_values values + 1
-  size_of (Object members) = size_of_members members + 1
-  size_of _ = 1
+  pub nodes_of : JsonValue → ℕ
+  nodes_of (Array values) = nodes_of_values values + 1
+  nodes_of (Object members) = nodes_of_members members + 1
+  nodes_of _ = 1
 
   -- those of an array's values
-  pub size_of_values : Values → ℕ
-  size_of_values no_values = 0
-  size_of_values (a_value value values) = size_of value + size_of_values values
+  pub nodes_of_values : Values → ℕ
+  nodes_of_values no_values = 0
+  nodes_of_values (a_value value values) = nodes_of value + nodes_of_values values
 
   -- those of an object's members, with a name each
-  pub size_of_members : Members → ℕ
-  size_of_members no_members = 0
-  size_of_members (a_member name value members) = size_of value + size_of_members members + 1
+  pub nodes_of_members : Members → ℕ
+  nodes_of_members no_members = 0
+  nodes_of_members (a_member name value members) = nodes_of value + nodes_of_members members + 1
 
 -- the value is nested no more deeply than allowed, and has no more values and names
 pub record FitsIn (limits : Limits) (value : JsonValue) : Type 0 where
   pub depth : depth_of value ≤ limits.depth
-  pub nodes : size_of value ≤ limits.nodes
+  pub nodes : nodes_of value ≤ limits.nodes

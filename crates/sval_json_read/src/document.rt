@@ -15,13 +15,12 @@ mod bytes;
 mod front;
 mod limited;
 
-pub use limited::LimitedError;
-
 use crate::json_ref::JsonRef;
 use crate::json_tokens::JsonTokens;
 use crate::node::Node;
 use crate::node_calls::stream_nodes;
 use crate::reader::Reader;
+pub use limited::LimitedError;
 use simdutf8::compat::from_utf8;
 use std::alloc::Global;
 use std::error::Error;

@@ -56,7 +56,7 @@ fn try_row(rt: &impl Abort, alloc: Global, row: &Row) -> Result<(), Fail> {
         depth: row.depth,
         nodes: row.nodes,
     };
-    for count in 0..bytes.len() + 1 {
+    for count in 0..=bytes.len() {
         let front = &bytes[..count];
         let seen = JsonDoc::read_with(alloc, front, limits).err();
         let due = if place_of(row.error) < count as u64 {

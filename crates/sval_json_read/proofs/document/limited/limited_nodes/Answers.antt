@@ -1,5 +1,4 @@
 use Rattle.std.proofs.Common.{◌≡◌, ℕ, ◌<◌, ◌≤◌, length, take, get_or, Some, List, IsUtf8, refl, sym, ap, subst, ◌∙◌, arith, take_all}
-use Rattle.std.proofs.lemmas.Bool.{false≢true}
 use Rattle.std.proofs.lemmas.Result.{err_from_is_err_and}
 use Rattle.sval_io.specs.declared.limits.Limits.{Limits}
 use Rattle.sval_json_read.specs.declared.document.limited.LimitedError.{LimitedError}
@@ -53,7 +52,7 @@ loop-at-preserved c =
 -- the limit that a byte passes
 passed : (bytes : List ℕ) (limits : Limits) (at begun : ℕ) (state : ReaderState) (error : LimitedError) → IsUtf8 bytes → at < length bytes → after_bytes reader_start (take at bytes) ≡ Some state → IsWithinTo bytes limits at
     → begun ≡ begun_nodes (take at bytes) → PassesLimit state.expected (length state.opened) (get_or bytes at 0) begun limits at error → IsLimitedTextError bytes limits error
-passed bytes limits at begun state (Read error) u l e k n h = absurd (false≢true h)
+passed bytes limits at begun state (Read error) u l e k n h = absurd h
 passed bytes limits at begun state (TooDeep place) u l e k n h = subst (IsTooDeep bytes limits) (sym h.0) (too-deep bytes at limits state l e k u h.1 h.2 h.3)
 passed bytes limits at begun state (TooMany place) u l e k n h = subst (IsTooMany bytes limits) (sym h.0) (too-many bytes at limits state l e k u h.1 begun n h.2 h.3)
 
@@ -65,9 +64,11 @@ returns-in_err-begun-clause-err c =
     rw (p.1, p.2) (passed c.args.bytes.now c.args.limits c.loop-at.at c.loop-at.begun state c.in_err-begun.field-0.0 c.requires c.loop-at-test.true old.reached old.kept old.counted c.in_err-begun.ensures.err)
 
 pub returns-in-Ok-false-clause-err : goal.returns-in-Ok-false-clause-err
-returns-in-Ok-false-clause-err c =
-    (refused-at c.args.bytes.now c.loop-at.at (seen_state c.args.bytes.now c.loop-at.at c.loop-at.reader) c.loop-at-test.true c.loop-at.invariant.reached
-    (rw c.in-Ok-false.field-0-test at c.in-Ok-false.ensures.gives) c.requires, c.loop-at.invariant.kept)
+returns-in-Ok-false-clause-err c = (
+  refused-at c.args.bytes.now c.loop-at.at (seen_state c.args.bytes.now c.loop-at.at c.loop-at.reader) c.loop-at-test.true c.loop-at.invariant.reached
+      (rw c.in-Ok-false.field-0-test at c.in-Ok-false.ensures.gives) c.requires,
+  c.loop-at.invariant.kept,
+)
 
 pub returns-in-Ok-true-finish-clause-ok : goal.returns-in-Ok-true-finish-clause-ok
 returns-in-Ok-true-finish-clause-ok c =
@@ -77,11 +78,13 @@ returns-in-Ok-true-finish-clause-ok c =
 
 pub returns-in-Ok-false-finish-clause-err : goal.returns-in-Ok-false-finish-clause-err
 returns-in-Ok-false-finish-clause-err c =
-    let s : length c.args.bytes.now ≡ c.loop-at.at = omega (arith, c.loop-at-test.false, c.loop-at.invariant.within) in
-    (subst (IsBadJson c.args.bytes.now) s
-    (ended-bad c.args.bytes.now (seen_state c.args.bytes.now (length c.args.bytes.now) c.loop-at.reader) c.requires
-    (all_taken c.args.bytes.now c.loop-at.at c.loop-at.reader c.loop-at-test.false c.loop-at.invariant.within c.loop-at.invariant.reached)
-    (rw c.in-Ok-false-finish.field-0-test at c.in-Ok-false-finish.ensures.ends)), c.loop-at.invariant.kept)
+    let s : length c.args.bytes.now ≡ c.loop-at.at = omega (arith, c.loop-at-test.false, c.loop-at.invariant.within) in (
+      subst (IsBadJson c.args.bytes.now) s
+          (ended-bad c.args.bytes.now (seen_state c.args.bytes.now (length c.args.bytes.now) c.loop-at.reader) c.requires
+          (all_taken c.args.bytes.now c.loop-at.at c.loop-at.reader c.loop-at-test.false c.loop-at.invariant.within c.loop-at.invariant.reached)
+          (rw c.in-Ok-false-finish.field-0-test at c.in-Ok-false-finish.ensures.ends)),
+      c.loop-at.invariant.kept,
+    )
 
 pub returns-in-Err-clause-err : goal.returns-in-Err-clause-err
 returns-in-Err-clause-err c =
