@@ -14,7 +14,7 @@ use Rattle.sval_json_read.specs.Reader.{Opened, Array, Object, Expected, AValue,
 use Rattle.sval_json_read.proofs.Completed.{all_ascii, has_ascii, StaysAscii, stays, step-ascii}
 
 -- in a string, outside escapes
-abbrev is_plain : Expected → Bool
+abbrev pub is_plain : Expected → Bool
 is_plain (InString _ Plain _) = true
 is_plain _ = false
 
@@ -114,6 +114,26 @@ module _ (byte : ℕ) (h : 128 ≤ byte) where
   high_step_in (InNumber phase bytes) state a = on_none (in_number phase bytes state)
   high_step_in (InString is_key within bytes) state a = in_string is_key within bytes state
 
+  -- outside of strings none is taken
+  pub high_refused : (expected : Expected) (state : ReaderState) → has_ascii expected ≡ true → is_plain expected ≡ false → step_in expected state byte ≡ None
+  high_refused AValue state a p = rw no_space (begins_no state)
+  high_refused FirstItem state a p = rw (no_space, not_byte 93 (omega arith)) (begins_no state)
+  high_refused FirstKey state a p = rw (no_space, not_byte 125 (omega arith), not_byte 34 (omega arith)) refl
+  high_refused NextKey state a p = rw (no_space, not_byte 34 (omega arith)) refl
+  high_refused Colon state a p = rw (no_space, not_byte 58 (omega arith)) refl
+  high_refused Next state a p = follows_no state
+  high_refused (Letter first letters) state a p = in_word first letters state (and_parts (nat_lt first 128) (all_ascii letters) a).0
+  high_refused (InNumber phase bytes) state a p = in_number phase bytes state
+  high_refused (InString is_key Plain bytes) state a p = cc p
+  high_refused (InString is_key within bytes) state a p =
+      ap (option_map (λ next. record { expected = InString is_key next (bytes ++ (byte ∷ [])); opened = state.opened; tokens = state.tokens })) (within_no within (λ e. cc e))
+
+  -- in strings each is taken
+  pub high_taken : (expected : Expected) (state : ReaderState) → is_plain expected ≡ true → (next : ReaderState) × (step_in expected state byte ≡ Some next) × (is_plain next.expected ≡ true)
+  high_taken (InString is_key Plain bytes) state p =
+      (record { expected = InString is_key Plain (bytes ++ (byte ∷ [])); opened = state.opened; tokens = state.tokens }, rw (plain_goes_on, not_byte 34 (omega arith)) refl, refl)
+  high_taken expected state p = absurd (cc p)
+
   plain_takes_in : (expected : Expected) (state : ReaderState) → is_plain expected ≡ true → step_in expected state byte ≡ None → ⊥
   plain_takes_in (InString is_key Plain bytes) state p e =
       let f : step_in (InString is_key Plain bytes) state byte ≡ Some (record { expected = InString is_key Plain (bytes ++ (byte ∷ [])); opened = state.opened; tokens = state.tokens }) =
@@ -132,7 +152,7 @@ abbrev Stop : ReaderState → List ℕ → ℕ → Type 0
 Stop state bytes n = n < length bytes → 128 ≤ get_or bytes n 0
     → ((n ≡ 0) × (is_plain state.expected ≡ false)) ⊎ ((k : ℕ) × (n ≡ k + 1) × (k < length bytes) × (get_or bytes k 0 < 128))
 
-plain_or_not : (b : Bool) → (b ≡ true) ⊎ (b ≡ false)
+pub plain_or_not : (b : Bool) → (b ≡ true) ⊎ (b ≡ false)
 plain_or_not true = inl refl
 plain_or_not false = inr refl
 

@@ -54,3 +54,5 @@ mod PartCalls
 mod ProperParts
 mod ShorterTexts
 mod WholeDocuments
+pub mod Waits
+pub mod Continued

@@ -34,3 +34,4 @@ pub mod ValueCodes
 pub mod KeptDocuments
 pub mod Parts
 pub mod TokenKinds
+pub mod NextCharacters

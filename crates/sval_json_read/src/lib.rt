@@ -37,7 +37,7 @@ mod string_calls;
 mod word;
 
 pub use document::{JsonDoc, LimitedError, ReadError};
-pub use following::goes_on;
+pub use following::{NextCharacters, expected, goes_on};
 pub use json_part::JsonPart;
 pub use json_parts::{JsonItems, JsonMember, JsonMembers};
 pub use json_ref::{JsonKind, JsonRef};

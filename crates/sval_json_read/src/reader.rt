@@ -11,6 +11,7 @@ mod container;
 mod front;
 mod runs;
 mod scalar;
+pub(crate) mod waiting;
 
 use crate::node::{Node, Place};
 use crate::number::Phase;

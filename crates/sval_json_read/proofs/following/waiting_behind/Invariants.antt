@@ -1,7 +1,7 @@
 use Rattle.std.proofs.Common.{length, take, ◌-◌, ◌≡◌, Some, ◌≤◌}
 use Rattle.sval_json_read.specs.Reader.{reader_start, after_bytes}
 use Rattle.sval_json_read.specs.SeenReader.{seen_state, ReadsIn}
-use Rattle.sval_json_read.proofs.following.begins_a_text.Given as goal
+use Rattle.sval_json_read.proofs.following.waiting_behind.Given as goal
 
 -- the bytes so far bring the machine to this state
 abbrev pub invariant-loop-at : goal.invariant-loop-at
