@@ -1,15 +1,15 @@
 -- What may come behind bytes that the machine takes, and that nothing may where it refuses one.
-use Rattle.std.specs.Prelude.{◌≡◌, ℕ, Bool, true, false, List, [], ◌∷◌, ◌++◌, length, Option, Some, None, option_and_then, is_some, ◌↔◌, refl, IsTrue, IsUtf8}
-use Rattle.std.specs.Char.{IsScalar, encode_utf8}
+use Rattle.std.specs.Prelude.{◌≡◌, ℕ, Bool, true, false, List, [], ◌∷◌, ◌++◌, Option, Some, None, option_and_then, is_some, ◌↔◌, refl, IsTrue, IsUtf8}
+use Rattle.std.specs.Char.{encode_utf8}
 use Rattle.std.proofs.Common.{sym, ap, subst, ◌∙◌, append_assoc, append-nil}
 use Rattle.std.proofs.lemmas.Str.{IsUtf8-append, IsUtf8-encode}
 use Rattle.sval_json.specs.Fronts.{IsFront}
-use Rattle.sval_json.specs.Grammar.{JsonValue, Denotes}
+use Rattle.sval_json.specs.Grammar.{Denotes}
 use Rattle.sval_json_read.specs.NextCharacters.{takes_next, ends_next, DenotesSome, ArePossible}
 use Rattle.sval_json_read.specs.Reader.{ReaderState, reader_start, reader_step, after_bytes, tokens_at_end, tokens_read}
 use Rattle.sval_json_read.specs.SeenOpened.{TopContainerIs}
 use Rattle.sval_json_read.specs.SeenReader.{seen_state}
-use Rattle.sval_json_read.specs.Tokens.{Placed, Alone, tokens_of}
+use Rattle.sval_json_read.specs.Tokens.{Alone, tokens_of}
 use Rattle.sval_json_read.specs.declared.reader.Reader.{Reader}
 use Rattle.sval_json_read.specs.declared.reader.waiting.Waiting.{Waiting}
 use Rattle.sval_json_read.proofs.Boundaries.{stays_some}

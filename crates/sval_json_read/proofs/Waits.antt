@@ -1,13 +1,12 @@
 -- Which bytes the machine takes depends on no more than what comes next and the innermost container.
 use Rattle.std.specs.Prelude.{◌≡◌, ℕ, suc, ◌<◌, ◌≤◌, Bool, true, false, cond, ◌==◌, List, [], ◌∷◌, length, get_or, Option, Some, None, option_map, option_and_then, is_some, refl}
-use Rattle.std.proofs.Common.{sym, ap, subst, ◌∙◌, arith, inl, inr, lit≤, append-nil}
+use Rattle.std.proofs.Common.{sym, ap, ◌∙◌, arith, inl, inr, lit≤, append-nil}
 use Rattle.std.proofs.lemmas.Bool.{cases_lt}
 use Rattle.std.proofs.lemmas.Str.{inside_one, length-encode, len_utf8_bounds, encode_ascii}
-use Rattle.std.specs.Char.{IsScalar, encode_utf8}
+use Rattle.std.specs.Char.{encode_utf8}
 use Rattle.sval_json.specs.Digits.{is_number_byte}
 use Rattle.sval_json.specs.Grammar.{is_space}
 use Rattle.sval_json_read.specs.Tokens.{Placed}
-use Rattle.sval_json_read.specs.Tokens as token
 use Rattle.sval_json_read.specs.Numbers.{first_phase, next_phase, number_may_end}
 use Rattle.sval_json_read.specs.Strings.{next_within, closes_string}
 use Rattle.sval_json_read.specs.NextCharacters.{innermost_alone, waiting_state, takes_next, ends_next}

@@ -1,5 +1,5 @@
 -- Which characters may come behind the beginning of a text, and whether the text may end there.
-use Rattle.std.specs.Prelude.{◌≡◌, ℕ, Bool, false, List, [], ◌∷◌, ◌++◌, ◌↔◌, Option, Some, None, is_some, IsTrue}
+use Rattle.std.specs.Prelude.{ℕ, Bool, false, List, [], ◌∷◌, ◌++◌, ◌↔◌, Option, Some, None, is_some, IsTrue}
 use Rattle.std.specs.Char.{IsScalar, encode_utf8}
 use Rattle.sval_json.specs.Fronts.{IsFront}
 use Rattle.sval_json.specs.Grammar.{JsonValue, Denotes}

@@ -1,5 +1,4 @@
 use Rattle.std.proofs.Common.{◌≡◌, ℕ, ◌≤◌, length, take, Some, List, sym, ap, ◌∙◌, arith, take_all}
-use Rattle.sval_json.specs.Fronts.{IsFront}
 use Rattle.sval_json_read.specs.SeenReader.{seen_state}
 use Rattle.sval_json_read.specs.Reader.{reader_start, after_bytes}
 use Rattle.sval_json_read.specs.declared.reader.Reader.{Reader}
