@@ -1,6 +1,6 @@
 -- What is due of a text of JSON that was read, as CBOR, and why it has none.
 use Rattle.std.specs.Prelude.{◌≡◌, ℕ, List, [], Some, None, Ok, Err, refl}
-use Rattle.std.proofs.Common.{subst}
+use Rattle.std.proofs.Common.{subst, inl, inr}
 use Rattle.sval_label.specs.Calls.{Call}
 use Rattle.sval_core.specs.Values.{makes}
 use Rattle.sval_io.specs.Taken.{Taken, taken_told}
@@ -35,9 +35,6 @@ module _ (input : List ℕ) (calls : List Call) (r : IsReadText input calls) (ol
   pub write_never : StreamsCbor (makes calls) (Err error.Write) (taken_told old) (taken_told new) → ⊥
   write_never streams = no_rise (streams.write refl)
 
-  pub no_value_never : StreamsCbor (makes calls) (Err error.NotATree) (taken_told old) (taken_told new) → ⊥
-  no_value_never streams = no_tree_never (makes calls) one_value (streams.only_where tt)
-
   pub refusal_never : StreamsCbor (makes calls) (Err error.Refused) (taken_told old) (taken_told new) → ⊥
   refusal_never streams = let never = (streams.only_where tt).refuses in cc never
 
@@ -57,5 +54,6 @@ module _ (input : List ℕ) (calls : List Call) (r : IsReadText input calls) (ol
       let same : lack.Fault fault.NotInteger ≡ found = cc is in subst (IsLacking (CborOfTextDue input)) same (refused NotInteger (streams.only_where tt))
   unpacked error.NoMemory found is streams = let same : lack.NoMemory ≡ found = cc is in subst (IsLacking (CborOfTextDue input)) same tt
   unpacked error.Write found is streams = let never : None ≡ Some found = is in absurd (cc never)
-  unpacked error.NotATree found is streams = let never : None ≡ Some found = is in absurd (cc never)
+  unpacked (error.BadCall at) found is streams = absurd (no_tree_never (makes calls) one_value (inl (at, streams.only_where tt)))
+  unpacked error.Unfinished found is streams = absurd (no_tree_never (makes calls) one_value (inr (streams.only_where tt)))
   unpacked error.Refused found is streams = let never : None ≡ Some found = is in absurd (cc never)

@@ -9,13 +9,13 @@ use Rattle.sval_cbor.specs.declared.error.CborError.{CborError}
 use Rattle.sval_cbor.specs.declared.error.CborError.TheVariants as error
 use Rattle.sval_cbor.specs.Cbor.{cbor}
 use Rattle.sval_cbor.specs.Packs.{PackRefusal, BadKey, BadNumber, RawJson, NotInteger}
-use Rattle.sval_cbor.specs.Streamed.{StreamsCbor, IsNoTree, IsRefusedAs}
+use Rattle.sval_cbor.specs.Streamed.{StreamsCbor, IsRefusedAs}
 use Rattle.sval_c.specs.declared.fault.Fault.TheVariants as fault
 use Rattle.sval_c.specs.declared.lack.Lack.{Lack}
 use Rattle.sval_c.specs.declared.lack.Lack.TheVariants as lack
 use Rattle.sval_c.specs.Faults.{fault_of_pack}
 use Rattle.sval_c.specs.Lacks.{lack_of_pack, IsLacking}
-use Rattle.sval_c.specs.OfTapes.{CborOfTapeDue, has_cbor, no_cbor}
+use Rattle.sval_c.specs.OfTapes.{CborOfTapeDue, has_cbor, no_cbor, spells_none, bad_call, unfinished}
 use Rattle.sval_c.proofs.Taken.{no_rise, taken_whole}
 use Rattle.sval_c.proofs.TapeTexts.{spelled}
 
@@ -27,9 +27,6 @@ module _ (calls : List Call) (old new : Taken) where
 
   pub refusal_never : StreamsCbor (makes calls) (Err error.Refused) (taken_told old) (taken_told new) → ⊥
   refusal_never streams = let never = (streams.only_where tt).refuses in cc never
-
-  pub no_tree : StreamsCbor (makes calls) (Err error.NotATree) (taken_told old) (taken_told new) → IsNoTree (makes calls)
-  no_tree streams = streams.only_where tt
 
   module _ (tape : List ℕ) (is : IsTape tape calls) where
     pub packed : old.bytes ≡ [] → StreamsCbor (makes calls) (Ok tt) (taken_told old) (taken_told new) → CborOfTapeDue tape None new.bytes
@@ -54,5 +51,8 @@ module _ (calls : List Call) (old new : Taken) where
         let same : lack.Fault fault.NotInteger ≡ found = cc e in subst (IsLacking (CborOfTapeDue tape)) same (refused NotInteger (streams.only_where tt))
     unpacked error.NoMemory found e streams = let same : lack.NoMemory ≡ found = cc e in subst (IsLacking (CborOfTapeDue tape)) same tt
     unpacked error.Write found e streams = let never : None ≡ Some found = e in absurd (cc never)
-    unpacked error.NotATree found e streams = let never : None ≡ Some found = e in absurd (cc never)
+    unpacked (error.BadCall at) found e streams =
+        let same : lack.Fault (fault.BadCall at) ≡ found = cc e in subst (IsLacking (CborOfTapeDue tape)) same ([], spells_none (fault.BadCall at) (bad_call at calls is (streams.only_where tt)))
+    unpacked error.Unfinished found e streams =
+        let same : lack.Fault fault.Unfinished ≡ found = cc e in subst (IsLacking (CborOfTapeDue tape)) same ([], spells_none fault.Unfinished (unfinished calls is (streams.only_where tt)))
     unpacked error.Refused found e streams = let never : None ≡ Some found = e in absurd (cc never)

@@ -42,15 +42,16 @@ lack_of_writing writing.IO = None
 lack_of_writing writing.InvalidNumber = None
 lack_of_writing writing.Generic = None
 
--- of a document that is written to memory, where the others don't come
+-- of a document or a tape that is written to memory, where the others don't come
 abbrev pub lack_of_pack : CborError → Option Lack
+lack_of_pack (pack.BadCall number) = Some (lack.Fault (fault.BadCall number))
+lack_of_pack pack.Unfinished = Some (lack.Fault fault.Unfinished)
 lack_of_pack pack.Key = Some (lack.Fault fault.InvalidKey)
 lack_of_pack pack.Number = Some (lack.Fault fault.InvalidNumber)
 lack_of_pack pack.Raw = Some (lack.Fault fault.Raw)
 lack_of_pack pack.NotInteger = Some (lack.Fault fault.NotInteger)
 lack_of_pack pack.NoMemory = Some lack.NoMemory
 lack_of_pack pack.Write = None
-lack_of_pack pack.NotATree = None
 lack_of_pack pack.Refused = None
 
 -- of a script that is written to memory, where no write fails

@@ -1,13 +1,11 @@
 //! Tapes of calls, written as JSON and as CBOR.
 
-ghost use Rattle.std.specs.Prelude.{ℕ, List, None, Err, IfSome};
+ghost use Rattle.std.specs.Prelude.{ℕ, List, None, IfSome};
 ghost use Rattle.std.specs.Bool.{OnTrue};
 ghost use Rattle.sval_core.specs.Values.{makes};
 ghost use Rattle.sval_check.specs.Checks.{IsOneValue};
-ghost use Rattle.sval_io.specs.Taken.{Taken, taken_told};
 ghost use Rattle.sval_tape.specs.Taped.{IsTape};
-ghost use Rattle.sval_cbor.specs.Streamed.{StreamsCbor, IsNoTree};
-ghost use Rattle.sval_c.specs.Lacks.{GivesOrLacks, IsLacking};
+ghost use Rattle.sval_c.specs.Lacks.{GivesOrLacks};
 ghost use Rattle.sval_c.specs.OfTapes.{CompactOfTape, PrettyOfTape, JsonOfTapeDue, CborOfTapeDue, PassesTape, WritesTape};
 ghost use Rattle.sval_c.specs.Reports.{ReportsDue};
 
@@ -16,7 +14,7 @@ use crate::from_json::laid_out;
 use crate::lack::{Lack, of_check, of_pack, of_tape, of_text};
 use crate::report::{Report, answer};
 use std::alloc::Global;
-use sval_cbor::{CborError, stream_to_cbor};
+use sval_cbor::stream_to_cbor;
 use sval_check::{Checked, check};
 use sval_core::{Lent, Stream};
 use sval_io::{Sink, VecSink};
@@ -140,28 +138,6 @@ fn to_json(alloc: Global, tape: &[u8], style: u32) -> Result<Vec<u8>, Lack>
     }
 }
 
-/// The first fault of a tape's calls, which are not one whole value.
-fn fault_of_calls(alloc: Global, tape: &Tape<'_>) -> Lack
-    requires { IsNoTree (makes tape.now) }
-    ensures { (bytes : List ℕ) → IsTape bytes tape.now → IsLacking (CborOfTapeDue bytes) result }
-{
-    match check(alloc, tape) {
-        Ok(()) => unreachable!("the calls are not one whole value"),
-        Err(error) => of_check(error),
-    }
-}
-
-/// Why a tape has no CBOR, by what stopped its streaming to memory.
-fn why_no_cbor(alloc: Global, tape: &Tape<'_>, error: CborError) -> Lack
-    requires { (old new : Taken) × StreamsCbor (makes tape.now) (Err error) (taken_told old) (taken_told new) }
-    ensures { (bytes : List ℕ) → IsTape bytes tape.now → IsLacking (CborOfTapeDue bytes) result }
-{
-    if error == CborError::NotATree {
-        return fault_of_calls(alloc, tape);
-    }
-    of_pack(error)
-}
-
 /// The CBOR of a tape that was read.
 fn cbor_of(alloc: Global, tape: &Tape<'_>) -> Result<Vec<u8>, Lack>
     ensures { (bytes : List ℕ) → IsTape bytes tape.now
@@ -170,7 +146,7 @@ fn cbor_of(alloc: Global, tape: &Tape<'_>) -> Result<Vec<u8>, Lack>
     let mut sink = VecSink::new(alloc);
     match stream_to_cbor(alloc, &mut sink, tape) {
         Ok(()) => Ok(sink.into_vec()),
-        Err(error) => Err(why_no_cbor(alloc, tape, error)),
+        Err(error) => Err(of_pack(error)),
     }
 }
 

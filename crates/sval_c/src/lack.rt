@@ -72,21 +72,21 @@ pub(crate) fn of_writing(error: Error) -> Lack
     }
 }
 
-/// Why the CBOR of a document wasn't written to memory.
+/// Why the CBOR of a document or a tape wasn't written to memory.
 pub(crate) fn of_pack(error: CborError) -> Lack
     requires unlike_fault { error ≡ CborError.Write → ⊥ }
-    requires unlike_no_tree { error ≡ CborError.NotATree → ⊥ }
     requires unlike_refusal { error ≡ CborError.Refused → ⊥ }
     ensures { lack_of_pack error ≡ Some result }
 {
     match error {
+        CborError::BadCall { at } => Lack::Fault(Fault::BadCall { number: at }),
+        CborError::Unfinished => Lack::Fault(Fault::Unfinished),
         CborError::Key => Lack::Fault(Fault::InvalidKey),
         CborError::Number => Lack::Fault(Fault::InvalidNumber),
         CborError::Raw => Lack::Fault(Fault::Raw),
         CborError::NotInteger => Lack::Fault(Fault::NotInteger),
         CborError::NoMemory => Lack::NoMemory,
         CborError::Write => unreachable!("memory has no faults"),
-        CborError::NotATree => unreachable!("a document is one value"),
         CborError::Refused => unreachable!("a document doesn't refuse"),
     }
 }

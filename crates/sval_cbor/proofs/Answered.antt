@@ -137,48 +137,36 @@ refused_is_no_other : {due : CheckAnswer} → (declined check.Refused ≡ due) �
 refused_is_no_other (inl is) = sym is
 refused_is_no_other (inr is) = cc is
 
--- no other error is due than that the calls are no tree
-only_no_tree : (e : Emission) → (IsOneValue e → ⊥) → (OnlyRefuses e → ⊥) → (other : CborError) → IsCborDue e (Err other) → other ≡ error.NotATree
-only_no_tree e no_value no_refusal error.NotATree due = refl
-only_no_tree e no_value no_refusal error.Refused due = absurd (no_refusal due)
-only_no_tree e no_value no_refusal error.Key due = absurd (no_value due.value)
-only_no_tree e no_value no_refusal error.Number due = absurd (no_value due.value)
-only_no_tree e no_value no_refusal error.Raw due = absurd (no_value due.value)
-only_no_tree e no_value no_refusal error.NotInteger due = absurd (no_value due.value)
-only_no_tree e no_value no_refusal error.Write due = absurd due
-only_no_tree e no_value no_refusal error.NoMemory due = absurd due
+-- where the check's answer is the only one that is due, no other error is due than its own
+module _ (e : Emission) (why : CheckError) (alone : (due : CheckAnswer) → checks.IsCheckDue e due → due ≡ declined why) where
+  no_value : IsOneValue e → ⊥
+  no_value one = let never : accepted ≡ declined why = alone (Ok tt) one in cc never
 
-pub bad_streams : (e : Emission) (at : ℕ) (told : Told) → checks.IsFirstBadCall e.calls at → Comes e (Err (check.BadCall at)) → StreamsCbor e (Err error.NotATree) told told
-bad_streams e at told bad comes =
-    let no_value : IsOneValue e → ⊥ = λ one. cc (bad_is_no_other at (comes (Ok tt) one)) in
-    let no_refusal : OnlyRefuses e → ⊥ = λ refuses. cc (bad_is_no_other at (comes (Err check.Refused) refuses)) in
-    due_streams e error.NotATree told tt (inl (at, bad)) (only_no_tree e no_value no_refusal) (λ has. no_value has.value)
+  same_error : (found : CheckError) → checks.IsCheckDue e (Err found) → check_error found ≡ check_error why
+  same_error found due = let is : declined found ≡ declined why = alone (Err found) due in let same : found ≡ why = cc is in ap check_error same
 
-pub unfinished_streams : (e : Emission) (told : Told) → checks.IsUnfinished e → Comes e (Err check.Unfinished) → StreamsCbor e (Err error.NotATree) told told
-unfinished_streams e told unfinished comes =
-    let no_value : IsOneValue e → ⊥ = λ one. cc (unfinished_is_no_other (comes (Ok tt) one)) in
-    let no_refusal : OnlyRefuses e → ⊥ = λ refuses. cc in
-    due_streams e error.NotATree told tt (inr unfinished) (only_no_tree e no_value no_refusal) (λ has. no_value has.value)
+  only_error : (other : CborError) → IsCborDue e (Err other) → other ≡ check_error why
+  only_error (error.BadCall at) due = same_error (check.BadCall at) due
+  only_error error.Unfinished due = same_error check.Unfinished due
+  only_error error.Refused due = same_error check.Refused due
+  only_error error.Key due = absurd (no_value due.value)
+  only_error error.Number due = absurd (no_value due.value)
+  only_error error.Raw due = absurd (no_value due.value)
+  only_error error.NotInteger due = absurd (no_value due.value)
+  only_error error.Write due = absurd due
+  only_error error.NoMemory due = absurd due
 
--- none is due than that the value refuses
-only_refused : (e : Emission) → (IsOneValue e → ⊥) → (IsNoTree e → ⊥) → (other : CborError) → IsCborDue e (Err other) → other ≡ error.Refused
-only_refused e no_value a_tree error.NotATree due = absurd (a_tree due)
-only_refused e no_value a_tree error.Refused due = refl
-only_refused e no_value a_tree error.Key due = absurd (no_value due.value)
-only_refused e no_value a_tree error.Number due = absurd (no_value due.value)
-only_refused e no_value a_tree error.Raw due = absurd (no_value due.value)
-only_refused e no_value a_tree error.NotInteger due = absurd (no_value due.value)
-only_refused e no_value a_tree error.Write due = absurd due
-only_refused e no_value a_tree error.NoMemory due = absurd due
+  refuses_so : (told : Told) → IsCauseOfValue (Err (check_error why)) → IsCborDue e (Err (check_error why)) → StreamsCbor e (Err (check_error why)) told told
+  refuses_so told own due = due_streams e (check_error why) told own due only_error (λ has. no_value has.value)
+
+pub bad_streams : (e : Emission) (at : ℕ) (told : Told) → checks.IsFirstBadCall e.calls at → Comes e (Err (check.BadCall at)) → StreamsCbor e (Err (error.BadCall at)) told told
+bad_streams e at told bad comes = refuses_so e (check.BadCall at) (λ due is. bad_is_no_other at (comes due is)) told tt bad
+
+pub unfinished_streams : (e : Emission) (told : Told) → checks.IsUnfinished e → Comes e (Err check.Unfinished) → StreamsCbor e (Err error.Unfinished) told told
+unfinished_streams e told unfinished comes = refuses_so e check.Unfinished (λ due is. unfinished_is_no_other (comes due is)) told tt unfinished
 
 pub refused_streams : (e : Emission) (told : Told) → OnlyRefuses e → Comes e (Err check.Refused) → StreamsCbor e (Err error.Refused) told told
-refused_streams e told refuses comes =
-    let no_value : IsOneValue e → ⊥ = λ one. cc (refused_is_no_other (comes (Ok tt) one)) in
-    due_streams e error.Refused told tt refuses (only_refused e no_value no_tree) (λ has. no_value has.value)
-  where
-    no_tree : IsNoTree e → ⊥
-    no_tree (inl (at, bad)) = cc (refused_is_no_other (comes (Err (check.BadCall at)) bad))
-    no_tree (inr unfinished) = cc
+refused_streams e told refuses comes = refuses_so e check.Refused (λ due is. refused_is_no_other (comes due is)) told tt refuses
 
 -- what the check doesn't accept
 pub unaccepted_streams : (e : Emission) (why : CheckError) (told : Told) → ((at : ℕ) → declined why ≡ declined (check.BadCall at) → checks.IsFirstBadCall e.calls at) → (declined why ≡ declined check.Refused → OnlyRefuses e)
@@ -225,7 +213,8 @@ module _ (e : Emission) (one : IsChecked e) where
       cc both
 
   no_error : HasCbor e → (why : CborError) → IsCborDue e (Err why) → ⊥
-  no_error has error.NotATree due = one.surely due
+  no_error has (error.BadCall at) due = one.surely (inl (at, due))
+  no_error has error.Unfinished due = one.surely (inr due)
   no_error has error.Refused due = not_refusing due
   no_error has error.Key due = not_refused has BadKey due
   no_error has error.Number due = not_refused has BadNumber due
@@ -242,7 +231,8 @@ module _ (e : Emission) (one : IsChecked e) where
       cc both
 
   only_refusal : (why : PackRefusal) → IsRefusedAs e why → (other : CborError) → IsCborDue e (Err other) → other ≡ refusal_error why
-  only_refusal why refused error.NotATree due = absurd (one.surely due)
+  only_refusal why refused (error.BadCall at) due = absurd (one.surely (inl (at, due)))
+  only_refusal why refused error.Unfinished due = absurd (one.surely (inr due))
   only_refusal why refused error.Refused due = absurd (not_refusing due)
   only_refusal why refused error.Key due = ap refusal_error (same_refusal why BadKey refused due)
   only_refusal why refused error.Number due = ap refusal_error (same_refusal why BadNumber refused due)
@@ -337,7 +327,8 @@ module _ (e : Emission) (one : IsChecked e) where
       counts = front.counts;
       prefix = begins_tree front.front;
     }
-    bytes_stream (Err error.NotATree) old new h = absurd h
+    bytes_stream (Err (error.BadCall at)) old new h = absurd h
+    bytes_stream (Err error.Unfinished) old new h = absurd h
     bytes_stream (Err error.Refused) old new h = absurd h
     bytes_stream (Err error.Key) old new h = absurd h
     bytes_stream (Err error.Number) old new h = absurd h

@@ -1,5 +1,5 @@
 -- From what reading, checking and writing a script answered to what serving it says.
-use Rattle.std.specs.Prelude.{◌≡◌, ◌⊎◌, ℕ, ◌<◌, true, false, List, [], length, Some, None, Result, Ok, Err, refl}
+use Rattle.std.specs.Prelude.{◌≡◌, ◌⊎◌, ℕ, ◌<◌, true, false, List, [], length, Some, None, is_some, Result, Ok, Err, refl}
 use Rattle.std.proofs.Common.{sym, ◌∙◌, subst, inl, inr}
 use Rattle.sval_label.specs.Calls.{Call}
 use Rattle.sval_core.specs.Values.{makes}
@@ -65,7 +65,8 @@ module _ {K : Type 0} (told : K → Told) (script : List ℕ) (old new : K) wher
       fails_so (failure.Write sink.Failed) failed is (record { found = None; bytes = bytes; due = of_value verdict; may = refl; stops = record { cause = w.cause; begins = w.front; counts = w.counts } })
   declined_fails bytes error.NoMemory failed is verdict w =
       fails_so (failure.Write sink.NoMemory) failed is (record { found = None; bytes = bytes; due = of_value verdict; may = refl; stops = record { cause = inr w.cause; begins = w.front; counts = w.counts } })
-  declined_fails bytes error.NotATree failed is verdict w = absurd w
+  declined_fails bytes (error.BadCall at) failed is verdict w = absurd w
+  declined_fails bytes error.Unfinished failed is verdict w = absurd w
   declined_fails bytes error.Refused failed is verdict w = absurd w
   declined_fails bytes error.Key failed is verdict w = absurd w
   declined_fails bytes error.Number failed is verdict w = absurd w
@@ -80,16 +81,27 @@ module _ {K : Type 0} (told : K → Told) (script : List ℕ) (old new : K) wher
       refused_fails refusal failed (subst (λ (w : CborError). failure_of_cbor w ≡ Some failed) of_refusal is) verdict (subst (λ (w : CborError). IsCauseOfValue (Err w) → new ≡ old) of_refusal left)
 
 -- an error of writing is none of the check
-not_of_check : (refusal : PackRefusal) → (refusal_error refusal ≡ error.NotATree → ⊥) × (refusal_error refusal ≡ error.Refused → ⊥)
-not_of_check BadKey = (λ e. cc e, λ e. cc e)
-not_of_check BadNumber = (λ e. cc e, λ e. cc e)
-not_of_check RawJson = (λ e. cc e, λ e. cc e)
-not_of_check NotInteger = (λ e. cc e, λ e. cc e)
+refusal_fails : (refusal : PackRefusal) → is_some (failure_of_cbor (refusal_error refusal)) ≡ true
+refusal_fails BadKey = refl
+refusal_fails BadNumber = refl
+refusal_fails RawJson = refl
+refusal_fails NotInteger = refl
 
-pub of_writing : (due : Result (List ℕ) PackRefusal) (why : CborError) (old new : Told) → AnswersDue (Err why) old due new → (why ≡ error.NotATree → ⊥) × (why ≡ error.Refused → ⊥)
-of_writing (Ok bytes) why old new answers = (λ is. subst (λ (w : CborError). AnswersBytes (Err w) old bytes new) is answers, λ is. subst (λ (w : CborError). AnswersBytes (Err w) old bytes new) is answers)
+sink_fails : (why : CborError) (old new : Told) (bytes : List ℕ) → AnswersBytes (Err why) old bytes new → is_some (failure_of_cbor why) ≡ true
+sink_fails error.Write old new bytes answers = refl
+sink_fails error.NoMemory old new bytes answers = refl
+sink_fails (error.BadCall at) old new bytes answers = absurd answers
+sink_fails error.Unfinished old new bytes answers = absurd answers
+sink_fails error.Refused old new bytes answers = absurd answers
+sink_fails error.Key old new bytes answers = refl
+sink_fails error.Number old new bytes answers = refl
+sink_fails error.Raw old new bytes answers = refl
+sink_fails error.NotInteger old new bytes answers = refl
+
+pub of_writing : (due : Result (List ℕ) PackRefusal) (why : CborError) (old new : Told) → AnswersDue (Err why) old due new → is_some (failure_of_cbor why) ≡ true
+of_writing (Ok bytes) why old new answers = sink_fails why old new bytes answers
 of_writing (Err refusal) why old new (e, same) =
-    let of_refusal : why ≡ refusal_error refusal = cc e in (λ is. (not_of_check refusal).0 (sym of_refusal ∙ is), λ is. (not_of_check refusal).1 (sym of_refusal ∙ is))
+    let of_refusal : why ≡ refusal_error refusal = cc e in subst (λ (w : CborError). is_some (failure_of_cbor w) ≡ true) (sym of_refusal) (refusal_fails refusal)
 
 -- ---- a script whose calls are good
 

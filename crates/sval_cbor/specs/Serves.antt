@@ -49,5 +49,6 @@ failure_of_cbor error.Raw = Some (failure.Fault fault.Raw)
 failure_of_cbor error.NotInteger = Some (failure.Fault fault.NotInteger)
 failure_of_cbor error.Write = Some (failure.Write sink.Failed)
 failure_of_cbor error.NoMemory = Some (failure.Write sink.NoMemory)
-failure_of_cbor error.NotATree = None
+failure_of_cbor (error.BadCall at) = None
+failure_of_cbor error.Unfinished = None
 failure_of_cbor error.Refused = None

@@ -32,8 +32,8 @@ refusal_error NotInteger = error.NotInteger
 
 -- the error that says why the calls were not accepted
 abbrev pub check_error : CheckError → CborError
-check_error (check.BadCall at) = error.NotATree
-check_error check.Unfinished = error.NotATree
+check_error (check.BadCall at) = error.BadCall at
+check_error check.Unfinished = error.Unfinished
 check_error check.Refused = error.Refused
 check_error check.NoMemory = error.NoMemory
 
@@ -103,7 +103,8 @@ pub record HasCbor (e : Emission) : Type 0 where
 -- the answer that is due, where the sink doesn't decline and memory isn't wanting
 abbrev pub IsCborDue : Emission → CborAnswer → Type 0
 IsCborDue e (Ok done) = HasCbor e
-IsCborDue e (Err error.NotATree) = IsNoTree e
+IsCborDue e (Err (error.BadCall at)) = IsFirstBadCall e.calls at
+IsCborDue e (Err error.Unfinished) = IsUnfinished e
 IsCborDue e (Err error.Refused) = OnlyRefuses e
 IsCborDue e (Err error.Key) = IsRefusedAs e BadKey
 IsCborDue e (Err error.Number) = IsRefusedAs e BadNumber

@@ -7,9 +7,15 @@ use sval_io::SinkError;
 /// Why a value wasn't written as CBOR, or not whole, by [`stream_to_cbor`](crate::stream_to_cbor).
 #[derive(Clone, Copy, Debug, PartialEq, Eq)]
 pub enum CborError {
-    /// The value's calls are not one whole value.
-    NotATree,
-    /// The value itself refused.
+    /// No value goes on with the call of this number, counted from 1. A number past the greatest `u64` is given as
+    /// that.
+    BadCall {
+        /// The number of the call.
+        at: u64,
+    },
+    /// All calls can be completed, and they end before they are one whole value.
+    Unfinished,
+    /// All calls can be completed, and the value itself refused.
     Refused,
     /// A map's key is no text, and is not written as one.
     Key,
@@ -32,18 +38,19 @@ impl fmt::Display for CborError {
     ghost output = { λ error. Some (cbor_error_text error) };
 
     fn fmt<W: fmt::Write>(&self, f: &mut fmt::Formatter<W>) -> fmt::Result {
-        f.write_str(match self {
-            CborError::NotATree => "the calls are not one whole value",
-            CborError::Refused => "the value refused",
-            CborError::Key => "attempt to write a non-string key",
-            CborError::Number => "attempt to write an invalid number",
-            CborError::Raw => "attempt to write raw JSON as CBOR",
+        match *self {
+            CborError::BadCall { at } => write!(f, "no value goes on with call {at}"),
+            CborError::Unfinished => f.write_str("the calls end before the value is whole"),
+            CborError::Refused => f.write_str("the value refused"),
+            CborError::Key => f.write_str("attempt to write a non-string key"),
+            CborError::Number => f.write_str("attempt to write an invalid number"),
+            CborError::Raw => f.write_str("attempt to write raw JSON as CBOR"),
             CborError::NotInteger => {
-                "attempt to write a number that is no whole number of 128 bits"
+                f.write_str("attempt to write a number that is no whole number of 128 bits")
             }
-            CborError::Write => "failed to write CBOR",
-            CborError::NoMemory => "cannot allocate for CBOR",
-        })
+            CborError::Write => f.write_str("failed to write CBOR"),
+            CborError::NoMemory => f.write_str("cannot allocate for CBOR"),
+        }
     }
 }
 

@@ -1,6 +1,6 @@
 //! The whole program, over any words and devices.
 
-ghost use Rattle.std.specs.Prelude.{◌≡◌, ℕ, List, false, Some, map, string_bytes};
+ghost use Rattle.std.specs.Prelude.{◌≡◌, ℕ, List, true, false, Some, is_some, map, string_bytes};
 ghost use Rattle.sval_core.specs.Values.{makes};
 ghost use Rattle.sval_program.specs.Jobs.{ServesBytes, ServesInput, Serves};
 ghost use Rattle.sval_program.specs.Runs.{Ends, Reports};
@@ -26,8 +26,7 @@ use sval_script::Script;
 
 /// Why a value that was captured wasn't written.
 fn unwritten(error: CborError) -> Failure
-    requires unlike_no_tree { error ≡ CborError.NotATree → ⊥ }
-    requires unlike_refused { error ≡ CborError.Refused → ⊥ }
+    requires { is_some (failure_of_cbor error) ≡ true }
     ensures { failure_of_cbor error ≡ Some result }
 {
     match error {
@@ -37,7 +36,8 @@ fn unwritten(error: CborError) -> Failure
         CborError::NotInteger => Failure::Fault(Fault::NotInteger),
         CborError::Write => Failure::Write(SinkError::Failed),
         CborError::NoMemory => Failure::Write(SinkError::NoMemory),
-        CborError::NotATree => unreachable!("the calls are one whole value"),
+        CborError::BadCall { .. } => unreachable!("the calls are one whole value"),
+        CborError::Unfinished => unreachable!("the calls are one whole value"),
         CborError::Refused => unreachable!("a script doesn't refuse"),
     }
 }

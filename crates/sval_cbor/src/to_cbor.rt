@@ -33,8 +33,9 @@ use sval_io::{CountSink, Sink, SinkError};
 ///
 /// # Errors
 ///
-/// - [`CborError::NotATree`] comes where the calls are not one whole value, as `check` of `sval_check` tells by
-///   `BadCall` and `Unfinished`.
+/// - [`CborError::BadCall`] comes where no value goes on with a call. `at` is the number of the first of them, counted
+///   from 1, as `check` of `sval_check` tells it.
+/// - [`CborError::Unfinished`] comes where all calls can be completed, and they end before they are one whole value.
 /// - [`CborError::Refused`] comes where all calls can be completed, and the value refuses after them.
 /// - [`CborError::Key`] comes where a key of a map is a container, a binary, a text under `JSON_VALUE` or a variant
 ///   with its name.
@@ -43,7 +44,7 @@ use sval_io::{CountSink, Sink, SinkError};
 /// - [`CborError::NotInteger`] comes where a text under `NUMBER` that is no key is a number with a fraction or an
 ///   exponent, or one that is not from -2^127 to 2^128-1.
 ///
-/// Of the last four the first from left to right comes. These six exclude each other, and leave the sink as it was.
+/// Of the last four the first from left to right comes. These seven exclude each other, and leave the sink as it was.
 /// Each comes wherever it is due, unless memory was wanting.
 ///
 /// - [`CborError::Write`] comes only where the sink's count of faults rose, and never where the sink tells room for all
@@ -73,7 +74,8 @@ fn check_error(why: CheckError) -> CborError
     ensures { result ≡ check_error why }
 {
     match why {
-        CheckError::BadCall { .. } | CheckError::Unfinished => CborError::NotATree,
+        CheckError::BadCall { at } => CborError::BadCall { at },
+        CheckError::Unfinished => CborError::Unfinished,
         CheckError::Refused => CborError::Refused,
         CheckError::NoMemory => CborError::NoMemory,
     }

@@ -1,5 +1,6 @@
 -- What an error says.
-use Rattle.std.specs.Prelude.{ℕ, List, codes}
+use Rattle.std.specs.Prelude.{ℕ, List, ◌++◌, codes}
+use Rattle.std.specs.Fmt.{decimal}
 use Rattle.sval_filter.specs.declared.paths.PathError.{PathError}
 use Rattle.sval_filter.specs.declared.paths.PathError.TheVariants as path
 use Rattle.sval_filter.specs.declared.pruning.PruneError.{PruneError}
@@ -13,6 +14,7 @@ path_error_text path.NoMemory = codes "cannot allocate for a path"
 
 -- the text of an error of pruning
 abbrev pub prune_error_text : PruneError → List ℕ
-prune_error_text prune.NotATree = codes "the calls are not one whole value"
+prune_error_text (prune.BadCall at) = codes "no value goes on with call " ++ decimal at
+prune_error_text prune.Unfinished = codes "the calls end before the value is whole"
 prune_error_text prune.Refused = codes "the value refused"
 prune_error_text prune.NoMemory = codes "cannot allocate for a pruned value"

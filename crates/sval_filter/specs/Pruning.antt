@@ -1,5 +1,5 @@
 -- What pruning a value answers.
-use Rattle.std.specs.Prelude.{◌≡◌, ◌⊎◌, ⊤, ℕ, false, List, Option, Some, None, Result, Ok, Err, IfErr}
+use Rattle.std.specs.Prelude.{◌≡◌, ◌⊎◌, ⊤, false, List, Option, Some, None, Result, Ok, Err, IfErr}
 use Rattle.sval_core.specs.Trees.{Tree}
 use Rattle.sval_core.specs.Spells.{Spells}
 use Rattle.sval_core.specs.Law.{Emission, Law, Standing, Streams, Stops}
@@ -16,7 +16,7 @@ use Rattle.sval_filter.specs.Paths.{Path, Rule}
 use Rattle.sval_filter.specs.Pruned.{pruned}
 use Rattle.sval_filter.specs.Filtering.{fresh, all_due}
 use Rattle.sval_filter.specs.declared.pruning.PruneError.{PruneError}
-use Rattle.sval_filter.specs.declared.pruning.PruneError.TheVariants.{NotATree, Refused, NoMemory}
+use Rattle.sval_filter.specs.declared.pruning.PruneError.TheVariants.{BadCall, Unfinished, Refused, NoMemory}
 
 -- the value doesn't refuse, its calls spell a tree, and the replay of this forest spells what is left of that
 pub record IsPruned (e : Emission) (rule : Rule) (paths : List Path) (f : Forest) : Type 0 where
@@ -39,15 +39,16 @@ IsPruneWant why = why ≡ NoMemory
 
 -- the cause of an error
 abbrev pub IsPruneCause : Emission → PruneError → Type 0
-IsPruneCause e NotATree = ((at : ℕ) × IsFirstBadCall e.calls at) ⊎ IsUnfinished e
+IsPruneCause e (BadCall at) = IsFirstBadCall e.calls at
+IsPruneCause e Unfinished = IsUnfinished e
 IsPruneCause e Refused = OnlyRefuses e
 IsPruneCause e NoMemory = TakesPruneMemory e
 
 -- the answer where checking answers so, or memory was wanting
 abbrev pub IsDueToPrune : {T : Type 0} → CheckAnswer → Result T PruneError → Type 0
 IsDueToPrune (Ok done) result = IfErr result IsPruneWant
-IsDueToPrune (Err (checked.BadCall at)) result = (result ≡ Err NotATree) ⊎ (result ≡ Err NoMemory)
-IsDueToPrune (Err checked.Unfinished) result = (result ≡ Err NotATree) ⊎ (result ≡ Err NoMemory)
+IsDueToPrune (Err (checked.BadCall at)) result = (result ≡ Err (BadCall at)) ⊎ (result ≡ Err NoMemory)
+IsDueToPrune (Err checked.Unfinished) result = (result ≡ Err Unfinished) ⊎ (result ≡ Err NoMemory)
 IsDueToPrune (Err checked.Refused) result = (result ≡ Err Refused) ⊎ (result ≡ Err NoMemory)
 IsDueToPrune (Err checked.NoMemory) result = result ≡ Err NoMemory
 

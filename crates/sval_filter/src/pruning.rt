@@ -17,9 +17,15 @@ use sval_core::{Lending, Lent, NoMemory, Stream, Value};
 /// Why a value wasn't pruned.
 #[derive(Clone, Copy, Debug, PartialEq, Eq)]
 pub enum PruneError {
-    /// Its calls are not one whole value.
-    NotATree,
-    /// It refused by itself, after calls that can be completed.
+    /// No value goes on with the call of this number, counted from 1. A number past the greatest `u64` is given as
+    /// that.
+    BadCall {
+        /// The number of the call.
+        at: u64,
+    },
+    /// All calls can be completed, and they end before they are one whole value.
+    Unfinished,
+    /// All calls can be completed, and the value itself refused.
     Refused,
     /// Memory was wanting.
     NoMemory,
@@ -32,11 +38,12 @@ impl fmt::Display for PruneError {
     ghost output = { λ error. Some (prune_error_text error) };
 
     fn fmt<W: fmt::Write>(&self, f: &mut fmt::Formatter<W>) -> fmt::Result {
-        f.write_str(match self {
-            PruneError::NotATree => "the calls are not one whole value",
-            PruneError::Refused => "the value refused",
-            PruneError::NoMemory => "cannot allocate for a pruned value",
-        })
+        match *self {
+            PruneError::BadCall { at } => write!(f, "no value goes on with call {at}"),
+            PruneError::Unfinished => f.write_str("the calls end before the value is whole"),
+            PruneError::Refused => f.write_str("the value refused"),
+            PruneError::NoMemory => f.write_str("cannot allocate for a pruned value"),
+        }
     }
 }
 
@@ -68,9 +75,9 @@ impl From<NoMemory> for PruneError {
 ///
 /// # Errors
 ///
-/// [`PruneError::NotATree`] exactly where [`check`] answers that a call goes on with no value, or that the value is
-/// unfinished. [`PruneError::Refused`] exactly where it answers that the value itself refuses. These two come wherever
-/// they are due, unless memory was wanting.
+/// [`PruneError::BadCall`], [`PruneError::Unfinished`] and [`PruneError::Refused`] exactly where [`check`] answers so:
+/// that no value goes on with a call, that the calls end too early, or that the value itself refuses. These three come
+/// wherever they are due, unless memory was wanting.
 ///
 /// [`PruneError::NoMemory`] comes only where a call that can be completed begins something, for which checking may take
 /// memory, or where the value is a whole one, which is filtered and captured.
@@ -86,8 +93,8 @@ pub fn prune<'sval, N: CallStore + 'sval, V: Value<'sval, Lent<'sval>>>(
 {
     match check(alloc, v) {
         Ok(()) => prune_tree(alloc, v, rule, paths),
-        Err(CheckError::BadCall { at: _ }) => Err(PruneError::NotATree),
-        Err(CheckError::Unfinished) => Err(PruneError::NotATree),
+        Err(CheckError::BadCall { at }) => Err(PruneError::BadCall { at }),
+        Err(CheckError::Unfinished) => Err(PruneError::Unfinished),
         Err(CheckError::Refused) => Err(PruneError::Refused),
         Err(CheckError::NoMemory) => Err(PruneError::NoMemory),
     }

@@ -148,7 +148,9 @@ impl From<PrintError> for Unwritten {
 impl From<PruneError> for Unwritten {
     fn from(cause: PruneError) -> Unwritten {
         match cause {
-            PruneError::NotATree | PruneError::Refused => Unwritten::Flaw(Flaw::NotOneValue),
+            PruneError::BadCall { .. } | PruneError::Unfinished | PruneError::Refused => {
+                Unwritten::Flaw(Flaw::NotOneValue)
+            }
             PruneError::NoMemory => Unwritten::NoMemory,
         }
     }
@@ -157,7 +159,9 @@ impl From<PruneError> for Unwritten {
 impl From<CborError> for Unwritten {
     fn from(cause: CborError) -> Unwritten {
         match cause {
-            CborError::NotATree | CborError::Refused => Unwritten::Flaw(Flaw::NotOneValue),
+            CborError::BadCall { .. } | CborError::Unfinished | CborError::Refused => {
+                Unwritten::Flaw(Flaw::NotOneValue)
+            }
             CborError::Key => Unwritten::Flaw(Flaw::KeyForCbor),
             CborError::Number => Unwritten::Flaw(Flaw::Number),
             CborError::Raw => Unwritten::Flaw(Flaw::Raw),

@@ -6,7 +6,7 @@ use Rattle.sval_json_read.specs.Calls.{document_calls}
 use Rattle.sval_cbor.specs.declared.error.CborError.{CborError}
 use Rattle.sval_cbor.specs.Streamed.{StreamsCbor}
 use Rattle.sval_c.specs.Due.{CborOfTextDue}
-use Rattle.sval_c.proofs.Packs.{packed, write_never, no_value_never, refusal_never, unpacked}
+use Rattle.sval_c.proofs.Packs.{packed, write_never, refusal_never, unpacked}
 use Rattle.sval_c.proofs.from_json.cbor_of.Goals as goal
 
 pub returns-in-Ok : goal.returns-in-Ok
@@ -20,13 +20,6 @@ of_pack-requires-clause-unlike_fault c = λ is.
     let (input, r) = c.requires in
     let calls = document_calls c.args.doc.now in
     write_never input calls r c.new-sink.result c.stream_to_cbor.new.out
-    (subst (λ (why : CborError). StreamsCbor (makes calls) (Err why) (taken_told c.new-sink.result) (taken_told c.stream_to_cbor.new.out)) is c.in-Err.ensures.streams)
-
-pub of_pack-requires-clause-unlike_no_tree : goal.of_pack-requires-clause-unlike_no_tree
-of_pack-requires-clause-unlike_no_tree c = λ is.
-    let (input, r) = c.requires in
-    let calls = document_calls c.args.doc.now in
-    no_value_never input calls r c.new-sink.result c.stream_to_cbor.new.out
     (subst (λ (why : CborError). StreamsCbor (makes calls) (Err why) (taken_told c.new-sink.result) (taken_told c.stream_to_cbor.new.out)) is c.in-Err.ensures.streams)
 
 pub of_pack-requires-clause-unlike_refusal : goal.of_pack-requires-clause-unlike_refusal

@@ -5,11 +5,8 @@ use Rattle.sval_cbor.proofs.running.write_captured.Goals as goal
 pub returns-in-Ok : goal.returns-in-Ok
 returns-in-Ok g c = λ script verdict. writes_whole g.K.Sink.told script c.args.out.now c.write_value.new.out (written_cbor (g.V.Value.emission c.args.v.now).calls) verdict c.in-Ok.ensures.due
 
-pub unwritten-requires-clause-unlike_no_tree : goal.unwritten-requires-clause-unlike_no_tree
-unwritten-requires-clause-unlike_no_tree g c = (of_writing (written_cbor (g.V.Value.emission c.args.v.now).calls) c.in-Err.error (g.K.Sink.told c.args.out.now) (g.K.Sink.told c.write_value.new.out) c.in-Err.ensures.due).0
-
-pub unwritten-requires-clause-unlike_refused : goal.unwritten-requires-clause-unlike_refused
-unwritten-requires-clause-unlike_refused g c = (of_writing (written_cbor (g.V.Value.emission c.args.v.now).calls) c.in-Err.error (g.K.Sink.told c.args.out.now) (g.K.Sink.told c.write_value.new.out) c.in-Err.ensures.due).1
+pub unwritten-requires : goal.unwritten-requires
+unwritten-requires g c = of_writing (written_cbor (g.V.Value.emission c.args.v.now).calls) c.in-Err.error (g.K.Sink.told c.args.out.now) (g.K.Sink.told c.write_value.new.out) c.in-Err.ensures.due
 
 pub returns-in-Err : goal.returns-in-Err
 returns-in-Err g c = λ script verdict.
