@@ -323,11 +323,16 @@ map_end
 /// Calls that are no value, and a key that is none.
 const NO_VALUE: &'static str = r#"
 seq_begin 1
-= error NotATree
+= error Unfinished
 
 null
 null
-= error NotATree
+= error BadCall { at: 2 }
+
+seq_begin -
+seq_value_begin
+seq_end
+= error BadCall { at: 3 }
 
 map_begin -
 map_key_begin

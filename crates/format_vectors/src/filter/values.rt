@@ -73,17 +73,22 @@ map_end
 = keep k: {}
 
 ␄
-= drop: NotATree
+= drop: Unfinished
 
 seq_begin -
-= drop: NotATree
+= drop: Unfinished
 
 null
 null
-= drop: NotATree
+= drop: BadCall { at: 2 }
 
 seq_end
-= drop: NotATree
+= drop: BadCall { at: 1 }
+
+seq_begin -
+seq_value_begin
+seq_end
+= drop: BadCall { at: 3 }
 "#;
 
 /// What words leave of the value of a script.
