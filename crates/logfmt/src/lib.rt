@@ -22,6 +22,8 @@ ghost use Rattle.logfmt.specs.Writing.{GivesText, StepsWriteText, nothing_writte
 
 mod writer;
 
+pub use writer::is_key;
+
 use std::alloc::Global;
 use std::error::Error;
 use std::fmt;
