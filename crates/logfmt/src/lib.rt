@@ -22,13 +22,12 @@ ghost use Rattle.logfmt.specs.Writing.{GivesText, StepsWriteText, nothing_writte
 
 mod writer;
 
-pub use writer::is_key;
-
 use std::alloc::Global;
 use std::error::Error;
 use std::fmt;
 use sval_core::{Lent, Value};
 use writer::LogfmtWriter;
+pub use writer::is_key;
 
 /// Why a value was not written as a line of pairs.
 #[derive(Clone, Copy, Debug, PartialEq, Eq)]

@@ -42,13 +42,16 @@ module _ {K : Type 0} (told : K → Told) (c : Conversion) where
   -- there was no memory for what is read ahead
   pub lines_unread : (left : Option (List ℕ)) (why : LineError) (old : K) → IfSome left (λ bytes. ConvertsInput told c shape.Lines bytes (Err (convert.Unread why)) old old)
   lines_unread None why old = tt
-  lines_unread (Some bytes) why old = (Some bytes, record {
-    rest = bytes;
-    count = 0;
-    middle = old;
-    converts = record { text = []; due = no_line; writes = writes_nothing (told old) };
-    cause = record { part = []; taken = record { rest = bytes; same = refl; left = refl }; same = refl };
-  })
+  lines_unread (Some bytes) why old = (
+    Some bytes,
+    record {
+      rest = bytes;
+      count = 0;
+      middle = old;
+      converts = record { text = []; due = no_line; writes = writes_nothing (told old) };
+      cause = record { part = []; taken = record { rest = bytes; same = refl; left = refl }; same = refl };
+    },
+  )
 
   pub lines_done : (left ahead next : Option (List ℕ)) (old new : K) → ahead ≡ left → IfSome ahead (λ bytes. ConvertsLines told c bytes (Ok tt) next old new)
       → IfSome left (λ bytes. ConvertsInput told c shape.Lines bytes (Ok tt) old new)

@@ -116,7 +116,11 @@ fn write_asked<K: Sink>(
     ensures { (input : List ℕ) → IsDocument input doc.now → WritesLeft conversion.now.rule
         conversion.now.paths.now conversion.now.target input result (K.told out.old) (K.told out.new) }
 {
-    let Conversion { rule, paths, target } = *conversion;
+    let Conversion {
+        rule,
+        paths,
+        target,
+    } = *conversion;
     match target {
         Target::Json => write_left(alloc, rule, paths, doc, out),
         Target::Pretty => write_laid_out(alloc, rule, paths, doc, out),

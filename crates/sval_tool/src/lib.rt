@@ -19,5 +19,5 @@ pub use error::DocumentError;
 pub use inputs::{ConvertError, Shape, convert_all};
 pub use lines::{LinesError, write_lines};
 pub use switch::{Flag, OPTIONS, OptionRow, Setting, Switch, name_of};
-pub use words::{Command, Complaint, Input, Options, Output, Stop, read_words};
 pub use whole::read_whole;
+pub use words::{Command, Complaint, Input, Options, Output, Stop, read_words};

@@ -87,9 +87,13 @@ impl<'r> NamedReader<'r> {
     fn read_opened(&mut self, buffer: &mut [u8]) -> Result<usize, Failure> {
         match &mut self.opened {
             Opened::Nothing => Ok(0),
-            Opened::Input(input) => input.read(buffer).map_err(|error| Failure::Read(error.kind())),
+            Opened::Input(input) => input
+                .read(buffer)
+                .map_err(|error| Failure::Read(error.kind())),
             Opened::File(file, progress) => {
-                let count = file.read(buffer).map_err(|error| Failure::Read(error.kind()))?;
+                let count = file
+                    .read(buffer)
+                    .map_err(|error| Failure::Read(error.kind()))?;
                 if let Some(progress) = progress {
                     progress.advance(count);
                 }

@@ -181,7 +181,9 @@ pub(crate) fn write_logfmt<'d, K: Sink>(
     out: &mut K,
 ) -> Result<(), Unwritten> {
     let Some(members) = root.members() else {
-        return Err(Unwritten::Told(format!(in alloc; "a value is no object, and has no line of logfmt")?));
+        return Err(Unwritten::Told(format!(in alloc;
+            "a value is no object, and has no line of logfmt"
+        )?));
     };
     let mut writer = LineWriter {
         alloc,

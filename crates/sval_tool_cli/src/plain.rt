@@ -71,7 +71,11 @@ pub(crate) fn run_plain(rt: &HostRuntime, options: &Options, target: Target, out
         paths: &options.paths,
         target,
     };
-    let form = if options.lines { Shape::Lines } else { Shape::Document };
+    let form = if options.lines {
+        Shape::Lines
+    } else {
+        Shape::Document
+    };
     let mut bad = Vec::new(rt.alloc());
     match convert_all(rt.alloc(), &conversion, form, &mut sources, &mut bad, out) {
         Ok(()) => End::Done,

@@ -79,6 +79,13 @@ impl<'r> Drop for Progress<'r> {
         if self.shown {
             let _ = eprint!(self.rt; "\n");
         }
-        let Progress { rt: _, name: _, total: _, done: _, next: _, shown: _ } = self;
+        let Progress {
+            rt: _,
+            name: _,
+            total: _,
+            done: _,
+            next: _,
+            shown: _,
+        } = self;
     }
 }

@@ -58,7 +58,11 @@ impl Case for Following {
                 return Ok(format!(in alloc; "{character:?} comes and doesn't")?);
             }
         }
-        let others = if next.contains('\u{e9}') { " others" } else { "" };
+        let others = if next.contains('\u{e9}') {
+            " others"
+        } else {
+            ""
+        };
         let end = if next.may_end() { " end" } else { "" };
         Ok(format!(in alloc; "on {on:?}{others}{end}")?)
     }
@@ -90,7 +94,9 @@ impl Case for BadText {
         }
         let found = front.len();
         match JsonDoc::read_str(alloc, input) {
-            Err(ReadError::BadJson { at }) if at == found as u64 => Ok(format!(in alloc; "bad {at}")?),
+            Err(ReadError::BadJson { at }) if at == found as u64 => Ok(format!(in alloc;
+                "bad {at}"
+            )?),
             answer => Ok(format!(in alloc; "{found}, and {:?}", answer.err())?),
         }
     }
