@@ -178,7 +178,7 @@ const FOLLOWING: &'static str = r##"
 {"a":1,␄
 = on "\t\n\r \""
 {"a":1␄
-= on "\t\n\r ,.0123456789E}e"
+= on "\t\n\r ,.0123456789Ee}"
 {"a":[]␄
 = on "\t\n\r ,}"
 "a␄
