@@ -13,7 +13,8 @@ use sval_core::{Lent, Value};
 /// Captures a value, if its calls are one whole value.
 ///
 /// On `Ok` the buffer took all its calls, as `ValueBuf::collect` of `sval_buffer` captures them, and its replay
-/// spells the tree that the calls spell. The value is streamed twice, into the check and then into the buffer.
+/// spells the tree that the calls spell. The value is streamed into the check and then into the buffer. One that is
+/// surely whole is only asked in place of the check, as [`check`] says.
 ///
 /// ```
 /// let buffer: ValueBuf<'_> = collect_whole(alloc, &value)?;

@@ -16,8 +16,8 @@ use sval_json::{Variants, stream_to_io_write_with};
 /// On `Ok` the sink took exactly the text of the JSON of the tree that the calls spell. Where raw texts and
 /// identifiers in it are what their tags promise, the text denotes the one value that this JSON means, and no other.
 ///
-/// The value is streamed twice, into the check and then into the writer. Memory of `alloc` is taken for the check
-/// alone, as [`check`] takes it.
+/// The value is streamed into the check and then into the writer. One that is surely whole is only asked in place of
+/// the check, as [`check`] says. Memory of `alloc` is taken for the check alone, as [`check`] takes it.
 ///
 /// ```
 /// let mut sink = VecSink::new(alloc);
