@@ -1,12 +1,12 @@
 -- What streaming a string knows at each piece.
-use Rattle.std.specs.Prelude.{◌≡◌, ℕ, List, [], ◌∷◌, ◌++◌, map, None, Result, Ok, Err, refl}
+use Rattle.std.specs.Prelude.{◌≡◌, ℕ, List, [], ◌∷◌, ◌++◌, map, Result, Ok, Err, refl}
 use Rattle.std.proofs.Common.{sym, ap, subst, ◌∙◌, append_assoc, append-nil}
 use Rattle.sval_label.specs.declared.error.Error.{Error}
-use Rattle.sval_label.specs.Calls.{Call, Slot}
+use Rattle.sval_label.specs.Calls.{Call}
 use Rattle.sval_core.specs.Law.{Standing, Law, Takes, Refuses, Answers, Streams, Stops, Emits, emits, then_emits}
 use Rattle.sval_core.specs.Values.{makes}
 use Rattle.sval_core.proofs.Emissions.{streams_one, stops_one, streams_then, stops_first, stops_later, passes_on}
-use Rattle.sval_json_read.specs.Calls.{Piece, piece_call, pieces, string_value_calls, key_calls}
+use Rattle.sval_json_read.specs.Calls.{Piece, piece_call, pieces}
 use Rattle.sval_json_read.specs.RawStrings.{IsRaw}
 
 -- some first calls were taken, and the pieces of this are left
@@ -42,31 +42,19 @@ all_pieces {law = law} {old = old} {new = new} s e =
 pub pieces-start : {V : Type 0} {law : Law V} {old : Standing V} (raw : List ℕ) → IsRaw raw → IsStreamedUpTo law old old raw raw
 pieces-start raw r = record { done = []; all_is = refl; is_raw = r; streams = record { willing = refl; ran = refl; faults = refl; wants = refl } }
 
--- ---- a string
+-- ---- a string, and a key
 
-module _ {V : Type 0} {law : Law V} {old mid : Standing V} (raw : List ℕ) where
-  pub string_stops : {new : Standing V} → Takes law old (Call.TextBegin None) mid → Stops law mid (makes (map piece_call (pieces raw))) new → Stops law old (makes (string_value_calls raw)) new
+-- calls between a begin and its end
+module _ {V : Type 0} {law : Law V} {old mid : Standing V} (begin end : Call) (inside : List Call) where
+  pub enclosed_stops : {new : Standing V} → Takes law old begin mid → Stops law mid (makes inside) new → Stops law old (makes (begin ∷ (inside ++ (end ∷ [])))) new
   unfolding emits then_emits
-  string_stops t p = stops_later (streams_one t) (stops_first (makes (Call.TextEnd ∷ [])) p)
+  enclosed_stops t p = stops_later (streams_one t) (stops_first (makes (end ∷ [])) p)
 
-  pub string_emits : {next : Standing V} (r : Result (Unit {0}) Error) (new : Standing V) → Takes law old (Call.TextBegin None) mid → Streams law mid (makes (map piece_call (pieces raw))) next
-      → Answers law r next Call.TextEnd new → Emits law r old (makes (string_value_calls raw)) new
+  pub enclosed_emits : {next : Standing V} (r : Result (Unit {0}) Error) (new : Standing V) → Takes law old begin mid → Streams law mid (makes inside) next
+      → Answers law r next end new → Emits law r old (makes (begin ∷ (inside ++ (end ∷ [])))) new
   unfolding emits then_emits
-  string_emits (Ok done) new t s e = streams_then (streams_one t) (streams_then s (streams_one e))
-  string_emits (Err refusal) new t s e = stops_later (streams_one t) (stops_later s (stops_one e))
-
--- ---- a key
-
-module _ {V : Type 0} {law : Law V} {old mid : Standing V} (raw : List ℕ) where
-  pub key_stops : {new : Standing V} → Takes law old (Call.PartBegin Slot.Key) mid → Stops law mid (makes (string_value_calls raw)) new → Stops law old (makes (key_calls raw)) new
-  unfolding emits then_emits
-  key_stops t p = stops_later (streams_one t) (stops_first (makes (Call.PartEnd Slot.Key ∷ [])) p)
-
-  pub key_emits : {next : Standing V} (r : Result (Unit {0}) Error) (new : Standing V) → Takes law old (Call.PartBegin Slot.Key) mid → Streams law mid (makes (string_value_calls raw)) next
-      → Answers law r next (Call.PartEnd Slot.Key) new → Emits law r old (makes (key_calls raw)) new
-  unfolding emits then_emits
-  key_emits (Ok done) new t s e = streams_then (streams_one t) (streams_then s (streams_one e))
-  key_emits (Err refusal) new t s e = stops_later (streams_one t) (stops_later s (stops_one e))
+  enclosed_emits (Ok done) new t s e = streams_then (streams_one t) (streams_then s (streams_one e))
+  enclosed_emits (Err refusal) new t s e = stops_later (streams_one t) (stops_later s (stops_one e))
 
 -- for the function that streams a string piece by piece
 pub ruleset of_pieces = (pieces-start, piece-step, piece-stop, all_pieces, passes_on)
