@@ -26,7 +26,6 @@ pub mod CborFound
 pub mod CborNext
 pub mod CborCounts
 pub mod CborChunks
-pub mod SameTexts
 pub mod Loop
 pub mod ItemTrees
 pub mod DueTexts

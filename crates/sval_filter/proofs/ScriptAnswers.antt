@@ -1,6 +1,6 @@
 -- From what reading and checking a script answered to what serving it says.
-use Rattle.std.specs.Prelude.{◌≡◌, ◌⊎◌, ℕ, ◌<◌, true, false, List, [], length, Some, Result, Ok, Err, refl}
-use Rattle.std.proofs.Common.{◌∙◌, subst, inl, inr}
+use Rattle.std.specs.Prelude.{◌≡◌, ℕ, true, false, List, [], Some, Result, Ok, Err, refl}
+use Rattle.std.proofs.Common.{subst}
 use Rattle.sval_label.specs.Calls.{Call}
 use Rattle.sval_core.specs.Values.{makes}
 use Rattle.sval_io.specs.Sinks.{Told}
@@ -9,8 +9,8 @@ use Rattle.sval_io.specs.Sources.{Supply}
 use Rattle.sval_check.specs.Checks.{IsFirstBadCall, IsUnfinished}
 use Rattle.sval_check.specs.declared.error.CheckError.{CheckError}
 use Rattle.sval_check.specs.declared.error.CheckError.TheVariants as check
-use Rattle.sval_script.specs.Lines.{Lines, Good, Bad, lines}
-use Rattle.sval_script.specs.Readings.{ScriptReading, answer_to, answer_with}
+use Rattle.sval_script.specs.Lines.{Good, lines}
+use Rattle.sval_script.specs.Readings.{ScriptReading, answer_with}
 use Rattle.sval_script.specs.declared.script.ScriptError.{ScriptError}
 use Rattle.sval_script.specs.declared.script.ScriptError.TheVariants as reading
 use Rattle.sval_program.specs.declared.failure.Fault.{Fault}
@@ -21,6 +21,7 @@ use Rattle.sval_program.specs.Failures.{status_of_fault, failure_of_script, fail
 use Rattle.sval_program.specs.Inputs.{HasRead}
 use Rattle.sval_program.specs.Jobs.{ServesBytes}
 use Rattle.sval_program.specs.Statuses.{is_among}
+use Rattle.sval_program.proofs.ReadAnswers.{read_bad}
 use Rattle.sval_filter.specs.Forms.{FilterForm}
 use Rattle.sval_filter.specs.Serves.{FilterDue, is_bad_line, is_bad_call, is_unfinished, filter_terms}
 
@@ -51,29 +52,8 @@ module _ (script : List ℕ) (asked : FilterForm) (calls : List Call) (good : li
 -- ---- what a reader answered
 
 module _ {reader : ScriptReading} {old new : Supply} (h : HasRead old reader new) where
-  answered : (l : Lines) (a due : Result (List Call) ScriptError) → (a ≡ answer_to l) ⊎ ((a ≡ Err reading.NoMemory) × (0 < length h.script)) → due ≡ a
-      → (due ≡ answer_to l) ⊎ ((due ≡ Err reading.NoMemory) × (0 < length h.script))
-  answered l a due (inl is) e = inl (e ∙ is)
-  answered l a due (inr (is, some)) e = inr (e ∙ is, some)
-
-  pub read_good : (calls : List Call) → ◌≡◌ {A = Result (List Call) ScriptError} (Ok calls) (answer_with reader []) → lines h.script ≡ Good calls
-  read_good calls e = good (lines h.script) (answered (lines h.script) (answer_with reader []) (Ok calls) h.answer e)
-    where
-      good : (l : Lines) → (◌≡◌ {A = Result (List Call) ScriptError} (Ok calls) (answer_to l)) ⊎ ((◌≡◌ {A = Result (List Call) ScriptError} (Ok calls) (Err reading.NoMemory)) × (0 < length h.script)) → l ≡ Good calls
-      good (Good other) (inl is) = cc is
-      good (Bad n) (inl is) = cc is
-      good l (inr (is, some)) = cc is
-
-  bad_line : (n : ℕ) → ◌≡◌ {A = Result (List Call) ScriptError} (Err (reading.BadLine n)) (answer_with reader []) → lines h.script ≡ Bad n
-  bad_line n e = bad (lines h.script) (answered (lines h.script) (answer_with reader []) (Err (reading.BadLine n)) h.answer e)
-    where
-      bad : (l : Lines) → (◌≡◌ {A = Result (List Call) ScriptError} (Err (reading.BadLine n)) (answer_to l)) ⊎ ((◌≡◌ {A = Result (List Call) ScriptError} (Err (reading.BadLine n)) (Err reading.NoMemory)) × (0 < length h.script)) → l ≡ Bad n
-      bad (Good other) (inl is) = cc is
-      bad (Bad m) (inl is) = cc is
-      bad l (inr (is, some)) = cc is
-
   -- where it has no script the sink is as it was
   pub read_fails : {K : Type 0} (told : K → Told) (asked : FilterForm) (out : K) (why : ScriptError) → ◌≡◌ {A = Result (List Call) ScriptError} (Err why) (answer_with reader [])
       → ServesBytes filter_terms told asked h.script (Err (failure_of_script why)) out out
-  read_fails told asked out (reading.BadLine n) e = faulty told h.script asked out (fault.BadLine n) (is_bad_line (bad_line n e)) refl
+  read_fails told asked out (reading.BadLine n) e = faulty told h.script asked out (fault.BadLine n) (is_bad_line (read_bad h n e)) refl
   read_fails told asked out reading.NoMemory e = refl

@@ -1,4 +1,5 @@
 pub mod Texts
+pub mod TextFronts
 pub mod Numbers
 pub mod Readings
 pub mod Writing

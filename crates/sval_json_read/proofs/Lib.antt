@@ -45,7 +45,6 @@ mod SeenValues
 mod FirstNodes
 mod InnerNodes
 mod NextNodes
-mod SameTexts
 mod ParsedNaturals
 mod PartCounts
 mod Pointers

@@ -1,20 +1,18 @@
 -- Reference tokens of names, array indexes, and a pointer token by token.
 use Rattle.std.specs.Prelude.{◌≡◌, ◌≢◌, ℕ, suc, ◌^◌, ◌<◌, Bool, true, false, ◌&&◌, nat_lt, List, [], ◌∷◌, ◌++◌, length, get_or, Some, None, option_and_then, Result, Ok, Err, OkIff, refl}
-use Rattle.std.specs.Int.{is_in_range}
-use Rattle.std.specs.Char.{is_ascii_digit}
 use Rattle.std.specs.Result.{result_ok}
 use Rattle.std.specs.Str.{all_ascii_digits}
 use Rattle.std.specs.Str.Parse.{digits_value, ParsesUnsigned}
 use Rattle.std.proofs.Common.{sym, ap, ◌∙◌, arith, append_assoc, append-nil, ne_eqb}
 use Rattle.std.proofs.lemmas.Bool.{and_parts, and_from}
-use Rattle.std.proofs.lemmas.Bool.Decides.{nat_tests}
 use Rattle.std.proofs.lemmas.Str.Parse.{parse_plain}
 use Rattle.sval_label.specs.Texts.{is_decimal}
 use Rattle.sval_json.specs.Grammar.{JsonValue}
+use Rattle.sval_script.proofs.Decimals.{decimal-from}
 use Rattle.sval_json.proofs.NumberTexts.{decimal_digits}
 use Rattle.sval_json_read.specs.Pointers.{encoded_byte, reference_token, array_index, referenced, evaluated, pointed}
 use Rattle.sval_json_read.proofs.ParsedNumbers.{own, in_range_test}
-use Rattle.sval_json_read.proofs.SameTexts.{same_rest}
+use Rattle.sval_json.proofs.TextFronts.{same_rest}
 use Rattle.sval_json_read.proofs.SettledNumbers.{some_digits}
 use Rattle.sval_json_read.proofs.StringSteps.{below}
 
@@ -47,13 +45,6 @@ module _ {name bytes left : List ℕ} (byte : ℕ) (rest : List ℕ) (before : S
   none_behind other more e = other (reference_token rest ++ more) (on_one more e)
 
 -- ---- array indexes
-
--- digits of which the first isn't 0 are a decimal
-decimal-from : (first : ℕ) (rest : List ℕ) → first ≢ 48 → all_ascii_digits (first ∷ rest) ≡ true → is_decimal (first ∷ rest) ≡ true
-decimal-from first [] other digits = (and_parts (is_ascii_digit first) true digits).0
-decimal-from first (next ∷ more) other digits =
-    let (one, all) = and_parts (is_ascii_digit first) (all_ascii_digits (next ∷ more)) digits in
-    let above : is_in_range 49 57 first ≡ true = grind (arith, nat_tests) in rw above all
 
 refused : (token : List ℕ) → ((all_ascii_digits token ≡ true) × (0 < length token) × (digits_value 10 token < 2 ^ 64) → ⊥) → (b : Bool) → (is_decimal token && nat_lt (digits_value 10 token) (2 ^ 64)) ≡ b
     → None ≡ array_index token

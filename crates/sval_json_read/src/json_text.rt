@@ -91,7 +91,7 @@ impl<'d> JsonText<'d> {
     }
 
     /// Whether the reference token of its text (RFC 6901) is this one. Takes no memory.
-    #[tactic(auto, using(crate::proofs::SameTexts::other_front, crate::proofs::Pointers::token_joined))]
+    #[tactic(auto, using(sval_json::proofs::TextFronts::other_front, crate::proofs::Pointers::token_joined))]
     pub(crate) fn has_token(&self, token: &str) -> bool
         ensures { result ≡ bytes_eq (reference_token self.now) token.now }
     {

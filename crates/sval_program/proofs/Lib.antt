@@ -1,4 +1,5 @@
 pub mod ReadScripts
+pub mod ReadAnswers
 pub mod Growing
 pub mod Telling
 pub mod PrintedTrees

@@ -1,26 +1,16 @@
 -- The number of records that a word asks for, as `parse` reads it.
 use Rattle.std.specs.Prelude.{◌≡◌, ◌≢◌, ℕ, ◌^◌, ◌<◌, nat_le, Bool, true, false, List, [], ◌∷◌, length, get_or, Some, None, if◌then◌else◌, option_and_then, Result, Ok, Err, refl}
 use Rattle.std.specs.Bool.{then_some}
-use Rattle.std.specs.Int.{is_in_range}
-use Rattle.std.specs.Char.{is_ascii_digit}
 use Rattle.std.specs.Str.{all_ascii_digits}
 use Rattle.std.specs.Str.Parse.{digits_value, ParsesUnsigned}
 use Rattle.std.specs.Result.{OkIff, result_ok}
 use Rattle.std.proofs.Common.{arith, ap, ◌∙◌}
-use Rattle.std.proofs.lemmas.Bool.{and_parts}
 use Rattle.std.proofs.lemmas.Bool.Decides.{nat_tests}
 use Rattle.std.proofs.lemmas.Str.Parse.{parse_plain}
 use Rattle.sval_label.specs.Texts.{is_decimal}
 use Rattle.sval_script.specs.Lines.{keep}
-use Rattle.sval_script.proofs.Decimals.{own, decimal-digits}
+use Rattle.sval_script.proofs.Decimals.{own, decimal-digits, decimal-from}
 use Rattle.sval_relay.specs.Ways.{records_named}
-
--- digits of which the first isn't 0 are a decimal
-decimal-from : (first : ℕ) (rest : List ℕ) → first ≢ 48 → all_ascii_digits (first ∷ rest) ≡ true → is_decimal (first ∷ rest) ≡ true
-decimal-from first [] other digits = (and_parts (is_ascii_digit first) true digits).0
-decimal-from first (next ∷ more) other digits =
-    let (one, all) = and_parts (is_ascii_digit first) (all_ascii_digits (next ∷ more)) digits in
-    let above : is_in_range 49 57 first ≡ true = grind (arith, nat_tests) in rw above all
 
 -- a number that doesn't fit is too great
 too_many : (n : ℕ) → (n < 2 ^ 32 → ⊥) → None ≡ keep (λ n. nat_le n 50000) n

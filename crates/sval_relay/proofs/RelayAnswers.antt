@@ -7,7 +7,6 @@ use Rattle.sval_core.specs.Law.{Emission, Rose}
 use Rattle.sval_core.specs.Trees.{Tree}
 use Rattle.sval_io.specs.Sinks.{Told, IsSteady, NoCountFell, LacksRoom, AppendsFront}
 use Rattle.sval_io.proofs.Appending.{all_is_front, steady_counts}
-use Rattle.sval_io.specs.Sources.{Supply}
 use Rattle.sval_check.specs.declared.error.CheckError.{CheckError}
 use Rattle.sval_check.specs.declared.error.CheckError.TheVariants as checking
 use Rattle.sval_check.specs.Checks.{IsFirstBadCall, IsUnfinished}
@@ -15,13 +14,11 @@ use Rattle.sval_check.specs.ManyChecks.{IsFirstBadOfList, IsUnfinishedList}
 use Rattle.sval_json.specs.Number.{Refusal, InvalidKey, InvalidNumber}
 use Rattle.sval_script.specs.declared.script.ScriptError.{ScriptError}
 use Rattle.sval_script.specs.declared.script.ScriptError.TheVariants as reading
-use Rattle.sval_script.specs.Lines.{Lines, Good, Bad, lines}
-use Rattle.sval_script.specs.Readings.{ScriptReading, answer_to, answer_with}
+use Rattle.sval_script.specs.Lines.{Good, Bad, lines}
 use Rattle.sval_relay.specs.declared.way.Way.{Way}
 use Rattle.sval_relay.specs.declared.way.Task.{Task}
 use Rattle.sval_relay.specs.declared.relaying.RelayError.{RelayError}
 use Rattle.sval_relay.specs.declared.relaying.RelayError.TheVariants as answer
-use Rattle.sval_program.specs.Inputs.{HasRead}
 use Rattle.sval_program.specs.Outputs.{Grows}
 use Rattle.sval_relay.specs.Verdict.{RelayVerdict, BadLine, BadCall, Unfinished, Key, Number, Text, asked_in, ending, texts, left, text_verdict, one_in, all_in, SpellTrees, IsRelayVerdict, OnVerdict}
 use Rattle.sval_relay.specs.Relays.{of_script, of_check, is_of_script, WritesVerdictText, WritesMeant, VerdictMayLeave, LacksRoomFor, WritesValue, WritesUpTo, IsWantIn, IsAnswerTo, Relays}
@@ -233,28 +230,3 @@ module _ (script : List ℕ) (task : Task) (calls : List Call) (trees : List Tre
       let cause : FailsFull (left (asked_in task.way) (ending (asked_in task.way) task.many) trees) (told old) (told new) =
       subst (λ why. IsCauseAmong why Want told (asked_in task.way) (ending (asked_in task.way) task.many) trees old new) same w.cause in
       full_for_due (told old) cause.full
-
--- ---- what a reader answered
-
-module _ {reader : ScriptReading} {old new : Supply} (h : HasRead old reader new) where
-  answered : (l : Lines) (a due : Result (List Call) ScriptError) → (a ≡ answer_to l) ⊎ ((a ≡ Err reading.NoMemory) × (0 < length h.script)) → due ≡ a
-      → (due ≡ answer_to l) ⊎ ((due ≡ Err reading.NoMemory) × (0 < length h.script))
-  answered l a due (inl is) e = inl (e ∙ is)
-  answered l a due (inr (is, some)) e = inr (e ∙ is, some)
-
-  pub read_good : (calls : List Call) → ◌≡◌ {A = Result (List Call) ScriptError} (Ok calls) (answer_with reader []) → lines h.script ≡ Good calls
-  read_good calls e = good (lines h.script) (answered (lines h.script) (answer_with reader []) (Ok calls) h.answer e)
-    where
-      good : (l : Lines) → (◌≡◌ {A = Result (List Call) ScriptError} (Ok calls) (answer_to l)) ⊎ ((◌≡◌ {A = Result (List Call) ScriptError} (Ok calls) (Err reading.NoMemory)) × (0 < length h.script)) → l ≡ Good calls
-      good (Good other) (inl is) = cc is
-      good (Bad n) (inl is) = cc is
-      good l (inr (is, some)) = cc is
-
-  pub read_bad : (why : ScriptError) → ◌≡◌ {A = Result (List Call) ScriptError} (Err why) (answer_with reader []) → (n : ℕ) → ◌≡◌ {A = Result (List Call) ScriptError} (Err why) (Err (reading.BadLine n))
-      → lines h.script ≡ Bad n
-  read_bad why e n same = bad (lines h.script) (answered (lines h.script) (answer_with reader []) (Err (reading.BadLine n)) h.answer (sym same ∙ e))
-    where
-      bad : (l : Lines) → (◌≡◌ {A = Result (List Call) ScriptError} (Err (reading.BadLine n)) (answer_to l)) ⊎ ((◌≡◌ {A = Result (List Call) ScriptError} (Err (reading.BadLine n)) (Err reading.NoMemory)) × (0 < length h.script)) → l ≡ Bad n
-      bad (Good other) (inl is) = cc is
-      bad (Bad m) (inl is) = cc is
-      bad l (inr (is, some)) = cc is

@@ -1,5 +1,5 @@
 -- Decimals, as `parse` reads them.
-use Rattle.std.specs.Prelude.{◌≡◌, ℕ, ◌^◌, ◌<◌, nat_lt, true, List, [], ◌∷◌, length, Option, Some, None, option_and_then, Result, Ok, Err, refl}
+use Rattle.std.specs.Prelude.{◌≡◌, ◌≢◌, ℕ, ◌^◌, ◌<◌, nat_lt, true, List, [], ◌∷◌, length, Option, Some, None, option_and_then, Result, Ok, Err, refl}
 use Rattle.std.specs.List.{list_all}
 use Rattle.std.specs.Int.{is_in_range}
 use Rattle.std.specs.Char.{is_ascii_digit}
@@ -29,6 +29,13 @@ decimal-digits (digit ∷ []) h = (rw h refl, omega arith)
 decimal-digits (digit ∷ next ∷ digits) h =
     let (a, b) = and_parts (is_in_range 49 57 digit) (all_ascii_digits (next ∷ digits)) h in
     (rw (digit-above digit a) b, omega arith)
+
+-- digits of which the first isn't 0 are a decimal
+pub decimal-from : (first : ℕ) (rest : List ℕ) → first ≢ 48 → all_ascii_digits (first ∷ rest) ≡ true → is_decimal (first ∷ rest) ≡ true
+decimal-from first [] other digits = (and_parts (is_ascii_digit first) true digits).0
+decimal-from first (next ∷ more) other digits =
+    let (one, all) = and_parts (is_ascii_digit first) (all_ascii_digits (next ∷ more)) digits in
+    let above : is_in_range 49 57 first ≡ true = grind (arith, nat_tests) in rw above all
 
 pub own : IsNumeralModel (λ ds. all_ascii_digits ds ≡ true) (digits_value 10)
 own = numerals_by_value (λ ds. all_ascii_digits ds ≡ true) tells_all_ascii_digits

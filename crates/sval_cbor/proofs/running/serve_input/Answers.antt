@@ -2,8 +2,9 @@ use Rattle.std.specs.Prelude.{Err}
 use Rattle.std.proofs.lemmas.Result.{err_from_is_err_and}
 use Rattle.sval_program.specs.Failures.{failure_of_script}
 use Rattle.sval_program.proofs.JobRuns.{served}
+use Rattle.sval_program.proofs.ReadAnswers.{read_good}
 use Rattle.sval_cbor.specs.Serves.{cbor_terms}
-use Rattle.sval_cbor.proofs.ScriptAnswers.{read_good, read_fails}
+use Rattle.sval_cbor.proofs.ScriptAnswers.{read_fails}
 use Rattle.sval_cbor.proofs.running.serve_input.Goals as goal
 
 pub returns-in_err-script : goal.returns-in_err-script

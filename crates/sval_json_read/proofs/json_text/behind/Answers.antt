@@ -1,7 +1,7 @@
 use Rattle.std.proofs.Common.{◌≡◌, ◌+◌, ℕ, List, length, take, drop, ◌++◌, Option, Some, None, true, false, Bor}
 use Rattle.std.specs.Str.{bytes_eq}
 use Rattle.std.specs.Option.{MatchOption, IfSome}
-use Rattle.sval_json_read.proofs.SameTexts.{begins_with, begins_otherwise}
+use Rattle.sval_json.proofs.TextFronts.{begins_with, begins_otherwise}
 use Rattle.sval_json_read.proofs.json_text.behind.Goals as goal
 
 found_by : (text bytes : List ℕ) (result : Option (Bor (List ℕ)))

@@ -1,7 +1,7 @@
 use Rattle.std.proofs.Common.{◌≡◌, ◌++◌, sym, ap, ◌∙◌}
 use Rattle.std.specs.List.{concat}
 use Rattle.std.specs.Str.{bytes_eq}
-use Rattle.sval_cbor_read.proofs.SameTexts.{behind_front}
+use Rattle.sval_json.proofs.TextFronts.{behind_front}
 use Rattle.sval_cbor_read.proofs.cbor_text.CborText.is.Goals as goal
 
 pub loop-text-preserved : goal.loop-text-preserved

@@ -5,7 +5,7 @@ use Rattle.sval_json_read.specs.Calls.{piece_bytes}
 use Rattle.sval_json_read.specs.Pointers.{reference_token}
 use Rattle.sval_json_read.specs.SeenPieces.{seen_piece}
 use Rattle.sval_json_read.specs.SeenValues.{text_in}
-use Rattle.sval_json_read.proofs.SameTexts.{behind_front}
+use Rattle.sval_json.proofs.TextFronts.{behind_front}
 use Rattle.sval_json_read.proofs.Pointers.{token_joined}
 use Rattle.sval_json_read.proofs.json_text.JsonText.has_token.Goals as goal
 

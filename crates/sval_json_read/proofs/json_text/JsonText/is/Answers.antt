@@ -4,7 +4,7 @@ use Rattle.std.specs.List.{concat}
 use Rattle.sval_json_read.specs.Calls.{piece_bytes}
 use Rattle.sval_json_read.specs.SeenPieces.{seen_piece}
 use Rattle.sval_json_read.specs.SeenValues.{text_in}
-use Rattle.sval_json_read.proofs.SameTexts.{behind_front}
+use Rattle.sval_json.proofs.TextFronts.{behind_front}
 use Rattle.sval_json_read.proofs.json_text.JsonText.is.Goals as goal
 
 pub loop-rest-preserved : goal.loop-rest-preserved

@@ -1,4 +1,4 @@
--- A text that begins with another, and texts that are told apart piece by piece.
+-- A text that begins with another, and texts that are told apart part by part.
 use Rattle.std.specs.Prelude.{◌≡◌, ℕ, ◌==◌, Bool, true, false, List, [], ◌∷◌, ◌++◌, length, take, drop, refl}
 use Rattle.std.specs.Str.{bytes_eq}
 use Rattle.std.proofs.Common.{sym, ap, ◌∙◌, arith, take-append-drop}
