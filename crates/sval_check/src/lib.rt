@@ -46,8 +46,8 @@ pub use token_buf::TokenBuf;
 
 /// Checks that a value's calls spell one whole value, and that the value itself doesn't refuse.
 ///
-/// A value that is surely whole ([`is_surely_whole`]) is only asked, without its calls and without memory. That is a
-/// number or a text, say, or a struct whose fields are numbers and texts. Any other value is streamed.
+/// A value that is surely whole ([`is_surely_whole`]) is only asked. That is a number or a text, say, or a struct whose
+/// fields are numbers and texts. Any other value is streamed.
 ///
 /// What has begun and has no end yet is kept in memory of `alloc`, with the name that its end has to say, so a deep
 /// value needs no deep stack of calls. An end says its begin's name where both say or leave out the same of tag, label

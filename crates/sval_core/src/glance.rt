@@ -67,9 +67,10 @@ impl<L: Lending> Stream<L> for Glance {
 
 /// Whether the calls of a value are known to be one whole value. `false` says nothing.
 ///
-/// It asks the value by a stream that takes no begin, and no memory. Numbers, truth values, texts, bytes and documents
-/// of JSON that were read are surely whole. Options, sequences, arrays, maps and structs are, as this crate and `sval`
-/// stream them, if all their parts are. A value that makes more than one call itself isn't.
+/// It asks the value by a stream that takes no begin, and no memory. Numbers, truth values, `char`, `&str`, `String` and
+/// documents of JSON that were read are surely whole. An `Option`, a `Vec`, a slice, an array, a
+/// `BTreeMap` and a struct by `stream_struct` are, if all their parts are. A value that makes a begin or a fragment
+/// itself isn't.
 ///
 /// ```
 /// if !is_surely_whole(&value) {

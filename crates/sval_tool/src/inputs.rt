@@ -168,9 +168,9 @@ fn convert_input<I: Source + Drop, K: Sink>(
 /// # Errors
 ///
 /// [`ConvertError::Unread`] comes where an input wasn't read, [`ConvertError::Document`] where what is due of a document
-/// wasn't written, and [`ConvertError::Line`] where that of a line wasn't, with its number. Exactly what is due of the
-/// inputs before was written then, and of the lines before. The sources behind are left as they were. `bad` has the bytes
-/// of the document or line.
+/// wasn't written, and [`ConvertError::Line`] where that of a line wasn't. Exactly what is due of the inputs before was
+/// written then, and of the lines before. The sources that are left are unchanged. No clause says that `number` is the
+/// line's, nor that `bad` has the bytes of the document or line.
 pub fn convert_all<I: Source + Drop, K: Sink>(
     alloc: Global,
     conversion: &Conversion<'_>,
