@@ -1,47 +1,50 @@
 //! Texts that are read within limits.
 
+use crate::cases::{Case, try_cases};
 use std::alloc::Global;
-use std::process::Abort;
 use std::test::Fail;
 use sval_json_read::{JsonDoc, LimitedError, Limits};
 
-/// A text, how many levels and nodes it may have, and the error of reading it.
-#[derive(Clone, Copy)]
-struct Row {
-    text: &'static str,
-    depth: usize,
-    nodes: usize,
-    error: Option<LimitedError>,
-}
+/// A text, and behind `limits` how many levels and nodes it may have, and whether it is `within` these, or the place of
+/// the byte that goes too `deep` or begins too `many`. Each front is read as without limits up to that byte, and tells
+/// the same error behind it.
+struct Limited;
 
-const fn within(text: &'static str, depth: usize, nodes: usize) -> Row {
-    Row {
-        text,
-        depth,
-        nodes,
-        error: None,
+impl Case for Limited {
+    fn seen(alloc: Global, input: &str, due: &str) -> Result<String, Fail> {
+        let limits = limits_of(due)?;
+        let error = JsonDoc::read_with(alloc, input.as_bytes(), limits).err();
+        if !fronts_agree(alloc, input.as_bytes(), limits, error) {
+            return Ok(String::from_str(alloc, "a front tells another error")?);
+        }
+        let (depth, nodes) = (limits.depth, limits.nodes);
+        match error {
+            None => Ok(format!(in alloc; "limits {depth} {nodes}: within")?),
+            Some(LimitedError::TooDeep { at }) => Ok(format!(in alloc;
+                "limits {depth} {nodes}: deep {at}"
+            )?),
+            Some(LimitedError::TooMany { at }) => Ok(format!(in alloc;
+                "limits {depth} {nodes}: many {at}"
+            )?),
+            Some(LimitedError::Read(error)) => Ok(format!(in alloc;
+                "limits {depth} {nodes}: {error:?}"
+            )?),
+        }
     }
 }
 
-const fn too_deep(text: &'static str, depth: usize, nodes: usize, at: u64) -> Row {
-    Row {
-        text,
-        depth,
-        nodes,
-        error: Some(LimitedError::TooDeep { at }),
-    }
+/// How many levels and nodes a row allows.
+fn limits_of(due: &str) -> Result<Limits, Fail> {
+    let (allowed, _told) = due.split_once(": ").ok_or("a row without a colon")?;
+    let (_word, numbers) = allowed.split_once(' ').ok_or("a row without a word")?;
+    let (depth, nodes) = numbers.split_once(' ').ok_or("a row without two numbers")?;
+    Ok(Limits {
+        depth: depth.parse::<usize>()?,
+        nodes: nodes.parse::<usize>()?,
+    })
 }
 
-const fn too_many(text: &'static str, depth: usize, nodes: usize, at: u64) -> Row {
-    Row {
-        text,
-        depth,
-        nodes,
-        error: Some(LimitedError::TooMany { at }),
-    }
-}
-
-/// The place that an error names.
+/// The place that an error names, or the greatest number.
 fn place_of(error: Option<LimitedError>) -> u64 {
     match error {
         Some(LimitedError::TooDeep { at } | LimitedError::TooMany { at }) => at,
@@ -49,53 +52,68 @@ fn place_of(error: Option<LimitedError>) -> u64 {
     }
 }
 
-/// Each front of the text is read as without limits up to the byte that passes one, and fails there behind it.
-fn try_row(rt: &impl Abort, alloc: Global, row: &Row) -> Result<(), Fail> {
-    let bytes = row.text.as_bytes();
-    let limits = Limits {
-        depth: row.depth,
-        nodes: row.nodes,
-    };
+/// Whether each front is read as without limits up to the byte that passes one, and tells this error behind it.
+fn fronts_agree(alloc: Global, bytes: &[u8], limits: Limits, error: Option<LimitedError>) -> bool {
+    let place = place_of(error);
     for count in 0..=bytes.len() {
         let front = &bytes[..count];
         let seen = JsonDoc::read_with(alloc, front, limits).err();
-        let due = if place_of(row.error) < count as u64 {
-            row.error
+        let due = if place < count as u64 {
+            error
         } else {
             JsonDoc::read(alloc, front).err().map(LimitedError::Read)
         };
-        assert_eq!(rt; seen, due, "of {count} bytes of {}", row.text);
+        if seen != due {
+            return false;
+        }
     }
-    Ok(())
+    true
 }
+
+const LIMITED: &'static str = r#"
+1␄
+= limits 0 1: within
+"[[["␄
+= limits 0 1: within
+1␄
+= limits 0 0: many 0
+ true␄
+= limits 0 0: many 1
+ []␄
+= limits 0 0: deep 1
+[]␄
+= limits 0 0: deep 0
+[]␄
+= limits 1 1: within
+[[],[],{}]␄
+= limits 2 4: within
+[[],[[]]]␄
+= limits 2 9: deep 5
+{"a":{}}␄
+= limits 1 9: deep 5
+["\"[", [{␄
+= limits 2 9: deep 9
+{"a":[1]}␄
+= limits 2 4: within
+{"a":[1]}␄
+= limits 2 3: many 6
+{"a":[1]}␄
+= limits 2 2: many 5
+{"a":[1]}␄
+= limits 2 1: many 1
+[1,2 , -3.5e1]␄
+= limits 1 3: many 7
+[null,false,""]␄
+= limits 1 3: many 12
+[[1],2]␄
+= limits 2 3: many 5
+[1, "2", {"3": null}]␄
+= limits 2 6: within
+"#;
 
 #[test]
 fn limits(rt: HostRuntime) -> Result<(), Fail> {
-    let rows = [
-        within("1", 0, 1),
-        within("\"[[[\"", 0, 1),
-        too_many("1", 0, 0, 0),
-        too_many(" true", 0, 0, 1),
-        too_deep(" []", 0, 0, 1),
-        too_deep("[]", 0, 0, 0),
-        within("[]", 1, 1),
-        within("[[],[],{}]", 2, 4),
-        too_deep("[[],[[]]]", 2, 9, 5),
-        too_deep("{\"a\":{}}", 1, 9, 5),
-        too_deep("[\"\\\"[\", [{", 2, 9, 9),
-        within("{\"a\":[1]}", 2, 4),
-        too_many("{\"a\":[1]}", 2, 3, 6),
-        too_many("{\"a\":[1]}", 2, 2, 5),
-        too_many("{\"a\":[1]}", 2, 1, 1),
-        too_many("[1,2 , -3.5e1]", 1, 3, 7),
-        too_many("[null,false,\"\"]", 1, 3, 12),
-        too_many("[[1],2]", 2, 3, 5),
-        within("[1, \"2\", {\"3\": null}]", 2, 6),
-    ];
-    for row in &rows {
-        try_row(&rt, rt.alloc(), row)?;
-    }
-    Ok(())
+    try_cases::<Limited>(&rt, rt.alloc(), LIMITED)
 }
 
 #[test]
