@@ -1,5 +1,5 @@
-//! Tests of streams and buffers, by their public calls: what checking says, what is written as JSON, and what buffers
-//! capture, join, collect and make again.
+//! Tests of streams and buffers, by their public calls: what checking says, what is written as JSON, what buffers
+//! capture, join, collect and make again, and tapes.
 #![tactic(auto)]
 
 #[cfg(test)]
@@ -18,5 +18,7 @@ mod refused;
 mod replayed;
 #[cfg(test)]
 mod sinks;
+#[cfg(test)]
+mod tapes;
 #[cfg(test)]
 mod written;

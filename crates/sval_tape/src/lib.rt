@@ -61,8 +61,6 @@ mod reading;
 mod step;
 mod streaming;
 mod tape;
-#[cfg(test)]
-mod tests;
 mod writer;
 
 pub use streaming::stream_tape;

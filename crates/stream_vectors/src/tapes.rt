@@ -1,9 +1,9 @@
 //! Tapes of all calls: written by hand, read and written again, cut short and spoiled.
 
-use crate::{Tape, TapeError, TapeWriter, stream_tape};
 use std::test::Fail;
 use sval_core::{Index, Label, Stream, Tag, Value};
 use sval_io::{FixedSink, VecSink};
+use sval_tape::{Tape, TapeError, TapeWriter, stream_tape};
 
 /// Each call at least once, in the order of the numbers.
 const CALLS: [&'static [u8]; 55] = [
