@@ -1,5 +1,4 @@
 pub mod Conversions
-pub mod ConvertedInputs
 pub mod ConvertedLines
 pub mod ErrorTexts
 pub mod LeftTokens
@@ -8,4 +7,3 @@ pub mod PathWords
 pub mod Switches
 pub mod WordReading
 pub mod Words
-pub mod WholeSources

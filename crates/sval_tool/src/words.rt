@@ -46,8 +46,6 @@ pub enum Output {
     Cbor,
     /// A canonical script of calls.
     Script,
-    /// A line of pairs for each object.
-    Logfmt,
 }
 
 /// What the words ask for.
@@ -61,8 +59,6 @@ pub struct Options {
     pub to: Option<Output>,
     /// `--lines` was given.
     pub lines: bool,
-    /// `--beside` was given.
-    pub beside: bool,
     /// `--progress` was given.
     pub progress: bool,
     /// Whether the paths are those of `--keep` or of `--drop`, if one was given.
@@ -160,7 +156,6 @@ fn output_named(word: &str) -> Option<Output>
         "pretty" => Some(Output::Pretty),
         "cbor" => Some(Output::Cbor),
         "script" => Some(Output::Script),
-        "logfmt" => Some(Output::Logfmt),
         _ => None,
     }
 }
@@ -224,7 +219,6 @@ impl WordReader {
                 from: None,
                 to: None,
                 lines: false,
-                beside: false,
                 progress: false,
                 rule: None,
                 paths: Paths::new(alloc),
@@ -346,10 +340,6 @@ impl WordReader {
         match flag {
             Flag::Lines => {
                 self.options.lines = true;
-                Ok(())
-            }
-            Flag::Beside => {
-                self.options.beside = true;
                 Ok(())
             }
             Flag::Progress => {
