@@ -27,6 +27,7 @@ use std::error::Error;
 use std::fmt;
 use sval_core::{Lent, Value};
 use writer::LogfmtWriter;
+pub use writer::is_key;
 
 /// Why a value was not written as a line of pairs.
 #[derive(Clone, Copy, Debug, PartialEq, Eq)]

@@ -57,8 +57,14 @@ impl Model for LogfmtWriter {
     } };
 }
 
-/// Whether a text can be written in front of `=`.
-fn is_key(text: &[u8]) -> bool
+/// Whether a text can be written in front of `=`: it isn't empty, and has no space, control character below the space,
+/// quote or `=`.
+///
+/// ```
+/// assert_eq!(rt; is_key(b"user.name".as_slice()), true);
+/// assert_eq!(rt; is_key(b"user name".as_slice()), false);
+/// ```
+pub fn is_key(text: &[u8]) -> bool
     ensures { result ≡ is_key text.now }
 {
     let fits = |byte: &u8| *byte > b' ' && *byte != b'"' && *byte != b'=';

@@ -76,6 +76,13 @@ impl<I: Source + Drop> Lines<I> {
         &self.line
     }
 
+    /// The bytes of the line that was taken last, without its line feed. It takes no memory.
+    pub fn into_line(self) -> Vec<u8>
+        ensures { result.items ≡ last_line self }
+    {
+        self.line
+    }
+
     /// The number of the line that was taken last. The first is line 1.
     pub fn number(&self) -> u64
         ensures { result ≡ lines_taken self.now }

@@ -2,8 +2,10 @@ pub mod LeftTokens
 pub mod LeftStreams
 pub mod LeftJson
 pub mod LeftWritten
+pub mod LaidOut
 pub mod DocumentCauses
 pub mod LinesConverted
+pub mod InputsConverted
 pub mod Dashes
 pub mod Rows
 pub mod PathTexts

@@ -7,7 +7,7 @@ use Rattle.sval_filter.specs.Paths.{Path}
 use Rattle.sval_filter.specs.declared.paths.Rule.{Rule}
 use Rattle.sval_filter.specs.declared.paths.Rule.TheVariants.{Drop, Keep}
 use Rattle.sval_tool.specs.PathWords.{is_bad_path, path_labels}
-use Rattle.sval_tool.specs.Words.{Asked, Part, Turned, Given, Named, Wrong, asked_for, file_in, first_of, first_stop, input_in, input_named, is_lines, is_other, is_progress, once, output_in, output_named, path_in, pointer_in, pointer_named, rule_of_part, stop_at, stop_at_path, stop_beside, stop_within, unless}
+use Rattle.sval_tool.specs.Words.{Asked, Part, Turned, Given, Named, Wrong, asked_for, file_in, first_of, first_stop, input_in, input_named, is_beside, is_lines, is_other, is_progress, once, output_in, output_named, path_in, pointer_in, pointer_named, rule_of_part, stop_at, stop_at_path, stop_beside, stop_within, unless}
 use Rattle.sval_tool.specs.WordReading.{asked_with_part}
 use Rattle.sval_tool.specs.declared.switch.Flag.TheVariants as flag
 use Rattle.sval_tool.specs.declared.switch.Setting.{Setting}
@@ -74,12 +74,13 @@ beside_none : {X : Type 0} (at : ℕ) (before : Option X) (other : Option Stop) 
 beside_none at (Some x) other e = cc
 beside_none at None other e = e
 
-abbrev asked_of : Command → Option Input → Option Output → Bool → Bool → Option Rule → List Path → Option (List ℕ) → List (List ℕ) → Asked
-asked_of what from to lines progress rule paths pointer files = record {
+abbrev asked_of : Command → Option Input → Option Output → Bool → Bool → Bool → Option Rule → List Path → Option (List ℕ) → List (List ℕ) → Asked
+asked_of what from to lines beside progress rule paths pointer files = record {
   command = what;
   from = from;
   to = to;
   lines = lines;
+  beside = beside;
   progress = progress;
   rule = rule;
   paths = paths;
@@ -87,9 +88,9 @@ asked_of what from to lines progress rule paths pointer files = record {
   files = files;
 }
 
-asked_same : (what : Command) {f g : Option Input} {t u : Option Output} {l m h k : Bool} {r s : Option Rule} {p q : List Path} {i j : Option (List ℕ)} {x y : List (List ℕ)}
-    → f ≡ g → t ≡ u → l ≡ m → h ≡ k → r ≡ s → p ≡ q → i ≡ j → x ≡ y → asked_of what f t l h r p i x ≡ asked_of what g u m k s q j y
-asked_same what a b c d e n o v = rw (a, b, c, d, e, n, o, v) refl
+asked_same : (what : Command) {f g : Option Input} {t u : Option Output} {l m v w h k : Bool} {r s : Option Rule} {p q : List Path} {i j : Option (List ℕ)} {x y : List (List ℕ)}
+    → f ≡ g → t ≡ u → l ≡ m → v ≡ w → h ≡ k → r ≡ s → p ≡ q → i ≡ j → x ≡ y → asked_of what f t l v h r p i x ≡ asked_of what g u m w k s q j y
+asked_same what a b c z d e n o v = rw (a, b, c, z, d, e, n, o, v) refl
 
 module _ (what : Command) (before : List Part) where
   -- what is asked for with a part more
@@ -100,6 +101,19 @@ module _ (what : Command) (before : List Part) where
       (ap (λ (xs : List Input). first_of xs) (sym (kept input_in before part refl)))
       (ap (λ (xs : List Output). first_of xs) (sym (kept output_in before part refl)))
       (sym (any_more is_lines before part refl))
+      (sym (any_kept is_beside before part refl))
+      (sym (any_kept is_progress before part refl))
+      (ap (λ (xs : List Rule). first_of xs) (sym (kept rule_of_part before part refl)))
+      (sym (kept path_in before part refl))
+      (ap (λ (xs : List (List ℕ)). first_of xs) (sym (kept pointer_in before part refl)))
+      (sym (kept file_in before part refl))
+  asked_more (Turned flag.Beside) none =
+      let part : Part = Turned flag.Beside in
+      asked_same what
+      (ap (λ (xs : List Input). first_of xs) (sym (kept input_in before part refl)))
+      (ap (λ (xs : List Output). first_of xs) (sym (kept output_in before part refl)))
+      (sym (any_kept is_lines before part refl))
+      (sym (any_more is_beside before part refl))
       (sym (any_kept is_progress before part refl))
       (ap (λ (xs : List Rule). first_of xs) (sym (kept rule_of_part before part refl)))
       (sym (kept path_in before part refl))
@@ -111,6 +125,7 @@ module _ (what : Command) (before : List Part) where
       (ap (λ (xs : List Input). first_of xs) (sym (kept input_in before part refl)))
       (ap (λ (xs : List Output). first_of xs) (sym (kept output_in before part refl)))
       (sym (any_kept is_lines before part refl))
+      (sym (any_kept is_beside before part refl))
       (sym (any_more is_progress before part refl))
       (ap (λ (xs : List Rule). first_of xs) (sym (kept rule_of_part before part refl)))
       (sym (kept path_in before part refl))
@@ -127,6 +142,7 @@ module _ (what : Command) (before : List Part) where
       (sym it)
       (ap (λ (xs : List Output). first_of xs) (sym (kept output_in before part refl)))
       (sym (any_kept is_lines before part refl))
+      (sym (any_kept is_beside before part refl))
       (sym (any_kept is_progress before part refl))
       (ap (λ (xs : List Rule). first_of xs) (sym (kept rule_of_part before part refl)))
       (sym (kept path_in before part refl))
@@ -141,6 +157,7 @@ module _ (what : Command) (before : List Part) where
       (ap (λ (xs : List Input). first_of xs) (sym (kept input_in before part refl)))
       (sym it)
       (sym (any_kept is_lines before part refl))
+      (sym (any_kept is_beside before part refl))
       (sym (any_kept is_progress before part refl))
       (ap (λ (xs : List Rule). first_of xs) (sym (kept rule_of_part before part refl)))
       (sym (kept path_in before part refl))
@@ -155,6 +172,7 @@ module _ (what : Command) (before : List Part) where
       (ap (λ (xs : List Input). first_of xs) (sym (kept input_in before part refl)))
       (ap (λ (xs : List Output). first_of xs) (sym (kept output_in before part refl)))
       (sym (any_kept is_lines before part refl))
+      (sym (any_kept is_beside before part refl))
       (sym (any_kept is_progress before part refl))
       (sym it)
       (sym (more path_in before part (path_labels word) refl))
@@ -169,6 +187,7 @@ module _ (what : Command) (before : List Part) where
       (ap (λ (xs : List Input). first_of xs) (sym (kept input_in before part refl)))
       (ap (λ (xs : List Output). first_of xs) (sym (kept output_in before part refl)))
       (sym (any_kept is_lines before part refl))
+      (sym (any_kept is_beside before part refl))
       (sym (any_kept is_progress before part refl))
       (sym it)
       (sym (more path_in before part (path_labels word) refl))
@@ -184,6 +203,7 @@ module _ (what : Command) (before : List Part) where
       (ap (λ (xs : List Input). first_of xs) (sym (kept input_in before part refl)))
       (ap (λ (xs : List Output). first_of xs) (sym (kept output_in before part refl)))
       (sym (any_kept is_lines before part refl))
+      (sym (any_kept is_beside before part refl))
       (sym (any_kept is_progress before part refl))
       (ap (λ (xs : List Rule). first_of xs) (sym (kept rule_of_part before part refl)))
       (sym (kept path_in before part refl))
@@ -195,6 +215,7 @@ module _ (what : Command) (before : List Part) where
       (ap (λ (xs : List Input). first_of xs) (sym (kept input_in before part refl)))
       (ap (λ (xs : List Output). first_of xs) (sym (kept output_in before part refl)))
       (sym (any_kept is_lines before part refl))
+      (sym (any_kept is_beside before part refl))
       (sym (any_kept is_progress before part refl))
       (ap (λ (xs : List Rule). first_of xs) (sym (kept rule_of_part before part refl)))
       (sym (kept path_in before part refl))

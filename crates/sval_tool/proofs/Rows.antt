@@ -6,7 +6,7 @@ use Rattle.sval_tool.specs.declared.switch.OptionRow.{OptionRow}
 use Rattle.sval_tool.specs.Switches.{SeenRow, seen_row, option_name_at, option_rows, row_named, row_shortened}
 
 -- how many rows there are
-pub rows_counted : (rows : List OptionRow) → map seen_row rows ≡ option_rows → length rows ≡ 9
+pub rows_counted : (rows : List OptionRow) → map seen_row rows ≡ option_rows → length rows ≡ 10
 unfolding option_rows
 rows_counted rows seen = sym (length-map rows seen_row) ∙ ap length seen
 

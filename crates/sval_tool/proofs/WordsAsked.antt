@@ -24,6 +24,7 @@ ended asked = record { asked = asked; due = None; ended = true }
 -- a part leaves the command as it is
 same_command : (asked : Asked) (part : Part) → (asked_with_part asked part).command ≡ asked.command
 same_command asked (Turned flag.Lines) = refl
+same_command asked (Turned flag.Beside) = refl
 same_command asked (Turned flag.Progress) = refl
 same_command asked (Turned flag.Help) = refl
 same_command asked (Turned flag.Version) = refl

@@ -1,5 +1,5 @@
 -- What is due of a document, and what writing it leaves of a sink.
-use Rattle.std.specs.Prelude.{◌≡◌, ◌⊎◌, ℕ, List, Result, Ok, Err, IsUtf8}
+use Rattle.std.specs.Prelude.{◌≡◌, ◌⊎◌, ℕ, List, [], ◌∷◌, ◌++◌, Result, Ok, Err, IsUtf8}
 use Rattle.std.specs.Str.{IsValidUpTo}
 use Rattle.sval_core.specs.Trees.{Tree}
 use Rattle.sval_io.specs.Sinks.{Told, IsSteady, AppendsFront, WritesWhole, WritesFront}
@@ -10,6 +10,7 @@ use Rattle.sval_filter.specs.Paths.{Path}
 use Rattle.sval_filter.specs.declared.paths.Rule.{Rule}
 use Rattle.sval_filter.specs.Pruned.{pruned}
 use Rattle.sval_filter.specs.Verdict.{IsJson}
+use Rattle.sval_pretty.specs.Layout.{pretty}
 use Rattle.sval_json_read.specs.Documents.{IsBadJson}
 use Rattle.sval_json_read.specs.ReadErrors.{KeepsSome}
 use Rattle.sval_json_read.specs.Trees.{tree_of}
@@ -23,9 +24,16 @@ use Rattle.sval_tool.specs.declared.error.DocumentError.TheVariants as document
 
 -- ---- what is due
 
+-- the layout of a tree's JSON, which denotes what the JSON denotes (sval_pretty's law DenotesTheSame)
+pub record IsLaidOutJson (text : List ℕ) (tree : Tree) : Type 0 where
+  pub json : List ℕ
+  pub is : IsJson json tree
+  pub laid : text ≡ pretty json
+
 -- the text of a tree, as the target says
 abbrev pub IsTextOf : Target → List ℕ → Tree → Type 0
 IsTextOf target.Json text tree = IsJson text tree
+IsTextOf target.Pretty text tree = IsLaidOutJson text tree
 
 -- the bytes denote a value, and this is the text of what the rule and the paths leave of its tree
 pub record IsTextLeft (rule : Rule) (paths : List Path) (aim : Target) (bytes text : List ℕ) : Type 0 where
@@ -36,6 +44,10 @@ pub record IsTextLeft (rule : Rule) (paths : List Path) (aim : Target) (bytes te
 -- the same of a conversion: the text that is due of a document
 abbrev pub IsDocumentDue : Conversion → List ℕ → List ℕ → Type 0
 IsDocumentDue c bytes text = IsTextLeft c.rule c.paths.now c.target bytes text
+
+-- and with a line feed behind it
+abbrev pub IsFedDue : Conversion → List ℕ → List ℕ → Type 0
+IsFedDue c bytes text = (document : List ℕ) × IsDocumentDue c bytes document × (text ≡ document ++ (10 ∷ []))
 
 -- ---- what writing it leaves of a sink
 
@@ -50,11 +62,15 @@ abbrev pub WritesParts : Result (Unit {0}) SinkError → Told → List ℕ → T
 WritesParts (Ok done) old text new = WritesWhole old text new
 WritesParts (Err why) old text new = WritesFront why old text new ⊎ PausesIn why old text new
 
--- the JSON of what is left of a document was written, or a first part of it
-pub record WritesLeftJson (rule : Rule) (paths : List Path) (bytes : List ℕ) (result : Result (Unit {0}) SinkError) (old new : Told) : Type 0 where
+-- the text of what is left of a document was written, or a first part of it
+pub record WritesLeft (rule : Rule) (paths : List Path) (aim : Target) (bytes : List ℕ) (result : Result (Unit {0}) SinkError) (old new : Told) : Type 0 where
   pub text : List ℕ
-  pub due : IsTextLeft rule paths target.Json bytes text
+  pub due : IsTextLeft rule paths aim bytes text
   pub writes : WritesParts result old text new
+
+-- the same of its JSON
+abbrev pub WritesLeftJson : Rule → List Path → List ℕ → Result (Unit {0}) SinkError → Told → Told → Type 0
+WritesLeftJson rule paths bytes result old new = WritesLeft rule paths target.Json bytes result old new
 
 -- exactly a text that is due was written
 pub record WritesDue (Due : List ℕ → Type 0) (old new : Told) : Type 0 where

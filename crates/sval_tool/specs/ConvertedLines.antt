@@ -3,7 +3,7 @@ use Rattle.std.specs.Prelude.{◌≡◌, ℕ, suc, true, false, List, [], ◌∷
 use Rattle.sval_io.specs.Sinks.{Told, WritesWhole}
 use Rattle.sval_io.specs.Sources.{Supply}
 use Rattle.sval_lines.specs.SourceLines.{has_no_feed, EndsBefore, TakesLine, TakesPart, HasLineCause}
-use Rattle.sval_tool.specs.Conversions.{IsDocumentDue, WritesDue, IsDocumentCause}
+use Rattle.sval_tool.specs.Conversions.{IsFedDue, WritesDue, IsDocumentCause}
 use Rattle.sval_tool.specs.declared.convert.Conversion.{Conversion}
 use Rattle.sval_tool.specs.declared.error.DocumentError.{DocumentError}
 use Rattle.sval_tool.specs.declared.lines.LinesError.{LinesError}
@@ -14,7 +14,7 @@ use Rattle.sval_tool.specs.declared.lines.LinesError.TheVariants.{Unread, Line}
 -- of an empty line nothing, and else the text that is due of its document, and a line feed
 abbrev pub IsLineDue : Conversion → List ℕ → List ℕ → Type 0
 IsLineDue c [] text = text ≡ []
-IsLineDue c (byte ∷ line) text = (document : List ℕ) × IsDocumentDue c (byte ∷ line) document × (text ≡ document ++ (10 ∷ []))
+IsLineDue c (byte ∷ line) text = IsFedDue c (byte ∷ line) text
 
 -- AreDue c bytes text rest count: so many lines stand at the front of the bytes, this is the text that is due of them, and the rest follows
 pub data AreDue (c : Conversion) (bytes : List ℕ) : List ℕ → List ℕ → ℕ → Type 0 where

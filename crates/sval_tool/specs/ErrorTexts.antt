@@ -4,6 +4,8 @@ use Rattle.std.specs.Fmt.{decimal}
 use Rattle.sval_lines.specs.ErrorTexts.{line_error_text}
 use Rattle.sval_tool.specs.declared.error.DocumentError.{DocumentError}
 use Rattle.sval_tool.specs.declared.error.DocumentError.TheVariants as document
+use Rattle.sval_tool.specs.declared.inputs.ConvertError.{ConvertError}
+use Rattle.sval_tool.specs.declared.inputs.ConvertError.TheVariants as convert
 use Rattle.sval_tool.specs.declared.lines.LinesError.{LinesError}
 use Rattle.sval_tool.specs.declared.lines.LinesError.TheVariants.{Unread, Line}
 
@@ -18,3 +20,9 @@ document_error_text document.NoMemory = codes "out of memory"
 abbrev pub lines_error_text : LinesError → List ℕ
 lines_error_text (Unread why) = line_error_text why
 lines_error_text (Line number why) = codes "line " ++ decimal number ++ codes ": " ++ document_error_text why
+
+-- what is said of inputs
+abbrev pub convert_error_text : ConvertError → List ℕ
+convert_error_text (convert.Unread why) = line_error_text why
+convert_error_text (convert.Document why) = document_error_text why
+convert_error_text (convert.Line number why) = codes "line " ++ decimal number ++ codes ": " ++ document_error_text why

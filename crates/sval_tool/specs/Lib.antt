@@ -1,4 +1,5 @@
 pub mod Conversions
+pub mod ConvertedInputs
 pub mod ConvertedLines
 pub mod ErrorTexts
 pub mod LeftTokens
@@ -7,3 +8,4 @@ pub mod PathWords
 pub mod Switches
 pub mod WordReading
 pub mod Words
+pub mod WholeSources

@@ -29,6 +29,7 @@ option_rows =
     row (switch.Setting setting.Keep) (codes "keep") [] false ∷
     row (switch.Setting setting.Drop) (codes "drop") [] false ∷
     row (switch.Setting setting.Pointer) (codes "pointer") [] false ∷
+    row (switch.Flag flag.Beside) (codes "beside") [] false ∷
     row (switch.Flag flag.Progress) (codes "progress") [] true ∷
     row (switch.Flag flag.Help) (codes "help") (codes "h") true ∷
     row (switch.Flag flag.Version) (codes "version") (codes "V") true ∷
@@ -52,9 +53,10 @@ option_row (switch.Flag flag.Lines) = 2
 option_row (switch.Setting setting.Keep) = 3
 option_row (switch.Setting setting.Drop) = 4
 option_row (switch.Setting setting.Pointer) = 5
-option_row (switch.Flag flag.Progress) = 6
-option_row (switch.Flag flag.Help) = 7
-option_row (switch.Flag flag.Version) = 8
+option_row (switch.Flag flag.Beside) = 6
+option_row (switch.Flag flag.Progress) = 7
+option_row (switch.Flag flag.Help) = 8
+option_row (switch.Flag flag.Version) = 9
 
 -- the name in the row at an index, or this past the last row
 abbrev pub option_name_at : List ℕ → ℕ → List SeenRow → List ℕ

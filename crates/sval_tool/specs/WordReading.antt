@@ -34,6 +34,7 @@ asked_with_path rule asked word = record asked { rule = Some rule; paths = asked
 -- what is asked for with a part more that ends no reading
 abbrev pub asked_with_part : Asked → Part → Asked
 asked_with_part asked (Turned flag.Lines) = record asked { lines = true }
+asked_with_part asked (Turned flag.Beside) = record asked { beside = true }
 asked_with_part asked (Turned flag.Progress) = record asked { progress = true }
 asked_with_part asked (Turned _) = asked
 asked_with_part asked (Given at setting.From word) = record asked { from = input_named word }

@@ -30,6 +30,7 @@ pub record Asked : Type 0 where
   pub from : Option Input
   pub to : Option Output
   pub lines : Bool
+  pub beside : Bool
   pub progress : Bool
   pub rule : Option Rule
   pub paths : List Path
@@ -43,6 +44,7 @@ asked_by_options options = record {
   from = options.from;
   to = options.to;
   lines = options.lines;
+  beside = options.beside;
   progress = options.progress;
   rule = options.rule;
   paths = options.paths;
@@ -149,7 +151,8 @@ output_named word =
     if bytes_eq word (codes "json") then Some output.Json
     else if bytes_eq word (codes "pretty") then Some output.Pretty
     else if bytes_eq word (codes "cbor") then Some output.Cbor
-    else if bytes_eq word (codes "script") then Some output.Script else None
+    else if bytes_eq word (codes "script") then Some output.Script
+    else if bytes_eq word (codes "logfmt") then Some output.Logfmt else None
 
 -- a JSON Pointer (RFC 6901, section 3): it is empty, or begins with `/`
 abbrev pub pointer_named : List ℕ → Option (List ℕ)
@@ -188,6 +191,11 @@ abbrev pub is_lines : Part → Bool
 is_lines (Turned flag.Lines) = true
 is_lines _ = false
 
+-- a part is `--beside`
+abbrev pub is_beside : Part → Bool
+is_beside (Turned flag.Beside) = true
+is_beside _ = false
+
 -- a part is `--progress`
 abbrev pub is_progress : Part → Bool
 is_progress (Turned flag.Progress) = true
@@ -205,6 +213,7 @@ asked_for what parts = record {
   from = first_of (filter_map input_in parts);
   to = first_of (filter_map output_in parts);
   lines = list_any is_lines parts;
+  beside = list_any is_beside parts;
   progress = list_any is_progress parts;
   rule = first_of (filter_map rule_of_part parts);
   paths = filter_map path_in parts;
@@ -240,6 +249,7 @@ stop_beside at None other = other
 -- why a part ends the reading, if it does, where those before it ask for this
 abbrev pub stop_at : Asked → Part → Option Stop
 stop_at before (Turned flag.Lines) = None
+stop_at before (Turned flag.Beside) = None
 stop_at before (Turned flag.Progress) = None
 stop_at before (Turned flag.Help) = Some stop.Help
 stop_at before (Turned flag.Version) = Some stop.Version

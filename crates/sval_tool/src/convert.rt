@@ -4,21 +4,24 @@ ghost use Rattle.std.specs.Prelude.{◌≡◌, ℕ, List, [], OnOk, IfErr};
 ghost use Rattle.sval_filter.specs.declared.paths.Rule.TheVariants as by;
 ghost use Rattle.sval_json_read.specs.Documents.{IsDocument};
 ghost use Rattle.sval_tool.specs.Passing.{IsSinkStop, sink_error_of};
-ghost use Rattle.sval_tool.specs.Conversions.{WritesLeftJson, IsDocumentDue, WritesDue, IsDocumentCause};
+ghost use Rattle.sval_tool.specs.Conversions.{WritesLeft, WritesLeftJson, IsDocumentDue, IsFedDue, WritesDue, IsDocumentCause};
 
 use crate::error::DocumentError;
 use crate::left::{Halt, stream_left};
 use std::alloc::Global;
 use sval_filter::{Paths, Rule};
-use sval_io::{Sink, SinkError};
+use sval_io::{Sink, SinkError, VecSink, write_all};
 use sval_json::{ErrorKind, JsonWriter, Variants, stream_to_io_write};
 use sval_json_read::JsonDoc;
+use sval_pretty::write_pretty;
 
 /// What a document is written as.
 #[derive(Clone, Copy, Debug, PartialEq, Eq)]
 pub enum Target {
     /// JSON without white space.
     Json,
+    /// JSON with a line for each element and pair.
+    Pretty,
 }
 
 /// What is made of a document: what a rule and paths leave of its value is written as the target says.
@@ -83,6 +86,47 @@ fn stop_of(why: Halt, kind: ErrorKind) -> SinkError
     }
 }
 
+/// Writes the JSON of what a rule and paths leave of a document, laid out. The JSON is made in memory first.
+fn write_laid_out<K: Sink>(
+    alloc: Global,
+    rule: Rule,
+    paths: &Paths,
+    doc: &JsonDoc<'_>,
+    out: &mut K,
+) -> Result<(), SinkError>
+    requires { (input : List ℕ) × IsDocument input doc.now }
+    ensures { (input : List ℕ) → IsDocument input doc.now
+        → WritesLeft rule paths.now Target.Pretty input result (K.told out.old) (K.told out.new) }
+{
+    let mut json = VecSink::new(alloc);
+    match write_left(alloc, rule, paths, doc, &mut json) {
+        Ok(()) => write_pretty(out, json.as_slice()),
+        Err(why) => Err(why),
+    }
+}
+
+/// Writes what is due of a document that was read.
+fn write_asked<K: Sink>(
+    alloc: Global,
+    conversion: &Conversion<'_>,
+    doc: &JsonDoc<'_>,
+    out: &mut K,
+) -> Result<(), SinkError>
+    requires { (input : List ℕ) × IsDocument input doc.now }
+    ensures { (input : List ℕ) → IsDocument input doc.now → WritesLeft conversion.now.rule
+        conversion.now.paths.now conversion.now.target input result (K.told out.old) (K.told out.new) }
+{
+    let Conversion {
+        rule,
+        paths,
+        target,
+    } = *conversion;
+    match target {
+        Target::Json => write_left(alloc, rule, paths, doc, out),
+        Target::Pretty => write_laid_out(alloc, rule, paths, doc, out),
+    }
+}
+
 /// Converts one document, and writes it to a sink.
 ///
 /// The bytes are read as JSON (RFC 8259). What the rule and the paths leave of the value is written as it is found, so
@@ -115,5 +159,20 @@ pub fn write_document<K: Sink>(
         IsDocumentCause K.told (IsDocumentDue conversion.now bytes.now) bytes.now why out.old out.new) }
 {
     let doc = JsonDoc::read(alloc, bytes)?;
-    Ok(write_left(alloc, conversion.rule, conversion.paths, &doc, out)?)
+    Ok(write_asked(alloc, conversion, &doc, out)?)
+}
+
+/// Converts one document, and writes a line feed behind it.
+pub(crate) fn write_fed<K: Sink>(
+    alloc: Global,
+    conversion: &Conversion<'_>,
+    bytes: &[u8],
+    out: &mut K,
+) -> Result<(), DocumentError>
+    ensures ok { OnOk result (WritesDue (IsFedDue conversion.now bytes.now) (K.told out.old) (K.told out.new)) }
+    ensures err { IfErr result (λ why.
+        IsDocumentCause K.told (IsFedDue conversion.now bytes.now) bytes.now why out.old out.new) }
+{
+    write_document(alloc, conversion, bytes, out)?;
+    Ok(write_all(out, b"\n")?)
 }

@@ -7,12 +7,12 @@ ghost use Rattle.sval_tool.specs.Conversions.{WritesDue, IsDocumentCause};
 ghost use Rattle.sval_tool.specs.ConvertedLines.{IsLineDue};
 ghost use Rattle.sval_tool.specs.ConvertedLines.{ConvertsOne, ConvertsLines, HasLinesCause};
 
-use crate::convert::{Conversion, write_document};
+use crate::convert::{Conversion, write_fed};
 use crate::error::DocumentError;
 use std::alloc::Global;
 use std::error::Error;
 use std::fmt;
-use sval_io::{Sink, Source, write_all};
+use sval_io::{Sink, Source};
 use sval_lines::{LineError, Lines};
 
 /// Why lines weren't converted.
@@ -65,8 +65,7 @@ fn write_line<K: Sink>(
     if line.is_empty() {
         return Ok(());
     }
-    write_document(alloc, conversion, line, out)?;
-    Ok(write_all(out, b"\n")?)
+    write_fed(alloc, conversion, line, out)
 }
 
 /// Takes the next line and writes what is due of it. `false` means that there is none.

@@ -8,6 +8,8 @@ ghost use Rattle.sval_tool.specs.Switches.{option_rows, seen_row, row_named, row
 pub enum Flag {
     /// Each line is a value of its own.
     Lines,
+    /// Variants are written beside their names.
+    Beside,
     /// How far a file is read is told.
     Progress,
     /// The help is asked for.
@@ -59,7 +61,7 @@ pub struct OptionRow {
 
 /// The options, in the order of the help. The parser takes their names from here, the help its lines, and
 /// `bench/cli_pages` the man page and the completions.
-pub static OPTIONS: [OptionRow; 9] = [
+pub static OPTIONS: [OptionRow; 10] = [
     OptionRow {
         switch: Switch::Setting(Setting::From),
         name: "from",
@@ -74,7 +76,7 @@ pub static OPTIONS: [OptionRow; 9] = [
         short: "",
         checks: false,
         argument: "FORMAT",
-        help: "write json, pretty, cbor or script (without it json)",
+        help: "write json, pretty, cbor, script or logfmt (without it json)",
     },
     OptionRow {
         switch: Switch::Flag(Flag::Lines),
@@ -109,6 +111,14 @@ pub static OPTIONS: [OptionRow; 9] = [
         help: "write the value that this JSON Pointer names, as /user/tags/0",
     },
     OptionRow {
+        switch: Switch::Flag(Flag::Beside),
+        name: "beside",
+        short: "",
+        checks: false,
+        argument: "",
+        help: "in JSON write a variant of an enum beside its name, not inside; only scripts have variants",
+    },
+    OptionRow {
         switch: Switch::Flag(Flag::Progress),
         name: "progress",
         short: "",
@@ -136,7 +146,7 @@ pub static OPTIONS: [OptionRow; 9] = [
 
 /// The table, whose rows are known by what the parser reads of them.
 #[tactic(auto, unfolding(crate::specs::Switches::option_rows))]
-pub(crate) fn rows() -> &'static [OptionRow; 9]
+pub(crate) fn rows() -> &'static [OptionRow; 10]
     ensures { map seen_row result.now ≡ option_rows }
 {
     &OPTIONS
@@ -171,7 +181,7 @@ pub(crate) fn row_shortened(letters: &str) -> Option<OptionRow>
 /// The index of an option in the table.
 fn place_of(switch: Switch) -> usize
     ensures place { result ≡ option_row switch }
-    ensures within { result < 9 }
+    ensures within { result < 10 }
 {
     match switch {
         Switch::Setting(Setting::From) => 0,
@@ -180,9 +190,10 @@ fn place_of(switch: Switch) -> usize
         Switch::Setting(Setting::Keep) => 3,
         Switch::Setting(Setting::Drop) => 4,
         Switch::Setting(Setting::Pointer) => 5,
-        Switch::Flag(Flag::Progress) => 6,
-        Switch::Flag(Flag::Help) => 7,
-        Switch::Flag(Flag::Version) => 8,
+        Switch::Flag(Flag::Beside) => 6,
+        Switch::Flag(Flag::Progress) => 7,
+        Switch::Flag(Flag::Help) => 8,
+        Switch::Flag(Flag::Version) => 9,
     }
 }
 

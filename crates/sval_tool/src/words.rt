@@ -46,6 +46,8 @@ pub enum Output {
     Cbor,
     /// A canonical script of calls.
     Script,
+    /// A line of pairs for each object.
+    Logfmt,
 }
 
 /// What the words ask for.
@@ -59,6 +61,8 @@ pub struct Options {
     pub to: Option<Output>,
     /// `--lines` was given.
     pub lines: bool,
+    /// `--beside` was given.
+    pub beside: bool,
     /// `--progress` was given.
     pub progress: bool,
     /// Whether the paths are those of `--keep` or of `--drop`, if one was given.
@@ -156,6 +160,7 @@ fn output_named(word: &str) -> Option<Output>
         "pretty" => Some(Output::Pretty),
         "cbor" => Some(Output::Cbor),
         "script" => Some(Output::Script),
+        "logfmt" => Some(Output::Logfmt),
         _ => None,
     }
 }
@@ -219,6 +224,7 @@ impl WordReader {
                 from: None,
                 to: None,
                 lines: false,
+                beside: false,
                 progress: false,
                 rule: None,
                 paths: Paths::new(alloc),
@@ -340,6 +346,10 @@ impl WordReader {
         match flag {
             Flag::Lines => {
                 self.options.lines = true;
+                Ok(())
+            }
+            Flag::Beside => {
+                self.options.beside = true;
                 Ok(())
             }
             Flag::Progress => {

@@ -4,63 +4,12 @@ use crate::cbor::{check_items, convert_item, convert_items};
 use crate::script::{check_script, convert_script};
 use crate::trouble::{Trouble, Unwritten, of_document};
 use crate::values::{write_asked, write_pointed};
-use crate::whole::read_whole;
-use crate::words::{Input, Options, Output};
+use crate::words::{Input, Options};
 use std::alloc::Global;
-use sval_filter::Rule;
-use sval_io::{Sink, Source, VecSink, write_all};
+use sval_io::{Sink, Source};
 use sval_json_read::JsonDoc;
 use sval_lines::Lines;
-use sval_pretty::write_pretty;
-use sval_tool::{Conversion, DocumentError, LinesError, Target, write_document, write_lines};
-
-/// What is made of each document.
-fn conversion(options: &Options) -> Conversion<'_> {
-    Conversion {
-        rule: options.rule.unwrap_or(Rule::Drop),
-        paths: &options.paths,
-        target: Target::Json,
-    }
-}
-
-/// Writes the JSON that is due of a document, laid out.
-fn lay_out<K: Sink>(
-    alloc: Global,
-    options: &Options,
-    bytes: &[u8],
-    out: &mut K,
-) -> Result<(), DocumentError> {
-    let mut json = VecSink::new(alloc);
-    write_document(alloc, &conversion(options), bytes, &mut json)?;
-    Ok(write_pretty(out, json.as_slice())?)
-}
-
-/// Writes what is due of a text of JSON, which is a whole input or the line with this number.
-fn write_one<K: Sink>(
-    alloc: Global,
-    options: &Options,
-    name: &str,
-    bytes: &[u8],
-    number: Option<u64>,
-    out: &mut K,
-) -> Result<(), Trouble> {
-    if needs_document(options) {
-        return rewrite_one(alloc, options, name, bytes, number, out);
-    }
-    let written = match options.to {
-        Some(Output::Pretty) => lay_out(alloc, options, bytes, out),
-        _ => write_document(alloc, &conversion(options), bytes, out),
-    };
-    match written.and_then(|_| Ok(write_all(out, b"\n".as_slice())?)) {
-        Ok(()) => Ok(()),
-        Err(why) => Err(of_document(alloc, why, bytes, name, number)),
-    }
-}
-
-/// Whether a document is read before something of it is written: for a form that isn't JSON, and for a pointer.
-fn needs_document(options: &Options) -> bool {
-    options.pointer.is_some() || matches!(options.to, Some(Output::Cbor | Output::Script))
-}
+use sval_tool::{DocumentError, read_whole};
 
 /// Writes what is due of a document.
 fn rewrite<K: Sink>(
@@ -70,7 +19,7 @@ fn rewrite<K: Sink>(
     out: &mut K,
 ) -> Result<(), Unwritten> {
     match &options.pointer {
-        Some(pointer) => write_pointed(alloc, options.to, pointer.as_str(), doc, out),
+        Some(pointer) => write_pointed(alloc, options, pointer.as_str(), doc, out),
         None => write_asked(alloc, options, doc, out),
     }
 }
@@ -90,24 +39,6 @@ fn rewrite_one<K: Sink>(
     }
 }
 
-/// Reads lines of JSON, and writes the JSON that is due of each.
-fn convert_lines<I: Source + Drop, K: Sink>(
-    alloc: Global,
-    options: &Options,
-    name: &str,
-    source: I,
-    out: &mut K,
-) -> Result<(), Trouble> {
-    let mut lines = Lines::new(alloc, source)?;
-    match write_lines(alloc, &conversion(options), &mut lines, out) {
-        Ok(()) => Ok(()),
-        Err(LinesError::Unread(why)) => Err(Trouble::from(why)),
-        Err(LinesError::Line { number, why }) => {
-            Err(of_document(alloc, why, lines.line(), name, Some(number)))
-        }
-    }
-}
-
 /// Reads lines of JSON, and writes each in a form that isn't plain JSON.
 fn reform_lines<I: Source + Drop, K: Sink>(
     alloc: Global,
@@ -122,12 +53,12 @@ fn reform_lines<I: Source + Drop, K: Sink>(
             break;
         }
         let number = lines.number();
-        write_one(alloc, options, name, lines.line(), Some(number), out)?;
+        rewrite_one(alloc, options, name, lines.line(), Some(number), out)?;
     }
     Ok(())
 }
 
-/// Reads an input, and writes what is due of it.
+/// Reads an input that [`convert_all`](sval_tool::convert_all) doesn't convert, and writes what is due of it.
 pub(crate) fn convert_input<I: Source + Drop, K: Sink>(
     alloc: Global,
     options: &Options,
@@ -137,14 +68,11 @@ pub(crate) fn convert_input<I: Source + Drop, K: Sink>(
 ) -> Result<(), Trouble> {
     let from = options.from.unwrap_or(Input::Json);
     if options.lines && from == Input::Json {
-        if needs_document(options) || options.to == Some(Output::Pretty) {
-            return reform_lines(alloc, options, name, source, out);
-        }
-        return convert_lines(alloc, options, name, source, out);
+        return reform_lines(alloc, options, name, source, out);
     }
     let bytes = read_whole(alloc, &mut source)?;
     match from {
-        Input::Json => write_one(alloc, options, name, &bytes, None, out),
+        Input::Json => rewrite_one(alloc, options, name, &bytes, None, out),
         Input::Cbor if options.lines => convert_items(alloc, options, name, &bytes, out),
         Input::Cbor => convert_item(alloc, options, name, &bytes, out),
         Input::Script => convert_script(alloc, options, name, &bytes, out),

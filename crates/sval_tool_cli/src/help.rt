@@ -31,6 +31,7 @@ examples:
   sval --pointer /user/tags/0 a.json    write a part of a value
   sval --lines --to cbor log.json       write a CBOR sequence
   sval --to script event.json           write the calls of a value
+  sval --lines --to logfmt log.json     write each object as a line of logfmt
   sval check --lines log.json           find the first bad line
 
 exit status:

@@ -2,11 +2,11 @@
 
 use crate::convert::{check_input, convert_input};
 use crate::end::End;
-use crate::noted::NotedReader;
-use crate::progress::Progress;
+use crate::named::{Failure, NamedReader};
+use crate::plain::{plain_target, run_plain};
 use crate::trouble::Trouble;
-use std::fs;
-use std::io::{self, BufWriter, ErrorKind, Read, Stdout};
+use std::cell::Cell;
+use std::io::{self, BufWriter, ErrorKind, Stdout};
 use sval_io::{RealSink, RealSource, Sink};
 use sval_tool::{Command, Options};
 
@@ -26,23 +26,30 @@ pub(crate) fn output_failed(rt: &HostRuntime, kind: Option<ErrorKind>) -> End {
     End::Fault
 }
 
-/// What is said of an input where it failed by an error of this kind.
-fn input_failed(rt: &HostRuntime, name: &str, kind: Option<ErrorKind>) -> End {
-    let _ = match kind {
-        Some(kind) => eprint!(rt; "sval: {name}: reading failed: {kind}\n"),
+/// What is said of an input where it failed so.
+fn input_failed(rt: &HostRuntime, name: &str, failed: Option<Failure>) -> End {
+    let _ = match failed {
+        Some(Failure::Open(error)) => eprint!(rt; "sval: {name}: {error}\n"),
+        Some(Failure::Read(kind)) => eprint!(rt; "sval: {name}: reading failed: {kind}\n"),
         None => eprint!(rt; "sval: {name}: reading failed\n"),
     };
     End::Fault
 }
 
-/// Tells what went wrong with an input. The kind is that of the last error of its reader.
-fn tell(rt: &HostRuntime, name: &str, kind: Option<ErrorKind>, out: &Out, trouble: Trouble) -> End {
+/// Tells what went wrong with an input, which failed last so if it did.
+pub(crate) fn tell(
+    rt: &HostRuntime,
+    name: &str,
+    failed: Option<Failure>,
+    out: &Out,
+    trouble: Trouble,
+) -> End {
     match trouble {
         Trouble::Bad(text) => {
             let _ = eprint!(rt; "{text}");
             End::BadInput
         }
-        Trouble::Read => input_failed(rt, name, kind),
+        Trouble::Read => input_failed(rt, name, failed),
         Trouble::NoMemory => {
             let _ = eprint!(rt; "sval: {name}: out of memory\n");
             End::Fault
@@ -51,48 +58,20 @@ fn tell(rt: &HostRuntime, name: &str, kind: Option<ErrorKind>, out: &Out, troubl
     }
 }
 
-/// One input, which is read to its end.
-fn run_source<R: Read + Drop>(
-    rt: &HostRuntime,
-    options: &Options,
-    name: &str,
-    mut reader: NotedReader<'_, R>,
-    out: &mut Out,
-) -> End {
-    let source = RealSource::new(&mut reader);
+/// One input by its name, which is read to its end.
+fn run_input(rt: &HostRuntime, options: &Options, name: &str, out: &mut Out) -> End {
+    let failed = Cell::new(None);
+    let source = RealSource::new(NamedReader::new(rt, name, options.progress, &failed));
     let done = match options.command {
         Command::Convert => convert_input(rt.alloc(), options, name, source, out),
         Command::Check => check_input(rt.alloc(), options, name, source),
     };
-    reader.finish();
     match done {
         Ok(()) => End::Done,
         Err(trouble) => {
             // What is due of what came before is written first.
             let _ = out.flush();
-            tell(rt, name, reader.last_error(), out, trouble)
-        }
-    }
-}
-
-/// One input by its name.
-fn run_input(rt: &HostRuntime, options: &Options, name: &str, out: &mut Out) -> End {
-    if name == "-" {
-        return run_source(rt, options, "-", NotedReader::new(rt.stdin(), None), out);
-    }
-    match fs::open(rt, name) {
-        Ok(file) => {
-            let progress = if options.progress {
-                Progress::of_file(rt, name)
-            } else {
-                None
-            };
-            run_source(rt, options, name, NotedReader::new(file, progress), out)
-        }
-        Err(error) => {
-            let _ = out.flush();
-            let _ = eprint!(rt; "sval: {name}: {error}\n");
-            End::Fault
+            tell(rt, name, failed.get(), out, trouble)
         }
     }
 }
@@ -127,7 +106,10 @@ pub(crate) fn run_inputs(rt: &HostRuntime, options: &Options) -> End {
         return End::Fault;
     };
     let mut out = RealSink::new(writer);
-    let end = run_names(rt, options, &mut out);
+    let end = match plain_target(options) {
+        Some(target) => run_plain(rt, options, target, &mut out),
+        None => run_names(rt, options, &mut out),
+    };
     match out.flush() {
         Ok(()) => end,
         Err(_) if end == End::Done => output_failed(rt, out.last_error()),

@@ -10,14 +10,15 @@ mod convert;
 mod end;
 mod help;
 mod inputs;
-mod noted;
+mod named;
 mod numbers;
+mod pairs;
+mod plain;
 mod progress;
 mod report;
 mod script;
 mod trouble;
 mod values;
-mod whole;
 
 use crate::end::End;
 use crate::help::{push_help, version};

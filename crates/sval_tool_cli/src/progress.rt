@@ -9,8 +9,8 @@ const QUIET: u64 = 2;
 /// How many seconds are between two times that it is told.
 const PAUSE: u64 = 1;
 
-/// How far a file is read. It is told on standard error, in one line that is written over each second.
-#[derive(Drop)]
+/// How far a file is read. It is told on standard error, in one line that is written over each second, and that ends where
+/// this is dropped.
 pub(crate) struct Progress<'r> {
     rt: &'r HostRuntime,
     /// The file's name.
@@ -72,12 +72,20 @@ impl<'r> Progress<'r> {
         }
         self.show();
     }
+}
 
-    /// Ends the line where something was told.
-    pub(crate) fn finish(&mut self) {
+impl<'r> Drop for Progress<'r> {
+    fn drop(self) {
         if self.shown {
             let _ = eprint!(self.rt; "\n");
-            self.shown = false;
         }
+        let Progress {
+            rt: _,
+            name: _,
+            total: _,
+            done: _,
+            next: _,
+            shown: _,
+        } = self;
     }
 }

@@ -4,11 +4,11 @@ use crate::report::{
     Place, expected_at, push_bad_call, push_bad_cbor, push_bad_json, push_bad_line,
     push_byte_order_mark, push_not_utf8,
 };
-use std::alloc::{AllocError, Global};
+use std::alloc::{AllocError, AllocFailed, Global};
 use sval_cbor::CborError;
 use sval_core::NoMemory;
 use sval_filter::PruneError;
-use sval_io::{SinkError, SourceError};
+use sval_io::SinkError;
 use sval_json::ErrorKind;
 use sval_json_read::ReadError;
 use sval_lines::LineError;
@@ -34,14 +34,6 @@ pub(crate) enum Trouble {
 impl From<AllocError> for Trouble {
     fn from(_cause: AllocError) -> Trouble {
         Trouble::NoMemory
-    }
-}
-
-impl From<SourceError> for Trouble {
-    fn from(cause: SourceError) -> Trouble {
-        match cause {
-            SourceError::Failed => Trouble::Read,
-        }
     }
 }
 
@@ -106,6 +98,12 @@ pub(crate) enum Unwritten {
 
 impl From<AllocError> for Unwritten {
     fn from(_cause: AllocError) -> Unwritten {
+        Unwritten::NoMemory
+    }
+}
+
+impl<T: Drop> From<AllocFailed<T>> for Unwritten {
+    fn from(_cause: AllocFailed<T>) -> Unwritten {
         Unwritten::NoMemory
     }
 }

@@ -1,8 +1,7 @@
 //! What may follow the beginning of a text of JSON.
 
 use std::alloc::{AllocError, Global};
-use sval_core::NoMemory;
-use sval_json_read::{JsonDoc, ReadError};
+use sval_json_read::NextCharacters;
 
 /// What may follow the beginning of a text of JSON.
 #[derive(Clone, Copy, Debug, PartialEq, Eq)]
@@ -44,102 +43,91 @@ pub(crate) fn is_unknown(expected: Expected) -> bool {
     matches!(expected, Expected::Unknown)
 }
 
-/// Whether a text of JSON with this beginning may go on with this ASCII character.
-fn may_follow(alloc: Global, front: &str, byte: u8) -> Result<bool, ReadError> {
-    let mut text = String::from_str(alloc, front).map_err(NoMemory::from)?;
-    text.push(byte as char).map_err(NoMemory::from)?;
-    match JsonDoc::read_str(alloc, text.as_str()) {
-        Ok(_) => Ok(true),
-        Err(ReadError::BadJson { at }) => Ok(at > front.len() as u64),
-        Err(error) => Err(error),
-    }
-}
-
 /// The first of these letters that may follow.
-fn first_letter(alloc: Global, front: &str, letters: &[u8]) -> Result<Expected, ReadError> {
+fn first_letter(next: NextCharacters, letters: &[u8]) -> Expected {
     for letter in letters {
-        if may_follow(alloc, front, *letter)? {
-            return Ok(Expected::Letter(*letter));
+        if next.contains(*letter as char) {
+            return Expected::Letter(*letter);
         }
     }
-    Ok(Expected::Unknown)
+    Expected::Unknown
 }
 
 /// What may follow inside of a string or a number.
-fn in_scalar(alloc: Global, front: &str) -> Result<Expected, ReadError> {
-    if may_follow(alloc, front, b'\\')? {
-        return Ok(Expected::Backslash);
+fn in_scalar(next: NextCharacters) -> Expected {
+    if next.contains('\\') {
+        return Expected::Backslash;
     }
-    if may_follow(alloc, front, b' ')? {
-        return Ok(Expected::End);
+    if next.contains(' ') {
+        return Expected::End;
     }
-    if may_follow(alloc, front, b'0')? {
-        if may_follow(alloc, front, b'a')? {
-            return Ok(Expected::HexDigit);
+    if next.contains('0') {
+        if next.contains('a') {
+            return Expected::HexDigit;
         }
-        return Ok(Expected::Digit);
+        return Expected::Digit;
     }
-    first_letter(alloc, front, b"ulreasd".as_slice())
+    first_letter(next, b"ulreasd".as_slice())
 }
 
 /// What may follow behind a name or a value.
-fn between(alloc: Global, front: &str) -> Result<Expected, ReadError> {
-    if may_follow(alloc, front, b':')? {
-        return Ok(Expected::Colon);
+fn between(next: NextCharacters) -> Expected {
+    if next.contains(':') {
+        return Expected::Colon;
     }
-    if may_follow(alloc, front, b',')? {
-        if may_follow(alloc, front, b']')? {
-            return Ok(Expected::CommaOrBracket);
+    if next.contains(',') {
+        if next.contains(']') {
+            return Expected::CommaOrBracket;
         }
-        if may_follow(alloc, front, b'}')? {
-            return Ok(Expected::CommaOrBrace);
+        if next.contains('}') {
+            return Expected::CommaOrBrace;
         }
     }
-    in_scalar(alloc, front)
+    in_scalar(next)
 }
 
 /// What may follow outside of strings, where something begins.
-fn beginning(alloc: Global, front: &str) -> Result<Expected, ReadError> {
-    if may_follow(alloc, front, b'[')? {
-        if may_follow(alloc, front, b']')? {
-            return Ok(Expected::ValueOrBracket);
+fn beginning(next: NextCharacters) -> Expected {
+    if next.contains('[') {
+        if next.contains(']') {
+            return Expected::ValueOrBracket;
         }
-        return Ok(Expected::Value);
+        return Expected::Value;
     }
-    if may_follow(alloc, front, b'"')? {
-        if may_follow(alloc, front, b'}')? {
-            return Ok(Expected::NameOrBrace);
+    if next.contains('"') {
+        if next.contains('}') {
+            return Expected::NameOrBrace;
         }
-        return Ok(Expected::Name);
+        return Expected::Name;
     }
-    between(alloc, front)
+    between(next)
+}
+
+/// What these characters are, as people name them.
+fn named(next: NextCharacters) -> Expected {
+    // In a string everything may follow, an opening bracket too.
+    if next.contains('x') {
+        return Expected::MoreOfString;
+    }
+    if next.contains('/') {
+        return Expected::Escape;
+    }
+    beginning(next)
 }
 
 /// What may follow the beginning of a text of JSON, as people name it.
 ///
-/// It reads the beginning a few times, each time with one more character. Where memory is wanting for that, it answers
-/// [`Expected::Unknown`].
+/// It reads the beginning once. Where memory is wanting for that, it answers [`Expected::Unknown`].
 ///
 /// ```
 /// assert_eq!(rt; expected_behind(alloc, "[1 "), Expected::CommaOrBracket);
 /// assert_eq!(rt; expected_behind(alloc, "{"), Expected::NameOrBrace);
 /// ```
 pub(crate) fn expected_behind(alloc: Global, front: &str) -> Expected {
-    // In a string everything may follow, an opening bracket too.
-    let found = match may_follow(alloc, front, b'x') {
-        Ok(true) => Ok(Expected::MoreOfString),
-        Ok(false) => escape_or_beginning(alloc, front),
-        Err(error) => Err(error),
-    };
-    found.unwrap_or(Expected::Unknown)
-}
-
-/// What may follow outside of the plain characters of a string.
-fn escape_or_beginning(alloc: Global, front: &str) -> Result<Expected, ReadError> {
-    if may_follow(alloc, front, b'/')? {
-        return Ok(Expected::Escape);
+    match sval_json_read::expected(alloc, front) {
+        Ok(next) => named(next),
+        Err(_) => Expected::Unknown,
     }
-    beginning(alloc, front)
 }
 
 /// Adds what may follow.

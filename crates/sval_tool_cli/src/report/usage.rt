@@ -7,7 +7,7 @@ use sval_tool::{Complaint, Flag, Setting, Switch, name_of};
 fn taken(setting: Setting) -> &'static str {
     match setting {
         Setting::From => "json, cbor or script",
-        Setting::To => "json, pretty, cbor or script",
+        Setting::To => "json, pretty, cbor, script or logfmt",
         Setting::Keep => "a path without an empty name",
         Setting::Drop => "a path without an empty name",
         Setting::Pointer => "a JSON Pointer, which is empty or has a `/` before each name",
