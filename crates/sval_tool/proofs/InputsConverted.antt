@@ -7,9 +7,10 @@ use Rattle.sval_io.specs.Sources.{Supply}
 use Rattle.sval_io.specs.WholeInputs.{TakesAll}
 use Rattle.sval_io.proofs.Appending.{writes_nothing, writes_both}
 use Rattle.sval_lines.specs.declared.error.LineError.{LineError}
+use Rattle.sval_lines.specs.declared.error.LineError.TheVariants as line
 use Rattle.sval_tool.specs.Conversions.{IsFedDue, WritesDue, IsDocumentCause}
 use Rattle.sval_tool.specs.ConvertedLines.{ConvertsLines, HasLinesCause, no_line}
-use Rattle.sval_tool.specs.ConvertedInputs.{IsInputDue, AreInputsDue, no_input, input_more, TellInputs, IsInputCause, ConvertsInput, IsReadCause, StopsReadingAt, convert_error_of, StopsAtInput, StopsAtSource}
+use Rattle.sval_tool.specs.ConvertedInputs.{IsInputDue, AreInputsDue, no_input, input_more, TellInputs, StopsAtDocument, IsInputCause, ConvertsInput, IsReadCause, StopsReadingAt, convert_error_of, StopsAtInput, StopsAtSource}
 use Rattle.sval_tool.specs.declared.convert.Conversion.{Conversion}
 use Rattle.sval_tool.specs.declared.error.DocumentError.{DocumentError}
 use Rattle.sval_tool.specs.declared.inputs.Shape.{Shape}
@@ -23,50 +24,53 @@ module _ {K : Type 0} (told : K → Told) (c : Conversion) where
   -- ---- one document
 
   -- it wasn't read, and nothing was written
-  pub document_unread : (left : Option (List ℕ)) (why : LineError) (old : K) → IfSome left (λ bytes. ConvertsInput told c shape.Document bytes (Err (convert.Unread why)) old old)
+  pub document_unread : (left : Option (List ℕ)) (why : LineError) (old : K) → IfSome left (λ bytes. ConvertsInput told c shape.Document bytes (Err (convert.Unread why)) [] old old)
   document_unread None why old = tt
   document_unread (Some bytes) why old = refl
 
   pub document_done : (left rest : Option (List ℕ)) (bytes : List ℕ) (old new : K) → IfSome left (λ all. TakesAll all bytes rest) → WritesDue (IsFedDue c bytes) (told old) (told new)
-      → IfSome left (λ bytes. ConvertsInput told c shape.Document bytes (Ok tt) old new)
+      → IfSome left (λ bytes. ConvertsInput told c shape.Document bytes (Ok tt) [] old new)
   document_done None rest bytes old new t w = tt
   document_done (Some all) rest bytes old new t w = subst (λ (all : List ℕ). WritesDue (IsFedDue c all) (told old) (told new)) t.all w
 
-  pub document_stopped : (left rest : Option (List ℕ)) (bytes : List ℕ) (why : DocumentError) (old new : K) → IfSome left (λ all. TakesAll all bytes rest)
-      → IsDocumentCause told (IsFedDue c bytes) bytes why old new → IfSome left (λ bytes. ConvertsInput told c shape.Document bytes (Err (convert.Document why)) old new)
-  document_stopped None rest bytes why old new t cause = tt
-  document_stopped (Some all) rest bytes why old new t cause = subst (λ (all : List ℕ). IsDocumentCause told (IsFedDue c all) all why old new) t.all cause
+  pub document_stopped : (left rest : Option (List ℕ)) (bytes bad : List ℕ) (why : DocumentError) (old new : K) → bad ≡ bytes → IfSome left (λ all. TakesAll all bytes rest)
+      → IsDocumentCause told (IsFedDue c bytes) bytes why old new → IfSome left (λ bytes. ConvertsInput told c shape.Document bytes (Err (convert.Document why)) bad old new)
+  document_stopped None rest bytes bad why old new is t cause = tt
+  document_stopped (Some all) rest bytes bad why old new is t cause =
+      subst (λ (all : List ℕ). StopsAtDocument told c all bad why old new) t.all (record { is = is; cause = cause })
 
   -- ---- lines
 
   -- there was no memory for what is read ahead
-  pub lines_unread : (left : Option (List ℕ)) (why : LineError) (old : K) → IfSome left (λ bytes. ConvertsInput told c shape.Lines bytes (Err (convert.Unread why)) old old)
-  lines_unread None why old = tt
-  lines_unread (Some bytes) why old = (
+  pub lines_unread : (left : Option (List ℕ)) (bad : List ℕ) (old : K) → IfSome left (λ bytes. ConvertsInput told c shape.Lines bytes (Err (convert.Unread line.NoMemory)) bad old old)
+  lines_unread None bad old = tt
+  lines_unread (Some bytes) bad old = (
     Some bytes,
     record {
       rest = bytes;
       count = 0;
+      numbered = tt;
       middle = old;
       converts = record { text = []; due = no_line; writes = writes_nothing (told old) };
       cause = record { part = []; taken = record { rest = bytes; same = refl; left = refl }; same = refl };
     },
   )
 
-  pub lines_done : (left ahead next : Option (List ℕ)) (old new : K) → ahead ≡ left → IfSome ahead (λ bytes. ConvertsLines told c bytes (Ok tt) next old new)
-      → IfSome left (λ bytes. ConvertsInput told c shape.Lines bytes (Ok tt) old new)
-  lines_done left ahead next old new e w = go left (subst (λ (o : Option (List ℕ)). IfSome o (λ bytes. ConvertsLines told c bytes (Ok tt) next old new)) e w)
+  pub lines_done : (left ahead next : Option (List ℕ)) (old new : K) → ahead ≡ left → IfSome ahead (λ bytes. ConvertsLines told c bytes 0 (Ok tt) [] next old new)
+      → IfSome left (λ bytes. ConvertsInput told c shape.Lines bytes (Ok tt) [] old new)
+  lines_done left ahead next old new e w = go left (subst (λ (o : Option (List ℕ)). IfSome o (λ bytes. ConvertsLines told c bytes 0 (Ok tt) [] next old new)) e w)
     where
-      go : (o : Option (List ℕ)) → IfSome o (λ bytes. ConvertsLines told c bytes (Ok tt) next old new) → IfSome o (λ bytes. ConvertsInput told c shape.Lines bytes (Ok tt) old new)
+      go : (o : Option (List ℕ)) → IfSome o (λ bytes. ConvertsLines told c bytes 0 (Ok tt) [] next old new) → IfSome o (λ bytes. ConvertsInput told c shape.Lines bytes (Ok tt) [] old new)
       go None w = tt
       go (Some bytes) w = record { text = w.converts.text; due = (w.count, w.converts.due); writes = w.converts.writes }
 
-  pub lines_stopped : (left ahead next : Option (List ℕ)) (why : LinesError) (old new : K) → ahead ≡ left → IfSome ahead (λ bytes. ConvertsLines told c bytes (Err why) next old new)
-      → IfSome left (λ bytes. ConvertsInput told c shape.Lines bytes (Err (convert_error_of why)) old new)
-  lines_stopped left ahead next why old new e w = go why left (subst (λ (o : Option (List ℕ)). IfSome o (λ bytes. ConvertsLines told c bytes (Err why) next old new)) e w)
+  pub lines_stopped : (left ahead next : Option (List ℕ)) (before : ℕ) (line : List ℕ) (why : LinesError) (old new : K) → ahead ≡ left → before ≡ 0 → IfSome ahead (λ bytes. ConvertsLines told c bytes before (Err why) line next old new)
+      → IfSome left (λ bytes. ConvertsInput told c shape.Lines bytes (Err (convert_error_of why)) line old new)
+  lines_stopped left ahead next before line why old new e n w =
+      go why left (subst (λ (o : Option (List ℕ)). IfSome o (λ bytes. ConvertsLines told c bytes 0 (Err why) line next old new)) e (subst (λ (k : ℕ). IfSome ahead (λ bytes. ConvertsLines told c bytes k (Err why) line next old new)) n w))
     where
-      go : (why : LinesError) (o : Option (List ℕ)) → IfSome o (λ bytes. ConvertsLines told c bytes (Err why) next old new)
-          → IfSome o (λ bytes. ConvertsInput told c shape.Lines bytes (Err (convert_error_of why)) old new)
+      go : (why : LinesError) (o : Option (List ℕ)) → IfSome o (λ bytes. ConvertsLines told c bytes 0 (Err why) line next old new)
+          → IfSome o (λ bytes. ConvertsInput told c shape.Lines bytes (Err (convert_error_of why)) line old new)
       go why None w = tt
       go (lines.Unread why) (Some bytes) w = (next, w)
       go (lines.Line number why) (Some bytes) w = (next, w)
@@ -103,11 +107,11 @@ module _ {I K : Type 0} (supply : I → Supply) (told : K → Told) (c : Convers
   first_told source left (bytes ∷ others) tells = (bytes, others, refl, cc tells, cc tells)
 
   pub one_so_far : (all mine left : List I) (source : I) (old mid new : K) → mine ≡ source ∷ left → SoFar supply told c form all mine old mid
-      → IfSome (supply source).left (λ bytes. ConvertsInput told c form bytes (Ok tt) mid new) → SoFar supply told c form all left old new
+      → IfSome (supply source).left (λ bytes. ConvertsInput told c form bytes (Ok tt) [] mid new) → SoFar supply told c form all left old new
   one_so_far all mine left source old mid new e far one inputs tells =
       let a = far inputs tells in
       let f = first_told source left a.rest (subst (λ (s : List I). TellInputs supply s a.rest) e a.tells) in
-      let w : WritesDue (IsInputDue c form f.0) (told mid) (told new) = subst (λ (o : Option (List ℕ)). IfSome o (λ bytes. ConvertsInput told c form bytes (Ok tt) mid new)) f.3 one in
+      let w : WritesDue (IsInputDue c form f.0) (told mid) (told new) = subst (λ (o : Option (List ℕ)). IfSome o (λ bytes. ConvertsInput told c form bytes (Ok tt) [] mid new)) f.3 one in
       record {
         before = a.before ++ (f.0 ∷ []);
         rest = f.1;
@@ -116,10 +120,10 @@ module _ {I K : Type 0} (supply : I → Supply) (told : K → Told) (c : Convers
         writes = record { text = a.writes.text ++ w.text; due = input_more f.0 w.text a.writes.due w.due; writes = writes_both a.writes.text w.text a.writes.writes w.writes };
       }
 
-  pub then_input_stopped : (all mine left : List I) (source : I) (why : ConvertError) (old mid new : K) → mine ≡ source ∷ left → SoFar supply told c form all mine old mid
-      → IfSome (supply source).left (λ bytes. ConvertsInput told c form bytes (Err why) mid new)
-      → (inputs : List (List ℕ)) → TellInputs supply all inputs → StopsAtInput told c form inputs why old new
-  then_input_stopped all mine left source why old mid new e far one inputs tells =
+  pub then_input_stopped : (all mine left : List I) (source : I) (why : ConvertError) (bad : List ℕ) (old mid new : K) → mine ≡ source ∷ left → SoFar supply told c form all mine old mid
+      → IfSome (supply source).left (λ bytes. ConvertsInput told c form bytes (Err why) bad mid new)
+      → (inputs : List (List ℕ)) → TellInputs supply all inputs → StopsAtInput supply told c form inputs left why bad old new
+  then_input_stopped all mine left source why bad old mid new e far one inputs tells =
       let a = far inputs tells in
       let f = first_told source left a.rest (subst (λ (s : List I). TellInputs supply s a.rest) e a.tells) in
       record {
@@ -127,9 +131,10 @@ module _ {I K : Type 0} (supply : I → Supply) (told : K → Told) (c : Convers
         bytes = f.0;
         behind = f.1;
         same = a.same ∙ ap (λ (r : List (List ℕ)). a.before ++ r) f.2;
+        tells = f.4;
         middle = mid;
         writes = a.writes;
-        cause = subst (λ (o : Option (List ℕ)). IfSome o (λ bytes. ConvertsInput told c form bytes (Err why) mid new)) f.3 one;
+        cause = subst (λ (o : Option (List ℕ)). IfSome o (λ bytes. ConvertsInput told c form bytes (Err why) bad mid new)) f.3 one;
       }
 
   none_told : (rest : List (List ℕ)) → TellInputs supply [] rest → rest ≡ []

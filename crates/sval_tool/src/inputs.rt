@@ -96,7 +96,7 @@ fn convert_document<I: Source + Drop, K: Sink>(
     out: &mut K,
 ) -> Result<(), ConvertError>
     ensures text { IfSome (I.told source).left (λ bytes.
-        ConvertsInput K.told conversion.now shape.Document bytes result out.old out.new) }
+        ConvertsInput K.told conversion.now shape.Document bytes result bad.new.items out.old out.new) }
     ensures err { IfErr result (λ why. StopsReadingAt I.told why source) }
 {
     let bytes = read_whole(alloc, &mut source)?;
@@ -118,7 +118,7 @@ fn convert_lines<I: Source + Drop, K: Sink>(
     out: &mut K,
 ) -> Result<(), ConvertError>
     ensures text { IfSome (I.told source).left (λ bytes.
-        ConvertsInput K.told conversion.now shape.Lines bytes result out.old out.new) }
+        ConvertsInput K.told conversion.now shape.Lines bytes result bad.new.items out.old out.new) }
     ensures err { IfErr result (λ why. StopsReadingAt I.told why source) }
 {
     let mut lines = Lines::new(alloc, source)?;
@@ -141,7 +141,7 @@ fn convert_input<I: Source + Drop, K: Sink>(
     out: &mut K,
 ) -> Result<(), ConvertError>
     ensures text { IfSome (I.told source).left (λ bytes.
-        ConvertsInput K.told conversion.now form bytes result out.old out.new) }
+        ConvertsInput K.told conversion.now form bytes result bad.new.items out.old out.new) }
     ensures err { IfErr result (λ why. StopsReadingAt I.told why source) }
 {
     match form {
@@ -168,9 +168,9 @@ fn convert_input<I: Source + Drop, K: Sink>(
 /// # Errors
 ///
 /// [`ConvertError::Unread`] comes where an input wasn't read, [`ConvertError::Document`] where what is due of a document
-/// wasn't written, and [`ConvertError::Line`] where that of a line wasn't. Exactly what is due of the inputs before was
-/// written then, and of the lines before. The sources that are left are unchanged. No clause says that `number` is the
-/// line's, nor that `bad` has the bytes of the document or line.
+/// wasn't written, and [`ConvertError::Line`] where that of the line of this number wasn't. Exactly what is due of the
+/// inputs before was written then, and of the lines before. The sources that are left are those behind that input,
+/// unchanged, and `bad` has the bytes of the document or line.
 pub fn convert_all<I: Source + Drop, K: Sink>(
     alloc: Global,
     conversion: &Conversion<'_>,
@@ -182,7 +182,7 @@ pub fn convert_all<I: Source + Drop, K: Sink>(
     ensures ok { OnOk result ((inputs : List (List ℕ)) → TellInputs I.told sources.old.items inputs
         → WritesDue (AreInputsDue conversion.now form inputs) (K.told out.old) (K.told out.new)) }
     ensures err { IfErr result (λ why. (inputs : List (List ℕ)) → TellInputs I.told sources.old.items inputs
-        → StopsAtInput K.told conversion.now form inputs why out.old out.new) }
+        → StopsAtInput I.told K.told conversion.now form inputs sources.new.items why bad.new.items out.old out.new) }
     ensures taken { OnOk result (sources.new.items ≡ []) }
     ensures behind { IfErr result (λ why. StopsAtSource I.told why sources.old.items sources.new.items) }
 {

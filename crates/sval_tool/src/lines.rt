@@ -1,11 +1,11 @@
 //! Lines, each a document.
 
 ghost use Rattle.std.specs.Prelude.{◌≡◌, ◌<◌, ◌-◌, ◌^◌, OnOk, IfOk, IfErr, IfSome};
-ghost use Rattle.sval_lines.specs.SeenLines.{bytes_left, supply_of_lines, lines_taken};
+ghost use Rattle.sval_lines.specs.SeenLines.{bytes_left, supply_of_lines, last_line, lines_taken};
 ghost use Rattle.sval_lines.specs.SourceLines.{number_behind};
 ghost use Rattle.sval_tool.specs.Conversions.{WritesDue, IsDocumentCause};
 ghost use Rattle.sval_tool.specs.ConvertedLines.{IsLineDue};
-ghost use Rattle.sval_tool.specs.ConvertedLines.{ConvertsOne, ConvertsLines, HasLinesCause};
+ghost use Rattle.sval_tool.specs.ConvertedLines.{ConvertsOne, ConvertsLines, HasLinesCause, IsNumberedBehind};
 
 use crate::convert::{Conversion, write_fed};
 use crate::error::DocumentError;
@@ -77,7 +77,7 @@ fn convert_line<I: Source + Drop, K: Sink>(
 ) -> Result<bool, LinesError>
     ensures lines { IfSome (bytes_left I.told lines.old)
         (λ bytes. ConvertsOne K.told conversion.now bytes result
-        (bytes_left I.told lines.new)
+        (last_line lines.new) (bytes_left I.told lines.new)
         out.old out.new) }
     ensures faults { OnOk result
         ((supply_of_lines I.told lines.new).faults ≡ (supply_of_lines I.told lines.old).faults) }
@@ -85,6 +85,7 @@ fn convert_line<I: Source + Drop, K: Sink>(
         HasLinesCause why (lines_taken lines.new)
         (supply_of_lines I.told lines.old) (supply_of_lines I.told lines.new)) }
     ensures number { IfOk result (λ found. lines_taken lines.new ≡ number_behind found (lines_taken lines.old)) }
+    ensures numbered { IfErr result (λ why. IsNumberedBehind (lines_taken lines.old) why) }
     ensures below { OnOk result (lines_taken lines.old < 2 ^ 64 - 1) }
 {
     if !lines.take_line()? {
@@ -122,8 +123,8 @@ pub fn write_lines<I: Source + Drop, K: Sink>(
     out: &mut K,
 ) -> Result<(), LinesError>
     ensures lines { IfSome (bytes_left I.told lines.old)
-        (λ bytes. ConvertsLines K.told conversion.now bytes result
-        (bytes_left I.told lines.new)
+        (λ bytes. ConvertsLines K.told conversion.now bytes (lines_taken lines.old) result
+        (last_line lines.new) (bytes_left I.told lines.new)
         out.old out.new) }
     ensures faults { OnOk result
         ((supply_of_lines I.told lines.new).faults ≡ (supply_of_lines I.told lines.old).faults) }

@@ -21,7 +21,7 @@ loop-source-preserved g c = record {
 pub returns-in_err-convert_input-clause-err : goal.returns-in_err-convert_input-clause-err
 returns-in_err-convert_input-clause-err g c =
     let p = err_from_is_err_and c.from_residual.result c.from_residual.ensures.1 in
-    rw (p.1, p.2) (then_input_stopped g.I.Source.told g.K.Sink.told c.args.conversion.now c.args.form _ _ _ c.in-Some.source c.in_err-convert_input.field-0.0 _ _ _ c.in-Some.ensures.items c.loop-source.invariant.converted c.in_err-convert_input.ensures.text)
+    rw (p.1, p.2) (then_input_stopped g.I.Source.told g.K.Sink.told c.args.conversion.now c.args.form _ _ _ c.in-Some.source c.in_err-convert_input.field-0.0 _ _ _ _ c.in-Some.ensures.items c.loop-source.invariant.converted c.in_err-convert_input.ensures.text)
 
 pub returns-in_err-convert_input-clause-behind : goal.returns-in_err-convert_input-clause-behind
 returns-in_err-convert_input-clause-behind g c =

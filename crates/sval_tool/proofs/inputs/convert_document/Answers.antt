@@ -1,4 +1,4 @@
-use Rattle.std.proofs.Common.{subst, ℕ, List}
+use Rattle.std.proofs.Common.{subst, ℕ, List, refl}
 use Rattle.std.proofs.lemmas.Result.{err_from_is_err_and}
 use Rattle.sval_tool.specs.Conversions.{IsFedDue, WritesDue, IsDocumentCause}
 use Rattle.sval_tool.proofs.InputsConverted.{document_unread, document_done, document_stopped}
@@ -21,8 +21,8 @@ returns-in-Ok-clause-text g c =
 
 pub returns-clause-text : goal.returns-clause-text
 returns-clause-text g c =
-    document_stopped g.K.Sink.told c.args.conversion.now (g.I.Source.told c.args.source).left (g.I.Source.told c.read_whole.new.source).left c.in_ok-bytes.bytes.items c.in-Err.why c.args.out.now c.write_fed.new.out
-    c.in_ok-bytes.ensures.ok.taken (subst (λ (bytes : List ℕ). IsDocumentCause g.K.Sink.told (IsFedDue c.args.conversion.now bytes) bytes c.in-Err.why c.args.out.now c.write_fed.new.out) c.as_slice.ensures.value c.in-Err.ensures.err)
+    document_stopped g.K.Sink.told c.args.conversion.now (g.I.Source.told c.args.source).left (g.I.Source.told c.read_whole.new.source).left c.in_ok-bytes.bytes.items _ c.in-Err.why c.args.out.now c.write_fed.new.out
+    refl c.in_ok-bytes.ensures.ok.taken (subst (λ (bytes : List ℕ). IsDocumentCause g.K.Sink.told (IsFedDue c.args.conversion.now bytes) bytes c.in-Err.why c.args.out.now c.write_fed.new.out) c.as_slice.ensures.value c.in-Err.ensures.err)
 
 pub returns-clause-err : goal.returns-clause-err
 returns-clause-err g c = record { last = c.read_whole.new.source; cause = tt }

@@ -19,7 +19,7 @@ returns-in-Ok-clause-text g c =
 
 pub returns-in-Err-clause-text : goal.returns-in-Err-clause-text
 returns-in-Err-clause-text g c =
-    rw c.of_lines.ensures (lines_stopped g.K.Sink.told c.args.conversion.now _ _ _ c.in-Err.why c.args.out.now c.write_lines.new.out c.in_ok-lines.ensures.left c.in-Err.ensures.lines)
+    rw (c.of_lines.ensures, c.into_line.ensures) (lines_stopped g.K.Sink.told c.args.conversion.now _ _ _ _ _ c.in-Err.why c.args.out.now c.write_lines.new.out c.in_ok-lines.ensures.left c.in_ok-lines.ensures.number c.in-Err.ensures.lines)
 
 pub returns-in-Err-clause-err : goal.returns-in-Err-clause-err
 returns-in-Err-clause-err g c =
