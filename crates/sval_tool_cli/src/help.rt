@@ -20,9 +20,14 @@ const TAIL: &str = "
 A PATH is the names of fields with dots between them: `a.b` is the field b of a,
 and `a\\.b` the field whose name is a.b. It goes through arrays. With --keep,
 fields that no --keep names are left out. --keep and --drop don't go together.
+A PATH that no value has is no error: it drops nothing and keeps nothing.
 A POINTER (RFC 6901) has a `/` before each name or index: /user/tags/0. There
 `~1` is a slash in a name, and `~0` a tilde. It goes with no --keep and no --drop.
 An argument may stand behind `=`, as --to=pretty. Behind -- each word is a FILE.
+
+With --lines an empty line is passed over. A line of white space is not empty,
+and is an error. CBOR is read and written without floats: an item with one is an
+error. In JSON its byte strings are arrays of numbers.
 
 examples:
   sval --to pretty event.json           lay JSON out

@@ -26,10 +26,22 @@ pub(crate) fn output_failed(rt: &HostRuntime, kind: Option<ErrorKind>) -> End {
     End::Fault
 }
 
+/// The hint where an input isn't opened: that for a part of a value, if its name reads as a filter of jq.
+fn hint_of(name: &str, error: io::Error) -> &'static str {
+    let bytes = name.as_bytes();
+    if error.kind() == ErrorKind::NotFound && bytes.starts_with(b".") && !bytes.contains(&b'/') {
+        return "hint: a part of a value is asked for as --pointer /user/name, not as .user.name\n";
+    }
+    ""
+}
+
 /// What is said of an input where it failed so.
 fn input_failed(rt: &HostRuntime, name: &str, failed: Option<Failure>) -> End {
     let _ = match failed {
-        Some(Failure::Open(error)) => eprint!(rt; "sval: {name}: {error}\n"),
+        Some(Failure::Open(error)) => {
+            let hint = hint_of(name, error);
+            eprint!(rt; "sval: {name}: {error}\n{hint}")
+        }
         Some(Failure::Read(kind)) => eprint!(rt; "sval: {name}: reading failed: {kind}\n"),
         None => eprint!(rt; "sval: {name}: reading failed\n"),
     };

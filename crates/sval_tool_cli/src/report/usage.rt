@@ -48,7 +48,27 @@ fn push_complaint(out: &mut String, complaint: Complaint) -> Result<(), AllocErr
     }
 }
 
-/// Adds the error of a word of the command line.
+/// The hint for an option of another tool, if the word is one.
+fn hint_of(word: &str) -> Option<&'static str> {
+    match word {
+        "-c" | "--compact" | "--compact-output" => Some("JSON is compact where no --to is given"),
+        "--indent" | "--pretty" => Some("give --to pretty"),
+        "--jsonl" | "--ndjson" => Some("give --lines"),
+        _ => None,
+    }
+}
+
+/// Adds the line of a hint for a word, if there is one.
+fn push_hint(out: &mut String, word: &str) -> Result<(), AllocError> {
+    let Some(hint) = hint_of(word) else {
+        return Ok(());
+    };
+    out.push_str("hint: ")?;
+    out.push_str(hint)?;
+    out.push_str("\n")
+}
+
+/// Adds the error of a word of the command line. An option of another tool has a hint.
 ///
 /// ```
 /// let mut out = String::new(alloc);
@@ -64,5 +84,9 @@ pub(crate) fn push_usage(
     out.push_str(word)?;
     out.push_str("`: ")?;
     push_complaint(out, complaint)?;
-    out.push_str("\nsee `sval --help`\n")
+    out.push_str("\n")?;
+    if complaint == Complaint::UnknownOption {
+        push_hint(out, word)?;
+    }
+    out.push_str("see `sval --help`\n")
 }
