@@ -17,9 +17,12 @@ use Rattle.sval_cbor.specs.declared.error.CborError.{CborError}
 use Rattle.sval_cbor.specs.declared.error.CborError.TheVariants as error
 use Rattle.sval_cbor.specs.declared.error.Stop.{Stop}
 use Rattle.sval_cbor.specs.declared.error.Stop.TheVariants as stop
-use Rattle.sval_cbor.specs.Packs.{PackRefusal, BadKey, BadNumber, RawJson, NotInteger, map_packed, pack_of}
+use Rattle.sval_cbor.specs.declared.style.Style.{Style}
+use Rattle.sval_cbor.specs.declared.style.TheConstants.Style.{DEFAULT}
+use Rattle.sval_cbor.specs.Packs.{PackRefusal, BadKey, BadNumber, RawJson, NotInteger, map_packed, pack_as}
 use Rattle.sval_cbor.specs.Cbor.{cbor}
-use Rattle.sval_cbor.specs.Streamed.{CborAnswer, refusal_error, check_error, stop_error, WroteAll, IsHalted, AnswersBytes, AnswersDue, IsNoTree, IsChecked, IsRefusedAs, HasCbor, IsCborDue, WritesCborTree, TakesMemory, IsCauseOfValue, StreamsCbor}
+use Rattle.sval_cbor.proofs.Styles.{packs_alike, refused_alike}
+use Rattle.sval_cbor.specs.Streamed.{CborAnswer, refusal_error, check_error, stop_error, WroteAll, IsHalted, AnswersBytes, AnswersDue, IsNoTree, IsChecked, IsRefusedAs, HasCbor, IsCborDue, WritesCborTree, TakesMemory, IsCauseOfValue, StreamsCborAs}
 
 -- ---- the writer
 
@@ -75,9 +78,9 @@ nothing_is_front told bytes = record { count = 0; within = omega arith; appends 
 nothing_fell : (told : Told) → NoCountFell told told
 nothing_fell told = steady_counts (steady_alone told)
 
-pub due_streams : (e : Emission) (why : CborError) (told : Told) → IsCauseOfValue (Err why) → IsCborDue e (Err why) → ((other : CborError) → IsCborDue e (Err other) → other ≡ why) → (HasCbor e → ⊥)
-    → StreamsCbor e (Err why) told told
-due_streams e why told own due only none = record {
+pub due_streams : (style : Style) (e : Emission) (why : CborError) (told : Told) → IsCauseOfValue (Err why) → IsCborDue e (Err why) → ((other : CborError) → IsCborDue e (Err other) → other ≡ why) → (HasCbor e → ⊥)
+    → StreamsCborAs style e (Err why) told told
+due_streams style e why told own due only none = record {
   value = tt;
   written = tt;
   steady = tt;
@@ -94,8 +97,8 @@ due_streams e why told own due only none = record {
   prefix = λ tree json spells packs. nothing_is_front told (cbor json);
 }
 
-pub memory_streams : (e : Emission) (told : Told) → TakesMemory e → StreamsCbor e (Err error.NoMemory) told told
-memory_streams e told wants = record {
+pub memory_streams : (style : Style) (e : Emission) (told : Told) → TakesMemory e → StreamsCborAs style e (Err error.NoMemory) told told
+memory_streams style e told wants = record {
   value = tt;
   written = tt;
   steady = tt;
@@ -156,29 +159,29 @@ module _ (e : Emission) (why : CheckError) (alone : (due : CheckAnswer) → chec
   only_error error.Write due = absurd due
   only_error error.NoMemory due = absurd due
 
-  refuses_so : (told : Told) → IsCauseOfValue (Err (check_error why)) → IsCborDue e (Err (check_error why)) → StreamsCbor e (Err (check_error why)) told told
-  refuses_so told own due = due_streams e (check_error why) told own due only_error (λ has. no_value has.value)
+  refuses_so : (style : Style) (told : Told) → IsCauseOfValue (Err (check_error why)) → IsCborDue e (Err (check_error why)) → StreamsCborAs style e (Err (check_error why)) told told
+  refuses_so style told own due = due_streams style e (check_error why) told own due only_error (λ has. no_value has.value)
 
-pub bad_streams : (e : Emission) (at : ℕ) (told : Told) → checks.IsFirstBadCall e.calls at → Comes e (Err (check.BadCall at)) → StreamsCbor e (Err (error.BadCall at)) told told
-bad_streams e at told bad comes = refuses_so e (check.BadCall at) (λ due is. bad_is_no_other at (comes due is)) told tt bad
+pub bad_streams : (style : Style) (e : Emission) (at : ℕ) (told : Told) → checks.IsFirstBadCall e.calls at → Comes e (Err (check.BadCall at)) → StreamsCborAs style e (Err (error.BadCall at)) told told
+bad_streams style e at told bad comes = refuses_so e (check.BadCall at) (λ due is. bad_is_no_other at (comes due is)) style told tt bad
 
-pub unfinished_streams : (e : Emission) (told : Told) → checks.IsUnfinished e → Comes e (Err check.Unfinished) → StreamsCbor e (Err error.Unfinished) told told
-unfinished_streams e told unfinished comes = refuses_so e check.Unfinished (λ due is. unfinished_is_no_other (comes due is)) told tt unfinished
+pub unfinished_streams : (style : Style) (e : Emission) (told : Told) → checks.IsUnfinished e → Comes e (Err check.Unfinished) → StreamsCborAs style e (Err error.Unfinished) told told
+unfinished_streams style e told unfinished comes = refuses_so e check.Unfinished (λ due is. unfinished_is_no_other (comes due is)) style told tt unfinished
 
-pub refused_streams : (e : Emission) (told : Told) → OnlyRefuses e → Comes e (Err check.Refused) → StreamsCbor e (Err error.Refused) told told
-refused_streams e told refuses comes = refuses_so e check.Refused (λ due is. refused_is_no_other (comes due is)) told tt refuses
+pub refused_streams : (style : Style) (e : Emission) (told : Told) → OnlyRefuses e → Comes e (Err check.Refused) → StreamsCborAs style e (Err error.Refused) told told
+refused_streams style e told refuses comes = refuses_so e check.Refused (λ due is. refused_is_no_other (comes due is)) style told tt refuses
 
 -- what the check doesn't accept
-pub unaccepted_streams : (e : Emission) (why : CheckError) (told : Told) → ((at : ℕ) → declined why ≡ declined (check.BadCall at) → checks.IsFirstBadCall e.calls at) → (declined why ≡ declined check.Refused → OnlyRefuses e)
-    → (declined why ≡ declined check.Unfinished → checks.IsUnfinished e) → (declined why ≡ declined check.NoMemory → checks.NeedsMemory e.calls) → Comes e (Err why) → StreamsCbor e (Err (check_error why)) told told
-unaccepted_streams e (check.BadCall at) told bad refused unfinished memory comes = bad_streams e at told (bad at refl) comes
-unaccepted_streams e check.Refused told bad refused unfinished memory comes = refused_streams e told (refused refl) comes
-unaccepted_streams e check.Unfinished told bad refused unfinished memory comes = unfinished_streams e told (unfinished refl) comes
-unaccepted_streams e check.NoMemory told bad refused unfinished memory comes = memory_streams e told (inl (memory refl))
+pub unaccepted_streams : (style : Style) (e : Emission) (why : CheckError) (told : Told) → ((at : ℕ) → declined why ≡ declined (check.BadCall at) → checks.IsFirstBadCall e.calls at) → (declined why ≡ declined check.Refused → OnlyRefuses e)
+    → (declined why ≡ declined check.Unfinished → checks.IsUnfinished e) → (declined why ≡ declined check.NoMemory → checks.NeedsMemory e.calls) → Comes e (Err why) → StreamsCborAs style e (Err (check_error why)) told told
+unaccepted_streams style e (check.BadCall at) told bad refused unfinished memory comes = bad_streams style e at told (bad at refl) comes
+unaccepted_streams style e check.Refused told bad refused unfinished memory comes = refused_streams style e told (refused refl) comes
+unaccepted_streams style e check.Unfinished told bad refused unfinished memory comes = unfinished_streams style e told (unfinished refl) comes
+unaccepted_streams style e check.NoMemory told bad refused unfinished memory comes = memory_streams style e told (inl (memory refl))
 
 -- what the capture doesn't take
-pub uncaptured_streams : (e : Emission) (told : Told) → IsOneValue e → StreamsCbor e (Err error.NoMemory) told told
-uncaptured_streams e told one = memory_streams e told (inr one)
+pub uncaptured_streams : (style : Style) (e : Emission) (told : Told) → IsOneValue e → StreamsCborAs style e (Err error.NoMemory) told told
+uncaptured_streams style e told one = memory_streams style e told (inr one)
 
 -- ---- a value that was checked
 
@@ -253,32 +256,32 @@ module _ (e : Emission) (one : IsChecked e) where
   refusal_of_value RawJson = tt
   refusal_of_value NotInteger = tt
 
-  refusal_streams : (why : PackRefusal) (told : Told) → IsRefusedAs e why → StreamsCbor e (Err (refusal_error why)) told told
-  refusal_streams why told refused =
-      due_streams e (refusal_error why) told (refusal_of_value why) (refusal_due why refused) (only_refusal why refused) (λ has. not_refused has why refused)
+  refusal_streams : (style : Style) (why : PackRefusal) (told : Told) → IsRefusedAs e why → StreamsCborAs style e (Err (refusal_error why)) told told
+  refusal_streams style why told refused =
+      due_streams style e (refusal_error why) told (refusal_of_value why) (refusal_due why refused) (only_refusal why refused) (λ has. not_refused has why refused)
 
-  module _ (bytes : List ℕ) (gives : (tree : Tree) → Spells e.calls tree → Ok bytes ≡ map_packed cbor (pack_of tree)) where
+  module _ (style : Style) (bytes : List ℕ) (gives : (tree : Tree) → Spells e.calls tree → Ok bytes ≡ map_packed cbor (pack_as style tree)) where
     has_cbor : HasCbor e
     has_cbor = record {
       value = one.value;
-      packs = λ tree spells. let packed = packed_by (pack_of tree) bytes (gives tree spells) in (packed.0, packed.1);
+      packs = λ tree spells. let packed = packed_by (pack_as style tree) bytes (gives tree spells) in packs_alike style DEFAULT tree packed.0 packed.1;
     }
 
-    writes_tree : {old new : Told} → WritesWhole old bytes new → (tree : Tree) → Spells e.calls tree → WritesCborTree tree old new
+    writes_tree : {old new : Told} → WritesWhole old bytes new → (tree : Tree) → Spells e.calls tree → WritesCborTree style tree old new
     writes_tree {old} {new} w tree spells =
-        let packed = packed_by (pack_of tree) bytes (gives tree spells) in
+        let packed = packed_by (pack_as style tree) bytes (gives tree spells) in
         record { json = packed.0; packs = packed.1; appends = subst (λ bytes. Appends old bytes new) packed.2 w.appends }
 
-    begins_tree : {old new : Told} → AppendsFront old bytes new → (tree : Tree) (json : Json) → Spells e.calls tree → pack_of tree ≡ Ok json → AppendsFront old (cbor json) new
+    begins_tree : {old new : Told} → AppendsFront old bytes new → (tree : Tree) (json : Json) → Spells e.calls tree → pack_as style tree ≡ Ok json → AppendsFront old (cbor json) new
     begins_tree {old} {new} front tree json spells packs = subst (λ bytes. AppendsFront old bytes new) (json_bytes (gives tree spells) packs) front
 
-    cuts_tree : {old new : Told} → AppendsPart old bytes new → (tree : Tree) (json : Json) → Spells e.calls tree → pack_of tree ≡ Ok json → AppendsPart old (cbor json) new
+    cuts_tree : {old new : Told} → AppendsPart old bytes new → (tree : Tree) (json : Json) → Spells e.calls tree → pack_as style tree ≡ Ok json → AppendsPart old (cbor json) new
     cuts_tree {old} {new} part tree json spells packs = subst (λ bytes. AppendsPart old bytes new) (json_bytes (gives tree spells) packs) part
 
-    lacks_room : (old : Told) → LacksRoom old bytes → (tree : Tree) (json : Json) → Spells e.calls tree → pack_of tree ≡ Ok json → LacksRoom old (cbor json)
+    lacks_room : (old : Told) → LacksRoom old bytes → (tree : Tree) (json : Json) → Spells e.calls tree → pack_as style tree ≡ Ok json → LacksRoom old (cbor json)
     lacks_room old lacks tree json spells packs = subst (LacksRoom old) (json_bytes (gives tree spells) packs) lacks
 
-    bytes_stream : (result : CborAnswer) (old new : Told) → AnswersBytes result old bytes new → StreamsCbor e result old new
+    bytes_stream : (result : CborAnswer) (old new : Told) → AnswersBytes result old bytes new → StreamsCborAs style e result old new
     bytes_stream (Ok done) old new w = record {
       value = one.value;
       written = writes_tree w;
@@ -335,18 +338,18 @@ module _ (e : Emission) (one : IsChecked e) where
     bytes_stream (Err error.Raw) old new h = absurd h
     bytes_stream (Err error.NotInteger) old new h = absurd h
 
-  refused_as : (why : PackRefusal) → ((tree : Tree) → Spells e.calls tree → Err why ≡ map_packed cbor (pack_of tree)) → IsRefusedAs e why
-  refused_as why gives = record { value = one.value; packs = λ tree spells. refused_by (pack_of tree) why (gives tree spells) }
+  refused_as : (style : Style) (why : PackRefusal) → ((tree : Tree) → Spells e.calls tree → Err why ≡ map_packed cbor (pack_as style tree)) → IsRefusedAs e why
+  refused_as style why gives = record { value = one.value; packs = λ tree spells. refused_alike style DEFAULT tree why (refused_by (pack_as style tree) why (gives tree spells)) }
 
-  pub checked_streams : (due : Result (List ℕ) PackRefusal) (result : CborAnswer) (old new : Told) → ((tree : Tree) → Spells e.calls tree → due ≡ map_packed cbor (pack_of tree))
-      → AnswersDue result old due new → StreamsCbor e result old new
-  checked_streams (Ok bytes) result old new gives answers = bytes_stream bytes gives result old new answers
-  checked_streams (Err why) result old new gives (is, same) =
-      subst (λ r. StreamsCbor e r old new) (sym is) (subst (λ (t : Told). StreamsCbor e (Err (refusal_error why)) old t) (sym same) (refusal_streams why old (refused_as why gives)))
+  pub checked_streams : (style : Style) (due : Result (List ℕ) PackRefusal) (result : CborAnswer) (old new : Told) → ((tree : Tree) → Spells e.calls tree → due ≡ map_packed cbor (pack_as style tree))
+      → AnswersDue result old due new → StreamsCborAs style e result old new
+  checked_streams style (Ok bytes) result old new gives answers = bytes_stream style bytes gives result old new answers
+  checked_streams style (Err why) result old new gives (is, same) =
+      subst (λ r. StreamsCborAs style e r old new) (sym is) (subst (λ (t : Told). StreamsCborAs style e (Err (refusal_error why)) old t) (sym same) (refusal_streams style why old (refused_as style why gives)))
 
   -- where memory was wanting to write, the sink's count of wants rose
-  pub checked_want : (due : Result (List ℕ) PackRefusal) (result : CborAnswer) (old new : Told) → ((tree : Tree) → Spells e.calls tree → due ≡ map_packed cbor (pack_of tree))
+  pub checked_want : (style : Style) (due : Result (List ℕ) PackRefusal) (result : CborAnswer) (old new : Told) → ((tree : Tree) → Spells e.calls tree → due ≡ map_packed cbor (pack_as style tree))
       → AnswersDue result old due new → result ≡ Err error.NoMemory → Rose old.wants new.wants × HasCbor e
-  checked_want (Ok bytes) result old new gives answers is =
-      let front : WritesFront sink.NoMemory old bytes new = subst (λ (r : CborAnswer). AnswersBytes r old bytes new) is answers in (front.cause, has_cbor bytes gives)
-  checked_want (Err why) result old new gives (same, left) is = absurd (not_of_memory why (sym same ∙ is))
+  checked_want style (Ok bytes) result old new gives answers is =
+      let front : WritesFront sink.NoMemory old bytes new = subst (λ (r : CborAnswer). AnswersBytes r old bytes new) is answers in (front.cause, has_cbor style bytes gives)
+  checked_want style (Err why) result old new gives (same, left) is = absurd (not_of_memory why (sym same ∙ is))

@@ -14,10 +14,13 @@ use Rattle.sval_core.specs.Real.{AreBytes, IsReal}
 use Rattle.sval_core.proofs.RealTrees.{bytes_joined}
 use Rattle.sval_json.specs.Json as shape
 use Rattle.sval_json.specs.Json.{Key, escaped_key, raw_key, Json, Items, no_item, item, Pairs, no_pair, pair}
-use Rattle.sval_cbor.specs.Packs.{pack_of}
+use Rattle.sval_cbor.specs.declared.style.Binaries.{Binaries}
+use Rattle.sval_cbor.specs.declared.style.Binaries.TheVariants.{Numbers, ByteStrings}
+use Rattle.sval_cbor.specs.declared.style.Style.{Style}
+use Rattle.sval_cbor.specs.Packs.{pack_as}
 use Rattle.sval_cbor.specs.Cbor.{head_bytes, without_zero_bytes, short_bytes, string, bignum, integer, truth_bytes, cbor, cbor_items, cbor_pairs}
-use Rattle.sval_cbor.specs.Premises.{IsShortTree}
-use Rattle.sval_cbor.proofs.Packed.{IsPacked, ArePacked, PairsArePacked, packed}
+use Rattle.sval_cbor.specs.Premises.{IsShortTreeAs}
+use Rattle.sval_cbor.proofs.Packed.{IsPackedBinary, IsPacked, ArePacked, PairsArePacked, packed}
 
 number_bytes : (width n : ℕ) → AreBytes (bytes_high_first width n)
 number_bytes zero n = tt
@@ -89,26 +92,30 @@ truths true = (omega arith, tt)
 closed : (xs : List ℕ) → AreBytes xs → AreBytes (xs ++ (0xff ∷ []))
 closed xs h = bytes_joined xs (0xff ∷ []) h (omega arith, tt)
 
+byte_string : (binaries : Binaries) (bytes : List ℕ) → IsPackedBinary binaries bytes → AreBytes (string 2 bytes)
+byte_string Numbers bytes h = absurd h
+byte_string ByteStrings bytes h = strings 2 bytes (omega arith) h.0
+
 mutual
-  shape_bytes : (json : Json) → IsPacked json → AreBytes (cbor json)
-  shape_bytes shape.null h = (omega arith, tt)
-  shape_bytes (shape.truth b) h = truths b
-  shape_bytes (shape.number bytes) h = integers (signed_digits_value 10 bytes)
-  shape_bytes (shape.text bytes) h = strings 3 bytes (omega arith) (utf8_bytes bytes h.0)
-  shape_bytes (shape.quoted bytes) h = tt
-  shape_bytes (shape.raw bytes) h = tt
-  shape_bytes (shape.array row) h = (omega arith, closed (cbor_items row) (item_bytes row h))
-  shape_bytes (shape.object row) h = (omega arith, closed (cbor_pairs row) (pair_bytes row h))
+  shape_bytes : (style : Style) (json : Json) → IsPacked style json → AreBytes (cbor json)
+  shape_bytes style shape.null h = (omega arith, tt)
+  shape_bytes style (shape.truth b) h = truths b
+  shape_bytes style (shape.number bytes) h = integers (signed_digits_value 10 bytes)
+  shape_bytes style (shape.text bytes) h = strings 3 bytes (omega arith) (utf8_bytes bytes h.0)
+  shape_bytes style (shape.quoted bytes) h = byte_string style.binaries bytes h
+  shape_bytes style (shape.raw bytes) h = tt
+  shape_bytes style (shape.array row) h = (omega arith, closed (cbor_items row) (item_bytes style row h))
+  shape_bytes style (shape.object row) h = (omega arith, closed (cbor_pairs row) (pair_bytes style row h))
 
-  item_bytes : (row : Items) → ArePacked row → AreBytes (cbor_items row)
-  item_bytes no_item h = tt
-  item_bytes (item json row) h = bytes_joined (cbor json) (cbor_items row) (shape_bytes json h.0) (item_bytes row h.1)
+  item_bytes : (style : Style) (row : Items) → ArePacked style row → AreBytes (cbor_items row)
+  item_bytes style no_item h = tt
+  item_bytes style (item json row) h = bytes_joined (cbor json) (cbor_items row) (shape_bytes style json h.0) (item_bytes style row h.1)
 
-  pair_bytes : (row : Pairs) → PairsArePacked row → AreBytes (cbor_pairs row)
-  pair_bytes no_pair h = tt
-  pair_bytes (pair (escaped_key bytes) json row) h =
-      bytes_joined (string 3 bytes ++ cbor json) (cbor_pairs row) (bytes_joined (string 3 bytes) (cbor json) (strings 3 bytes (omega arith) (utf8_bytes bytes h.0.0)) (shape_bytes json h.1)) (pair_bytes row h.2)
-  pair_bytes (pair (raw_key bytes) json row) h = absurd h.0
+  pair_bytes : (style : Style) (row : Pairs) → PairsArePacked style row → AreBytes (cbor_pairs row)
+  pair_bytes style no_pair h = tt
+  pair_bytes style (pair (escaped_key bytes) json row) h =
+      bytes_joined (string 3 bytes ++ cbor json) (cbor_pairs row) (bytes_joined (string 3 bytes) (cbor json) (strings 3 bytes (omega arith) (utf8_bytes bytes h.0.0)) (shape_bytes style json h.1)) (pair_bytes style row h.2)
+  pair_bytes style (pair (raw_key bytes) json row) h = absurd h.0
 
-pub cbor_is_bytes : (tree : Tree) (json : Json) → IsReal tree → IsShortTree tree → pack_of tree ≡ Ok json → AllByRecursion (λ byte. byte < 256) (cbor json)
-cbor_is_bytes tree json r s e = shape_bytes json (packed tree json r s e)
+pub cbor_is_bytes : (style : Style) (tree : Tree) (json : Json) → IsReal tree → IsShortTreeAs style tree → pack_as style tree ≡ Ok json → AllByRecursion (λ byte. byte < 256) (cbor json)
+cbor_is_bytes style tree json r s e = shape_bytes style json (packed style tree json r s e)

@@ -9,9 +9,10 @@ use Rattle.sval_buffer.specs.Forest.{Node, Nodes, Forest, empty_forest, Holds, f
 use Rattle.sval_buffer.specs.Laws.{IsCapturedAs}
 use Rattle.sval_buffer.proofs.Recapture.{is_single, is_begin, IsMade, single, text, binary, container, AreMade, no_nodes, more_made, IsMadeForest, IfHeld, captured-made}
 use Rattle.sval_buffer.proofs.SameTree.{capture_keeps}
-use Rattle.sval_cbor.specs.Packs.{map_packed, pack_of}
+use Rattle.sval_cbor.specs.declared.style.Style.{Style}
+use Rattle.sval_cbor.specs.Packs.{map_packed, pack_as}
 use Rattle.sval_cbor.specs.Cbor.{cbor}
-use Rattle.sval_cbor.specs.Writing.{NoText, fragment_progress, are_whole, HaveWholeTexts, written_cbor}
+use Rattle.sval_cbor.specs.Writing.{NoText, fragment_progress, are_whole, HaveWholeTexts, written_as}
 use Rattle.sval_cbor.proofs.WritingTrees.{spelling_written}
 
 -- ---- calls that stand outside texts
@@ -67,10 +68,10 @@ same_forest e = cc e
 replay_whole : (f : Forest) → AreMade f.nodes → f.spine ≡ [] → HaveWholeTexts (replayed f)
 replay_whole f made e = subst (λ o. HaveWholeTexts (null_for_none (row_calls f.nodes ++ spine_calls o))) (sym e) (null_whole (row_calls f.nodes ++ []) (row_whole made [] refl))
 
-pub captured_is_written : (calls : List Call) (tree : Tree) (f : Forest) → Spells calls tree → forest calls ≡ Holds f → written_cbor (replayed f) ≡ map_packed cbor (pack_of tree)
-captured_is_written calls tree f s e =
+pub captured_is_written : (style : Style) (calls : List Call) (tree : Tree) (f : Forest) → Spells calls tree → forest calls ≡ Holds f → written_as style (replayed f) ≡ map_packed cbor (pack_as style tree)
+captured_is_written style calls tree f s e =
     let (g, captured) = capture_keeps calls tree s in
     let same : g ≡ f = same_forest (sym captured.taken ∙ e) in
     let made : IsMadeForest f = subst IfHeld e (captured-made empty_forest 1 calls (record { nodes = no_nodes; spine = tt })) in
     let kept : IsCapturedAs calls tree f = subst (IsCapturedAs calls tree) same captured in
-    spelling_written (replayed f) tree kept.spells (replay_whole f made.nodes kept.no_spine)
+    spelling_written style (replayed f) tree kept.spells (replay_whole f made.nodes kept.no_spine)

@@ -1,5 +1,6 @@
 pub mod Numbers
 pub mod Packed
+pub mod Styles
 pub mod SameText
 pub mod ByteRange
 pub mod WritingPlain

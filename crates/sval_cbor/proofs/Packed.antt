@@ -23,8 +23,11 @@ use Rattle.sval_json.specs.Shape.{index_text, handle_of, handle, label_or_index,
 use Rattle.sval_json.proofs.NumberGrammar.{front_and_rest, number_tested}
 use Rattle.sval_json.proofs.Texts.{normal_twice}
 use Rattle.sval_json.proofs.NumberTexts.{ascii_utf8, number_utf8, signed_number, normal_form}
-use Rattle.sval_cbor.specs.Packs.{PackRefusal, NotInteger, on_packed, map_packed, has_128_bits, is_whole_number, number_pack, tagged_pack, is_raw, key_bytes, pack_key_as, pack_key, packs, packed_items, packed_pairs, pack_of}
-use Rattle.sval_cbor.specs.Premises.{IsShortText, IsShortLabel, IsShortName, IsShortTree, AreShort}
+use Rattle.sval_cbor.specs.declared.style.Binaries.{Binaries}
+use Rattle.sval_cbor.specs.declared.style.Binaries.TheVariants.{Numbers, ByteStrings}
+use Rattle.sval_cbor.specs.declared.style.Style.{Style}
+use Rattle.sval_cbor.specs.Packs.{PackRefusal, NotInteger, on_packed, map_packed, has_128_bits, is_whole_number, number_pack, tagged_pack, is_raw, key_bytes, pack_key_as, pack_key, binary_shape, packs, packed_items, packed_pairs, pack_as}
+use Rattle.sval_cbor.specs.Premises.{IsShortText, IsShortLabel, IsShortName, IsShortBinary, IsShortTreeAs, AreShortAs}
 use Rattle.sval_cbor.proofs.Numbers.{short_of_128, whole_back}
 
 abbrev pub IsPackedText : List ℕ → Type 0
@@ -37,23 +40,28 @@ abbrev pub IsPackedKey : Key → Type 0
 IsPackedKey (escaped_key bytes) = IsPackedText bytes
 IsPackedKey (raw_key _) = ⊥
 
+-- as a byte string a binary is of bytes, and short
+abbrev pub IsPackedBinary : Binaries → List ℕ → Type 0
+IsPackedBinary Numbers bytes = ⊥
+IsPackedBinary ByteStrings bytes = AllByRecursion (λ byte. byte < 256) bytes × IsShortText bytes
+
 abbrev mutual
-  pub IsPacked : Json → Type 0
-  IsPacked (shape.number bytes) = IsPackedNumber bytes
-  IsPacked (shape.text bytes) = IsPackedText bytes
-  IsPacked (shape.quoted _) = ⊥
-  IsPacked (shape.raw _) = ⊥
-  IsPacked (shape.array row) = ArePacked row
-  IsPacked (shape.object row) = PairsArePacked row
-  IsPacked _ = ⊤
+  pub IsPacked : Style → Json → Type 0
+  IsPacked style (shape.number bytes) = IsPackedNumber bytes
+  IsPacked style (shape.text bytes) = IsPackedText bytes
+  IsPacked style (shape.quoted bytes) = IsPackedBinary style.binaries bytes
+  IsPacked style (shape.raw _) = ⊥
+  IsPacked style (shape.array row) = ArePacked style row
+  IsPacked style (shape.object row) = PairsArePacked style row
+  IsPacked style _ = ⊤
 
-  pub ArePacked : Items → Type 0
-  ArePacked no_item = ⊤
-  ArePacked (item json row) = IsPacked json × ArePacked row
+  pub ArePacked : Style → Items → Type 0
+  ArePacked style no_item = ⊤
+  ArePacked style (item json row) = IsPacked style json × ArePacked style row
 
-  pub PairsArePacked : Pairs → Type 0
-  PairsArePacked no_pair = ⊤
-  PairsArePacked (pair k json row) = IsPackedKey k × IsPacked json × PairsArePacked row
+  pub PairsArePacked : Style → Pairs → Type 0
+  PairsArePacked style no_pair = ⊤
+  PairsArePacked style (pair k json row) = IsPackedKey k × IsPacked style json × PairsArePacked style row
 
 -- where there is no refusal
 abbrev pub IfOk : {T E : Type 0} → (T → Type 0) → Result T E → Type 0
@@ -123,23 +131,27 @@ truth_packed : (b : Bool) → IsPackedText (truth_text b)
 truth_packed true = (ascii_utf8 (codes "true") refl, omega arith)
 truth_packed false = (ascii_utf8 (codes "false") refl, omega arith)
 
-bytes_packed : (bytes : List ℕ) → AllByRecursion (λ byte. byte < 256) bytes → ArePacked (byte_items bytes)
-bytes_packed [] h = tt
-bytes_packed (byte ∷ bytes) h = ((pos byte, refl, byte_128 byte h.0), bytes_packed bytes h.1)
+bytes_packed : (style : Style) (bytes : List ℕ) → AllByRecursion (λ byte. byte < 256) bytes → ArePacked style (byte_items bytes)
+bytes_packed style [] h = tt
+bytes_packed style (byte ∷ bytes) h = ((pos byte, refl, byte_128 byte h.0), bytes_packed style bytes h.1)
+
+binary_packed : (style : Style) (binaries : Binaries) (bytes : List ℕ) → style.binaries ≡ binaries → AllByRecursion (λ byte. byte < 256) bytes → IsShortBinary binaries bytes → IsPacked style (binary_shape binaries bytes)
+binary_packed style Numbers bytes e h s = bytes_packed style bytes h
+binary_packed style ByteStrings bytes e h s = subst (λ b. IsPackedBinary b bytes) (sym e) (h, s)
 
 -- ---- names
 
-label_or_index_packed : (l : Option Label) (o : Option (List ℕ)) → IfSome l IsRealLabel → IfSome l IsShortLabel → IfSome o IsPackedNumber → IsPacked (label_or_index l o)
-label_or_index_packed (Some l) o u s h = (u, s)
-label_or_index_packed None (Some digits) u s h = h
-label_or_index_packed None None u s h = tt
+label_or_index_packed : (style : Style) (l : Option Label) (o : Option (List ℕ)) → IfSome l IsRealLabel → IfSome l IsShortLabel → IfSome o IsPackedNumber → IsPacked style (label_or_index l o)
+label_or_index_packed style (Some l) o u s h = (u, s)
+label_or_index_packed style None (Some digits) u s h = h
+label_or_index_packed style None None u s h = tt
 
-own_by : (b : Bool) (json : Json) → IsPacked json → IsPacked (if b then shape.null else json)
-own_by true json m = tt
-own_by false json m = m
+own_by : (style : Style) (b : Bool) (json : Json) → IsPacked style json → IsPacked style (if b then shape.null else json)
+own_by style true json m = tt
+own_by style false json m = m
 
-own_packed : (n : Name) → IsRealName n → IsShortName n → IsPacked (own n)
-own_packed n r s = own_by (is_none_tag n.tag) (label_or_index n.label (handle_of None n.index)) (label_or_index_packed n.label (handle_of None n.index) r.0 s (indexes_packed n.index))
+own_packed : (style : Style) (n : Name) → IsRealName n → IsShortName n → IsPacked style (own n)
+own_packed style n r s = own_by style (is_none_tag n.tag) (label_or_index n.label (handle_of None n.index)) (label_or_index_packed style n.label (handle_of None n.index) r.0 s (indexes_packed n.index))
 
 label_or_index_text : (l : Option Label) (o : Option (List ℕ)) → IfSome l IsRealLabel → IfSome l IsShortLabel → IfSome o IsPackedNumber → IsPackedText (bare_text (label_or_index l o))
 label_or_index_text (Some l) o u s h = (u, s)
@@ -162,13 +174,13 @@ handle_packed (Some l) i u s = (u, s)
 handle_packed None None u s = tt
 handle_packed None (Some i) u s = index_text_packed (index_text i) (index_packed i)
 
-wrap_in_packed : (o : Option (List ℕ)) (json : Json) → IfSome o IsPackedText → IsPacked json → IsPacked (wrap_in Inside o json)
-wrap_in_packed (Some bytes) json u m = (u, m, tt)
-wrap_in_packed None json u m = m
+wrap_in_packed : (style : Style) (o : Option (List ℕ)) (json : Json) → IfSome o IsPackedText → IsPacked style json → IsPacked style (wrap_in Inside o json)
+wrap_in_packed style (Some bytes) json u m = (u, m, tt)
+wrap_in_packed style None json u m = m
 
-wrap_packed : (variant : Bool) (n : Name) (json : Json) → IsRealName n → IsShortName n → IsPacked json → IsPacked (wrap Inside variant n json)
-wrap_packed true n json r s m = wrap_in_packed (handle n) json (handle_packed n.label n.index r.0 s) m
-wrap_packed false n json r s m = m
+wrap_packed : (style : Style) (variant : Bool) (n : Name) (json : Json) → IsRealName n → IsShortName n → IsPacked style json → IsPacked style (wrap Inside variant n json)
+wrap_packed style true n json r s m = wrap_in_packed style (handle n) json (handle_packed n.label n.index r.0 s) m
+wrap_packed style false n json r s m = m
 
 -- ---- numbers as text
 
@@ -226,21 +238,21 @@ whole_packed text out e w = elim (normal_form text out e) [
   | inr word ↦ absurd (no_word out word w)
 ]
 
-number_by : (a b : Bool) (text out : List ℕ) → normal text ≡ Ok out → is_whole_number out ≡ b → IfOk IsPacked (let r : Result Json PackRefusal = if a then Ok shape.null else if b then Ok (shape.number out) else Err NotInteger in r)
-number_by true b text out e w = tt
-number_by false true text out e w = whole_packed text out e w
-number_by false false text out e w = tt
+number_by : (style : Style) (a b : Bool) (text out : List ℕ) → normal text ≡ Ok out → is_whole_number out ≡ b → IfOk (IsPacked style) (let r : Result Json PackRefusal = if a then Ok shape.null else if b then Ok (shape.number out) else Err NotInteger in r)
+number_by style true b text out e w = tt
+number_by style false true text out e w = whole_packed text out e w
+number_by style false false text out e w = tt
 
-number_packed : (text : List ℕ) (r : Result (List ℕ) json.Refusal) → normal text ≡ r → IfOk IsPacked (number_pack r)
-number_packed text (Ok out) e = number_by (bytes_eq out (codes "null")) (is_whole_number out) text out e refl
-number_packed text (Err why) e = tt
+number_packed : (style : Style) (text : List ℕ) (r : Result (List ℕ) json.Refusal) → normal text ≡ r → IfOk (IsPacked style) (number_pack r)
+number_packed style text (Ok out) e = number_by style (bytes_eq out (codes "null")) (is_whole_number out) text out e refl
+number_packed style text (Err why) e = tt
 
-tagged_packed : (kind : TextKind) (tree : Tree) (r : Result Json PackRefusal) → IfOk IsPacked r → IfOk IsPacked (tagged_pack kind tree r)
-tagged_packed Number (Text bytes) r h = number_packed bytes (normal bytes) refl
-tagged_packed JsonText (Text bytes) r h = tt
-tagged_packed JsonValue (Text bytes) r h = tt
-tagged_packed JsonNumber (Text bytes) r h = tt
-tagged_packed kind tree r h = h
+tagged_packed : (style : Style) (kind : TextKind) (tree : Tree) (r : Result Json PackRefusal) → IfOk (IsPacked style) r → IfOk (IsPacked style) (tagged_pack kind tree r)
+tagged_packed style Number (Text bytes) r h = number_packed style bytes (normal bytes) refl
+tagged_packed style JsonText (Text bytes) r h = tt
+tagged_packed style JsonValue (Text bytes) r h = tt
+tagged_packed style JsonNumber (Text bytes) r h = tt
+tagged_packed style kind tree r h = h
 
 -- ---- keys
 
@@ -255,26 +267,26 @@ normal_key : (text : List ℕ) (r : Result (List ℕ) json.Refusal) → normal t
 normal_key text (Ok out) e s = normal_text text out e s
 normal_key text (Err why) e s = tt
 
-tagged_key_packed : (kind : TextKind) (tree : Tree) (r : Result Key json.Refusal) → IsInRange tree → IsShortTree tree → IfOk HasPackedText r → IfOk HasPackedText (tagged_key kind tree r)
-tagged_key_packed Number (Text bytes) r u s h = normal_key bytes (normal bytes) refl s
-tagged_key_packed JsonText (Text bytes) r u s h = (u, s)
-tagged_key_packed JsonValue (Text bytes) r u s h = tt
-tagged_key_packed JsonNumber (Text bytes) r u s h = (u, s)
-tagged_key_packed kind tree r u s h = h
+tagged_key_packed : (style : Style) (kind : TextKind) (tree : Tree) (r : Result Key json.Refusal) → IsInRange tree → IsShortTreeAs style tree → IfOk HasPackedText r → IfOk HasPackedText (tagged_key kind tree r)
+tagged_key_packed style Number (Text bytes) r u s h = normal_key bytes (normal bytes) refl s
+tagged_key_packed style JsonText (Text bytes) r u s h = (u, s)
+tagged_key_packed style JsonValue (Text bytes) r u s h = tt
+tagged_key_packed style JsonNumber (Text bytes) r u s h = (u, s)
+tagged_key_packed style kind tree r u s h = h
 
-key_packed : (t : Tree) (variant : Bool) → IsInRange t → IsShortTree t → IfOk HasPackedText (key t variant)
-key_packed Null variant r s = null_text
-key_packed (Truth b) variant r s = truth_packed b
-key_packed (Int type n) variant r s = signed_text n (short_of_type type n r)
-key_packed (Text bytes) variant r s = (r, s)
-key_packed (Binary bytes) variant r s = tt
-key_packed (Standalone name) variant r s = own_text name r s
-key_packed (Tagged name tree) variant r s =
+key_packed : (style : Style) (t : Tree) (variant : Bool) → IsInRange t → IsShortTreeAs style t → IfOk HasPackedText (key t variant)
+key_packed style Null variant r s = null_text
+key_packed style (Truth b) variant r s = truth_packed b
+key_packed style (Int type n) variant r s = signed_text n (short_of_type type n r)
+key_packed style (Text bytes) variant r s = (r, s)
+key_packed style (Binary bytes) variant r s = tt
+key_packed style (Standalone name) variant r s = own_text name r s
+key_packed style (Tagged name tree) variant r s =
     unless HasPackedText (is_wrapped variant name) _ (tagged_key (text_kind name.tag) tree (key tree false))
-    (tagged_key_packed (text_kind name.tag) tree (key tree false) r.1 s.1 (key_packed tree false r.1 s.1))
-key_packed (EmptyEnum name) variant r s = unless HasPackedText (is_wrapped variant name) _ (Ok (escaped_key (bare_text (own name)))) (own_text name r s)
-key_packed (Enum name tree) variant r s = unless HasPackedText (is_wrapped variant name) _ (key tree true) (key_packed tree true r.1 s.1)
-key_packed (Container head parts) variant r s = tt
+    (tagged_key_packed style (text_kind name.tag) tree (key tree false) r.1 s.1 (key_packed style tree false r.1 s.1))
+key_packed style (EmptyEnum name) variant r s = unless HasPackedText (is_wrapped variant name) _ (Ok (escaped_key (bare_text (own name)))) (own_text name r s)
+key_packed style (Enum name tree) variant r s = unless HasPackedText (is_wrapped variant name) _ (key tree true) (key_packed style tree true r.1 s.1)
+key_packed style (Container head parts) variant r s = tt
 
 key_as : (r : Result Key json.Refusal) (raw : Bool) → IfOk HasPackedText r → IfOk IsPackedKey (pack_key_as r raw)
 key_as (Err json.InvalidKey) raw h = tt
@@ -283,55 +295,55 @@ key_as (Err json.InvalidNumber) false h = tt
 key_as (Ok k) true h = tt
 key_as (Ok k) false h = h
 
-pack_key_packed : (t : Tree) → IsInRange t → IsShortTree t → IfOk IsPackedKey (pack_key t)
-pack_key_packed t r s = key_as (key t false) (is_raw t) (key_packed t false r s)
+pack_key_packed : (style : Style) (t : Tree) → IsInRange t → IsShortTreeAs style t → IfOk IsPackedKey (pack_key t)
+pack_key_packed style t r s = key_as (key t false) (is_raw t) (key_packed style t false r s)
 
 -- ---- trees
 
 mutual
-  packs_packed : (t : Tree) (variant : Bool) → IsInRange t → IsShortTree t → IfOk IsPacked (packs t variant)
-  packs_packed Null variant r s = tt
-  packs_packed (Truth b) variant r s = tt
-  packs_packed (Int type n) variant r s = (n, refl, type_128 type n r)
-  packs_packed (Text bytes) variant r s = (r, s)
-  packs_packed (Binary bytes) variant r s = bytes_packed bytes r
-  packs_packed (Standalone name) variant r s = own_packed name r s
-  packs_packed (Tagged name tree) variant r s =
-      if_map IsPacked IsPacked (wrap Inside variant name) (tagged_pack (text_kind name.tag) tree (packs tree false)) (λ json m. wrap_packed variant name json r.0 s.0 m)
-      (tagged_packed (text_kind name.tag) tree (packs tree false) (packs_packed tree false r.1 s.1))
-  packs_packed (EmptyEnum name) variant r s = wrap_packed variant name (own name) r s (own_packed name r s)
-  packs_packed (Enum name tree) variant r s = if_map IsPacked IsPacked (wrap Inside variant name) (packs tree true) (λ json m. wrap_packed variant name json r.0 s.0 m) (packs_packed tree true r.1 s.1)
-  packs_packed (Container Head.Seq parts) variant r s = if_map ArePacked IsPacked shape.array (packed_items parts) (λ row m. m) (items_packed parts r.1 s.1)
-  packs_packed (Container Head.Map parts) variant r s = if_map PairsArePacked IsPacked shape.object (packed_pairs parts) (λ row m. m) (pairs_packed parts r.1 s.1)
-  packs_packed (Container (Head.Record name) parts) variant r s =
-      if_map PairsArePacked IsPacked (λ fields. wrap Inside variant name (shape.object fields)) (packed_pairs parts) (λ fields m. wrap_packed variant name (shape.object fields) r.0 s.0 m) (pairs_packed parts r.1 s.1)
-  packs_packed (Container (Head.Tuple name) parts) variant r s =
-      if_map ArePacked IsPacked (λ places. wrap Inside variant name (shape.array places)) (packed_items parts) (λ places m. wrap_packed variant name (shape.array places) r.0 s.0 m) (items_packed parts r.1 s.1)
-  packs_packed (Container (Head.RecordTuple name) parts) variant r s =
-      if_map PairsArePacked IsPacked (λ fields. wrap Inside variant name (shape.object fields)) (packed_pairs parts) (λ fields m. wrap_packed variant name (shape.object fields) r.0 s.0 m) (pairs_packed parts r.1 s.1)
+  packs_packed : (style : Style) (t : Tree) (variant : Bool) → IsInRange t → IsShortTreeAs style t → IfOk (IsPacked style) (packs style t variant)
+  packs_packed style Null variant r s = tt
+  packs_packed style (Truth b) variant r s = tt
+  packs_packed style (Int type n) variant r s = (n, refl, type_128 type n r)
+  packs_packed style (Text bytes) variant r s = (r, s)
+  packs_packed style (Binary bytes) variant r s = binary_packed style style.binaries bytes refl r s
+  packs_packed style (Standalone name) variant r s = own_packed style name r s
+  packs_packed style (Tagged name tree) variant r s =
+      if_map (IsPacked style) (IsPacked style) (wrap Inside variant name) (tagged_pack (text_kind name.tag) tree (packs style tree false)) (λ json m. wrap_packed style variant name json r.0 s.0 m)
+      (tagged_packed style (text_kind name.tag) tree (packs style tree false) (packs_packed style tree false r.1 s.1))
+  packs_packed style (EmptyEnum name) variant r s = wrap_packed style variant name (own name) r s (own_packed style name r s)
+  packs_packed style (Enum name tree) variant r s = if_map (IsPacked style) (IsPacked style) (wrap Inside variant name) (packs style tree true) (λ json m. wrap_packed style variant name json r.0 s.0 m) (packs_packed style tree true r.1 s.1)
+  packs_packed style (Container Head.Seq parts) variant r s = if_map (ArePacked style) (IsPacked style) shape.array (packed_items style parts) (λ row m. m) (items_packed style parts r.1 s.1)
+  packs_packed style (Container Head.Map parts) variant r s = if_map (PairsArePacked style) (IsPacked style) shape.object (packed_pairs style parts) (λ row m. m) (pairs_packed style parts r.1 s.1)
+  packs_packed style (Container (Head.Record name) parts) variant r s =
+      if_map (PairsArePacked style) (IsPacked style) (λ fields. wrap Inside variant name (shape.object fields)) (packed_pairs style parts) (λ fields m. wrap_packed style variant name (shape.object fields) r.0 s.0 m) (pairs_packed style parts r.1 s.1)
+  packs_packed style (Container (Head.Tuple name) parts) variant r s =
+      if_map (ArePacked style) (IsPacked style) (λ places. wrap Inside variant name (shape.array places)) (packed_items style parts) (λ places m. wrap_packed style variant name (shape.array places) r.0 s.0 m) (items_packed style parts r.1 s.1)
+  packs_packed style (Container (Head.RecordTuple name) parts) variant r s =
+      if_map (PairsArePacked style) (IsPacked style) (λ fields. wrap Inside variant name (shape.object fields)) (packed_pairs style parts) (λ fields m. wrap_packed style variant name (shape.object fields) r.0 s.0 m) (pairs_packed style parts r.1 s.1)
 
-  items_packed : (parts : Parts) → AreInRange parts → AreShort parts → IfOk ArePacked (packed_items parts)
-  items_packed none r s = tt
-  items_packed (part slot tree parts) r s =
-      if_on IsPacked ArePacked (λ json. map_packed (item json) (packed_items parts)) (packs tree false)
-      (λ json m. if_map ArePacked ArePacked (item json) (packed_items parts) (λ row n. (m, n)) (items_packed parts r.2 s.2)) (packs_packed tree false r.1 s.1)
+  items_packed : (style : Style) (parts : Parts) → AreInRange parts → AreShortAs style parts → IfOk (ArePacked style) (packed_items style parts)
+  items_packed style none r s = tt
+  items_packed style (part slot tree parts) r s =
+      if_on (IsPacked style) (ArePacked style) (λ json. map_packed (item json) (packed_items style parts)) (packs style tree false)
+      (λ json m. if_map (ArePacked style) (ArePacked style) (item json) (packed_items style parts) (λ row n. (m, n)) (items_packed style parts r.2 s.2)) (packs_packed style tree false r.1 s.1)
 
-  pairs_packed : (parts : Parts) → AreInRange parts → AreShort parts → IfOk PairsArePacked (packed_pairs parts)
-  pairs_packed (part Slot.Key name (part slot tree parts)) r s =
-      if_on IsPackedKey PairsArePacked (λ k. on_packed (packs tree false) (λ json. map_packed (pair k json) (packed_pairs parts))) (pack_key name)
-      (λ k n. if_on IsPacked PairsArePacked (λ json. map_packed (pair k json) (packed_pairs parts)) (packs tree false)
-      (λ json m. if_map PairsArePacked PairsArePacked (pair k json) (packed_pairs parts) (λ row o. (n, m, o)) (pairs_packed parts r.2.2 s.2.2)) (packs_packed tree false r.2.1 s.2.1))
-      (pack_key_packed name r.1 s.1)
-  pairs_packed (part (Slot.Field tag label) tree parts) r s =
-      if_on IsPacked PairsArePacked (λ json. map_packed (pair (escaped_key label.text) json) (packed_pairs parts)) (packs tree false)
-      (λ json m. if_map PairsArePacked PairsArePacked (pair (escaped_key label.text) json) (packed_pairs parts) (λ row o. ((r.0, s.0), m, o)) (pairs_packed parts r.2 s.2))
-      (packs_packed tree false r.1 s.1)
-  pairs_packed (part (Slot.FieldPlace tag label index) tree parts) r s =
-      if_on IsPacked PairsArePacked (λ json. map_packed (pair (escaped_key label.text) json) (packed_pairs parts)) (packs tree false)
-      (λ json m. if_map PairsArePacked PairsArePacked (pair (escaped_key label.text) json) (packed_pairs parts) (λ row o. ((r.0.0, s.0), m, o)) (pairs_packed parts r.2 s.2))
-      (packs_packed tree false r.1 s.1)
-  pairs_packed parts r s = tt
+  pairs_packed : (style : Style) (parts : Parts) → AreInRange parts → AreShortAs style parts → IfOk (PairsArePacked style) (packed_pairs style parts)
+  pairs_packed style (part Slot.Key name (part slot tree parts)) r s =
+      if_on IsPackedKey (PairsArePacked style) (λ k. on_packed (packs style tree false) (λ json. map_packed (pair k json) (packed_pairs style parts))) (pack_key name)
+      (λ k n. if_on (IsPacked style) (PairsArePacked style) (λ json. map_packed (pair k json) (packed_pairs style parts)) (packs style tree false)
+      (λ json m. if_map (PairsArePacked style) (PairsArePacked style) (pair k json) (packed_pairs style parts) (λ row o. (n, m, o)) (pairs_packed style parts r.2.2 s.2.2)) (packs_packed style tree false r.2.1 s.2.1))
+      (pack_key_packed style name r.1 s.1)
+  pairs_packed style (part (Slot.Field tag label) tree parts) r s =
+      if_on (IsPacked style) (PairsArePacked style) (λ json. map_packed (pair (escaped_key label.text) json) (packed_pairs style parts)) (packs style tree false)
+      (λ json m. if_map (PairsArePacked style) (PairsArePacked style) (pair (escaped_key label.text) json) (packed_pairs style parts) (λ row o. ((r.0, s.0), m, o)) (pairs_packed style parts r.2 s.2))
+      (packs_packed style tree false r.1 s.1)
+  pairs_packed style (part (Slot.FieldPlace tag label index) tree parts) r s =
+      if_on (IsPacked style) (PairsArePacked style) (λ json. map_packed (pair (escaped_key label.text) json) (packed_pairs style parts)) (packs style tree false)
+      (λ json m. if_map (PairsArePacked style) (PairsArePacked style) (pair (escaped_key label.text) json) (packed_pairs style parts) (λ row o. ((r.0.0, s.0), m, o)) (pairs_packed style parts r.2 s.2))
+      (packs_packed style tree false r.1 s.1)
+  pairs_packed style parts r s = tt
 
 -- a real tree with short texts packs to such a shape
-pub packed : (tree : Tree) (json : Json) → IsReal tree → IsShortTree tree → pack_of tree ≡ Ok json → IsPacked json
-packed tree json r s e = subst (IfOk IsPacked) e (packs_packed tree false r.1 s)
+pub packed : (style : Style) (tree : Tree) (json : Json) → IsReal tree → IsShortTreeAs style tree → pack_as style tree ≡ Ok json → IsPacked style json
+packed style tree json r s e = subst (IfOk (IsPacked style)) e (packs_packed style tree false r.1 s)

@@ -21,6 +21,7 @@ use Rattle.sval_json.specs.Promises.{KeepsLabelPromise}
 use Rattle.sval_json.proofs.NumberGrammar.{number_bytes}
 use Rattle.sval_json.proofs.EscapedPieces.{escaped-plain}
 use Rattle.sval_json.proofs.NumberTexts.{normal_form}
+use Rattle.sval_cbor.specs.declared.style.TheConstants.Style.{DEFAULT}
 use Rattle.sval_cbor.specs.Packs.{PackRefusal, NotInteger, on_packed, map_packed, is_whole_number, number_pack, tagged_pack, is_raw_kind, is_raw, key_bytes, pack_key_as, pack_key, packs, packed_items, packed_pairs, pack_of}
 use Rattle.sval_cbor.specs.Premises.{HasPlainIdentifiers, HavePlainIdentifiers}
 
@@ -176,7 +177,7 @@ label_agrees label h = (elim (is_identifier label.tag) as (λ b. is_identifier l
 -- ---- trees
 
 mutual
-  same : (t : Tree) (variant : Bool) → HasPlainIdentifiers t → Agree SameText (packs t variant) (json_shape.shape Inside t variant)
+  same : (t : Tree) (variant : Bool) → HasPlainIdentifiers t → Agree SameText (packs DEFAULT t variant) (json_shape.shape Inside t variant)
   same Null variant p = refl
   same (Truth b) variant p = refl
   same (Int type n) variant p = refl
@@ -184,42 +185,42 @@ mutual
   same (Binary bytes) variant p = refl
   same (Standalone name) variant p = refl
   same (Tagged name tree) variant p =
-      agree_map SameText SameText (wrap Inside variant name) (wrap Inside variant name) (tagged_pack (text_kind name.tag) tree (packs tree false)) (tagged_json (text_kind name.tag) tree (json_shape.shape Inside tree false))
-      (same_wrap variant name) (tagged_agrees (text_kind name.tag) tree (packs tree false) (json_shape.shape Inside tree false) (same tree false p))
+      agree_map SameText SameText (wrap Inside variant name) (wrap Inside variant name) (tagged_pack (text_kind name.tag) tree (packs DEFAULT tree false)) (tagged_json (text_kind name.tag) tree (json_shape.shape Inside tree false))
+      (same_wrap variant name) (tagged_agrees (text_kind name.tag) tree (packs DEFAULT tree false) (json_shape.shape Inside tree false) (same tree false p))
   same (EmptyEnum name) variant p = refl
-  same (Enum name tree) variant p = agree_map SameText SameText (wrap Inside variant name) (wrap Inside variant name) (packs tree true) (json_shape.shape Inside tree true) (same_wrap variant name) (same tree true p)
-  same (Container Head.Seq parts) variant p = agree_map SameItems SameText shape.array shape.array (packed_items parts) (items Inside parts) same_array (same_items parts p)
-  same (Container Head.Map parts) variant p = agree_map SamePairs SameText shape.object shape.object (packed_pairs parts) (pairs Inside parts) same_object (same_pairs parts p)
+  same (Enum name tree) variant p = agree_map SameText SameText (wrap Inside variant name) (wrap Inside variant name) (packs DEFAULT tree true) (json_shape.shape Inside tree true) (same_wrap variant name) (same tree true p)
+  same (Container Head.Seq parts) variant p = agree_map SameItems SameText shape.array shape.array (packed_items DEFAULT parts) (items Inside parts) same_array (same_items parts p)
+  same (Container Head.Map parts) variant p = agree_map SamePairs SameText shape.object shape.object (packed_pairs DEFAULT parts) (pairs Inside parts) same_object (same_pairs parts p)
   same (Container (Head.Record name) parts) variant p =
-      agree_map SamePairs SameText (λ row. wrap Inside variant name (shape.object row)) (λ row. wrap Inside variant name (shape.object row)) (packed_pairs parts) (pairs Inside parts)
+      agree_map SamePairs SameText (λ row. wrap Inside variant name (shape.object row)) (λ row. wrap Inside variant name (shape.object row)) (packed_pairs DEFAULT parts) (pairs Inside parts)
       (λ x y h. same_wrap variant name (shape.object x) (shape.object y) (same_object x y h)) (same_pairs parts p)
   same (Container (Head.Tuple name) parts) variant p =
-      agree_map SameItems SameText (λ row. wrap Inside variant name (shape.array row)) (λ row. wrap Inside variant name (shape.array row)) (packed_items parts) (items Inside parts)
+      agree_map SameItems SameText (λ row. wrap Inside variant name (shape.array row)) (λ row. wrap Inside variant name (shape.array row)) (packed_items DEFAULT parts) (items Inside parts)
       (λ x y h. same_wrap variant name (shape.array x) (shape.array y) (same_array x y h)) (same_items parts p)
   same (Container (Head.RecordTuple name) parts) variant p =
-      agree_map SamePairs SameText (λ row. wrap Inside variant name (shape.object row)) (λ row. wrap Inside variant name (shape.object row)) (packed_pairs parts) (pairs Inside parts)
+      agree_map SamePairs SameText (λ row. wrap Inside variant name (shape.object row)) (λ row. wrap Inside variant name (shape.object row)) (packed_pairs DEFAULT parts) (pairs Inside parts)
       (λ x y h. same_wrap variant name (shape.object x) (shape.object y) (same_object x y h)) (same_pairs parts p)
 
-  same_items : (parts : Parts) → HavePlainIdentifiers parts → Agree SameItems (packed_items parts) (items Inside parts)
+  same_items : (parts : Parts) → HavePlainIdentifiers parts → Agree SameItems (packed_items DEFAULT parts) (items Inside parts)
   same_items none p = λ first. refl
   same_items (part slot tree parts) p =
-      agree_on SameText SameItems (λ json. map_packed (item json) (packed_items parts)) (λ json. json_shape.map_ok (item json) (items Inside parts)) (packs tree false) (json_shape.shape Inside tree false)
-      (λ x y h. agree_map SameItems SameItems (item x) (item y) (packed_items parts) (items Inside parts) (λ row other k. same_item x y row other h k) (same_items parts p.2)) (same tree false p.1)
+      agree_on SameText SameItems (λ json. map_packed (item json) (packed_items DEFAULT parts)) (λ json. json_shape.map_ok (item json) (items Inside parts)) (packs DEFAULT tree false) (json_shape.shape Inside tree false)
+      (λ x y h. agree_map SameItems SameItems (item x) (item y) (packed_items DEFAULT parts) (items Inside parts) (λ row other k. same_item x y row other h k) (same_items parts p.2)) (same tree false p.1)
 
-  same_pairs : (parts : Parts) → HavePlainIdentifiers parts → Agree SamePairs (packed_pairs parts) (pairs Inside parts)
+  same_pairs : (parts : Parts) → HavePlainIdentifiers parts → Agree SamePairs (packed_pairs DEFAULT parts) (pairs Inside parts)
   same_pairs (part Slot.Key name (part slot tree parts)) p =
-      agree_on SameKey SamePairs (λ k. on_packed (packs tree false) (λ json. map_packed (pair k json) (packed_pairs parts))) (λ k. json_shape.on_ok (json_shape.shape Inside tree false) (λ json. json_shape.map_ok (pair k json) (pairs Inside parts)))
+      agree_on SameKey SamePairs (λ k. on_packed (packs DEFAULT tree false) (λ json. map_packed (pair k json) (packed_pairs DEFAULT parts))) (λ k. json_shape.on_ok (json_shape.shape Inside tree false) (λ json. json_shape.map_ok (pair k json) (pairs Inside parts)))
       (pack_key name) (key name false)
-      (λ a b d. agree_on SameText SamePairs (λ json. map_packed (pair a json) (packed_pairs parts)) (λ json. json_shape.map_ok (pair b json) (pairs Inside parts)) (packs tree false) (json_shape.shape Inside tree false)
-      (λ x y h. agree_map SamePairs SamePairs (pair a x) (pair b y) (packed_pairs parts) (pairs Inside parts) (λ row other k. same_pair a b x y row other d h k) (same_pairs parts p.2.2)) (same tree false p.2.1))
+      (λ a b d. agree_on SameText SamePairs (λ json. map_packed (pair a json) (packed_pairs DEFAULT parts)) (λ json. json_shape.map_ok (pair b json) (pairs Inside parts)) (packs DEFAULT tree false) (json_shape.shape Inside tree false)
+      (λ x y h. agree_map SamePairs SamePairs (pair a x) (pair b y) (packed_pairs DEFAULT parts) (pairs Inside parts) (λ row other k. same_pair a b x y row other d h k) (same_pairs parts p.2.2)) (same tree false p.2.1))
       (key_agrees name)
   same_pairs (part (Slot.Field tag label) tree parts) p =
-      agree_on SameText SamePairs (λ json. map_packed (pair (escaped_key label.text) json) (packed_pairs parts)) (λ json. json_shape.map_ok (pair (field_key label) json) (pairs Inside parts)) (packs tree false) (json_shape.shape Inside tree false)
-      (λ x y h. agree_map SamePairs SamePairs (pair (escaped_key label.text) x) (pair (field_key label) y) (packed_pairs parts) (pairs Inside parts)
+      agree_on SameText SamePairs (λ json. map_packed (pair (escaped_key label.text) json) (packed_pairs DEFAULT parts)) (λ json. json_shape.map_ok (pair (field_key label) json) (pairs Inside parts)) (packs DEFAULT tree false) (json_shape.shape Inside tree false)
+      (λ x y h. agree_map SamePairs SamePairs (pair (escaped_key label.text) x) (pair (field_key label) y) (packed_pairs DEFAULT parts) (pairs Inside parts)
       (λ row other k. same_pair (escaped_key label.text) (field_key label) x y row other (label_agrees label p.0) h k) (same_pairs parts p.2)) (same tree false p.1)
   same_pairs (part (Slot.FieldPlace tag label index) tree parts) p =
-      agree_on SameText SamePairs (λ json. map_packed (pair (escaped_key label.text) json) (packed_pairs parts)) (λ json. json_shape.map_ok (pair (field_key label) json) (pairs Inside parts)) (packs tree false) (json_shape.shape Inside tree false)
-      (λ x y h. agree_map SamePairs SamePairs (pair (escaped_key label.text) x) (pair (field_key label) y) (packed_pairs parts) (pairs Inside parts)
+      agree_on SameText SamePairs (λ json. map_packed (pair (escaped_key label.text) json) (packed_pairs DEFAULT parts)) (λ json. json_shape.map_ok (pair (field_key label) json) (pairs Inside parts)) (packs DEFAULT tree false) (json_shape.shape Inside tree false)
+      (λ x y h. agree_map SamePairs SamePairs (pair (escaped_key label.text) x) (pair (field_key label) y) (packed_pairs DEFAULT parts) (pairs Inside parts)
       (λ row other k. same_pair (escaped_key label.text) (field_key label) x y row other (label_agrees label p.0) h k) (same_pairs parts p.2)) (same tree false p.1)
   same_pairs parts p = λ first. refl
 

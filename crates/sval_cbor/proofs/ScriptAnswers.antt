@@ -27,6 +27,7 @@ use Rattle.sval_program.proofs.ReadAnswers.{read_bad}
 use Rattle.sval_program.specs.Verdict.{Whole}
 use Rattle.sval_cbor.specs.declared.error.CborError.{CborError}
 use Rattle.sval_cbor.specs.declared.error.CborError.TheVariants as error
+use Rattle.sval_cbor.specs.declared.style.TheConstants.Style.{DEFAULT}
 use Rattle.sval_cbor.specs.Packs.{PackRefusal, BadKey, BadNumber, RawJson, NotInteger}
 use Rattle.sval_cbor.specs.Serves.{CborDue, of_value, of_bad_line, of_bad_call, of_unfinished, of_bad_key, of_bad_number, of_raw, of_no_integer, cbor_terms, failure_of_cbor}
 use Rattle.sval_cbor.specs.Streamed.{IsChecked, IsCauseOfValue, AnswersBytes, AnswersDue, refusal_error}
@@ -110,7 +111,7 @@ module _ (script : List ℕ) (calls : List Call) (good : lines script ≡ Good c
   -- what is captured of them is written as the verdict
   pub captured_verdict : IsChecked (makes calls) → (held : Forest) → forest calls ≡ Holds held → IsCborVerdict (Whole (written_cbor (replayed held))) script
   captured_verdict checked held taken =
-      let (tree, spells) = checked.value.spells in record { calls = calls; good = good; is = record { tree = tree; spells = spells; is = captured_is_written calls tree held spells taken } }
+      let (tree, spells) = checked.value.spells in record { calls = calls; good = good; is = record { tree = tree; spells = spells; is = captured_is_written DEFAULT calls tree held spells taken } }
 
   -- what checking found
   pub check_fails : {K : Type 0} (told : K → Told) (out : K) (why : CheckError) (failed : Failure) → failure_of_check false why ≡ Some failed

@@ -6,15 +6,16 @@ use Rattle.sval_core.specs.Trees.{Tree, Null, Truth, Int, Text, Binary, Standalo
 use Rattle.sval_json.specs.Json as shape
 use Rattle.sval_json.specs.Json.{Key, escaped_key, Json, Items, no_item, item, Pairs, no_pair, pair}
 use Rattle.sval_json.specs.declared.style.Variants.TheVariants.{Inside}
-use Rattle.sval_json.specs.Shape.{handle, own, wrap_in, wrap, byte_items}
-use Rattle.sval_cbor.specs.Packs.{PackRefusal, on_packed, map_packed, tagged_pack, packs, packed_items, packed_pairs}
+use Rattle.sval_json.specs.Shape.{handle, own, wrap_in, wrap}
+use Rattle.sval_cbor.specs.declared.style.Style.{Style}
+use Rattle.sval_cbor.specs.Packs.{PackRefusal, on_packed, map_packed, tagged_pack, binary_shape, packs, packed_items, packed_pairs}
 use Rattle.sval_cbor.specs.Cbor.{string, cbor, cbor_items, cbor_pairs}
 use Rattle.sval_cbor.specs.Writing.{EnumPlace, Elsewhere, Begun, Ended, CborState, cbor_state, opening, after_handle, enum_end_bytes}
 use Rattle.sval_cbor.proofs.WritingPlain.{prepend, prepend_twice, and_then, bare_handle}
 use Rattle.sval_cbor.proofs.WritingKeys.{key_string, is_begun, after}
 
-abbrev pub in_value : EnumPlace → CborState
-in_value place = cbor_state place false false
+abbrev pub in_value : Style → EnumPlace → CborState
+in_value style place = cbor_state style place false false
 
 abbrev nameless : Name
 nameless = record { tag = None; label = None; index = None }
@@ -30,14 +31,14 @@ name_of (Container (Head.RecordTuple name) _) = name
 name_of _ = nameless
 
 -- what it packs to without that name
-abbrev pub body : Tree → Result Json PackRefusal
-body (Tagged name tree) = tagged_pack (text_kind name.tag) tree (packs tree false)
-body (EmptyEnum name) = Ok (own name)
-body (Enum name tree) = packs tree true
-body (Container (Head.Record name) parts) = map_packed shape.object (packed_pairs parts)
-body (Container (Head.Tuple name) parts) = map_packed shape.array (packed_items parts)
-body (Container (Head.RecordTuple name) parts) = map_packed shape.object (packed_pairs parts)
-body tree = packs tree false
+abbrev pub body : Style → Tree → Result Json PackRefusal
+body style (Tagged name tree) = tagged_pack (text_kind name.tag) tree (packs style tree false)
+body style (EmptyEnum name) = Ok (own name)
+body style (Enum name tree) = packs style tree true
+body style (Container (Head.Record name) parts) = map_packed shape.object (packed_pairs style parts)
+body style (Container (Head.Tuple name) parts) = map_packed shape.array (packed_items style parts)
+body style (Container (Head.RecordTuple name) parts) = map_packed shape.object (packed_pairs style parts)
+body style tree = packs style tree false
 
 -- directly in an enum, what comes in front of a value that has a handle
 abbrev pub front : Option (List ℕ) → Bool → List ℕ
@@ -45,8 +46,8 @@ front (Some bytes) variant = if variant then 0xbf ∷ string 3 bytes else []
 front None variant = []
 
 -- what is written of a tree before its enum ends
-abbrev pub unclosed : Tree → Bool → Result (List ℕ) PackRefusal
-unclosed t variant = map_packed (λ json. front (handle (name_of t)) variant ++ cbor json) (body t)
+abbrev pub unclosed : Style → Tree → Bool → Result (List ℕ) PackRefusal
+unclosed style t variant = map_packed (λ json. front (handle (name_of t)) variant ++ cbor json) (body style t)
 
 -- ---- results
 
@@ -65,21 +66,21 @@ nameless_wrap false j = refl
 leaf_packs : (variant : Bool) (r : Result Json PackRefusal) → r ≡ map_packed (wrap Inside variant nameless) r
 leaf_packs variant r = sym (map_same (wrap Inside variant nameless) (nameless_wrap variant) r)
 
-pub packs_body : (t : Tree) (variant : Bool) → packs t variant ≡ map_packed (wrap Inside variant (name_of t)) (body t)
-packs_body Null variant = leaf_packs variant (Ok shape.null)
-packs_body (Truth b) variant = leaf_packs variant (Ok (shape.truth b))
-packs_body (Int type n) variant = leaf_packs variant (packs (Int type n) false)
-packs_body (Text bytes) variant = leaf_packs variant (Ok (shape.text bytes))
-packs_body (Binary bytes) variant = leaf_packs variant (Ok (shape.array (byte_items bytes)))
-packs_body (Standalone name) variant = leaf_packs variant (Ok (own name))
-packs_body (Tagged name tree) variant = refl
-packs_body (EmptyEnum name) variant = refl
-packs_body (Enum name tree) variant = refl
-packs_body (Container Head.Seq parts) variant = leaf_packs variant (map_packed shape.array (packed_items parts))
-packs_body (Container Head.Map parts) variant = leaf_packs variant (map_packed shape.object (packed_pairs parts))
-packs_body (Container (Head.Record name) parts) variant = sym (map_twice shape.object (wrap Inside variant name) (packed_pairs parts))
-packs_body (Container (Head.Tuple name) parts) variant = sym (map_twice shape.array (wrap Inside variant name) (packed_items parts))
-packs_body (Container (Head.RecordTuple name) parts) variant = sym (map_twice shape.object (wrap Inside variant name) (packed_pairs parts))
+pub packs_body : (style : Style) (t : Tree) (variant : Bool) → packs style t variant ≡ map_packed (wrap Inside variant (name_of t)) (body style t)
+packs_body style Null variant = leaf_packs variant (Ok shape.null)
+packs_body style (Truth b) variant = leaf_packs variant (Ok (shape.truth b))
+packs_body style (Int type n) variant = leaf_packs variant (packs style (Int type n) false)
+packs_body style (Text bytes) variant = leaf_packs variant (Ok (shape.text bytes))
+packs_body style (Binary bytes) variant = leaf_packs variant (Ok (binary_shape style.binaries bytes))
+packs_body style (Standalone name) variant = leaf_packs variant (Ok (own name))
+packs_body style (Tagged name tree) variant = refl
+packs_body style (EmptyEnum name) variant = refl
+packs_body style (Enum name tree) variant = refl
+packs_body style (Container Head.Seq parts) variant = leaf_packs variant (map_packed shape.array (packed_items style parts))
+packs_body style (Container Head.Map parts) variant = leaf_packs variant (map_packed shape.object (packed_pairs style parts))
+packs_body style (Container (Head.Record name) parts) variant = sym (map_twice shape.object (wrap Inside variant name) (packed_pairs style parts))
+packs_body style (Container (Head.Tuple name) parts) variant = sym (map_twice shape.array (wrap Inside variant name) (packed_items style parts))
+packs_body style (Container (Head.RecordTuple name) parts) variant = sym (map_twice shape.object (wrap Inside variant name) (packed_pairs style parts))
 
 no_front : (h : Option (List ℕ)) (bytes : List ℕ) → front h false ++ bytes ≡ bytes
 no_front (Some x) bytes = refl
@@ -90,10 +91,10 @@ same_map f g h (Ok x) = ap Ok (h x)
 same_map f g h (Err why) = refl
 
 -- outside enums nothing stands in front
-pub unclosed_plain : (t : Tree) → unclosed t false ≡ map_packed cbor (packs t false)
-unclosed_plain t =
-    same_map (λ json. front (handle (name_of t)) false ++ cbor json) cbor (λ json. no_front (handle (name_of t)) (cbor json)) (body t)
-    ∙ ap (map_packed cbor) (sym (packs_body t false ∙ map_same (wrap Inside false (name_of t)) (λ json. refl) (body t)))
+pub unclosed_plain : (style : Style) (t : Tree) → unclosed style t false ≡ map_packed cbor (packs style t false)
+unclosed_plain style t =
+    same_map (λ json. front (handle (name_of t)) false ++ cbor json) cbor (λ json. no_front (handle (name_of t)) (cbor json)) (body style t)
+    ∙ ap (map_packed cbor) (sym (packs_body style t false ∙ map_same (wrap Inside false (name_of t)) (λ json. refl) (body style t)))
 
 pub value_opening : (h : Option (List ℕ)) (place : EnumPlace) → opening h place false ≡ (let r : Result (List ℕ) PackRefusal = Ok (front h (is_begun place)) in r)
 value_opening (Some bytes) Begun = refl

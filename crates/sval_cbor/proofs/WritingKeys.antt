@@ -9,6 +9,7 @@ use Rattle.sval_json.specs.Number as json
 use Rattle.sval_json.specs.Number.{is_negative, is_number, is_word, without_zeros, with_sign, normal}
 use Rattle.sval_json.specs.Digits.{digits_of, after_digits, without_sign}
 use Rattle.sval_json.specs.Shape.{map_ok as json_map_ok, handle, own, is_wrapped, tagged_key, bare_text, key}
+use Rattle.sval_cbor.specs.declared.style.Style.{Style}
 use Rattle.sval_cbor.specs.Packs.{PackRefusal, BadKey, RawJson, on_packed, map_packed, is_raw_kind, is_raw, key_bytes, pack_key_as}
 use Rattle.sval_cbor.specs.Cbor.{string}
 use Rattle.sval_cbor.specs.Writing.{EnumPlace, Elsewhere, Begun, Ended, CborState, cbor_state, CborStep, writes, number_key, opening, after_handle, enum_end_bytes, tagged_begins, written_from, HaveWholeTexts}
@@ -35,9 +36,6 @@ after (Container (Head.Record name) _) = after_handle (handle (bare_name name))
 after (Container (Head.Tuple name) _) = after_handle (handle (bare_name name))
 after (Container (Head.RecordTuple name) _) = after_handle (handle (bare_name name))
 after _ = Elsewhere
-
-abbrev in_key : EnumPlace → CborState
-in_key place = cbor_state place true false
 
 -- the first refusal, or the rest
 abbrev pub rest_of : List Call → Result CborStep PackRefusal → Result (List ℕ) PackRefusal
@@ -85,127 +83,131 @@ number_keyed : (text : List ℕ) (r : Result (List ℕ) json.Refusal) → normal
 number_keyed text (Ok out) e = refl
 number_keyed text (Err why) e = ap (λ x. map_packed key_string (pack_key_as (Err x) false)) (sym (normal_err text why e))
 
--- the calls of a text that stands for a number, in a key
-number_ended : (r : Result (List ℕ) PackRefusal) (name : Name) (rest : List Call)
-    → rest_of (Call.TextEnd ∷ Call.TaggedEnd name ∷ rest) (on_packed r (λ made. writes made (cbor_state Elsewhere true true))) ≡ and_then r (written_from rest (in_key (after_handle (handle name))))
-number_ended (Ok made) name rest = let q = written_from rest (in_key (after_handle (handle name))) in ap (prepend made) (prepend_nothing (prepend [] q) ∙ prepend_nothing q)
-number_ended (Err why) name rest = refl
+module _ (style : Style) where
+  abbrev in_key : EnumPlace → CborState
+  in_key place = cbor_state style place true false
 
-number_calls : (text : List ℕ) (calls : List Call) (name : Name) (rest : List Call) → IsWholeText calls text (Call.TaggedEnd name ∷ rest)
-    → written_from calls (cbor_state Elsewhere true true) ≡ and_then (number_key (normal text)) (written_from rest (in_key (after_handle (handle name))))
-number_calls text calls name rest w =
-    ap (λ cs. written_from cs (cbor_state Elsewhere true true)) w.is ∙ prepend_nothing (rest_of (Call.TextEnd ∷ Call.TaggedEnd name ∷ rest) (on_packed (number_key (normal text)) (λ made. writes made (cbor_state Elsewhere true true))))
-    ∙ number_ended (number_key (normal text)) name rest
+  -- the calls of a text that stands for a number, in a key
+  number_ended : (r : Result (List ℕ) PackRefusal) (name : Name) (rest : List Call)
+      → rest_of (Call.TextEnd ∷ Call.TaggedEnd name ∷ rest) (on_packed r (λ made. writes made (cbor_state style Elsewhere true true))) ≡ and_then r (written_from rest (in_key (after_handle (handle name))))
+  number_ended (Ok made) name rest = let q = written_from rest (in_key (after_handle (handle name))) in ap (prepend made) (prepend_nothing (prepend [] q) ∙ prepend_nothing q)
+  number_ended (Err why) name rest = refl
 
--- ---- tagged keys
+  number_calls : (text : List ℕ) (calls : List Call) (name : Name) (rest : List Call) → IsWholeText calls text (Call.TaggedEnd name ∷ rest)
+      → written_from calls (cbor_state style Elsewhere true true) ≡ and_then (number_key (normal text)) (written_from rest (in_key (after_handle (handle name))))
+  number_calls text calls name rest w =
+      ap (λ cs. written_from cs (cbor_state style Elsewhere true true)) w.is ∙ prepend_nothing (rest_of (Call.TextEnd ∷ Call.TaggedEnd name ∷ rest) (on_packed (number_key (normal text)) (λ made. writes made (cbor_state style Elsewhere true true))))
+      ∙ number_ended (number_key (normal text)) name rest
 
--- a key under a tag, where its name opens nothing
-abbrev tagged_result : Bool → TextKind → Tree → Result (List ℕ) PackRefusal
-tagged_result wrapped kind tree = map_packed key_string (pack_key_as (if wrapped then Err json.InvalidKey else tagged_key kind tree (key tree false)) (is_raw_kind kind || is_raw tree))
+  -- ---- tagged keys
 
-abbrev opened_key : Bool → Result (List ℕ) PackRefusal
-opened_key b = if b then Err BadKey else Ok []
+  -- a key under a tag, where its name opens nothing
+  abbrev tagged_result : Bool → TextKind → Tree → Result (List ℕ) PackRefusal
+  tagged_result wrapped kind tree = map_packed key_string (pack_key_as (if wrapped then Err json.InvalidKey else tagged_key kind tree (key tree false)) (is_raw_kind kind || is_raw tree))
 
-ordinary_key : (b : Bool) (tree : Tree) (inner : List Call) (name : Name) (rest : List Call)
-    → written_from inner (in_key Elsewhere) ≡ and_then (key_result tree false) (written_from (Call.TaggedEnd name ∷ rest) (in_key (after tree)))
-    → rest_of inner (on_packed (opened_key b) (λ front. writes (front ++ []) (in_key Elsewhere))) ≡ and_then (tagged_result b Ordinary tree) (written_from rest (in_key (after_handle (handle name))))
-ordinary_key true tree inner name rest h = refl
-ordinary_key false tree inner name rest h = prepend_nothing (written_from inner (in_key Elsewhere)) ∙ h ∙ and_nothing (key_result tree false) (written_from rest (in_key (after_handle (handle name))))
+  abbrev opened_key : Bool → Result (List ℕ) PackRefusal
+  opened_key b = if b then Err BadKey else Ok []
 
-numeric_key : (b : Bool) (text : List ℕ) (inner : List Call) (name : Name) (rest : List Call) → IsWholeText inner text (Call.TaggedEnd name ∷ rest)
-    → rest_of inner (on_packed (opened_key b) (λ front. writes (front ++ []) (cbor_state Elsewhere true true))) ≡ and_then (tagged_result b Number (Text text)) (written_from rest (in_key (after_handle (handle name))))
-numeric_key true text inner name rest w = refl
-numeric_key false text inner name rest w =
-    prepend_nothing (written_from inner (cbor_state Elsewhere true true)) ∙ number_calls text inner name rest w
-    ∙ ap (λ r. and_then r (written_from rest (in_key (after_handle (handle name))))) (number_keyed text (normal text) refl)
+  ordinary_key : (b : Bool) (tree : Tree) (inner : List Call) (name : Name) (rest : List Call)
+      → written_from inner (in_key Elsewhere) ≡ and_then (key_result tree false) (written_from (Call.TaggedEnd name ∷ rest) (in_key (after tree)))
+      → rest_of inner (on_packed (opened_key b) (λ front. writes (front ++ []) (in_key Elsewhere))) ≡ and_then (tagged_result b Ordinary tree) (written_from rest (in_key (after_handle (handle name))))
+  ordinary_key true tree inner name rest h = refl
+  ordinary_key false tree inner name rest h = prepend_nothing (written_from inner (in_key Elsewhere)) ∙ h ∙ and_nothing (key_result tree false) (written_from rest (in_key (after_handle (handle name))))
 
-raw_text_key : (b : Bool) (text : List ℕ) (inner rest : List Call) (q : Result (List ℕ) PackRefusal) → rest_of inner (on_packed (opened_key b) (λ front. Err RawJson)) ≡ and_then (tagged_result b JsonText (Text text)) q
-raw_text_key true text inner rest q = refl
-raw_text_key false text inner rest q = refl
+  numeric_key : (b : Bool) (text : List ℕ) (inner : List Call) (name : Name) (rest : List Call) → IsWholeText inner text (Call.TaggedEnd name ∷ rest)
+      → rest_of inner (on_packed (opened_key b) (λ front. writes (front ++ []) (cbor_state style Elsewhere true true))) ≡ and_then (tagged_result b Number (Text text)) (written_from rest (in_key (after_handle (handle name))))
+  numeric_key true text inner name rest w = refl
+  numeric_key false text inner name rest w =
+      prepend_nothing (written_from inner (cbor_state style Elsewhere true true)) ∙ number_calls text inner name rest w
+      ∙ ap (λ r. and_then r (written_from rest (in_key (after_handle (handle name))))) (number_keyed text (normal text) refl)
 
-raw_number_key : (b : Bool) (text : List ℕ) (inner rest : List Call) (q : Result (List ℕ) PackRefusal) → rest_of inner (on_packed (opened_key b) (λ front. Err RawJson)) ≡ and_then (tagged_result b JsonNumber (Text text)) q
-raw_number_key true text inner rest q = refl
-raw_number_key false text inner rest q = refl
+  raw_text_key : (b : Bool) (text : List ℕ) (inner rest : List Call) (q : Result (List ℕ) PackRefusal) → rest_of inner (on_packed (opened_key b) (λ front. Err RawJson)) ≡ and_then (tagged_result b JsonText (Text text)) q
+  raw_text_key true text inner rest q = refl
+  raw_text_key false text inner rest q = refl
 
-raw_value_key : (b : Bool) (text : List ℕ) (q : Result (List ℕ) PackRefusal) → (let r : Result (List ℕ) PackRefusal = Err BadKey in r) ≡ and_then (tagged_result b JsonValue (Text text)) q
-raw_value_key true text q = refl
-raw_value_key false text q = refl
+  raw_number_key : (b : Bool) (text : List ℕ) (inner rest : List Call) (q : Result (List ℕ) PackRefusal) → rest_of inner (on_packed (opened_key b) (λ front. Err RawJson)) ≡ and_then (tagged_result b JsonNumber (Text text)) q
+  raw_number_key true text inner rest q = refl
+  raw_number_key false text inner rest q = refl
 
--- the result of a tagged key by its kind, whatever its name opens
-abbrev TaggedIsWritten : TextKind → Name → Tree → List Call → List Call → EnumPlace → Type 0
-TaggedIsWritten kind name tree inner rest place =
-    rest_of inner (tagged_begins kind name (in_key place)) ≡ and_then (tagged_result (is_wrapped (is_begun place) name) kind tree) (written_from rest (in_key (after_handle (handle (bare_name name)))))
+  raw_value_key : (b : Bool) (text : List ℕ) (q : Result (List ℕ) PackRefusal) → (let r : Result (List ℕ) PackRefusal = Err BadKey in r) ≡ and_then (tagged_result b JsonValue (Text text)) q
+  raw_value_key true text q = refl
+  raw_value_key false text q = refl
 
-tagged_written : (kind : TextKind) (name : Name) (tree : Tree) (inner rest : List Call) (place : EnumPlace) → MayHold kind tree → Says tree inner (Call.TaggedEnd (bare_name name) ∷ rest) → HaveWholeTexts inner
-    → written_from inner (in_key Elsewhere) ≡ and_then (key_result tree false) (written_from (Call.TaggedEnd (bare_name name) ∷ rest) (in_key (after tree)))
-    → TaggedIsWritten kind name tree inner rest place
-tagged_written Ordinary name tree inner rest place m s w h =
-    ap (λ r. rest_of inner (on_packed r (λ front. writes (front ++ []) (in_key Elsewhere)))) (key_opening (handle name) place) ∙ ordinary_key (is_begun place && is_some (handle name)) tree inner (bare_name name) rest h
-tagged_written Number name (Text text) inner rest place m s w h =
-    ap (λ r. rest_of inner (on_packed r (λ front. writes (front ++ []) (cbor_state Elsewhere true true)))) (key_opening (handle name) place)
-    ∙ numeric_key (is_begun place && is_some (handle name)) text inner (bare_name name) rest (whole_text text inner (Call.TaggedEnd (bare_name name) ∷ rest) s w)
-tagged_written JsonText name (Text text) inner rest place m s w h =
-    ap (λ r. rest_of inner (on_packed r (λ front. Err RawJson))) (key_opening (handle name) place) ∙ raw_text_key (is_begun place && is_some (handle name)) text inner rest (written_from rest (in_key (after_handle (handle (bare_name name)))))
-tagged_written JsonNumber name (Text text) inner rest place m s w h =
-    ap (λ r. rest_of inner (on_packed r (λ front. Err RawJson))) (key_opening (handle name) place) ∙ raw_number_key (is_begun place && is_some (handle name)) text inner rest (written_from rest (in_key (after_handle (handle (bare_name name)))))
-tagged_written JsonValue name (Text text) inner rest place m s w h = raw_value_key (is_wrapped (is_begun place) name) text (written_from rest (in_key (after_handle (handle (bare_name name)))))
-tagged_written kind name tree inner rest place m s w h = absurd m
+  -- the result of a tagged key by its kind, whatever its name opens
+  abbrev TaggedIsWritten : TextKind → Name → Tree → List Call → List Call → EnumPlace → Type 0
+  TaggedIsWritten kind name tree inner rest place =
+      rest_of inner (tagged_begins kind name (in_key place)) ≡ and_then (tagged_result (is_wrapped (is_begun place) name) kind tree) (written_from rest (in_key (after_handle (handle (bare_name name)))))
 
--- ---- enums
+  tagged_written : (kind : TextKind) (name : Name) (tree : Tree) (inner rest : List Call) (place : EnumPlace) → MayHold kind tree → Says tree inner (Call.TaggedEnd (bare_name name) ∷ rest) → HaveWholeTexts inner
+      → written_from inner (in_key Elsewhere) ≡ and_then (key_result tree false) (written_from (Call.TaggedEnd (bare_name name) ∷ rest) (in_key (after tree)))
+      → TaggedIsWritten kind name tree inner rest place
+  tagged_written Ordinary name tree inner rest place m s w h =
+      ap (λ r. rest_of inner (on_packed r (λ front. writes (front ++ []) (in_key Elsewhere)))) (key_opening (handle name) place) ∙ ordinary_key (is_begun place && is_some (handle name)) tree inner (bare_name name) rest h
+  tagged_written Number name (Text text) inner rest place m s w h =
+      ap (λ r. rest_of inner (on_packed r (λ front. writes (front ++ []) (cbor_state style Elsewhere true true)))) (key_opening (handle name) place)
+      ∙ numeric_key (is_begun place && is_some (handle name)) text inner (bare_name name) rest (whole_text text inner (Call.TaggedEnd (bare_name name) ∷ rest) s w)
+  tagged_written JsonText name (Text text) inner rest place m s w h =
+      ap (λ r. rest_of inner (on_packed r (λ front. Err RawJson))) (key_opening (handle name) place) ∙ raw_text_key (is_begun place && is_some (handle name)) text inner rest (written_from rest (in_key (after_handle (handle (bare_name name)))))
+  tagged_written JsonNumber name (Text text) inner rest place m s w h =
+      ap (λ r. rest_of inner (on_packed r (λ front. Err RawJson))) (key_opening (handle name) place) ∙ raw_number_key (is_begun place && is_some (handle name)) text inner rest (written_from rest (in_key (after_handle (handle (bare_name name)))))
+  tagged_written JsonValue name (Text text) inner rest place m s w h = raw_value_key (is_wrapped (is_begun place) name) text (written_from rest (in_key (after_handle (handle (bare_name name)))))
+  tagged_written kind name tree inner rest place m s w h = absurd m
 
-abbrev enum_result : Bool → Result Key json.Refusal → Bool → Result (List ℕ) PackRefusal
-enum_result wrapped k raw = map_packed key_string (pack_key_as (if wrapped then Err json.InvalidKey else k) raw)
+  -- ---- enums
 
-empty_enum_by : (b : Bool) (name : Name) (rest : List Call)
-    → rest_of (Call.EnumEnd (bare_name name) ∷ rest) (on_packed (opened_key b) (λ front. writes (front ++ []) (in_key Begun)))
-    ≡ and_then (enum_result b (Ok (escaped_key (bare_text (own name)))) false) (written_from rest (in_key (after_handle (handle (bare_name name)))))
-empty_enum_by true name rest = refl
-empty_enum_by false name rest =
-    let q = written_from rest (in_key (after_handle (handle (bare_name name)))) in
-    prepend_nothing (prepend (string 3 (bare_text (own (bare_name name)))) q) ∙ ap (λ json. prepend (string 3 (bare_text json)) q) (bare_own name)
+  abbrev enum_result : Bool → Result Key json.Refusal → Bool → Result (List ℕ) PackRefusal
+  enum_result wrapped k raw = map_packed key_string (pack_key_as (if wrapped then Err json.InvalidKey else k) raw)
 
-enum_by : (b : Bool) (name : Name) (tree : Tree) (inner rest : List Call)
-    → written_from inner (in_key Begun) ≡ and_then (key_result tree true) (written_from (Call.EnumEnd (bare_name name) ∷ rest) (in_key (after tree)))
-    → rest_of inner (on_packed (opened_key b) (λ front. writes (front ++ []) (in_key Begun)))
-    ≡ and_then (enum_result b (key tree true) (is_raw tree)) (written_from rest (in_key (after_handle (handle (bare_name name)))))
-enum_by true name tree inner rest h = refl
-enum_by false name tree inner rest h =
-    let q = written_from rest (in_key (after_handle (handle (bare_name name)))) in
-    prepend_nothing (written_from inner (in_key Begun)) ∙ h ∙ ap (λ bytes. and_then (key_result tree true) (prepend bytes q)) (quiet_after tree (own (bare_name name))) ∙ and_nothing (key_result tree true) q
+  empty_enum_by : (b : Bool) (name : Name) (rest : List Call)
+      → rest_of (Call.EnumEnd (bare_name name) ∷ rest) (on_packed (opened_key b) (λ front. writes (front ++ []) (in_key Begun)))
+      ≡ and_then (enum_result b (Ok (escaped_key (bare_text (own name)))) false) (written_from rest (in_key (after_handle (handle (bare_name name)))))
+  empty_enum_by true name rest = refl
+  empty_enum_by false name rest =
+      let q = written_from rest (in_key (after_handle (handle (bare_name name)))) in
+      prepend_nothing (prepend (string 3 (bare_text (own (bare_name name)))) q) ∙ ap (λ json. prepend (string 3 (bare_text json)) q) (bare_own name)
 
--- ---- keys
+  enum_by : (b : Bool) (name : Name) (tree : Tree) (inner rest : List Call)
+      → written_from inner (in_key Begun) ≡ and_then (key_result tree true) (written_from (Call.EnumEnd (bare_name name) ∷ rest) (in_key (after tree)))
+      → rest_of inner (on_packed (opened_key b) (λ front. writes (front ++ []) (in_key Begun)))
+      ≡ and_then (enum_result b (key tree true) (is_raw tree)) (written_from rest (in_key (after_handle (handle (bare_name name)))))
+  enum_by true name tree inner rest h = refl
+  enum_by false name tree inner rest h =
+      let q = written_from rest (in_key (after_handle (handle (bare_name name)))) in
+      prepend_nothing (written_from inner (in_key Begun)) ∙ h ∙ ap (λ bytes. and_then (key_result tree true) (prepend bytes q)) (quiet_after tree (own (bare_name name))) ∙ and_nothing (key_result tree true) q
 
-refused_container : (head : Head) (size : Option ℕ) (calls : List Call) (place : EnumPlace) → written_from (Call.Begin head size ∷ calls) (in_key place) ≡ Err BadKey
-refused_container Head.Seq size calls place = refl
-refused_container Head.Map size calls place = refl
-refused_container (Head.Record name) size calls place = refl
-refused_container (Head.Tuple name) size calls place = refl
-refused_container (Head.RecordTuple name) size calls place = refl
+  -- ---- keys
 
-text_key : (bytes : List ℕ) (calls rest : List Call) (place : EnumPlace) → IsWholeText calls bytes rest → written_from calls (in_key place) ≡ prepend (string 3 bytes) (written_from rest (in_key Elsewhere))
-text_key bytes calls rest place w =
-    ap (λ cs. written_from cs (in_key place)) w.is ∙ prepend_nothing (prepend (string 3 bytes) (prepend [] (written_from rest (in_key Elsewhere))))
-    ∙ ap (prepend (string 3 bytes)) (prepend_nothing (written_from rest (in_key Elsewhere)))
+  refused_container : (head : Head) (size : Option ℕ) (calls : List Call) (place : EnumPlace) → written_from (Call.Begin head size ∷ calls) (in_key place) ≡ Err BadKey
+  refused_container Head.Seq size calls place = refl
+  refused_container Head.Map size calls place = refl
+  refused_container (Head.Record name) size calls place = refl
+  refused_container (Head.Tuple name) size calls place = refl
+  refused_container (Head.RecordTuple name) size calls place = refl
 
-pub key_written : (t : Tree) (calls rest : List Call) (place : EnumPlace) → Says t calls rest → HaveWholeTexts calls → IsGood t
-    → written_from calls (in_key place) ≡ and_then (key_result t (is_begun place)) (written_from rest (in_key (after t)))
-key_written Null calls rest place s w g = ap (λ cs. written_from cs (in_key place)) s
-key_written (Truth b) calls rest place s w g = ap (λ cs. written_from cs (in_key place)) s
-key_written (Int type n) calls rest place s w g = ap (λ cs. written_from cs (in_key place)) s
-key_written (Text bytes) calls rest place s w g = text_key bytes calls rest place (whole_text bytes calls rest s w)
-key_written (Binary bytes) calls rest place s w g = ap (λ cs. written_from cs (in_key place)) s.4
-key_written (Standalone name) calls rest place s w g = ap (λ cs. written_from cs (in_key place)) s
-key_written (Tagged name tree) calls rest place s w g =
-    let v = whole_inside (Call.TaggedBegin name) calls s.0 s.1 refl w in
-    ap (λ cs. written_from cs (in_key place)) s.1
-    ∙ tagged_written (text_kind name.tag) name tree s.0 rest place g.1 s.2 v (key_written tree s.0 (Call.TaggedEnd (bare_name name) ∷ rest) Elsewhere s.2 v g.2)
-key_written (EmptyEnum name) calls rest place s w g =
-    ap (λ cs. written_from cs (in_key place)) s
-    ∙ ap (λ r. rest_of (Call.EnumEnd (bare_name name) ∷ rest) (on_packed r (λ front. writes (front ++ []) (in_key Begun)))) (key_opening (handle name) place)
-    ∙ empty_enum_by (is_begun place && is_some (handle name)) name rest
-key_written (Enum name tree) calls rest place s w g =
-    let v = whole_inside (Call.EnumBegin name) calls s.0 s.1 refl w in
-    ap (λ cs. written_from cs (in_key place)) s.1
-    ∙ ap (λ r. rest_of s.0 (on_packed r (λ front. writes (front ++ []) (in_key Begun)))) (key_opening (handle name) place)
-    ∙ enum_by (is_begun place && is_some (handle name)) name tree s.0 rest (key_written tree s.0 (Call.EnumEnd (bare_name name) ∷ rest) Begun s.2 v g.2)
-key_written (Container head parts) calls rest place s w g = ap (λ cs. written_from cs (in_key place)) s.3 ∙ refused_container head s.0 s.1 place
+  text_key : (bytes : List ℕ) (calls rest : List Call) (place : EnumPlace) → IsWholeText calls bytes rest → written_from calls (in_key place) ≡ prepend (string 3 bytes) (written_from rest (in_key Elsewhere))
+  text_key bytes calls rest place w =
+      ap (λ cs. written_from cs (in_key place)) w.is ∙ prepend_nothing (prepend (string 3 bytes) (prepend [] (written_from rest (in_key Elsewhere))))
+      ∙ ap (prepend (string 3 bytes)) (prepend_nothing (written_from rest (in_key Elsewhere)))
+
+  pub key_written : (t : Tree) (calls rest : List Call) (place : EnumPlace) → Says t calls rest → HaveWholeTexts calls → IsGood t
+      → written_from calls (in_key place) ≡ and_then (key_result t (is_begun place)) (written_from rest (in_key (after t)))
+  key_written Null calls rest place s w g = ap (λ cs. written_from cs (in_key place)) s
+  key_written (Truth b) calls rest place s w g = ap (λ cs. written_from cs (in_key place)) s
+  key_written (Int type n) calls rest place s w g = ap (λ cs. written_from cs (in_key place)) s
+  key_written (Text bytes) calls rest place s w g = text_key bytes calls rest place (whole_text bytes calls rest s w)
+  key_written (Binary bytes) calls rest place s w g = ap (λ cs. written_from cs (in_key place)) s.4
+  key_written (Standalone name) calls rest place s w g = ap (λ cs. written_from cs (in_key place)) s
+  key_written (Tagged name tree) calls rest place s w g =
+      let v = whole_inside (Call.TaggedBegin name) calls s.0 s.1 refl w in
+      ap (λ cs. written_from cs (in_key place)) s.1
+      ∙ tagged_written (text_kind name.tag) name tree s.0 rest place g.1 s.2 v (key_written tree s.0 (Call.TaggedEnd (bare_name name) ∷ rest) Elsewhere s.2 v g.2)
+  key_written (EmptyEnum name) calls rest place s w g =
+      ap (λ cs. written_from cs (in_key place)) s
+      ∙ ap (λ r. rest_of (Call.EnumEnd (bare_name name) ∷ rest) (on_packed r (λ front. writes (front ++ []) (in_key Begun)))) (key_opening (handle name) place)
+      ∙ empty_enum_by (is_begun place && is_some (handle name)) name rest
+  key_written (Enum name tree) calls rest place s w g =
+      let v = whole_inside (Call.EnumBegin name) calls s.0 s.1 refl w in
+      ap (λ cs. written_from cs (in_key place)) s.1
+      ∙ ap (λ r. rest_of s.0 (on_packed r (λ front. writes (front ++ []) (in_key Begun)))) (key_opening (handle name) place)
+      ∙ enum_by (is_begun place && is_some (handle name)) name tree s.0 rest (key_written tree s.0 (Call.EnumEnd (bare_name name) ∷ rest) Begun s.2 v g.2)
+  key_written (Container head parts) calls rest place s w g = ap (λ cs. written_from cs (in_key place)) s.3 ∙ refused_container head s.0 s.1 place

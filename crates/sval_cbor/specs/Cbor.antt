@@ -42,13 +42,13 @@ truth_bytes false = 0xf4 ∷ []
 truth_bytes true = 0xf5 ∷ []
 
 abbrev mutual
-  -- the bytes of a shape; bytes that stand as they are in JSON are in no packed shape, and have none
+  -- the bytes of a shape; `quoted` is a byte string, and raw JSON is in no packed shape, and has none
   pub cbor : Json → List ℕ
   cbor null = 0xf6 ∷ []
   cbor (truth b) = truth_bytes b
   cbor (number bytes) = integer (signed_digits_value 10 bytes)
   cbor (text bytes) = string 3 bytes
-  cbor (quoted _) = []
+  cbor (quoted bytes) = string 2 bytes
   cbor (raw _) = []
   cbor (array items) = 0x9f ∷ cbor_items items ++ (0xff ∷ [])
   cbor (object pairs) = 0xbf ∷ cbor_pairs pairs ++ (0xff ∷ [])

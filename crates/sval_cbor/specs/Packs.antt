@@ -6,12 +6,16 @@ use Rattle.sval_label.specs.Calls.{Head, Slot}
 use Rattle.sval_label.specs.Texts.{is_empty}
 use Rattle.sval_label.specs.Ranges.{is_unsigned, is_signed}
 use Rattle.sval_core.specs.Trees.{Tree, Null, Truth, Int, Text, Binary, Standalone, Tagged, EmptyEnum, Enum, Container, Parts, none, part, TextKind, Number, JsonValue, JsonText, JsonNumber, text_kind}
-use Rattle.sval_json.specs.Json.{Key, escaped_key, raw_key, Json, null, truth, number, text, array, object, Items, no_item, item, Pairs, no_pair, pair}
+use Rattle.sval_json.specs.Json.{Key, escaped_key, raw_key, Json, null, truth, number, text, quoted, array, object, Items, no_item, item, Pairs, no_pair, pair}
 use Rattle.sval_json.specs.Digits.{after_digits, without_minus}
 use Rattle.sval_json.specs.Number as json
 use Rattle.sval_json.specs.Number.{normal}
 use Rattle.sval_json.specs.declared.style.Variants.TheVariants.{Inside}
 use Rattle.sval_json.specs.Shape.{own, wrap, byte_items, key}
+use Rattle.sval_cbor.specs.declared.style.Binaries.{Binaries}
+use Rattle.sval_cbor.specs.declared.style.Binaries.TheVariants.{Numbers, ByteStrings}
+use Rattle.sval_cbor.specs.declared.style.Style.{Style}
+use Rattle.sval_cbor.specs.declared.style.TheConstants.Style.{DEFAULT}
 
 -- why a tree has no such shape: a key that is no text, a number that is none, raw JSON, a number that is not whole or needs more than 128 bits
 pub data PackRefusal : Type 0 where
@@ -77,36 +81,45 @@ pack_key_as (Ok k) raw = if raw then Err RawJson else Ok (escaped_key (key_bytes
 abbrev pub pack_key : Tree → Result Key PackRefusal
 pack_key tree = pack_key_as (key tree false) (is_raw tree)
 
+-- a binary as an array of numbers, or as a byte string, which `quoted` stands for in a packed shape
+abbrev pub binary_shape : Binaries → List ℕ → Json
+binary_shape Numbers bytes = array (byte_items bytes)
+binary_shape ByteStrings bytes = quoted bytes
+
 abbrev mutual
-  -- the shape of a tree that CBOR can hold; `variant` says that it stands directly in an enum
-  pub packs : Tree → Bool → Result Json PackRefusal
-  packs Null _ = Ok null
-  packs (Truth b) _ = Ok (truth b)
-  packs (Int _ n) _ = Ok (number (signed_decimal n))
-  packs (Text bytes) _ = Ok (text bytes)
-  packs (Binary bytes) _ = Ok (array (byte_items bytes))
-  packs (Standalone name) _ = Ok (own name)
-  packs (Tagged name tree) variant = map_packed (wrap Inside variant name) (tagged_pack (text_kind name.tag) tree (packs tree false))
-  packs (EmptyEnum name) variant = Ok (wrap Inside variant name (own name))
-  packs (Enum name tree) variant = map_packed (wrap Inside variant name) (packs tree true)
-  packs (Container Head.Seq parts) _ = map_packed array (packed_items parts)
-  packs (Container Head.Map parts) _ = map_packed object (packed_pairs parts)
-  packs (Container (Head.Record name) parts) variant = map_packed (λ fields. wrap Inside variant name (object fields)) (packed_pairs parts)
-  packs (Container (Head.Tuple name) parts) variant = map_packed (λ places. wrap Inside variant name (array places)) (packed_items parts)
-  packs (Container (Head.RecordTuple name) parts) variant = map_packed (λ fields. wrap Inside variant name (object fields)) (packed_pairs parts)
+  -- the shape of a tree that CBOR can hold, in a style; `variant` says that it stands directly in an enum
+  pub packs : Style → Tree → Bool → Result Json PackRefusal
+  packs style Null _ = Ok null
+  packs style (Truth b) _ = Ok (truth b)
+  packs style (Int _ n) _ = Ok (number (signed_decimal n))
+  packs style (Text bytes) _ = Ok (text bytes)
+  packs style (Binary bytes) _ = Ok (binary_shape style.binaries bytes)
+  packs style (Standalone name) _ = Ok (own name)
+  packs style (Tagged name tree) variant = map_packed (wrap Inside variant name) (tagged_pack (text_kind name.tag) tree (packs style tree false))
+  packs style (EmptyEnum name) variant = Ok (wrap Inside variant name (own name))
+  packs style (Enum name tree) variant = map_packed (wrap Inside variant name) (packs style tree true)
+  packs style (Container Head.Seq parts) _ = map_packed array (packed_items style parts)
+  packs style (Container Head.Map parts) _ = map_packed object (packed_pairs style parts)
+  packs style (Container (Head.Record name) parts) variant = map_packed (λ fields. wrap Inside variant name (object fields)) (packed_pairs style parts)
+  packs style (Container (Head.Tuple name) parts) variant = map_packed (λ places. wrap Inside variant name (array places)) (packed_items style parts)
+  packs style (Container (Head.RecordTuple name) parts) variant = map_packed (λ fields. wrap Inside variant name (object fields)) (packed_pairs style parts)
 
   -- the items that parts pack to, in order, or the first refusal
-  pub packed_items : Parts → Result Items PackRefusal
-  packed_items none = Ok no_item
-  packed_items (part _ tree parts) = on_packed (packs tree false) (λ json. map_packed (item json) (packed_items parts))
+  pub packed_items : Style → Parts → Result Items PackRefusal
+  packed_items style none = Ok no_item
+  packed_items style (part _ tree parts) = on_packed (packs style tree false) (λ json. map_packed (item json) (packed_items style parts))
 
   -- a map's key and value, or a field by its label, is a pair; no other part stands in a good map or record
-  pub packed_pairs : Parts → Result Pairs PackRefusal
-  packed_pairs (part Slot.Key name (part _ tree parts)) = on_packed (pack_key name) (λ k. on_packed (packs tree false) (λ json. map_packed (pair k json) (packed_pairs parts)))
-  packed_pairs (part (Slot.Field _ label) tree parts) = on_packed (packs tree false) (λ json. map_packed (pair (escaped_key label.text) json) (packed_pairs parts))
-  packed_pairs (part (Slot.FieldPlace _ label _) tree parts) = on_packed (packs tree false) (λ json. map_packed (pair (escaped_key label.text) json) (packed_pairs parts))
-  packed_pairs _ = Ok no_pair
+  pub packed_pairs : Style → Parts → Result Pairs PackRefusal
+  packed_pairs style (part Slot.Key name (part _ tree parts)) = on_packed (pack_key name) (λ k. on_packed (packs style tree false) (λ json. map_packed (pair k json) (packed_pairs style parts)))
+  packed_pairs style (part (Slot.Field _ label) tree parts) = on_packed (packs style tree false) (λ json. map_packed (pair (escaped_key label.text) json) (packed_pairs style parts))
+  packed_pairs style (part (Slot.FieldPlace _ label _) tree parts) = on_packed (packs style tree false) (λ json. map_packed (pair (escaped_key label.text) json) (packed_pairs style parts))
+  packed_pairs style _ = Ok no_pair
 
--- the shape of a whole tree
+-- the shape of a whole tree in a style
+abbrev pub pack_as : Style → Tree → Result Json PackRefusal
+pack_as style tree = packs style tree false
+
+-- the shape of a whole tree in the default style
 abbrev pub pack_of : Tree → Result Json PackRefusal
-pack_of tree = packs tree false
+pack_of tree = pack_as DEFAULT tree

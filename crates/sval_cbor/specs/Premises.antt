@@ -1,9 +1,13 @@
 -- What the laws of CBOR ask of a tree.
 use Rattle.std.specs.Prelude.{ℕ, ◌^◌, ◌<◌, List, length, IfSome, ⊤}
 use Rattle.sval_label.specs.Calls.{Slot, Name, Label}
-use Rattle.sval_core.specs.Trees.{Tree, Text, Standalone, Tagged, EmptyEnum, Enum, Container, Parts, none, part}
+use Rattle.sval_core.specs.Trees.{Tree, Text, Binary, Standalone, Tagged, EmptyEnum, Enum, Container, Parts, none, part}
 use Rattle.sval_core.specs.Real.{head_name}
 use Rattle.sval_json.specs.Promises.{KeepsSlotPromise}
+use Rattle.sval_cbor.specs.declared.style.Binaries.{Binaries}
+use Rattle.sval_cbor.specs.declared.style.Binaries.TheVariants.{Numbers, ByteStrings}
+use Rattle.sval_cbor.specs.declared.style.Style.{Style}
+use Rattle.sval_cbor.specs.declared.style.TheConstants.Style.{DEFAULT}
 
 -- shorter than 2 ^ 64 bytes
 abbrev pub IsShortText : List ℕ → Type 0
@@ -23,21 +27,31 @@ IsShortSlot (Slot.Field _ label) = IsShortLabel label
 IsShortSlot (Slot.FieldPlace _ label _) = IsShortLabel label
 IsShortSlot _ = ⊤
 
-abbrev mutual
-  -- each text and each label is shorter than 2 ^ 64 bytes
-  pub IsShortTree : Tree → Type 0
-  IsShortTree (Text bytes) = IsShortText bytes
-  IsShortTree (Standalone name) = IsShortName name
-  IsShortTree (Tagged name tree) = IsShortName name × IsShortTree tree
-  IsShortTree (EmptyEnum name) = IsShortName name
-  IsShortTree (Enum name tree) = IsShortName name × IsShortTree tree
-  IsShortTree (Container head parts) = IsShortName (head_name head) × AreShort parts
-  IsShortTree _ = ⊤
+-- as a byte string a binary is shorter than 2 ^ 64 bytes
+abbrev pub IsShortBinary : Binaries → List ℕ → Type 0
+IsShortBinary Numbers bytes = ⊤
+IsShortBinary ByteStrings bytes = IsShortText bytes
 
-  -- each text and each label in the parts is shorter than 2 ^ 64 bytes
-  pub AreShort : Parts → Type 0
-  AreShort none = ⊤
-  AreShort (part slot tree parts) = IsShortSlot slot × IsShortTree tree × AreShort parts
+abbrev mutual
+  -- each text, each label and each binary that is a byte string in this style is shorter than 2 ^ 64 bytes
+  pub IsShortTreeAs : Style → Tree → Type 0
+  IsShortTreeAs style (Text bytes) = IsShortText bytes
+  IsShortTreeAs style (Binary bytes) = IsShortBinary style.binaries bytes
+  IsShortTreeAs style (Standalone name) = IsShortName name
+  IsShortTreeAs style (Tagged name tree) = IsShortName name × IsShortTreeAs style tree
+  IsShortTreeAs style (EmptyEnum name) = IsShortName name
+  IsShortTreeAs style (Enum name tree) = IsShortName name × IsShortTreeAs style tree
+  IsShortTreeAs style (Container head parts) = IsShortName (head_name head) × AreShortAs style parts
+  IsShortTreeAs style _ = ⊤
+
+  -- the same of each text, label and binary in the parts
+  pub AreShortAs : Style → Parts → Type 0
+  AreShortAs style none = ⊤
+  AreShortAs style (part slot tree parts) = IsShortSlot slot × IsShortTreeAs style tree × AreShortAs style parts
+
+-- each text and each label is shorter than 2 ^ 64 bytes, which is all that the default style asks
+abbrev pub IsShortTree : Tree → Type 0
+IsShortTree tree = IsShortTreeAs DEFAULT tree
 
 abbrev mutual
   -- each field's label that is tagged `VALUE_IDENT` needs no escapes

@@ -15,7 +15,9 @@ use Rattle.sval_cbor.specs.declared.error.CborError.{CborError}
 use Rattle.sval_cbor.specs.declared.error.CborError.TheVariants as error
 use Rattle.sval_cbor.specs.declared.error.Stop.{Stop}
 use Rattle.sval_cbor.specs.declared.error.Stop.TheVariants as stop
-use Rattle.sval_cbor.specs.Packs.{PackRefusal, BadKey, BadNumber, RawJson, NotInteger, pack_of}
+use Rattle.sval_cbor.specs.declared.style.Style.{Style}
+use Rattle.sval_cbor.specs.declared.style.TheConstants.Style.{DEFAULT}
+use Rattle.sval_cbor.specs.Packs.{PackRefusal, BadKey, BadNumber, RawJson, NotInteger, pack_as, pack_of}
 use Rattle.sval_cbor.specs.Cbor.{cbor}
 use Rattle.sval_cbor.specs.SeenWriter.{seen_pack_refusal}
 
@@ -90,7 +92,7 @@ pub record IsChecked (e : Emission) : Type 0 where
   pub value : IsOneValue e
   pub surely : IsNoTree e → ⊥
 
--- the calls are one whole value, which doesn't pack, for this cause
+-- the calls are one whole value, which doesn't pack, for this cause; that is the same in each style (`StylesRefuseAlike`)
 pub record IsRefusedAs (e : Emission) (why : PackRefusal) : Type 0 where
   pub value : IsOneValue e
   pub packs : (tree : Tree) → Spells e.calls tree → pack_of tree ≡ Err why
@@ -113,27 +115,27 @@ IsCborDue e (Err error.NotInteger) = IsRefusedAs e NotInteger
 IsCborDue e (Err error.Write) = ⊥
 IsCborDue e (Err error.NoMemory) = ⊥
 
--- the tree packs, and exactly its bytes were taken
-pub record WritesCborTree (tree : Tree) (old new : Told) : Type 0 where
+-- the tree packs in this style, and exactly its bytes were taken
+pub record WritesCborTree (style : Style) (tree : Tree) (old new : Told) : Type 0 where
   pub json : Json
-  pub packs : pack_of tree ≡ Ok json
+  pub packs : pack_as style tree ≡ Ok json
   pub appends : Appends old (cbor json) new
 
 -- the bytes of the tree that the calls spell were taken
-abbrev pub WritesSpelled : List Call → Told → Told → Type 0
-WritesSpelled calls old new = (tree : Tree) → Spells calls tree → WritesCborTree tree old new
+abbrev pub WritesSpelled : Style → List Call → Told → Told → Type 0
+WritesSpelled style calls old new = (tree : Tree) → Spells calls tree → WritesCborTree style tree old new
 
 -- where the calls spell a tree that packs, a first part of its bytes was taken
-abbrev pub BeginsSpelled : List Call → Told → Told → Type 0
-BeginsSpelled calls old new = (tree : Tree) (json : Json) → Spells calls tree → pack_of tree ≡ Ok json → AppendsFront old (cbor json) new
+abbrev pub BeginsSpelled : Style → List Call → Told → Told → Type 0
+BeginsSpelled style calls old new = (tree : Tree) (json : Json) → Spells calls tree → pack_as style tree ≡ Ok json → AppendsFront old (cbor json) new
 
 -- where the calls spell a tree that packs, a first part of its bytes was taken, but not all of them
-abbrev pub CutsSpelled : List Call → Told → Told → Type 0
-CutsSpelled calls old new = (tree : Tree) (json : Json) → Spells calls tree → pack_of tree ≡ Ok json → AppendsPart old (cbor json) new
+abbrev pub CutsSpelled : Style → List Call → Told → Told → Type 0
+CutsSpelled style calls old new = (tree : Tree) (json : Json) → Spells calls tree → pack_as style tree ≡ Ok json → AppendsPart old (cbor json) new
 
 -- where the calls spell a tree that packs, its bytes have no place in the room that is told
-abbrev pub LacksCborRoom : List Call → Told → Type 0
-LacksCborRoom calls old = (tree : Tree) (json : Json) → Spells calls tree → pack_of tree ≡ Ok json → LacksRoom old (cbor json)
+abbrev pub LacksCborRoom : Style → List Call → Told → Type 0
+LacksCborRoom style calls old = (tree : Tree) (json : Json) → Spells calls tree → pack_as style tree ≡ Ok json → LacksRoom old (cbor json)
 
 -- memory was wanting to check the value; or it is a whole one, and memory was wanting to capture it
 abbrev pub TakesMemory : Emission → Type 0
@@ -150,21 +152,25 @@ IsCauseOfValue (Err _) = ⊤
 abbrev pub IsCborWant : {K : Type 0} → (K → Told) → Emission → K → K → Type 0
 IsCborWant told e old new = (new ≡ old) ⊎ (Rose (told old).wants (told new).wants × HasCbor e)
 
--- On Ok the sink took the bytes of what the tree that the calls spell packs to. Each error comes only where it is so, and where the sink
+-- On Ok the sink took the bytes of what the tree that the calls spell packs to in this style. Each error comes only where it is so, and where the sink
 -- doesn't decline and memory isn't wanting, the answer that is due comes. An error of the value comes before anything is written, and after
 -- one of the sink it took a first part of the bytes, not all of them.
-pub record StreamsCbor (e : Emission) (result : CborAnswer) (old new : Told) : Type 0 where
+pub record StreamsCborAs (style : Style) (e : Emission) (result : CborAnswer) (old new : Told) : Type 0 where
   pub value : OnOk result (IsOneValue e)
-  pub written : OnOk result (WritesSpelled e.calls old new)
+  pub written : OnOk result (WritesSpelled style e.calls old new)
   pub steady : OnOk result (IsSteady old new)
   pub only_where : IsCauseOfValue result → IsCborDue e result
   pub error_comes : (why : CborError) → IsCborDue e (Err why) → (result ≡ Err why) ⊎ (result ≡ Err error.NoMemory)
   pub ok_comes : HasCbor e → IsQuiet old new → (result ≡ Ok tt) ⊎ (result ≡ Err error.NoMemory)
   pub write : result ≡ Err error.Write → Rose old.faults new.faults
-  pub write_room : result ≡ Err error.Write → LacksCborRoom e.calls old
-  pub write_short : result ≡ Err error.Write → CutsSpelled e.calls old new
+  pub write_room : result ≡ Err error.Write → LacksCborRoom style e.calls old
+  pub write_short : result ≡ Err error.Write → CutsSpelled style e.calls old new
   pub write_value : result ≡ Err error.Write → HasCbor e
   pub no_memory : result ≡ Err error.NoMemory → (Rose old.wants new.wants × HasCbor e) ⊎ ((new ≡ old) × TakesMemory e)
-  pub no_memory_short : result ≡ Err error.NoMemory → (new ≡ old) ⊎ CutsSpelled e.calls old new
+  pub no_memory_short : result ≡ Err error.NoMemory → (new ≡ old) ⊎ CutsSpelled style e.calls old new
   pub counts : NoCountFell old new
-  pub prefix : OnErr result (BeginsSpelled e.calls old new)
+  pub prefix : OnErr result (BeginsSpelled style e.calls old new)
+
+-- the same in the default style
+abbrev pub StreamsCbor : Emission → CborAnswer → Told → Told → Type 0
+StreamsCbor e result old new = StreamsCborAs DEFAULT e result old new

@@ -8,6 +8,10 @@ use Rattle.sval_json.specs.Json.{Json, null, number}
 use Rattle.sval_json.specs.Number as json
 use Rattle.sval_json.specs.Number.{normal}
 use Rattle.sval_json.specs.Shape.{handle, own, bare_text, byte_items}
+use Rattle.sval_cbor.specs.declared.style.Binaries.{Binaries}
+use Rattle.sval_cbor.specs.declared.style.Binaries.TheVariants.{Numbers, ByteStrings}
+use Rattle.sval_cbor.specs.declared.style.Style.{Style}
+use Rattle.sval_cbor.specs.declared.style.TheConstants.Style.{DEFAULT}
 use Rattle.sval_cbor.specs.Packs.{PackRefusal, BadKey, BadNumber, RawJson, on_packed, map_packed, number_pack}
 use Rattle.sval_cbor.specs.Cbor.{string, truth_bytes, cbor, cbor_items}
 
@@ -17,19 +21,20 @@ pub data EnumPlace : Type 0 where
   Begun : EnumPlace
   Ended : EnumPlace
 
--- the place, whether it is in a map's key, and whether text stands for a number
+-- the style, the place, whether it is in a map's key, and whether text stands for a number
 pub record CborState : Type 0 where
+  pub style : Style
   pub place : EnumPlace
   pub in_key : Bool
   pub in_number : Bool
 
--- a state by its three parts
-abbrev pub cbor_state : EnumPlace → Bool → Bool → CborState
-cbor_state place in_key in_number = record { place = place; in_key = in_key; in_number = in_number }
+-- a state by its four parts
+abbrev pub cbor_state : Style → EnumPlace → Bool → Bool → CborState
+cbor_state style place in_key in_number = record { style = style; place = place; in_key = in_key; in_number = in_number }
 
 -- before the first call: outside enums, keys and numbers
-abbrev pub cbor_start : CborState
-cbor_start = cbor_state Elsewhere false false
+abbrev pub cbor_start : Style → CborState
+cbor_start style = cbor_state style Elsewhere false false
 
 -- the bytes of a call, and the state after it
 pub record CborStep : Type 0 where
@@ -131,6 +136,21 @@ abbrev pub cbor_part_ends : Slot → CborState → Result CborStep PackRefusal
 cbor_part_ends Slot.Key state = writes [] (record state { place = Elsewhere; in_key = false })
 cbor_part_ends _ state = writes [] (record state { place = Elsewhere })
 
+-- what begins an array of numbers, up to a break; a byte string needs no more than its fragment
+abbrev pub binary_begin : Binaries → List ℕ
+binary_begin Numbers = 0x9f ∷ []
+binary_begin ByteStrings = []
+
+-- the one fragment of a binary
+abbrev pub binary_bytes : Binaries → List ℕ → List ℕ
+binary_bytes Numbers bytes = cbor_items (byte_items bytes)
+binary_bytes ByteStrings bytes = string 2 bytes
+
+-- the break behind an array of numbers
+abbrev pub binary_end : Binaries → List ℕ
+binary_end Numbers = 0xff ∷ []
+binary_end ByteStrings = []
+
 -- what one call writes, and the state after it, or why it is refused
 abbrev pub cbor_step : Call → CborState → Result CborStep PackRefusal
 cbor_step Call.Null state = json_step null state
@@ -141,9 +161,9 @@ cbor_step (Call.TagHint _) state = writes [] state
 cbor_step (Call.TextBegin _) state = writes [] state
 cbor_step (Call.TextFragment _ bytes) state = on_packed (text_bytes state bytes) (λ made. writes made (record state { place = Elsewhere }))
 cbor_step Call.TextEnd state = writes [] state
-cbor_step (Call.BinaryBegin _) state = unless_key state (writes (0x9f ∷ []) (record state { place = Elsewhere }))
-cbor_step (Call.BinaryFragment _ bytes) state = writes (cbor_items (byte_items bytes)) state
-cbor_step Call.BinaryEnd state = writes (0xff ∷ []) state
+cbor_step (Call.BinaryBegin _) state = unless_key state (writes (binary_begin state.style.binaries) (record state { place = Elsewhere }))
+cbor_step (Call.BinaryFragment _ bytes) state = writes (binary_bytes state.style.binaries bytes) state
+cbor_step Call.BinaryEnd state = writes (binary_end state.style.binaries) state
 cbor_step (Call.EnumBegin name) state = opens_name name [] (record state { place = Begun }) state
 cbor_step (Call.EnumEnd name) state = writes (enum_end_bytes state.place state.in_key (own name)) (cbor_after_name name state)
 cbor_step (Call.TaggedBegin name) state = tagged_begins (text_kind name.tag) name state
@@ -158,15 +178,19 @@ abbrev pub written_from : List Call → CborState → Result (List ℕ) PackRefu
 written_from [] state = Ok []
 written_from (call ∷ calls) state = on_packed (cbor_step call state) (λ done. map_packed (λ more. done.bytes ++ more) (written_from calls done.state))
 
--- the bytes of all calls, or the first refusal
-abbrev pub written_cbor : List Call → Result (List ℕ) PackRefusal
-written_cbor calls = written_from calls cbor_start
+-- the bytes of all calls in a style, or the first refusal
+abbrev pub written_as : Style → List Call → Result (List ℕ) PackRefusal
+written_as style calls = written_from calls (cbor_start style)
 
--- Went calls bytes state: from the start on these calls were taken one by one, with these bytes, and have led to this state
-pub data Went : List Call → List ℕ → CborState → Type 0 where
-  at_start : Went [] [] cbor_start
-  onward : {calls : List Call} {bytes : List ℕ} {state : CborState} {done : CborStep} (call : Call) → Went calls bytes state → cbor_step call state ≡ Ok done
-      → Went (calls ++ call ∷ []) (bytes ++ done.bytes) done.state
+-- the same in the default style
+abbrev pub written_cbor : List Call → Result (List ℕ) PackRefusal
+written_cbor calls = written_as DEFAULT calls
+
+-- Went style calls bytes state: from the start on these calls were taken one by one, with these bytes, and have led to this state
+pub data Went : Style → List Call → List ℕ → CborState → Type 0 where
+  at_start : {style : Style} → Went style [] [] (cbor_start style)
+  onward : {style : Style} {calls : List Call} {bytes : List ℕ} {state : CborState} {done : CborStep} (call : Call) → Went style calls bytes state → cbor_step call state ≡ Ok done
+      → Went style (calls ++ call ∷ []) (bytes ++ done.bytes) done.state
 
 -- how much of a text or binary has come
 pub data FragmentProgress : Type 0 where

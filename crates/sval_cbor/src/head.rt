@@ -8,6 +8,9 @@ ghost use Rattle.sval_cbor.specs.SeenWriter.{seen_integer};
 use crate::integer::Integer;
 use sval_io::{Sink, SinkError, write_all};
 
+/// The major type of byte strings.
+const BYTE_STRING: u8 = 2;
+
 /// The major type of texts.
 const TEXT: u8 = 3;
 
@@ -90,6 +93,14 @@ pub(crate) fn write_text<K: Sink>(sink: &mut K, text: &[u8]) -> Result<(), SinkE
 {
     write_head(sink, TEXT, text.len() as u64)?;
     write_all(sink, text)
+}
+
+/// Writes a byte string: its head, and its bytes.
+pub(crate) fn write_byte_string<K: Sink>(sink: &mut K, bytes: &[u8]) -> Result<(), SinkError>
+    ensures { WritesAll result (K.told sink.old) (string 2 bytes.now) (K.told sink.new) }
+{
+    write_head(sink, BYTE_STRING, bytes.len() as u64)?;
+    write_all(sink, bytes)
 }
 
 /// Writes two pieces, one after the other.

@@ -2,7 +2,8 @@
 
 ghost use Rattle.sval_program.specs.Jobs.{OneDue};
 ghost use Rattle.sval_program.specs.Laws.{OneVerdict};
-ghost use Rattle.sval_cbor.specs.Laws.{CborIsBytes, PacksAsWritten, WholeSpellingsAreWritten, CanonicalCallsAreWhole};
+ghost use Rattle.sval_cbor.specs.Laws.{CborIsBytes, PacksAsWritten, StylesRefuseAlike};
+ghost use Rattle.sval_cbor.specs.Laws.{WholeSpellingsAreWritten, CanonicalCallsAreWhole};
 ghost use Rattle.sval_cbor.specs.Laws.{CapturedIsWritten, TakenCallsAreWritten, RefusedCallRefuses};
 ghost use Rattle.sval_cbor.specs.Serves.{cbor_terms};
 ghost use Rattle.sval_cbor.specs.Verdict.{GivesCbor};
@@ -11,6 +12,7 @@ ghost use Rattle.sval_cbor.specs.Verdict.{GivesCbor};
 pub fn packing_laws()
     ensures cbor_is_bytes { CborIsBytes }
     ensures packs_as_written { PacksAsWritten }
+    ensures styles_refuse_alike { StylesRefuseAlike }
 {}
 
 /// What holds of all calls.

@@ -1,7 +1,7 @@
 //! CBOR (RFC 8949) of values.
 //!
-//! [`stream_to_cbor`] writes a value to a sink. [`run_cbor`] is a whole program over any words and devices: it writes
-//! the value that a script of calls spells.
+//! [`stream_to_cbor`] writes a value to a sink, and [`stream_to_cbor_with`] writes it in a [`Style`]. [`run_cbor`] is a
+//! whole program over any words and devices: it writes the value that a script of calls spells.
 #![tactic(auto)]
 
 mod error;
@@ -12,10 +12,12 @@ mod number;
 mod program;
 mod running;
 pub mod status;
+mod style;
 mod to_cbor;
 mod writer;
 
 pub use error::CborError;
 pub use program::WriteCbor;
 pub use running::run_cbor;
-pub use to_cbor::stream_to_cbor;
+pub use style::{Binaries, Style};
+pub use to_cbor::{stream_to_cbor, stream_to_cbor_with};

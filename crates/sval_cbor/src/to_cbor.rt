@@ -1,11 +1,12 @@
 //! Values written to a sink.
 
 ghost use Rattle.std.specs.Prelude.{◌≡◌, false, IsOk, Err};
-ghost use Rattle.sval_cbor.specs.Writing.{written_cbor};
-ghost use Rattle.sval_cbor.specs.Streamed.{StreamsCbor, IsChecked, WritesCalls, AnswersDue, IsCauseOfValue, IsCborWant};
+ghost use Rattle.sval_cbor.specs.Writing.{written_as};
+ghost use Rattle.sval_cbor.specs.Streamed.{StreamsCbor, StreamsCborAs, IsChecked, WritesCalls, AnswersDue, IsCauseOfValue, IsCborWant};
 ghost use Rattle.sval_cbor.specs.Streamed.{check_error, stop_error};
 
 use crate::error::{CborError, Refusal, Stop};
+use crate::style::Style;
 use crate::writer::{Place, Writer};
 use std::alloc::Global;
 use sval_buffer::{ErrorKind, ValueBuf};
@@ -19,8 +20,8 @@ use sval_io::{CountSink, Sink, SinkError};
 /// binaries and numbers. `specs/Packs.antt` says what a tree packs to, and `specs/Cbor.antt` its bytes. Texts are
 /// definite. Arrays and maps end by a break (section 3.2.2). Each head is as short as can be (section 4.1), and keys
 /// are texts. A variant of an enum with a name is a map of that name to its value. A binary is an array of its bytes as
-/// numbers. A text under `NUMBER` that is no number, but begins after at most one sign with s, n or i in either case,
-/// as snan, nan and inf do, is null.
+/// numbers; [`stream_to_cbor_with`] can write it as a byte string. A text under `NUMBER` that is no number, but begins
+/// after at most one sign with s, n or i in either case, as snan, nan and inf do, is null.
 ///
 /// The value is checked and captured in memory of `alloc`. What was captured is written twice: the first time to see
 /// that all of it can be.
@@ -63,8 +64,36 @@ pub fn stream_to_cbor<'v, K: Sink, V: Value<'v, Lent<'v>>>(
     ensures left { IsCauseOfValue result → out.new ≡ out.old }
     ensures want { result ≡ Err CborError.NoMemory → IsCborWant K.told (V.emission v.now) out.old out.new }
 {
+    stream_to_cbor_with(alloc, v, Style::DEFAULT, out)
+}
+
+/// Streams a value to a sink as CBOR (RFC 8949) in this style.
+///
+/// On `Ok` it appended the bytes of what the tree that the value's calls spell packs to in this style. A [`Style`] says
+/// which form a binary has. [`stream_to_cbor`] says the rest: it is this call in the style [`Style::DEFAULT`].
+///
+/// ```
+/// let mut sink = VecSink::new(alloc);
+/// stream_to_cbor_with(alloc, &binary, Style::BYTE_STRINGS, &mut sink)?;
+/// assert_eq!(rt; sink.as_slice(), b"\x42\x00\xff".as_slice());
+/// ```
+///
+/// # Errors
+///
+/// They are those of [`stream_to_cbor`], and come of the same values in each style (the law `styles_refuse_alike` of
+/// [`packing_laws`](crate::laws::packing_laws)).
+pub fn stream_to_cbor_with<'v, K: Sink, V: Value<'v, Lent<'v>>>(
+    alloc: Global,
+    v: &'v V,
+    style: Style,
+    out: &mut K,
+) -> Result<(), CborError>
+    ensures streams { StreamsCborAs style (V.emission v.now) result (K.told out.old) (K.told out.new) }
+    ensures left { IsCauseOfValue result → out.new ≡ out.old }
+    ensures want { result ≡ Err CborError.NoMemory → IsCborWant K.told (V.emission v.now) out.old out.new }
+{
     match check(alloc, v) {
-        Ok(()) => write_checked(alloc, out, v),
+        Ok(()) => write_checked(alloc, v, style, out),
         Err(why) => Err(check_error(why)),
     }
 }
@@ -98,16 +127,17 @@ fn stop_error(why: Stop) -> CborError
 /// Streams a value whose calls are one whole value.
 fn write_checked<'v, K: Sink, V: Value<'v, Lent<'v>>>(
     alloc: Global,
-    out: &mut K,
     v: &'v V,
+    style: Style,
+    out: &mut K,
 ) -> Result<(), CborError>
     requires { IsChecked (V.emission v.now) }
-    ensures streams { StreamsCbor (V.emission v.now) result (K.told out.old) (K.told out.new) }
+    ensures streams { StreamsCborAs style (V.emission v.now) result (K.told out.old) (K.told out.new) }
     ensures left { IsCauseOfValue result → out.new ≡ out.old }
     ensures want { result ≡ Err CborError.NoMemory → IsCborWant K.told (V.emission v.now) out.old out.new }
 {
     match ValueBuf::collect(alloc, v) {
-        Ok(buffer) => write_value(out, &buffer),
+        Ok(buffer) => write_value(&buffer, style, out),
         Err(error) => match error.kind() {
             ErrorKind::NoAlloc { .. } => Err(CborError::NoMemory),
             _ => unreachable!("a value that spells a tree is captured"),
@@ -117,39 +147,49 @@ fn write_checked<'v, K: Sink, V: Value<'v, Lent<'v>>>(
 
 /// Writes a value whose texts and binaries come whole, unless a step of the writer refuses one of its calls.
 pub(crate) fn write_value<'v, K: Sink, V: Value<'v, Lent<'v>>>(
-    out: &mut K,
     v: &'v V,
+    style: Style,
+    out: &mut K,
 ) -> Result<(), CborError>
     requires { (V.emission v.now).refuses ≡ false }
-    ensures due { AnswersDue result (K.told out.old) (written_cbor (V.emission v.now).calls) (K.told out.new) }
+    ensures due { AnswersDue result (K.told out.old) (written_as style (V.emission v.now).calls) (K.told out.new) }
     ensures left { IsCauseOfValue result → out.new ≡ out.old }
 {
-    match write_calls(&mut CountSink::new(), v) {
-        Ok(()) => write_whole(out, v),
+    match write_calls(v, style, &mut CountSink::new()) {
+        Ok(()) => write_whole(v, style, out),
         Err(why) => Err(stop_error(why)),
     }
 }
 
 /// Writes the CBOR of a value, where neither the value nor a step refuses.
-fn write_whole<'v, K: Sink, V: Value<'v, Lent<'v>>>(out: &mut K, v: &'v V) -> Result<(), CborError>
+fn write_whole<'v, K: Sink, V: Value<'v, Lent<'v>>>(
+    v: &'v V,
+    style: Style,
+    out: &mut K,
+) -> Result<(), CborError>
     requires willing { (V.emission v.now).refuses ≡ false }
-    requires whole { IsOk (written_cbor (V.emission v.now).calls) }
-    ensures due { AnswersDue result (K.told out.old) (written_cbor (V.emission v.now).calls) (K.told out.new) }
+    requires whole { IsOk (written_as style (V.emission v.now).calls) }
+    ensures due { AnswersDue result (K.told out.old) (written_as style (V.emission v.now).calls) (K.told out.new) }
     ensures left { IsCauseOfValue result → out.new ≡ out.old }
 {
-    match write_calls(out, v) {
+    match write_calls(v, style, out) {
         Ok(()) => Ok(()),
         Err(why) => Err(stop_error(why)),
     }
 }
 
 /// Writes the calls of a value that doesn't refuse, up to what stops the writer.
-fn write_calls<'v, K: Sink, V: Value<'v, Lent<'v>>>(out: &mut K, v: &'v V) -> Result<(), Stop>
+fn write_calls<'v, K: Sink, V: Value<'v, Lent<'v>>>(
+    v: &'v V,
+    style: Style,
+    out: &mut K,
+) -> Result<(), Stop>
     requires { (V.emission v.now).refuses ≡ false }
-    ensures { WritesCalls result (written_cbor (V.emission v.now).calls) (K.told out.old) (K.told out.new) }
+    ensures { WritesCalls result (written_as style (V.emission v.now).calls) (K.told out.old) (K.told out.new) }
 {
     let mut writer = Writer {
         sink: out,
+        style,
         place: Place::Elsewhere,
         in_key: false,
         in_number: false,

@@ -18,6 +18,7 @@ ghost use Rattle.sval_cbor.specs.WriterLaw.{CborWriterView, CborDoes, json_bytes
 use crate::error::{Refusal, Stop};
 use crate::head::{write_integer, write_text};
 use crate::integer::Integer;
+use crate::style::Style;
 use itoa::Buffer;
 use sval_core::{Call, Error, Fragment, GroupedCall, Int, Lent, Result, Stream};
 use sval_io::{Sink, write_all};
@@ -48,6 +49,8 @@ pub(crate) enum Place {
 #[derive(Drop)]
 pub(crate) struct Writer<'k, K: Sink> {
     pub(crate) sink: &'k mut K,
+    /// The style that it writes in.
+    pub(crate) style: Style,
     /// Where the writer is with respect to enums.
     pub(crate) place: Place,
     /// It is in a map's key.
@@ -175,10 +178,10 @@ impl<'k, 'sval, K: Sink> Stream<Lent<'sval>> for Writer<'k, K> {
             GroupedCall::TextBegin(_) | GroupedCall::TextEnd | GroupedCall::TagHint(_) => Ok(()),
             GroupedCall::TextFragment(Fragment::Borrowed(text)) => self.write_fragment(text),
             GroupedCall::TextFragment(Fragment::Computed(text)) => self.write_fragment(text),
-            GroupedCall::BinaryBegin(_) => self.open(ARRAY),
-            GroupedCall::BinaryFragment(Fragment::Borrowed(bytes)) => self.write_bytes(bytes),
-            GroupedCall::BinaryFragment(Fragment::Computed(bytes)) => self.write_bytes(bytes),
-            GroupedCall::BinaryEnd => self.write(BREAK),
+            GroupedCall::BinaryBegin(_) => self.begin_binary(),
+            GroupedCall::BinaryFragment(Fragment::Borrowed(bytes)) => self.write_binary(bytes),
+            GroupedCall::BinaryFragment(Fragment::Computed(bytes)) => self.write_binary(bytes),
+            GroupedCall::BinaryEnd => self.end_binary(),
             GroupedCall::EnumBegin(name) => self.begin_enum(name.label, name.index),
             GroupedCall::EnumEnd(name) => self.end_enum(name.tag, name.label, name.index),
             GroupedCall::TaggedBegin(name) => self.begin_tagged(name.tag, name.label, name.index),

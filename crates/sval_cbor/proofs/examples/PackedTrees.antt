@@ -3,8 +3,9 @@ use Rattle.std.specs.Prelude.{◌≡◌, ℕ, ◌^◌, ◌-◌, true, false, Lis
 use Rattle.std.specs.Fmt.{digits}
 use Rattle.sval_label.specs.Calls.{Name, U16, U128, I32, I64, I128, Seq, Map, Record, Item, Key, Value, Field}
 use Rattle.sval_core.specs.Trees.{Tree, Null, Truth, Int, Text, Binary, Tagged, Enum, Container, none, part}
-use Rattle.sval_json.specs.Json.{escaped_key, null, truth, number, text, array, object, Items, no_item, item, no_pair, pair}
-use Rattle.sval_cbor.specs.Packs.{PackRefusal, BadKey, BadNumber, RawJson, NotInteger, map_packed, pack_of}
+use Rattle.sval_json.specs.Json.{escaped_key, null, truth, number, text, quoted, array, object, Items, no_item, item, no_pair, pair}
+use Rattle.sval_cbor.specs.declared.style.TheConstants.Style.{BYTE_STRINGS}
+use Rattle.sval_cbor.specs.Packs.{PackRefusal, BadKey, BadNumber, RawJson, NotInteger, map_packed, pack_as, pack_of}
 use Rattle.sval_cbor.specs.Cbor.{head_bytes, without_zero_bytes, short_bytes, cbor}
 
 abbrev bytes_of_tree : Tree → Result (List ℕ) PackRefusal
@@ -36,6 +37,16 @@ binary : bytes_of_tree (Binary (0x00 ∷ 0xff ∷ []))
     ≡ Ok (0x9f ∷ 0x00 ∷ 0x18 ∷ 0xff ∷ 0xff ∷ [])
 unfolding head_bytes without_zero_bytes short_bytes digits
 binary = refl
+
+byte_string : map_packed cbor (pack_as BYTE_STRINGS (Binary (0x00 ∷ 0xff ∷ [])))
+    ≡ Ok (0x42 ∷ 0x00 ∷ 0xff ∷ [])
+unfolding head_bytes without_zero_bytes short_bytes digits
+byte_string = refl
+
+byte_string_in_a_variant : map_packed cbor (pack_as BYTE_STRINGS (Enum (named (codes "E")) (Tagged (named (codes "V")) (Binary (0x61 ∷ [])))))
+    ≡ Ok (0xbf ∷ 0x61 ∷ 0x56 ∷ 0x41 ∷ 0x61 ∷ 0xff ∷ [])
+unfolding head_bytes without_zero_bytes short_bytes digits
+byte_string_in_a_variant = refl
 
 variant_number : bytes_of_tree (Enum (named (codes "E")) (Tagged (record { tag = Some (codes "NUMBER"); label = (named (codes "N")).label; index = None }) (Text (codes "01"))))
     ≡ Ok (0xbf ∷ 0x61 ∷ 0x4e ∷ 0x01 ∷ 0xff ∷ [])
@@ -123,6 +134,11 @@ bad_number_key : bytes_of_tree (Container Map (part Key (Tagged (tagged (codes "
     ≡ Err BadNumber
 unfolding head_bytes without_zero_bytes short_bytes digits
 bad_number_key = refl
+
+binary_key : map_packed cbor (pack_as BYTE_STRINGS (Container Map (part Key (Binary []) (part Value Null none))))
+    ≡ Err BadKey
+unfolding head_bytes without_zero_bytes short_bytes digits
+binary_key = refl
 
 key_before_value : bytes_of_tree (Container Map (part Key (Container Seq none) (part Value (Tagged (tagged (codes "JSON_VALUE")) (Text [])) none)))
     ≡ Err BadKey
@@ -235,6 +251,16 @@ example-null : cbor null
     ≡ 0xf6 ∷ []
 unfolding head_bytes without_zero_bytes short_bytes digits
 example-null = refl
+
+example-empty_bytes : cbor (quoted [])
+    ≡ 0x40 ∷ []
+unfolding head_bytes without_zero_bytes short_bytes digits
+example-empty_bytes = refl
+
+example-bytes : cbor (quoted (0x01 ∷ 0x02 ∷ 0x03 ∷ 0x04 ∷ []))
+    ≡ 0x44 ∷ 0x01 ∷ 0x02 ∷ 0x03 ∷ 0x04 ∷ []
+unfolding head_bytes without_zero_bytes short_bytes digits
+example-bytes = refl
 
 example-empty_text : cbor (text [])
     ≡ 0x60 ∷ []

@@ -2,9 +2,10 @@
 use Rattle.std.specs.Prelude.{◌≡◌, ℕ, true, false, List, [], ◌∷◌, codes, pos, Some, None, Ok, Err, refl}
 use Rattle.std.specs.Fmt.{digits}
 use Rattle.sval_label.specs.Calls.{Call, Name, I32, Map, Key, Value}
+use Rattle.sval_cbor.specs.declared.style.TheConstants.Style.{BYTE_STRINGS}
 use Rattle.sval_cbor.specs.Packs.{BadKey, RawJson}
 use Rattle.sval_cbor.specs.Cbor.{head_bytes}
-use Rattle.sval_cbor.specs.Writing.{NoText, written_cbor, are_whole}
+use Rattle.sval_cbor.specs.Writing.{NoText, written_as, written_cbor, are_whole}
 
 abbrev tagged : List ℕ → Name
 tagged tag = record { tag = Some tag; label = None; index = None }
@@ -22,6 +23,10 @@ map_of_two = refl
 hinted_binary : written_cbor (Call.BinaryBegin (Some 2) ∷ Call.TagHint (codes "x") ∷ Call.BinaryFragment true (0x00 ∷ 0xff ∷ []) ∷ Call.BinaryEnd ∷ []) ≡ Ok (0x9f ∷ 0x00 ∷ 0x18 ∷ 0xff ∷ 0xff ∷ [])
 unfolding head_bytes digits
 hinted_binary = refl
+
+hinted_byte_string : written_as BYTE_STRINGS (Call.BinaryBegin (Some 2) ∷ Call.TagHint (codes "x") ∷ Call.BinaryFragment true (0x00 ∷ 0xff ∷ []) ∷ Call.BinaryEnd ∷ []) ≡ Ok (0x42 ∷ 0x00 ∷ 0xff ∷ [])
+unfolding head_bytes digits
+hinted_byte_string = refl
 
 variant_number : written_cbor (Call.EnumBegin (named (codes "E")) ∷ Call.TaggedBegin (record { tag = Some (codes "NUMBER"); label = (named (codes "N")).label; index = None })
     ∷ Call.TextBegin (Some 2) ∷ Call.TextFragment true (codes "01") ∷ Call.TextEnd

@@ -8,14 +8,16 @@ ghost use Rattle.sval_cbor.specs.Packs.{on_packed};
 ghost use Rattle.sval_cbor.specs.Cbor.{string, integer, cbor_items};
 ghost use Rattle.sval_cbor.specs.SeenNumber.{IsUnsigned};
 ghost use Rattle.sval_cbor.specs.SeenWriter.{seen_normal};
-ghost use Rattle.sval_cbor.specs.Writing.{Elsewhere, writes, text_bytes, number_bytes};
+ghost use Rattle.sval_cbor.specs.Writing.{Elsewhere, writes, unless_key, text_bytes, number_bytes};
+ghost use Rattle.sval_cbor.specs.Writing.{binary_begin, binary_bytes, binary_end};
 ghost use Rattle.sval_cbor.specs.WriterLaw.{CborDoes, cbor_writer_state, writer_target, cbor_writer_view};
 
 use crate::error::{Refusal, Stop};
-use crate::head::write_joined;
+use crate::head::{write_byte_string, write_joined};
 use crate::integer::Integer;
 use crate::number::{NormalForm, normal, whole};
-use crate::writer::{Place, Writer};
+use crate::style::Binaries;
+use crate::writer::{ARRAY, BREAK, Place, Writer};
 use sval_core::{Error, Result};
 use sval_io::Sink;
 
@@ -115,7 +117,7 @@ impl<'k, K: Sink> Writer<'k, K> {
 
     /// Writes bytes as items of an array.
     #[inline(never)]
-    pub(crate) fn write_bytes(&mut self, bytes: &[u8]) -> Result
+    fn write_bytes(&mut self, bytes: &[u8]) -> Result
         ensures { CborDoes (writes (cbor_items (byte_items bytes.now)) (cbor_writer_state self.old)) result
             (writer_target K.told self.old) (cbor_writer_view K.told self.new) }
     {
@@ -125,5 +127,56 @@ impl<'k, K: Sink> Writer<'k, K> {
             rest = after;
         }
         Ok(())
+    }
+
+    /// Begins a binary, which can't be in a key.
+    pub(crate) fn begin_binary(&mut self) -> Result
+        ensures { let state = cbor_writer_state self.old in
+            CborDoes (unless_key state (writes (binary_begin state.style.binaries)
+            (record state { place = Elsewhere }))) result
+            (writer_target K.told self.old) (cbor_writer_view K.told self.new) }
+    {
+        match self.style.binaries {
+            Binaries::Numbers => self.open(ARRAY),
+            Binaries::ByteStrings => self.open(b""),
+        }
+    }
+
+    /// Writes a byte string.
+    fn write_byte_string(&mut self, bytes: &[u8]) -> Result
+        ensures { CborDoes (writes (string 2 bytes.now) (cbor_writer_state self.old)) result
+            (writer_target K.told self.old) (cbor_writer_view K.told self.new) }
+    {
+        match write_byte_string(self.sink, bytes) {
+            Ok(()) => Ok(()),
+            Err(why) => {
+                self.why = Some(Stop::Sink(why));
+                Err(Error::new())
+            }
+        }
+    }
+
+    /// Writes the bytes of a binary.
+    pub(crate) fn write_binary(&mut self, bytes: &[u8]) -> Result
+        ensures { let state = cbor_writer_state self.old in
+            CborDoes (writes (binary_bytes state.style.binaries bytes.now) state) result
+            (writer_target K.told self.old) (cbor_writer_view K.told self.new) }
+    {
+        match self.style.binaries {
+            Binaries::Numbers => self.write_bytes(bytes),
+            Binaries::ByteStrings => self.write_byte_string(bytes),
+        }
+    }
+
+    /// Ends a binary.
+    pub(crate) fn end_binary(&mut self) -> Result
+        ensures { let state = cbor_writer_state self.old in
+            CborDoes (writes (binary_end state.style.binaries) state) result
+            (writer_target K.told self.old) (cbor_writer_view K.told self.new) }
+    {
+        match self.style.binaries {
+            Binaries::Numbers => self.write(BREAK),
+            Binaries::ByteStrings => self.write(b""),
+        }
     }
 }
