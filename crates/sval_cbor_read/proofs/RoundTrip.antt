@@ -1,4 +1,4 @@
--- The bytes of a packed shape are an item, and the shape of that item's tree is the shape that was packed.
+-- The bytes of a packed shape are an item, and that item's tree packs to the same shape in the same style.
 use Rattle.std.specs.Prelude.{◌≡◌, ℕ, ◌^◌, ◌<◌, ◌≤◌, ℤ, pos, negsuc, Bool, true, false, nat_lt, if◌then◌else◌, List, [], ◌∷◌, ◌++◌, length, take, drop, IsTrue, Some, Ok, refl}
 use Rattle.std.specs.Str.{is_utf8}
 use Rattle.std.specs.Str.Parse.{signed_digits_value}
@@ -7,18 +7,22 @@ use Rattle.std.proofs.lemmas.Bool.Decides.{nat_tests}
 use Rattle.std.proofs.lemmas.List.{take_at, drop_at}
 use Rattle.std.proofs.lemmas.Str.{is_utf8-from_IsUtf8}
 use Rattle.sval_label.specs.Calls.{IntType, U64, U128, I128, Seq, Map, Item, Key, Value}
-use Rattle.sval_core.specs.Trees.{Tree, Null, Truth, Int, Text, Container, Parts, none, part}
+use Rattle.sval_core.specs.Trees.{Tree, Null, Truth, Int, Text, Binary, Container, Parts, none, part}
 use Rattle.sval_core.specs.Real.{IsReal}
 use Rattle.sval_json.specs.Json as shape
 use Rattle.sval_json.specs.Json.{escaped_key, raw_key, Json, Items, no_item, item, Pairs, no_pair, pair}
 use Rattle.sval_json.specs.declared.style.Variants.TheVariants.{Inside}
 use Rattle.sval_json.specs.Shape.{shape as shape_of, items, pairs, json_of}
-use Rattle.sval_cbor.specs.Packs.{has_128_bits, pack_of}
+use Rattle.sval_cbor.specs.declared.style.Binaries.{Binaries}
+use Rattle.sval_cbor.specs.declared.style.Binaries.TheVariants.{Numbers, ByteStrings}
+use Rattle.sval_cbor.specs.declared.style.Style.{Style}
+use Rattle.sval_cbor.specs.declared.style.TheConstants.Style.{DEFAULT}
+use Rattle.sval_cbor.specs.Packs.{has_128_bits, binary_shape, packs, packed_items, packed_pairs, pack_as, pack_of}
 use Rattle.sval_cbor.specs.Cbor.{head_bytes, short_bytes, string as string_bytes, bignum, integer, cbor, cbor_items, cbor_pairs}
-use Rattle.sval_cbor.specs.Premises.{IsShortTree}
+use Rattle.sval_cbor.specs.Premises.{IsShortText, IsShortTreeAs, IsShortTree}
 use Rattle.sval_cbor.proofs.Numbers.{value_of_decimal, short_of_128}
-use Rattle.sval_cbor.proofs.Packed.{IsPackedText, IsPackedNumber, IsPacked, ArePacked, PairsArePacked, packed}
-use Rattle.sval_cbor_read.specs.Items.{head, head_at_front, negative_type, is_piece, IsDefiniteString, string, definite, IsItem, by_head, seq_to_break, map_to_break, falsehood, truth, null, IsBody, unsigned, negative, text, big, negative_big, ItemsToBreak, items_end, items_go_on, EntriesToBreak, entries_end, entries_go_on, IsItemOf}
+use Rattle.sval_cbor.proofs.Packed.{IsPackedText, IsPackedNumber, IsPackedBinary, IsPacked, ArePacked, PairsArePacked, packed}
+use Rattle.sval_cbor_read.specs.Items.{head, head_at_front, negative_type, is_piece, IsDefiniteString, string, definite, IsItem, by_head, seq_to_break, map_to_break, falsehood, truth, null, IsBody, unsigned, negative, binary, text, big, negative_big, ItemsToBreak, items_end, items_go_on, EntriesToBreak, entries_end, entries_go_on, IsItemOf}
 use Rattle.sval_cbor_read.proofs.Heads.{head_read, short_length, short_value}
 use Rattle.sval_cbor_read.proofs.OneTree.{one_item}
 
@@ -42,6 +46,15 @@ text_read content rest h =
     let n = length content in
     let e : head_at_front (string_bytes 3 content ++ rest) ≡ Some (head 3 n (content ++ rest)) = ap head_at_front (append_assoc (head_bytes 3 n) content rest) ∙ head_read 3 n (content ++ rest) h.1 in
     by_head e (text_body n (content ++ rest) content rest (omega (arith, length-append content rest)) (is_utf8-from_IsUtf8 content h.0) (take_at content rest n refl) (drop_at content rest n refl))
+
+binary_body : (n : ℕ) (after content rest : List ℕ) → n ≤ length after → take n after ≡ content → drop n after ≡ rest → IsBody 2 n after (Binary content) rest
+binary_body n after content rest h f g = subst (λ x. IsBody 2 n after (Binary x) rest) f (subst (λ x. IsBody 2 n after (Binary (take n after)) x) g (binary h))
+
+binary_read : (content rest : List ℕ) → IsShortText content → IsItem (string_bytes 2 content ++ rest) (Binary content) rest
+binary_read content rest h =
+    let n = length content in
+    let e : head_at_front (string_bytes 2 content ++ rest) ≡ Some (head 2 n (content ++ rest)) = ap head_at_front (append_assoc (head_bytes 2 n) content rest) ∙ head_read 2 n (content ++ rest) h in
+    by_head e (binary_body n (content ++ rest) content rest (omega (arith, length-append content rest)) (take_at content rest n refl) (drop_at content rest n refl))
 
 -- ---- numbers
 
@@ -85,94 +98,124 @@ integer_read (negsuc n) h = go (nat_lt n (2 ^ 64)) refl
 
 -- ---- shapes
 
--- the bytes are an item, whose tree has this shape
-record IsReadBack (json : Json) : Type 0 where
+-- a style in which a binary is an array of numbers
+abbrev WritesNumbers : Style → Type 0
+WritesNumbers style = style.binaries ≡ Numbers
+
+-- the bytes are an item, whose tree packs to this shape again, and has it as its JSON where binaries are numbers
+record IsReadBack (style : Style) (json : Json) : Type 0 where
   tree : Tree
   is_item : (rest : List ℕ) → IsItem (cbor json ++ rest) tree rest
-  has_shape : shape_of Inside tree false ≡ Ok json
+  has_shape : WritesNumbers style → shape_of Inside tree false ≡ Ok json
+  repacks : packs style tree false ≡ Ok json
 
-record AreReadBack (row : Items) : Type 0 where
+record AreReadBack (style : Style) (row : Items) : Type 0 where
   parts : Parts
   are_items : (rest : List ℕ) → ItemsToBreak (cbor_items row ++ 0xff ∷ rest) parts rest
-  have_shape : items Inside parts ≡ Ok row
+  have_shape : WritesNumbers style → items Inside parts ≡ Ok row
+  repack : packed_items style parts ≡ Ok row
 
-record PairsAreReadBack (row : Pairs) : Type 0 where
+record PairsAreReadBack (style : Style) (row : Pairs) : Type 0 where
   parts : Parts
   are_entries : (rest : List ℕ) → EntriesToBreak (cbor_pairs row ++ 0xff ∷ rest) parts rest
-  have_shape : pairs Inside parts ≡ Ok row
-
-number_back : (bytes : List ℕ) → IsPackedNumber bytes → IsReadBack (shape.number bytes)
-number_back bytes (z, e, h) =
-    let i = integer_read z h in
-    let v : signed_digits_value 10 bytes ≡ z = ap (signed_digits_value 10) e ∙ value_of_decimal z (short_of_128 z h) in
-    record {
-      tree = Int i.0 z;
-      is_item = λ rest. subst (λ x. IsItem (integer x ++ rest) (Int i.0 z) rest) (sym v) (i.1 rest);
-      has_shape = ap (λ x. Ok (shape.number x)) (sym e);
-    }
-
-truth_back : (b : Bool) → IsReadBack (shape.truth b)
-truth_back true = record { tree = Truth true; is_item = λ rest. truth; has_shape = refl }
-truth_back false = record { tree = Truth false; is_item = λ rest. falsehood; has_shape = refl }
+  have_shape : WritesNumbers style → pairs Inside parts ≡ Ok row
+  repack : packed_pairs style parts ≡ Ok row
 
 joined : (xs rest : List ℕ) → xs ++ (0xff ∷ []) ++ rest ≡ xs ++ 0xff ∷ rest
 joined xs rest = append_assoc xs (0xff ∷ []) rest
 
-array_back : (row : Items) → AreReadBack row → IsReadBack (shape.array row)
-array_back row r = record {
-  tree = Container Seq r.parts;
-  is_item = λ rest. subst (λ x. IsItem (0x9f ∷ x) (Container Seq r.parts) rest) (sym (joined (cbor_items row) rest)) (seq_to_break (r.are_items rest));
-  has_shape = rw r.have_shape refl;
-}
+module _ (style : Style) where
+  number_back : (bytes : List ℕ) → IsPackedNumber bytes → IsReadBack style (shape.number bytes)
+  number_back bytes (z, e, h) =
+      let i = integer_read z h in
+      let v : signed_digits_value 10 bytes ≡ z = ap (signed_digits_value 10) e ∙ value_of_decimal z (short_of_128 z h) in
+      record {
+        tree = Int i.0 z;
+        is_item = λ rest. subst (λ x. IsItem (integer x ++ rest) (Int i.0 z) rest) (sym v) (i.1 rest);
+        has_shape = λ n. ap (λ x. Ok (shape.number x)) (sym e);
+        repacks = ap (λ x. Ok (shape.number x)) (sym e);
+      }
 
-object_back : (row : Pairs) → PairsAreReadBack row → IsReadBack (shape.object row)
-object_back row r = record {
-  tree = Container Map r.parts;
-  is_item = λ rest. subst (λ x. IsItem (0xbf ∷ x) (Container Map r.parts) rest) (sym (joined (cbor_pairs row) rest)) (map_to_break (r.are_entries rest));
-  has_shape = rw r.have_shape refl;
-}
+  truth_back : (b : Bool) → IsReadBack style (shape.truth b)
+  truth_back true = record { tree = Truth true; is_item = λ rest. truth; has_shape = λ n. refl; repacks = refl }
+  truth_back false = record { tree = Truth false; is_item = λ rest. falsehood; has_shape = λ n. refl; repacks = refl }
 
-item_back : (json : Json) (row : Items) → IsReadBack json → AreReadBack row → AreReadBack (item json row)
-item_back json row r s = record {
-  parts = part Item r.tree s.parts;
-  are_items = λ rest. subst (λ x. ItemsToBreak x (part Item r.tree s.parts) rest) (sym (append_assoc (cbor json) (cbor_items row) (0xff ∷ rest)))
-      (items_go_on (r.is_item (cbor_items row ++ 0xff ∷ rest)) (s.are_items rest));
-  have_shape = rw (r.has_shape, s.have_shape) refl;
-}
+  binary_back : (bytes : List ℕ) (binaries : Binaries) → style.binaries ≡ binaries → IsPackedBinary binaries bytes → IsReadBack style (shape.quoted bytes)
+  binary_back bytes Numbers e h = absurd h
+  binary_back bytes ByteStrings e h = record {
+    tree = Binary bytes;
+    is_item = λ rest. binary_read bytes rest h.1;
+    has_shape = λ n. let never : ByteStrings ≡ Numbers = sym e ∙ n in cc never;
+    repacks = ap (λ binaries. Ok (binary_shape binaries bytes)) e;
+  }
 
-pair_back : (bytes : List ℕ) (json : Json) (row : Pairs) → IsPackedText bytes → IsReadBack json → PairsAreReadBack row → PairsAreReadBack (pair (escaped_key bytes) json row)
-pair_back bytes json row k r s = record {
-  parts = part Key (Text bytes) (part Value r.tree s.parts);
-  are_entries = λ rest. subst (λ x. EntriesToBreak x (part Key (Text bytes) (part Value r.tree s.parts)) rest)
-      (sym (append_assoc (string_bytes 3 bytes ++ cbor json) (cbor_pairs row) (0xff ∷ rest) ∙ append_assoc (string_bytes 3 bytes) (cbor json) (cbor_pairs row ++ 0xff ∷ rest)))
-      (entries_go_on (text_read bytes (cbor json ++ (cbor_pairs row ++ 0xff ∷ rest)) k) (r.is_item (cbor_pairs row ++ 0xff ∷ rest)) (s.are_entries rest));
-  have_shape = rw (r.has_shape, s.have_shape) refl;
-}
+  array_back : (row : Items) → AreReadBack style row → IsReadBack style (shape.array row)
+  array_back row r = record {
+    tree = Container Seq r.parts;
+    is_item = λ rest. subst (λ x. IsItem (0x9f ∷ x) (Container Seq r.parts) rest) (sym (joined (cbor_items row) rest)) (seq_to_break (r.are_items rest));
+    has_shape = λ n. rw (r.have_shape n) refl;
+    repacks = rw r.repack refl;
+  }
 
-mutual
-  read_back : (json : Json) → IsPacked json → IsReadBack json
-  read_back shape.null h = record { tree = Null; is_item = λ rest. null; has_shape = refl }
-  read_back (shape.truth b) h = truth_back b
-  read_back (shape.number bytes) h = number_back bytes h
-  read_back (shape.text bytes) h = record { tree = Text bytes; is_item = λ rest. text_read bytes rest h; has_shape = refl }
-  read_back (shape.quoted bytes) h = absurd h
-  read_back (shape.raw bytes) h = absurd h
-  read_back (shape.array row) h = array_back row (items_back row h)
-  read_back (shape.object row) h = object_back row (pairs_back row h)
+  object_back : (row : Pairs) → PairsAreReadBack style row → IsReadBack style (shape.object row)
+  object_back row r = record {
+    tree = Container Map r.parts;
+    is_item = λ rest. subst (λ x. IsItem (0xbf ∷ x) (Container Map r.parts) rest) (sym (joined (cbor_pairs row) rest)) (map_to_break (r.are_entries rest));
+    has_shape = λ n. rw (r.have_shape n) refl;
+    repacks = rw r.repack refl;
+  }
 
-  items_back : (row : Items) → ArePacked row → AreReadBack row
-  items_back no_item h = record { parts = none; are_items = λ rest. items_end; have_shape = refl }
-  items_back (item json row) h = item_back json row (read_back json h.0) (items_back row h.1)
+  item_back : (json : Json) (row : Items) → IsReadBack style json → AreReadBack style row → AreReadBack style (item json row)
+  item_back json row r s = record {
+    parts = part Item r.tree s.parts;
+    are_items = λ rest. subst (λ x. ItemsToBreak x (part Item r.tree s.parts) rest) (sym (append_assoc (cbor json) (cbor_items row) (0xff ∷ rest)))
+        (items_go_on (r.is_item (cbor_items row ++ 0xff ∷ rest)) (s.are_items rest));
+    have_shape = λ n. rw (r.has_shape n, s.have_shape n) refl;
+    repack = rw (r.repacks, s.repack) refl;
+  }
 
-  pairs_back : (row : Pairs) → PairsArePacked row → PairsAreReadBack row
-  pairs_back no_pair h = record { parts = none; are_entries = λ rest. entries_end; have_shape = refl }
-  pairs_back (pair (escaped_key bytes) json row) h = pair_back bytes json row h.0 (read_back json h.1) (pairs_back row h.2)
-  pairs_back (pair (raw_key bytes) json row) h = absurd h.0
+  pair_back : (bytes : List ℕ) (json : Json) (row : Pairs) → IsPackedText bytes → IsReadBack style json → PairsAreReadBack style row → PairsAreReadBack style (pair (escaped_key bytes) json row)
+  pair_back bytes json row k r s = record {
+    parts = part Key (Text bytes) (part Value r.tree s.parts);
+    are_entries = λ rest. subst (λ x. EntriesToBreak x (part Key (Text bytes) (part Value r.tree s.parts)) rest)
+        (sym (append_assoc (string_bytes 3 bytes ++ cbor json) (cbor_pairs row) (0xff ∷ rest) ∙ append_assoc (string_bytes 3 bytes) (cbor json) (cbor_pairs row ++ 0xff ∷ rest)))
+        (entries_go_on (text_read bytes (cbor json ++ (cbor_pairs row ++ 0xff ∷ rest)) k) (r.is_item (cbor_pairs row ++ 0xff ∷ rest)) (s.are_entries rest));
+    have_shape = λ n. rw (r.has_shape n, s.have_shape n) refl;
+    repack = rw (r.repacks, s.repack) refl;
+  }
+
+  mutual
+    read_back : (json : Json) → IsPacked style json → IsReadBack style json
+    read_back shape.null h = record { tree = Null; is_item = λ rest. null; has_shape = λ n. refl; repacks = refl }
+    read_back (shape.truth b) h = truth_back b
+    read_back (shape.number bytes) h = number_back bytes h
+    read_back (shape.text bytes) h = record { tree = Text bytes; is_item = λ rest. text_read bytes rest h; has_shape = λ n. refl; repacks = refl }
+    read_back (shape.quoted bytes) h = binary_back bytes style.binaries refl h
+    read_back (shape.raw bytes) h = absurd h
+    read_back (shape.array row) h = array_back row (items_back row h)
+    read_back (shape.object row) h = object_back row (pairs_back row h)
+
+    items_back : (row : Items) → ArePacked style row → AreReadBack style row
+    items_back no_item h = record { parts = none; are_items = λ rest. items_end; have_shape = λ n. refl; repack = refl }
+    items_back (item json row) h = item_back json row (read_back json h.0) (items_back row h.1)
+
+    pairs_back : (row : Pairs) → PairsArePacked style row → PairsAreReadBack style row
+    pairs_back no_pair h = record { parts = none; are_entries = λ rest. entries_end; have_shape = λ n. refl; repack = refl }
+    pairs_back (pair (escaped_key bytes) json row) h = pair_back bytes json row h.0 (read_back json h.1) (pairs_back row h.2)
+    pairs_back (pair (raw_key bytes) json row) h = absurd h.0
+
+  -- what a real tree with short texts is written as in a style is an item of one tree, which packs to the same shape in that style
+  pub styles_are_read_back : (tree : Tree) (json : Json) → IsReal tree → IsShortTreeAs style tree → pack_as style tree ≡ Ok json
+      → (read : Tree) × IsItemOf (cbor json) read × ((other : Tree) → IsItemOf (cbor json) other → other ≡ read) × (pack_as style read ≡ Ok json)
+  styles_are_read_back tree json r s e =
+      let back = read_back json (packed style tree json r s e) in
+      let i : IsItemOf (cbor json) back.tree = subst (λ x. IsItem x back.tree []) (append-nil (cbor json)) (back.is_item []) in
+      (back.tree, i, (λ other j. (one_item j i).0), back.repacks)
 
 -- what a real tree with short texts is written as is an item of one tree, whose shape is what the tree packs to
 pub written_is_read_back : (tree : Tree) (json : Json) → IsReal tree → IsShortTree tree → pack_of tree ≡ Ok json
     → (read : Tree) × IsItemOf (cbor json) read × ((other : Tree) → IsItemOf (cbor json) other → other ≡ read) × (json_of read ≡ Ok json)
 written_is_read_back tree json r s e =
-    let back = read_back json (packed tree json r s e) in
+    let back = read_back DEFAULT json (packed DEFAULT tree json r s e) in
     let i : IsItemOf (cbor json) back.tree = subst (λ x. IsItem x back.tree []) (append-nil (cbor json)) (back.is_item []) in
-    (back.tree, i, (λ other j. (one_item j i).0), back.has_shape)
+    (back.tree, i, (λ other j. (one_item j i).0), back.has_shape refl)

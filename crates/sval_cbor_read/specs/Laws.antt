@@ -8,9 +8,10 @@ use Rattle.sval_core.specs.Real.{IsReal}
 use Rattle.sval_json.specs.Json.{Json}
 use Rattle.sval_json.specs.Number.{Refusal, InvalidKey}
 use Rattle.sval_json.specs.Shape.{json_of}
-use Rattle.sval_cbor.specs.Packs.{pack_of}
+use Rattle.sval_cbor.specs.declared.style.Style.{Style}
+use Rattle.sval_cbor.specs.Packs.{pack_as, pack_of}
 use Rattle.sval_cbor.specs.Cbor.{head_bytes, cbor}
-use Rattle.sval_cbor.specs.Premises.{IsShortTree}
+use Rattle.sval_cbor.specs.Premises.{IsShortTreeAs, IsShortTree}
 use Rattle.sval_cbor_read.specs.Items.{head, head_at_front, IsItem, IsItemOf}
 use Rattle.sval_cbor_read.specs.Document.{cbor_document_calls}
 use Rattle.sval_cbor_read.specs.ReadErrors.{StepsStopAt}
@@ -79,3 +80,8 @@ HeadsAreShortest = (bytes : List ℕ) (major number : ℕ) (rest : List ℕ) →
 abbrev pub WrittenIsReadBack : Type 0
 WrittenIsReadBack = (tree : Tree) (json : Json) → IsReal tree → IsShortTree tree → pack_of tree ≡ Ok json
     → (read : Tree) × IsItemOf (cbor json) read × ((other : Tree) → IsItemOf (cbor json) other → other ≡ read) × (json_of read ≡ Ok json)
+
+-- the same in each style, in which that tree packs to the shape that was written
+abbrev pub StylesAreReadBack : Type 0
+StylesAreReadBack = (style : Style) (tree : Tree) (json : Json) → IsReal tree → IsShortTreeAs style tree → pack_as style tree ≡ Ok json
+    → (read : Tree) × IsItemOf (cbor json) read × ((other : Tree) → IsItemOf (cbor json) other → other ≡ read) × (pack_as style read ≡ Ok json)

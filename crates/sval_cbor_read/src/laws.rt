@@ -1,7 +1,7 @@
 //! The laws of CBOR's items, each as a clause that is proved.
 
 ghost use Rattle.sval_program.specs.Jobs.{OneDue};
-ghost use Rattle.sval_cbor_read.specs.Laws.{ItemHasOneTree, ItemsAreReal, ItemsAreRefusedByKey, CborDocumentsSpell, ItemsAreRead, ReadIsItem, ReadInOneWay, ReadingEndsWell, ReadingStopsAtBadBytes, StepsStopAtOnePlace, LargeNumbersAreBadBytes, StepsComeNearer, HeadsAreRead, HeadsAreShortest, WrittenIsReadBack};
+ghost use Rattle.sval_cbor_read.specs.Laws.{ItemHasOneTree, ItemsAreReal, ItemsAreRefusedByKey, CborDocumentsSpell, ItemsAreRead, ReadIsItem, ReadInOneWay, ReadingEndsWell, ReadingStopsAtBadBytes, StepsStopAtOnePlace, LargeNumbersAreBadBytes, StepsComeNearer, HeadsAreRead, HeadsAreShortest, WrittenIsReadBack, StylesAreReadBack};
 ghost use Rattle.sval_cbor_read.specs.CborValues.{CborDocumentsMean};
 ghost use Rattle.sval_cbor_read.specs.Serves.{cbor_read_terms};
 
@@ -36,4 +36,5 @@ pub fn value_laws()
 /// What holds of all that is written.
 pub fn round_trip_laws()
     ensures written_is_read_back { WrittenIsReadBack }
+    ensures styles_are_read_back { StylesAreReadBack }
 {}
