@@ -3,22 +3,29 @@
 use crate::cases::{Case, try_cases};
 use std::alloc::Global;
 use std::test::Fail;
-use sval_cbor::stream_to_cbor;
+use sval_cbor::{Style, stream_to_cbor, stream_to_cbor_with};
 use sval_io::VecSink;
 use sval_script::Script;
 
-/// A script, and behind `cbor` the bytes that are written of it in hex, or behind `error` why none are.
+/// A script, and behind `cbor` the bytes that are written of it in hex, or behind `error` why none are. `strings` before
+/// that asks for binaries as byte strings.
 struct Written;
 
 impl Case for Written {
-    fn seen(alloc: Global, input: &str, _due: &str) -> Result<String, Fail> {
+    fn seen(alloc: Global, input: &str, due: &str) -> Result<String, Fail> {
         let script = Script::read(alloc, input.as_bytes())?;
         let mut sink = VecSink::new(alloc);
-        let answer = stream_to_cbor(alloc, &mut sink, &script);
+        let strings = due.starts_with("strings ");
+        let answer = if strings {
+            stream_to_cbor_with(alloc, &script, Style::BYTE_STRINGS, &mut sink)
+        } else {
+            stream_to_cbor(alloc, &mut sink, &script)
+        };
         let bytes = hex::encode(alloc, sink.as_slice())?;
+        let style = if strings { "strings " } else { "" };
         match answer {
-            Ok(()) => Ok(format!(in alloc; "cbor {bytes}")?),
-            Err(error) => Ok(format!(in alloc; "error {bytes}{error:?}")?),
+            Ok(()) => Ok(format!(in alloc; "{style}cbor {bytes}")?),
+            Err(error) => Ok(format!(in alloc; "{style}error {bytes}{error:?}")?),
         }
     }
 }
@@ -178,6 +185,83 @@ i64 -1
 
 u16 256
 = cbor 190100
+"#;
+
+/// Binaries as byte strings and as arrays of numbers. The first two byte strings are examples of RFC 8949, appendix A.
+const BINARIES: &'static str = r#"
+binary_begin -
+binary_end
+= strings cbor 40
+= cbor 9fff
+
+binary_begin 4
+binary_fragment =01020304
+binary_end
+= strings cbor 4401020304
+= cbor 9f01020304ff
+
+binary_begin -
+binary_fragment =0102
+binary_fragment_computed =03ff
+binary_end
+= strings cbor 44010203ff
+= cbor 9f01020318ffff
+
+binary_begin -
+binary_fragment =000102030405060708090a0b0c0d0e0f1011121314151617
+binary_end
+= strings cbor 5818000102030405060708090a0b0c0d0e0f1011121314151617
+= cbor 9f000102030405060708090a0b0c0d0e0f1011121314151617ff
+
+seq_begin 1
+seq_value_begin
+binary_begin 2
+binary_fragment =00ff
+binary_end
+seq_value_end
+seq_end
+= strings cbor 9f4200ffff
+= cbor 9f9f0018ffffff
+
+enum_begin - =45 -
+tagged_begin - =56 -
+binary_begin -
+binary_fragment =61
+binary_end
+tagged_end - =56 -
+enum_end - =45 -
+= strings cbor bf61564161ff
+= cbor bf61569f1861ffff
+
+text_begin -
+text_fragment =61
+text_end
+= strings cbor 6161
+
+@ two_keys
+= strings cbor bf6130f46131f5ff
+
+map_begin -
+map_key_begin
+binary_begin -
+binary_end
+map_key_end
+map_value_begin
+null
+map_value_end
+map_end
+= strings error Key
+= error Key
+
+seq_begin 1
+= strings error Unfinished
+
+tagged_begin NUMBER - -
+text_begin -
+text_fragment =312e35
+text_end
+tagged_end NUMBER - -
+= strings error NotInteger
 "#;
 
 /// Numbers that come as text.
@@ -349,7 +433,7 @@ map_end
 #[test]
 fn scripts_that_are_written(rt: HostRuntime) -> Result<(), Fail> {
     for table in [
-        EXAMPLES, MAPS, WIDE, NUMBERS, TEXTS, VARIANTS, NOT_WHOLE, RAW, NO_VALUE,
+        EXAMPLES, MAPS, WIDE, BINARIES, NUMBERS, TEXTS, VARIANTS, NOT_WHOLE, RAW, NO_VALUE,
     ] {
         try_cases::<Written>(&rt, rt.alloc(), table)?;
     }
