@@ -30,12 +30,16 @@ struct Written {
 }
 
 impl fmt::Write for Written {
+    ghost use Rattle.std.specs.Prelude.{IsOk};
     ghost use Rattle.sval.specs.Wrote.{Wrote};
 
     ghost write_str_gives = { Wrote };
 
     /// Never fails, so that an error of formatting is one of the value's own.
-    fn write_str(&mut self, text: &str) -> fmt::Result {
+    fn write_str(&mut self, text: &str) -> fmt::Result
+        ensures wrote { Wrote self.old text.now self.new }
+        ensures never_fails { IsOk result }
+    {
         if !text.is_empty() {
             if let Err(cause) = self.text.push_str(text) {
                 self.want = Some(cause);
