@@ -34,4 +34,5 @@ pub mod ValueCodes
 pub mod KeptDocuments
 pub mod Parts
 pub mod TokenKinds
+pub mod TokenMarks
 pub mod NextCharacters

@@ -1,17 +1,44 @@
 //! The tokens of a document, one after another.
 
-ghost use Rattle.std.specs.Prelude.{◌≡◌, map};
+ghost use Rattle.std.specs.Prelude.{◌≡◌, map, true};
 ghost use Rattle.sval_core.specs.Law.{Emits};
 ghost use Rattle.sval_core.specs.Values.{makes};
+ghost use Rattle.sval_json.specs.Digits.{is_json_number};
 ghost use Rattle.sval_json_read.specs.Calls.{placed_token_calls};
 ghost use Rattle.sval_json_read.specs.Nodes.{placed_in, tokens_in};
 ghost use Rattle.sval_json_read.specs.SeenNodes.{seen_node, IsKeptOf, AreKeptOf};
+ghost use Rattle.sval_json_read.specs.TokenMarks.{IsMarkOf};
+ghost use Rattle.sval_json_read.specs.Tokens.{Number};
 ghost use Rattle.sval_json_read.specs.TokenKinds.{member_name_in, kind_of_token, TakesFirstToken};
 
 use crate::json_text::JsonText;
 use crate::node::{Node, Place};
+use crate::number_calls::i64_in;
 use std::marker::Model;
 use sval_core::{Lent, Result as StreamResult, Stream};
+
+/// What a token is. It lends its texts from the bytes.
+#[derive(Drop)]
+pub enum JsonMark<'d> {
+    /// `null`.
+    Null,
+    /// `true` or `false`.
+    Bool(bool),
+    /// A number without a fraction and without an exponent that fits an `i64`.
+    Int(i64),
+    /// Another number, as it is in the document (RFC 8259, section 6).
+    Number(&'d str),
+    /// A string, or the name of a member (RFC 8259, section 7).
+    Text(JsonText<'d>),
+    /// It begins an array.
+    BeginArray,
+    /// It ends one.
+    EndArray,
+    /// It begins an object.
+    BeginObject,
+    /// It ends one.
+    EndObject,
+}
 
 /// Whether a token begins or ends an array or object.
 #[derive(Clone, Copy, Debug, PartialEq, Eq)]
@@ -67,12 +94,50 @@ impl<'d> JsonToken<'d> {
         }
     }
 
+    /// What it is, wherever it is.
+    ///
+    /// ```
+    /// let doc = JsonDoc::read_str(alloc, "[42]")?;
+    /// let mut tokens = doc.tokens();
+    /// assert_eq!(rt; matches!(tokens.next().map(|token| token.mark()), Some(JsonMark::BeginArray)), true);
+    /// assert_eq!(rt; matches!(tokens.next().map(|token| token.mark()), Some(JsonMark::Int(42))), true);
+    /// ```
+    pub fn mark(&self) -> JsonMark<'d>
+        ensures { IsMarkOf self.now.token result }
+    {
+        match self.node {
+            Node::Null(_) => JsonMark::Null,
+            Node::Bool(_, value) => JsonMark::Bool(value),
+            Node::Number(_, length, from) => {
+                mark_number(&self.text[from..from + length as usize])
+            }
+            Node::Text(_, length, from) => {
+                JsonMark::Text(JsonText::new(&self.text[from..from + length as usize]))
+            }
+            Node::BeginArray(_) => JsonMark::BeginArray,
+            Node::EndArray(_) => JsonMark::EndArray,
+            Node::BeginObject(_) => JsonMark::BeginObject,
+            Node::EndObject(_) => JsonMark::EndObject,
+        }
+    }
+
     /// Makes its calls, with those that begin or end its place in an array or object.
     pub fn stream<S: Stream<Lent<'d>>>(&self, stream: &mut S) -> StreamResult
         ensures { Emits S.law result (S.standing stream.old) (makes (placed_token_calls self.now))
             (S.standing stream.new) }
     {
         self.node.stream(self.text, stream)
+    }
+}
+
+/// What the token of a number is.
+fn mark_number(text: &str) -> JsonMark<'_>
+    requires { is_json_number text.now ≡ true }
+    ensures { IsMarkOf (Number text.now) result }
+{
+    match i64_in(text) {
+        Some(number) => JsonMark::Int(number),
+        None => JsonMark::Number(text),
     }
 }
 

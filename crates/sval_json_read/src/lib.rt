@@ -42,7 +42,7 @@ pub use json_part::JsonPart;
 pub use json_parts::{JsonItems, JsonMember, JsonMembers};
 pub use json_ref::{JsonKind, JsonRef};
 pub use json_text::JsonText;
-pub use json_tokens::{JsonToken, JsonTokens, TokenKind};
+pub use json_tokens::{JsonMark, JsonToken, JsonTokens, TokenKind};
 pub use program::ReadJson;
 pub use running::run_read;
 pub use sval_io::Limits;

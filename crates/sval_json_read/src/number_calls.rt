@@ -8,6 +8,7 @@ ghost use Rattle.sval_core.specs.Law.{Answers, Emits};
 ghost use Rattle.sval_core.specs.Values.{makes};
 ghost use Rattle.sval_json.specs.Digits.{is_json_number};
 ghost use Rattle.sval_json_read.specs.Calls.{number_calls};
+ghost use Rattle.sval_json_read.specs.TokenMarks.{IsI64In};
 
 use sval_core::{Lending, Lent, Result, Stream, Tag, tags};
 
@@ -34,6 +35,17 @@ fn stream_text_under<L: Lending, S: Stream<L>>(
     stream.text_fragment(text)?;
     stream.text_end()?;
     stream.tagged_end(Some(tag), None, None)
+}
+
+/// The number that a text is, if it has no fraction and no exponent and fits.
+pub(crate) fn i64_in(text: &str) -> Option<i64>
+    requires { is_json_number text.now ≡ true }
+    ensures { IsI64In text.now result }
+{
+    match text.parse::<i64>() {
+        Ok(number) => Some(number),
+        Err(_) => None,
+    }
 }
 
 /// Makes the calls of a number: an `i64` where it has no fraction and no exponent and fits, and else its text.
