@@ -86,7 +86,7 @@ signed_128 : (k : ℕ) (z : ℤ) → 2 ^ k ≤ 2 ^ 127 → is_signed k z ≡ tru
 signed_128 k (pos n) h e = let f : n < 2 ^ k = grind (arith, nat_tests) in let g : n < 2 ^ 128 = omega arith in grind (arith, nat_tests)
 signed_128 k (negsuc n) h e = let f : n < 2 ^ k = grind (arith, nat_tests) in let g : n < 2 ^ 127 = omega arith in grind (arith, nat_tests)
 
-type_128 : (type : IntType) (z : ℤ) → is_of_type type z ≡ true → has_128_bits z ≡ true
+pub type_128 : (type : IntType) (z : ℤ) → is_of_type type z ≡ true → has_128_bits z ≡ true
 type_128 U8 z e = unsigned_128 8 z (omega arith) (omega arith) e
 type_128 U16 z e = unsigned_128 16 z (omega arith) (omega arith) e
 type_128 U32 z e = unsigned_128 32 z (omega arith) (omega arith) e

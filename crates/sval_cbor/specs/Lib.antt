@@ -7,6 +7,7 @@ pub mod SeenWriter
 pub mod SeenNumber
 pub mod WriterLaw
 pub mod ErrorTexts
+pub mod SinkErrors
 pub mod Streamed
 pub mod Forms
 pub mod Verdict

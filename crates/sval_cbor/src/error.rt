@@ -56,6 +56,20 @@ impl fmt::Display for CborError {
 
 impl Error for CborError {}
 
+impl From<SinkError> for CborError {
+    ghost use Rattle.std.specs.Prelude.{◌≡◌};
+    ghost use Rattle.sval_cbor.specs.SinkErrors.{cbor_error_of};
+
+    ghost from_gives = { λ why error. error ≡ cbor_error_of why };
+
+    fn from(why: SinkError) -> CborError {
+        match why {
+            SinkError::Failed => CborError::Write,
+            SinkError::NoMemory => CborError::NoMemory,
+        }
+    }
+}
+
 /// Why a step of the writer refuses a call.
 #[derive(Clone, Copy)]
 pub(crate) enum Refusal {

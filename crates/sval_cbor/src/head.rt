@@ -19,7 +19,7 @@ const BIGNUM_ROOM: usize = 18;
 
 /// Writes a head: a major type and a number, in as few bytes as hold the number (RFC 8949, sections 3 and 4.2.1).
 #[tactic(auto, unfolding(crate::specs::Cbor::head_bytes))]
-fn write_head<K: Sink>(sink: &mut K, major: u8, number: u64) -> Result<(), SinkError>
+pub(crate) fn write_head<K: Sink>(sink: &mut K, major: u8, number: u64) -> Result<(), SinkError>
     requires { major < 8 }
     ensures { WritesAll result (K.told sink.old) (head_bytes major number) (K.told sink.new) }
 {

@@ -4,6 +4,7 @@
 //! whole program over any words and devices: it writes the value that a script of calls spells.
 #![tactic(auto)]
 
+mod data_item;
 mod error;
 mod head;
 mod integer;
@@ -16,6 +17,7 @@ mod style;
 mod to_cbor;
 mod writer;
 
+pub use data_item::{write_i64, write_number, write_text_string};
 pub use error::CborError;
 pub use program::WriteCbor;
 pub use running::run_cbor;
