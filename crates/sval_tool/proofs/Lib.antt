@@ -3,6 +3,9 @@ pub mod LeftStreams
 pub mod LeftJson
 pub mod LeftWritten
 pub mod LaidOut
+pub mod TokenBytes
+pub mod TakenBytes
+pub mod PackedWritten
 pub mod DocumentCauses
 pub mod LinesConverted
 pub mod InputsConverted

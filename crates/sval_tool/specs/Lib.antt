@@ -3,9 +3,11 @@ pub mod ConvertedInputs
 pub mod ConvertedLines
 pub mod ErrorTexts
 pub mod LeftTokens
+pub mod PackedDocuments
 pub mod Passing
 pub mod PathWords
 pub mod Switches
 pub mod WordReading
 pub mod Words
 pub mod WholeSources
+pub mod TokenBytes
