@@ -37,7 +37,7 @@ fn stream_text_under<L: Lending, S: Stream<L>>(
     stream.tagged_end(Some(tag), None, None)
 }
 
-/// The number that a text is, if it has no fraction and no exponent and fits.
+/// The `i64` of a number without a fraction and without an exponent, if it fits.
 pub(crate) fn i64_in(text: &str) -> Option<i64>
     requires { is_json_number text.now ≡ true }
     ensures { IsI64In text.now result }
