@@ -11,7 +11,8 @@ use Rattle.sval_cbor_read.specs.declared.bignum.Bignum.{Bignum as MadeBignum}
 use Rattle.sval_cbor_read.specs.declared.item.Item as made_item
 use Rattle.sval_cbor_read.specs.declared.item.Item.TheVariants as item
 use Rattle.sval_cbor_read.specs.declared.item.Begun.{Begun}
-use Rattle.sval_cbor_read.specs.Items.{head, head_at_front, is_piece, big_endian, ArePieces, break, piece, IsByteString, definite, in_pieces}
+use Rattle.sval_cbor_read.specs.Items.{head, head_at_front, is_piece, big_endian, IsDefiniteString, string, ArePieces, break, piece, IsByteString, definite, in_pieces}
+use Rattle.sval_cbor_read.specs.HeadFronts as single
 use Rattle.sval_cbor_read.specs.Reading.{OpenItem, ItemState, Item, Ended, Bignum, BignumPieces, Move, moves, mark_of, first_step, item_step, head_step, body_step, string_step, string_calls, tag_step, fits, number_call, reading_step, Reached, onward}
 use Rattle.sval_cbor_read.specs.Steps.{Spot, spot, ItemSteps, one_step, more_steps, IsStuck}
 use Rattle.sval_cbor_read.specs.SeenHeads.{IsHead}
@@ -20,12 +21,12 @@ use Rattle.sval_cbor_read.specs.SeenBignums.{IsNumberAt}
 use Rattle.sval_cbor_read.specs.SeenNodes.{byte_string, step_calls, AreWhole, AreBegin}
 use Rattle.sval_cbor_read.specs.CborValues as value
 use Rattle.sval_cbor_read.proofs.ByteStrings.{byte_string_is}
-use Rattle.sval_cbor_read.specs.SeenItems.{state_behind, item_begin_calls, IsBegun, IsMarked, BeginsBehind, BeginsNothingBehind, no_step_behind, no_number_behind, Begins, BeginsNoItem, no_step, no_number, BeginsNothing}
+use Rattle.sval_cbor_read.specs.SeenItems.{state_behind, item_begin_calls, IsBegun, HeadIs, IsMarked, BeginsBehind, BeginsNothingBehind, no_step_behind, no_number_behind, Begins, BeginsNoItem, no_step, no_number, BeginsNothing}
 use Rattle.sval_cbor_read.specs.SeenStops.{IsNumberTag, LacksNumber}
 use Rattle.sval_cbor_read.proofs.Bignums.{bytes_at, nothing_at}
 use Rattle.sval_cbor_read.proofs.OneTree.{one_byte_string}
 use Rattle.sval_cbor_read.proofs.Strings.{string_goes, bignum_read, bignum_piece_read, bignum_goes}
-use Rattle.sval_cbor_read.proofs.Sound.{number_needs}
+use Rattle.sval_cbor_read.proofs.Sound.{number_needs, fits_2, fits_3}
 use Rattle.sval_cbor_read.proofs.Complete.{front_is_read, item_goes, other_tag}
 use Rattle.sval_cbor_read.proofs.OneReading.{reads_after, stops_in_front}
 
@@ -68,14 +69,16 @@ of_step_begun (item.Pieces medium) bytes move o = o
 of_step_begun item.Tag bytes move o = absurd o
 
 pub begins_behind : (bytes : List ℕ) (h : made_head.Head) (found : made_item.Item) (calls : List Call) (next : ℕ)
-    → ((frames : List OpenItem) → body_step h.major h.number (drop h.next bytes) frames ≡ moves calls (drop next bytes) (state_behind found frames)) → IsOfStep found calls → h.next ≤ next → next ≤ length bytes
+    → ((frames : List OpenItem) → body_step h.major h.number (drop h.next bytes) frames ≡ moves calls (drop next bytes) (state_behind found frames)) → IsOfStep found calls
+    → ((here : List ℕ) → head_at_front here ≡ Some (head h.major h.number (drop h.next bytes)) → HeadIs found here (drop next bytes)) → h.next ≤ next → next ≤ length bytes
     → BeginsBehind bytes h (record { item = found; next = next })
-begins_behind bytes h found calls next e o l k =
+begins_behind bytes h found calls next e o is l k =
     let same : step_calls (body_step h.major h.number (drop h.next bytes) []) ≡ calls = ap step_calls (e []) in
     let begun : item_begin_calls found bytes (body_step h.major h.number (drop h.next bytes) []) ≡ calls = of_step_calls found bytes (body_step h.major h.number (drop h.next bytes) []) calls o ∙ same in
     record {
       leads = λ frames left made f. subst (λ x. ItemSteps (spot (Item frames) left made) (spot (state_behind found frames) (drop next bytes) (made ++ x))) (sym begun) (one_step (f ∙ e frames));
       is = of_step_begun found bytes (body_step h.major h.number (drop h.next bytes) []) (subst (IsOfStep found) (sym same) o);
+      head_is = is;
       later = l;
       within = k;
     }
@@ -175,6 +178,7 @@ marked_begins bytes at found l m =
           ap (λ x. item_step x frames) (bytes_at bytes at l) ∙ m.moves bytes behind (head_at_front (first ∷ behind)) frames ∙ ap (λ x. moves (item_begin_calls found bytes x) behind (state_behind found frames)) (sym here) in
           one_step e;
       is = subst (IsBegun found bytes) (sym here) (m.is bytes behind (head_at_front (first ∷ behind)));
+      head_is = subst (λ x. HeadIs found x behind) (sym (bytes_at bytes at l)) (m.head_is behind);
       later = omega arith;
       within = omega arith;
     }
@@ -194,6 +198,7 @@ headed_begins bytes at h begun l e (later, (is, before, within)) b =
           subst (λ x. ItemSteps (spot (Item frames) (drop at bytes) made) (spot (state_behind begun.item frames) (drop begun.next bytes) (made ++ item_begin_calls begun.item bytes x))) (sym here)
           (b.leads frames (drop at bytes) made (unmarked_step bytes at frames l e ∙ ap (λ x. head_step x frames) is));
       is = subst (IsBegun begun.item bytes) (sym here) b.is;
+      head_is = b.head_is (drop at bytes) is;
       later = let k = b.later in omega arith;
       within = b.within;
     }
@@ -223,6 +228,19 @@ no_mark first a b c d e f g =
 
 -- ---- by the major type
 
+-- a head by its major type
+pub headed_by : (bytes : List ℕ) (h : made_head.Head) (major : ℕ) (here : List ℕ) → h.major ≡ major → head_at_front here ≡ Some (head h.major h.number (drop h.next bytes)) → head_at_front here ≡ Some (head major h.number (drop h.next bytes))
+headed_by bytes h major here m e = e ∙ ap (λ x. Some (head x h.number (drop h.next bytes))) m
+
+-- and by its number
+numbered_by : (bytes : List ℕ) (h : made_head.Head) (tag : ℕ) (here : List ℕ) → h.major ≡ 6 → h.number ≡ tag → head_at_front here ≡ Some (head h.major h.number (drop h.next bytes)) → head_at_front here ≡ Some (head 6 tag (drop h.next bytes))
+numbered_by bytes h tag here m n e = headed_by bytes h 6 here m e ∙ ap (λ x. Some (head 6 x (drop h.next bytes))) n
+
+-- a definite string by its head
+string_by : (bytes here rest : List ℕ) (h : made_head.Head) (major : ℕ) → h.major ≡ major → h.number ≤ length (drop h.next bytes) → IsTrue (is_piece major (take h.number (drop h.next bytes))) → rest ≡ drop h.number (drop h.next bytes)
+    → head_at_front here ≡ Some (head h.major h.number (drop h.next bytes)) → IsDefiniteString major here (take h.number (drop h.next bytes)) rest
+string_by bytes here rest h major m l u r e = subst (IsDefiniteString major here (take h.number (drop h.next bytes))) (sym r) (string (headed_by bytes h major here m e) l u)
+
 -- a byte string behind its head
 pub binary_begins : (bytes : List ℕ) (h : made_head.Head) (content : List ℕ) (next : ℕ) → h.major ≡ 2 → IsBehind bytes h content next → BeginsBehind bytes h (record { item = item.Whole; next = next })
 binary_begins bytes h content next m b =
@@ -231,7 +249,7 @@ binary_begins bytes h content next m b =
     let rest : drop next bytes ≡ drop h.number after = ap (λ n. drop n bytes) b.next_is ∙ sym (drop-drop h.number h.next bytes) in
     begins_behind bytes h item.Whole (string_calls 2 (length content) content) next
     (λ frames. major_is h 2 after frames m ∙ string_goes_behind 2 h.number after content (drop next bytes) frames fits refl b.content_is rest)
-    (omega arith, record { value = value.Binary (content ∷ []); puts_it = λ levels. refl }) (let n = b.next_is in omega arith) b.within
+    (omega arith, record { value = value.Binary (content ∷ []); puts_it = λ levels. refl }) (λ here e. single.binary (string_by bytes here (drop next bytes) h 2 m fits refl rest e)) (let n = b.next_is in omega arith) b.within
 
 -- a text behind its head
 pub text_begins : (bytes : List ℕ) (h : made_head.Head) (content : List ℕ) (next : ℕ) → h.major ≡ 3 → IsBehind bytes h content next → IsUtf8 content → BeginsBehind bytes h (record { item = item.Whole; next = next })
@@ -242,7 +260,7 @@ text_begins bytes h content next m b u =
     let utf8 : IsTrue (is_piece 3 (take h.number after)) = subst (λ x. IsTrue (is_piece 3 x)) b.content_is (is_utf8-from_IsUtf8 content u) in
     begins_behind bytes h item.Whole (string_calls 3 (length content) content) next
     (λ frames. major_is h 3 after frames m ∙ string_goes_behind 3 h.number after content (drop next bytes) frames fits utf8 b.content_is rest)
-    (omega arith, record { value = value.Text (content ∷ []); puts_it = λ levels. refl }) (let n = b.next_is in omega arith) b.within
+    (omega arith, record { value = value.Text (content ∷ []); puts_it = λ levels. refl }) (λ here e. single.text (string_by bytes here (drop next bytes) h 3 m fits utf8 rest e)) (let n = b.next_is in omega arith) b.within
 
 pub no_binary : (bytes : List ℕ) (h : made_head.Head) → h.major ≡ 2 → h.next ≤ length bytes → length bytes < h.next + h.number → BeginsNothingBehind bytes h
 no_binary bytes h m w l = begins_nothing_behind bytes h (λ frames. major_is h 2 (drop h.next bytes) frames m ∙ no_string_step 2 h.number (drop h.next bytes) frames (λ k u. omega (arith, length-drop h.next bytes)))
@@ -258,6 +276,7 @@ pub tag_begins : (bytes : List ℕ) (h : made_head.Head) → h.major ≡ 6 → h
 tag_begins bytes h m a b w = record {
   leads = λ frames left made f. one_step (f ∙ major_is h 6 (drop h.next bytes) frames m ∙ other_tag h.number (drop h.next bytes) frames a b);
   is = tt;
+  head_is = λ here e. single.other_tag (headed_by bytes h 6 here m e) a b;
   later = omega arith;
   within = w;
 }
@@ -281,6 +300,7 @@ pub big_begins : (bytes : List ℕ) (h : made_head.Head) (bignum : MadeBignum) �
 big_begins bytes h bignum m k number f = record {
   leads = number_behind 2 bytes h bignum m k (λ after frames. refl) number f;
   is = record { content = number.content; rest = _; stands = number.stands; small = f };
+  head_is = λ here e. single.big (numbered_by bytes h 2 here m k e) number.stands (fits_2 number.content f);
   later = let l = number.later in omega arith;
   within = number.within;
 }
@@ -290,6 +310,7 @@ pub negative_big_begins : (bytes : List ℕ) (h : made_head.Head) (bignum : Made
 negative_big_begins bytes h bignum m k number f = record {
   leads = number_behind 3 bytes h bignum m k (λ after frames. refl) number f;
   is = record { content = number.content; rest = _; stands = number.stands; small = f };
+  head_is = λ here e. single.negative_big (numbered_by bytes h 3 here m k e) number.stands (fits_3 number.content f);
   later = let l = number.later in omega arith;
   within = number.within;
 }

@@ -15,6 +15,7 @@ pub mod ReadStrings
 pub mod BegunItems
 pub mod Stops
 pub mod KeptNodes
+pub mod HeadsGo
 pub mod ByteStrings
 pub mod ItemCalls
 pub mod ReadsOn
@@ -27,6 +28,7 @@ pub mod CborNext
 pub mod CborCounts
 pub mod CborChunks
 pub mod Loop
+pub mod LimitedHeads
 pub mod ItemTrees
 pub mod DueTexts
 pub mod OneDue

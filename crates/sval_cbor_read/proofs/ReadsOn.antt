@@ -20,6 +20,9 @@ use Rattle.sval_cbor_read.specs.Items.{IsDefiniteString, ArePieces}
 use Rattle.sval_cbor_read.specs.Reading.{OpenItem, Items, Keys, ItemState, Item, Ended, Pieces, moves, item_step, part_step, fragment_call, string_end, piece_step, reading_step}
 use Rattle.sval_cbor_read.specs.Steps.{Spot, spot, ItemSteps, one_step, at_once, IsStuckWith, MakesSomeCall}
 use Rattle.sval_cbor_read.specs.SeenStops.{ItemStops}
+use Rattle.sval_cbor_read.specs.HeadFronts.{head_front, NextHead, at_its_head}
+use Rattle.sval_cbor_read.specs.SeenDue.{with_item, due_behind, due_in_parts, is_begun}
+use Rattle.sval_cbor_read.proofs.HeadsGo.{item_heads, part_heads, end_heads, chunk_heads, break_heads}
 use Rattle.sval_cbor_read.proofs.BegunItems.{begins_nothing_stuck}
 use Rattle.sval_cbor_read.proofs.Stops.{no_piece_step}
 use Rattle.sval_cbor_read.specs.SeenNodes.{item_node, item_begins_before, node_own_calls, piece_calls, item_ends_behind, item_place_begins, item_place_ends, step_calls, streamed_items, NodeBegins, NodesStand}
@@ -117,6 +120,7 @@ module _ (bytes : List ℕ) (old new : Reader) (at : ℕ) where
 pub item_goes_on : (bytes : List ℕ) (old new : Reader) (begun : Begun) → old.expected ≡ expected.AnItem → Begins bytes old.at begun → KeepsNode old begun new → ReadsItemsOn bytes old new true
 item_goes_on bytes old new begun e b k = record {
   goes = from_spot bytes old expected.AnItem e (steps_on bytes old new begun.next begun.item e (b.leads old.opened (streamed_items bytes old.nodes.items ++ item_place_begins (item_place_in old.opened))) k);
+  heads = item_heads bytes old new e begun.item begun.next b.head_is k;
   within = at_kept bytes old new begun.next begun.item k b.within;
   kept = all_kept bytes old new begun.next begun.item b.is k;
 }
@@ -129,6 +133,7 @@ item_stuck bytes old stop e b s = record {
         no_item = begins_nothing_stuck old.opened (streamed_items bytes old.nodes.items ++ item_place_begins (item_place_in old.opened)) b;
         stops = s.stops old.opened (streamed_items bytes old.nodes.items ++ item_place_begins (item_place_in old.opened));
       });
+  heads = s.fails;
   within = s.within;
   kept = λ all. all;
 }
@@ -144,25 +149,29 @@ item_makes bytes old begun e b n =
 module _ (bytes : List ℕ) (old : Reader) (is : old.expected ≡ expected.APart) where
   -- the next part begins
   pub part_begins : (new : Reader) (frame next : OpenItem) (rest : List OpenItem) → old.opened ≡ frame ∷ rest
-      → part_step (drop old.at bytes) (frame ∷ rest) ≡ moves (item_place_begins (item_place_in (next ∷ rest))) (drop old.at bytes) (Item (next ∷ rest)) → old.at ≤ length bytes → BeginsPart old next new → ReadsItemsOn bytes old new true
-  part_begins new frame next rest o e w k = record {
+      → part_step (drop old.at bytes) (frame ∷ rest) ≡ moves (item_place_begins (item_place_in (next ∷ rest))) (drop old.at bytes) (Item (next ∷ rest))
+      → with_item (due_behind (next ∷ rest)) ≡ due_in_parts (frame ∷ rest) → old.at ≤ length bytes → BeginsPart old next new → ReadsItemsOn bytes old new true
+  part_begins new frame next rest o e due w k = record {
     goes =
         from_spot bytes old expected.APart is
         (to_spot bytes new expected.AnItem (next ∷ rest) old.at old.nodes.items k.expected_is (k.opened_is ∙ ap (changed next) o) k.at_is k.nodes_are
         (with_made (ap (λ x. x ++ item_place_begins (item_place_in (next ∷ rest))) (append-nil (streamed_items bytes old.nodes.items))) (one_step (ap (part_step (drop old.at bytes)) o ∙ e))));
+    heads = part_heads bytes old new is frame next rest o due k;
     within = let a = k.at_is in omega arith;
     kept = λ all. subst (NodesStand bytes) (sym k.nodes_are) all;
   }
 
   -- the array or map ends with this node
   pub part_ends : (new : Reader) (k : made_kind.Kind) (next : ℕ) → part_step (drop old.at bytes) old.opened ≡ moves (node_own_calls k (drop old.at bytes)) (drop next bytes) (Ended (around_frame old.opened))
-      → item_begins_before k (item_place_in (around_frame old.opened)) ≡ [] → item_ends_behind k (item_place_in (around_frame old.opened)) ≡ item_place_ends (item_place_in (around_frame old.opened)) → NodeBegins k (drop old.at bytes) → next ≤ length bytes
-      → EndsItem (around_frame old.opened) old (item_node k (item_place_in (around_frame old.opened)) old.at) next new → ReadsItemsOn bytes old new true
-  part_ends new k next e b f s w ends = record {
+      → item_begins_before k (item_place_in (around_frame old.opened)) ≡ [] → item_ends_behind k (item_place_in (around_frame old.opened)) ≡ item_place_ends (item_place_in (around_frame old.opened)) → NodeBegins k (drop old.at bytes) → is_begun k ≡ false
+      → ((deepest nodes : ℕ) → NextHead (head_front (due_in_parts old.opened) deepest nodes (drop old.at bytes)) (head_front (due_behind (around_frame old.opened)) deepest nodes (drop next bytes)))
+      → next ≤ length bytes → EndsItem (around_frame old.opened) old (item_node k (item_place_in (around_frame old.opened)) old.at) next new → ReadsItemsOn bytes old new true
+  part_ends new k next e b f s begun closes w ends = record {
     goes =
         from_spot bytes old expected.APart is
         (to_spot bytes new (expected_after (around_frame old.opened)) (opened_after (around_frame old.opened)) next (old.nodes.items ++ (item_node k (item_place_in (around_frame old.opened)) old.at ∷ [])) ends.expected_is ends.opened_is ends.at_is
         ends.nodes_are (ends_with bytes (around_frame old.opened) old.nodes.items k old.at [] b f (one_step e)));
+    heads = end_heads bytes old new is (item_node k (item_place_in (around_frame old.opened)) old.at) next begun closes ends;
     within = let a = ends.at_is in omega arith;
     kept = kept_by bytes old new k (item_place_in (around_frame old.opened)) old.at ends.nodes_are s;
   }
@@ -181,6 +190,7 @@ module _ (bytes : List ℕ) (old : Reader) (is : old.expected ≡ expected.APart
           no_item = λ start reached tree rest is_item. stops_in_front reached e (λ f. cc f) is_item;
           stops = at_once e;
         });
+    heads = at_its_head;
     within = w;
     kept = λ all. all;
   }
@@ -259,6 +269,7 @@ module _ (bytes : List ℕ) (old : Reader) (medium : made_medium.Medium) (is : o
         from_spot bytes old (expected.APiece medium) is
         (to_spot bytes new (expected.APiece medium) old.opened next (old.nodes.items ++ (item_node (chunk_kind_of medium) (item_place_in old.opened) old.at ∷ [])) k.expected_is k.opened_is k.at_is k.nodes_are
         (begins_with bytes old.nodes.items (chunk_kind_of medium) (item_place_in old.opened) old.at [] (no_begin medium (item_place_in old.opened)) (no_end medium (item_place_in old.opened)) (one_step (piece_step_is content next s))));
+    heads = chunk_heads bytes old new medium is content (item_place_in old.opened) next s.stands k;
     within = let a = k.at_is in let w = s.within in omega arith;
     kept = kept_by bytes old new (chunk_kind_of medium) (item_place_in old.opened) old.at k.nodes_are (piece_is content next s).1;
   }
@@ -290,6 +301,7 @@ module _ (bytes : List ℕ) (old : Reader) (medium : made_medium.Medium) (is : o
         from_spot bytes old (expected.APiece medium) is
         (to_spot bytes new (expected_after old.opened) (opened_after old.opened) (old.at + 1) (old.nodes.items ++ (item_node (end_kind_of medium) (item_place_in old.opened) old.at ∷ [])) k.expected_is k.opened_is k.at_is k.nodes_are
         (ends_with bytes old.opened old.nodes.items (end_kind_of medium) old.at [] (starts_none medium (item_place_in old.opened)) (an_end medium (item_place_in old.opened)) (one_step (break_is l e))));
+    heads = break_heads bytes old new medium is (item_place_in old.opened) (bytes_at bytes old.at l ∙ ap (λ x. x ∷ drop (old.at + 1) bytes) e) k;
     within = let a = k.at_is in omega arith;
     kept = kept_by bytes old new (end_kind_of medium) (item_place_in old.opened) old.at k.nodes_are (an_end_stands medium);
   }
@@ -317,6 +329,7 @@ module _ (bytes : List ℕ) (old : Reader) (medium : made_medium.Medium) (is : o
           no_item = λ start reached tree rest is_item. let (content, behind, p) = pieces_need (reads_after reached (front_is_read rest start tree is_item).0).1 in h content behind p;
           stops = at_once e;
         });
+    heads = at_its_head;
     within = w;
     kept = λ all. all;
   }

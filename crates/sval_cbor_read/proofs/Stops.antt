@@ -7,6 +7,7 @@ use Rattle.sval_label.specs.Calls.{Call}
 use Rattle.sval_cbor_read.specs.declared.head.Head as made_head
 use Rattle.sval_cbor_read.specs.Items.{ItemHead, head, head_at_front, is_piece, IsDefiniteString, string, ArePieces, break, piece, definite, in_pieces}
 use Rattle.sval_cbor_read.specs.Reading.{OpenItem, ItemState, Ended, Pieces, Bignum, BignumPieces, Move, moves, fragment_call, string_end, with_piece, piece_step, fits, number_call, bignum_step, bignum_begins, bignum_piece}
+use Rattle.sval_cbor_read.specs.HeadFronts.{FailsFrom, at_its_head, in_big, in_negative_big}
 use Rattle.sval_cbor_read.specs.Steps.{spot, one_step, StopsWith, at_once, after_steps}
 use Rattle.sval_cbor_read.specs.SeenHeads.{IsHead}
 use Rattle.sval_cbor_read.specs.SeenItems.{BeginsNoItem, no_step, no_number, BeginsNothing}
@@ -89,6 +90,7 @@ pub record ArePassedUpTo (bytes : List ℕ) (from at : ℕ) : Type 0 where
   pub goes : (tag : ℕ) (front : List ℕ) (frames : List OpenItem) (made : List Call) (left : List ℕ) → StopsWith (spot (BignumPieces tag (front ++ joined) frames) (drop at bytes) made) left
       → StopsWith (spot (BignumPieces tag front frames) (drop from bytes) made) left
   pub lacks : (tag : ℕ) (front : List ℕ) → LacksChunks tag front (drop from bytes) → LacksChunks tag (front ++ joined) (drop at bytes)
+  pub later : from ≤ at
   pub within : at ≤ length bytes
 
 pub none_passed : (bytes : List ℕ) (from : ℕ) → from ≤ length bytes → ArePassedUpTo bytes from from
@@ -96,6 +98,7 @@ none_passed bytes from w = record {
   joined = [];
   goes = λ tag front frames made left s. subst (λ x. StopsWith (spot (BignumPieces tag x frames) (drop from bytes) made) left) (append-nil front) s;
   lacks = λ tag front l. subst (λ x. LacksChunks tag x (drop from bytes)) (sym (append-nil front)) l;
+  later = omega arith;
   within = w;
 }
 
@@ -112,12 +115,14 @@ module _ {bytes : List ℕ} {from at : ℕ} (r : ArePassedUpTo bytes from at) wh
     lacks = λ tag front l more rest p f.
         r.lacks tag front l (content ++ more) rest (piece s.stands p)
         (ap (fits tag) (append_assoc front r.joined (content ++ more) ∙ ap (λ x. front ++ x) (sym (append_assoc r.joined content more)) ∙ sym (append_assoc front (r.joined ++ content) more)) ∙ f);
+    later = let l = r.later in let k = s.later in omega arith;
     within = s.within;
   }
 
   stops_here : HasNoString 2 (drop at bytes) → ChunksStop bytes from at
   stops_here n = record {
     stops = λ tag front frames made l. r.goes tag front frames made (drop at bytes) (at_once (no_chunk tag (front ++ r.joined) (drop at bytes) frames n (r.lacks tag front l)));
+    later = r.later;
     within = r.within;
   }
 
@@ -128,13 +133,14 @@ module _ {bytes : List ℕ} {from at : ℕ} (r : ArePassedUpTo bytes from at) wh
   end_stops l = record {
     stops = λ tag front frames made k.
         r.goes tag front frames made (drop at bytes) (at_once (ap (λ x. bignum_piece tag (front ++ r.joined) x frames) (nothing_at bytes at l)));
+    later = r.later;
     within = r.within;
   }
 
 -- ---- numbers under a tag
 
 pub number_stops_here : (bytes : List ℕ) (at : ℕ) → at ≤ length bytes → ((left : List ℕ) → drop at bytes ≡ 95 ∷ left → ⊥) → NumberStops bytes at at
-number_stops_here bytes at w n = record { stops = λ tag frames made l. at_once (no_definite tag (drop at bytes) frames n l); within = w }
+number_stops_here bytes at w n = record { stops = λ tag frames made l. at_once (no_definite tag (drop at bytes) frames n l); later = omega arith; within = w }
 
 pub number_stops_behind : (bytes : List ℕ) (at stop : ℕ) → at < length bytes → get_or bytes at 0 ≡ 95 → ChunksStop bytes (at + 1) stop → NumberStops bytes at stop
 number_stops_behind bytes at stop l e c =
@@ -144,6 +150,7 @@ number_stops_behind bytes at stop l e c =
           let lacks_number : LacksNumber tag (95 ∷ drop (at + 1) bytes) = subst (LacksNumber tag) here k in
           let lacks : LacksChunks tag [] (drop (at + 1) bytes) = λ content rest p f. lacks_number content rest (in_pieces p) f in
           subst (λ x. StopsWith (spot (Bignum tag frames) x made) (drop stop bytes)) (sym here) (after_steps (one_step refl) (c.stops tag [] frames (made ++ []) lacks));
+      later = let l = c.later in omega arith;
       within = c.within;
     }
 
@@ -153,6 +160,23 @@ lacks_behind : (bytes : List ℕ) (tag : ℕ) (after : List ℕ) → head_at_fro
 lacks_behind bytes tag after e t (no_step n) = let f = sym (n []) ∙ item_goes bytes 6 tag after [] e refl ∙ t after [] in absurd (cc f)
 lacks_behind bytes tag after e t (no_number {tag = other} f s l) = let (a, b, c) = same_head f e in subst (λ x. LacksNumber x after) b (subst (λ x. LacksNumber other x) c l)
 
+-- what comes next, where there is a step
+abbrev next_in : Option Move → ItemState
+next_in None = Ended []
+next_in (Some move) = move.next
+
+no_number_tag : (tag : ℕ) → tag ≢ 2 → tag ≢ 3 → IsNumberTag tag → ⊥
+no_number_tag tag a b t = let e = ap next_in (sym (other_tag tag [] [] a b) ∙ t [] []) in cc e
+
+-- a number under a tag fails behind its tag
+fails_behind : (bytes : List ℕ) (at stop tag : ℕ) (after : List ℕ) → head_at_front (drop at bytes) ≡ Some (head 6 tag after) → IsNumberTag tag → at ≤ stop → FailsFrom bytes at stop
+fails_behind bytes at stop tag after e t l = go (tag == 2) (tag == 3) refl refl
+  where
+    go : (a b : Bool) → (tag == 2) ≡ a → (tag == 3) ≡ b → FailsFrom bytes at stop
+    go true b f g = let is : tag ≡ 2 = grind (arith, nat_tests) in in_big (subst (λ x. head_at_front (drop at bytes) ≡ Some (head 6 x after)) is e) l
+    go false true f g = let is : tag ≡ 3 = grind (arith, nat_tests) in in_negative_big (subst (λ x. head_at_front (drop at bytes) ≡ Some (head 6 x after)) is e) l
+    go false false f g = absurd (no_number_tag tag (grind (arith, nat_tests)) (grind (arith, nat_tests)) t)
+
 pub item_stops_behind : (bytes : List ℕ) (at stop tag : ℕ) (h : made_head.Head) → (at < h.next) × IsHead bytes at h (head_at_front (drop at bytes)) → h.major ≡ 6 → h.number ≡ tag → IsNumberTag tag
     → BeginsNothing bytes at → NumberStops bytes h.next stop → ItemStops bytes at stop
 item_stops_behind bytes at stop tag h (later, (is, before, within)) m n t b s =
@@ -161,20 +185,13 @@ item_stops_behind bytes at stop tag h (later, (is, before, within)) m n t b s =
       stops = λ frames made.
           after_steps (one_step (item_goes (drop at bytes) 6 tag (drop h.next bytes) frames e refl ∙ t (drop h.next bytes) frames))
           (s.stops tag frames (made ++ []) (lacks_behind (drop at bytes) tag (drop h.next bytes) e t b));
+      fails = fails_behind bytes at stop tag (drop h.next bytes) e t (let l = s.later in omega arith);
       within = s.within;
     }
 
 item_stops_by : (bytes : List ℕ) (at : ℕ) → at ≤ length bytes → ((tag : ℕ) (after : List ℕ) → head_at_front (drop at bytes) ≡ Some (head 6 tag after) → IsNumberTag tag → ⊥) → BeginsNothing bytes at → ItemStops bytes at at
-item_stops_by bytes at w n (no_step e) = record { stops = λ frames made. at_once (e frames); within = w }
+item_stops_by bytes at w n (no_step e) = record { stops = λ frames made. at_once (e frames); fails = at_its_head; within = w }
 item_stops_by bytes at w n (no_number {tag = tag} {after = after} e t l) = absurd (n tag after e t)
-
--- what comes next, where there is a step
-abbrev next_in : Option Move → ItemState
-next_in None = Ended []
-next_in (Some move) = move.next
-
-no_number_tag : (tag : ℕ) → tag ≢ 2 → tag ≢ 3 → IsNumberTag tag → ⊥
-no_number_tag tag a b t = let e = ap next_in (sym (other_tag tag [] [] a b) ∙ t [] []) in cc e
 
 pub item_stops_at_tag : (bytes : List ℕ) (at : ℕ) (h : made_head.Head) → at ≤ length bytes → (at < h.next) × IsHead bytes at h (head_at_front (drop at bytes)) → h.number ≢ 2 → h.number ≢ 3
     → BeginsNothing bytes at → ItemStops bytes at at

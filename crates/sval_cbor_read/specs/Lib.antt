@@ -1,4 +1,5 @@
 pub mod Items
+pub mod HeadFronts
 pub mod Document
 pub mod CborValues
 pub mod CborLookups
@@ -15,10 +16,14 @@ pub mod SeenFound
 pub mod SeenEntries
 pub mod SeenChunks
 pub mod SeenFrames
+pub mod SeenDue
 pub mod SeenStops
 pub mod SeenItems
 pub mod SeenParts
 pub mod SeenReader
 pub mod ReadErrors
+pub mod CborLimits
+pub mod SeenLimited
 pub mod ErrorTexts
+pub mod LimitedCborTexts
 pub mod Serves

@@ -12,6 +12,8 @@ use Rattle.sval_cbor_read.specs.Reading as reading
 use Rattle.sval_cbor_read.specs.Reading.{OpenItem, ItemState, Move, mark_of, first_step, item_step, body_step, number_call, reading_step}
 use Rattle.sval_cbor_read.specs.SeenNodes.{byte_string, step_calls, IsBignum, AreWhole, AreBegin}
 use Rattle.sval_cbor_read.specs.SeenFrames.{frame_of}
+use Rattle.sval_cbor_read.specs.HeadFronts.{IsSingle, OpensLevel, BeginsChunks, BeginsTag}
+use Rattle.sval_cbor_read.specs.SeenDue.{due_parts}
 use Rattle.sval_cbor_read.specs.Steps.{ItemSteps, spot}
 use Rattle.sval_cbor_read.specs.SeenStops.{IsNumberTag, LacksNumber}
 
@@ -47,6 +49,15 @@ IsBegun (item.Container frame) bytes move = AreBegin (step_calls move)
 IsBegun (item.Pieces medium) bytes move = AreBegin (step_calls move)
 IsBegun item.Tag bytes move = ⊤
 
+-- what an item begins with is the head there, with these bytes behind it
+abbrev pub HeadIs : made_item.Item → List ℕ → List ℕ → Type 0
+HeadIs item.Whole bytes left = IsSingle bytes left
+HeadIs (item.Big from) bytes left = IsSingle bytes left
+HeadIs (item.NegativeBig from) bytes left = IsSingle bytes left
+HeadIs (item.Container frame) bytes left = OpensLevel bytes (due_parts (frame_of frame)) left
+HeadIs (item.Pieces medium) bytes left = BeginsChunks bytes (major_of medium) left
+HeadIs item.Tag bytes left = BeginsTag bytes left
+
 -- something is kept of it
 abbrev pub IsNoTag : made_item.Item → Type 0
 IsNoTag item.Tag = ⊥
@@ -62,12 +73,14 @@ pub record IsMarked (first : ℕ) (item : made_item.Item) : Type 0 where
   pub moves : (all bytes : List ℕ) (begun : Option ItemHead) (frames : List OpenItem)
       → first_step (mark_of first) bytes begun frames ≡ reading.moves (item_begin_calls item all (first_step (mark_of first) bytes begun [])) bytes (state_behind item frames)
   pub is : (all bytes : List ℕ) (begun : Option ItemHead) → IsBegun item all (first_step (mark_of first) bytes begun [])
+  pub head_is : (bytes : List ℕ) → HeadIs item (first ∷ bytes) bytes
 
 -- what is found behind a head leads on
 pub record BeginsBehind (bytes : List ℕ) (h : made_head.Head) (begun : Begun) : Type 0 where
   pub leads : (frames : List OpenItem)
       → LeadsBehind (body_step h.major h.number (drop h.next bytes) frames) frames begun.item (item_begin_calls begun.item bytes (body_step h.major h.number (drop h.next bytes) [])) (drop begun.next bytes)
   pub is : IsBegun begun.item bytes (body_step h.major h.number (drop h.next bytes) [])
+  pub head_is : (here : List ℕ) → head_at_front here ≡ Some (head h.major h.number (drop h.next bytes)) → HeadIs begun.item here (drop begun.next bytes)
   pub later : h.next ≤ begun.next
   pub within : begun.next ≤ length bytes
 
@@ -82,6 +95,7 @@ pub record Begins (bytes : List ℕ) (at : ℕ) (begun : Begun) : Type 0 where
       → ItemSteps (spot (reading.Item frames) (drop at bytes) made)
       (spot (state_behind begun.item frames) (drop begun.next bytes) (made ++ item_begin_calls begun.item bytes (item_step (drop at bytes) [])))
   pub is : IsBegun begun.item bytes (item_step (drop at bytes) [])
+  pub head_is : HeadIs begun.item (drop at bytes) (drop begun.next bytes)
   pub later : at < begun.next
   pub within : begun.next ≤ length bytes
 

@@ -1,5 +1,5 @@
--- What the reader of the code stands for: a spot of the bytes.
-use Rattle.std.specs.Prelude.{◌≡◌, ◌≢◌, ℕ, ◌≤◌, Bool, true, false, List, [], ◌∷◌, ◌++◌, length, drop}
+-- What the reader of the code stands for: a spot of the bytes, and a front of them.
+use Rattle.std.specs.Prelude.{◌≡◌, ◌≢◌, ℕ, suc, ◌≤◌, Bool, true, false, List, [], ◌∷◌, ◌++◌, length, drop, max}
 use Rattle.sval_label.specs.Calls.{Call}
 use Rattle.sval_cbor_read.specs.declared.node.Node.{Node}
 use Rattle.sval_cbor_read.specs.declared.node.Kind.{Kind}
@@ -17,6 +17,8 @@ use Rattle.sval_cbor_read.specs.Steps.{Spot, spot, StepsLead}
 use Rattle.sval_cbor_read.specs.SeenNodes.{item_node, item_place_begins, streamed_items, NodesStand}
 use Rattle.sval_cbor_read.specs.SeenFrames.{frame_of, item_place_in, changed}
 use Rattle.sval_cbor_read.specs.SeenItems.{major_of}
+use Rattle.sval_cbor_read.specs.HeadFronts.{DueItems, so_many, chunks, HeadFront, head_front, NextHead, IsFrontOf, FailsFrom}
+use Rattle.sval_cbor_read.specs.SeenDue.{due_behind, due_in_parts, with_item, is_begun_behind}
 
 -- what comes next, over what is open
 abbrev pub item_state_of : made_expected.Expected → List OpenItem → ItemState
@@ -105,9 +107,35 @@ abbrev pub end_kind_of : made_medium.Medium → Kind
 end_kind_of medium.Text = kind.EndText
 end_kind_of medium.Binary = kind.EndBinary
 
+-- what is due to a reader
+abbrev pub due_to : made_expected.Expected → List OpenItem → List DueItems
+due_to expected.AnItem frames = with_item (due_behind frames)
+due_to expected.APart frames = due_in_parts frames
+due_to (expected.APiece medium) frames = chunks (major_of medium) ∷ due_behind frames
+due_to expected.Nothing frames = so_many 0 ∷ []
+
+-- the front that a reader has read, with so many levels at once and so many nodes
+abbrev pub front_of : List ℕ → Reader → ℕ → ℕ → HeadFront
+front_of bytes reader deepest nodes = head_front (due_to reader.expected reader.opened) deepest nodes (drop reader.at bytes)
+
+-- the front has grown by a head at most: nothing has begun, or a node that opens no level, or one that opens a level
+pub data TakesHead (bytes : List ℕ) (old new : Reader) : Type 0 where
+  nothing_begun : is_begun_behind (length old.nodes.items) new.nodes.items ≡ false → length new.opened ≤ length old.opened
+      → ((deepest nodes : ℕ) → IsFrontOf bytes (front_of bytes old deepest nodes) → IsFrontOf bytes (front_of bytes new deepest nodes)) → TakesHead bytes old new
+  node_begun : is_begun_behind (length old.nodes.items) new.nodes.items ≡ true → length new.opened ≤ length old.opened
+      → ((deepest nodes : ℕ) → NextHead (front_of bytes old deepest nodes) (front_of bytes new deepest (suc nodes))) → TakesHead bytes old new
+  level_begun : is_begun_behind (length old.nodes.items) new.nodes.items ≡ true → length new.opened ≡ suc (length old.opened)
+      → ((deepest nodes : ℕ) → NextHead (front_of bytes old deepest nodes) (front_of bytes new (max deepest (length new.opened)) (suc nodes))) → TakesHead bytes old new
+
+-- the front has grown, or an item fails behind it
+abbrev pub HeadsGo : List ℕ → Reader → Reader → Bool → Type 0
+HeadsGo bytes old new true = TakesHead bytes old new
+HeadsGo bytes old new false = FailsFrom bytes old.at new.at
+
 -- the reader has gone on within the bytes, or it is stuck
 pub record ReadsItemsOn (bytes : List ℕ) (old new : Reader) (taken : Bool) : Type 0 where
   pub goes : StepsLead (spot_of bytes old) (spot_of bytes new) taken
+  pub heads : HeadsGo bytes old new taken
   pub within : new.at ≤ length bytes
   pub kept : NodesStand bytes old.nodes.items → NodesStand bytes new.nodes.items
 

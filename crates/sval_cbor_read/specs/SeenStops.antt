@@ -2,6 +2,7 @@
 use Rattle.std.specs.Prelude.{◌≡◌, ℕ, ◌≤◌, true, List, [], ◌++◌, length, drop}
 use Rattle.sval_label.specs.Calls.{Call}
 use Rattle.sval_cbor_read.specs.Items.{ArePieces, IsByteString}
+use Rattle.sval_cbor_read.specs.HeadFronts.{FailsFrom}
 use Rattle.sval_cbor_read.specs.Reading as reading
 use Rattle.sval_cbor_read.specs.Reading.{OpenItem, tag_step, fits}
 use Rattle.sval_cbor_read.specs.Steps.{spot, StopsWith}
@@ -22,15 +23,18 @@ LacksChunks tag front bytes = (content rest : List ℕ) → ArePieces 2 bytes co
 pub record ChunksStop (bytes : List ℕ) (from stop : ℕ) : Type 0 where
   pub stops : (tag : ℕ) (front : List ℕ) (frames : List OpenItem) (made : List Call) → LacksChunks tag front (drop from bytes)
       → StopsWith (spot (reading.BignumPieces tag front frames) (drop from bytes) made) (drop stop bytes)
+  pub later : from ≤ stop
   pub within : stop ≤ length bytes
 
 -- where a number under a tag is expected at the one place and lacks, the steps stop at the other
 pub record NumberStops (bytes : List ℕ) (at stop : ℕ) : Type 0 where
   pub stops : (tag : ℕ) (frames : List OpenItem) (made : List Call) → LacksNumber tag (drop at bytes)
       → StopsWith (spot (reading.Bignum tag frames) (drop at bytes) made) (drop stop bytes)
+  pub later : at ≤ stop
   pub within : stop ≤ length bytes
 
 -- where an item is expected at the one place, the steps stop at the other
 pub record ItemStops (bytes : List ℕ) (at stop : ℕ) : Type 0 where
   pub stops : (frames : List OpenItem) (made : List Call) → StopsWith (spot (reading.Item frames) (drop at bytes) made) (drop stop bytes)
+  pub fails : FailsFrom bytes at stop
   pub within : stop ≤ length bytes

@@ -9,10 +9,13 @@ ghost use Rattle.sval_cbor_read.specs.CborValues.{cbor_value_in};
 ghost use Rattle.sval_cbor_read.specs.SeenNodes.{streamed_items};
 ghost use Rattle.sval_cbor_read.specs.SeenFound.{AreOfItem};
 
+mod limited;
+
 use crate::cbor_ref::CborRef;
 use crate::node::Node;
 use crate::node_calls::stream_nodes;
 use crate::reader::Reader;
+pub use limited::CborLimitedError;
 use std::alloc::Global;
 use std::error::Error;
 use std::fmt;

@@ -1,6 +1,7 @@
 //! What is kept of the bytes.
 
 ghost use Rattle.std.specs.Prelude.{◌≡◌, ◌≤◌, ◌^◌, IfOk, OnErr};
+ghost use Rattle.sval_cbor_read.specs.SeenDue.{begun_in};
 ghost use Rattle.sval_cbor_read.specs.SeenNodes.{node_offset, item_node};
 
 use std::alloc::AllocError;
@@ -77,5 +78,23 @@ impl Node {
         ensures { result ≡ node_offset self }
     {
         self.low as usize + self.high as usize * (1 << 32)
+    }
+}
+
+/// Whether a node, if there is one, is the begin of an item or a chunk.
+pub(crate) fn is_begun(node: Option<Node>) -> bool
+    ensures { result ≡ begun_in node }
+{
+    match node {
+        None => false,
+        Some(node) => match node.kind {
+            Kind::Item
+            | Kind::Big
+            | Kind::NegativeBig
+            | Kind::Begin
+            | Kind::TextPiece
+            | Kind::BinaryPiece => true,
+            Kind::EndText | Kind::EndBinary | Kind::EndSeq | Kind::EndMap => false,
+        },
     }
 }

@@ -1,11 +1,13 @@
 //! The machine that reads items one by one.
 
-ghost use Rattle.std.specs.Prelude.{◌≡◌, ◌≢◌, ◌≤◌, ℕ, List, [], ◌∷◌, ◌++◌, Some, IfOk, IfErr, length};
+ghost use Rattle.std.specs.Prelude.{◌≡◌, ◌≢◌, ◌≤◌, ℕ, List, [], ◌∷◌, ◌++◌, Some, IfOk, IfErr, length, slice_get};
 ghost use Rattle.sval_cbor_read.specs.Steps.{StepsLead, MakesSomeCall, first_spot};
+ghost use Rattle.sval_cbor_read.specs.HeadFronts.{so_many, head_front};
 ghost use Rattle.sval_cbor_read.specs.SeenNodes.{item_node};
+ghost use Rattle.sval_cbor_read.specs.SeenDue.{is_begun_behind};
 ghost use Rattle.sval_cbor_read.specs.SeenItems.{IsNoTag};
 ghost use Rattle.sval_cbor_read.specs.SeenFrames.{frame_of, TopFrameIs, around_frame, item_place_in};
-ghost use Rattle.sval_cbor_read.specs.SeenReader.{spot_of, expected_after, opened_after, AddsItemNode, OpensItem, EndsItem, KeepsNode, BeginsPart, ReadsItemsOn, HasEnded};
+ghost use Rattle.sval_cbor_read.specs.SeenReader.{spot_of, front_of, expected_after, opened_after, AddsItemNode, OpensItem, EndsItem, KeepsNode, BeginsPart, ReadsItemsOn, HasEnded};
 ghost use Rattle.sval_cbor_read.specs.declared.node.Kind.TheVariants as kind;
 ghost use Rattle.sval_cbor_read.specs.declared.stack.Frame.TheVariants as frame;
 ghost use Rattle.sval_cbor_read.specs.declared.reader.Expected.TheVariants as expected;
@@ -13,7 +15,7 @@ ghost use Rattle.sval_cbor_read.specs.declared.reader.Expected.TheVariants as ex
 mod pieces;
 
 use crate::item::{Begun, Item, Medium, item_at};
-use crate::node::{Kind, Node, Place};
+use crate::node::{Kind, Node, Place, is_begun};
 use crate::part::{NextPart, next_part};
 use crate::stack::{Frame, Stack};
 use crate::stop::item_stop;
@@ -58,7 +60,9 @@ impl Reader {
     #[inline(always)]
     pub(crate) fn new(alloc: Global) -> Self
         ensures starts { (bytes : List ℕ) → spot_of bytes result ≡ first_spot bytes }
+        ensures front { (bytes : List ℕ) → front_of bytes result 0 0 ≡ head_front (so_many 1 ∷ []) 0 0 bytes }
         ensures at { result.at ≡ 0 }
+        ensures opened { result.opened ≡ [] }
         ensures nodes { result.nodes.items ≡ [] }
     {
         Reader {
@@ -313,6 +317,20 @@ impl Reader {
             Expected::Nothing => true,
             Expected::AnItem | Expected::APart | Expected::APiece(_) => false,
         }
+    }
+
+    /// The node at the index `kept`, if there is one.
+    fn node_behind(&self, kept: usize) -> Option<Node>
+        ensures { result ≡ slice_get self.now.nodes.items kept }
+    {
+        self.nodes.get(kept).copied()
+    }
+
+    /// Whether the node at the index `kept`, if there is one, is the begin of an item or a chunk.
+    pub(crate) fn has_begun(&self, kept: usize) -> bool
+        ensures { result ≡ is_begun_behind kept self.now.nodes.items }
+    {
+        is_begun(self.node_behind(kept))
     }
 
     /// Reads on. Whether it could: if it couldn't, the bytes are no item, and `at` is the place where they fail.

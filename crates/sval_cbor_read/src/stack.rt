@@ -1,6 +1,6 @@
 //! What is open.
 
-ghost use Rattle.std.specs.Prelude.{◌≡◌, [], ◌∷◌, map, reverse, IfOk};
+ghost use Rattle.std.specs.Prelude.{◌≡◌, nat_lt, [], ◌∷◌, length, map, reverse, IfOk};
 ghost use Rattle.sval_cbor_read.specs.SeenFrames.{frame_of, open_frames, TopFrameIs, around_frame, changed};
 
 use std::alloc::Global;
@@ -72,6 +72,13 @@ impl Stack {
         ensures { TopFrameIs result self.now }
     {
         self.top
+    }
+
+    /// Whether more arrays and maps are open than this number.
+    pub(crate) fn is_deeper_than(&self, depth: usize) -> bool
+        ensures { result ≡ nat_lt depth (length self.now) }
+    {
+        self.top.is_some() && self.outer.len() >= depth
     }
 
     /// Opens an array or a map in the innermost one.
