@@ -2,6 +2,7 @@
 
 mod depth;
 mod items;
+mod limits;
 mod malformed;
 mod parts;
 mod sinks;

@@ -3,7 +3,7 @@
 mod depth;
 mod documents;
 mod fronts;
-mod limits;
+pub(crate) mod limits;
 mod lookups;
 mod parts;
 mod tokens;

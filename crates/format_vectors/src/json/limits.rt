@@ -34,7 +34,7 @@ impl Case for Limited {
 }
 
 /// How many levels and nodes a row allows.
-fn limits_of(due: &str) -> Result<Limits, Fail> {
+pub(crate) fn limits_of(due: &str) -> Result<Limits, Fail> {
     let (allowed, _told) = due.split_once(": ").ok_or("a row without a colon")?;
     let (_word, numbers) = allowed.split_once(' ').ok_or("a row without a word")?;
     let (depth, nodes) = numbers.split_once(' ').ok_or("a row without two numbers")?;
