@@ -14,6 +14,7 @@ use sval_json::{Variants, stream_to_io_write_with, stream_to_vec};
 use sval_json_read::JsonDoc;
 use sval_pretty::write_pretty;
 use sval_script::print_canon;
+use sval_tool::write_cbor;
 
 /// Writes the CBOR of a value.
 fn pack_value<'v, V: Value<'v, Lent<'v>>, K: Sink>(
@@ -24,6 +25,27 @@ fn pack_value<'v, V: Value<'v, Lent<'v>>, K: Sink>(
     match stream_to_cbor(alloc, out, value) {
         Ok(()) => Ok(()),
         Err(CborError::NotInteger) => Err(not_whole(alloc, value)),
+        Err(error) => Err(Unwritten::from(error)),
+    }
+}
+
+/// Whether CBOR of whole documents is asked for: nothing is left out of them.
+pub(crate) fn packs_whole(options: &Options) -> bool {
+    match (options.to, options.rule.unwrap_or(Rule::Drop)) {
+        (Some(Output::Cbor), Rule::Drop) => options.paths.as_slice().is_empty(),
+        _ => false,
+    }
+}
+
+/// Writes the CBOR of a whole document, token by token.
+pub(crate) fn pack_document<K: Sink>(
+    alloc: Global,
+    doc: &JsonDoc<'_>,
+    out: &mut K,
+) -> Result<(), Unwritten> {
+    match write_cbor(alloc, doc, out) {
+        Ok(()) => Ok(()),
+        Err(CborError::NotInteger) => Err(not_whole(alloc, doc)),
         Err(error) => Err(Unwritten::from(error)),
     }
 }
