@@ -64,7 +64,7 @@ pub fn stream_to_cbor<'v, K: Sink, V: Value<'v, Lent<'v>>>(
     ensures left { IsCauseOfValue result → out.new ≡ out.old }
     ensures want { result ≡ Err CborError.NoMemory → IsCborWant K.told (V.emission v.now) out.old out.new }
 {
-    stream_to_cbor_with(alloc, v, Style::DEFAULT, out)
+    stream_to_cbor_with(alloc, out, v, Style::DEFAULT)
 }
 
 /// Streams a value to a sink as CBOR (RFC 8949) in this style.
@@ -74,7 +74,7 @@ pub fn stream_to_cbor<'v, K: Sink, V: Value<'v, Lent<'v>>>(
 ///
 /// ```
 /// let mut sink = VecSink::new(alloc);
-/// stream_to_cbor_with(alloc, &binary, Style::BYTE_STRINGS, &mut sink)?;
+/// stream_to_cbor_with(alloc, &mut sink, &binary, Style::BYTE_STRINGS)?;
 /// assert_eq!(rt; sink.as_slice(), b"\x42\x00\xff".as_slice());
 /// ```
 ///
@@ -84,9 +84,9 @@ pub fn stream_to_cbor<'v, K: Sink, V: Value<'v, Lent<'v>>>(
 /// [`packing_laws`](crate::laws::packing_laws)).
 pub fn stream_to_cbor_with<'v, K: Sink, V: Value<'v, Lent<'v>>>(
     alloc: Global,
+    out: &mut K,
     v: &'v V,
     style: Style,
-    out: &mut K,
 ) -> Result<(), CborError>
     ensures streams { StreamsCborAs style (V.emission v.now) result (K.told out.old) (K.told out.new) }
     ensures left { IsCauseOfValue result → out.new ≡ out.old }

@@ -17,7 +17,7 @@ impl Case for Written {
         let mut sink = VecSink::new(alloc);
         let strings = due.starts_with("strings ");
         let answer = if strings {
-            stream_to_cbor_with(alloc, &script, Style::BYTE_STRINGS, &mut sink)
+            stream_to_cbor_with(alloc, &mut sink, &script, Style::BYTE_STRINGS)
         } else {
             stream_to_cbor(alloc, &mut sink, &script)
         };
