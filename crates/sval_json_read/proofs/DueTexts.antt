@@ -2,28 +2,27 @@
 use Rattle.std.specs.Prelude.{◌≡◌, ◌<◌, ◌^◌, ℕ, List, length, Result, Ok, Err, refl}
 use Rattle.std.proofs.Common.{sym, ap, subst, ◌∙◌, inr}
 use Rattle.sval_label.specs.Calls.{Call}
-use Rattle.sval_core.specs.Law.{Rose}
 use Rattle.sval_core.specs.Real.{IsPrintable}
 use Rattle.sval_io.specs.declared.sink.SinkError.{SinkError}
 use Rattle.sval_io.specs.declared.sink.SinkError.TheVariants.{Failed, NoMemory}
-use Rattle.sval_io.specs.Sinks.{Told, IsSteady, NoCountFell, LacksRoom, Appends, AppendsFront, AppendsPart}
-use Rattle.sval_json.specs.declared.style.Variants.TheVariants.{Inside}
+use Rattle.sval_io.specs.Sinks.{Told, WritesAll}
 use Rattle.sval_json.specs.Json.{Json, compact}
 use Rattle.sval_json.specs.Number.{Refusal}
 use Rattle.sval_json.specs.Shape.{json_of}
-use Rattle.sval_json.specs.Steps.{written_in}
-use Rattle.sval_json.specs.Laws.{IsTheValueOf, IsWrittenAs}
-use Rattle.sval_json.specs.Written.{IsWrittenIn, IsBegunIn, IsCutIn, IsTooLongFor}
+use Rattle.sval_json.specs.Laws.{IsTheValueOf}
 use Rattle.sval_json.proofs.OneValue.{denotes_one}
-use Rattle.sval_json.proofs.WritingPlain.{spelling_written}
 use Rattle.sval_script.specs.Canon.{canon}
 use Rattle.sval_script.proofs.CanonicalScripts.{canon-reads_back}
 use Rattle.sval_program.specs.Outputs.{WritesText}
 use Rattle.sval_program.specs.declared.form.ReadForm.{ReadForm}
 use Rattle.sval_program.specs.declared.form.ReadForm.TheVariants as form
 use Rattle.sval_json_read.specs.Trees.{tree_of, settled}
+use Rattle.sval_json_read.specs.Calls.{document_calls}
+use Rattle.sval_json_read.specs.Documents.{IsDocument}
 use Rattle.sval_json_read.specs.ReadErrors.{IsReadText}
+use Rattle.sval_json_read.specs.Tokens.{Placed}
 use Rattle.sval_json_read.specs.Serves.{IsJsonTextDue, WritesDueText}
+use Rattle.sval_json_read.proofs.Documents.{document-calls}
 use Rattle.sval_json_read.proofs.SettledTrees.{denoted-settles}
 use Rattle.sval_json_read.proofs.WritableTrees.{denoted-printable}
 
@@ -37,6 +36,10 @@ one_text input form.Json text other d e =
     d.is.is_text ∙ ap compact one ∙ sym e.is.is_text
 one_text input form.Calls text other d e =
     d.is.is_text ∙ ap (λ value. canon (tree_of value)) (denotes_one input d.value e.value d.denotes e.denotes) ∙ sym e.is.is_text
+
+-- a document that was read is so by its calls
+abbrev pub read_text_of : {input : List ℕ} {tokens : List Placed} → IsDocument input tokens → IsReadText input (document_calls tokens)
+read_text_of {input} {tokens} d = record { tokens = tokens; document = d; same = refl; spells = document-calls input tokens d }
 
 -- ---- a document in JSON
 
@@ -57,48 +60,26 @@ module _ (input : List ℕ) (calls : List Call) (r : IsReadText input calls) whe
       let same : settles.0 ≡ json = cc one in
       record { value = r.document.value; denotes = r.document.denotes; is = record { json = json; shape = shape; is_text = refl; means = subst (λ json. IsTheValueOf json (settled r.document.value)) same settles.2 } }
 
-  json_written : (json : Json) → json_of (tree_of r.document.value) ≡ Ok json → (written_in Inside calls).written ≡ compact json
-  json_written json shape = (subst (λ found. IsWrittenAs found (written_in Inside calls)) shape (spelling_written Inside calls (tree_of r.document.value) r.spells)).0
-
   module _ {K : Type 0} (told : K → Told) (old new : K) where
-    pub writes_json : IsWrittenIn Inside calls (told old) (told new) → IsSteady (told old) (told new) → WritesDueText told input form.Json (Ok tt) old new
-    writes_json w steady =
-        let (json, shape) = has_json in
-        record {
-          text = compact json;
-          due = json_due json shape;
-          writes = record { appends = subst (λ bytes. Appends (told old) bytes (told new)) (json_written json shape) w.appends; steady = steady };
-        }
+    text_written : (text : List ℕ) (result : Result (Unit {0}) SinkError) → WritesAll result (told old) text (told new) → WritesText result told text old new
+    text_written text (Ok done) w = w
+    text_written text (Err Failed) w = record {
+      stops = record { cause = w.cause; begins = w.front; counts = w.counts };
+      full = w.full;
+      short = λ failed. w.part;
+      no_memory_short = λ never. cc never;
+    }
+    text_written text (Err NoMemory) w = record {
+      stops = record { cause = inr w.cause; begins = w.front; counts = w.counts };
+      full = w.full;
+      short = λ never. cc never;
+      no_memory_short = λ lacking. inr w.part;
+    }
 
-    pub json_fault : Rose (told old).faults (told new).faults → IsTooLongFor Inside calls (told old) → IsCutIn Inside calls (told old) (told new) → IsBegunIn Inside calls (told old) (told new) → NoCountFell (told old) (told new)
-        → WritesDueText told input form.Json (Err Failed) old new
-    json_fault rose full cut begins counts =
-        let (json, shape) = has_json in
-        record {
-          text = compact json;
-          due = json_due json shape;
-          writes = record {
-            stops = record { cause = rose; begins = subst (λ bytes. AppendsFront (told old) bytes (told new)) (json_written json shape) begins; counts = counts };
-            full = λ failed. subst (LacksRoom (told old)) (json_written json shape) full;
-            short = λ failed. subst (λ bytes. AppendsPart (told old) bytes (told new)) (json_written json shape) cut;
-            no_memory_short = λ never. cc never;
-          };
-        }
-
-    pub json_want : Rose (told old).wants (told new).wants → IsCutIn Inside calls (told old) (told new) → IsBegunIn Inside calls (told old) (told new) → NoCountFell (told old) (told new)
-        → WritesDueText told input form.Json (Err NoMemory) old new
-    json_want rose cut begins counts =
-        let (json, shape) = has_json in
-        record {
-          text = compact json;
-          due = json_due json shape;
-          writes = record {
-            stops = record { cause = inr rose; begins = subst (λ bytes. AppendsFront (told old) bytes (told new)) (json_written json shape) begins; counts = counts };
-            full = λ never. cc never;
-            short = λ never. cc never;
-            no_memory_short = λ is. inr (subst (λ bytes. AppendsPart (told old) bytes (told new)) (json_written json shape) cut);
-          };
-        }
+    -- its JSON was written
+    pub writes_json : (result : Result (Unit {0}) SinkError) → ((json : Json) → json_of (tree_of r.document.value) ≡ Ok json → WritesAll result (told old) (compact json) (told new))
+        → WritesDueText told input form.Json result old new
+    writes_json result w = let (json, shape) = has_json in record { text = compact json; due = json_due json shape; writes = text_written (compact json) result (w json shape) }
 
   -- ---- a document as a script
 

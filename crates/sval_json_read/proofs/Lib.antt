@@ -38,6 +38,8 @@ pub mod KeptTokens
 pub mod PlainRuns
 pub mod ByteRuns
 mod examples
+pub mod TokenTexts
+pub mod NodeTexts
 pub mod DueTexts
 pub mod OneDue
 mod SpanTokens

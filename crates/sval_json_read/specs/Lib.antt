@@ -36,3 +36,4 @@ pub mod Parts
 pub mod TokenKinds
 pub mod TokenMarks
 pub mod NextCharacters
+pub mod TokenTexts

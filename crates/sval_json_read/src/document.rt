@@ -1,14 +1,19 @@
 //! Documents: texts that were read.
 
-ghost use Rattle.std.specs.Prelude.{◌≡◌, IfOk, IfErr, IsUtf8, map};
+ghost use Rattle.std.specs.Prelude.{◌≡◌, ℕ, List, true, IfOk, IfErr, IsUtf8, map};
 ghost use Rattle.std.specs.List.{AllByRecursion};
 ghost use Rattle.sval_core.specs.Values.{makes};
+ghost use Rattle.sval_io.specs.Sinks.{WritesAll};
 ghost use Rattle.sval_json.specs.Grammar.{Denotes};
+ghost use Rattle.sval_json.specs.Json.{Json, compact};
+ghost use Rattle.sval_json.specs.Shape.{json_of};
 ghost use Rattle.sval_json_read.specs.Calls.{document_calls};
 ghost use Rattle.sval_json_read.specs.SeenValues.{value_in};
 ghost use Rattle.sval_json_read.specs.Documents.{IsDocument};
 ghost use Rattle.sval_json_read.specs.Nodes.{tokens_in};
 ghost use Rattle.sval_json_read.specs.SeenNodes.{seen_node, StandsIn};
+ghost use Rattle.sval_json_read.specs.TokenTexts.{tokens_text};
+ghost use Rattle.sval_json_read.specs.Trees.{tree_of};
 ghost use Rattle.sval_json_read.specs.ReadErrors.{IsJsonReadError, IsTextReadError, IsReadText};
 
 mod bytes;
@@ -19,6 +24,7 @@ use crate::json_ref::JsonRef;
 use crate::json_tokens::JsonTokens;
 use crate::node::Node;
 use crate::node_calls::stream_nodes;
+use crate::node_text::write_nodes;
 use crate::reader::Reader;
 pub use limited::LimitedError;
 use simdutf8::compat::from_utf8;
@@ -27,6 +33,7 @@ use std::error::Error;
 use std::fmt;
 use std::marker::Model;
 use sval_core::{Lent, NoMemory, Result as StreamResult, Stream, Value};
+use sval_io::{Sink, SinkError};
 use sval_ref::ValueRef;
 
 /// Why bytes can't be read.
@@ -159,6 +166,29 @@ impl<'a> JsonDoc<'a> {
         ensures { result ≡ self.now }
     {
         JsonTokens::new(self.text, self.nodes.as_slice())
+    }
+
+    /// Writes the JSON of the value, without white space: what `stream_to_io_write` of `sval_json` writes of the document.
+    ///
+    /// It makes no calls. Numbers keep their digits, and `-0` becomes `0`. Strings have the escapes that they need.
+    ///
+    /// ```
+    /// let doc = JsonDoc::read_str(alloc, "{\"a\" : [1, 1.50e+3, -0]}")?;
+    /// let mut out = VecSink::new(alloc);
+    /// doc.write_json(&mut out)?;
+    /// assert_eq!(rt; out.as_slice(), b"{\"a\":[1,1.50e+3,0]}".as_slice());
+    /// ```
+    ///
+    /// # Errors
+    ///
+    /// Those of the sink. It took a first part of the text then, and not all.
+    pub fn write_json<K: Sink>(&self, out: &mut K) -> Result<(), SinkError>
+        ensures tokens { WritesAll result (K.told out.old) (tokens_text true self.now) (K.told out.new) }
+        ensures json { (input : List ℕ) (document : IsDocument input self.now) (json : Json)
+            → json_of (tree_of document.value) ≡ Ok json
+            → WritesAll result (K.told out.old) (compact json) (K.told out.new) }
+    {
+        write_nodes(self.text, self.nodes.as_slice(), out)
     }
 
     /// How many nodes are kept of the text.

@@ -4,6 +4,7 @@ ghost use Rattle.std.specs.Prelude.{◌<◌, ◌^◌, ℕ, List, length, map, st
 ghost use Rattle.sval_program.specs.Jobs.{ServesBytes, ServesInput, Serves};
 ghost use Rattle.sval_program.specs.Runs.{Ends, Reports};
 ghost use Rattle.sval_json_read.specs.Calls.{document_calls};
+ghost use Rattle.sval_json_read.specs.Documents.{IsDocument};
 ghost use Rattle.sval_json_read.specs.ReadErrors.{IsReadText};
 ghost use Rattle.sval_json_read.specs.Serves.{json_read_terms, WritesDueText};
 
@@ -11,27 +12,8 @@ use crate::document::JsonDoc;
 use crate::program::ReadJson;
 use std::alloc::Global;
 use sval_io::{Sink, SinkError, Source, read_input};
-use sval_json::{ErrorKind, stream_to_io_write};
 use sval_program::job::run;
 use sval_program::{Failure, ReadForm, print_captured, read_form};
-
-/// Writes the JSON of a document.
-fn write_json<K: Sink>(doc: &JsonDoc<'_>, out: &mut K) -> Result<(), SinkError>
-    requires { (input : List ℕ) × IsReadText input (document_calls doc.now) }
-    ensures { (input : List ℕ) → IsReadText input (document_calls doc.now)
-        → WritesDueText K.told input ReadForm.Json result out.old out.new }
-{
-    match stream_to_io_write(out, doc) {
-        Ok(()) => Ok(()),
-        Err(error) => match error.kind() {
-            ErrorKind::IO => Err(SinkError::Failed),
-            ErrorKind::NoMemory => Err(SinkError::NoMemory),
-            ErrorKind::InvalidKey => unreachable!("keys of JSON are texts"),
-            ErrorKind::InvalidNumber => unreachable!("numbers of JSON are numbers"),
-            ErrorKind::Generic => unreachable!("a document doesn't refuse"),
-        },
-    }
-}
 
 /// Captures a document, and prints the canonical script of what it captured.
 fn print_script<K: Sink>(alloc: Global, doc: &JsonDoc<'_>, out: &mut K) -> Result<(), SinkError>
@@ -49,12 +31,12 @@ fn write_document<K: Sink>(
     doc: &JsonDoc<'_>,
     out: &mut K,
 ) -> Result<(), SinkError>
-    requires { (input : List ℕ) × IsReadText input (document_calls doc.now) × (length input < 2 ^ 64) }
-    ensures { (input : List ℕ) → IsReadText input (document_calls doc.now) → length input < 2 ^ 64
+    requires { (input : List ℕ) × IsDocument input doc.now × (length input < 2 ^ 64) }
+    ensures { (input : List ℕ) → IsDocument input doc.now → length input < 2 ^ 64
         → WritesDueText K.told input form result out.old out.new }
 {
     match form {
-        ReadForm::Json => write_json(doc, out),
+        ReadForm::Json => doc.write_json(out),
         ReadForm::Calls => print_script(alloc, doc, out),
     }
 }

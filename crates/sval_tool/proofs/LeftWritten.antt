@@ -1,5 +1,5 @@
 -- From what was streamed of a document to what was written of what is left of it.
-use Rattle.std.specs.Prelude.{◌≡◌, ℕ, true, false, List, [], ◌++◌, Ok, Err, refl}
+use Rattle.std.specs.Prelude.{◌≡◌, ℕ, true, false, List, [], ◌++◌, Result, Ok, Err, refl}
 use Rattle.std.specs.Borrow.{MutBor}
 use Rattle.std.proofs.Common.{sym, ap, subst, ◌∙◌, inl, inr}
 use Rattle.sval_label.specs.Calls.{Call}
@@ -7,7 +7,8 @@ use Rattle.sval_core.specs.Law.{Streams, Stops}
 use Rattle.sval_core.specs.Spells.{Spells}
 use Rattle.sval_core.specs.Trees.{Tree}
 use Rattle.sval_core.specs.Values.{makes}
-use Rattle.sval_io.specs.Sinks.{Told, LacksRoom, AppendsFront, AppendsPart}
+use Rattle.sval_io.specs.Sinks.{Told, LacksRoom, AppendsFront, AppendsPart, WritesAll}
+use Rattle.sval_io.specs.declared.sink.SinkError.{SinkError}
 use Rattle.sval_io.specs.declared.sink.SinkError.TheVariants.{Failed, NoMemory}
 use Rattle.sval_io.proofs.Appending.{appends_nothing, all_is_front, front_after}
 use Rattle.sval_json.specs.ErrorKinds.{error_kind, refusal_kind}
@@ -30,12 +31,10 @@ use Rattle.sval_filter.specs.declared.paths.Rule.{Rule}
 use Rattle.sval_filter.specs.declared.paths.Rule.TheVariants as by
 use Rattle.sval_filter.specs.Pruned.{pruned}
 use Rattle.sval_filter.proofs.NothingDropped.{drop_nothing}
-use Rattle.sval_json_read.specs.Calls.{document_calls}
 use Rattle.sval_json_read.specs.Documents.{IsDocument}
 use Rattle.sval_json_read.specs.Tokens.{Placed}
 use Rattle.sval_json_read.specs.Trees.{tree_of}
-use Rattle.sval_json_read.proofs.Documents.{document-calls}
-use Rattle.sval_tool.specs.Conversions.{IsTextLeft, WritesLeftJson}
+use Rattle.sval_tool.specs.Conversions.{IsTextLeft, WritesLeftJson, WritesParts}
 use Rattle.sval_tool.specs.LeftTokens.{left_calls}
 use Rattle.sval_tool.specs.Passing.{TakesFirstCalls, StopsAt, IsSinkStop, sink_error_of}
 use Rattle.sval_tool.specs.declared.convert.Target.TheVariants as target
@@ -167,6 +166,14 @@ module _ (rule : Rule) (paths : List Path) (input : List ℕ) (tokens : List Pla
     known_stop halt.NoMemory h = tt
     known_stop halt.Refused h = known_kind (told sink.now) (told (sink_of now).now) due (error_kind (stop_of now)) due_spells (stopped_written h).0
 
--- where nothing is dropped, a document's own calls spell what is left of it
-pub whole_spells : (input : List ℕ) (tokens : List Placed) (r : IsDocument input tokens) → Spells (document_calls tokens) (pruned by.Drop [] (tree_of r.value))
-whole_spells input tokens r = subst (Spells (document_calls tokens)) (sym (drop_nothing (tree_of r.value))) (document-calls input tokens r)
+-- where nothing is dropped, the JSON of a document's own tree is what is left
+pub whole_written : (input : List ℕ) (tokens : List Placed) (r : IsDocument input tokens) (old new : Told) (result : Result (Unit {0}) SinkError)
+    → ((json : Json) → json_of (tree_of r.value) ≡ Ok json → WritesAll result old (compact json) new) → WritesLeftJson by.Drop [] input result old new
+whole_written input tokens r old new result w =
+    let found = has_json by.Drop [] input tokens r in
+    let own : json_of (tree_of r.value) ≡ Ok found.0 = ap json_of (sym (drop_nothing (tree_of r.value))) ∙ found.1 in
+    record { text = compact found.0; due = left_due by.Drop [] input tokens r found.0 found.1; writes = parts result (w found.0 own) }
+  where
+    parts : (result : Result (Unit {0}) SinkError) → WritesAll result old (compact (has_json by.Drop [] input tokens r).0) new → WritesParts result old (compact (has_json by.Drop [] input tokens r).0) new
+    parts (Ok done) w = w
+    parts (Err why) w = inl w

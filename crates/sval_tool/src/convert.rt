@@ -11,7 +11,7 @@ use crate::left::{Halt, stream_left};
 use std::alloc::Global;
 use sval_filter::{Paths, Rule};
 use sval_io::{Sink, SinkError, VecSink, write_all};
-use sval_json::{ErrorKind, JsonWriter, Variants, stream_to_io_write};
+use sval_json::{ErrorKind, JsonWriter, Variants};
 use sval_json_read::JsonDoc;
 use sval_pretty::write_pretty;
 
@@ -43,10 +43,7 @@ fn write_whole<K: Sink>(doc: &JsonDoc<'_>, out: &mut K) -> Result<(), SinkError>
     ensures { (input : List ℕ) → IsDocument input doc.now
         → WritesLeftJson by.Drop [] input result (K.told out.old) (K.told out.new) }
 {
-    match stream_to_io_write(out, doc) {
-        Ok(()) => Ok(()),
-        Err(error) => Err(stop_of(Halt::Refused, error.kind())),
-    }
+    doc.write_json(out)
 }
 
 /// Writes the JSON of what a rule and paths leave of a document.

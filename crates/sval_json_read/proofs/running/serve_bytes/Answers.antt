@@ -35,12 +35,12 @@ returns-in_err-doc g c =
     rw (p.1, p.2) (unread g.K.Sink.told c.args.bytes.now c.args.form c.args.out.now c.in_err-doc.field-0.0 c.in_err-doc.ensures.err)
 
 pub write_document-requires : goal.write_document-requires
-write_document-requires g c = (c.args.bytes.now, c.in_ok-doc.ensures.ok, c.requires)
+write_document-requires g c = (c.args.bytes.now, c.in_ok-doc.ensures.document, c.requires)
 
 pub returns-in_err-write_document : goal.returns-in_err-write_document
 returns-in_err-write_document g c =
     let p = err_from_is_err_and c.from_residual-in_err-write_document.result c.from_residual-in_err-write_document.ensures.1 in
-    rw (p.1, p.2) (stops_within g.K.Sink.told c.args.bytes.now c.args.form c.args.out.now c.write_document.new.out c.in_err-write_document.field-0.0 (c.in_err-write_document.ensures c.args.bytes.now c.in_ok-doc.ensures.ok c.requires))
+    rw (p.1, p.2) (stops_within g.K.Sink.told c.args.bytes.now c.args.form c.args.out.now c.write_document.new.out c.in_err-write_document.field-0.0 (c.in_err-write_document.ensures c.args.bytes.now c.in_ok-doc.ensures.document c.requires))
 
 pub returns : goal.returns
-returns g c = writes_all g.K.Sink.told c.args.bytes.now c.args.form c.args.out.now c.write_document.new.out (c.in_ok-write_document.ensures c.args.bytes.now c.in_ok-doc.ensures.ok c.requires)
+returns g c = writes_all g.K.Sink.told c.args.bytes.now c.args.form c.args.out.now c.write_document.new.out (c.in_ok-write_document.ensures c.args.bytes.now c.in_ok-doc.ensures.document c.requires)

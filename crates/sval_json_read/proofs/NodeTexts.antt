@@ -1,0 +1,122 @@
+-- The JSON of nodes that is written piece by piece.
+use Rattle.std.specs.Prelude.{◌≡◌, ℕ, ◌+◌, ◌<◌, ◌≤◌, Bool, true, false, not, ◌||◌, ◌==◌, nat_lt, List, [], ◌∷◌, ◌++◌, Result, Ok, Err, map, length, drop, take, get_or, refl}
+use Rattle.std.specs.List.{concat, list_all, AllPass}
+use Rattle.std.proofs.Common.{sym, ap, subst, ◌∙◌, append_assoc, append-nil, arith}
+use Rattle.std.proofs.lemmas.Bool.{and_parts}
+use Rattle.std.proofs.lemmas.List.{take_all}
+use Rattle.std.proofs.lemmas.List.Sums.{list_all-from_AllPass}
+use Rattle.sval_io.specs.Sinks.{Told, WritesWhole, WritesFront, WritesAll}
+use Rattle.sval_io.specs.declared.sink.SinkError.{SinkError}
+use Rattle.sval_io.proofs.Appending.{writes_nothing, writes_both, stops_after}
+use Rattle.sval_json.specs.Escape.{escaped, is_plain}
+use Rattle.sval_json.proofs.EscapedPieces.{escaped_whole}
+use Rattle.sval_json.proofs.Texts.{escaped-append}
+use Rattle.sval_json_read.specs.Calls.{Piece, run, piece_bytes, pieces}
+use Rattle.sval_json_read.specs.RawStrings.{is_no_backslash}
+use Rattle.sval_json_read.specs.Nodes.{placed_in, tokens_in}
+use Rattle.sval_json_read.specs.SeenNodes.{seen_node, IsKeptOf, AreKeptOf}
+use Rattle.sval_json_read.specs.SeenValues.{text_in}
+use Rattle.sval_json_read.specs.Tokens.{Placed}
+use Rattle.sval_json_read.specs.TokenTexts.{begins_container, placed_text, tokens_text}
+use Rattle.sval_json_read.specs.declared.node.Node.{Node}
+use Rattle.sval_json_read.proofs.NodeStreams.{here}
+use Rattle.sval_json_read.proofs.RawStrings.{pieces-run}
+
+-- ---- a piece and what stands behind it
+
+pub both_written : {old mid : Told} (new : Told) (xs ys : List ℕ) (r : Result (Unit {0}) SinkError) → WritesWhole old xs mid → WritesAll r mid ys new → WritesAll r old (xs ++ ys) new
+both_written new xs ys (Ok done) w a = writes_both xs ys w a
+both_written new xs ys (Err why) w a = stops_after xs ys [] w (ap (λ z. xs ++ z) (sym (append-nil ys))) a
+
+pub stops_in_first : {old new : Told} {why : SinkError} (xs ys : List ℕ) → WritesFront why old xs new → WritesFront why old (xs ++ ys) new
+stops_in_first {old} xs ys f = stops_after [] xs ys (writes_nothing old) refl f
+
+-- ---- a front that is written
+
+-- these bytes of the whole are left
+pub record IsWrittenUpTo (old : Told) (whole rest : List ℕ) (new : Told) : Type 0 where
+  pub front : List ℕ
+  pub same : whole ≡ front ++ rest
+  pub writes : WritesWhole old front new
+
+pub up_to_begin : (told : Told) (whole : List ℕ) → IsWrittenUpTo told whole whole told
+up_to_begin told whole = record { front = []; same = refl; writes = writes_nothing told }
+
+pub up_to_next : {old mid new : Told} {whole rest : List ℕ} (piece later : List ℕ) → rest ≡ piece ++ later → IsWrittenUpTo old whole rest mid → WritesWhole mid piece new → IsWrittenUpTo old whole later new
+up_to_next piece later e l w = record {
+  front = l.front ++ piece;
+  same = l.same ∙ ap (λ x. l.front ++ x) e ∙ sym (append_assoc l.front piece later);
+  writes = writes_both l.front piece l.writes w;
+}
+
+pub up_to_end : {old new : Told} {whole rest : List ℕ} → rest ≡ [] → IsWrittenUpTo old whole rest new → WritesWhole old whole new
+up_to_end {old} {new} e l = subst (λ x. WritesWhole old x new) (sym (l.same ∙ ap (λ x. l.front ++ x) e ∙ append-nil l.front)) l.writes
+
+pub stops_in_next : {old mid new : Told} {whole rest : List ℕ} {why : SinkError} (piece later : List ℕ) → rest ≡ piece ++ later → IsWrittenUpTo old whole rest mid → WritesFront why mid piece new → WritesFront why old whole new
+stops_in_next piece later e l f = stops_after l.front piece later l.writes (l.same ∙ ap (λ x. l.front ++ x) e) f
+
+-- ---- strings
+
+-- the text of what the next piece and the pieces behind it stand for
+pub next_piece_text : (raw behind : List ℕ) (piece : Piece) → pieces raw ≡ piece ∷ pieces behind → escaped (text_in raw) ≡ escaped (piece_bytes piece) ++ escaped (text_in behind)
+next_piece_text raw behind piece e =
+    ap (λ row. escaped (concat (map piece_bytes row))) e ∙ escaped-append (piece_bytes piece) (text_in behind)
+
+last_bit : (a b c : Bool) → not ((a || b) || c) ≡ true → not c ≡ true
+last_bit true true c h = cc h
+last_bit true false c h = cc h
+last_bit false true c h = cc h
+last_bit false false c h = h
+
+no_backslashes : (bytes : List ℕ) → list_all is_plain bytes ≡ true → list_all is_no_backslash bytes ≡ true
+no_backslashes [] h = refl
+no_backslashes (byte ∷ bytes) h =
+    let (p, q) = and_parts (is_plain byte) (list_all is_plain bytes) h in
+    let here : is_no_backslash byte ≡ true = last_bit (nat_lt byte 32) (byte == 34) (byte == 92) p in
+    rw (here, no_backslashes bytes q) refl
+
+one_run_text : (raw : List ℕ) → list_all is_no_backslash raw ≡ true → text_in raw ≡ raw
+one_run_text [] h = refl
+one_run_text (byte ∷ bytes) h =
+    ap text_in (sym (append-nil (byte ∷ bytes)))
+    ∙ ap (λ row. concat (map piece_bytes row)) (pieces-run byte bytes [] h refl)
+    ∙ append-nil (byte ∷ bytes)
+
+-- bytes that need no escape stand for themselves
+pub plain_text : (raw : List ℕ) (n : ℕ) → length raw ≤ n → AllPass is_plain (take n raw) → raw ≡ escaped (text_in raw)
+plain_text raw n end plain =
+    let all : AllPass is_plain raw = subst (AllPass is_plain) (take_all n raw end) plain in
+    sym (ap escaped (one_run_text raw (no_backslashes raw (list_all-from_AllPass is_plain raw all))) ∙ escaped_whole raw n end plain)
+
+-- ---- node by node
+
+-- all before these nodes was written, and they are kept of the text
+pub record AreWrittenUpTo (old : Told) (text : List ℕ) (all left : List Node) (is_first : Bool) (new : Told) : Type 0 where
+  pub kept : AreKeptOf text left
+  pub written : IsWrittenUpTo old (tokens_text true (tokens_in text (map seen_node all))) (tokens_text is_first (tokens_in text (map seen_node left))) new
+
+pub nodes_begin : (told : Told) (text : List ℕ) (nodes : List Node) → AreKeptOf text nodes → AreWrittenUpTo told text nodes nodes true told
+nodes_begin told text nodes k = record { kept = k; written = up_to_begin told (tokens_text true (tokens_in text (map seen_node nodes))) }
+
+module _ {old mid : Told} {text : List ℕ} (nodes : List Node) (i : ℕ) (d : Node) (is_first : Bool) (s : AreWrittenUpTo old text nodes (drop i nodes) is_first mid) (within : i < length nodes) where
+  abbrev node : Placed
+  node = placed_in text (seen_node (get_or nodes i d))
+
+  left_kept : AreKeptOf text (get_or nodes i d ∷ drop (i + 1) nodes)
+  left_kept = subst (AreKeptOf text) (here nodes i d within) s.kept
+
+  pub kept_at : IsKeptOf text (get_or nodes i d)
+  kept_at = left_kept.0
+
+  left_text : tokens_text is_first (tokens_in text (map seen_node (drop i nodes))) ≡ placed_text is_first node ++ tokens_text (begins_container node.token) (tokens_in text (map seen_node (drop (i + 1) nodes)))
+  left_text = ap (λ left. tokens_text is_first (tokens_in text (map seen_node left))) (here nodes i d within)
+
+  pub node_on : (new : Told) (next : Bool) → WritesWhole mid (placed_text is_first node) new → next ≡ begins_container node.token → AreWrittenUpTo old text nodes (drop (i + 1) nodes) next new
+  node_on new next w e = subst (λ b. AreWrittenUpTo old text nodes (drop (i + 1) nodes) b new) (sym e)
+      (record { kept = left_kept.1; written = up_to_next (placed_text is_first node) (tokens_text (begins_container node.token) (tokens_in text (map seen_node (drop (i + 1) nodes)))) left_text s.written w })
+
+  pub node_stops : {why : SinkError} (new : Told) → WritesFront why mid (placed_text is_first node) new → WritesFront why old (tokens_text true (tokens_in text (map seen_node nodes))) new
+  node_stops new f = stops_in_next (placed_text is_first node) (tokens_text (begins_container node.token) (tokens_in text (map seen_node (drop (i + 1) nodes)))) left_text s.written f
+
+pub nodes_end : {old new : Told} {text : List ℕ} {nodes left : List Node} {is_first : Bool} → AreWrittenUpTo old text nodes left is_first new → left ≡ [] → WritesWhole old (tokens_text true (tokens_in text (map seen_node nodes))) new
+nodes_end {text = text} {is_first = is_first} s e = up_to_end (ap (λ left. tokens_text is_first (tokens_in text (map seen_node left))) e) s.written
