@@ -1,6 +1,7 @@
 pub mod Conversions
 pub mod ConvertedInputs
 pub mod ConvertedLines
+pub mod Ends
 pub mod ErrorTexts
 pub mod LeftTokens
 pub mod PackedDocuments

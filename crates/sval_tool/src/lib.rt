@@ -5,6 +5,7 @@
 #![tactic(auto)]
 
 mod convert;
+mod end;
 mod error;
 mod inputs;
 mod left;
@@ -16,6 +17,7 @@ mod whole;
 mod words;
 
 pub use convert::{Conversion, Target, write_document};
+pub use end::End;
 pub use error::DocumentError;
 pub use inputs::{ConvertError, Shape, convert_all};
 pub use lines::{LinesError, write_lines};

@@ -1,14 +1,13 @@
 //! The inputs, one after the other.
 
 use crate::convert::{check_input, convert_input};
-use crate::end::End;
 use crate::named::{Failure, NamedReader};
 use crate::plain::{plain_target, run_plain};
 use crate::trouble::Trouble;
 use std::cell::Cell;
 use std::io::{self, BufWriter, ErrorKind, Stdout};
 use sval_io::{RealSink, RealSource, Sink};
-use sval_tool::{Command, Options};
+use sval_tool::{Command, End, Options};
 
 /// How many bytes of output are held back at most.
 const BUFFER: usize = 1 << 16;
@@ -35,39 +34,35 @@ fn hint_of(name: &str, error: io::Error) -> &'static str {
     ""
 }
 
-/// What is said of an input where it failed so.
-fn input_failed(rt: &HostRuntime, name: &str, failed: Option<Failure>) -> End {
-    let _ = match failed {
+/// Tells how an input failed.
+fn tell_read_fault(rt: &HostRuntime, name: &str, failed: Option<Failure>) -> io::Result<()> {
+    match failed {
         Some(Failure::Open(error)) => {
             let hint = hint_of(name, error);
             eprint!(rt; "sval: {name}: {error}\n{hint}")
         }
         Some(Failure::Read(kind)) => eprint!(rt; "sval: {name}: reading failed: {kind}\n"),
         None => eprint!(rt; "sval: {name}: reading failed\n"),
-    };
-    End::Fault
+    }
 }
 
-/// Tells what went wrong with an input, which failed last so if it did.
+/// Tells what went wrong with an input, which failed last so if it did. The program ends with `end` for it, but well
+/// where the output's reader closed it.
 pub(crate) fn tell(
     rt: &HostRuntime,
     name: &str,
     failed: Option<Failure>,
     out: &Out,
     trouble: Trouble,
+    end: End,
 ) -> End {
-    match trouble {
-        Trouble::Bad(text) => {
-            let _ = eprint!(rt; "{text}");
-            End::BadInput
-        }
-        Trouble::Read => input_failed(rt, name, failed),
-        Trouble::NoMemory => {
-            let _ = eprint!(rt; "sval: {name}: out of memory\n");
-            End::Fault
-        }
-        Trouble::Write => output_failed(rt, out.last_error()),
-    }
+    let _ = match trouble {
+        Trouble::Bad(text) => eprint!(rt; "{text}"),
+        Trouble::Read => tell_read_fault(rt, name, failed),
+        Trouble::NoMemory => eprint!(rt; "sval: {name}: out of memory\n"),
+        Trouble::Write => return output_failed(rt, out.last_error()),
+    };
+    end
 }
 
 /// One input by its name, which is read to its end.
@@ -83,7 +78,8 @@ fn run_input(rt: &HostRuntime, options: &Options, name: &str, out: &mut Out) -> 
         Err(trouble) => {
             // What is due of what came before is written first.
             let _ = out.flush();
-            tell(rt, name, failed.get(), out, trouble)
+            let end = trouble.end();
+            tell(rt, name, failed.get(), out, trouble, end)
         }
     }
 }

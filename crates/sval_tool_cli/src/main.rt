@@ -7,7 +7,6 @@
 
 mod cbor;
 mod convert;
-mod end;
 mod help;
 mod inputs;
 mod named;
@@ -20,7 +19,6 @@ mod script;
 mod trouble;
 mod values;
 
-use crate::end::End;
 use crate::help::{push_help, version};
 use crate::inputs::{output_failed, run_inputs};
 use crate::report::push_usage;
@@ -29,7 +27,7 @@ use std::env::Args;
 use std::process::ExitCode;
 use std::{env, io};
 use sval_tool as words;
-use sval_tool::{Complaint, Stop, read_words};
+use sval_tool::{Complaint, End, Stop, read_words};
 
 /// The words behind the first, which is the program's name.
 fn behind_name(alloc: Global, mut all: Args) -> Result<Vec<String>, AllocError> {

@@ -1,6 +1,5 @@
 //! The run over inputs of JSON that is written as JSON, laid out or not. Its theorem is that of `convert_all`.
 
-use crate::end::End;
 use crate::inputs::{Out, tell};
 use crate::named::{Failure, NamedReader};
 use crate::trouble::{Trouble, of_document};
@@ -10,7 +9,7 @@ use std::cell::Cell;
 use std::collections::VecDeque;
 use sval_filter::Rule;
 use sval_io::{RealSource, Sink};
-use sval_tool::{Conversion, ConvertError, Shape, Target, convert_all};
+use sval_tool::{Conversion, ConvertError, End, Shape, Target, convert_all};
 
 /// What JSON that is read is written as, where that is JSON and no pointer names a part of it.
 pub(crate) fn plain_target(options: &Options) -> Option<Target> {
@@ -84,7 +83,7 @@ pub(crate) fn run_plain(rt: &HostRuntime, options: &Options, target: Target, out
             let _ = out.flush();
             let name = name_before(options, sources.len());
             let trouble = trouble_of(rt.alloc(), name, &bad, why);
-            tell(rt, name, failed.get(), out, trouble)
+            tell(rt, name, failed.get(), out, trouble, why.end())
         }
     }
 }

@@ -13,7 +13,7 @@ use sval_json::ErrorKind;
 use sval_json_read::ReadError;
 use sval_lines::LineError;
 use sval_script::PrintError;
-use sval_tool::DocumentError;
+use sval_tool::{DocumentError, End};
 
 /// U+FEFF in UTF-8, with which some programs begin a text.
 const BYTE_ORDER_MARK: [u8; 3] = [0xef, 0xbb, 0xbf];
@@ -29,6 +29,16 @@ pub(crate) enum Trouble {
     Write,
     /// Memory was wanting.
     NoMemory,
+}
+
+impl Trouble {
+    /// How the program ends for it.
+    pub(crate) fn end(&self) -> End {
+        match self {
+            Trouble::Bad(_) => End::BadInput,
+            Trouble::Read | Trouble::Write | Trouble::NoMemory => End::Fault,
+        }
+    }
 }
 
 impl From<AllocError> for Trouble {
