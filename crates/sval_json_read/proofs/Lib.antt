@@ -27,6 +27,7 @@ pub mod ParsedNumbers
 pub mod RawStrings
 pub mod KeptNodes
 pub mod EscapePlaces
+pub mod ExtendedPieces
 pub mod WritableTrees
 pub mod ReaderPlaces
 pub mod StringCuts

@@ -1,7 +1,7 @@
 -- The JSON of nodes that is written piece by piece.
 use Rattle.std.specs.Prelude.{◌≡◌, ℕ, ◌+◌, ◌<◌, ◌≤◌, Bool, true, false, not, ◌||◌, ◌==◌, nat_lt, List, [], ◌∷◌, ◌++◌, Result, Ok, Err, map, length, drop, take, get_or, refl}
 use Rattle.std.specs.List.{concat, list_all, AllPass}
-use Rattle.std.proofs.Common.{sym, ap, subst, ◌∙◌, append_assoc, append-nil, arith}
+use Rattle.std.proofs.Common.{sym, ap, subst, ◌∙◌, append_assoc, append-nil}
 use Rattle.std.proofs.lemmas.Bool.{and_parts}
 use Rattle.std.proofs.lemmas.List.{take_all}
 use Rattle.std.proofs.lemmas.List.Sums.{list_all-from_AllPass}
@@ -11,7 +11,7 @@ use Rattle.sval_io.proofs.Appending.{writes_nothing, writes_both, stops_after}
 use Rattle.sval_json.specs.Escape.{escaped, is_plain}
 use Rattle.sval_json.proofs.EscapedPieces.{escaped_whole}
 use Rattle.sval_json.proofs.Texts.{escaped-append}
-use Rattle.sval_json_read.specs.Calls.{Piece, run, piece_bytes, pieces}
+use Rattle.sval_json_read.specs.Calls.{Piece, piece_bytes, pieces}
 use Rattle.sval_json_read.specs.RawStrings.{is_no_backslash}
 use Rattle.sval_json_read.specs.Nodes.{placed_in, tokens_in}
 use Rattle.sval_json_read.specs.SeenNodes.{seen_node, IsKeptOf, AreKeptOf}
@@ -27,9 +27,6 @@ use Rattle.sval_json_read.proofs.RawStrings.{pieces-run}
 pub both_written : {old mid : Told} (new : Told) (xs ys : List ℕ) (r : Result (Unit {0}) SinkError) → WritesWhole old xs mid → WritesAll r mid ys new → WritesAll r old (xs ++ ys) new
 both_written new xs ys (Ok done) w a = writes_both xs ys w a
 both_written new xs ys (Err why) w a = stops_after xs ys [] w (ap (λ z. xs ++ z) (sym (append-nil ys))) a
-
-pub stops_in_first : {old new : Told} {why : SinkError} (xs ys : List ℕ) → WritesFront why old xs new → WritesFront why old (xs ++ ys) new
-stops_in_first {old} xs ys f = stops_after [] xs ys (writes_nothing old) refl f
 
 -- ---- a front that is written
 

@@ -1,15 +1,16 @@
 //! The JSON of nodes, from the text of the document.
 
-ghost use Rattle.std.specs.Prelude.{◌≡◌, ◌++◌, ℕ, List, map, true};
+ghost use Rattle.std.specs.Prelude.{◌≡◌, ◌≤◌, ◌++◌, ℕ, List, [], IfSome, IsCharBoundary, codes, drop, if◌then◌else◌, length, map, true};
+ghost use Rattle.std.specs.List.{between};
 ghost use Rattle.sval_io.specs.Sinks.{WritesAll};
 ghost use Rattle.sval_json.specs.Escape.{escaped, in_quotes};
 ghost use Rattle.sval_json_read.specs.Calls.{piece_bytes};
-ghost use Rattle.sval_json_read.specs.Nodes.{placed_in, token_in, tokens_in};
+ghost use Rattle.sval_json_read.specs.Nodes.{placed_in, tokens_in};
 ghost use Rattle.sval_json_read.specs.RawStrings.{IsRaw};
 ghost use Rattle.sval_json_read.specs.SeenNodes.{node_place, seen_node, IsKeptOf, AreKeptOf};
 ghost use Rattle.sval_json_read.specs.SeenPieces.{seen_piece};
 ghost use Rattle.sval_json_read.specs.SeenValues.{text_in};
-ghost use Rattle.sval_json_read.specs.TokenTexts.{begins_container, comma_at, comma_before, colon_behind, token_text, placed_text, tokens_text};
+ghost use Rattle.sval_json_read.specs.TokenTexts.{begins_container, comma_at, colon_behind, placed_text, tokens_text};
 ghost use Rattle.sval_json_read.specs.Trees.{settled_number};
 
 use crate::node::{Node, Place};
@@ -44,81 +45,211 @@ fn write_pieces<K: Sink>(raw: &str, out: &mut K) -> Result<(), SinkError>
     Ok(())
 }
 
-/// Writes the text of a string. Where that has no escape it is one piece, as it was read.
-#[inline(always)]
-fn write_raw<K: Sink>(raw: &str, out: &mut K) -> Result<(), SinkError>
-    requires { IsRaw raw.now }
-    ensures { WritesAll result (K.told out.old) (escaped (text_in raw.now)) (K.told out.new) }
-{
-    let bytes = raw.as_bytes();
-    let plain = first_escape(bytes);
-    if plain < bytes.len() {
-        return write_pieces(raw, out);
-    }
-    write_all(out, bytes)
-}
-
-/// Writes a string between quotes.
-#[inline(always)]
+/// Writes a string that has an escape, between quotes.
 fn write_string<K: Sink>(raw: &str, out: &mut K) -> Result<(), SinkError>
     requires { IsRaw raw.now }
     ensures { WritesAll result (K.told out.old) (in_quotes (escaped (text_in raw.now))) (K.told out.new) }
 {
-    write_in_place(out, &[b'"'])?;
-    write_raw(raw, out)?;
-    write_in_place(out, &[b'"'])
+    write_in_place(out, b"\"")?;
+    write_pieces(raw, out)?;
+    write_in_place(out, b"\"")
 }
 
-/// Writes a number as it was read, but `-0` as `0`.
+/// The bytes from `from` up to `to` with `before` and `behind` around them, where these stand around them.
 #[inline(always)]
-fn write_number<K: Sink>(text: &str, out: &mut K) -> Result<(), SinkError>
-    ensures { WritesAll result (K.told out.old) (settled_number text.now) (K.told out.new) }
+fn extended<'b>(
+    before: &[u8],
+    bytes: &'b [u8],
+    from: usize,
+    to: usize,
+    behind: &[u8],
+) -> Option<&'b [u8]>
+    requires order { from ≤ to }
+    requires within { to ≤ length bytes.now }
+    ensures { IfSome result (λ piece. piece.now ≡ before.now ++ (between from to bytes.now ++ behind.now)) }
 {
-    if text == "-0" {
-        return write_in_place(out, &[b'0']);
+    if bytes[..from].ends_with(before) && bytes[to..].starts_with(behind) {
+        Some(&bytes[from - before.len()..to + behind.len()])
+    } else {
+        None
     }
-    write_all(out, text.as_bytes())
+}
+
+/// Writes three pieces, one after another.
+#[inline(never)]
+fn write_three<K: Sink>(
+    before: &[u8],
+    piece: &[u8],
+    behind: &[u8],
+    out: &mut K,
+) -> Result<(), SinkError>
+    ensures { WritesAll result (K.told out.old) (before.now ++ (piece.now ++ behind.now)) (K.told out.new) }
+{
+    write_all(out, before)?;
+    write_all(out, piece)?;
+    write_all(out, behind)
+}
+
+/// Writes the bytes from `from` up to `to` between `before` and `behind`: as one piece where these stand around them.
+#[inline(always)]
+fn write_between<K: Sink>(
+    before: &[u8],
+    bytes: &[u8],
+    from: usize,
+    to: usize,
+    behind: &[u8],
+    out: &mut K,
+) -> Result<(), SinkError>
+    requires order { from ≤ to }
+    requires within { to ≤ length bytes.now }
+    ensures { WritesAll result (K.told out.old)
+        (before.now ++ (between from to bytes.now ++ behind.now)) (K.told out.new) }
+{
+    match extended(before, bytes, from, to, behind) {
+        Some(piece) => write_all(out, piece),
+        None => write_three(before, &bytes[from..to], behind, out),
+    }
 }
 
 impl Place {
-    /// Writes the comma before an element or a name, unless it is the first one.
+    /// Whether a comma is due: before an element or a name, unless it is the first one.
+    #[inline(always)]
+    fn has_comma(self, is_first: bool) -> bool
+        ensures { comma_at is_first (node_place self) ≡ (if result then codes "," else []) }
+    {
+        match self {
+            Place::Item | Place::Key => !is_first,
+            Place::Alone | Place::Value => false,
+        }
+    }
+
+    /// Writes the comma that is due.
     #[inline(always)]
     fn write_comma<K: Sink>(self, is_first: bool, out: &mut K) -> Result<(), SinkError>
         ensures { WritesAll result (K.told out.old) (comma_at is_first (node_place self)) (K.told out.new) }
     {
-        match self {
-            Place::Item | Place::Key => {
-                if is_first {
-                    Ok(())
-                } else {
-                    write_in_place(out, &[b','])
-                }
-            }
-            Place::Alone | Place::Value => Ok(()),
+        if self.has_comma(is_first) {
+            return write_in_place(out, b",");
         }
+        Ok(())
     }
 
     /// Writes the colon behind a name.
-    #[inline(always)]
     fn write_colon<K: Sink>(self, out: &mut K) -> Result<(), SinkError>
         ensures { WritesAll result (K.told out.old) (colon_behind (node_place self)) (K.told out.new) }
     {
         match self {
-            Place::Key => write_in_place(out, &[b':']),
+            Place::Key => write_in_place(out, b":"),
             Place::Alone | Place::Item | Place::Value => Ok(()),
         }
     }
-}
 
-/// Writes a string, and a colon behind it if it is a name.
-#[inline(always)]
-fn write_text<K: Sink>(place: Place, raw: &str, out: &mut K) -> Result<(), SinkError>
-    requires { IsRaw raw.now }
-    ensures { WritesAll result (K.told out.old)
-        (in_quotes (escaped (text_in raw.now)) ++ colon_behind (node_place place)) (K.told out.new) }
-{
-    write_string(raw, out)?;
-    place.write_colon(out)
+    /// Writes a word or a bracket. `word` has the comma before it, which is left out where none is due.
+    #[inline(always)]
+    fn write_word<K: Sink>(self, is_first: bool, word: &[u8], out: &mut K) -> Result<(), SinkError>
+        requires { word.now ≡ codes "," ++ drop 1 word.now }
+        ensures { WritesAll result (K.told out.old)
+            (comma_at is_first (node_place self) ++ drop 1 word.now) (K.told out.new) }
+    {
+        if self.has_comma(is_first) {
+            return write_in_place(out, word);
+        }
+        write_in_place(out, &word[1..])
+    }
+
+    /// Writes the number from `from` up to `to` as it was read, but `-0` as `0`.
+    #[inline(always)]
+    fn write_number<K: Sink>(
+        self,
+        is_first: bool,
+        text: &str,
+        from: usize,
+        to: usize,
+        out: &mut K,
+    ) -> Result<(), SinkError>
+        requires order { from ≤ to }
+        requires begin { IsCharBoundary text.now from }
+        requires end { IsCharBoundary text.now to }
+        ensures { WritesAll result (K.told out.old)
+            (comma_at is_first (node_place self) ++ settled_number (between from to text.now)) (K.told out.new) }
+    {
+        let number = &text[from..to];
+        if number == "-0" {
+            return self.write_word(is_first, b",0", out);
+        }
+        if self.has_comma(is_first) {
+            return write_between(b",", text.as_bytes(), from, to, b"", out);
+        }
+        write_all(out, number.as_bytes())
+    }
+
+    /// Writes a string that has an escape with all that is due around it.
+    #[inline(never)]
+    fn write_text_with_escape<K: Sink>(
+        self,
+        is_first: bool,
+        raw: &str,
+        out: &mut K,
+    ) -> Result<(), SinkError>
+        requires { IsRaw raw.now }
+        ensures { WritesAll result (K.told out.old) (comma_at is_first (node_place self)
+            ++ (in_quotes (escaped (text_in raw.now)) ++ colon_behind (node_place self))) (K.told out.new) }
+    {
+        self.write_comma(is_first, out)?;
+        write_string(raw, out)?;
+        self.write_colon(out)
+    }
+
+    /// Writes a string that has no escape with all that is due around it.
+    #[inline(always)]
+    fn write_plain_text<K: Sink>(
+        self,
+        is_first: bool,
+        bytes: &[u8],
+        from: usize,
+        to: usize,
+        out: &mut K,
+    ) -> Result<(), SinkError>
+        requires order { from ≤ to }
+        requires within { to ≤ length bytes.now }
+        ensures { WritesAll result (K.told out.old) (comma_at is_first (node_place self)
+            ++ (in_quotes (between from to bytes.now) ++ colon_behind (node_place self))) (K.told out.new) }
+    {
+        match (self, is_first) {
+            (Place::Key, true) => write_between(b"\"", bytes, from, to, b"\":", out),
+            (Place::Key, false) => write_between(b",\"", bytes, from, to, b"\":", out),
+            (Place::Item, false) => write_between(b",\"", bytes, from, to, b"\"", out),
+            (Place::Item, true) | (Place::Alone | Place::Value, _) => {
+                write_between(b"\"", bytes, from, to, b"\"", out)
+            },
+        }
+    }
+
+    /// Writes the string from `from` up to `to` with all that is due around it. Where it has no escape it is one piece,
+    /// as it was read, and so are the comma and the colon that stand beside its quotes.
+    #[inline(always)]
+    fn write_text<K: Sink>(
+        self,
+        is_first: bool,
+        text: &str,
+        from: usize,
+        to: usize,
+        out: &mut K,
+    ) -> Result<(), SinkError>
+        requires order { from ≤ to }
+        requires begin { IsCharBoundary text.now from }
+        requires end { IsCharBoundary text.now to }
+        requires raw { IsRaw (between from to text.now) }
+        ensures { WritesAll result (K.told out.old) (comma_at is_first (node_place self)
+            ++ (in_quotes (escaped (text_in (between from to text.now))) ++ colon_behind (node_place self)))
+            (K.told out.new) }
+    {
+        let raw = &text[from..to];
+        if first_escape(raw.as_bytes()) < raw.len() {
+            return self.write_text_with_escape(is_first, raw, out);
+        }
+        self.write_plain_text(is_first, text.as_bytes(), from, to, out)
+    }
 }
 
 impl Node {
@@ -130,47 +261,6 @@ impl Node {
         match self {
             Node::BeginArray(_) | Node::BeginObject(_) => true,
             _ => false,
-        }
-    }
-
-    /// Writes the comma before it, where one is due.
-    #[inline(always)]
-    fn write_comma<K: Sink>(self, is_first: bool, out: &mut K) -> Result<(), SinkError>
-        ensures { (text : List ℕ) → WritesAll result (K.told out.old)
-            (comma_before is_first (seen_node self).place (token_in text (seen_node self).kept)) (K.told out.new) }
-    {
-        match self {
-            Node::EndArray(_) | Node::EndObject(_) => Ok(()),
-            Node::Null(place)
-            | Node::Bool(place, _)
-            | Node::Number(place, _, _)
-            | Node::Text(place, _, _)
-            | Node::BeginArray(place)
-            | Node::BeginObject(place) => place.write_comma(is_first, out),
-        }
-    }
-
-    /// Writes it without a comma, from the text of the document.
-    #[inline(always)]
-    fn write_alone<K: Sink>(self, text: &str, out: &mut K) -> Result<(), SinkError>
-        requires { IsKeptOf text.now self }
-        ensures { WritesAll result (K.told out.old)
-            (token_text (seen_node self).place (token_in text.now (seen_node self).kept)) (K.told out.new) }
-    {
-        match self {
-            Node::Null(_) => write_in_place(out, b"null"),
-            Node::Bool(_, true) => write_in_place(out, b"true"),
-            Node::Bool(_, false) => write_in_place(out, b"false"),
-            Node::Number(_, length, from) => {
-                write_number(&text[from..from + length as usize], out)
-            }
-            Node::Text(place, length, from) => {
-                write_text(place, &text[from..from + length as usize], out)
-            }
-            Node::BeginArray(_) => write_in_place(out, b"["),
-            Node::EndArray(_) => write_in_place(out, b"]"),
-            Node::BeginObject(_) => write_in_place(out, b"{"),
-            Node::EndObject(_) => write_in_place(out, b"}"),
         }
     }
 
@@ -186,8 +276,21 @@ impl Node {
         ensures { WritesAll result (K.told out.old) (placed_text is_first (placed_in text.now (seen_node self)))
             (K.told out.new) }
     {
-        self.write_comma(is_first, out)?;
-        self.write_alone(text, out)
+        match self {
+            Node::Null(place) => place.write_word(is_first, b",null", out),
+            Node::Bool(place, true) => place.write_word(is_first, b",true", out),
+            Node::Bool(place, false) => place.write_word(is_first, b",false", out),
+            Node::Number(place, length, from) => {
+                place.write_number(is_first, text, from, from + length as usize, out)
+            },
+            Node::Text(place, length, from) => {
+                place.write_text(is_first, text, from, from + length as usize, out)
+            },
+            Node::BeginArray(place) => place.write_word(is_first, b",[", out),
+            Node::EndArray(_) => write_in_place(out, b"]"),
+            Node::BeginObject(place) => place.write_word(is_first, b",{", out),
+            Node::EndObject(_) => write_in_place(out, b"}"),
+        }
     }
 }
 
