@@ -5,6 +5,7 @@ use crate::rows::rows_of;
 use std::alloc::Global;
 use std::test::Fail;
 use sval_check::TokenBuf;
+use sval_io::VecSink;
 use sval_json::stream_to_string;
 use sval_json_read::JsonDoc;
 use sval_ref::stream_ref;
@@ -18,10 +19,18 @@ impl Case for Written {
     }
 }
 
-/// What is written of bytes, or why they aren't read.
+/// What is written of bytes, or why they aren't read. Of its calls the same has to be written as by the document itself.
 fn json_of(alloc: Global, bytes: &[u8]) -> Result<String, Fail> {
     match JsonDoc::read(alloc, bytes) {
-        Ok(doc) => Ok(format!(in alloc; "json {}", stream_to_string(alloc, &doc)?)?),
+        Ok(doc) => {
+            let written = stream_to_string(alloc, &doc)?;
+            let mut out = VecSink::new(alloc);
+            doc.write_json(&mut out)?;
+            if out.as_slice() != written.as_bytes() {
+                return Ok(String::from_str(alloc, "another text by its calls")?);
+            }
+            Ok(format!(in alloc; "json {written}")?)
+        },
         Err(error) => Ok(format!(in alloc; "error {error:?}")?),
     }
 }
@@ -113,6 +122,26 @@ true␄
 
 [null,[],{},false]␄
 = json [null,[],{},false]
+
+# With and without white space around commas, colons and quotes.
+{"a":1,"b":"c","":"","d":[1,"e",2,"f",null,{},[],true,"",-0,{"g":-0}]}␄
+= json {"a":1,"b":"c","":"","d":[1,"e",2,"f",null,{},[],true,"",0,{"g":0}]}
+
+{"a" :1 ,"b": "c" , "d":"e", "f" : [ "g" , "h","i" ,2 , 3,-0, -0 ,[ ] ]}␄
+= json {"a":1,"b":"c","d":"e","f":["g","h","i",2,3,0,0,[]]}
+
+# Escapes in a name and in a string, and what else stands around a string within one.
+{"a\n":1,"\u0062":"\/","c":"\"","\"":"\"d\""}␄
+= json {"a\n":1,"b":"/","c":"\"","\"":"\"d\""}
+
+[",",":","\",\"",",",{",":":",":":","}]␄
+= json [",",":","\",\"",",",{",":":",":":","}]
+
+""␄
+= json ""
+
+-0␄
+= json 0
 "#;
 
 /// Bytes that are no UTF-8: a byte that is none, one that begins no character, a surrogate, and a front of a character.
