@@ -55,7 +55,7 @@ fn write_string<K: Sink>(raw: &str, out: &mut K) -> Result<(), SinkError>
     write_in_place(out, b"\"")
 }
 
-/// The bytes from `from` up to `to` with `before` and `behind` around them, where these stand around them.
+/// The bytes from `from` up to `to` together with those around them, if these are `before` and `behind`.
 #[inline(always)]
 fn extended<'b>(
     before: &[u8],
@@ -90,7 +90,7 @@ fn write_three<K: Sink>(
     write_all(out, behind)
 }
 
-/// Writes the bytes from `from` up to `to` between `before` and `behind`: as one piece where these stand around them.
+/// Writes the bytes from `from` up to `to` between `before` and `behind`: as one piece if these are around them.
 #[inline(always)]
 fn write_between<K: Sink>(
     before: &[u8],
@@ -225,8 +225,8 @@ impl Place {
         }
     }
 
-    /// Writes the string from `from` up to `to` with all that is due around it. Where it has no escape it is one piece,
-    /// as it was read, and so are the comma and the colon that stand beside its quotes.
+    /// Writes the string from `from` up to `to` with all that is due around it. A string without an escape is one
+    /// piece, as it was read, if the bytes around it are what is due.
     #[inline(always)]
     fn write_text<K: Sink>(
         self,
