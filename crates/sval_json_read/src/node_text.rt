@@ -111,6 +111,30 @@ fn write_between<K: Sink>(
     }
 }
 
+/// Does the same where `before` begins with the comma that is due. That is a piece by itself if it is elsewhere, as before
+/// white space.
+#[inline(always)]
+fn write_behind_comma<K: Sink>(
+    before: &[u8],
+    bytes: &[u8],
+    from: usize,
+    to: usize,
+    behind: &[u8],
+    out: &mut K,
+) -> Result<(), SinkError>
+    requires comma { before.now ≡ codes "," ++ drop 1 before.now }
+    requires order { from ≤ to }
+    requires within { to ≤ length bytes.now }
+    ensures { WritesAll result (K.told out.old)
+        (before.now ++ (between from to bytes.now ++ behind.now)) (K.told out.new) }
+{
+    if let Some(piece) = extended(before, bytes, from, to, behind) {
+        return write_all(out, piece);
+    }
+    write_in_place(out, b",")?;
+    write_between(&before[1..], bytes, from, to, behind, out)
+}
+
 impl Place {
     /// Whether a comma is due: before an element or a name, unless it is the first one.
     #[inline(always)]
@@ -178,7 +202,7 @@ impl Place {
             return self.write_word(is_first, b",0", out);
         }
         if self.has_comma(is_first) {
-            return write_between(b",", text.as_bytes(), from, to, b"", out);
+            return write_behind_comma(b",", text.as_bytes(), from, to, b"", out);
         }
         write_all(out, number.as_bytes())
     }
@@ -217,8 +241,8 @@ impl Place {
     {
         match (self, is_first) {
             (Place::Key, true) => write_between(b"\"", bytes, from, to, b"\":", out),
-            (Place::Key, false) => write_between(b",\"", bytes, from, to, b"\":", out),
-            (Place::Item, false) => write_between(b",\"", bytes, from, to, b"\"", out),
+            (Place::Key, false) => write_behind_comma(b",\"", bytes, from, to, b"\":", out),
+            (Place::Item, false) => write_behind_comma(b",\"", bytes, from, to, b"\"", out),
             (Place::Item, true) | (Place::Alone | Place::Value, _) => {
                 write_between(b"\"", bytes, from, to, b"\"", out)
             },
