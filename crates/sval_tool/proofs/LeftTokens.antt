@@ -22,17 +22,17 @@ use Rattle.sval_json_read.proofs.SpelledTrees.{good, text_says, SaysIn, value_sa
 use Rattle.sval_tool.specs.LeftTokens.{walk_after, token_stays, staying, left_tokens, left_calls}
 
 -- a value isn't the name of a member
-abbrev IsNoKey : Place → Type 0
+abbrev pub IsNoKey : Place → Type 0
 IsNoKey Key = ⊥
 IsNoKey _ = ⊤
 
 -- ---- what all of stays, or nothing of
 
-abbrev settled : Bool → Fate
+abbrev pub settled : Bool → Fate
 settled true = Stays
 settled false = LeftOut
 
-abbrev all_if : Bool → List Placed → List Placed
+abbrev pub all_if : Bool → List Placed → List Placed
 all_if true tokens = tokens
 all_if false tokens = []
 
@@ -41,7 +41,7 @@ all_both true first second = refl
 all_both false first second = refl
 
 -- the walk is the same behind the tokens, and all of them stay or none
-abbrev Settles : Bool → Walking → List Placed → Type 0
+abbrev pub Settles : Bool → Walking → List Placed → Type 0
 Settles b walk tokens = (more : List Placed) → left_tokens walk (tokens ++ more) ≡ all_if b tokens ++ left_tokens walk more
 
 settles_both : (b : Bool) (walk : Walking) (first second : List Placed) → Settles b walk first → Settles b walk second → Settles b walk (first ++ second)
@@ -50,7 +50,7 @@ settles_both b walk first second p q more =
     ∙ sym (append_assoc (all_if b first) (all_if b second) (left_tokens walk more)) ∙ ap (λ x. x ++ left_tokens walk more) (sym (all_both b first second))
 
 module _ (rule : Rule) where
-  abbrev at : (fate entry : Fate) → List Reach → Walking
+  abbrev pub at : (fate entry : Fate) → List Reach → Walking
   at fate entry around = record { rule = rule; innermost = record { fate = fate; entry = entry }; around = around }
 
   settles_one : (b : Bool) (walk : Walking) (placed : Placed) → token_stays walk placed ≡ b → walk_after walk placed ≡ walk → Settles b walk (placed ∷ [])
@@ -100,7 +100,7 @@ module _ (rule : Rule) where
   none_settle false walk more = refl
 
   mutual
-    value_settles : {bytes rest : List ℕ} {v : JsonValue} (b : Bool) (fate : Fate) (around : List Reach) (place : Place) → IsNoKey place → (d : IsValue bytes v rest)
+    pub value_settles : {bytes rest : List ℕ} {v : JsonValue} (b : Bool) (fate : Fate) (around : List Reach) (place : Place) → IsNoKey place → (d : IsValue bytes v rest)
         → Settles b (at fate (settled b) around) (tokens_of place d)
     value_settles b fate around place n null = settles_one b (at fate (settled b) around) (placed_at place token.Null) (stays_settled b) refl
     value_settles b fate around place n truth = settles_one b (at fate (settled b) around) (placed_at place (token.Truth true)) (stays_settled b) refl
@@ -170,7 +170,7 @@ module _ (rule : Rule) where
       → SaysIn place tree (document_calls (placed ∷ later)) (document_calls later)
   one_left place tree placed later s = subst (λ calls. SaysIn place tree calls (document_calls later)) (sym (flat_map-append placed_token_calls (placed ∷ []) later)) (s (document_calls later))
 
-  number_left : (paths : List Path) (text : List ℕ) → pruned rule paths (number_tree text) ≡ number_tree text
+  pub number_left : (paths : List Path) (text : List ℕ) → pruned rule paths (number_tree text) ≡ number_tree text
   number_left paths text = go (fits_i64 text)
     where
       go : (b : Bool) → pruned rule paths (cond b (Tree.Int I64 (whole_value text)) (Tree.Tagged number_name (Text text))) ≡ cond b (Tree.Int I64 (whole_value text)) (Tree.Tagged number_name (Text text))

@@ -4,6 +4,7 @@ pub mod LeftJson
 pub mod LeftWritten
 pub mod LaidOut
 pub mod TokenBytes
+pub mod LeftBytes
 pub mod TakenBytes
 pub mod PackedWritten
 pub mod DocumentCauses

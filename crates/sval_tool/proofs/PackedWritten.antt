@@ -1,6 +1,6 @@
 -- What is written of the bytes that were made of a document.
 use Rattle.std.specs.Prelude.{◌≡◌, ℕ, List, [], ◌++◌, Result, Ok, Err, refl}
-use Rattle.std.proofs.Common.{sym, ap, subst, ◌∙◌, inl, inr}
+use Rattle.std.proofs.Common.{sym, ap, subst, ◌∙◌, inl}
 use Rattle.sval_core.specs.Trees.{Tree}
 use Rattle.sval_io.specs.Sinks.{Told, WritesWhole, WritesFront}
 use Rattle.sval_io.specs.Taken.{Taken}

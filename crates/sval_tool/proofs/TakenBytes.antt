@@ -1,23 +1,24 @@
 -- What a sink in memory took of the bytes of tokens.
-use Rattle.std.specs.Prelude.{◌≡◌, ⊤, ℕ, ℤ, false, true, List, [], ◌∷◌, ◌++◌, Result, Ok, Err, refl}
+use Rattle.std.specs.Prelude.{◌≡◌, ℕ, ℤ, Bool, false, true, List, [], ◌∷◌, ◌++◌, Result, Ok, Err, refl}
 use Rattle.std.proofs.Common.{sym, ap, subst, ◌∙◌, append_assoc, append-nil}
-use Rattle.sval_io.specs.Sinks.{Told, WritesWhole}
+use Rattle.sval_io.specs.Sinks.{WritesWhole}
 use Rattle.sval_io.specs.Taken.{Taken, taken_told}
+use Rattle.sval_filter.specs.Walks.{Walking}
 use Rattle.sval_json.specs.Number.{normal}
-use Rattle.sval_json_read.specs.Tokens as token
 use Rattle.sval_json_read.specs.Tokens.{Token, Placed}
-use Rattle.sval_json_read.specs.Trees.{fits_i64, whole_value}
-use Rattle.sval_json_read.specs.TokenMarks.{IsMarkOf, IsIntToken, IsNumberToken, IsTextToken}
+use Rattle.sval_json_read.specs.Trees.{fits_i64}
+use Rattle.sval_json_read.specs.TokenMarks.{IsIntToken, IsTextToken}
 use Rattle.sval_cbor.specs.Packs.{PackRefusal, BadKey, BadNumber, RawJson, NotInteger}
 use Rattle.sval_cbor.specs.Cbor.{string, integer}
 use Rattle.sval_cbor.specs.Streamed.{AnswersDue, refusal_error}
 use Rattle.sval_cbor.specs.Writing.{number_bytes}
 use Rattle.sval_cbor.specs.declared.error.CborError.{CborError}
 use Rattle.sval_cbor.specs.declared.error.CborError.TheVariants as error
-use Rattle.sval_tool.specs.TokenBytes.{MaybeBytes, bytes_then, number_bytes_of, token_bytes, tokens_bytes, TookBytes, TakesDue}
+use Rattle.sval_tool.specs.LeftTokens.{walk_after, token_stays, staying, left_tokens}
+use Rattle.sval_tool.specs.TokenBytes.{MaybeBytes, bytes_then, number_bytes_of, token_bytes, tokens_bytes, passed_bytes, TookBytes, TakesDue}
 use Rattle.sval_tool.specs.declared.packed.Unpacked.{Unpacked}
 use Rattle.sval_tool.specs.declared.packed.Unpacked.TheVariants as unpacked
-use Rattle.sval_tool.proofs.TokenBytes.{then_both, nothing_then}
+use Rattle.sval_tool.proofs.TokenBytes.{then_both, then_nothing}
 
 -- what was written was taken
 pub took : (bytes : List ℕ) (old new : Taken) → WritesWhole (taken_told old) bytes (taken_told new) → TookBytes (Ok bytes) old new
@@ -90,3 +91,45 @@ stops_at first rest new unpacked.NoMemory s t = tt
 
 pub all_put : {begun now : Taken} {all rest : MaybeBytes} → IsPutUpTo begun now all rest → rest ≡ Ok [] → TookBytes all begun now
 all_put {begun} {all = all} s e = record { bytes = s.done; are = s.all_is ∙ ap (bytes_then (Ok s.done)) e ∙ ap Ok (append-nil s.done); took = s.took }
+
+-- ---- and those that stay
+
+pub took_nothing : (at : Taken) → TookBytes (Ok []) at at
+took_nothing at = record { bytes = []; are = refl; took = sym (append-nil at.bytes) }
+
+-- the first token's bytes, if it stays, and those of what stays of the tokens behind it
+first_left : (walk : Walking) (placed : Placed) (tokens : List Placed)
+    → tokens_bytes (left_tokens walk (placed ∷ tokens)) ≡ bytes_then (passed_bytes (token_stays walk placed) placed.token) (tokens_bytes (left_tokens (walk_after walk placed) tokens))
+first_left walk placed tokens = go (token_stays walk placed)
+  where
+    go : (b : Bool) → tokens_bytes (staying b placed (left_tokens (walk_after walk placed) tokens)) ≡ bytes_then (passed_bytes b placed.token) (tokens_bytes (left_tokens (walk_after walk placed) tokens))
+    go true = refl
+    go false = sym (then_nothing (tokens_bytes (left_tokens (walk_after walk placed) tokens)))
+
+-- these bytes were taken, and those of what stays of these tokens are left of all
+pub record IsPutWalked (begun now : Taken) (all : MaybeBytes) (walk : Walking) (tokens : List Placed) : Type 0 where
+  pub put : IsPutUpTo begun now all (tokens_bytes (left_tokens walk tokens))
+
+pub none_walked : (begun : Taken) (walk : Walking) (tokens : List Placed) → IsPutWalked begun begun (tokens_bytes (left_tokens walk tokens)) walk tokens
+none_walked begun walk tokens = record { put = none_put begun (tokens_bytes (left_tokens walk tokens)) }
+
+module _ {begun mid : Taken} {all : MaybeBytes} (walk : Walking) (row tokens : List Placed) (placed : Placed) (s : IsPutWalked begun mid all walk row) (is : row ≡ placed ∷ tokens) where
+  abbrev first : MaybeBytes
+  first = passed_bytes (token_stays walk placed) placed.token
+
+  abbrev later : MaybeBytes
+  later = tokens_bytes (left_tokens (walk_after walk placed) tokens)
+
+  from_here : IsPutUpTo begun mid all (bytes_then first later)
+  from_here =
+      subst (λ (rest : MaybeBytes). IsPutUpTo begun mid all rest) (ap (λ x. tokens_bytes (left_tokens walk x)) is ∙ first_left walk placed tokens) s.put
+
+  pub one_walked : (now : Taken) (next : Walking) → next ≡ walk_after walk placed → TookBytes first mid now → IsPutWalked begun now all next tokens
+  one_walked now next e t =
+      subst (λ (w : Walking). IsPutWalked begun now all w tokens) (sym e) (record { put = one_put {first = first} {rest = later} from_here t })
+
+  pub then_unpacked : (new : Taken) (why : Unpacked) → TakesDue (Err why) first mid new → TakesDue (Err why) all begun new
+  then_unpacked new why t = stops_at first later new why from_here t
+
+pub all_walked : {begun now : Taken} {all : MaybeBytes} (walk : Walking) (tokens : List Placed) → IsPutWalked begun now all walk tokens → tokens ≡ [] → TookBytes all begun now
+all_walked walk tokens s e = all_put s.put (ap (λ x. tokens_bytes (left_tokens walk x)) e)

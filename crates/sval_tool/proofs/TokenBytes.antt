@@ -1,16 +1,15 @@
 -- The bytes of the tokens of a value are the CBOR of what its tree packs to.
-use Rattle.std.specs.Prelude.{◌≡◌, ⊤, ℕ, ℤ, Bool, true, false, cond, List, [], ◌∷◌, ◌++◌, Some, Result, Ok, Err, refl}
+use Rattle.std.specs.Prelude.{◌≡◌, ℕ, Bool, true, false, cond, List, [], ◌∷◌, ◌++◌, Result, Ok, Err, refl}
 use Rattle.std.proofs.Common.{sym, ap, ◌∙◌, append_assoc, append-nil}
 use Rattle.std.proofs.lemmas.Bool.{and_parts}
 use Rattle.sval_label.specs.Calls.{Slot, Head, I64}
 use Rattle.sval_label.specs.Ranges.{is_of_type}
 use Rattle.sval_core.specs.Trees.{Tree, Text, Container, Parts, none, part}
-use Rattle.sval_json.specs.Grammar.{JsonValue, Values, no_values, a_value, Members, no_members, a_member, IsString, IsValue, null, truth, falsehood, number, string, empty_array, array, empty_object, object, AreJsonValues, last_value, more_values, AreMembers, last_member, more_members}
+use Rattle.sval_json.specs.Grammar.{JsonValue, Values, Members, IsString, IsValue, null, truth, falsehood, number, string, empty_array, array, empty_object, object, AreJsonValues, last_value, more_values, AreMembers, last_member, more_members}
 use Rattle.sval_json.specs.Json as shape
 use Rattle.sval_json.specs.Json.{Json, Items, no_item, item, Pairs, no_pair, pair, escaped_key}
 use Rattle.sval_json.specs.Number.{normal}
 use Rattle.sval_json_read.specs.Documents.{IsDocument}
-use Rattle.sval_json_read.specs.SeenValues.{text_in}
 use Rattle.sval_json_read.specs.Tokens as token
 use Rattle.sval_json_read.specs.Tokens.{Place, Alone, Item, Key, Value, Placed, placed_at, between_quotes, tokens_of, item_tokens, pair_tokens}
 use Rattle.sval_json_read.specs.Trees.{has_no_fraction, fits_i64, whole_value, number_name, number_tree, tree_of, items_of, entries_of}

@@ -1,5 +1,5 @@
 -- What writing a tree as CBOR answers, and what it leaves of a sink.
-use Rattle.std.specs.Prelude.{◌≡◌, ◌⊎◌, ℕ, List, Result, Ok, Err}
+use Rattle.std.specs.Prelude.{◌≡◌, ◌⊎◌, Ok, Err}
 use Rattle.sval_core.specs.Trees.{Tree}
 use Rattle.sval_io.specs.Sinks.{Told, WritesWhole, WritesFront}
 use Rattle.sval_io.specs.declared.sink.SinkError.{SinkError}

@@ -57,7 +57,11 @@ fn take_kind(walk: &mut Walk<'_>, kind: TokenKind) -> Result<bool, NoMemory>
 }
 
 /// Takes a token, and tells whether it stays.
-fn take_token(alloc: Global, walk: &mut Walk<'_>, token: &JsonToken<'_>) -> Result<bool, NoMemory>
+pub(crate) fn take_token(
+    alloc: Global,
+    walk: &mut Walk<'_>,
+    token: &JsonToken<'_>,
+) -> Result<bool, NoMemory>
     ensures walk { OnOk result (walk.new ≡ walk_after walk.old token.now) }
     ensures stays { IfOk result (λ stays. stays ≡ token_stays walk.old token.now) }
 {

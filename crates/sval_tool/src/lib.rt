@@ -21,7 +21,7 @@ pub use end::End;
 pub use error::DocumentError;
 pub use inputs::{ConvertError, Shape, convert_all};
 pub use lines::{LinesError, write_lines};
-pub use packed::write_cbor;
+pub use packed::{write_cbor, write_left_cbor};
 pub use switch::{Flag, OPTIONS, OptionRow, Setting, Switch, name_of};
 pub use whole::read_whole;
 pub use words::{Command, Complaint, Input, Options, Output, Stop, read_words};

@@ -1,15 +1,21 @@
 //! Documents as CBOR, token by token.
 
-ghost use Rattle.std.specs.Prelude.{◌≡◌, ℕ, List, true, false, Ok};
+ghost use Rattle.std.specs.Prelude.{◌≡◌, ℕ, List, true, false, Ok, OnOk};
 ghost use Rattle.sval_cbor.specs.Cbor.{string, truth_bytes, integer};
+ghost use Rattle.sval_filter.specs.Pruned.{pruned};
 ghost use Rattle.sval_json.specs.Digits.{is_json_number};
 ghost use Rattle.sval_json_read.specs.Documents.{IsDocument};
 ghost use Rattle.sval_json_read.specs.Trees.{fits_i64, tree_of};
+ghost use Rattle.sval_tool.specs.LeftTokens.{walk_after, token_stays};
 ghost use Rattle.sval_tool.specs.PackedDocuments.{WritesPackedTree};
-ghost use Rattle.sval_tool.specs.TokenBytes.{number_bytes_of, token_bytes, tokens_bytes, TakesDue};
+ghost use Rattle.sval_tool.specs.TokenBytes.{number_bytes_of, token_bytes, tokens_bytes, passed_bytes, left_bytes};
+ghost use Rattle.sval_tool.specs.TokenBytes.{tree_bytes, TakesDue};
 
+use crate::left::take_token;
 use std::alloc::Global;
 use sval_cbor::{CborError, write_i64, write_number, write_text_string};
+use sval_core::NoMemory;
+use sval_filter::{Paths, Rule, Walk};
 use sval_io::{Sink, VecSink, write_all, write_in_place};
 use sval_json_read::{JsonDoc, JsonMark, JsonText, JsonToken};
 
@@ -20,6 +26,17 @@ pub(crate) enum Unpacked {
     NotInteger,
     /// Memory was wanting.
     NoMemory,
+}
+
+impl From<NoMemory> for Unpacked {
+    ghost use Rattle.std.specs.Prelude.{◌≡◌};
+    ghost use Rattle.sval_tool.specs.declared.packed.Unpacked.TheVariants.{NoMemory};
+
+    ghost from_gives = { λ _ why. why ≡ NoMemory };
+
+    fn from(_cause: NoMemory) -> Unpacked {
+        Unpacked::NoMemory
+    }
 }
 
 /// The byte of a truth value (RFC 8949, section 3.3).
@@ -117,6 +134,97 @@ fn put_whole(alloc: Global, doc: &JsonDoc<'_>, out: &mut VecSink) -> Result<(), 
     Ok(())
 }
 
+/// Takes a token, and puts it, if it stays.
+fn put_passed(
+    alloc: Global,
+    walk: &mut Walk<'_>,
+    token: &JsonToken<'_>,
+    out: &mut VecSink,
+) -> Result<(), Unpacked>
+    ensures walk { OnOk result (walk.new ≡ walk_after walk.old token.now) }
+    ensures puts { let due = passed_bytes (token_stays walk.old token.now) token.now.token in
+        TakesDue result due out.old out.new }
+{
+    if !take_token(alloc, walk, token)? {
+        return Ok(());
+    }
+    put_token(alloc, token, out)
+}
+
+/// Puts the tokens of a document that a rule and paths leave, by a walk over all of them.
+fn put_by_walk(
+    alloc: Global,
+    rule: Rule,
+    paths: &Paths,
+    doc: &JsonDoc<'_>,
+    out: &mut VecSink,
+) -> Result<(), Unpacked>
+    ensures { TakesDue result (left_bytes rule paths.now doc.now) out.old out.new }
+{
+    let mut walk = Walk::new(alloc, rule, paths);
+    let mut tokens = doc.tokens();
+    while let Some(token) = tokens.next() {
+        put_passed(alloc, &mut walk, &token, out)?;
+    }
+    Ok(())
+}
+
+/// Puts what a rule and paths leave of a document.
+fn put_left(
+    alloc: Global,
+    rule: Rule,
+    paths: &Paths,
+    doc: &JsonDoc<'_>,
+    out: &mut VecSink,
+) -> Result<(), Unpacked>
+    ensures { (input : List ℕ) (read : IsDocument input doc.now)
+        → TakesDue result (tree_bytes (pruned rule paths.now (tree_of read.value))) out.old out.new }
+{
+    if rule == Rule::Drop && paths.as_slice().is_empty() {
+        return put_whole(alloc, doc, out);
+    }
+    put_by_walk(alloc, rule, paths, doc, out)
+}
+
+/// Writes what a rule and paths leave of a document to a sink as CBOR (RFC 8949).
+///
+/// On `Ok` it appended the bytes of what the tree of the document's value, without what is left out, packs to. It goes
+/// over the tokens once. Their bytes are made in memory first, and then written.
+///
+/// ```
+/// let mut paths = Paths::new(alloc);
+/// paths.push_word("a")?;
+/// let doc = JsonDoc::read_str(alloc, "{\"a\": 1.5, \"b\": 1}")?;
+/// let mut out = VecSink::new(alloc);
+/// write_left_cbor(alloc, Rule::Drop, &paths, &doc, &mut out)?;
+/// assert_eq!(rt; out.as_slice(), b"\xbf\x61b\x01\xff".as_slice());
+/// ```
+///
+/// # Errors
+///
+/// - [`CborError::NotInteger`] comes exactly where a number that is left has a fraction, an exponent or more than 128
+///   bits, unless memory was wanting. Nothing was written.
+/// - [`CborError::Write`] comes where the sink failed, after a first part of the bytes.
+/// - [`CborError::NoMemory`] comes where memory was wanting for the bytes, and nothing was written, or from the sink,
+///   after a first part of them.
+pub fn write_left_cbor<K: Sink>(
+    alloc: Global,
+    rule: Rule,
+    paths: &Paths,
+    doc: &JsonDoc<'_>,
+    out: &mut K,
+) -> Result<(), CborError>
+    ensures { (input : List ℕ) (read : IsDocument input doc.now)
+        → WritesPackedTree K.told (pruned rule paths.now (tree_of read.value)) result out.old out.new }
+{
+    let mut bytes = VecSink::new(alloc);
+    match put_left(alloc, rule, paths, doc, &mut bytes) {
+        Ok(()) => Ok(write_all(out, bytes.as_slice())?),
+        Err(Unpacked::NotInteger) => Err(CborError::NotInteger),
+        Err(Unpacked::NoMemory) => Err(CborError::NoMemory),
+    }
+}
+
 /// Writes a document to a sink as CBOR (RFC 8949).
 ///
 /// On `Ok` it appended what [`stream_to_cbor`](sval_cbor::stream_to_cbor) writes of the document: the bytes of what the
@@ -140,10 +248,5 @@ pub fn write_cbor<K: Sink>(alloc: Global, doc: &JsonDoc<'_>, out: &mut K) -> Res
     ensures { (input : List ℕ) (read : IsDocument input doc.now)
         → WritesPackedTree K.told (tree_of read.value) result out.old out.new }
 {
-    let mut bytes = VecSink::new(alloc);
-    match put_whole(alloc, doc, &mut bytes) {
-        Ok(()) => Ok(write_all(out, bytes.as_slice())?),
-        Err(Unpacked::NotInteger) => Err(CborError::NotInteger),
-        Err(Unpacked::NoMemory) => Err(CborError::NoMemory),
-    }
+    write_left_cbor(alloc, Rule::Drop, &Paths::new(alloc), doc, out)
 }

@@ -1,30 +1,17 @@
-use Rattle.std.proofs.Common.{◌≡◌, ℕ, List, [], ap, subst, refl}
-use Rattle.std.proofs.lemmas.Result.{err_from_is_err_and}
-use Rattle.sval_io.specs.Sinks.{WritesWhole, WritesFront}
-use Rattle.sval_io.specs.Taken.{Taken}
+use Rattle.std.specs.Prelude.{List}
+use Rattle.std.proofs.Common.{subst}
+use Rattle.sval_core.specs.Trees.{Tree}
+use Rattle.sval_filter.specs.Paths.{Path}
+use Rattle.sval_filter.specs.Pruned.{pruned}
+use Rattle.sval_filter.specs.declared.paths.Rule.TheVariants.{Drop}
+use Rattle.sval_filter.proofs.NothingDropped.{drop_nothing}
 use Rattle.sval_json_read.specs.Trees.{tree_of}
-use Rattle.sval_tool.specs.TokenBytes.{tokens_bytes}
-use Rattle.sval_tool.proofs.TokenBytes.{document_bytes}
-use Rattle.sval_tool.proofs.PackedWritten.{not_packed, whole_written, part_written}
+use Rattle.sval_tool.specs.PackedDocuments.{WritesPackedTree}
 use Rattle.sval_tool.proofs.packed.write_cbor.Goals as goal
 
-pub returns-in-Ok : goal.returns-in-Ok
-returns-in-Ok g c = λ input read.
+pub returns : goal.returns
+returns g c = λ input read.
     let told = g.K.Sink.told in
-    let empty : c.new-bytes.result.bytes ≡ [] = ap (λ (t : Taken). t.bytes) c.new-bytes.ensures in
-    let whole = subst (λ (bytes : List ℕ). WritesWhole (told c.args.out.now) bytes (told c.write_all.new.sink)) c.as_slice.ensures c.in_ok-write_all-in-Ok.ensures.writes in
-    whole_written (tree_of read.value) (tokens_bytes c.args.doc.now) c.new-bytes.result c.put_whole.new.out (document_bytes input c.args.doc.now read) c.in-Ok.ensures empty (told c.args.out.now) (told c.write_all.new.sink) whole
-
-pub returns-in_err-write_all-in-Ok : goal.returns-in_err-write_all-in-Ok
-returns-in_err-write_all-in-Ok g c = λ input read.
-    let told = g.K.Sink.told in
-    let why = c.in_err-write_all-in-Ok.field-0.0 in
-    let empty : c.new-bytes.result.bytes ≡ [] = ap (λ (t : Taken). t.bytes) c.new-bytes.ensures in
-    let part = subst (λ (bytes : List ℕ). WritesFront why (told c.args.out.now) bytes (told c.write_all.new.sink)) c.as_slice.ensures c.in_err-write_all-in-Ok.ensures.writes in
-    let p = err_from_is_err_and c.from_residual.result c.from_residual.ensures.1 in
-    rw (p.1, p.2) (part_written (tree_of read.value) (tokens_bytes c.args.doc.now) c.new-bytes.result c.put_whole.new.out (document_bytes input c.args.doc.now read) c.in-Ok.ensures empty told why c.args.out.now c.write_all.new.sink part)
-
-pub returns-in-Err-NotInteger : goal.returns-in-Err-NotInteger
-returns-in-Err-NotInteger g c = λ input read.
-    let refused = rw c.in-Err-NotInteger.field-0-is at c.in-Err-NotInteger.ensures in
-    (not_packed (tree_of read.value) (tokens_bytes c.args.doc.now) (document_bytes input c.args.doc.now read) refused, refl)
+    let tree = tree_of read.value in
+    let left = subst (λ (paths : List Path). WritesPackedTree told (pruned Drop paths tree) c.write_left_cbor-2.result c.args.out.now c.write_left_cbor-2.new.out) c.new.ensures (c.write_left_cbor-2.ensures input read) in
+    subst (λ (tree : Tree). WritesPackedTree told tree c.write_left_cbor-2.result c.args.out.now c.write_left_cbor-2.new.out) (drop_nothing tree) left
