@@ -1,5 +1,5 @@
 -- Inputs that were converted, one after the other.
-use Rattle.std.specs.Prelude.{◌≡◌, ℕ, List, [], ◌∷◌, ◌++◌, drop, length, Option, Some, None, Result, Ok, Err, IfSome, refl}
+use Rattle.std.specs.Prelude.{◌≡◌, ℕ, List, [], ◌∷◌, ◌++◌, drop, length, Option, Some, None, Ok, Err, IfSome, refl}
 use Rattle.std.proofs.Common.{sym, ap, subst, ◌∙◌, arith, append_assoc, append-nil}
 use Rattle.std.proofs.lemmas.List.{length-drop}
 use Rattle.sval_io.specs.Sinks.{Told}
@@ -10,7 +10,7 @@ use Rattle.sval_lines.specs.declared.error.LineError.{LineError}
 use Rattle.sval_lines.specs.declared.error.LineError.TheVariants as line
 use Rattle.sval_tool.specs.Conversions.{IsFedDue, WritesDue, IsDocumentCause}
 use Rattle.sval_tool.specs.ConvertedLines.{ConvertsLines, HasLinesCause, no_line}
-use Rattle.sval_tool.specs.ConvertedInputs.{IsInputDue, AreInputsDue, no_input, input_more, TellInputs, StopsAtDocument, IsInputCause, ConvertsInput, IsReadCause, StopsReadingAt, convert_error_of, StopsAtInput, StopsAtSource}
+use Rattle.sval_tool.specs.ConvertedInputs.{IsInputDue, AreInputsDue, no_input, input_more, TellInputs, StopsAtDocument, ConvertsInput, IsReadCause, StopsReadingAt, convert_error_of, StopsAtInput, StopsAtSource}
 use Rattle.sval_tool.specs.declared.convert.Conversion.{Conversion}
 use Rattle.sval_tool.specs.declared.error.DocumentError.{DocumentError}
 use Rattle.sval_tool.specs.declared.inputs.Shape.{Shape}
@@ -34,7 +34,7 @@ module _ {K : Type 0} (told : K → Told) (c : Conversion) where
   document_done (Some all) rest bytes old new t w = subst (λ (all : List ℕ). WritesDue (IsFedDue c all) (told old) (told new)) t.all w
 
   pub document_stopped : (left rest : Option (List ℕ)) (bytes bad : List ℕ) (why : DocumentError) (old new : K) → bad ≡ bytes → IfSome left (λ all. TakesAll all bytes rest)
-      → IsDocumentCause told (IsFedDue c bytes) bytes why old new → IfSome left (λ bytes. ConvertsInput told c shape.Document bytes (Err (convert.Document why)) bad old new)
+      → IsDocumentCause told c (IsFedDue c bytes) bytes why old new → IfSome left (λ bytes. ConvertsInput told c shape.Document bytes (Err (convert.Document why)) bad old new)
   document_stopped None rest bytes bad why old new is t cause = tt
   document_stopped (Some all) rest bytes bad why old new is t cause =
       subst (λ (all : List ℕ). StopsAtDocument told c all bad why old new) t.all (record { is = is; cause = cause })

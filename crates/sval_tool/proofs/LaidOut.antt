@@ -1,8 +1,7 @@
 -- From the JSON of what is left of a document to its layout.
-use Rattle.std.specs.Prelude.{◌≡◌, ℕ, List, [], ◌++◌, Some, Result, Ok, Err, refl}
-use Rattle.std.proofs.Common.{sym, ap, subst, ◌∙◌, arith, inl, inr}
-use Rattle.sval_core.specs.Law.{Rose}
-use Rattle.sval_io.specs.Sinks.{Told, WritesAll, WritesWhole, WritesFront, IsCounted}
+use Rattle.std.specs.Prelude.{◌≡◌, ℕ, List, [], ◌++◌, Result, Ok, Err, refl}
+use Rattle.std.proofs.Common.{ap, subst, ◌∙◌, arith, inl, inr}
+use Rattle.sval_io.specs.Sinks.{Told, WritesAll}
 use Rattle.sval_io.specs.Taken.{Taken, taken_told}
 use Rattle.sval_io.specs.declared.sink.SinkError.{SinkError}
 use Rattle.sval_io.specs.declared.sink.SinkError.TheVariants as sink

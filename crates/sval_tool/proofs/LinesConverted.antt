@@ -42,7 +42,7 @@ module _ {K : Type 0} (told : K → Told) (c : Conversion) where
   one_done (Some all) left line old new t w = record { line = line; taken = t; writes = w }
 
   pub one_stopped : (bytes left : Option (List ℕ)) (line : List ℕ) (number : ℕ) (why : DocumentError) (old new : K) → IfSome bytes (λ all. TakesOrEnds true all line left)
-      → IsDocumentCause told (IsLineDue c line) line why old new → IfSome bytes (λ all. ConvertsOne told c all (Err (Line number why)) line left old new)
+      → IsDocumentCause told c (IsLineDue c line) line why old new → IfSome bytes (λ all. ConvertsOne told c all (Err (Line number why)) line left old new)
   one_stopped None left line number why old new t cause = tt
   one_stopped (Some all) left line number why old new t cause = record { taken = t; cause = cause }
 

@@ -1,11 +1,16 @@
 -- What is due of a document, and what writing it leaves of a sink.
-use Rattle.std.specs.Prelude.{◌≡◌, ◌⊎◌, ℕ, List, [], ◌∷◌, ◌++◌, Result, Ok, Err, IsUtf8}
+use Rattle.std.specs.Prelude.{◌≡◌, ◌⊎◌, ⊤, ℕ, List, [], ◌∷◌, ◌++◌, Result, Ok, Err, IsUtf8}
 use Rattle.std.specs.Str.{IsValidUpTo}
 use Rattle.sval_core.specs.Trees.{Tree}
 use Rattle.sval_io.specs.Sinks.{Told, IsSteady, AppendsFront, WritesWhole, WritesFront}
 use Rattle.sval_io.specs.declared.sink.SinkError.{SinkError}
 use Rattle.sval_io.specs.declared.sink.SinkError.TheVariants as sink
 use Rattle.sval_json.specs.Grammar.{JsonValue, Denotes}
+use Rattle.sval_json.specs.Json.{Json}
+use Rattle.sval_cbor.specs.Packs.{NotInteger, pack_of}
+use Rattle.sval_cbor.specs.Cbor.{cbor}
+use Rattle.sval_cbor.specs.declared.error.CborError.{CborError}
+use Rattle.sval_cbor.specs.declared.error.CborError.TheVariants as packing
 use Rattle.sval_filter.specs.Paths.{Path}
 use Rattle.sval_filter.specs.declared.paths.Rule.{Rule}
 use Rattle.sval_filter.specs.Pruned.{pruned}
@@ -30,10 +35,17 @@ pub record IsLaidOutJson (text : List ℕ) (tree : Tree) : Type 0 where
   pub is : IsJson json tree
   pub laid : text ≡ pretty json
 
+-- the bytes of what a tree packs to
+pub record IsPackedCbor (bytes : List ℕ) (tree : Tree) : Type 0 where
+  pub json : Json
+  pub packs : pack_of tree ≡ Ok json
+  pub same : bytes ≡ cbor json
+
 -- the text of a tree, as the target says
 abbrev pub IsTextOf : Target → List ℕ → Tree → Type 0
 IsTextOf target.Json text tree = IsJson text tree
 IsTextOf target.Pretty text tree = IsLaidOutJson text tree
+IsTextOf target.Cbor text tree = IsPackedCbor text tree
 
 -- the bytes denote a value, and this is the text of what the rule and the paths leave of its tree
 pub record IsTextLeft (rule : Rule) (paths : List Path) (aim : Target) (bytes text : List ℕ) : Type 0 where
@@ -45,9 +57,15 @@ pub record IsTextLeft (rule : Rule) (paths : List Path) (aim : Target) (bytes te
 abbrev pub IsDocumentDue : Conversion → List ℕ → List ℕ → Type 0
 IsDocumentDue c bytes text = IsTextLeft c.rule c.paths.now c.target bytes text
 
--- and with a line feed behind it
+-- what is written behind a document: a line feed behind JSON, and nothing behind CBOR, whose items need none (RFC 8742)
+abbrev pub ending_of : Target → List ℕ
+ending_of target.Json = 10 ∷ []
+ending_of target.Pretty = 10 ∷ []
+ending_of target.Cbor = []
+
+-- and with what is written behind it
 abbrev pub IsFedDue : Conversion → List ℕ → List ℕ → Type 0
-IsFedDue c bytes text = (document : List ℕ) × IsDocumentDue c bytes document × (text ≡ document ++ (10 ∷ []))
+IsFedDue c bytes text = (document : List ℕ) × IsDocumentDue c bytes document × (text ≡ document ++ ending_of c.target)
 
 -- ---- what writing it leaves of a sink
 
@@ -90,13 +108,33 @@ pub record LacksMemoryToKeep {K : Type 0} (bytes : List ℕ) (old new : K) : Typ
   pub keeps : KeepsSome bytes
   pub same : new ≡ old
 
+-- memory was wanting for the CBOR of a document that was read, and nothing was written
+pub record LacksMemoryToPack {K : Type 0} (c : Conversion) (bytes : List ℕ) (old new : K) : Type 0 where
+  pub to_cbor : c.target ≡ target.Cbor
+  pub value : JsonValue
+  pub denotes : Denotes bytes value
+  pub same : new ≡ old
+
+-- the bytes denote a value, and what is left of its tree has no CBOR: a number isn't whole, or has more than 128 bits
+pub record HasNoCbor (c : Conversion) (bytes : List ℕ) : Type 0 where
+  pub to_cbor : c.target ≡ target.Cbor
+  pub value : JsonValue
+  pub denotes : Denotes bytes value
+  pub refused : pack_of (pruned c.rule c.paths.now (tree_of value)) ≡ Err NotInteger
+
 -- why what is due of a document wasn't written, and what is left of the sink
-abbrev pub IsDocumentCause : {K : Type 0} → (K → Told) → (List ℕ → Type 0) → List ℕ → DocumentError → K → K → Type 0
-IsDocumentCause told Due bytes (document.NotUtf8 at) old new = (IsUtf8 bytes → ⊥) × IsValidUpTo bytes at × (new ≡ old)
-IsDocumentCause told Due bytes (document.BadJson at) old new = IsBadJson bytes at × (new ≡ old)
-IsDocumentCause told Due bytes document.WriteFault old new = StopsInDue sink.Failed Due (told old) (told new)
-IsDocumentCause told Due bytes document.NoMemory old new =
-    LacksMemoryToKeep bytes old new ⊎ StopsInDue sink.NoMemory Due (told old) (told new)
+abbrev pub IsDocumentCause : {K : Type 0} → (K → Told) → Conversion → (List ℕ → Type 0) → List ℕ → DocumentError → K → K → Type 0
+IsDocumentCause told c Due bytes (document.NotUtf8 at) old new = (IsUtf8 bytes → ⊥) × IsValidUpTo bytes at × (new ≡ old)
+IsDocumentCause told c Due bytes (document.BadJson at) old new = IsBadJson bytes at × (new ≡ old)
+IsDocumentCause told c Due bytes document.NotInteger old new = HasNoCbor c bytes × (new ≡ old)
+IsDocumentCause told c Due bytes document.WriteFault old new = StopsInDue sink.Failed Due (told old) (told new)
+IsDocumentCause told c Due bytes document.NoMemory old new =
+    LacksMemoryToKeep bytes old new ⊎ (LacksMemoryToPack c bytes old new ⊎ StopsInDue sink.NoMemory Due (told old) (told new))
+
+-- what writing what is due of a document that was read answers
+abbrev pub WritesAsked : {K : Type 0} → (K → Told) → Conversion → List ℕ → Result (Unit {0}) DocumentError → K → K → Type 0
+WritesAsked told c bytes (Ok done) old new = WritesDue (IsDocumentDue c bytes) (told old) (told new)
+WritesAsked told c bytes (Err why) old new = IsDocumentCause told c (IsDocumentDue c bytes) bytes why old new
 
 -- ---- errors of what is below
 
@@ -108,3 +146,15 @@ error_of_read read.NoMemory = document.NoMemory
 abbrev pub error_of_sink : SinkError → DocumentError
 error_of_sink sink.Failed = document.WriteFault
 error_of_sink sink.NoMemory = document.NoMemory
+
+-- what packing a document that was read may answer
+abbrev pub IsPackError : CborError → Type 0
+IsPackError packing.NotInteger = ⊤
+IsPackError packing.Write = ⊤
+IsPackError packing.NoMemory = ⊤
+IsPackError _ = ⊥
+
+abbrev pub error_of_pack : CborError → DocumentError
+error_of_pack packing.NotInteger = document.NotInteger
+error_of_pack packing.Write = document.WriteFault
+error_of_pack _ = document.NoMemory

@@ -16,7 +16,7 @@ use Rattle.sval_tool.specs.declared.lines.LinesError.TheVariants as lines
 
 -- ---- what is due
 
--- of one document its text and a line feed, and of lines what is due of each
+-- of one document its text and what is written behind it, and of lines what is due of each
 abbrev pub IsInputDue : Conversion → Shape → List ℕ → List ℕ → Type 0
 IsInputDue c shape.Document bytes text = IsFedDue c bytes text
 IsInputDue c shape.Lines bytes text = (count : ℕ) × AreDue c bytes text [] count
@@ -36,7 +36,7 @@ TellInputs told sources inputs = map (λ source. (told source).left) sources ≡
 -- these bytes, a document, weren't converted, and here they are
 pub record StopsAtDocument {K : Type 0} (told : K → Told) (c : Conversion) (bytes bad : List ℕ) (why : DocumentError) (old new : K) : Type 0 where
   pub is : bad ≡ bytes
-  pub cause : IsDocumentCause told (IsFedDue c bytes) bytes why old new
+  pub cause : IsDocumentCause told c (IsFedDue c bytes) bytes why old new
 
 -- why an input wasn't converted: a document wrote nothing if it wasn't read, and of lines what is due of those before was written;
 -- the bytes of the document or of the line that is bad are these

@@ -12,7 +12,7 @@ use Rattle.sval_tool.specs.declared.lines.LinesError.TheVariants.{Unread, Line}
 
 -- ---- what is due
 
--- of an empty line nothing, and else the text that is due of its document, and a line feed
+-- of an empty line nothing, and else the text that is due of its document, and what is written behind it
 abbrev pub IsLineDue : Conversion → List ℕ → List ℕ → Type 0
 IsLineDue c [] text = text ≡ []
 IsLineDue c (byte ∷ line) text = IsFedDue c (byte ∷ line) text
@@ -34,7 +34,7 @@ pub record ConvertsLine (c : Conversion) (bytes : List ℕ) (left : Option (List
 -- this line was taken, and what is due of it wasn't written
 pub record StopsAtLine {K : Type 0} (told : K → Told) (c : Conversion) (bytes line : List ℕ) (why : DocumentError) (left : Option (List ℕ)) (old new : K) : Type 0 where
   pub taken : TakesLine bytes line left
-  pub cause : IsDocumentCause told (IsLineDue c line) line why old new
+  pub cause : IsDocumentCause told c (IsLineDue c line) line why old new
 
 -- part of a line was taken, and nothing was written
 pub record StopsBefore {K : Type 0} (bytes : List ℕ) (left : Option (List ℕ)) (old new : K) : Type 0 where

@@ -13,6 +13,7 @@ use Rattle.sval_tool.specs.declared.lines.LinesError.TheVariants.{Unread, Line}
 abbrev pub document_error_text : DocumentError → List ℕ
 document_error_text (document.NotUtf8 at) = codes "invalid UTF-8 at byte " ++ decimal at
 document_error_text (document.BadJson at) = codes "invalid JSON at byte " ++ decimal at
+document_error_text document.NotInteger = codes "attempt to write a number that is no whole number of 128 bits"
 document_error_text document.WriteFault = codes "write fault"
 document_error_text document.NoMemory = codes "out of memory"
 

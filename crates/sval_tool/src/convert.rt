@@ -2,13 +2,17 @@
 
 ghost use Rattle.std.specs.Prelude.{◌≡◌, ℕ, List, [], OnOk, IfErr};
 ghost use Rattle.sval_filter.specs.declared.paths.Rule.TheVariants as by;
+ghost use Rattle.sval_io.specs.Sinks.{WritesAll};
 ghost use Rattle.sval_json_read.specs.Documents.{IsDocument};
 ghost use Rattle.sval_tool.specs.Passing.{IsSinkStop, sink_error_of};
-ghost use Rattle.sval_tool.specs.Conversions.{WritesLeft, WritesLeftJson, IsDocumentDue, IsFedDue, WritesDue, IsDocumentCause};
+ghost use Rattle.sval_tool.specs.Conversions.{WritesLeft, WritesLeftJson, WritesAsked, IsPackError, error_of_pack};
+ghost use Rattle.sval_tool.specs.Conversions.{IsDocumentDue, IsFedDue, WritesDue, IsDocumentCause, ending_of};
 
 use crate::error::DocumentError;
 use crate::left::{Halt, stream_left};
+use crate::packed::write_left_cbor;
 use std::alloc::Global;
+use sval_cbor::CborError;
 use sval_filter::{Paths, Rule};
 use sval_io::{Sink, SinkError, VecSink, write_all};
 use sval_json::{ErrorKind, JsonWriter, Variants};
@@ -22,6 +26,8 @@ pub enum Target {
     Json,
     /// JSON with a line for each element and pair.
     Pretty,
+    /// CBOR (RFC 8949).
+    Cbor,
 }
 
 /// What is made of a document: what a rule and paths leave of its value is written as the target says.
@@ -102,16 +108,29 @@ fn write_laid_out<K: Sink>(
     }
 }
 
+/// Why a document wasn't packed.
+fn of_pack(why: CborError) -> DocumentError
+    requires { IsPackError why }
+    ensures { result ≡ error_of_pack why }
+{
+    match why {
+        CborError::NotInteger => DocumentError::NotInteger,
+        CborError::Write => DocumentError::WriteFault,
+        CborError::NoMemory => DocumentError::NoMemory,
+        _ => unreachable!("what is left of a document is one value, and its keys are strings"),
+    }
+}
+
 /// Writes what is due of a document that was read.
 fn write_asked<K: Sink>(
     alloc: Global,
     conversion: &Conversion<'_>,
     doc: &JsonDoc<'_>,
     out: &mut K,
-) -> Result<(), SinkError>
+) -> Result<(), DocumentError>
     requires { (input : List ℕ) × IsDocument input doc.now }
-    ensures { (input : List ℕ) → IsDocument input doc.now → WritesLeft conversion.now.rule
-        conversion.now.paths.now conversion.now.target input result (K.told out.old) (K.told out.new) }
+    ensures { (input : List ℕ) → IsDocument input doc.now
+        → WritesAsked K.told conversion.now input result out.old out.new }
 {
     let Conversion {
         rule,
@@ -119,15 +138,20 @@ fn write_asked<K: Sink>(
         target,
     } = *conversion;
     match target {
-        Target::Json => write_left(alloc, rule, paths, doc, out),
-        Target::Pretty => write_laid_out(alloc, rule, paths, doc, out),
+        Target::Json => Ok(write_left(alloc, rule, paths, doc, out)?),
+        Target::Pretty => Ok(write_laid_out(alloc, rule, paths, doc, out)?),
+        Target::Cbor => match write_left_cbor(alloc, rule, paths, doc, out) {
+            Ok(()) => Ok(()),
+            Err(why) => Err(of_pack(why)),
+        },
     }
 }
 
 /// Converts one document, and writes it to a sink.
 ///
 /// The bytes are read as JSON (RFC 8259). What the rule and the paths leave of the value is written as it is found, so
-/// nothing of it is captured: memory is taken for the document's nodes and for what is open.
+/// nothing of it is captured: memory is taken for the document's nodes and for what is open. The bytes of CBOR and the
+/// JSON that is laid out are made in memory first.
 ///
 /// ```
 /// let mut paths = Paths::new(alloc);
@@ -142,9 +166,10 @@ fn write_asked<K: Sink>(
 /// # Errors
 ///
 /// [`DocumentError::NotUtf8`] and [`DocumentError::BadJson`] come only where the bytes denote no value, and nothing was
-/// written. After [`DocumentError::WriteFault`] the sink's count of faults rose, and it took a first part of what is
-/// due. [`DocumentError::NoMemory`] comes where the document couldn't be kept, and nothing was written, or after a first
-/// part of what is due.
+/// written. [`DocumentError::NotInteger`] comes only for CBOR, where a number that is left has a fraction, an exponent
+/// or more than 128 bits, and nothing was written. After [`DocumentError::WriteFault`] the sink's count of faults rose,
+/// and it took a first part of what is due. [`DocumentError::NoMemory`] comes where the document or its CBOR couldn't be
+/// kept, and nothing was written, or after a first part of what is due.
 pub fn write_document<K: Sink>(
     alloc: Global,
     conversion: &Conversion<'_>,
@@ -152,14 +177,24 @@ pub fn write_document<K: Sink>(
     out: &mut K,
 ) -> Result<(), DocumentError>
     ensures ok { OnOk result (WritesDue (IsDocumentDue conversion.now bytes.now) (K.told out.old) (K.told out.new)) }
-    ensures err { IfErr result (λ why.
-        IsDocumentCause K.told (IsDocumentDue conversion.now bytes.now) bytes.now why out.old out.new) }
+    ensures err { let c = conversion.now in IfErr result (λ why.
+        IsDocumentCause K.told c (IsDocumentDue c bytes.now) bytes.now why out.old out.new) }
 {
     let doc = JsonDoc::read(alloc, bytes)?;
-    Ok(write_asked(alloc, conversion, &doc, out)?)
+    write_asked(alloc, conversion, &doc, out)
 }
 
-/// Converts one document, and writes a line feed behind it.
+/// Writes the end of a document: a line feed behind JSON, and nothing behind CBOR.
+fn write_ending<K: Sink>(target: Target, out: &mut K) -> Result<(), SinkError>
+    ensures { WritesAll result (K.told out.old) (ending_of target) (K.told out.new) }
+{
+    match target {
+        Target::Json | Target::Pretty => write_all(out, b"\n"),
+        Target::Cbor => Ok(()),
+    }
+}
+
+/// Converts one document, and writes a line feed behind it, unless it is CBOR.
 pub(crate) fn write_fed<K: Sink>(
     alloc: Global,
     conversion: &Conversion<'_>,
@@ -167,9 +202,9 @@ pub(crate) fn write_fed<K: Sink>(
     out: &mut K,
 ) -> Result<(), DocumentError>
     ensures ok { OnOk result (WritesDue (IsFedDue conversion.now bytes.now) (K.told out.old) (K.told out.new)) }
-    ensures err { IfErr result (λ why.
-        IsDocumentCause K.told (IsFedDue conversion.now bytes.now) bytes.now why out.old out.new) }
+    ensures err { let c = conversion.now in IfErr result (λ why.
+        IsDocumentCause K.told c (IsFedDue c bytes.now) bytes.now why out.old out.new) }
 {
     write_document(alloc, conversion, bytes, out)?;
-    Ok(write_all(out, b"\n")?)
+    Ok(write_ending(conversion.target, out)?)
 }

@@ -14,6 +14,8 @@ pub enum DocumentError {
     /// Its bytes denote no value. `at` is the offset of the first byte with which no valid JSON text could go on, or
     /// the length where the text ends too early.
     BadJson { at: u64 },
+    /// A number that is left has no CBOR: it isn't whole, or has more than 128 bits.
+    NotInteger,
     /// The sink failed.
     WriteFault,
     /// Memory was wanting.
@@ -30,6 +32,9 @@ impl fmt::Display for DocumentError {
         match *self {
             DocumentError::NotUtf8 { at } => write!(f, "invalid UTF-8 at byte {at}"),
             DocumentError::BadJson { at } => write!(f, "invalid JSON at byte {at}"),
+            DocumentError::NotInteger => {
+                f.write_str("attempt to write a number that is no whole number of 128 bits")
+            }
             DocumentError::WriteFault => f.write_str("write fault"),
             DocumentError::NoMemory => f.write_str("out of memory"),
         }

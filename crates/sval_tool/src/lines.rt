@@ -51,7 +51,7 @@ impl From<LineError> for LinesError {
     }
 }
 
-/// Writes what is due of a line: of an empty one nothing, and else its document and a line feed.
+/// Writes what is due of a line: of an empty one nothing, and else its document, with a line feed behind JSON.
 fn write_line<K: Sink>(
     alloc: Global,
     conversion: &Conversion<'_>,
@@ -59,8 +59,8 @@ fn write_line<K: Sink>(
     out: &mut K,
 ) -> Result<(), DocumentError>
     ensures ok { OnOk result (WritesDue (IsLineDue conversion.now line.now) (K.told out.old) (K.told out.new)) }
-    ensures err { IfErr result (λ why.
-        IsDocumentCause K.told (IsLineDue conversion.now line.now) line.now why out.old out.new) }
+    ensures err { let c = conversion.now in IfErr result (λ why.
+        IsDocumentCause K.told c (IsLineDue c line.now) line.now why out.old out.new) }
 {
     if line.is_empty() {
         return Ok(());
@@ -100,7 +100,7 @@ fn convert_line<I: Source + Drop, K: Sink>(
     }
 }
 
-/// Converts the document in each line, and writes a line feed behind each.
+/// Converts the document in each line, and writes a line feed behind each that is JSON.
 ///
 /// An empty line is passed over. The last line may have no line feed. At most one line and its document are kept.
 ///

@@ -22,7 +22,7 @@ returns-in-Ok-clause-text g c =
 pub returns-clause-text : goal.returns-clause-text
 returns-clause-text g c =
     document_stopped g.K.Sink.told c.args.conversion.now (g.I.Source.told c.args.source).left (g.I.Source.told c.read_whole.new.source).left c.in_ok-bytes.bytes.items _ c.in-Err.why c.args.out.now c.write_fed.new.out
-    refl c.in_ok-bytes.ensures.ok.taken (subst (λ (bytes : List ℕ). IsDocumentCause g.K.Sink.told (IsFedDue c.args.conversion.now bytes) bytes c.in-Err.why c.args.out.now c.write_fed.new.out) c.as_slice.ensures.value c.in-Err.ensures.err)
+    refl c.in_ok-bytes.ensures.ok.taken (subst (λ (bytes : List ℕ). IsDocumentCause g.K.Sink.told c.args.conversion.now (IsFedDue c.args.conversion.now bytes) bytes c.in-Err.why c.args.out.now c.write_fed.new.out) c.as_slice.ensures.value c.in-Err.ensures.err)
 
 pub returns-clause-err : goal.returns-clause-err
 returns-clause-err g c = record { last = c.read_whole.new.source; cause = tt }

@@ -1,6 +1,6 @@
-use Rattle.std.proofs.Common.{◌≡◌, ◌≢◌, [], arith}
+use Rattle.std.proofs.Common.{◌≡◌, [], arith}
 use Rattle.std.proofs.lemmas.Grind.{common_steps}
-use Rattle.sval_tool.proofs.DocumentCauses.{empty_done, line_done, line_stopped}
+use Rattle.sval_tool.proofs.DocumentCauses.{empty_done}
 use Rattle.sval_tool.proofs.lines.write_line.Goals as goal
 
 pub returns-then-is_empty-clause-ok : goal.returns-then-is_empty-clause-ok

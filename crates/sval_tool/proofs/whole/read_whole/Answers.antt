@@ -1,4 +1,4 @@
-use Rattle.std.proofs.Common.{rules, arith, ◌≡◌, ◌≤◌, ◌+◌, ◌-◌, ◌∙◌, take, drop, length, refl, subst, sym, ap}
+use Rattle.std.proofs.Common.{rules, arith, ◌≡◌, ◌≤◌, ◌+◌, ◌-◌, ◌∙◌, take, drop, length, subst, sym, ap}
 use Rattle.std.proofs.lemmas.List.{length-take-le, length-drop}
 use Rattle.sval_io.proofs.ReadParts.{IsPartlyRead, read_on, filled_on}
 use Rattle.sval_tool.proofs.whole.read_whole.Goals as goal
