@@ -1,6 +1,6 @@
 -- What is due of a text of JSON that was filtered to memory, and why it wasn't.
 use Rattle.std.specs.Prelude.{◌≡◌, ℕ, zero, suc, List, [], Option, Some, None, Result, Ok, Err, refl}
-use Rattle.std.proofs.Common.{sym, subst, inl, inr}
+use Rattle.std.proofs.Common.{sym, subst, ◌∙◌, inl, inr}
 use Rattle.sval_io.specs.declared.sink.SinkError.TheVariants as sink
 use Rattle.sval_io.specs.Taken.{Taken, taken_told}
 use Rattle.sval_filter.specs.Paths.{Path}
@@ -9,6 +9,7 @@ use Rattle.sval_filter.specs.Pruned.{pruned}
 use Rattle.sval_filter.specs.Verdict.{IsJson}
 use Rattle.sval_json_read.specs.Trees.{tree_of}
 use Rattle.sval_tool.specs.Conversions.{IsTextLeft, WritesDue, WritesParts, IsDocumentCause}
+use Rattle.sval_tool.specs.declared.convert.Conversion.{Conversion}
 use Rattle.sval_tool.specs.declared.convert.Target.TheVariants as target
 use Rattle.sval_tool.specs.declared.error.DocumentError.{DocumentError}
 use Rattle.sval_tool.specs.declared.error.DocumentError.TheVariants as document
@@ -36,17 +37,23 @@ module _ (rule : Rule) (paths : List Path) (input : List ℕ) (old new : Taken) 
   no_stop text (inl front) = no_rise front.cause
   no_stop text (inr pauses) = let never = pauses.want in cc never
 
-  pub write_never : IsDocumentCause taken_told (IsTextLeft rule paths target.Json input) input document.WriteFault old new → ⊥
-  write_never s = no_stop s.text s.stops
+  module _ (c : Conversion) where
+    pub write_never : IsDocumentCause taken_told c (IsTextLeft rule paths target.Json input) input document.WriteFault old new → ⊥
+    write_never s = no_stop s.text s.stops
 
-  pub left_unwritten : (why : DocumentError) (found : Lack) → lack_of_document why ≡ Some found
-      → IsDocumentCause taken_told (IsTextLeft rule paths target.Json input) input why old new → IsLacking Left found
-  left_unwritten (document.NotUtf8 at) found e cause =
-      let same : lack.Fault (fault.NotUtf8 at) ≡ found = cc e in subst (IsLacking Left) same ([], no_utf8 at cause.0 cause.1)
-  left_unwritten (document.BadJson at) found e cause =
-      let same : lack.Fault (fault.BadJson at) ≡ found = cc e in subst (IsLacking Left) same ([], no_json at cause.0)
-  left_unwritten document.NoMemory found e cause = let same : lack.NoMemory ≡ found = cc e in subst (IsLacking Left) same tt
-  left_unwritten document.WriteFault found e cause = let never : None ≡ Some found = e in absurd (cc never)
+    -- JSON has each number
+    json_has_all : target.Json ≡ target.Cbor → ⊥
+    json_has_all e = cc e
+
+    pub left_unwritten : c.target ≡ target.Json → (why : DocumentError) (found : Lack) → lack_of_document why ≡ Some found
+        → IsDocumentCause taken_told c (IsTextLeft rule paths target.Json input) input why old new → IsLacking Left found
+    left_unwritten is (document.NotUtf8 at) found e cause =
+        let same : lack.Fault (fault.NotUtf8 at) ≡ found = cc e in subst (IsLacking Left) same ([], no_utf8 at cause.0 cause.1)
+    left_unwritten is (document.BadJson at) found e cause =
+        let same : lack.Fault (fault.BadJson at) ≡ found = cc e in subst (IsLacking Left) same ([], no_json at cause.0)
+    left_unwritten is document.NotInteger found e cause = absurd (json_has_all (sym is ∙ cause.0.to_cbor))
+    left_unwritten is document.NoMemory found e cause = let same : lack.NoMemory ≡ found = cc e in subst (IsLacking Left) same tt
+    left_unwritten is document.WriteFault found e cause = let never : None ≡ Some found = e in absurd (cc never)
 
 -- ---- by the paths of a text
 

@@ -93,6 +93,7 @@ lack_of_path line path.NoPath = None
 abbrev pub lack_of_document : DocumentError → Option Lack
 lack_of_document (document.NotUtf8 at) = Some (lack.Fault (fault.NotUtf8 at))
 lack_of_document (document.BadJson at) = Some (lack.Fault (fault.BadJson at))
+lack_of_document document.NotInteger = Some (lack.Fault fault.NotInteger)
 lack_of_document document.NoMemory = Some lack.NoMemory
 lack_of_document document.WriteFault = None
 

@@ -164,6 +164,7 @@ pub(crate) fn of_document(error: DocumentError) -> Lack
     match error {
         DocumentError::NotUtf8 { at } => Lack::Fault(Fault::NotUtf8 { at }),
         DocumentError::BadJson { at } => Lack::Fault(Fault::BadJson { at }),
+        DocumentError::NotInteger => Lack::Fault(Fault::NotInteger),
         DocumentError::NoMemory => Lack::NoMemory,
         DocumentError::WriteFault => unreachable!("memory has no faults"),
     }

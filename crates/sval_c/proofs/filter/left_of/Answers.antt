@@ -1,5 +1,5 @@
 use Rattle.std.specs.Prelude.{None}
-use Rattle.std.proofs.Common.{ap, sym, subst}
+use Rattle.std.proofs.Common.{ap, sym, subst, refl}
 use Rattle.sval_io.specs.Taken.{Taken, taken_told}
 use Rattle.sval_tool.specs.Conversions.{IsTextLeft, IsDocumentCause}
 use Rattle.sval_tool.specs.declared.convert.Target.TheVariants as target
@@ -17,9 +17,9 @@ returns-in-Ok c =
 
 pub of_document-requires : goal.of_document-requires
 of_document-requires c = λ is.
-    write_never c.args.rule c.args.paths.now c.args.input.now c.new-sink.result c.write_document.new.out
-    (subst (λ (why : DocumentError). IsDocumentCause taken_told (IsTextLeft c.args.rule c.args.paths.now target.Json c.args.input.now) c.args.input.now why c.new-sink.result c.write_document.new.out) is c.in-Err.ensures.err)
+    write_never c.args.rule c.args.paths.now c.args.input.now c.new-sink.result c.write_document.new.out (record { rule = c.args.rule; paths = c.args.paths; target = target.Json })
+    (subst (λ (why : DocumentError). IsDocumentCause taken_told (record { rule = c.args.rule; paths = c.args.paths; target = target.Json }) (IsTextLeft c.args.rule c.args.paths.now target.Json c.args.input.now) c.args.input.now why c.new-sink.result c.write_document.new.out) is c.in-Err.ensures.err)
 
 pub returns-in-Err : goal.returns-in-Err
 returns-in-Err c =
-    left_unwritten c.args.rule c.args.paths.now c.args.input.now c.new-sink.result c.write_document.new.out c.in-Err.error c.of_document.result c.of_document.ensures c.in-Err.ensures.err
+    left_unwritten c.args.rule c.args.paths.now c.args.input.now c.new-sink.result c.write_document.new.out (record { rule = c.args.rule; paths = c.args.paths; target = target.Json }) refl c.in-Err.error c.of_document.result c.of_document.ensures c.in-Err.ensures.err
