@@ -14,10 +14,11 @@ status_of ends.BadInput = 1
 status_of ends.Usage = 2
 status_of ends.Fault = 3
 
--- bytes that are no JSON are a bad input; else the output failed, or memory was wanting
+-- bytes that are no JSON, or have no CBOR, are a bad input; else the output failed, or memory was wanting
 abbrev pub end_of_document : DocumentError → End
 end_of_document (document.NotUtf8 at) = ends.BadInput
 end_of_document (document.BadJson at) = ends.BadInput
+end_of_document document.NotInteger = ends.BadInput
 end_of_document document.WriteFault = ends.Fault
 end_of_document document.NoMemory = ends.Fault
 

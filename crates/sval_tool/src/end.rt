@@ -39,7 +39,9 @@ impl DocumentError {
         ensures { result ≡ end_of_document self }
     {
         match self {
-            DocumentError::NotUtf8 { .. } | DocumentError::BadJson { .. } => End::BadInput,
+            DocumentError::NotUtf8 { .. }
+            | DocumentError::BadJson { .. }
+            | DocumentError::NotInteger => End::BadInput,
             DocumentError::WriteFault | DocumentError::NoMemory => End::Fault,
         }
     }

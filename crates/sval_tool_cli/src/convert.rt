@@ -3,7 +3,7 @@
 use crate::cbor::{check_items, convert_item, convert_items};
 use crate::script::{check_script, convert_script};
 use crate::trouble::{Trouble, Unwritten, of_document};
-use crate::values::{pack_document, packs_whole, write_asked, write_pointed};
+use crate::values::{write_asked, write_pointed};
 use crate::words::{Input, Options};
 use std::alloc::Global;
 use sval_io::{Sink, Source};
@@ -20,7 +20,6 @@ fn rewrite<K: Sink>(
 ) -> Result<(), Unwritten> {
     match &options.pointer {
         Some(pointer) => write_pointed(alloc, options, pointer.as_str(), doc, out),
-        None if packs_whole(options) => pack_document(alloc, doc, out),
         None => write_asked(alloc, options, doc, out),
     }
 }

@@ -10,7 +10,8 @@ usage: sval [OPTION]... [FILE]...
        sval check [--from FORMAT] [--lines] [--progress] [FILE]...
 
 Without a FILE, or where it is -, it reads standard input. Files are read one
-after the other. `sval check` writes nothing, and tells what is wrong.
+after the other, and the first that is wrong ends the program. `sval check`
+writes nothing, tells what is wrong, and goes on with the next file.
 
 options:
 ";
@@ -20,7 +21,8 @@ const TAIL: &str = "
 A PATH is the names of fields with dots between them: `a.b` is the field b of a,
 and `a\\.b` the field whose name is a.b. It goes through arrays. With --keep,
 fields that no --keep names are left out. --keep and --drop don't go together.
-A PATH that no value has is no error: it drops nothing and keeps nothing.
+A PATH that no value has is no error: it drops nothing, and keeps nothing but
+the objects on its way.
 A POINTER (RFC 6901) has a `/` before each name or index: /user/tags/0. There
 `~1` is a slash in a name, and `~0` a tilde. It goes with no --keep and no --drop.
 An argument may stand behind `=`, as --to=pretty. Behind -- each word is a FILE.

@@ -1,17 +1,21 @@
-//! The run over inputs of JSON that is written as JSON, laid out or not. Its theorem is that of `convert_all`.
+//! The run over inputs of JSON that is written as JSON, laid out or not, or as CBOR. Its theorem is that of
+//! `convert_all`.
 
 use crate::inputs::{Out, tell};
 use crate::named::{Failure, NamedReader};
-use crate::trouble::{Trouble, of_document};
+use crate::trouble::{Flaw, Trouble, Unwritten, of_document};
+use crate::values::not_whole_in;
 use crate::words::{Command, Input, Options, Output};
 use std::alloc::{AllocError, Global};
 use std::cell::Cell;
 use std::collections::VecDeque;
 use sval_filter::Rule;
-use sval_io::{RealSource, Sink};
-use sval_tool::{Conversion, ConvertError, End, Shape, Target, convert_all};
+use sval_io::{RealSource, Sink, VecSink};
+use sval_tool::{
+    Conversion, ConvertError, DocumentError, End, Shape, Target, convert_all, write_document,
+};
 
-/// What JSON that is read is written as, where that is JSON and no pointer names a part of it.
+/// What JSON that is read is written as, where that is JSON or CBOR and no pointer names a part of it.
 pub(crate) fn plain_target(options: &Options) -> Option<Target> {
     if options.command == Command::Check || options.pointer.is_some() {
         return None;
@@ -19,6 +23,7 @@ pub(crate) fn plain_target(options: &Options) -> Option<Target> {
     match (options.from, options.to) {
         (None | Some(Input::Json), None | Some(Output::Json)) => Some(Target::Json),
         (None | Some(Input::Json), Some(Output::Pretty)) => Some(Target::Pretty),
+        (None | Some(Input::Json), Some(Output::Cbor)) => Some(Target::Cbor),
         _ => None,
     }
 }
@@ -49,12 +54,50 @@ fn name_before(options: &Options, left: usize) -> &str {
     }
 }
 
+/// Why what is left of a document isn't written as CBOR: the first number in its JSON that has none.
+fn not_whole_left(alloc: Global, conversion: &Conversion<'_>, bytes: &[u8]) -> Unwritten {
+    let conversion = Conversion {
+        target: Target::Json,
+        ..*conversion
+    };
+    let mut json = VecSink::new(alloc);
+    match write_document(alloc, &conversion, bytes, &mut json) {
+        Ok(()) => not_whole_in(alloc, json.as_slice()),
+        Err(_) => Unwritten::Flaw(Flaw::NotWhole),
+    }
+}
+
+/// The trouble with a document, or with the line of this number.
+fn trouble_with(
+    alloc: Global,
+    conversion: &Conversion<'_>,
+    name: &str,
+    bytes: &[u8],
+    number: Option<u64>,
+    why: DocumentError,
+) -> Trouble {
+    match why {
+        DocumentError::NotInteger => not_whole_left(alloc, conversion, bytes).of(
+            alloc, name, number,
+        ),
+        why => of_document(alloc, why, bytes, name, number),
+    }
+}
+
 /// The trouble with an input. `bad` has the bytes of a document or of a line that is wrong.
-fn trouble_of(alloc: Global, name: &str, bad: &[u8], why: ConvertError) -> Trouble {
+fn trouble_of(
+    alloc: Global,
+    conversion: &Conversion<'_>,
+    name: &str,
+    bad: &[u8],
+    why: ConvertError,
+) -> Trouble {
     match why {
         ConvertError::Unread(why) => Trouble::from(why),
-        ConvertError::Document(why) => of_document(alloc, why, bad, name, None),
-        ConvertError::Line { number, why } => of_document(alloc, why, bad, name, Some(number)),
+        ConvertError::Document(why) => trouble_with(alloc, conversion, name, bad, None, why),
+        ConvertError::Line { number, why } => {
+            trouble_with(alloc, conversion, name, bad, Some(number), why)
+        }
     }
 }
 
@@ -82,7 +125,7 @@ pub(crate) fn run_plain(rt: &HostRuntime, options: &Options, target: Target, out
             // What is due of what came before is written first.
             let _ = out.flush();
             let name = name_before(options, sources.len());
-            let trouble = trouble_of(rt.alloc(), name, &bad, why);
+            let trouble = trouble_of(rt.alloc(), &conversion, name, &bad, why);
             tell(rt, name, failed.get(), out, trouble, why.end())
         }
     }

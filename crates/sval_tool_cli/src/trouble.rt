@@ -235,6 +235,9 @@ pub(crate) fn of_document(
 ) -> Trouble {
     let at = match error {
         DocumentError::NotUtf8 { at } | DocumentError::BadJson { at } => at,
+        DocumentError::NotInteger => {
+            return Unwritten::Flaw(Flaw::NotWhole).of(alloc, name, number);
+        }
         DocumentError::WriteFault => return Trouble::Write,
         DocumentError::NoMemory => return Trouble::NoMemory,
     };

@@ -14,7 +14,6 @@ use sval_json::{Variants, stream_to_io_write_with, stream_to_vec};
 use sval_json_read::JsonDoc;
 use sval_pretty::write_pretty;
 use sval_script::print_canon;
-use sval_tool::write_cbor;
 
 /// Writes the CBOR of a value.
 fn pack_value<'v, V: Value<'v, Lent<'v>>, K: Sink>(
@@ -29,33 +28,17 @@ fn pack_value<'v, V: Value<'v, Lent<'v>>, K: Sink>(
     }
 }
 
-/// Whether CBOR of whole documents is asked for: nothing is left out of them.
-pub(crate) fn packs_whole(options: &Options) -> bool {
-    match (options.to, options.rule.unwrap_or(Rule::Drop)) {
-        (Some(Output::Cbor), Rule::Drop) => options.paths.as_slice().is_empty(),
-        _ => false,
-    }
-}
-
-/// Writes the CBOR of a whole document, token by token.
-pub(crate) fn pack_document<K: Sink>(
-    alloc: Global,
-    doc: &JsonDoc<'_>,
-    out: &mut K,
-) -> Result<(), Unwritten> {
-    match write_cbor(alloc, doc, out) {
-        Ok(()) => Ok(()),
-        Err(CborError::NotInteger) => Err(not_whole(alloc, doc)),
-        Err(error) => Err(Unwritten::from(error)),
-    }
-}
-
 /// Why a value with a number that has no CBOR isn't written.
 fn not_whole<'v, V: Value<'v, Lent<'v>>>(alloc: Global, value: &'v V) -> Unwritten {
-    let Ok(json) = stream_to_vec(alloc, value) else {
-        return Unwritten::from(CborError::NotInteger);
-    };
-    let Some(digits) = first_not_whole(json.as_slice()) else {
+    match stream_to_vec(alloc, value) {
+        Ok(json) => not_whole_in(alloc, json.as_slice()),
+        Err(_) => Unwritten::from(CborError::NotInteger),
+    }
+}
+
+/// Why a value with this JSON isn't written as CBOR: its first number that has none.
+pub(crate) fn not_whole_in(alloc: Global, json: &[u8]) -> Unwritten {
+    let Some(digits) = first_not_whole(json) else {
         return Unwritten::from(CborError::NotInteger);
     };
     match format!(in alloc;

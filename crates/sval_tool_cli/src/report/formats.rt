@@ -76,7 +76,7 @@ pub(crate) fn push_bad_cbor(
     out.push_str(name)?;
     write!(
         out,
-        ": byte {at}: no item of CBOR that is read goes on so\n "
+        ": byte {at}: no CBOR that is read goes on with these bytes\n "
     )?;
     let from = usize::try_from(at).unwrap_or(bytes.len());
     let rest = bytes.get(from..).unwrap_or_default();
@@ -90,5 +90,9 @@ pub(crate) fn push_bad_cbor(
     if rest.len() > 8 {
         out.push_str(" ...")?;
     }
-    out.push_str("\n")
+    out.push_str("\n")?;
+    if matches!(bytes.first(), Some(b'{' | b'[')) {
+        out.push_str("hint: this looks like JSON: leave --from cbor out\n")?;
+    }
+    Ok(())
 }

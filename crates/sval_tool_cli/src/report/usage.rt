@@ -14,6 +14,14 @@ fn taken(setting: Setting) -> &'static str {
     }
 }
 
+/// What is said of an option that has nothing behind it.
+fn needed(setting: Setting) -> &'static str {
+    match setting {
+        Setting::Keep | Setting::Drop => "a path",
+        Setting::From | Setting::To | Setting::Pointer => taken(setting),
+    }
+}
+
 /// Adds `--` and an option's name.
 fn push_name(out: &mut String, switch: Switch) -> Result<(), AllocError> {
     out.push_str("--")?;
@@ -31,7 +39,7 @@ fn push_complaint(out: &mut String, complaint: Complaint) -> Result<(), AllocErr
         Complaint::NoArgument(setting) => {
             push_name(out, Switch::Setting(setting))?;
             out.push_str(" needs ")?;
-            out.push_str(taken(setting))
+            out.push_str(needed(setting))
         }
         Complaint::BadArgument(setting) => {
             push_name(out, Switch::Setting(setting))?;
