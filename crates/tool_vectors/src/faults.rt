@@ -55,9 +55,9 @@ fn fails_to_write(rt: &impl Abort, alloc: Global, way: Way, at: u64) -> Result<b
 #[test]
 fn keeps_a_first_part_at_each_fault_of_the_sink(rt: HostRuntime) -> Result<(), Fail> {
     for way in WAYS {
-        let mut failed = 0;
+        let mut failed = 0_u64;
         for at in 1..60 {
-            failed += u64::from(fails_to_write(&rt, rt.alloc(), way, at)?);
+            failed = failed.saturating_add(u64::from(fails_to_write(&rt, rt.alloc(), way, at)?));
         }
         assert!(rt; failed > 3 && failed < 59, "{failed}");
     }
@@ -85,9 +85,9 @@ fn fails_to_read(rt: &impl Abort, alloc: Global, way: Way, at: u64) -> Result<bo
 #[test]
 fn writes_what_is_due_of_the_lines_before_a_read_fault(rt: HostRuntime) -> Result<(), Fail> {
     for way in WAYS {
-        let mut failed = 0;
+        let mut failed = 0_u64;
         for at in 1..20 {
-            failed += u64::from(fails_to_read(&rt, rt.alloc(), way, at)?);
+            failed = failed.saturating_add(u64::from(fails_to_read(&rt, rt.alloc(), way, at)?));
         }
         assert!(rt; failed > 3 && failed < 19, "{failed}");
     }
