@@ -6,6 +6,7 @@ use Rattle.sval_io.specs.Sinks.{Told}
 use Rattle.sval_io.specs.Sources.{Supply}
 use Rattle.sval_io.specs.WholeInputs.{TakesAll}
 use Rattle.sval_io.proofs.Appending.{writes_nothing, writes_both}
+use Rattle.sval_lines.specs.SourceLines.{HasLineCause}
 use Rattle.sval_lines.specs.declared.error.LineError.{LineError}
 use Rattle.sval_lines.specs.declared.error.LineError.TheVariants as line
 use Rattle.sval_tool.specs.Conversions.{IsFedDue, WritesDue, IsDocumentCause}
@@ -24,9 +25,12 @@ module _ {K : Type 0} (told : K → Told) (c : Conversion) where
   -- ---- one document
 
   -- it wasn't read, and nothing was written
-  pub document_unread : (left : Option (List ℕ)) (why : LineError) (old : K) → IfSome left (λ bytes. ConvertsInput told c shape.Document bytes (Err (convert.Unread why)) [] old old)
-  document_unread None why old = tt
-  document_unread (Some bytes) why old = refl
+  pub document_unread : (left : Option (List ℕ)) (before after : Supply) (why : LineError) (bad : List ℕ) (old : K) → HasLineCause why 0 before after
+      → IfSome left (λ bytes. ConvertsInput told c shape.Document bytes (Err (convert.Unread why)) bad old old)
+  document_unread None before after why bad old cause = tt
+  document_unread (Some bytes) before after line.ReadFault bad old cause = refl
+  document_unread (Some bytes) before after line.NoMemory bad old cause = refl
+  document_unread (Some bytes) before after line.TooManyLines bad old cause = absurd (omega arith)
 
   pub document_done : (left rest : Option (List ℕ)) (bytes : List ℕ) (old new : K) → IfSome left (λ all. TakesAll all bytes rest) → WritesDue (IsFedDue c bytes) (told old) (told new)
       → IfSome left (λ bytes. ConvertsInput told c shape.Document bytes (Ok tt) [] old new)

@@ -108,14 +108,14 @@ pub record LacksMemoryToKeep {K : Type 0} (bytes : List ℕ) (old new : K) : Typ
   pub keeps : KeepsSome bytes
   pub same : new ≡ old
 
--- memory was wanting for the CBOR of a document that was read, and nothing was written
+-- CBOR was asked for, the bytes denote a value, and nothing was written: no cause is asked
 pub record LacksMemoryToPack {K : Type 0} (c : Conversion) (bytes : List ℕ) (old new : K) : Type 0 where
   pub to_cbor : c.target ≡ target.Cbor
   pub value : JsonValue
   pub denotes : Denotes bytes value
   pub same : new ≡ old
 
--- the bytes denote a value, and what is left of its tree has no CBOR: a number isn't whole, or has more than 128 bits
+-- the bytes denote a value, and what is left of its tree doesn't pack: a number has a fraction or an exponent, or isn't from -2^127 to 2^128-1
 pub record HasNoCbor (c : Conversion) (bytes : List ℕ) : Type 0 where
   pub to_cbor : c.target ≡ target.Cbor
   pub value : JsonValue

@@ -3,6 +3,7 @@ use Rattle.std.specs.Prelude.{◌≡◌, ℕ, List, [], ◌∷◌, ◌++◌, map
 use Rattle.sval_io.specs.Sinks.{Told}
 use Rattle.sval_io.specs.Sources.{Supply}
 use Rattle.sval_lines.specs.SourceLines.{HasLineCause}
+use Rattle.sval_lines.specs.declared.error.LineError.TheVariants.{TooManyLines}
 use Rattle.sval_tool.specs.Conversions.{IsFedDue, WritesDue, IsDocumentCause}
 use Rattle.sval_tool.specs.ConvertedLines.{AreDue, StopsAfterSome}
 use Rattle.sval_tool.specs.declared.convert.Conversion.{Conversion}
@@ -41,6 +42,7 @@ pub record StopsAtDocument {K : Type 0} (told : K → Told) (c : Conversion) (by
 -- why an input wasn't converted: a document wrote nothing if it wasn't read, and of lines what is due of those before was written;
 -- the bytes of the document or of the line that is bad are these
 abbrev pub IsInputCause : {K : Type 0} → (K → Told) → Conversion → Shape → List ℕ → ConvertError → List ℕ → K → K → Type 0
+IsInputCause told c shape.Document bytes (convert.Unread TooManyLines) bad old new = ⊥
 IsInputCause told c shape.Document bytes (convert.Unread why) bad old new = new ≡ old
 IsInputCause told c shape.Document bytes (convert.Document why) bad old new = StopsAtDocument told c bytes bad why old new
 IsInputCause told c shape.Lines bytes (convert.Unread why) bad old new = (left : Option (List ℕ)) × StopsAfterSome told c bytes 0 (lines.Unread why) bad left old new
@@ -57,7 +59,7 @@ abbrev pub IsReadCause : ConvertError → Supply → Supply → Type 0
 IsReadCause (convert.Unread why) old new = (number : ℕ) × HasLineCause why number old new
 IsReadCause _ old new = Unit {0}
 
--- what a source may be left as where it is the last that was read
+-- what some source of this type, tied to no other, has counted where one wasn't read for this cause
 pub record StopsReadingAt {I : Type 0} (told : I → Supply) (why : ConvertError) (old : I) : Type 0 where
   pub last : I
   pub cause : IsReadCause why (told old) (told last)

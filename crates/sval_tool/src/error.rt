@@ -14,7 +14,7 @@ pub enum DocumentError {
     /// Its bytes denote no value. `at` is the offset of the first byte with which no valid JSON text could go on, or
     /// the length where the text ends too early.
     BadJson { at: u64 },
-    /// A number that is left has no CBOR: it isn't whole, or has more than 128 bits.
+    /// A number that is left doesn't pack: it has a fraction or an exponent, or isn't from -2^127 to 2^128-1.
     NotInteger,
     /// The sink failed.
     WriteFault,

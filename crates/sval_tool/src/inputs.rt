@@ -152,8 +152,7 @@ fn convert_input<I: Source + Drop, K: Sink>(
 
 /// Converts inputs, in their order, and takes each from the front of the sources.
 ///
-/// Behind each document, and that of each line, a line feed is written. What is due of one input is written before the
-/// next is read.
+/// Behind each document, and that of each line, a line feed is written, unless it is CBOR.
 ///
 /// ```
 /// let mut sources = VecDeque::new(alloc);

@@ -7,7 +7,7 @@ use Rattle.sval_tool.proofs.inputs.convert_document.Goals as goal
 pub returns-in_err-bytes-clause-text : goal.returns-in_err-bytes-clause-text
 returns-in_err-bytes-clause-text g c =
     let p = err_from_is_err_and c.from_residual.result c.from_residual.ensures.1 in
-    rw (p.1, p.2) (document_unread g.K.Sink.told c.args.conversion.now (g.I.Source.told c.args.source).left c.in_err-bytes.field-0.0 c.args.out.now)
+    rw (p.1, p.2) (document_unread g.K.Sink.told c.args.conversion.now (g.I.Source.told c.args.source).left (g.I.Source.told c.args.source) (g.I.Source.told c.read_whole.new.source) c.in_err-bytes.field-0.0 c.args.bad.now.items c.args.out.now c.in_err-bytes.ensures.err)
 
 pub returns-in_err-bytes-clause-err : goal.returns-in_err-bytes-clause-err
 returns-in_err-bytes-clause-err g c =
