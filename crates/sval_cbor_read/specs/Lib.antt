@@ -3,6 +3,7 @@ pub mod HeadFronts
 pub mod Document
 pub mod CborValues
 pub mod CborLookups
+pub mod CborPointers
 pub mod CborCodes
 pub mod Reading
 pub mod Laws

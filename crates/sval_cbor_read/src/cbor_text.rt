@@ -124,7 +124,7 @@ impl<'d> CborText<'d> {
     }
 
     /// A second view of these chunks.
-    fn again(&self) -> CborText<'d>
+    pub(crate) fn again(&self) -> CborText<'d>
         ensures { result ≡ self.now }
     {
         CborText {

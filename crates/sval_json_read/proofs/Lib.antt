@@ -50,7 +50,7 @@ mod InnerNodes
 mod NextNodes
 mod ParsedNaturals
 mod PartCounts
-mod Pointers
+pub mod Pointers
 mod Parts
 mod PartCalls
 mod ProperParts

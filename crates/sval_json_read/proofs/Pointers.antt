@@ -1,5 +1,5 @@
 -- Reference tokens of names, array indexes, and a pointer token by token.
-use Rattle.std.specs.Prelude.{◌≡◌, ◌≢◌, ℕ, suc, ◌^◌, ◌<◌, Bool, true, false, ◌&&◌, nat_lt, List, [], ◌∷◌, ◌++◌, length, get_or, Some, None, option_and_then, Result, Ok, Err, OkIff, refl}
+use Rattle.std.specs.Prelude.{◌≡◌, ◌≢◌, ℕ, suc, ◌^◌, ◌<◌, Bool, true, false, ◌&&◌, nat_lt, List, [], ◌∷◌, ◌++◌, length, get_or, Option, Some, None, option_and_then, Result, Ok, Err, OkIff, refl}
 use Rattle.std.specs.Result.{result_ok}
 use Rattle.std.specs.Str.{all_ascii_digits}
 use Rattle.std.specs.Str.Parse.{digits_value, ParsesUnsigned}
@@ -7,10 +7,9 @@ use Rattle.std.proofs.Common.{sym, ap, ◌∙◌, arith, append_assoc, append-ni
 use Rattle.std.proofs.lemmas.Bool.{and_parts, and_from}
 use Rattle.std.proofs.lemmas.Str.Parse.{parse_plain}
 use Rattle.sval_label.specs.Texts.{is_decimal}
-use Rattle.sval_json.specs.Grammar.{JsonValue}
 use Rattle.sval_script.proofs.Decimals.{decimal-from}
 use Rattle.sval_json.proofs.NumberTexts.{decimal_digits}
-use Rattle.sval_json_read.specs.Pointers.{encoded_byte, reference_token, array_index, referenced, evaluated, pointed}
+use Rattle.sval_json_read.specs.Pointers.{encoded_byte, reference_token, array_index, evaluated, pointed_by}
 use Rattle.sval_json_read.proofs.ParsedNumbers.{own, in_range_test}
 use Rattle.sval_json.proofs.TextFronts.{same_rest}
 use Rattle.sval_json_read.proofs.SettledNumbers.{some_digits}
@@ -78,20 +77,22 @@ index_parsed (byte ∷ rest) first r (some, is) other no_sign p =
 abbrev pub HasNoSlash : List ℕ → Type 0
 HasNoSlash bytes = (i : ℕ) → i < length bytes → get_or bytes i 0 ≢ 47
 
-token_over : (token bytes rest : List ℕ) (value : JsonValue) → HasNoSlash bytes → evaluated token (bytes ++ rest) value ≡ evaluated (token ++ bytes) rest value
-token_over token [] rest value h = ap (λ t. evaluated t rest value) (sym (append-nil token))
-token_over token (byte ∷ bytes) rest value h =
-    rw (ne_eqb byte 47 (h 0 (omega arith)))
-    (token_over (token ++ (byte ∷ [])) bytes rest value (λ i less. h (suc i) (omega arith)) ∙ ap (λ t. evaluated t rest value) (append_assoc token (byte ∷ []) bytes))
+module _ {V : Type 0} (step : List ℕ → V → Option V) where
+  token_over : (token bytes rest : List ℕ) (value : V) → HasNoSlash bytes → evaluated step token (bytes ++ rest) value ≡ evaluated step (token ++ bytes) rest value
+  token_over token [] rest value h = ap (λ t. evaluated step t rest value) (sym (append-nil token))
+  token_over token (byte ∷ bytes) rest value h =
+      rw (ne_eqb byte 47 (h 0 (omega arith)))
+      (token_over (token ++ (byte ∷ [])) bytes rest value (λ i less. h (suc i) (omega arith)) ∙ ap (λ t. evaluated step t rest value) (append_assoc token (byte ∷ []) bytes))
 
--- a token before another `/`
-pub token_then : (token rest : List ℕ) (value : JsonValue) → HasNoSlash token → evaluated [] (token ++ (47 ∷ rest)) value ≡ option_and_then (evaluated [] rest) (referenced token value)
-token_then token rest value h = token_over [] token (47 ∷ rest) value h
+  -- a token before another `/`
+  pub token_then : (token rest : List ℕ) (value : V) → HasNoSlash token
+      → evaluated step [] (token ++ (47 ∷ rest)) value ≡ option_and_then (evaluated step [] rest) (step token value)
+  token_then token rest value h = token_over [] token (47 ∷ rest) value h
 
--- the last token
-pub token_last : (token : List ℕ) (value : JsonValue) → HasNoSlash token → evaluated [] token value ≡ referenced token value
-token_last token value h = ap (λ bytes. evaluated [] bytes value) (sym (append-nil token)) ∙ token_over [] token [] value h
+  -- the last token
+  pub token_last : (token : List ℕ) (value : V) → HasNoSlash token → evaluated step [] token value ≡ step token value
+  token_last token value h = ap (λ bytes. evaluated step [] bytes value) (sym (append-nil token)) ∙ token_over [] token [] value h
 
-pub no_slash_first : (pointer : List ℕ) (value : JsonValue) → 0 < length pointer → ((rest : List ℕ) → pointer ≢ 47 ∷ rest) → pointed pointer value ≡ None
-no_slash_first [] value some other = absurd (omega (arith, some))
-no_slash_first (byte ∷ bytes) value some other = rw (ne_eqb byte 47 (λ e. other bytes (ap (λ b. b ∷ bytes) e))) refl
+  pub no_slash_first : (pointer : List ℕ) (value : V) → 0 < length pointer → ((rest : List ℕ) → pointer ≢ 47 ∷ rest) → pointed_by step pointer value ≡ None
+  no_slash_first [] value some other = absurd (omega (arith, some))
+  no_slash_first (byte ∷ bytes) value some other = rw (ne_eqb byte 47 (λ e. other bytes (ap (λ b. b ∷ bytes) e))) refl

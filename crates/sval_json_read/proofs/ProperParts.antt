@@ -55,18 +55,18 @@ referenced-proper token (json.Array row) p = go (array_index token)
     go None = none-found
 referenced-proper token (json.Object row) p = last-proper token row p
 
-evaluated-proper : (token bytes : List ℕ) (value : JsonValue) → IsProper value → FindsProper (evaluated token bytes value)
+evaluated-proper : (token bytes : List ℕ) (value : JsonValue) → IsProper value → FindsProper (evaluated referenced token bytes value)
 evaluated-proper token [] value p = referenced-proper token value p
 evaluated-proper token (byte ∷ bytes) value p =
     go (byte == 47) (referenced token value) (referenced-proper token value p) (λ next h. evaluated-proper [] bytes next h) (evaluated-proper (token ++ (byte ∷ [])) bytes value p)
   where
-    then-proper : (found : Option JsonValue) → FindsProper found → ((next : JsonValue) → IsProper next → FindsProper (evaluated [] bytes next)) → FindsProper (option_and_then (evaluated [] bytes) found)
+    then-proper : (found : Option JsonValue) → FindsProper found → ((next : JsonValue) → IsProper next → FindsProper (evaluated referenced [] bytes next)) → FindsProper (option_and_then (evaluated referenced [] bytes) found)
     then-proper (Some next) h behind = behind next (h next refl)
     then-proper None h behind = none-found
 
-    go : (slash : Bool) (found : Option JsonValue) → FindsProper found → ((next : JsonValue) → IsProper next → FindsProper (evaluated [] bytes next))
-        → FindsProper (evaluated (token ++ (byte ∷ [])) bytes value)
-        → FindsProper (cond slash (option_and_then (evaluated [] bytes) found) (evaluated (token ++ (byte ∷ [])) bytes value))
+    go : (slash : Bool) (found : Option JsonValue) → FindsProper found → ((next : JsonValue) → IsProper next → FindsProper (evaluated referenced [] bytes next))
+        → FindsProper (evaluated referenced (token ++ (byte ∷ [])) bytes value)
+        → FindsProper (cond slash (option_and_then (evaluated referenced [] bytes) found) (evaluated referenced (token ++ (byte ∷ [])) bytes value))
     go true found h behind within = then-proper found h behind
     go false found h behind within = within
 
@@ -74,7 +74,7 @@ pointed-proper : (pointer : List ℕ) (value : JsonValue) → IsProper value →
 pointed-proper [] value p = found-proper value p
 pointed-proper (byte ∷ bytes) value p = go (byte == 47) (evaluated-proper [] bytes value p)
   where
-    go : (slash : Bool) → FindsProper (evaluated [] bytes value) → FindsProper (cond slash (evaluated [] bytes value) None)
+    go : (slash : Bool) → FindsProper (evaluated referenced [] bytes value) → FindsProper (cond slash (evaluated referenced [] bytes value) None)
     go true h = h
     go false h = none-found
 

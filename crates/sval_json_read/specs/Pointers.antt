@@ -32,13 +32,17 @@ referenced token (Array values) = option_and_then (λ index. slice_get (values_l
 referenced token (Object members) = last_referenced token (paired members)
 referenced token _ = None
 
--- the value that the rest of a pointer references; `token` has the bytes so far of the current reference token, which a `/` ends
-abbrev pub evaluated : List ℕ → List ℕ → JsonValue → Option JsonValue
-evaluated token [] value = referenced token value
-evaluated token (byte ∷ bytes) value =
-    if byte == 47 then option_and_then (evaluated [] bytes) (referenced token value) else evaluated (token ++ (byte ∷ [])) bytes value
+-- what the rest of a pointer references, where `step` says what one reference token does; `token` has the bytes so far of the current one, which a `/` ends
+abbrev pub evaluated : {V : Type 0} → (List ℕ → V → Option V) → List ℕ → List ℕ → V → Option V
+evaluated step token [] value = step token value
+evaluated step token (byte ∷ bytes) value =
+    if byte == 47 then option_and_then (evaluated step [] bytes) (step token value) else evaluated step (token ++ (byte ∷ [])) bytes value
 
--- the value that a pointer references. The empty pointer references the whole, and one that begins with another byte than `/` references nothing
+-- what a pointer references, where `step` says what one reference token does. The empty pointer references the whole, and one that begins with another byte than `/` references nothing
+abbrev pub pointed_by : {V : Type 0} → (List ℕ → V → Option V) → List ℕ → V → Option V
+pointed_by step [] value = Some value
+pointed_by step (byte ∷ bytes) value = if byte == 47 then evaluated step [] bytes value else None
+
+-- the value that a pointer references
 abbrev pub pointed : List ℕ → JsonValue → Option JsonValue
-pointed [] value = Some value
-pointed (byte ∷ bytes) value = if byte == 47 then evaluated [] bytes value else None
+pointed pointer value = pointed_by referenced pointer value

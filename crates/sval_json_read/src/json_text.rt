@@ -9,7 +9,7 @@ ghost use Rattle.sval_json_read.specs.SeenPieces.{seen_piece, piece_token};
 ghost use Rattle.sval_json_read.specs.SeenValues.{text_in};
 
 use crate::piece::{Piece, first_piece};
-use crate::pointer::behind_token;
+use crate::pointer::token_behind;
 use crate::string_calls::is_one_run;
 use std::alloc::{AllocError, Global};
 use std::marker::Model;
@@ -137,10 +137,10 @@ fn behind_piece_token<'b>(piece: Piece<'_>, bytes: &'b [u8]) -> Option<&'b [u8]>
     ensures other { result ≡ None → (more : List ℕ) → bytes.now ≡ piece_token piece.entry ++ more → ⊥ }
 {
     match piece {
-        Piece::Run(run) => behind_token(run.as_bytes(), bytes),
+        Piece::Run(run) => token_behind(run.as_bytes(), bytes),
         Piece::Escape(character) => {
             let mut buffer = [0; 4];
-            behind_token(character.encode_utf8(&mut buffer).as_bytes(), bytes)
+            token_behind(character.encode_utf8(&mut buffer).as_bytes(), bytes)
         },
     }
 }

@@ -26,7 +26,7 @@ mod node_text;
 mod number;
 mod number_calls;
 mod piece;
-mod pointer;
+pub mod pointer;
 mod program;
 mod reader;
 mod running;

@@ -1,4 +1,4 @@
-//! JSON Pointer (RFC 6901).
+//! JSON Pointer (RFC 6901): its reference tokens, as array indexes and as names. [`JsonRef::pointer`] goes by them.
 
 ghost use Rattle.std.specs.Prelude.{◌≡◌, ◌++◌, ℕ, List, None, IfSome};
 ghost use Rattle.sval_json_read.specs.Pointers.{encoded_byte, reference_token, array_index, referenced, pointed};
@@ -38,7 +38,7 @@ impl<'d> JsonRef<'d> {
         ensures { result ≡ referenced token.now self.now }
     {
         match self.items() {
-            Some(items) => match index_of(token) {
+            Some(items) => match array_index(token) {
                 Some(index) => items.nth(index),
                 None => None,
             },
@@ -50,8 +50,13 @@ impl<'d> JsonRef<'d> {
     }
 }
 
-/// The index of an array that a reference token is.
-fn index_of(token: &str) -> Option<usize>
+/// The index of an array that a reference token is: `0`, or digits without a leading zero, of a number below 2^64.
+///
+/// ```
+/// assert_eq!(rt; array_index("10"), Some(10));
+/// assert_eq!(rt; array_index("01"), None);
+/// ```
+pub fn array_index(token: &str) -> Option<usize>
     ensures { result ≡ array_index token.now }
 {
     let first = *token.as_bytes().first()?;
@@ -80,8 +85,13 @@ fn behind_byte<'b>(byte: u8, bytes: &'b [u8]) -> Option<&'b [u8]>
     }
 }
 
-/// What follows a name's reference token at the beginning of these bytes, where they begin with it.
-pub(crate) fn behind_token<'b>(name: &[u8], bytes: &'b [u8]) -> Option<&'b [u8]>
+/// What follows a name's reference token at the beginning of these bytes, where they begin with it. In a token `~` is
+/// written as `~0` and `/` as `~1`. It takes no memory.
+///
+/// ```
+/// assert_eq!(rt; token_behind(b"a/b".as_slice(), b"a~1bc".as_slice()), Some(b"c".as_slice()));
+/// ```
+pub fn token_behind<'b>(name: &[u8], bytes: &'b [u8]) -> Option<&'b [u8]>
     ensures found { IfSome result (λ more. bytes.now ≡ reference_token name.now ++ more.now) }
     ensures other { result ≡ None → (more : List ℕ) → bytes.now ≡ reference_token name.now ++ more → ⊥ }
 {

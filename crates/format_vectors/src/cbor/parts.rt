@@ -50,6 +50,24 @@ impl Case for Second {
     }
 }
 
+/// Bytes in hex, a pointer (RFC 6901) behind a space, and behind `at` what the pointer references in their item.
+struct Pointed;
+
+impl Case for Pointed {
+    fn seen(alloc: Global, input: &str, _due: &str) -> Result<String, Fail> {
+        let line = input.trim_end();
+        let (digits, pointer) = line.split_once(' ').unwrap_or((line, ""));
+        let bytes = hex::decode(alloc, digits)?;
+        let doc = CborDoc::read(alloc, bytes.as_slice())?;
+        let mut seen = String::from_str(alloc, "at ")?;
+        match doc.root().pointer(pointer) {
+            Some(value) => push_parts(alloc, &value, &mut seen)?,
+            None => seen.push_str("nothing")?,
+        }
+        Ok(seen)
+    }
+}
+
 /// What an integer is as each of the four types.
 fn push_number(alloc: Global, value: &CborRef<'_>, seen: &mut String) -> Result<(), Fail> {
     let short = value.as_i64();
@@ -271,6 +289,45 @@ a200f401f5
 = item nothing
 "#;
 
+/// Pointers into `{"a/b": [1, {"m~n": 8}], "": 0}`, into keys in chunks, of equal keys, into keys that are no texts, and
+/// into items behind tags.
+const POINTED: &'static str = r#"
+a263612f628201a1636d7e6e086000
+= at Map 2; Text Some("a/b") "a/b" true "a/b": Array 2; Text Some("") "" true "": Int Some(0) Some(0) Some(0) Some(0)
+a263612f628201a1636d7e6e086000 /
+= at Int Some(0) Some(0) Some(0) Some(0)
+a263612f628201a1636d7e6e086000 /a~1b/0
+= at Int Some(1) Some(1) Some(1) Some(1)
+a263612f628201a1636d7e6e086000 /a~1b/1/m~0n
+= at Int Some(8) Some(8) Some(8) Some(8)
+a263612f628201a1636d7e6e086000 /a~1b/01
+= at nothing
+a263612f628201a1636d7e6e086000 /a~1b/2
+= at nothing
+a263612f628201a1636d7e6e086000 /a~1b/1/m~n
+= at nothing
+a263612f628201a1636d7e6e086000 /a/b
+= at nothing
+a263612f628201a1636d7e6e086000 /a~1
+= at nothing
+a263612f628201a1636d7e6e086000 a~1b
+= at nothing
+bf7f6161622f62ff01ff /a~1b
+= at Int Some(1) Some(1) Some(1) Some(1)
+bf7f616d617e616eff02ff /m~0n
+= at Int Some(2) Some(2) Some(2) Some(2)
+bf7f616d617e616eff02ff /m~0
+= at nothing
+a2616101616102 /a
+= at Int Some(2) Some(2) Some(2) Some(2)
+a200014130f5 /0
+= at nothing
+c1a16161c1820102 /a/1
+= at Int Some(2) Some(2) Some(2) Some(2)
+6130 /0
+= at nothing
+"#;
+
 #[test]
 fn what_an_item_holds(rt: HostRuntime) -> Result<(), Fail> {
     try_cases::<ItemParts>(&rt, rt.alloc(), PARTS)
@@ -284,6 +341,11 @@ fn values_by_name(rt: HostRuntime) -> Result<(), Fail> {
 #[test]
 fn items_at_1(rt: HostRuntime) -> Result<(), Fail> {
     try_cases::<Second>(&rt, rt.alloc(), SECOND)
+}
+
+#[test]
+fn items_at_pointers(rt: HostRuntime) -> Result<(), Fail> {
+    try_cases::<Pointed>(&rt, rt.alloc(), POINTED)
 }
 
 /// 100,000 items, each an array of one byte string, and the last of them.

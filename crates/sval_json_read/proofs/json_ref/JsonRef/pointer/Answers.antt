@@ -1,6 +1,6 @@
 use Rattle.std.proofs.Common.{◌≡◌, [], None, option_and_then, sym, ap, ◌∙◌, arith, rules}
 use Rattle.std.proofs.lemmas.Str.Pattern.{strip_prefix_char, split_parts}
-use Rattle.sval_json_read.specs.Pointers.{evaluated}
+use Rattle.sval_json_read.specs.Pointers.{referenced, evaluated}
 use Rattle.sval_json_read.proofs.Pointers.{token_then, token_last, no_slash_first}
 use Rattle.sval_json_read.proofs.json_ref.JsonRef.pointer.Goals as goal
 
@@ -9,25 +9,25 @@ returns-in_err-rest c =
     let pointer = c.args.pointer.now in
     let gone : c.from_residual.result ≡ None = grind arith in
     let other = rw c.in_err-rest.was at (strip_prefix_char 47 pointer c.strip_prefix.result c.strip_prefix.ensures.cases (omega arith)) in
-    rw gone (sym (no_slash_first pointer c.args.self.now (grind arith) other))
+    rw gone (sym (no_slash_first referenced pointer c.args.self.now (grind arith) other))
 
 pub returns-in_err-found : goal.returns-in_err-found
 returns-in_err-found c =
     let l = c.tokens in
     let cut = rw c.in-Some.is at (split_parts 47 l.rest.now c.split_once.result c.split_once.ensures.cases (omega arith)) in
     let gone : c.from_residual-in_err-found.result ≡ None = grind arith in
-    let turn = l.invariant.0 ∙ ap (λ rest. evaluated [] rest l.found) cut.0 ∙ token_then _ _ l.found cut.1 in
-    rw gone (sym (turn ∙ ap (option_and_then (evaluated [] c.in-Some.behind.now)) (sym c.in_err-found.ensures)))
+    let turn = l.invariant.0 ∙ ap (λ rest. evaluated referenced [] rest l.found) cut.0 ∙ token_then referenced _ _ l.found cut.1 in
+    rw gone (sym (turn ∙ ap (option_and_then (evaluated referenced [] c.in-Some.behind.now)) (sym c.in_err-found.ensures)))
 
 pub tokens-preserved : goal.tokens-preserved
 tokens-preserved c =
     let l = c.tokens in
     let cut = rw c.in-Some.is at (split_parts 47 l.rest.now c.split_once.result c.split_once.ensures.cases (omega arith)) in
-    let turn = l.invariant.0 ∙ ap (λ rest. evaluated [] rest l.found) cut.0 ∙ token_then _ _ l.found cut.1 in
-    (turn ∙ ap (option_and_then (evaluated [] c.in-Some.behind.now)) (sym c.in_ok-found.ensures), search rules)
+    let turn = l.invariant.0 ∙ ap (λ rest. evaluated referenced [] rest l.found) cut.0 ∙ token_then referenced _ _ l.found cut.1 in
+    (turn ∙ ap (option_and_then (evaluated referenced [] c.in-Some.behind.now)) (sym c.in_ok-found.ensures), search rules)
 
 pub returns : goal.returns
 returns c =
     let l = c.tokens in
     let none = rw c.in_default.is at (split_parts 47 l.rest.now c.split_once.result c.split_once.ensures.cases (omega arith)) in
-    c.referenced-2.ensures ∙ sym (l.invariant.0 ∙ token_last l.rest.now l.found none)
+    c.referenced-2.ensures ∙ sym (l.invariant.0 ∙ token_last referenced l.rest.now l.found none)

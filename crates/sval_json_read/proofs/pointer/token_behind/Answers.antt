@@ -1,7 +1,7 @@
 use Rattle.std.proofs.Common.{◌+◌, drop, get_or, subst, arith, refl}
 use Rattle.std.proofs.lemmas.List.{drop_more, drop_all}
 use Rattle.sval_json_read.proofs.Pointers.{StandsBehind, at_first, one_behind, none_behind}
-use Rattle.sval_json_read.proofs.pointer.behind_token.Goals as goal
+use Rattle.sval_json_read.proofs.pointer.token_behind.Goals as goal
 
 pub loop-next-init : goal.loop-next-init
 loop-next-init c = (omega arith, at_first c.args.name.now c.args.bytes.now)

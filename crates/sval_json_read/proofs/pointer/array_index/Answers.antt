@@ -1,6 +1,6 @@
 use Rattle.std.proofs.Common.{Ok, Err}
 use Rattle.sval_json_read.proofs.Pointers.{index_parsed}
-use Rattle.sval_json_read.proofs.pointer.index_of.Goals as goal
+use Rattle.sval_json_read.proofs.pointer.array_index.Goals as goal
 
 pub returns-in-Ok : goal.returns-in-Ok
 returns-in-Ok c =
