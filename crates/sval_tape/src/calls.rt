@@ -127,7 +127,7 @@ pub(crate) fn field_place(side: Side, bytes: &[u8]) -> Option<(CallRead<'_>, &[u
 }
 
 /// The call of this number, whose operands follow. The arms are in the order of the numbers.
-#[tactic(auto, using(crate::proofs::Forms::all_forms))]
+#[tactic(auto, unfolding(crate::specs::Reading::operands_at, crate::specs::Reading::tape_forms))]
 fn read_operands(number: u8, bytes: &[u8]) -> Option<(CallRead<'_>, &[u8])>
     ensures { option_map (λ x. (call_read x.0, x.1.now)) result ≡ tape.operands_at number bytes.now }
 {

@@ -40,7 +40,7 @@ fn make<'v, S: Stream<Lent<'v>>>(read: Option<(CallRead<'v>, &'v [u8])>, stream:
 /// Makes the call of this number, whose operands follow. The arms are in the order of the numbers.
 ///
 /// Each arm reads and makes its call by itself, so that no call goes through memory.
-#[tactic(auto, using(crate::proofs::Forms::all_forms))]
+#[tactic(auto, using(crate::proofs::Forms::no_form), unfolding(crate::specs::Reading::operands_at, crate::specs::Reading::tape_forms))]
 #[inline(always)]
 fn make_numbered<'v, S: Stream<Lent<'v>>>(number: u8, bytes: &'v [u8], stream: &mut S) -> Step<'v>
     ensures { StepsOn S.law (tape.operands_at number bytes.now)
