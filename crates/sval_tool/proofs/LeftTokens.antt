@@ -3,19 +3,19 @@ use Rattle.std.specs.Prelude.{◌≡◌, ⊤, ℕ, Bool, true, false, cond, List
 use Rattle.std.proofs.Common.{sym, ap, subst, ◌∙◌, append_assoc, append-nil}
 use Rattle.std.proofs.lemmas.Grind.{flat_map-append}
 use Rattle.sval_label.specs.Calls.{Call, Slot, Head, I64}
-use Rattle.sval_core.specs.Trees.{Tree, Text, Container, Parts, none, part}
+use Rattle.sval_core.specs.Trees.{Tree, Text, Container, Parts, none, part, plain_head}
 use Rattle.sval_core.specs.Spells.{Says, SayParts, Spells, plain}
-use Rattle.sval_json.specs.Grammar.{JsonValue, Values, no_values, a_value, Members, no_members, IsString, IsValue, null, truth, falsehood, number, string, empty_array, array, empty_object, object, AreJsonValues, last_value, more_values, AreMembers, last_member, more_members}
+use Rattle.sval_json.specs.Grammar.{JsonValue, Values, a_value, Members, IsString, IsValue, null, truth, falsehood, number, string, empty_array, array, empty_object, object, AreJsonValues, last_value, more_values, AreMembers, last_member, more_members}
 use Rattle.sval_filter.specs.declared.paths.Rule.{Rule}
 use Rattle.sval_filter.specs.Paths.{Path, Fate, LeftOut, Stays, Within, fate_of}
 use Rattle.sval_filter.specs.Pruned.{pruned, pruned_parts, placed_entry}
 use Rattle.sval_filter.specs.Walks.{Reach, Walking, walk_start, stays_by}
 use Rattle.sval_filter.proofs.PrunedGood.{pruned_good}
-use Rattle.sval_json_read.specs.Calls.{string_value_calls, place_begins, placed_token_calls, document_calls}
+use Rattle.sval_json_read.specs.Calls.{string_value_calls, place_begins, place_ends, placed_token_calls, document_calls}
 use Rattle.sval_json_read.specs.Documents.{IsDocument}
 use Rattle.sval_json_read.specs.SeenValues.{text_in}
 use Rattle.sval_json_read.specs.Tokens as token
-use Rattle.sval_json_read.specs.Tokens.{Place, Alone, Item, Key, Value, Placed, placed_at, between_quotes, tokens_of, item_tokens, pair_tokens}
+use Rattle.sval_json_read.specs.Tokens.{Place, Token, Alone, Item, Key, Value, Placed, placed_at, between_quotes, tokens_of, item_tokens, pair_tokens}
 use Rattle.sval_json_read.specs.Trees.{fits_i64, whole_value, number_name, number_tree, tree_of, items_of, entries_of}
 use Rattle.sval_json_read.proofs.PieceTexts.{pieces-text}
 use Rattle.sval_json_read.proofs.SpelledTrees.{good, text_says, SaysIn, value_says}
@@ -185,32 +185,21 @@ module _ (rule : Rule) where
     abbrev inside : List Reach
     inside = record { fate = fate; entry = Within paths } ∷ around
 
-    array_left : (last : Fate) (place : Place) (row : Values) (mid : List Placed)
-        → ((later : List Placed) → SayParts (pruned_parts rule paths (items_of row)) (plain (document_calls (left_tokens (at (Within paths) (Within paths) inside) (mid ++ later))))
-        (plain (document_calls (left_tokens (at (Within paths) last inside) later))))
-        → (more : List Placed) → SaysIn place (Container Head.Seq (pruned_parts rule paths (items_of row)))
-        (document_calls (left_tokens here ((placed_at place token.BeginArray ∷ (mid ++ (placed_at place token.EndArray ∷ []))) ++ more))) (document_calls (left_tokens here more))
-    array_left last place row mid s more =
-        let calls = document_calls (left_tokens (at (Within paths) (Within paths) inside) (mid ++ (placed_at place token.EndArray ∷ more))) in
+    -- an array or an object, of which the begin and the end make these calls
+    held_left : (head : Head) (begin end : Token) → plain_head head ≡ head → (last : Fate) (place : Place) (parts : Parts) (mid : List Placed)
+        → ((later : List Placed) → document_calls (left_tokens here (placed_at place begin ∷ later)) ≡ (place_begins place ++ (Call.Begin head None ∷ [])) ++ document_calls (left_tokens (at (Within paths) (Within paths) inside) later))
+        → ((later : List Placed) → document_calls (left_tokens (at (Within paths) last inside) (placed_at place end ∷ later)) ≡ Call.End head ∷ (place_ends place ++ document_calls (left_tokens here later)))
+        → ((later : List Placed) → SayParts parts (plain (document_calls (left_tokens (at (Within paths) (Within paths) inside) (mid ++ later)))) (plain (document_calls (left_tokens (at (Within paths) last inside) later))))
+        → (more : List Placed) → SaysIn place (Container head parts)
+        (document_calls (left_tokens here ((placed_at place begin ∷ (mid ++ (placed_at place end ∷ []))) ++ more))) (document_calls (left_tokens here more))
+    held_left head begin end bare last place parts mid begins ends s more =
+        let calls = document_calls (left_tokens (at (Within paths) (Within paths) inside) (mid ++ (placed_at place end ∷ more))) in
         record {
-          inner = Call.Begin Head.Seq None ∷ calls;
-          begin = append_assoc (place_begins place) (Call.Begin Head.Seq None ∷ []) (document_calls (left_tokens (at (Within paths) (Within paths) inside) ((mid ++ (placed_at place token.EndArray ∷ [])) ++ more)))
-              ∙ ap (λ x. place_begins place ++ (Call.Begin Head.Seq None ∷ document_calls (left_tokens (at (Within paths) (Within paths) inside) x))) (append_assoc mid (placed_at place token.EndArray ∷ []) more);
-          says = (None, plain calls, tt, refl, s (placed_at place token.EndArray ∷ more));
-        }
-
-    object_left : (last : Fate) (place : Place) (row : Members) (mid : List Placed)
-        → ((later : List Placed) → SayParts (pruned_parts rule paths (entries_of row)) (plain (document_calls (left_tokens (at (Within paths) (Within paths) inside) (mid ++ later))))
-        (plain (document_calls (left_tokens (at (Within paths) last inside) later))))
-        → (more : List Placed) → SaysIn place (Container Head.Map (pruned_parts rule paths (entries_of row)))
-        (document_calls (left_tokens here ((placed_at place token.BeginObject ∷ (mid ++ (placed_at place token.EndObject ∷ []))) ++ more))) (document_calls (left_tokens here more))
-    object_left last place row mid s more =
-        let calls = document_calls (left_tokens (at (Within paths) (Within paths) inside) (mid ++ (placed_at place token.EndObject ∷ more))) in
-        record {
-          inner = Call.Begin Head.Map None ∷ calls;
-          begin = append_assoc (place_begins place) (Call.Begin Head.Map None ∷ []) (document_calls (left_tokens (at (Within paths) (Within paths) inside) ((mid ++ (placed_at place token.EndObject ∷ [])) ++ more)))
-              ∙ ap (λ x. place_begins place ++ (Call.Begin Head.Map None ∷ document_calls (left_tokens (at (Within paths) (Within paths) inside) x))) (append_assoc mid (placed_at place token.EndObject ∷ []) more);
-          says = (None, plain calls, tt, refl, s (placed_at place token.EndObject ∷ more));
+          inner = Call.Begin head None ∷ calls;
+          begin = begins ((mid ++ (placed_at place end ∷ [])) ++ more)
+              ∙ append_assoc (place_begins place) (Call.Begin head None ∷ []) (document_calls (left_tokens (at (Within paths) (Within paths) inside) ((mid ++ (placed_at place end ∷ [])) ++ more)))
+              ∙ ap (λ x. place_begins place ++ (Call.Begin head None ∷ document_calls (left_tokens (at (Within paths) (Within paths) inside) x))) (append_assoc mid (placed_at place end ∷ []) more);
+          says = (None, plain calls, tt, ap (λ h. Call.Begin h None ∷ plain calls) bare, subst (λ after. SayParts parts (plain calls) (plain after)) (ends more) (s (placed_at place end ∷ more)));
         }
 
   -- an item
@@ -248,12 +237,14 @@ module _ (rule : Rule) where
     value_left paths fate around Item n (string {text = text} s) more = one_left Item (Text text) (placed_at Item (token.Text (between_quotes s))) (left_tokens (at fate (Within paths) around) more) (value_says Item (string s))
     value_left paths fate around Value n (string {text = text} s) more = one_left Value (Text text) (placed_at Value (token.Text (between_quotes s))) (left_tokens (at fate (Within paths) around) more) (value_says Value (string s))
     value_left paths fate around Key n (string s) more = absurd n
-    value_left paths fate around place n (empty_array e) more = array_left paths fate around (Within paths) place no_values [] (λ later. refl) more
+    value_left paths fate around place n (empty_array e) more = held_left paths fate around Head.Seq token.BeginArray token.EndArray refl (Within paths) place none [] (λ later. refl) (λ later. refl) (λ later. refl) more
     value_left paths fate around place n (array {values = row} vs) more =
-        array_left paths fate around (Within paths) place row (item_tokens vs) (items_left paths (record { fate = fate; entry = Within paths } ∷ around) vs) more
-    value_left paths fate around place n (empty_object e) more = object_left paths fate around (Within paths) place no_members [] (λ later. refl) more
+        held_left paths fate around Head.Seq token.BeginArray token.EndArray refl (Within paths) place (pruned_parts rule paths (items_of row)) (item_tokens vs) (λ later. refl) (λ later. refl)
+        (items_left paths (record { fate = fate; entry = Within paths } ∷ around) vs) more
+    value_left paths fate around place n (empty_object e) more = held_left paths fate around Head.Map token.BeginObject token.EndObject refl (Within paths) place none [] (λ later. refl) (λ later. refl) (λ later. refl) more
     value_left paths fate around place n (object {members = row} vs) more =
-        object_left paths fate around (last_entry paths vs) place row (pair_tokens vs) (pairs_left paths (record { fate = fate; entry = Within paths } ∷ around) (Within paths) vs) more
+        held_left paths fate around Head.Map token.BeginObject token.EndObject refl (last_entry paths vs) place (pruned_parts rule paths (entries_of row)) (pair_tokens vs) (λ later. refl) (λ later. refl)
+        (pairs_left paths (record { fate = fate; entry = Within paths } ∷ around) (Within paths) vs) more
 
     items_left : {bytes rest : List ℕ} {row : Values} (paths : List Path) (around : List Reach) (vs : AreJsonValues bytes row rest) (later : List Placed)
         → SayParts (pruned_parts rule paths (items_of row)) (plain (document_calls (left_tokens (at (Within paths) (Within paths) around) (item_tokens vs ++ later))))
