@@ -1,7 +1,7 @@
 //! The whole program, over any words and devices.
 
 ghost use Rattle.std.specs.Prelude.{◌≡◌, ◌<◌, ◌^◌, ℕ, List, [], Some, length, map, string_bytes};
-ghost use Rattle.sval_program.specs.Jobs.{ServesBytes, ServesInput, Serves};
+ghost use Rattle.sval_program.specs.Jobs.{ServesBytes, ServesInput};
 ghost use Rattle.sval_program.specs.Runs.{Ends, Reports};
 ghost use Rattle.sval_script.specs.Lines.{lines, Good};
 ghost use Rattle.sval_relay.specs.declared.way.Form.TheVariants.{Serve, Made};
@@ -15,7 +15,7 @@ use crate::made::relay_made;
 use crate::relaying::RelayError;
 use crate::streams::Relay;
 use crate::trees::write_tree;
-use crate::way::{Form, Task, Way, named_form};
+use crate::way::{Task, Way};
 use std::alloc::Global;
 use sval_check::{check, check_all};
 use sval_io::{Sink, SinkError, Source};
@@ -103,7 +103,7 @@ fn serve_script<K: Sink>(
 }
 
 /// Reads the input whole, and serves it as a script.
-fn serve_input<I: Source, K: Sink>(
+pub(crate) fn serve_input<I: Source, K: Sink>(
     alloc: Global,
     task: Task,
     input: &mut I,
@@ -117,27 +117,10 @@ fn serve_input<I: Source, K: Sink>(
 }
 
 /// Writes the sizes of a script of `count` records, and of its JSON.
-fn serve_made<K: Sink>(alloc: Global, count: u32, out: &mut K) -> Result<(), Failure>
+pub(crate) fn serve_made<K: Sink>(alloc: Global, count: u32, out: &mut K) -> Result<(), Failure>
     ensures { ServesBytes relay_terms K.told (Made count) [] result out.old out.new }
 {
     Ok(relay_made(alloc, count, out)?)
-}
-
-/// Serves the words, if they are a form.
-pub(crate) fn serve<I: Source, K: Sink>(
-    alloc: Global,
-    words: &[String],
-    input: &mut I,
-    out: &mut K,
-) -> Result<(), Failure>
-    ensures { Serves relay_terms I.told K.told (map string_bytes words.now) result
-        input.old input.new out.old out.new }
-{
-    match named_form(words) {
-        None => Err(Failure::Usage),
-        Some(Form::Serve(task)) => serve_input(alloc, task, input, out),
-        Some(Form::Made(count)) => serve_made(alloc, count, out),
-    }
 }
 
 /// Runs the program on its words, its devices and an allocator, and answers its status, one of those of

@@ -8,8 +8,8 @@ ghost use Rattle.sval_relay.specs.Serves.{relay_terms};
 ghost use Rattle.sval_relay.specs.Ways.{relay_form};
 
 use crate::made::MadeError;
-use crate::running::serve;
-use crate::way::named_form;
+use crate::running::{serve_input, serve_made};
+use crate::way::{Form, named_form};
 use std::alloc::Global;
 use std::io::{Read, Write};
 use sval_io::{Sink, SinkError, Source};
@@ -56,7 +56,11 @@ impl Job for Relay {
         input: &mut I,
         out: &mut K,
     ) -> Result<(), Failure> {
-        serve(alloc, words, input, out)
+        match named_form(words) {
+            None => Err(Failure::Usage),
+            Some(Form::Serve(task)) => serve_input(alloc, task, input, out),
+            Some(Form::Made(count)) => serve_made(alloc, count, out),
+        }
     }
 }
 
