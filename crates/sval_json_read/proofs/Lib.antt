@@ -41,6 +41,8 @@ pub mod ByteRuns
 mod examples
 pub mod TokenTexts
 pub mod NodeTexts
+pub mod TextParts
+pub mod PendingParts
 pub mod DueTexts
 pub mod OneDue
 mod SpanTokens

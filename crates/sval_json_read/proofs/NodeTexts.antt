@@ -1,7 +1,7 @@
 -- The JSON of nodes that is written piece by piece.
 use Rattle.std.specs.Prelude.{◌≡◌, ℕ, ◌+◌, ◌<◌, ◌≤◌, Bool, true, false, not, ◌||◌, ◌==◌, nat_lt, List, [], ◌∷◌, ◌++◌, Result, Ok, Err, map, length, drop, take, get_or, refl}
-use Rattle.std.specs.List.{concat, list_all, AllPass}
-use Rattle.std.proofs.Common.{sym, ap, subst, ◌∙◌, append_assoc, append-nil}
+use Rattle.std.specs.List.{between, concat, list_all, AllPass}
+use Rattle.std.proofs.Common.{sym, ap, subst, ◌∙◌, append_assoc, append-nil, arith}
 use Rattle.std.proofs.lemmas.Bool.{and_parts}
 use Rattle.std.proofs.lemmas.List.{take_all}
 use Rattle.std.proofs.lemmas.List.Sums.{list_all-from_AllPass}
@@ -16,9 +16,11 @@ use Rattle.sval_json_read.specs.RawStrings.{is_no_backslash}
 use Rattle.sval_json_read.specs.Nodes.{placed_in, tokens_in}
 use Rattle.sval_json_read.specs.SeenNodes.{seen_node, IsKeptOf, AreKeptOf}
 use Rattle.sval_json_read.specs.SeenValues.{text_in}
+use Rattle.sval_json_read.specs.TextParts.{part_bytes, IsPartOf, IsWrittenUpTo}
 use Rattle.sval_json_read.specs.Tokens.{Placed}
 use Rattle.sval_json_read.specs.TokenTexts.{begins_container, placed_text, tokens_text}
 use Rattle.sval_json_read.specs.declared.node.Node.{Node}
+use Rattle.sval_json_read.specs.declared.text_part.TextPart.{TextPart}
 use Rattle.sval_json_read.proofs.NodeStreams.{here}
 use Rattle.sval_json_read.proofs.RawStrings.{pieces-run}
 
@@ -29,12 +31,6 @@ both_written new xs ys (Ok done) w a = writes_both xs ys w a
 both_written new xs ys (Err why) w a = stops_after xs ys [] w (ap (λ z. xs ++ z) (sym (append-nil ys))) a
 
 -- ---- a front that is written
-
--- these bytes of the whole are left
-pub record IsWrittenUpTo (old : Told) (whole rest : List ℕ) (new : Told) : Type 0 where
-  pub front : List ℕ
-  pub same : whole ≡ front ++ rest
-  pub writes : WritesWhole old front new
 
 pub up_to_begin : (told : Told) (whole : List ℕ) → IsWrittenUpTo told whole whole told
 up_to_begin told whole = record { front = []; same = refl; writes = writes_nothing told }
@@ -72,7 +68,7 @@ no_backslashes (byte ∷ bytes) h =
     let here : is_no_backslash byte ≡ true = last_bit (nat_lt byte 32) (byte == 34) (byte == 92) p in
     rw (here, no_backslashes bytes q) refl
 
-one_run_text : (raw : List ℕ) → list_all is_no_backslash raw ≡ true → text_in raw ≡ raw
+pub one_run_text : (raw : List ℕ) → list_all is_no_backslash raw ≡ true → text_in raw ≡ raw
 one_run_text [] h = refl
 one_run_text (byte ∷ bytes) h =
     ap text_in (sym (append-nil (byte ∷ bytes)))
@@ -87,17 +83,39 @@ plain_text raw n end plain =
 
 -- ---- node by node
 
--- all before these nodes was written, and they are kept of the text
-pub record AreWrittenUpTo (old : Told) (text : List ℕ) (all left : List Node) (is_first : Bool) (new : Told) : Type 0 where
+-- some bytes were written, and of a piece and what was left before it so much is left
+pub up_to_later : {old mid new : Told} {whole after : List ℕ} (before piece later : List ℕ) → IsWrittenUpTo old whole (before ++ (piece ++ later)) mid → IsWrittenUpTo mid (before ++ piece) after new
+    → IsWrittenUpTo old whole (after ++ later) new
+up_to_later {after = after} before piece later l s = record {
+  front = l.front ++ s.front;
+  same =
+      l.same ∙ ap (λ x. l.front ++ x) (sym (append_assoc before piece later) ∙ ap (λ x. x ++ later) s.same ∙ append_assoc s.front after later)
+      ∙ sym (append_assoc l.front s.front (after ++ later));
+  writes = writes_both l.front s.front l.writes s.writes;
+}
+
+-- all before these nodes was written but what is pending, and they are kept of the text
+pub record AreWrittenUpTo (old : Told) (text : List ℕ) (all left : List Node) (is_first : Bool) (pending : TextPart) (new : Told) : Type 0 where
   pub kept : AreKeptOf text left
-  pub written : IsWrittenUpTo old (tokens_text true (tokens_in text (map seen_node all))) (tokens_text is_first (tokens_in text (map seen_node left))) new
+  pub within : IsPartOf text pending
+  pub written : IsWrittenUpTo old (tokens_text true (tokens_in text (map seen_node all))) (part_bytes text pending ++ tokens_text is_first (tokens_in text (map seen_node left))) new
 
-pub nodes_begin : (told : Told) (text : List ℕ) (nodes : List Node) → AreKeptOf text nodes → AreWrittenUpTo told text nodes nodes true told
-nodes_begin told text nodes k = record { kept = k; written = up_to_begin told (tokens_text true (tokens_in text (map seen_node nodes))) }
+pub nodes_begin : (told : Told) (text : List ℕ) (nodes : List Node) (pending : TextPart) → pending.from ≡ 0 → pending.to ≡ 0 → AreKeptOf text nodes → AreWrittenUpTo told text nodes nodes true pending told
+nodes_begin told text nodes pending f t k =
+    let whole = tokens_text true (tokens_in text (map seen_node nodes)) in
+    let nothing : part_bytes text pending ≡ [] = ap (λ from. between from pending.to text) f ∙ ap (λ to. between 0 to text) t in
+    record {
+      kept = k;
+      within = record { order = omega arith; within = omega arith };
+      written = subst (λ x. IsWrittenUpTo told whole (x ++ whole) told) (sym nothing) (up_to_begin told whole);
+    }
 
-module _ {old mid : Told} {text : List ℕ} (nodes : List Node) (i : ℕ) (d : Node) (is_first : Bool) (s : AreWrittenUpTo old text nodes (drop i nodes) is_first mid) (within : i < length nodes) where
+module _ {old mid : Told} {text : List ℕ} (nodes : List Node) (i : ℕ) (d : Node) (is_first : Bool) (pending : TextPart) (s : AreWrittenUpTo old text nodes (drop i nodes) is_first pending mid) (within : i < length nodes) where
   abbrev node : Placed
   node = placed_in text (seen_node (get_or nodes i d))
+
+  abbrev later : List ℕ
+  later = tokens_text (begins_container node.token) (tokens_in text (map seen_node (drop (i + 1) nodes)))
 
   left_kept : AreKeptOf text (get_or nodes i d ∷ drop (i + 1) nodes)
   left_kept = subst (AreKeptOf text) (here nodes i d within) s.kept
@@ -105,15 +123,24 @@ module _ {old mid : Told} {text : List ℕ} (nodes : List Node) (i : ℕ) (d : N
   pub kept_at : IsKeptOf text (get_or nodes i d)
   kept_at = left_kept.0
 
-  left_text : tokens_text is_first (tokens_in text (map seen_node (drop i nodes))) ≡ placed_text is_first node ++ tokens_text (begins_container node.token) (tokens_in text (map seen_node (drop (i + 1) nodes)))
+  left_text : tokens_text is_first (tokens_in text (map seen_node (drop i nodes))) ≡ placed_text is_first node ++ later
   left_text = ap (λ left. tokens_text is_first (tokens_in text (map seen_node left))) (here nodes i d within)
 
-  pub node_on : (new : Told) (next : Bool) → WritesWhole mid (placed_text is_first node) new → next ≡ begins_container node.token → AreWrittenUpTo old text nodes (drop (i + 1) nodes) next new
-  node_on new next w e = subst (λ b. AreWrittenUpTo old text nodes (drop (i + 1) nodes) b new) (sym e)
-      (record { kept = left_kept.1; written = up_to_next (placed_text is_first node) (tokens_text (begins_container node.token) (tokens_in text (map seen_node (drop (i + 1) nodes)))) left_text s.written w })
+  left_written : IsWrittenUpTo old (tokens_text true (tokens_in text (map seen_node nodes))) (part_bytes text pending ++ (placed_text is_first node ++ later)) mid
+  left_written = subst (λ x. IsWrittenUpTo old (tokens_text true (tokens_in text (map seen_node nodes))) (part_bytes text pending ++ x) mid) left_text s.written
 
-  pub node_stops : {why : SinkError} (new : Told) → WritesFront why mid (placed_text is_first node) new → WritesFront why old (tokens_text true (tokens_in text (map seen_node nodes))) new
-  node_stops new f = stops_in_next (placed_text is_first node) (tokens_text (begins_container node.token) (tokens_in text (map seen_node (drop (i + 1) nodes)))) left_text s.written f
+  pub node_on : (new : Told) (next : TextPart) (first : Bool) → IsPartOf text next → IsWrittenUpTo mid (part_bytes text pending ++ placed_text is_first node) (part_bytes text next) new
+      → first ≡ begins_container node.token → AreWrittenUpTo old text nodes (drop (i + 1) nodes) first next new
+  node_on new next first p w e = subst (λ b. AreWrittenUpTo old text nodes (drop (i + 1) nodes) b next new) (sym e)
+      (record { kept = left_kept.1; within = p; written = up_to_later (part_bytes text pending) (placed_text is_first node) later left_written w })
 
-pub nodes_end : {old new : Told} {text : List ℕ} {nodes left : List Node} {is_first : Bool} → AreWrittenUpTo old text nodes left is_first new → left ≡ [] → WritesWhole old (tokens_text true (tokens_in text (map seen_node nodes))) new
-nodes_end {text = text} {is_first = is_first} s e = up_to_end (ap (λ left. tokens_text is_first (tokens_in text (map seen_node left))) e) s.written
+  pub node_stops : {why : SinkError} (new : Told) → WritesFront why mid (part_bytes text pending ++ placed_text is_first node) new → WritesFront why old (tokens_text true (tokens_in text (map seen_node nodes))) new
+  node_stops new f =
+      stops_in_next (part_bytes text pending ++ placed_text is_first node) later (sym (append_assoc (part_bytes text pending) (placed_text is_first node) later)) left_written f
+
+-- what is pending at the end is the last piece
+pub nodes_end : {old mid : Told} {text : List ℕ} {nodes left : List Node} {is_first : Bool} {pending : TextPart} (new : Told) (r : Result (Unit {0}) SinkError)
+    → AreWrittenUpTo old text nodes left is_first pending mid → left ≡ [] → WritesAll r mid (part_bytes text pending) new → WritesAll r old (tokens_text true (tokens_in text (map seen_node nodes))) new
+nodes_end {old = old} {text = text} {nodes = nodes} {is_first = is_first} {pending = pending} new r s e w =
+    let last = ap (λ left. part_bytes text pending ++ tokens_text is_first (tokens_in text (map seen_node left))) e ∙ append-nil (part_bytes text pending) in
+    subst (λ x. WritesAll r old x new) (sym (s.written.same ∙ ap (λ x. s.written.front ++ x) last)) (both_written new s.written.front (part_bytes text pending) r s.written.writes w)

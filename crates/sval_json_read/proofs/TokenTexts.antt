@@ -5,7 +5,7 @@ use Rattle.std.proofs.Common.{sym, ap, subst, ◌∙◌, append_assoc, append-ni
 use Rattle.sval_label.specs.Calls.{Call, Slot, Head, I64}
 use Rattle.sval_label.specs.Texts.{truth_text}
 use Rattle.sval_json.specs.declared.style.Variants.TheVariants.{Inside}
-use Rattle.sval_json.specs.Actions.{WriterState, Outcome, escapes}
+use Rattle.sval_json.specs.Actions.{Outcome, escapes}
 use Rattle.sval_json.specs.Digits.{is_json_number}
 use Rattle.sval_json.specs.Escape.{escaped, in_quotes}
 use Rattle.sval_json.specs.Grammar as json
@@ -16,7 +16,7 @@ use Rattle.sval_json.specs.Number.{normal}
 use Rattle.sval_json.specs.Shape.{json_of}
 use Rattle.sval_json.specs.Steps.{writer_steps, written_in}
 use Rattle.sval_json.proofs.Texts.{escaped-append}
-use Rattle.sval_json.proofs.Writing.{at, prepend, prepend_twice, GoesOn, goes_same, number_inner, machine_start}
+use Rattle.sval_json.proofs.Writing.{at, prepend, prepend_twice, goes_same, number_inner}
 use Rattle.sval_json.proofs.WritingPlain.{spelling_written}
 use Rattle.sval_json_read.specs.Calls.{Piece, run, escape, piece_bytes, piece_call, pieces, string_value_calls, number_calls, place_begins, place_ends, calls_in, placed_token_calls, document_calls}
 use Rattle.sval_json_read.specs.Documents.{IsDocument}

@@ -37,3 +37,4 @@ pub mod TokenKinds
 pub mod TokenMarks
 pub mod NextCharacters
 pub mod TokenTexts
+pub mod TextParts

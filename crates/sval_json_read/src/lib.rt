@@ -25,6 +25,7 @@ mod node_calls;
 mod node_text;
 mod number;
 mod number_calls;
+mod pending;
 mod piece;
 pub mod pointer;
 mod program;
@@ -35,6 +36,7 @@ mod stack;
 pub mod status;
 mod string;
 mod string_calls;
+mod text_part;
 mod word;
 
 pub use document::{JsonDoc, LimitedError, ReadError};

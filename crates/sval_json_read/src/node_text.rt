@@ -15,6 +15,7 @@ ghost use Rattle.sval_json_read.specs.Trees.{settled_number};
 
 use crate::node::{Node, Place};
 use crate::piece::{Piece, first_piece};
+use crate::text_part::TextPart;
 use sval_io::{Sink, SinkError, write_all, write_in_place};
 use sval_json::escape::{first_escape, write_escaped};
 
@@ -138,7 +139,7 @@ fn write_behind_comma<K: Sink>(
 impl Place {
     /// Whether a comma is due: before an element or a name, unless it is the first one.
     #[inline(always)]
-    fn has_comma(self, is_first: bool) -> bool
+    pub(crate) fn has_comma(self, is_first: bool) -> bool
         ensures { comma_at is_first (node_place self) ≡ (if result then codes "," else []) }
     {
         match self {
@@ -318,16 +319,20 @@ impl Node {
     }
 }
 
-/// Writes nodes, one after another, from the text of the document.
+/// Writes nodes, one after another, from the text of the document. Those that follow each other in it just as they are
+/// written are one piece.
 pub(crate) fn write_nodes<K: Sink>(text: &str, nodes: &[Node], out: &mut K) -> Result<(), SinkError>
     requires { AreKeptOf text.now nodes.now }
     ensures { WritesAll result (K.told out.old) (tokens_text true (tokens_in text.now (map seen_node nodes.now)))
         (K.told out.new) }
 {
+    let mut plain = TextPart { from: 0, to: 0 };
+    let mut pending = TextPart { from: 0, to: 0 };
     let mut is_first = true;
     for node in nodes {
-        node.write(text, is_first, out)?;
+        plain = node.plain_around(text, plain);
+        pending = node.write_next(text, plain, is_first, pending, out)?;
         is_first = node.is_begin();
     }
-    Ok(())
+    write_all(out, &text.as_bytes()[pending.from..pending.to])
 }

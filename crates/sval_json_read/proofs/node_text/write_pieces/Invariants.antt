@@ -4,7 +4,7 @@ use denote.Shadow.{shadow}
 use Rattle.sval_json.specs.Escape.{escaped}
 use Rattle.sval_json_read.specs.RawStrings.{IsRaw}
 use Rattle.sval_json_read.specs.SeenValues.{text_in}
-use Rattle.sval_json_read.proofs.NodeTexts.{IsWrittenUpTo}
+use Rattle.sval_json_read.specs.TextParts.{IsWrittenUpTo}
 use Rattle.sval_json_read.proofs.node_text.write_pieces.Given as goal
 
 -- what is left is text, and all before it was written
