@@ -6,4 +6,5 @@ mod limits;
 mod malformed;
 mod parts;
 mod sinks;
+mod unsupported;
 mod written;

@@ -21,7 +21,8 @@ use Rattle.sval_c.specs.Due.{JsonOfCborDue, has_json, bad_key, no_item}
 use Rattle.sval_c.specs.Lacks.{lack_of_cbor, lack_of_writing, IsLacking}
 
 pub unread : (input : List ℕ) (why : CborReadError) → IsCborReadError input why → IsLacking (JsonOfCborDue input) (lack_of_cbor why)
-unread input (reading.Bad at) cause = ([], no_item cause.no_item)
+unread input (reading.Malformed at) cause = ([], no_item cause.0.no_item)
+unread input (reading.Unsupported at) cause = ([], no_item cause.0.no_item)
 unread input reading.NoMemory cause = tt
 
 module _ (input : List ℕ) (calls : List Call) (r : IsReadItem input calls) where

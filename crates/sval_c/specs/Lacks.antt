@@ -31,7 +31,8 @@ lack_of_json (json.BadJson at) = lack.Fault (fault.BadJson at)
 lack_of_json json.NoMemory = lack.NoMemory
 
 abbrev pub lack_of_cbor : CborReadError → Lack
-lack_of_cbor (item.Bad at) = lack.Fault fault.BadCbor
+lack_of_cbor (item.Malformed at) = lack.Fault fault.BadCbor
+lack_of_cbor (item.Unsupported at) = lack.Fault fault.BadCbor
 lack_of_cbor item.NoMemory = lack.NoMemory
 
 -- of an item of CBOR that is written to memory, where the others don't come

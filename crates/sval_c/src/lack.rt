@@ -51,7 +51,8 @@ pub(crate) fn of_cbor(error: CborReadError) -> Lack
     ensures { result ≡ lack_of_cbor error }
 {
     match error {
-        CborReadError::Bad { .. } => Lack::Fault(Fault::BadCbor),
+        CborReadError::Malformed { .. } => Lack::Fault(Fault::BadCbor),
+        CborReadError::Unsupported { .. } => Lack::Fault(Fault::BadCbor),
         CborReadError::NoMemory => Lack::NoMemory,
     }
 }

@@ -19,6 +19,9 @@ pub mod HeadsGo
 pub mod ByteStrings
 pub mod ItemCalls
 pub mod ReadsOn
+pub mod WellFormed
+pub mod WellFormedFronts
+pub mod WellFormedSteps
 pub mod NodeStreams
 pub mod Fronts
 pub mod CborNodes
@@ -28,6 +31,7 @@ pub mod CborNext
 pub mod CborCounts
 pub mod CborChunks
 pub mod Loop
+pub mod UnreadCauses
 pub mod LimitedHeads
 pub mod ItemTrees
 pub mod DueTexts

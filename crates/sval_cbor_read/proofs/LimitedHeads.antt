@@ -3,12 +3,11 @@ use Rattle.std.specs.Prelude.{◌≡◌, ℕ, suc, ◌+◌, ◌<◌, ◌≤◌, 
 use Rattle.std.proofs.Common.{sym, ap, ◌∙◌, subst, arith}
 use Rattle.std.proofs.lemmas.Bool.{false≢true}
 use Rattle.sval_io.specs.declared.limits.Limits.{Limits}
-use Rattle.sval_cbor_read.specs.declared.document.CborReadError.TheVariants.{Bad, NoMemory}
 use Rattle.sval_cbor_read.specs.declared.document.limited.CborLimitedError.{CborLimitedError}
 use Rattle.sval_cbor_read.specs.declared.document.limited.CborLimitedError.TheVariants.{Read, TooDeep, TooMany}
 use Rattle.sval_cbor_read.specs.declared.reader.Expected.TheVariants as expected
 use Rattle.sval_cbor_read.specs.declared.reader.Reader.{Reader}
-use Rattle.sval_cbor_read.specs.CborLimits.{IsFrontWithin, EndsWithin, FailsWithin, OpensTooMany, HasTooMany, IsLimitedCborError, IsLimitedFrontError}
+use Rattle.sval_cbor_read.specs.CborLimits.{IsFrontWithin, EndsWithin, FailsWithin, OpensTooMany, HasTooMany, IsLimitedCborError}
 use Rattle.sval_cbor_read.specs.HeadFronts.{so_many, head_front, IsFrontOf, no_heads, one_head_more, FailsFrom, at_its_head}
 use Rattle.sval_cbor_read.specs.SeenDue.{is_begun_behind}
 use Rattle.sval_cbor_read.specs.SeenLimited.{CountsBegun, CborPasses}
@@ -98,7 +97,7 @@ module _ (bytes : List ℕ) (limits : Limits) (old new : Reader) (begun : ℕ) (
       }
 
   pub passes_limit : (error : CborLimitedError) → old.at ≤ length bytes → length old.opened ≤ limits.depth → TakesHead bytes old new → CborPasses has_begun (length new.opened) begun limits old.at error
-      → IsLimitedFrontError bytes limits error
+      → IsLimitedCborError bytes limits error
   passes_limit (Read error) w o t p = absurd p
   passes_limit (TooDeep at) w o t p = subst (OpensTooMany bytes limits) (sym p.0) (too_deep w o p.1 t)
   passes_limit (TooMany at) w o t p = subst (HasTooMany bytes limits) (sym p.0) (too_many w p.1 p.2 p.3 t)
@@ -118,10 +117,3 @@ ends_within bytes limits reader begun e r = record {
 -- bytes follow it
 pub more_within : (bytes : List ℕ) (limits : Limits) (at : ℕ) → EndsWithin bytes limits (drop at bytes) → FailsWithin bytes limits at
 more_within bytes limits at e = record { front = head_front (so_many 0 ∷ []) e.deepest e.nodes (drop at bytes); within = e.front; from = at; from_is = refl; fails = at_its_head }
-
--- what is an error of the front is one of all bytes
-pub limited_error : (bytes : List ℕ) (limits : Limits) (error : CborLimitedError) → IsLimitedFrontError bytes limits error → IsLimitedCborError bytes limits error
-limited_error bytes limits (Read (Bad at)) b = (record { no_item = λ tree item. b.0.no_item tree [] item; stops_at = b.0.stops_at }, b.1)
-limited_error bytes limits (Read NoMemory) m = m
-limited_error bytes limits (TooDeep at) h = h
-limited_error bytes limits (TooMany at) h = h

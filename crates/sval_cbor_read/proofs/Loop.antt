@@ -10,9 +10,7 @@ use Rattle.sval_cbor_read.specs.Reading.{ItemState, Ended, reading_step, Reached
 use Rattle.sval_cbor_read.specs.Steps.{Spot, spot, first_spot, ItemSteps, one_step, more_steps, IsReached, StopsWith, at_once, after_steps, IsStuckWith, MakesSomeCall}
 use Rattle.sval_cbor_read.specs.SeenNodes.{streamed_items}
 use Rattle.sval_cbor_read.specs.SeenReader.{spot_of}
-use Rattle.sval_cbor_read.specs.declared.document.CborReadError.{CborReadError}
-use Rattle.sval_cbor_read.specs.declared.document.CborReadError.TheVariants as errors
-use Rattle.sval_cbor_read.specs.ReadErrors.{IsReadItem, IsReadFront, IsBadCbor, IsBadFront, IsCborReadError, IsCborFrontError, MakesSome}
+use Rattle.sval_cbor_read.specs.ReadErrors.{IsReadItem, IsReadFront, IsBadCbor, IsBadFront, MakesSome}
 use Rattle.sval_cbor_read.proofs.Nearer.{step_nearer}
 use Rattle.sval_cbor_read.proofs.Complete.{item_is_read, front_is_read}
 use Rattle.sval_cbor_read.proofs.OneReading.{ends_well, ends_front, front_spells, read_spells}
@@ -62,11 +60,6 @@ module _ (bytes : List ℕ) (reader : Reader) (ended : reader.expected ≡ expec
       let calls = streamed_items bytes reader.nodes.items in
       let (tree, item, same) = front_spells left bytes calls (ends_front bytes left calls end_is_reached) in
       record { tree = tree; item = item; alone = item_alone bytes tree reader.at w item; same = same; spells = subst (λ x. Spells x tree) (sym same) (front_is_read left bytes tree item).1; within = w }
-
--- what is an error of the front is one of all bytes
-pub front_error : (bytes : List ℕ) (error : CborReadError) → IsCborFrontError bytes error → IsCborReadError bytes error
-front_error bytes (errors.Bad at) b = record { no_item = λ tree item. b.no_item tree [] item; stops_at = b.stops_at }
-front_error bytes errors.NoMemory m = m
 
 -- an item behind which bytes follow
 pub more_is_bad : (bytes : List ℕ) (calls : List Call) (at : ℕ) → IsReadFront bytes calls at → Reached bytes (Ended []) (drop at bytes) calls → at < length bytes → IsBadCbor bytes at

@@ -1,11 +1,11 @@
 -- What reading with limits answers.
 use Rattle.std.specs.Prelude.{◌≡◌, ℕ, zero, suc, ◌≤◌, List, [], ◌∷◌, length, drop}
 use Rattle.sval_io.specs.declared.limits.Limits.{Limits}
-use Rattle.sval_cbor_read.specs.declared.document.CborReadError.TheVariants.{Bad, NoMemory}
+use Rattle.sval_cbor_read.specs.declared.document.CborReadError.TheVariants.{Malformed, Unsupported, NoMemory}
 use Rattle.sval_cbor_read.specs.declared.document.limited.CborLimitedError.{CborLimitedError}
 use Rattle.sval_cbor_read.specs.declared.document.limited.CborLimitedError.TheVariants.{Read, TooDeep, TooMany}
 use Rattle.sval_cbor_read.specs.HeadFronts.{so_many, HeadFront, head_front, NextHead, IsFrontOf, FailsFrom}
-use Rattle.sval_cbor_read.specs.ReadErrors.{IsBadCbor, IsBadFront, MakesSome}
+use Rattle.sval_cbor_read.specs.ReadErrors.{WantsMemory, IsCborReadError}
 
 -- a front of the bytes opens no more levels than allowed, and has no more nodes
 pub record IsFrontWithin (bytes : List ℕ) (limits : Limits) (front : HeadFront) : Type 0 where
@@ -48,16 +48,10 @@ pub record HasTooMany (bytes : List ℕ) (limits : Limits) (at : ℕ) : Type 0 w
   pub not_deeper : next.deepest ≤ limits.depth
   pub inside : at ≤ length bytes
 
--- the cause of each error of the bytes: they are an item of no tree and fail before a limit is passed, something is kept of them, or they pass a limit there
+-- the cause of each error of the bytes: they can't be read, and fail before a limit is passed; they want memory; or they pass a limit there
 abbrev pub IsLimitedCborError : List ℕ → Limits → CborLimitedError → Type 0
-IsLimitedCborError bytes limits (Read (Bad at)) = IsBadCbor bytes at × FailsWithin bytes limits at
-IsLimitedCborError bytes limits (Read NoMemory) = MakesSome bytes
+IsLimitedCborError bytes limits (Read (Malformed at)) = IsCborReadError bytes (Malformed at) × FailsWithin bytes limits at
+IsLimitedCborError bytes limits (Read (Unsupported at)) = IsCborReadError bytes (Unsupported at) × FailsWithin bytes limits at
+IsLimitedCborError bytes limits (Read NoMemory) = WantsMemory bytes
 IsLimitedCborError bytes limits (TooDeep at) = OpensTooMany bytes limits at
 IsLimitedCborError bytes limits (TooMany at) = HasTooMany bytes limits at
-
--- the same where an item is read from the front of the bytes
-abbrev pub IsLimitedFrontError : List ℕ → Limits → CborLimitedError → Type 0
-IsLimitedFrontError bytes limits (Read (Bad at)) = IsBadFront bytes at × FailsWithin bytes limits at
-IsLimitedFrontError bytes limits (Read NoMemory) = MakesSome bytes
-IsLimitedFrontError bytes limits (TooDeep at) = OpensTooMany bytes limits at
-IsLimitedFrontError bytes limits (TooMany at) = HasTooMany bytes limits at

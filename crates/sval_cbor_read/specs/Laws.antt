@@ -13,6 +13,7 @@ use Rattle.sval_cbor.specs.Packs.{pack_as, pack_of}
 use Rattle.sval_cbor.specs.Cbor.{head_bytes, cbor}
 use Rattle.sval_cbor.specs.Premises.{IsShortTreeAs, IsShortTree}
 use Rattle.sval_cbor_read.specs.Items.{head, head_at_front, IsItem, IsItemOf}
+use Rattle.sval_cbor_read.specs.WellFormed.{IsWellFormed}
 use Rattle.sval_cbor_read.specs.Document.{cbor_document_calls}
 use Rattle.sval_cbor_read.specs.ReadErrors.{StepsStopAt}
 use Rattle.sval_cbor_read.specs.Reading.{OpenItem, ItemState, Ended, BignumPieces, Move, fits, reading_step, IsReadAs, Reached, IsAtEnd, distance}
@@ -20,6 +21,14 @@ use Rattle.sval_cbor_read.specs.Reading.{OpenItem, ItemState, Ended, BignumPiece
 -- bytes begin with an item of one tree at most, and it ends at one place
 abbrev pub ItemHasOneTree : Type 0
 ItemHasOneTree = (bytes rest last : List ℕ) (tree other : Tree) → IsItem bytes tree rest → IsItem bytes other last → (tree ≡ other) × (rest ≡ last)
+
+-- each item is well-formed
+abbrev pub ItemsAreWellFormed : Type 0
+ItemsAreWellFormed = (bytes rest : List ℕ) (tree : Tree) → IsItem bytes tree rest → IsWellFormed bytes rest
+
+-- and a well-formed item ends at one place
+abbrev pub WellFormedHasOneRest : Type 0
+WellFormedHasOneRest = (bytes rest last : List ℕ) → IsWellFormed bytes rest → IsWellFormed bytes last → rest ≡ last
 
 -- the tree of an item is real
 abbrev pub ItemsAreReal : Type 0

@@ -1,5 +1,6 @@
 pub mod Items
 pub mod HeadFronts
+pub mod WellFormed
 pub mod Document
 pub mod CborValues
 pub mod CborLookups
@@ -17,12 +18,14 @@ pub mod SeenFound
 pub mod SeenEntries
 pub mod SeenChunks
 pub mod SeenFrames
+pub mod SeenWellFormed
 pub mod SeenDue
 pub mod SeenStops
 pub mod SeenItems
 pub mod SeenParts
 pub mod SeenReader
 pub mod ReadErrors
+pub mod SeenUnread
 pub mod CborLimits
 pub mod SeenLimited
 pub mod ErrorTexts

@@ -1,11 +1,12 @@
 -- What reading bytes answers.
-use Rattle.std.specs.Prelude.{◌≡◌, ℕ, ◌<◌, ◌≤◌, List, [], length, take, drop, None}
+use Rattle.std.specs.Prelude.{◌≡◌, ℕ, ◌<◌, ◌≤◌, ◌⊎◌, List, [], length, take, drop, None}
 use Rattle.sval_label.specs.Calls.{Call}
 use Rattle.sval_core.specs.Trees.{Tree}
 use Rattle.sval_core.specs.Spells.{Spells}
 use Rattle.sval_cbor_read.specs.declared.document.CborReadError.{CborReadError}
-use Rattle.sval_cbor_read.specs.declared.document.CborReadError.TheVariants.{Bad, NoMemory}
+use Rattle.sval_cbor_read.specs.declared.document.CborReadError.TheVariants.{Malformed, Unsupported, NoMemory}
 use Rattle.sval_cbor_read.specs.Items.{IsItem, IsItemOf}
+use Rattle.sval_cbor_read.specs.WellFormed.{IsWellFormed, HoldsItems}
 use Rattle.sval_cbor_read.specs.Document.{cbor_calls, cbor_document_calls}
 use Rattle.sval_cbor_read.specs.Reading.{ItemState, reading_step, Reached}
 use Rattle.sval_cbor_read.specs.Steps.{Spot, IsReached}
@@ -50,12 +51,18 @@ pub record IsBadFront (bytes : List ℕ) (at : ℕ) : Type 0 where
   pub no_item : (tree : Tree) (rest : List ℕ) → IsItem bytes tree rest → ⊥
   pub stops_at : StepsStopAt bytes at
 
--- the cause of each error: the bytes are an item of no tree and fail there, or something is kept of them
+-- something is kept of them, or in looking for the cause they are found to hold items
+abbrev pub WantsMemory : List ℕ → Type 0
+WantsMemory bytes = MakesSome bytes ⊎ HoldsItems bytes
+
+-- the cause of each error: the bytes are an item of no tree and fail there, and are no well-formed item or one; or they want memory
 abbrev pub IsCborReadError : List ℕ → CborReadError → Type 0
-IsCborReadError bytes (Bad at) = IsBadCbor bytes at
-IsCborReadError bytes NoMemory = MakesSome bytes
+IsCborReadError bytes (Malformed at) = IsBadCbor bytes at × (IsWellFormed bytes [] → ⊥)
+IsCborReadError bytes (Unsupported at) = IsBadCbor bytes at × IsWellFormed bytes []
+IsCborReadError bytes NoMemory = WantsMemory bytes
 
 -- the same where an item is read from the front of the bytes
 abbrev pub IsCborFrontError : List ℕ → CborReadError → Type 0
-IsCborFrontError bytes (Bad at) = IsBadFront bytes at
-IsCborFrontError bytes NoMemory = MakesSome bytes
+IsCborFrontError bytes (Malformed at) = IsBadFront bytes at × ((rest : List ℕ) → IsWellFormed bytes rest → ⊥)
+IsCborFrontError bytes (Unsupported at) = IsBadFront bytes at × ((rest : List ℕ) × IsWellFormed bytes rest)
+IsCborFrontError bytes NoMemory = WantsMemory bytes

@@ -83,7 +83,8 @@ pub data CborReadDue : ReadForm → List ℕ → Option Fault → List ℕ → T
 
 -- the failure where bytes weren't read
 abbrev pub failure_of_cbor_read : CborReadError → Failure
-failure_of_cbor_read (reading.Bad at) = failure.Fault fault.BadCbor
+failure_of_cbor_read (reading.Malformed at) = failure.Fault fault.BadCbor
+failure_of_cbor_read (reading.Unsupported at) = failure.Fault fault.BadCbor
 failure_of_cbor_read reading.NoMemory = failure.NoMemory
 
 -- what the program does

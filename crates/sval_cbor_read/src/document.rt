@@ -1,15 +1,16 @@
 //! Documents: bytes that were read.
 
 ghost use Rattle.std.specs.Prelude.{◌≡◌, [], drop, IfOk, IfErr};
-ghost use Rattle.sval_cbor_read.specs.declared.document.CborReadError.TheVariants as reading;
 ghost use Rattle.sval_core.specs.Values.{makes};
 ghost use Rattle.sval_cbor_read.specs.ReadErrors.{IsReadItem, IsReadFront, IsCborReadError, IsCborFrontError};
 ghost use Rattle.sval_cbor_read.specs.Reading.{Ended, Reached};
 ghost use Rattle.sval_cbor_read.specs.CborValues.{cbor_value_in};
 ghost use Rattle.sval_cbor_read.specs.SeenNodes.{streamed_items};
 ghost use Rattle.sval_cbor_read.specs.SeenFound.{AreOfItem};
+ghost use Rattle.sval_cbor_read.specs.SeenUnread.{IsUnread};
 
 mod limited;
+mod unread;
 
 use crate::cbor_ref::CborRef;
 use crate::node::Node;
@@ -22,15 +23,23 @@ use std::fmt;
 use std::marker::Model;
 use sval_core::{Lent, NoMemory, Result as StreamResult, Stream, Value};
 use sval_ref::ValueRef;
+use unread::{Unread, front_error, whole_error};
 
 /// Why bytes can't be read.
 #[derive(Clone, Copy, Debug, PartialEq, Eq)]
 pub enum CborReadError {
-    /// They are not one item of this profile, whole and with nothing behind it. `at` is the offset of the first head,
-    /// chunk or break that is cut or not allowed in its place, or that of the first byte behind the item. It is the
-    /// length of the bytes where they end before a head, a chunk or a break.
-    Bad { at: u64 },
-    /// There was no memory for what is kept of them, or something begins 2^48 bytes behind the first one.
+    /// They are not one well-formed item of CBOR (RFC 8949, section 3 and appendix C), whole and with nothing behind
+    /// it. `at` is the offset of the first head, chunk or break that is cut, not allowed in its place or none of this
+    /// profile, or that of the first byte behind the item. It is the length of the bytes where they end before a head,
+    /// a chunk or a break.
+    Malformed { at: u64 },
+    /// They are one well-formed item, but none of this profile. `at` is the offset of the head of a float, of a simple
+    /// value other than `false`, `true` and `null`, or of a text or a chunk that is not UTF-8. Where the tag 2 or 3
+    /// stands before something other than a byte string of a number of 128 bits, it is the offset of that tag, or one
+    /// in what stands behind it.
+    Unsupported { at: u64 },
+    /// There was no memory for what is kept of them or for telling the other two apart, or something begins 2^48 bytes
+    /// behind the first one.
     NoMemory,
 }
 
@@ -42,10 +51,16 @@ impl fmt::Display for CborReadError {
 
     fn fmt<W: fmt::Write>(&self, f: &mut fmt::Formatter<W>) -> fmt::Result {
         match *self {
-            CborReadError::Bad { at } => {
+            CborReadError::Malformed { at } => {
                 write!(
                     f,
-                    "invalid CBOR at byte {at}: cut short, unsupported or left over"
+                    "invalid CBOR at byte {at}: cut short, not well-formed or left over"
+                )
+            },
+            CborReadError::Unsupported { at } => {
+                write!(
+                    f,
+                    "unsupported CBOR at byte {at}: a float, a simple value, invalid UTF-8 or an invalid bignum"
                 )
             },
             CborReadError::NoMemory => f.write_str("cannot allocate for an item of CBOR"),
@@ -99,24 +114,29 @@ impl<'a> CborDoc<'a> {
     /// ```
     /// let doc = CborDoc::read(alloc, b"\xbf\x61\x30\xf4\x61\x31\xf5\xff".as_slice())?;
     /// assert_eq!(rt; stream_to_vec(alloc, &doc)?.as_slice(), b"{\"0\":false,\"1\":true}".as_slice());
-    /// assert_eq!(rt; CborDoc::read(alloc, b"\x62\xc3".as_slice()).err(), Some(CborReadError::Bad { at: 0 }));
+    /// assert_eq!(rt; CborDoc::read(alloc, b"\x62\xc3".as_slice()).err(), Some(CborReadError::Malformed { at: 0 }));
+    /// let float = CborDoc::read(alloc, b"\xf9\x3c\x00".as_slice());
+    /// assert_eq!(rt; float.err(), Some(CborReadError::Unsupported { at: 0 }));
     /// ```
     ///
     /// # Errors
     ///
-    /// [`CborReadError::Bad`] comes only where the bytes are an item of no tree. [`CborReadError::NoMemory`] may come
-    /// in its place and in that of a document, but only where some first bytes make a call.
+    /// [`CborReadError::Malformed`] and [`CborReadError::Unsupported`] come only where the bytes are an item of no
+    /// tree. The first comes only where they are not one well-formed item, and the second only where they are. To tell
+    /// them apart the bytes are gone through once more, which takes memory for each array or map that is open at
+    /// once. [`CborReadError::NoMemory`] may come in their place and in that of a document, but only where
+    /// some first bytes make a call, or where an array or a map begins the bytes or stands there behind tags.
     pub fn read(alloc: Global, bytes: &'a [u8]) -> Result<Self, CborReadError>
         ensures ok { IfOk result (λ doc. IsReadItem bytes.now doc) }
         ensures err { IfErr result (IsCborReadError bytes.now) }
     {
         match read_item(alloc, bytes) {
             Ok((nodes, used)) => if used < bytes.len() {
-                Err(bad_at(used))
+                Err(CborReadError::Malformed { at: used as u64 })
             } else {
                 Ok(CborDoc { bytes, nodes })
             },
-            Err(error) => Err(error),
+            Err(why) => Err(whole_error(alloc, bytes, why)),
         }
     }
 
@@ -129,12 +149,13 @@ impl<'a> CborDoc<'a> {
     /// assert_eq!(rt; used, 1);
     /// let (second, _) = CborDoc::read_front(alloc, &bytes[used..])?;
     /// assert_eq!(rt; stream_to_vec(alloc, &second)?.as_slice(), b"\"a\"".as_slice());
-    /// assert_eq!(rt; CborDoc::read_front(alloc, b"".as_slice()).err(), Some(CborReadError::Bad { at: 0 }));
+    /// assert_eq!(rt; CborDoc::read_front(alloc, b"".as_slice()).err(), Some(CborReadError::Malformed { at: 0 }));
     /// ```
     ///
     /// # Errors
     ///
-    /// [`CborReadError::Bad`] comes only where no item begins the bytes, as where there are none.
+    /// [`CborReadError::Malformed`] comes only where no well-formed item begins the bytes, as where there are none.
+    /// [`CborReadError::Unsupported`] comes only where one does, but no item of this profile.
     /// [`CborReadError::NoMemory`] comes as that of [`CborDoc::read`].
     pub fn read_front(alloc: Global, bytes: &'a [u8]) -> Result<(Self, usize), CborReadError>
         ensures ok { IfOk result (λ front. IsReadFront bytes.now front.0 front.1) }
@@ -142,7 +163,7 @@ impl<'a> CborDoc<'a> {
     {
         match read_item(alloc, bytes) {
             Ok((nodes, used)) => Ok((CborDoc { bytes, nodes }, used)),
-            Err(error) => Err(error),
+            Err(why) => Err(front_error(alloc, bytes, why)),
         }
     }
 
@@ -165,27 +186,20 @@ impl<'a> CborDoc<'a> {
     }
 }
 
-/// The error of bytes that fail at a place.
-fn bad_at(at: usize) -> CborReadError
-    ensures { result ≡ reading.Bad at }
-{
-    CborReadError::Bad { at: at as u64 }
-}
-
 /// Reads the first item of the bytes, step by step: the nodes of it, and how many bytes it takes.
-fn read_item(alloc: Global, bytes: &[u8]) -> Result<(Vec<Node>, usize), CborReadError>
+fn read_item(alloc: Global, bytes: &[u8]) -> Result<(Vec<Node>, usize), Unread>
     ensures front { IfOk result (λ read. IsReadFront bytes.now (streamed_items bytes.now read.0.items) read.1) }
     ensures ended { IfOk result
         (λ read. Reached bytes.now (Ended []) (drop read.1 bytes.now) (streamed_items bytes.now read.0.items)) }
     ensures kept { IfOk result (λ read. AreOfItem bytes.now read.0.items) }
-    ensures err { IfErr result (IsCborFrontError bytes.now) }
+    ensures err { IfErr result (IsUnread bytes.now) }
 {
     let mut reader = Reader::new(alloc);
     while !reader.has_ended() {
         match reader.step(bytes) {
             Ok(true) => {},
-            Ok(false) => return Err(bad_at(reader.at)),
-            Err(cause) => return Err(CborReadError::from(cause)),
+            Ok(false) => return Err(Unread::At(reader.at)),
+            Err(_) => return Err(Unread::NoMemory),
         }
     }
     let used = reader.at;

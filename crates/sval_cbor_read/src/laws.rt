@@ -1,13 +1,15 @@
 //! The laws of CBOR's items, each as a clause that is proved.
 
 ghost use Rattle.sval_program.specs.Jobs.{OneDue};
-ghost use Rattle.sval_cbor_read.specs.Laws.{ItemHasOneTree, ItemsAreReal, ItemsAreRefusedByKey, CborDocumentsSpell, ItemsAreRead, ReadIsItem, ReadInOneWay, ReadingEndsWell, ReadingStopsAtBadBytes, StepsStopAtOnePlace, LargeNumbersAreBadBytes, StepsComeNearer, HeadsAreRead, HeadsAreShortest, WrittenIsReadBack, StylesAreReadBack};
+ghost use Rattle.sval_cbor_read.specs.Laws.{ItemHasOneTree, ItemsAreWellFormed, WellFormedHasOneRest, ItemsAreReal, ItemsAreRefusedByKey, CborDocumentsSpell, ItemsAreRead, ReadIsItem, ReadInOneWay, ReadingEndsWell, ReadingStopsAtBadBytes, StepsStopAtOnePlace, LargeNumbersAreBadBytes, StepsComeNearer, HeadsAreRead, HeadsAreShortest, WrittenIsReadBack, StylesAreReadBack};
 ghost use Rattle.sval_cbor_read.specs.CborValues.{CborDocumentsMean};
 ghost use Rattle.sval_cbor_read.specs.Serves.{cbor_read_terms};
 
 /// What holds of all bytes.
 pub fn item_laws()
     ensures item_has_one_tree { ItemHasOneTree }
+    ensures items_are_well_formed { ItemsAreWellFormed }
+    ensures well_formed_has_one_rest { WellFormedHasOneRest }
     ensures items_are_real { ItemsAreReal }
     ensures items_are_refused_by_key { ItemsAreRefusedByKey }
     ensures heads_are_read { HeadsAreRead }

@@ -16,7 +16,8 @@ impl From<CborReadError> for Failure {
 
     fn from(error: CborReadError) -> Failure {
         match error {
-            CborReadError::Bad { .. } => Failure::Fault(Fault::BadCbor),
+            CborReadError::Malformed { .. } => Failure::Fault(Fault::BadCbor),
+            CborReadError::Unsupported { .. } => Failure::Fault(Fault::BadCbor),
             CborReadError::NoMemory => Failure::NoMemory,
         }
     }

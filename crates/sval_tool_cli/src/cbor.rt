@@ -7,10 +7,23 @@ use std::alloc::Global;
 use sval_cbor_read::{CborDoc, CborReadError};
 use sval_io::Sink;
 
+/// What is said of bytes that are not well-formed.
+const MALFORMED: &'static str = "no CBOR that is read goes on with these bytes";
+
+/// What is said of a well-formed item that isn't read.
+const UNSUPPORTED: &'static str =
+    "well-formed CBOR that isn't read: a float, a simple value, invalid UTF-8 or an invalid bignum";
+
 /// The trouble with an item that isn't read. The item begins at this offset of the bytes.
 fn unread(alloc: Global, name: &str, bytes: &[u8], from: usize, error: CborReadError) -> Trouble {
+    let from = from as u64;
     match error {
-        CborReadError::Bad { at } => of_item(alloc, name, bytes, at.saturating_add(from as u64)),
+        CborReadError::Malformed { at } => {
+            of_item(alloc, name, bytes, at.saturating_add(from), MALFORMED)
+        }
+        CborReadError::Unsupported { at } => {
+            of_item(alloc, name, bytes, at.saturating_add(from), UNSUPPORTED)
+        }
         CborReadError::NoMemory => Trouble::NoMemory,
     }
 }

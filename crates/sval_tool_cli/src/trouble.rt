@@ -259,10 +259,10 @@ pub(crate) fn of_document(
     }
 }
 
-/// The trouble with bytes of CBOR, which fail at this offset.
-pub(crate) fn of_item(alloc: Global, name: &str, bytes: &[u8], at: u64) -> Trouble {
+/// The trouble with bytes of CBOR, which fail at this offset. `said` tells people why.
+pub(crate) fn of_item(alloc: Global, name: &str, bytes: &[u8], at: u64, said: &str) -> Trouble {
     let mut text = String::new(alloc);
-    match push_bad_cbor(&mut text, name, bytes, at) {
+    match push_bad_cbor(&mut text, name, bytes, at, said) {
         Ok(()) => Trouble::Bad(text),
         Err(cause) => Trouble::from(cause),
     }

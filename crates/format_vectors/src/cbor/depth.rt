@@ -5,7 +5,7 @@ use std::alloc::Global;
 use std::process::Abort;
 use std::test::Fail;
 use sval_cbor::stream_to_cbor;
-use sval_cbor_read::CborDoc;
+use sval_cbor_read::{CborDoc, CborReadError};
 use sval_io::VecSink;
 use sval_json::stream_to_string;
 
@@ -20,6 +20,20 @@ fn try_read(rt: &impl Abort, alloc: Global, levels: &str, json: &str) -> Result<
     let doc = CborDoc::read(alloc, bytes.as_slice())?;
     let written = stream_to_string(alloc, &doc)?;
     assert!(rt; written.as_str() == nested(alloc, json)?.as_str());
+    Ok(())
+}
+
+/// Reads levels behind a value that isn't read, and compares the error.
+fn try_unread(
+    rt: &impl Abort,
+    alloc: Global,
+    levels: &str,
+    error: CborReadError,
+) -> Result<(), Fail> {
+    let mut bytes = hex::decode(alloc, "82f7")?;
+    bytes.extend_from_slice(bytes_of(alloc, levels)?.as_slice())?;
+    let read = CborDoc::read(alloc, bytes.as_slice());
+    assert_eq!(rt; read.err(), Some(error));
     Ok(())
 }
 
@@ -51,6 +65,26 @@ fn maps_that_a_break_ends(rt: HostRuntime) -> Result<(), Fail> {
 #[test]
 fn tags(rt: HostRuntime) -> Result<(), Fail> {
     try_read(&rt, rt.alloc(), "c6|f6|", "|null|")
+}
+
+#[test]
+fn levels_that_are_well_formed(rt: HostRuntime) -> Result<(), Fail> {
+    try_unread(
+        &rt,
+        rt.alloc(),
+        "bf009f|81f6|ff01f6ff",
+        CborReadError::Unsupported { at: 1 },
+    )
+}
+
+#[test]
+fn levels_that_are_not(rt: HostRuntime) -> Result<(), Fail> {
+    try_unread(
+        &rt,
+        rt.alloc(),
+        "bf009f|81f6|ff01ff",
+        CborReadError::Malformed { at: 1 },
+    )
 }
 
 #[test]

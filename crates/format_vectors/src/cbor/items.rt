@@ -24,7 +24,7 @@ impl Case for Read {
 
 /// Bytes in hex, and behind `front` how many of them the first item takes and what is written of it as JSON, or behind
 /// `error` what is said where none begins them.
-struct Front;
+pub(crate) struct Front;
 
 impl Case for Front {
     fn seen(alloc: Global, input: &str, _due: &str) -> Result<String, Fail> {
@@ -207,55 +207,55 @@ d9d9f783010203
 /// texts that are no UTF-8 piece by piece, and numbers of more than 128 bits. The first are no bytes.
 const BAD: &'static str = r#"
 ␄
-= error Bad { at: 0 }
+= error Malformed { at: 0 }
 f93c00
-= error Bad { at: 0 }
+= error Unsupported { at: 0 }
 f7
-= error Bad { at: 0 }
+= error Unsupported { at: 0 }
 0000
-= error Bad { at: 1 }
+= error Malformed { at: 1 }
 62c3
-= error Bad { at: 0 }
+= error Malformed { at: 0 }
 7f61c361a9ff
-= error Bad { at: 1 }
+= error Unsupported { at: 1 }
 818181
-= error Bad { at: 3 }
+= error Malformed { at: 3 }
 8301
-= error Bad { at: 2 }
+= error Malformed { at: 2 }
 5f
-= error Bad { at: 1 }
+= error Malformed { at: 1 }
 9f01
-= error Bad { at: 2 }
+= error Malformed { at: 2 }
 bf0102
-= error Bad { at: 3 }
+= error Malformed { at: 3 }
 c350ffffffffffffffffffffffffffffffff
-= error Bad { at: 1 }
+= error Unsupported { at: 1 }
 c200
-= error Bad { at: 1 }
+= error Unsupported { at: 1 }
 c25f4100
-= error Bad { at: 4 }
+= error Malformed { at: 4 }
 f4f5
-= error Bad { at: 1 }
+= error Malformed { at: 1 }
 c2510100000000000000000000000000000000
-= error Bad { at: 1 }
+= error Unsupported { at: 1 }
 c35080000000000000000000000000000000
-= error Bad { at: 1 }
+= error Unsupported { at: 1 }
 c25f4101
-= error Bad { at: 4 }
+= error Malformed { at: 4 }
 c25f41016161ff
-= error Bad { at: 4 }
+= error Malformed { at: 4 }
 c25f41015000000000000000000000000000000000ff
-= error Bad { at: 21 }
+= error Unsupported { at: 21 }
 c35f5080000000000000000000000000000000ff
-= error Bad { at: 19 }
+= error Unsupported { at: 19 }
 82c15f4100
-= error Bad { at: 5 }
+= error Malformed { at: 5 }
 a26161f4ff
-= error Bad { at: 4 }
+= error Malformed { at: 4 }
 d8189f00f6f9
-= error Bad { at: 5 }
+= error Malformed { at: 5 }
 c1c1c1c1
-= error Bad { at: 4 }
+= error Malformed { at: 4 }
 "#;
 
 /// Sequences of items (RFC 8742), how many bytes the first item takes, and what is written of it. What follows it isn't
@@ -276,13 +276,13 @@ a0
 7f6161ff1c
 = front 4 "a"
 ␄
-= error invalid CBOR at byte 0: cut short, unsupported or left over
+= error invalid CBOR at byte 0: cut short, not well-formed or left over
 ff00
-= error invalid CBOR at byte 0: cut short, unsupported or left over
+= error invalid CBOR at byte 0: cut short, not well-formed or left over
 820100f5
 = front 3 [1,0]
 8201
-= error invalid CBOR at byte 2: cut short, unsupported or left over
+= error invalid CBOR at byte 2: cut short, not well-formed or left over
 "#;
 
 /// Bytes and their calls, with each chunk of a text. The calls tell a size where the bytes do.

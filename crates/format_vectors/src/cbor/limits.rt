@@ -155,21 +155,21 @@ const IN_CHUNKS: &'static str = r#"
 /// The bytes fail before they pass a limit.
 const BAD: &'static str = r#"
 ff
-= limits 0 0: Bad { at: 0 }
+= limits 0 0: Malformed { at: 0 }
 62c3
-= limits 0 0: Bad { at: 0 }
+= limits 0 0: Malformed { at: 0 }
 fb0000000000000000
-= limits 0 0: Bad { at: 0 }
+= limits 0 0: Unsupported { at: 0 }
 8200
-= limits 1 2: Bad { at: 2 }
+= limits 1 2: Malformed { at: 2 }
 0000
-= limits 0 1: Bad { at: 1 }
+= limits 0 1: Malformed { at: 1 }
 c25f4101
-= limits 0 0: Bad { at: 4 }
+= limits 0 0: Malformed { at: 4 }
 7f6161
-= limits 0 2: Bad { at: 3 }
+= limits 0 2: Malformed { at: 3 }
 7f00
-= limits 0 1: Bad { at: 1 }
+= limits 0 1: Malformed { at: 1 }
 "#;
 
 #[test]

@@ -1,7 +1,7 @@
 //! Reading items of strangers, which may be nested deeply or hold many others.
 
 ghost use Rattle.std.specs.Prelude.{[], drop, IfOk, IfErr, length};
-ghost use Rattle.sval_cbor_read.specs.CborLimits.{EndsWithin, IsLimitedCborError, IsLimitedFrontError};
+ghost use Rattle.sval_cbor_read.specs.CborLimits.{EndsWithin, IsLimitedCborError};
 ghost use Rattle.sval_cbor_read.specs.ReadErrors.{IsReadItem, IsReadFront};
 ghost use Rattle.sval_cbor_read.specs.Reading.{Ended, Reached};
 ghost use Rattle.sval_cbor_read.specs.SeenDue.{is_begun_behind};
@@ -9,7 +9,8 @@ ghost use Rattle.sval_cbor_read.specs.SeenFound.{AreOfItem};
 ghost use Rattle.sval_cbor_read.specs.SeenLimited.{CountsBegun, CborPasses};
 ghost use Rattle.sval_cbor_read.specs.SeenNodes.{streamed_items};
 
-use super::{CborDoc, CborReadError, bad_at};
+use super::unread::{Unread, whole_error};
+use super::{CborDoc, CborReadError};
 use crate::node::Node;
 use crate::reader::Reader;
 use std::alloc::Global;
@@ -86,8 +87,9 @@ impl<'a> CborDoc<'a> {
     ///
     /// # Errors
     ///
-    /// [`CborLimitedError::Read`] holds an error of [`CborDoc::read`]. [`CborReadError::Bad`] comes only where no head
-    /// before its place passes a limit. [`CborLimitedError::TooDeep`] and [`CborLimitedError::TooMany`] tell the first
+    /// [`CborLimitedError::Read`] holds an error of [`CborDoc::read`]. [`CborReadError::Malformed`] and
+    /// [`CborReadError::Unsupported`] come only where no head before their place passes a limit. The limits don't bound
+    /// the memory for telling these two apart. [`CborLimitedError::TooDeep`] and [`CborLimitedError::TooMany`] tell the first
     /// head that passes one. That of an array or a map may pass both: the error is `TooDeep`.
     pub fn read_with(
         alloc: Global,
@@ -100,7 +102,7 @@ impl<'a> CborDoc<'a> {
     {
         match limited_item(alloc, bytes, limits) {
             Ok((nodes, used)) => if used < bytes.len() {
-                Err(CborLimitedError::Read(bad_at(used)))
+                Err(CborLimitedError::Read(CborReadError::Malformed { at: used as u64 }))
             } else {
                 Ok(CborDoc { bytes, nodes })
             },
@@ -110,7 +112,7 @@ impl<'a> CborDoc<'a> {
 }
 
 /// Reads the first item of the bytes, as [`read_item`](super::read_item) does, and stops behind a head that passes a
-/// limit.
+/// limit. Its error is that of the whole bytes.
 fn limited_item(
     alloc: Global,
     bytes: &[u8],
@@ -121,7 +123,7 @@ fn limited_item(
         (λ read. Reached bytes.now (Ended []) (drop read.1 bytes.now) (streamed_items bytes.now read.0.items)) }
     ensures kept { IfOk result (λ read. AreOfItem bytes.now read.0.items) }
     ensures within { IfOk result (λ read. EndsWithin bytes.now limits (drop read.1 bytes.now)) }
-    ensures err { IfErr result (IsLimitedFrontError bytes.now limits) }
+    ensures err { IfErr result (IsLimitedCborError bytes.now limits) }
 {
     let mut reader = Reader::new(alloc);
     let mut begun: usize = 0;
@@ -130,7 +132,10 @@ fn limited_item(
         let kept = reader.nodes.len();
         match reader.step(bytes) {
             Ok(true) => begun = count_begun(&reader, kept, at, begun, limits)?,
-            Ok(false) => return Err(CborLimitedError::Read(bad_at(reader.at))),
+            Ok(false) => {
+                let why = Unread::At(reader.at);
+                return Err(CborLimitedError::Read(whole_error(alloc, bytes, why)));
+            },
             Err(cause) => return Err(CborLimitedError::from(cause)),
         }
     }

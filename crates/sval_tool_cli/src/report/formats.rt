@@ -65,19 +65,17 @@ pub(crate) fn push_not_utf8(out: &mut String, place: &Place<'_>) -> Result<(), A
     place.push_line(out)
 }
 
-/// Adds the error of bytes that are no item of CBOR: the offset, and eight bytes at most from there.
+/// Adds the error of bytes that are no item of CBOR: the offset, why, and eight bytes at most from there.
 pub(crate) fn push_bad_cbor(
     out: &mut String,
     name: &str,
     bytes: &[u8],
     at: u64,
+    said: &str,
 ) -> Result<(), AllocError> {
     out.push_str("sval: ")?;
     out.push_str(name)?;
-    write!(
-        out,
-        ": byte {at}: no CBOR that is read goes on with these bytes\n "
-    )?;
+    write!(out, ": byte {at}: {said}\n ")?;
     let from = usize::try_from(at).unwrap_or(bytes.len());
     let rest = bytes.get(from..).unwrap_or_default();
     for byte in rest.iter().take(8) {

@@ -12,7 +12,8 @@ use Rattle.sval_cbor_read.proofs.running.serve_bytes.Goals as goal
 
 -- nothing is written of bytes that weren't read
 unread : {K : Type 0} (told : K → Told) (input : List ℕ) (asked : ReadForm) (old : K) (why : CborReadError) → IsCborReadError input why → ServesBytes cbor_read_terms told asked input (Err (failure_of_cbor_read why)) old old
-unread told input asked old (reading.Bad at) cause = record { all = record { bytes = []; due = no_item cause.no_item; writes = writes_nothing (told old) }; known = refl; untouched = λ e. refl }
+unread told input asked old (reading.Malformed at) cause = record { all = record { bytes = []; due = no_item cause.0.no_item; writes = writes_nothing (told old) }; known = refl; untouched = λ e. refl }
+unread told input asked old (reading.Unsupported at) cause = record { all = record { bytes = []; due = no_item cause.0.no_item; writes = writes_nothing (told old) }; known = refl; untouched = λ e. refl }
 unread told input asked old reading.NoMemory cause = refl
 
 pub returns-in_err-doc : goal.returns-in_err-doc

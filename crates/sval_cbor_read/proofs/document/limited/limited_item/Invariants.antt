@@ -7,8 +7,8 @@ use Rattle.sval_cbor_read.proofs.LimitedHeads.{ReadsWithin}
 use Rattle.sval_cbor_read.proofs.document.limited.limited_item.Given as goal
 
 -- the steps so far lead to the reader's spot, and the front that was read is within the limits
-abbrev pub invariant-loop-limits : goal.invariant-loop-limits
-invariant-loop-limits l = record {
+abbrev pub invariant-loop-alloc : goal.invariant-loop-alloc
+invariant-loop-alloc l = record {
   reached : IsReached l.bytes (spot_of l.bytes l.reader);
   within : l.reader.at ≤ length l.bytes;
   kept : NodesStand l.bytes l.reader.nodes.items;
@@ -17,5 +17,5 @@ invariant-loop-limits l = record {
 }
 
 -- the end comes nearer
-abbrev pub decreases-loop-limits : goal.decreases-loop-limits
-decreases-loop-limits l = distance (spot_of l.bytes l.reader).state (spot_of l.bytes l.reader).left
+abbrev pub decreases-loop-alloc : goal.decreases-loop-alloc
+decreases-loop-alloc l = distance (spot_of l.bytes l.reader).state (spot_of l.bytes l.reader).left
