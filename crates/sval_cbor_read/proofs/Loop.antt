@@ -7,7 +7,7 @@ use Rattle.sval_core.specs.Spells.{Spells}
 use Rattle.sval_cbor_read.specs.declared.reader.Expected.TheVariants as expected
 use Rattle.sval_cbor_read.specs.declared.reader.Reader.{Reader}
 use Rattle.sval_cbor_read.specs.Reading.{ItemState, Ended, reading_step, Reached, at_start, onward, distance}
-use Rattle.sval_cbor_read.specs.Steps.{Spot, spot, first_spot, ItemSteps, one_step, more_steps, IsReached, StopsWith, at_once, after_steps, IsStuckWith, MakesSomeCall}
+use Rattle.sval_cbor_read.specs.Steps.{Spot, first_spot, ItemSteps, one_step, more_steps, IsReached, StopsWith, at_once, after_steps, IsStuckWith, MakesSomeCall}
 use Rattle.sval_cbor_read.specs.SeenNodes.{streamed_items}
 use Rattle.sval_cbor_read.specs.SeenReader.{spot_of}
 use Rattle.sval_cbor_read.specs.ReadErrors.{IsReadItem, IsReadFront, IsBadCbor, IsBadFront, MakesSome}

@@ -1,6 +1,6 @@
 -- The cause of bytes that are not read.
-use Rattle.std.specs.Prelude.{◌≡◌, ℕ, ◌<◌, ◌≤◌, List, [], length, drop, Some, None, refl}
-use Rattle.std.proofs.Common.{sym, ap, subst, arith, inl, inr}
+use Rattle.std.specs.Prelude.{ℕ, ◌<◌, ◌≤◌, List, [], length, drop, Some, None}
+use Rattle.std.proofs.Common.{ap, subst, arith}
 use Rattle.std.proofs.lemmas.List.{length-drop}
 use Rattle.sval_io.specs.declared.limits.Limits.{Limits}
 use Rattle.sval_label.specs.Calls.{Call}
@@ -27,15 +27,6 @@ left_over bytes end w l v = let e = ap length (one_rest v w) in omega (arith, e,
 
 pub malformed_behind : (bytes : List ℕ) (at end : ℕ) → IsBadFront bytes at → WellFormedUpTo bytes (Some end) → end < length bytes → IsCborReadError bytes (Malformed at)
 malformed_behind bytes at end b w l = (whole_is_bad bytes at b, left_over bytes end w.0 l)
-
-pub unsupported_whole : (bytes : List ℕ) (at end : ℕ) → IsBadFront bytes at → WellFormedUpTo bytes (Some end) → length bytes ≤ end → IsCborReadError bytes (Unsupported at)
-unsupported_whole bytes at end b w l = (whole_is_bad bytes at b, subst (IsWellFormed bytes) (nothing_at bytes end l) w.0)
-
-pub malformed_whole : (bytes : List ℕ) (at : ℕ) → IsBadFront bytes at → WellFormedUpTo bytes None → IsCborReadError bytes (Malformed at)
-malformed_whole bytes at b n = (whole_is_bad bytes at b, n [])
-
-pub unsupported_front : (bytes : List ℕ) (at end : ℕ) → IsBadFront bytes at → WellFormedUpTo bytes (Some end) → IsCborFrontError bytes (Unsupported at)
-unsupported_front bytes at end b w = (b, (drop end bytes, w.0))
 
 -- bytes follow an item
 pub malformed_more : (bytes : List ℕ) (calls : List Call) (at : ℕ) → IsReadFront bytes calls at → Reached bytes (Ended []) (drop at bytes) calls → at < length bytes → IsCborReadError bytes (Malformed at)

@@ -1,8 +1,8 @@
 -- Each item is well-formed, and what is well-formed has one rest.
-use Rattle.std.specs.Prelude.{◌≡◌, ℕ, zero, suc, ◌≤◌, List, [], ◌∷◌, length, drop, Option, Some, None, refl}
-use Rattle.std.proofs.Common.{sym, ap, ◌∙◌, subst, arith}
+use Rattle.std.specs.Prelude.{◌≡◌, ℕ, List, ◌∷◌, Option, Some, None, refl}
+use Rattle.std.proofs.Common.{arith}
 use Rattle.sval_core.specs.Trees.{Tree, Parts}
-use Rattle.sval_cbor_read.specs.Items.{ItemHead, head, head_at_front, IsDefiniteString, string, ArePieces, break, piece, IsByteString, definite, in_pieces, IsItem, by_head, bytes_in_pieces, texts_in_pieces, seq_to_break, map_to_break, falsehood, truth, null, IsBody, unsigned, negative, binary, text, seq, map, big, negative_big, tagged, AreItems, no_items, an_item, AreEntries, no_pairs, a_pair, ItemsToBreak, items_end, items_go_on, EntriesToBreak, entries_end, entries_go_on}
+use Rattle.sval_cbor_read.specs.Items.{ItemHead, head, IsDefiniteString, string, ArePieces, break, piece, IsByteString, definite, in_pieces, IsItem, by_head, bytes_in_pieces, texts_in_pieces, seq_to_break, map_to_break, falsehood, truth, null, IsBody, unsigned, negative, binary, text, seq, map, big, negative_big, tagged, AreItems, no_items, an_item, AreEntries, no_pairs, a_pair, ItemsToBreak, items_end, items_go_on, EntriesToBreak, entries_end, entries_go_on}
 use Rattle.sval_cbor_read.specs.WellFormed.{IsStringOf, string_bytes, AreChunksOf, chunks_break, chunk_before, IsWellFormed, headed, simple_or_float, byte_chunks, text_chunks, array_to_break, IsContent, unsigned_integer, negative_integer, byte_string, text_string, array_of, map_of, tagged_item, HasItems, items_came, items_end_with_break, item_of, item_before_break, HasPairs, pairs_came, pairs_end_with_break, pair_of, pair_before_break}
 use Rattle.sval_cbor_read.specs.WellFormed as well
 use Rattle.sval_cbor_read.proofs.OneTree.{no_head_95, no_head_127, no_head_159, no_head_191, no_head_255, head_244, head_245, head_246, same_heads}

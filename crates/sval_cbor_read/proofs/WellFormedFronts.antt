@@ -1,5 +1,5 @@
 -- What a well-formed item begins with is known by its head or its first byte.
-use Rattle.std.specs.Prelude.{◌≡◌, ◌≢◌, ℕ, ◌+◌, ◌<◌, ◌≤◌, ◌⊎◌, List, [], ◌∷◌, length, drop, get_or, Option, Some, None, refl}
+use Rattle.std.specs.Prelude.{◌≡◌, ◌≢◌, ℕ, ◌+◌, ◌<◌, ◌≤◌, ◌⊎◌, List, [], ◌∷◌, length, drop, get_or, Some, None, refl}
 use Rattle.std.proofs.Common.{sym, ap, ◌∙◌, subst, arith, inl, inr}
 use Rattle.std.proofs.lemmas.List.{length-drop, drop-drop}
 use Rattle.sval_cbor_read.specs.declared.head.Head.{Head}
@@ -9,7 +9,7 @@ use Rattle.sval_cbor_read.specs.Items.{head, head_at_front}
 use Rattle.sval_cbor_read.specs.HeadFronts as fronts
 use Rattle.sval_cbor_read.specs.SeenHeads.{IsHead}
 use Rattle.sval_cbor_read.specs.SeenStrings.{IsBehind}
-use Rattle.sval_cbor_read.specs.SeenWellFormed.{SameRests, HasNoRest, IsFurther, EndsAt, FrontIs}
+use Rattle.sval_cbor_read.specs.SeenWellFormed.{SameRests, HasNoRest, IsFurther, EndsAt, BeginsChunksOf, FrontIs}
 use Rattle.sval_cbor_read.specs.WellFormed.{IsStringOf, string_bytes, AreChunksOf, chunks_break, chunk_before, IsWellFormed, headed, simple_or_float, byte_chunks, text_chunks, array_to_break, IsContent, unsigned_integer, negative_integer, byte_string, text_string, array_of, map_of, tagged_item, HasItems, HasPairs, HoldsItems, holds_here, holds_under_tag}
 use Rattle.sval_cbor_read.specs.WellFormed as well
 use Rattle.sval_cbor_read.proofs.Bignums.{bytes_at, nothing_at}
@@ -47,12 +47,6 @@ string_lacks major bytes at h (later, (is, before, within)) l rest (string_bytes
     let fits : h.number ≤ length (drop h.next bytes) = rw (number, same) k in
     omega (arith, length-drop h.next bytes)
 
-pub other_string : (major : ℕ) (bytes : List ℕ) (at : ℕ) (h : Head) → IsHeadAt bytes at h → h.major ≢ major → HasNoRest (IsStringOf major (drop at bytes))
-other_string major bytes at h (later, (is, before, within)) n rest (string_bytes e k) = n (same_head is e).0
-
-pub headless_string : (major : ℕ) (bytes : List ℕ) → head_at_front bytes ≡ None → HasNoRest (IsStringOf major bytes)
-headless_string major bytes n rest (string_bytes e k) = cc (sym n ∙ e)
-
 -- ---- chunks
 
 -- the chunks between two places are passed over
@@ -60,9 +54,6 @@ pub record ChunksPass (major : ℕ) (bytes : List ℕ) (from at : ℕ) : Type 0 
   pub same : SameRests (AreChunksOf major (drop from bytes)) (AreChunksOf major (drop at bytes))
   pub before : from ≤ at
   pub within : at ≤ length bytes
-
-pub no_chunks_pass : (major : ℕ) (bytes : List ℕ) (from : ℕ) → from ≤ length bytes → ChunksPass major bytes from from
-no_chunks_pass major bytes from w = record { same = record { there = λ rest p. p; back = λ rest p. p }; before = omega arith; within = w }
 
 chunks_behind : {major : ℕ} {bytes after rest : List ℕ} → IsStringOf major bytes after → AreChunksOf major bytes rest → AreChunksOf major after rest
 chunks_behind s chunks_break = absurd (no_string_begins_255 s)
@@ -112,7 +103,7 @@ content_of e s (well.map_to_break p) = absurd (no_head_191 _ e)
 moved_bound : {first m n : ℕ} → m ≡ n → (first ≡ 0xf8 → 32 ≤ m) → first ≡ 0xf8 → 32 ≤ n
 moved_bound e s f = let k = s f in omega arith
 
-simple_value_of : {first n : ℕ} {bytes after rest : List ℕ} → head_at_front (first ∷ bytes) ≡ Some (head 7 n after) → IsWellFormed (first ∷ bytes) rest → first ≡ 0xf8 → 32 ≤ n
+pub simple_value_of : {first n : ℕ} {bytes after rest : List ℕ} → head_at_front (first ∷ bytes) ≡ Some (head 7 n after) → IsWellFormed (first ∷ bytes) rest → first ≡ 0xf8 → 32 ≤ n
 simple_value_of e (headed f c) = absurd (simple_content e f c)
 simple_value_of e (simple_or_float f s) = moved_bound (same_heads e f).1 s
 simple_value_of e (byte_chunks p) = absurd (no_head_95 _ e)
@@ -218,12 +209,12 @@ by_159 (headed e c) = absurd (no_head_159 _ e)
 by_159 (simple_or_float e s) = absurd (no_head_159 _ e)
 by_159 (array_to_break p) = p
 
-by_191 : {bytes rest : List ℕ} → IsWellFormed (191 ∷ bytes) rest → HasPairs None bytes rest
+pub by_191 : {bytes rest : List ℕ} → IsWellFormed (191 ∷ bytes) rest → HasPairs None bytes rest
 by_191 (headed e c) = absurd (no_head_191 _ e)
 by_191 (simple_or_float e s) = absurd (no_head_191 _ e)
 by_191 (well.map_to_break p) = p
 
-by_95 : {bytes rest : List ℕ} → IsWellFormed (95 ∷ bytes) rest → AreChunksOf 2 bytes rest
+pub by_95 : {bytes rest : List ℕ} → IsWellFormed (95 ∷ bytes) rest → AreChunksOf 2 bytes rest
 by_95 (headed e c) = absurd (no_head_95 _ e)
 by_95 (simple_or_float e s) = absurd (no_head_95 _ e)
 by_95 (byte_chunks p) = p
@@ -257,10 +248,6 @@ map_to_break_is_front bytes at l f =
       record { later = omega arith; within = omega arith },
       opens_by e fronts.map_up_to_break,
     )
-
--- which chunks a first byte begins
-abbrev pub BeginsChunksOf : ℕ → ℕ → Type 0
-BeginsChunksOf first major = ((first ≡ 0x5f) × (major ≡ 2)) ⊎ ((first ≡ 0x7f) × (major ≡ 3))
 
 well_by_chunks : {first major : ℕ} {here left rest : List ℕ} → here ≡ first ∷ left → BeginsChunksOf first major → AreChunksOf major left rest → IsWellFormed here rest
 well_by_chunks e (inl (f, m)) p = rw (e, f) (byte_chunks (rw m at p))

@@ -1,5 +1,5 @@
 -- What is open, step by step, is completed by the same rests.
-use Rattle.std.specs.Prelude.{◌≡◌, ℕ, zero, suc, ◌+◌, ◌<◌, ◌≤◌, Bool, true, false, ◌==◌, if◌then◌else◌, List, [], ◌∷◌, length, drop, Option, Some, None, refl}
+use Rattle.std.specs.Prelude.{◌≡◌, ℕ, zero, suc, ◌<◌, ◌≤◌, Bool, true, false, ◌==◌, if◌then◌else◌, List, [], ◌∷◌, length, drop, Option, Some, None, refl}
 use Rattle.std.proofs.Common.{sym, ap, ◌∙◌, subst, arith}
 use Rattle.sval_cbor_read.specs.declared.part.NextPart.TheVariants.{Another, End, Nothing}
 use Rattle.sval_cbor_read.specs.declared.stack.Frame as made_frame
@@ -8,10 +8,10 @@ use Rattle.sval_cbor_read.specs.declared.well_formed.Behind.{Behind}
 use Rattle.sval_cbor_read.specs.declared.well_formed.Behind.TheVariants as behind
 use Rattle.sval_cbor_read.specs.declared.well_formed.Front.TheVariants as front
 use Rattle.sval_cbor_read.specs.declared.well_formed.InFrame.TheVariants as inside
-use Rattle.sval_cbor_read.specs.Reading.{OpenItem, Items, Keys, Values, ItemState, Item, Ended, Move, moves, part_or_end}
+use Rattle.sval_cbor_read.specs.Reading.{OpenItem, Items, Values, Item, Ended, Move, moves, part_or_end}
 use Rattle.sval_cbor_read.specs.SeenFrames.{frame_of, TopFrameIs, around_frame, changed}
 use Rattle.sval_cbor_read.specs.SeenParts.{Follows}
-use Rattle.sval_cbor_read.specs.SeenWellFormed.{SameRests, HasNoRest, Finishes, ItemFinishes, Completes, ItemCompletes, IsFurther, FrontIs, IsNextIn, ComesBehind, WellFormedUpTo, IsDueAt, GoesOn}
+use Rattle.sval_cbor_read.specs.SeenWellFormed.{SameRests, HasNoRest, Finishes, ItemFinishes, Completes, ItemCompletes, FrontIs, IsNextIn, ComesBehind, IsDueAt, GoesOn}
 use Rattle.sval_cbor_read.specs.WellFormed.{IsWellFormed, headed, HasItems, items_came, items_end_with_break, item_of, item_before_break, HasPairs, pairs_came, pairs_end_with_break, pair_of, pair_before_break, HoldsItems}
 use Rattle.sval_cbor_read.proofs.HeadsGo.{with_part, PartsEnd, all_came, broken, parts_end, part_goes_on}
 use Rattle.sval_cbor_read.proofs.Strings.{no_head}
@@ -73,10 +73,6 @@ pairs_go_on : (more : Option ℕ) (bytes : List ℕ) → (more ≡ None → NoBr
 pairs_go_on None bytes n = record { there = λ rest p. first_pair_before (n refl) p; back = λ rest (between, k, (after, v, p)). pair_before_break k v p }
 pairs_go_on (Some m) bytes n = record { there = λ rest p. first_pair p; back = λ rest (between, k, (after, v, p)). pair_of k v p }
 
--- what a part is told by
-some_move : Option ℕ → Option Move
-some_move more = moves [] [] (Item (Items more ∷ []))
-
 no_break_here : (left : Option ℕ) (here : List ℕ)
     → ((ends : Option Move) (part : Option ℕ → Option Move) (broken : List ℕ → Option Move) → part_or_end left here ends part broken ≡ part None) → left ≡ None → NoBreak here
 no_break_here left here f e rest b =
@@ -131,9 +127,6 @@ module _ (left : Option ℕ) (bytes : List ℕ) (at : ℕ) where
       let (e, g) = nothing_here left (drop at bytes) f in
       let q : HasPairs None [] rest = rw (e, g) at p in no_pairs_in_nothing q
 
-  pub value_is_next : IsNextIn (frame.Values left) bytes at (inside.Item (frame.Keys left))
-  value_is_next = record { there = λ rest p. p; back = λ rest p. p }
-
 -- ---- behind an item
 
 -- what was open where an item ended, up to another place
@@ -143,65 +136,9 @@ pub record IsClosedUpTo (bytes : List ℕ) (old : List OpenItem) (from : ℕ) (f
   pub within : at ≤ length bytes
   pub none : old ≡ [] → frames ≡ []
 
-pub nothing_closed : (bytes : List ℕ) (old : List OpenItem) (from : ℕ) → from ≤ length bytes → IsClosedUpTo bytes old from old from
-nothing_closed bytes old from w = record { same = record { there = λ rest p. p; back = λ rest p. p }; before = omega arith; within = w; none = λ e. e }
-
-closes : (bytes behind : List ℕ) (top : OpenItem) (outer : List OpenItem) → SameRests (Finishes top bytes) (λ rest. behind ≡ rest) → SameRests (Completes (top ∷ outer) bytes) (Completes outer behind)
-closes bytes behind top outer s = record {
-  there = λ rest (mid, f, c). subst (λ x. Completes outer x rest) (sym (s.there mid f)) c;
-  back = λ rest c. (behind, s.back behind refl, c);
-}
-
-goes_in : (bytes : List ℕ) (top next : OpenItem) (outer : List OpenItem) → SameRests (Finishes top bytes) (ItemFinishes next bytes) → SameRests (Completes (top ∷ outer) bytes) (ItemCompletes (next ∷ outer) bytes)
-goes_in bytes top next outer s = record {
-  there = λ rest (mid, f, c). let (after, w, g) = s.there mid f in (after, w, (mid, g, c));
-  back = λ rest (after, w, (mid, g, c)). (mid, s.back mid (after, w, g), c);
-}
-
-module _ {bytes : List ℕ} {old : List OpenItem} {from : ℕ} {frames : List OpenItem} {at : ℕ} (r : IsClosedUpTo bytes old from frames at) where
-  not_none : (top : made_frame.Frame) → TopFrameIs (Some top) frames → old ≡ [] → ⊥
-  not_none top (outer, e) n = let f = sym (r.none n) ∙ e in cc f
-
-  pub one_closed : (top : made_frame.Frame) (next : ℕ) (after : List OpenItem) → TopFrameIs (Some top) frames → IsNextIn top bytes at (inside.End next) → after ≡ around_frame frames
-      → IsClosedUpTo bytes old from after next
-  one_closed top next after t (s, l, w) e =
-      let f : after ≡ t.0 = e ∙ ap around_frame t.1 in
-      record {
-        same = same_after r.same (rw (t.1, f) (closes (drop at bytes) (drop next bytes) (frame_of top) t.0 s));
-        before = let b = r.before in omega arith;
-        within = w;
-        none = λ n. absurd (not_none top t n);
-      }
-
-  pub item_comes : (top next : made_frame.Frame) (after : List OpenItem) → TopFrameIs (Some top) frames → IsNextIn top bytes at (inside.Item next) → after ≡ changed (frame_of next) frames
-      → ComesBehind bytes old from after (behind.Item at)
-  item_comes top next after t s e =
-      let f : after ≡ frame_of next ∷ t.0 = e ∙ ap (changed (frame_of next)) t.1 in
-      (same_after r.same (rw (t.1, f) (goes_in (drop at bytes) (frame_of top) (frame_of next) t.0 s)), r.before, r.within, not_none top t)
-
-  pub nothing_comes : (top : made_frame.Frame) (after : List OpenItem) → TopFrameIs (Some top) frames → IsNextIn top bytes at inside.Nothing → ComesBehind bytes old from after behind.Nothing
-  nothing_comes top after t n =
-      let m : HasNoRest (Completes frames (drop at bytes)) = rw t.1 (λ rest (mid, f, c). n mid f) in
-      none_after r.same m
-
-  pub end_comes : (after : List OpenItem) → TopFrameIs None frames → ComesBehind bytes old from after (behind.End at)
-  end_comes after t = (rw t at r.same, r.before, r.within)
-
 -- ---- the whole
 
-pub due_at_start : (bytes : List ℕ) (frames : List OpenItem) → frames ≡ [] → IsDueAt bytes frames 0
-due_at_start bytes frames e =
-    rw e (record {
-      same = record { there = λ rest w. (rest, w, refl); back = λ rest (after, w, e). subst (IsWellFormed bytes) e w };
-      within = omega arith;
-      first = λ e h. h;
-      holds = λ n. absurd (n refl);
-    })
-
 module _ {bytes : List ℕ} {frames : List OpenItem} {at : ℕ} (d : IsDueAt bytes frames at) where
-  pub nothing_is_due : FrontIs bytes at None → HasNoRest (IsWellFormed bytes)
-  nothing_is_due n rest w = let (after, v, c) = d.same.there rest w in n after v
-
   -- where memory is taken
   pub holds_by : HoldsItems (drop at bytes) → HoldsItems bytes
   holds_by h = go frames d.first d.holds
@@ -209,17 +146,6 @@ module _ {bytes : List ℕ} {frames : List OpenItem} {at : ℕ} (d : IsDueAt byt
       go : (all : List OpenItem) → (all ≡ [] → HoldsItems (drop at bytes) → HoldsItems bytes) → ((all ≡ [] → ⊥) → HoldsItems bytes) → HoldsItems bytes
       go [] f g = f refl h
       go (top ∷ outer) f g = g (λ e. cc e)
-
-  pub tag_goes : (next : ℕ) → FrontIs bytes at (Some (front.Tag next)) → GoesOn bytes at frames (behind.Item next)
-  tag_goes next (s, further, up) = (
-    record {
-      same = same_after d.same (record { there = λ rest (mid, w, c). (mid, s.there mid w, c); back = λ rest (mid, w, c). (mid, s.back mid w, c) });
-      within = further.within;
-      first = λ e h. d.first e (up h);
-      holds = d.holds;
-    },
-    further.later,
-  )
 
   -- behind what is whole, or open
   goes_behind : (old new : List OpenItem) (from : ℕ) (found : Behind) → SameRests (ItemCompletes frames (drop at bytes)) (Completes old (drop from bytes)) → at < from

@@ -1,5 +1,5 @@
 -- What reading with limits answers.
-use Rattle.std.specs.Prelude.{◌≡◌, ℕ, zero, suc, ◌≤◌, List, [], ◌∷◌, length, drop}
+use Rattle.std.specs.Prelude.{◌≡◌, ℕ, suc, ◌≤◌, List, [], ◌∷◌, length, drop}
 use Rattle.sval_io.specs.declared.limits.Limits.{Limits}
 use Rattle.sval_cbor_read.specs.declared.document.CborReadError.TheVariants.{Malformed, Unsupported, NoMemory}
 use Rattle.sval_cbor_read.specs.declared.document.limited.CborLimitedError.{CborLimitedError}

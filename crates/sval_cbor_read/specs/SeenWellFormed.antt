@@ -1,5 +1,5 @@
 -- What the code finds where it tells well-formed bytes from others.
-use Rattle.std.specs.Prelude.{◌≡◌, ℕ, ◌<◌, ◌≤◌, List, [], ◌∷◌, length, drop, Option, Some, None}
+use Rattle.std.specs.Prelude.{◌≡◌, ℕ, ◌<◌, ◌≤◌, ◌⊎◌, List, [], ◌∷◌, length, drop, Option, Some, None}
 use Rattle.sval_cbor_read.specs.declared.stack.Frame as made_frame
 use Rattle.sval_cbor_read.specs.declared.well_formed.Front.{Front}
 use Rattle.sval_cbor_read.specs.declared.well_formed.Front.TheVariants as front
@@ -9,7 +9,7 @@ use Rattle.sval_cbor_read.specs.declared.well_formed.Behind.{Behind}
 use Rattle.sval_cbor_read.specs.declared.well_formed.Behind.TheVariants as behind
 use Rattle.sval_cbor_read.specs.Reading.{OpenItem, Items, Keys, Values}
 use Rattle.sval_cbor_read.specs.SeenFrames.{frame_of}
-use Rattle.sval_cbor_read.specs.WellFormed.{IsStringOf, AreChunksOf, IsWellFormed, HasItems, HasPairs, HoldsItems}
+use Rattle.sval_cbor_read.specs.WellFormed.{IsWellFormed, HasItems, HasPairs, HoldsItems}
 
 -- a rest is one of the first bytes exactly where it is one of the second
 pub record SameRests (first second : List ℕ → Type 0) : Type 0 where
@@ -52,6 +52,10 @@ pub record IsFurther (bytes : List ℕ) (at next : ℕ) : Type 0 where
 abbrev pub EndsAt : (List ℕ → List ℕ → Type 0) → List ℕ → ℕ → Option ℕ → Type 0
 EndsAt Is bytes at (Some next) = Is (drop at bytes) (drop next bytes) × IsFurther bytes at next
 EndsAt Is bytes at None = HasNoRest (Is (drop at bytes))
+
+-- a string in chunks of this major type begins with this byte
+abbrev pub BeginsChunksOf : ℕ → ℕ → Type 0
+BeginsChunksOf first major = ((first ≡ 0x5f) × (major ≡ 2)) ⊎ ((first ≡ 0x7f) × (major ≡ 3))
 
 -- what a well-formed item begins with at a place
 abbrev pub IsFrontAt : List ℕ → ℕ → Front → Type 0

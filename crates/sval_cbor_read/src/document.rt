@@ -123,9 +123,9 @@ impl<'a> CborDoc<'a> {
     ///
     /// [`CborReadError::Malformed`] and [`CborReadError::Unsupported`] come only where the bytes are an item of no
     /// tree. The first comes only where they are not one well-formed item, and the second only where they are. To tell
-    /// them apart the bytes are gone through once more, which takes memory for each array or map that is open at
-    /// once. [`CborReadError::NoMemory`] may come in their place and in that of a document, but only where
-    /// some first bytes make a call, or where an array or a map begins the bytes or stands there behind tags.
+    /// them apart the bytes are gone through once more, which takes memory for each array or map that is open at once.
+    /// [`CborReadError::NoMemory`] may come in their place and in that of a document, but only where some first bytes
+    /// make a call, or where the bytes begin with an array or a map, or with tags and then one.
     pub fn read(alloc: Global, bytes: &'a [u8]) -> Result<Self, CborReadError>
         ensures ok { IfOk result (λ doc. IsReadItem bytes.now doc) }
         ensures err { IfErr result (IsCborReadError bytes.now) }

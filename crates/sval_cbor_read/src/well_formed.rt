@@ -3,7 +3,7 @@
 ghost use Rattle.std.specs.Prelude.{◌≡◌, ◌<◌, ◌≤◌, ◌⊎◌, length, drop, get_or, IfOk, IfErr};
 ghost use Rattle.sval_cbor_read.specs.Items.{head_at_front};
 ghost use Rattle.sval_cbor_read.specs.SeenHeads.{IsHead};
-ghost use Rattle.sval_cbor_read.specs.SeenWellFormed.{EndsAt, FrontIs, IsNextIn, ComesBehind, IsDueAt, GoesOn, WellFormedUpTo};
+ghost use Rattle.sval_cbor_read.specs.SeenWellFormed.{EndsAt, BeginsChunksOf, FrontIs, IsNextIn, ComesBehind, IsDueAt, GoesOn, WellFormedUpTo};
 ghost use Rattle.sval_cbor_read.specs.WellFormed.{IsStringOf, AreChunksOf, HoldsItems};
 
 use crate::head::{Head, read_head};
@@ -131,7 +131,7 @@ fn headed_front(bytes: &[u8], at: usize, head: Head) -> Option<Front>
 /// The string in chunks of this major type whose chunks begin behind `at`.
 fn chunked_front(bytes: &[u8], at: usize, major: u8) -> Option<Front>
     requires within { at < length bytes.now }
-    requires first { ((get_or bytes.now at 0 ≡ 0x5f) × (major ≡ 2)) ⊎ ((get_or bytes.now at 0 ≡ 0x7f) × (major ≡ 3)) }
+    requires first { BeginsChunksOf (get_or bytes.now at 0) major }
     ensures { FrontIs bytes.now at result }
 {
     match chunks_end(bytes, at + 1, major) {

@@ -89,8 +89,8 @@ impl<'a> CborDoc<'a> {
     ///
     /// [`CborLimitedError::Read`] holds an error of [`CborDoc::read`]. [`CborReadError::Malformed`] and
     /// [`CborReadError::Unsupported`] come only where no head before their place passes a limit. The limits don't bound
-    /// the memory for telling these two apart. [`CborLimitedError::TooDeep`] and [`CborLimitedError::TooMany`] tell the first
-    /// head that passes one. That of an array or a map may pass both: the error is `TooDeep`.
+    /// the memory for telling these two apart. [`CborLimitedError::TooDeep`] and [`CborLimitedError::TooMany`] tell the
+    /// first head that passes one. That of an array or a map may pass both: the error is `TooDeep`.
     pub fn read_with(
         alloc: Global,
         bytes: &'a [u8],

@@ -1,4 +1,3 @@
-use Rattle.std.proofs.Common.{arith}
 use Rattle.sval_cbor_read.proofs.WellFormedFronts.{simple_is_front, simple_is_none}
 use Rattle.sval_cbor_read.proofs.well_formed.simple_front.Goals as goal
 use Rattle.sval_cbor_read.proofs.well_formed.simple_front.Goals.{else-bytes-at-via-then-bytes-at+else-head-lt32, else-bytes-at-via-else-bytes-at}

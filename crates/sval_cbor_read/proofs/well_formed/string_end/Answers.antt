@@ -1,5 +1,5 @@
 use Rattle.std.proofs.Common.{refl}
-use Rattle.sval_cbor_read.proofs.WellFormedFronts.{string_ends, string_lacks, other_string, headless_string}
+use Rattle.sval_cbor_read.proofs.WellFormedFronts.{string_ends, string_lacks}
 use Rattle.sval_cbor_read.proofs.well_formed.string_end.Goals as goal
 
 pub returns-in-None-binary_behind : goal.returns-in-None-binary_behind

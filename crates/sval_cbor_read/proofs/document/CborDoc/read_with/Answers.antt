@@ -1,5 +1,4 @@
-use Rattle.std.specs.Prelude.{IfErr}
-use Rattle.std.proofs.Common.{[], subst}
+use Rattle.std.proofs.Common.{subst}
 use Rattle.sval_cbor_read.specs.CborLimits.{EndsWithin}
 use Rattle.sval_cbor_read.proofs.Bignums.{nothing_at}
 use Rattle.sval_cbor_read.proofs.LimitedHeads.{more_within}
