@@ -20,7 +20,7 @@ use Rattle.sval_cbor.specs.declared.error.Stop.TheVariants as stop
 use Rattle.sval_cbor.specs.declared.style.Style.{Style}
 use Rattle.sval_cbor.specs.declared.style.TheConstants.Style.{DEFAULT}
 use Rattle.sval_cbor.specs.Packs.{PackRefusal, BadKey, BadNumber, RawJson, NotInteger, map_packed, pack_as}
-use Rattle.sval_cbor.specs.Cbor.{cbor}
+use Rattle.sval_cbor.specs.Cbor.{cbor_as}
 use Rattle.sval_cbor.proofs.Styles.{packs_alike, refused_alike}
 use Rattle.sval_cbor.specs.Streamed.{CborAnswer, refusal_error, check_error, stop_error, WroteAll, IsHalted, AnswersBytes, AnswersDue, IsNoTree, IsChecked, IsRefusedAs, HasCbor, IsCborDue, WritesCborTree, TakesMemory, IsCauseOfValue, StreamsCborAs}
 
@@ -58,16 +58,16 @@ stop_leaves (stop.Sink sink.NoMemory) due old new ok halted own = own
 
 -- ---- trees and their bytes
 
-packed_by : (found : Result Json PackRefusal) (bytes : List ℕ) → Ok bytes ≡ map_packed cbor found → (json : Json) × (found ≡ Ok json) × (bytes ≡ cbor json)
-packed_by (Ok json) bytes e = (json, refl, cc e)
-packed_by (Err why) bytes e = cc e
+packed_by : (style : Style) (found : Result Json PackRefusal) (bytes : List ℕ) → Ok bytes ≡ map_packed (cbor_as style.lengths) found → (json : Json) × (found ≡ Ok json) × (bytes ≡ cbor_as style.lengths json)
+packed_by style (Ok json) bytes e = (json, refl, cc e)
+packed_by style (Err why) bytes e = cc e
 
-refused_by : (found : Result Json PackRefusal) (why : PackRefusal) → Err why ≡ map_packed cbor found → found ≡ Err why
-refused_by (Ok json) why e = cc e
-refused_by (Err other) why e = let same : why ≡ other = cc e in ap Err (sym same)
+refused_by : (style : Style) (found : Result Json PackRefusal) (why : PackRefusal) → Err why ≡ map_packed (cbor_as style.lengths) found → found ≡ Err why
+refused_by style (Ok json) why e = cc e
+refused_by style (Err other) why e = let same : why ≡ other = cc e in ap Err (sym same)
 
-json_bytes : {found : Result Json PackRefusal} {bytes : List ℕ} {json : Json} → Ok bytes ≡ map_packed cbor found → found ≡ Ok json → bytes ≡ cbor json
-json_bytes e is = let f = e ∙ ap (map_packed cbor) is in cc f
+json_bytes : (style : Style) {found : Result Json PackRefusal} {bytes : List ℕ} {json : Json} → Ok bytes ≡ map_packed (cbor_as style.lengths) found → found ≡ Ok json → bytes ≡ cbor_as style.lengths json
+json_bytes style e is = let f = e ∙ ap (map_packed (cbor_as style.lengths)) is in cc f
 
 -- ---- errors of the value
 
@@ -94,7 +94,7 @@ due_streams style e why told own due only none = record {
   no_memory = λ is. absurd (subst IsCauseOfValue is own);
   no_memory_short = λ is. absurd (subst IsCauseOfValue is own);
   counts = nothing_fell told;
-  prefix = λ tree json spells packs. nothing_is_front told (cbor json);
+  prefix = λ tree json spells packs. nothing_is_front told (cbor_as style.lengths json);
 }
 
 pub memory_streams : (style : Style) (e : Emission) (told : Told) → TakesMemory e → StreamsCborAs style e (Err error.NoMemory) told told
@@ -112,7 +112,7 @@ memory_streams style e told wants = record {
   no_memory = λ is. inr (refl, wants);
   no_memory_short = λ is. inl refl;
   counts = nothing_fell told;
-  prefix = λ tree json spells packs. nothing_is_front told (cbor json);
+  prefix = λ tree json spells packs. nothing_is_front told (cbor_as style.lengths json);
 }
 
 -- ---- a value that is no tree, or refuses
@@ -260,26 +260,26 @@ module _ (e : Emission) (one : IsChecked e) where
   refusal_streams style why told refused =
       due_streams style e (refusal_error why) told (refusal_of_value why) (refusal_due why refused) (only_refusal why refused) (λ has. not_refused has why refused)
 
-  module _ (style : Style) (bytes : List ℕ) (gives : (tree : Tree) → Spells e.calls tree → Ok bytes ≡ map_packed cbor (pack_as style tree)) where
+  module _ (style : Style) (bytes : List ℕ) (gives : (tree : Tree) → Spells e.calls tree → Ok bytes ≡ map_packed (cbor_as style.lengths) (pack_as style tree)) where
     has_cbor : HasCbor e
     has_cbor = record {
       value = one.value;
-      packs = λ tree spells. let packed = packed_by (pack_as style tree) bytes (gives tree spells) in packs_alike style DEFAULT tree packed.0 packed.1;
+      packs = λ tree spells. let packed = packed_by style (pack_as style tree) bytes (gives tree spells) in packs_alike style DEFAULT tree packed.0 packed.1;
     }
 
     writes_tree : {old new : Told} → WritesWhole old bytes new → (tree : Tree) → Spells e.calls tree → WritesCborTree style tree old new
     writes_tree {old} {new} w tree spells =
-        let packed = packed_by (pack_as style tree) bytes (gives tree spells) in
+        let packed = packed_by style (pack_as style tree) bytes (gives tree spells) in
         record { json = packed.0; packs = packed.1; appends = subst (λ bytes. Appends old bytes new) packed.2 w.appends }
 
-    begins_tree : {old new : Told} → AppendsFront old bytes new → (tree : Tree) (json : Json) → Spells e.calls tree → pack_as style tree ≡ Ok json → AppendsFront old (cbor json) new
-    begins_tree {old} {new} front tree json spells packs = subst (λ bytes. AppendsFront old bytes new) (json_bytes (gives tree spells) packs) front
+    begins_tree : {old new : Told} → AppendsFront old bytes new → (tree : Tree) (json : Json) → Spells e.calls tree → pack_as style tree ≡ Ok json → AppendsFront old (cbor_as style.lengths json) new
+    begins_tree {old} {new} front tree json spells packs = subst (λ bytes. AppendsFront old bytes new) (json_bytes style (gives tree spells) packs) front
 
-    cuts_tree : {old new : Told} → AppendsPart old bytes new → (tree : Tree) (json : Json) → Spells e.calls tree → pack_as style tree ≡ Ok json → AppendsPart old (cbor json) new
-    cuts_tree {old} {new} part tree json spells packs = subst (λ bytes. AppendsPart old bytes new) (json_bytes (gives tree spells) packs) part
+    cuts_tree : {old new : Told} → AppendsPart old bytes new → (tree : Tree) (json : Json) → Spells e.calls tree → pack_as style tree ≡ Ok json → AppendsPart old (cbor_as style.lengths json) new
+    cuts_tree {old} {new} part tree json spells packs = subst (λ bytes. AppendsPart old bytes new) (json_bytes style (gives tree spells) packs) part
 
-    lacks_room : (old : Told) → LacksRoom old bytes → (tree : Tree) (json : Json) → Spells e.calls tree → pack_as style tree ≡ Ok json → LacksRoom old (cbor json)
-    lacks_room old lacks tree json spells packs = subst (LacksRoom old) (json_bytes (gives tree spells) packs) lacks
+    lacks_room : (old : Told) → LacksRoom old bytes → (tree : Tree) (json : Json) → Spells e.calls tree → pack_as style tree ≡ Ok json → LacksRoom old (cbor_as style.lengths json)
+    lacks_room old lacks tree json spells packs = subst (LacksRoom old) (json_bytes style (gives tree spells) packs) lacks
 
     bytes_stream : (result : CborAnswer) (old new : Told) → AnswersBytes result old bytes new → StreamsCborAs style e result old new
     bytes_stream (Ok done) old new w = record {
@@ -338,17 +338,17 @@ module _ (e : Emission) (one : IsChecked e) where
     bytes_stream (Err error.Raw) old new h = absurd h
     bytes_stream (Err error.NotInteger) old new h = absurd h
 
-  refused_as : (style : Style) (why : PackRefusal) → ((tree : Tree) → Spells e.calls tree → Err why ≡ map_packed cbor (pack_as style tree)) → IsRefusedAs e why
-  refused_as style why gives = record { value = one.value; packs = λ tree spells. refused_alike style DEFAULT tree why (refused_by (pack_as style tree) why (gives tree spells)) }
+  refused_as : (style : Style) (why : PackRefusal) → ((tree : Tree) → Spells e.calls tree → Err why ≡ map_packed (cbor_as style.lengths) (pack_as style tree)) → IsRefusedAs e why
+  refused_as style why gives = record { value = one.value; packs = λ tree spells. refused_alike style DEFAULT tree why (refused_by style (pack_as style tree) why (gives tree spells)) }
 
-  pub checked_streams : (style : Style) (due : Result (List ℕ) PackRefusal) (result : CborAnswer) (old new : Told) → ((tree : Tree) → Spells e.calls tree → due ≡ map_packed cbor (pack_as style tree))
+  pub checked_streams : (style : Style) (due : Result (List ℕ) PackRefusal) (result : CborAnswer) (old new : Told) → ((tree : Tree) → Spells e.calls tree → due ≡ map_packed (cbor_as style.lengths) (pack_as style tree))
       → AnswersDue result old due new → StreamsCborAs style e result old new
   checked_streams style (Ok bytes) result old new gives answers = bytes_stream style bytes gives result old new answers
   checked_streams style (Err why) result old new gives (is, same) =
       subst (λ r. StreamsCborAs style e r old new) (sym is) (subst (λ (t : Told). StreamsCborAs style e (Err (refusal_error why)) old t) (sym same) (refusal_streams style why old (refused_as style why gives)))
 
   -- where memory was wanting to write, the sink's count of wants rose
-  pub checked_want : (style : Style) (due : Result (List ℕ) PackRefusal) (result : CborAnswer) (old new : Told) → ((tree : Tree) → Spells e.calls tree → due ≡ map_packed cbor (pack_as style tree))
+  pub checked_want : (style : Style) (due : Result (List ℕ) PackRefusal) (result : CborAnswer) (old new : Told) → ((tree : Tree) → Spells e.calls tree → due ≡ map_packed (cbor_as style.lengths) (pack_as style tree))
       → AnswersDue result old due new → result ≡ Err error.NoMemory → Rose old.wants new.wants × HasCbor e
   checked_want style (Ok bytes) result old new gives answers is =
       let front : WritesFront sink.NoMemory old bytes new = subst (λ (r : CborAnswer). AnswersBytes r old bytes new) is answers in (front.cause, has_cbor style bytes gives)

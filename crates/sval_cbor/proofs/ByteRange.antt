@@ -16,9 +16,11 @@ use Rattle.sval_json.specs.Json as shape
 use Rattle.sval_json.specs.Json.{Key, escaped_key, raw_key, Json, Items, no_item, item, Pairs, no_pair, pair}
 use Rattle.sval_cbor.specs.declared.style.Binaries.{Binaries}
 use Rattle.sval_cbor.specs.declared.style.Binaries.TheVariants.{Numbers, ByteStrings}
+use Rattle.sval_cbor.specs.declared.style.Lengths.{Lengths}
+use Rattle.sval_cbor.specs.declared.style.Lengths.TheVariants.{Indefinite, Definite}
 use Rattle.sval_cbor.specs.declared.style.Style.{Style}
 use Rattle.sval_cbor.specs.Packs.{pack_as}
-use Rattle.sval_cbor.specs.Cbor.{head_bytes, without_zero_bytes, short_bytes, string, bignum, integer, truth_bytes, cbor, cbor_items, cbor_pairs}
+use Rattle.sval_cbor.specs.Cbor.{head_bytes, without_zero_bytes, short_bytes, string, bignum, integer, truth_bytes, item_count, pair_count, held_count, row_head, row_end, cbor_as, cbor_items_as, cbor_pairs_as}
 use Rattle.sval_cbor.specs.Premises.{IsShortTreeAs}
 use Rattle.sval_cbor.proofs.Packed.{IsPackedBinary, IsPacked, ArePacked, PairsArePacked, packed}
 
@@ -89,33 +91,43 @@ truths : (b : Bool) → AreBytes (truth_bytes b)
 truths false = (omega arith, tt)
 truths true = (omega arith, tt)
 
-closed : (xs : List ℕ) → AreBytes xs → AreBytes (xs ++ (0xff ∷ []))
-closed xs h = bytes_joined xs (0xff ∷ []) h (omega arith, tt)
+row_heads : (lengths : Lengths) (major n : ℕ) → major < 8 → AreBytes (row_head lengths major n)
+row_heads Indefinite major n h = (omega arith, tt)
+row_heads Definite major n h = heads major n h
+
+row_ends : (lengths : Lengths) → AreBytes (row_end lengths)
+row_ends Indefinite = (omega arith, tt)
+row_ends Definite = tt
+
+-- what is within a head and an end
+framed : (lengths : Lengths) (major n : ℕ) (xs : List ℕ) → major < 8 → AreBytes xs → AreBytes (row_head lengths major n ++ xs ++ row_end lengths)
+framed lengths major n xs l h =
+    bytes_joined (row_head lengths major n ++ xs) (row_end lengths) (bytes_joined (row_head lengths major n) xs (row_heads lengths major n l) h) (row_ends lengths)
 
 byte_string : (binaries : Binaries) (bytes : List ℕ) → IsPackedBinary binaries bytes → AreBytes (string 2 bytes)
 byte_string Numbers bytes h = absurd h
 byte_string ByteStrings bytes h = strings 2 bytes (omega arith) h.0
 
 mutual
-  shape_bytes : (style : Style) (json : Json) → IsPacked style json → AreBytes (cbor json)
+  shape_bytes : (style : Style) (json : Json) → IsPacked style json → AreBytes (cbor_as style.lengths json)
   shape_bytes style shape.null h = (omega arith, tt)
   shape_bytes style (shape.truth b) h = truths b
   shape_bytes style (shape.number bytes) h = integers (signed_digits_value 10 bytes)
   shape_bytes style (shape.text bytes) h = strings 3 bytes (omega arith) (utf8_bytes bytes h.0)
   shape_bytes style (shape.quoted bytes) h = byte_string style.binaries bytes h
   shape_bytes style (shape.raw bytes) h = tt
-  shape_bytes style (shape.array row) h = (omega arith, closed (cbor_items row) (item_bytes style row h))
-  shape_bytes style (shape.object row) h = (omega arith, closed (cbor_pairs row) (pair_bytes style row h))
+  shape_bytes style (shape.array row) h = framed style.lengths 4 (held_count (item_count row)) (cbor_items_as style.lengths row) (omega arith) (item_bytes style row h.0)
+  shape_bytes style (shape.object row) h = framed style.lengths 5 (held_count (pair_count row)) (cbor_pairs_as style.lengths row) (omega arith) (pair_bytes style row h.0)
 
-  item_bytes : (style : Style) (row : Items) → ArePacked style row → AreBytes (cbor_items row)
+  item_bytes : (style : Style) (row : Items) → ArePacked style row → AreBytes (cbor_items_as style.lengths row)
   item_bytes style no_item h = tt
-  item_bytes style (item json row) h = bytes_joined (cbor json) (cbor_items row) (shape_bytes style json h.0) (item_bytes style row h.1)
+  item_bytes style (item json row) h = bytes_joined (cbor_as style.lengths json) (cbor_items_as style.lengths row) (shape_bytes style json h.0) (item_bytes style row h.1)
 
-  pair_bytes : (style : Style) (row : Pairs) → PairsArePacked style row → AreBytes (cbor_pairs row)
+  pair_bytes : (style : Style) (row : Pairs) → PairsArePacked style row → AreBytes (cbor_pairs_as style.lengths row)
   pair_bytes style no_pair h = tt
   pair_bytes style (pair (escaped_key bytes) json row) h =
-      bytes_joined (string 3 bytes ++ cbor json) (cbor_pairs row) (bytes_joined (string 3 bytes) (cbor json) (strings 3 bytes (omega arith) (utf8_bytes bytes h.0.0)) (shape_bytes style json h.1)) (pair_bytes style row h.2)
+      bytes_joined (string 3 bytes ++ cbor_as style.lengths json) (cbor_pairs_as style.lengths row) (bytes_joined (string 3 bytes) (cbor_as style.lengths json) (strings 3 bytes (omega arith) (utf8_bytes bytes h.0.0)) (shape_bytes style json h.1)) (pair_bytes style row h.2)
   pair_bytes style (pair (raw_key bytes) json row) h = absurd h.0
 
-pub cbor_is_bytes : (style : Style) (tree : Tree) (json : Json) → IsReal tree → IsShortTreeAs style tree → pack_as style tree ≡ Ok json → AllByRecursion (λ byte. byte < 256) (cbor json)
+pub cbor_is_bytes : (style : Style) (tree : Tree) (json : Json) → IsReal tree → IsShortTreeAs style tree → pack_as style tree ≡ Ok json → AllByRecursion (λ byte. byte < 256) (cbor_as style.lengths json)
 cbor_is_bytes style tree json r s e = shape_bytes style json (packed style tree json r s e)

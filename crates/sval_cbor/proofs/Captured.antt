@@ -11,7 +11,7 @@ use Rattle.sval_buffer.proofs.Recapture.{is_single, is_begin, IsMade, single, te
 use Rattle.sval_buffer.proofs.SameTree.{capture_keeps}
 use Rattle.sval_cbor.specs.declared.style.Style.{Style}
 use Rattle.sval_cbor.specs.Packs.{map_packed, pack_as}
-use Rattle.sval_cbor.specs.Cbor.{cbor}
+use Rattle.sval_cbor.specs.Cbor.{cbor_as}
 use Rattle.sval_cbor.specs.Writing.{NoText, fragment_progress, are_whole, HaveWholeTexts, written_as}
 use Rattle.sval_cbor.proofs.WritingTrees.{spelling_written}
 
@@ -68,7 +68,7 @@ same_forest e = cc e
 replay_whole : (f : Forest) → AreMade f.nodes → f.spine ≡ [] → HaveWholeTexts (replayed f)
 replay_whole f made e = subst (λ o. HaveWholeTexts (null_for_none (row_calls f.nodes ++ spine_calls o))) (sym e) (null_whole (row_calls f.nodes ++ []) (row_whole made [] refl))
 
-pub captured_is_written : (style : Style) (calls : List Call) (tree : Tree) (f : Forest) → Spells calls tree → forest calls ≡ Holds f → written_as style (replayed f) ≡ map_packed cbor (pack_as style tree)
+pub captured_is_written : (style : Style) (calls : List Call) (tree : Tree) (f : Forest) → Spells calls tree → forest calls ≡ Holds f → written_as style (replayed f) ≡ map_packed (cbor_as style.lengths) (pack_as style tree)
 captured_is_written style calls tree f s e =
     let (g, captured) = capture_keeps calls tree s in
     let same : g ≡ f = same_forest (sym captured.taken ∙ e) in

@@ -1,20 +1,22 @@
 -- What parts of the writer do that are made of others.
-use Rattle.std.specs.Prelude.{◌≡◌, ℕ, ◌<◌, ◌==◌, Bool, true, false, bytes_eq, codes, pos, List, [], ◌∷◌, ◌++◌, length, Result, Ok, Err, decimal, refl}
+use Rattle.std.specs.Prelude.{◌≡◌, ℕ, ◌^◌, ◌<◌, ◌==◌, Bool, true, false, bytes_eq, codes, pos, List, [], ◌∷◌, ◌++◌, length, Result, Ok, Err, decimal, refl}
 use Rattle.std.specs.Str.Parse.{signed_digits_value}
 use Rattle.std.specs.Char.{is_ascii_digit}
-use Rattle.std.proofs.Common.{sym, subst, arith}
+use Rattle.std.proofs.Common.{sym, ap, ◌∙◌, subst, arith, append_assoc}
 use Rattle.std.proofs.lemmas.Bool.Decides.{nat_tests}
 use Rattle.sval_label.specs.declared.error.Error.{Error}
 use Rattle.sval_json.specs.Digits.{has_digit}
-use Rattle.sval_json.specs.Json.{number, text}
+use Rattle.sval_json.specs.Json.{number, text, array}
 use Rattle.sval_json.specs.Number as json
 use Rattle.sval_json.specs.Number.{sign}
 use Rattle.sval_json.specs.Shape.{byte_items}
 use Rattle.sval_cbor.specs.Packs.{BadNumber, NotInteger, is_whole_number, has_128_bits}
-use Rattle.sval_cbor.specs.Cbor.{string, integer, cbor, cbor_items}
+use Rattle.sval_cbor.specs.declared.style.Lengths.{Lengths}
+use Rattle.sval_cbor.specs.Cbor.{string, integer, item_count, held_count, row_head, row_end, cbor_as, cbor_items_as, cbor, cbor_items}
 use Rattle.sval_cbor.specs.Writing.{CborState, writes, number_bytes}
 use Rattle.sval_cbor.specs.WriterLaw.{CborTarget, CborWriterView, json_bytes, HasDoneStep, StepIsStopped, CborDoes}
-use Rattle.sval_cbor.proofs.Doing.{nothing_done, does_then, stopped_first}
+use Rattle.sval_cbor.proofs.AlikeBytes.{bytes_alike, bytes_counted}
+use Rattle.sval_cbor.proofs.Doing.{nothing_done, does_then, does_next, does_alike, stopped_first}
 use Rattle.sval_cbor.proofs.Numbers.{integer_of_decimal}
 
 -- ---- simple values
@@ -76,3 +78,25 @@ rest_stopped {rest = rest} {byte = byte} {mid = mid} {new = new} small due stop 
 pub no_rest : {all : List ℕ} {state : CborState} {begun : CborTarget} {now : CborWriterView} (rest : List ℕ) → IsRest all state begun rest now → length rest ≡ 0 → HasDoneStep (writes (cbor_items (byte_items all)) state) begun now
 no_rest {now = now} [] due none = due.rest_of (Ok tt) now (nothing_done now.state now.target)
 no_rest (byte ∷ rest) due none = absurd (omega (arith, none))
+
+-- ---- a binary as an array
+
+numbers_joined : (lengths : Lengths) (n : ℕ) (bytes : List ℕ) → n ≡ length bytes → n < 2 ^ 64
+    → row_head lengths 4 n ++ (cbor_items (byte_items bytes) ++ row_end lengths) ≡ cbor_as lengths (array (byte_items bytes))
+numbers_joined lengths n bytes e h =
+    let counted : n ≡ held_count (item_count (byte_items bytes)) = omega (arith, e, h, bytes_counted bytes) in
+    ap (λ k. row_head lengths 4 k ++ (cbor_items (byte_items bytes) ++ row_end lengths)) counted
+    ∙ ap (λ items. row_head lengths 4 (held_count (item_count (byte_items bytes))) ++ (items ++ row_end lengths)) (bytes_alike lengths bytes)
+    ∙ sym (append_assoc (row_head lengths 4 (held_count (item_count (byte_items bytes)))) (cbor_items_as lengths (byte_items bytes)) (row_end lengths))
+
+pub numbers_done : (bytes : List ℕ) (n : ℕ) {state : CborState} {mid : CborWriterView} (r : Result (Unit {0}) Error) (old : CborTarget) (new : CborWriterView) → n ≡ length bytes → n < 2 ^ 64
+    → HasDoneStep (writes (row_head state.style.lengths 4 n) state) old mid → CborDoes (writes (cbor_items (byte_items bytes) ++ row_end mid.state.style.lengths) mid.state) r mid.target new
+    → CborDoes (writes (cbor_as state.style.lengths (array (byte_items bytes))) state) r old new
+numbers_done bytes n {state} {mid} r old new e h d items =
+    does_alike r old new (ap (λ all. writes all state) (numbers_joined state.style.lengths n bytes e h))
+    (does_next (λ s. cbor_items (byte_items bytes) ++ row_end s.style.lengths) (λ s. s) r old new d items)
+
+pub numbers_stopped : (bytes : List ℕ) (n : ℕ) {state : CborState} {old : CborTarget} {new : CborWriterView} → n ≡ length bytes → n < 2 ^ 64
+    → StepIsStopped (writes (row_head state.style.lengths 4 n) state) old new → StepIsStopped (writes (cbor_as state.style.lengths (array (byte_items bytes))) state) old new
+numbers_stopped bytes n {state} {old} {new} e h stop =
+    subst (λ (all : List ℕ). StepIsStopped (writes all state) old new) (numbers_joined state.style.lengths n bytes e h) (stopped_first (cbor_items (byte_items bytes) ++ row_end state.style.lengths) stop)

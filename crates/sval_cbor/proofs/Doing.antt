@@ -83,6 +83,12 @@ does_then {xs} ys {s = s} {mid = mid} change r old new d second = go r (subst (�
     go (Ok done) e = done_both d e
     go (Err refusal) stop = stopped_later d stop
 
+-- the same where the bytes come of the state after the first step
+pub does_next : {xs : List ℕ} {s : CborState} {mid : CborWriterView} (ys : CborState → List ℕ) (change : CborState → CborState) (r : Result (Unit {0}) Error) (old : CborTarget) (new : CborWriterView) → HasDoneStep (writes xs s) old mid
+    → CborDoes (writes (ys mid.state) (change mid.state)) r mid.target new → CborDoes (writes (xs ++ ys s) (change s)) r old new
+does_next {xs} {s = s} {mid = mid} ys change r old new d second =
+    does_then (ys s) change r old new d (subst (λ (t : CborState). CborDoes (writes (ys t) (change mid.state)) r mid.target new) (ap (λ v. v.state) d.view) second)
+
 -- a change of the state after it
 pub done_changes : {xs : List ℕ} {s : CborState} {old : CborTarget} {mid : CborWriterView} (change : CborState → CborState) → HasDoneStep (writes xs s) old mid → HasDoneStep (writes xs (change s)) old (record mid { state = change mid.state })
 done_changes change d = record {
@@ -110,6 +116,11 @@ pub opened_then : (front : Result (List ℕ) PackRefusal) (ys : List ℕ) (s : C
     → HasDoneStep (on_packed front (λ front. writes front s)) old mid → CborDoes (writes ys (change mid.state)) r mid.target new → CborDoes (opened front ys (change s)) r old new
 opened_then (Ok front) ys s change r old new d e = does_then ys change r old new d e
 opened_then (Err why) ys s change r old new d e = let none = d.may.refusal in cc none
+
+pub opened_next : (front : Result (List ℕ) PackRefusal) (ys : CborState → List ℕ) (s : CborState) {mid : CborWriterView} (change : CborState → CborState) (r : Result (Unit {0}) Error) (old : CborTarget) (new : CborWriterView)
+    → HasDoneStep (on_packed front (λ front. writes front s)) old mid → CborDoes (writes (ys mid.state) (change mid.state)) r mid.target new → CborDoes (opened front (ys s) (change s)) r old new
+opened_next (Ok front) ys s change r old new d e = does_next ys change r old new d e
+opened_next (Err why) ys s change r old new d e = let none = d.may.refusal in cc none
 
 pub opened_stopped : (front : Result (List ℕ) PackRefusal) (ys : List ℕ) (s t : CborState) {old : CborTarget} {new : CborWriterView} → StepIsStopped (on_packed front (λ front. writes front s)) old new → StepIsStopped (opened front ys t) old new
 opened_stopped (Ok front) ys s t stop = stopped_first ys stop

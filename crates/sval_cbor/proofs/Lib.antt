@@ -3,9 +3,12 @@ pub mod Packed
 pub mod Styles
 pub mod SameText
 pub mod ByteRange
+pub mod AlikeBytes
 pub mod WritingPlain
 pub mod WholeTexts
 pub mod WritingKeys
+pub mod CounterRan
+pub mod CountedCalls
 pub mod WritingFrames
 pub mod WritingValues
 pub mod WritingTrees

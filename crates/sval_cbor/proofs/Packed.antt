@@ -25,10 +25,14 @@ use Rattle.sval_json.proofs.Texts.{normal_twice}
 use Rattle.sval_json.proofs.NumberTexts.{ascii_utf8, number_utf8, signed_number, normal_form}
 use Rattle.sval_cbor.specs.declared.style.Binaries.{Binaries}
 use Rattle.sval_cbor.specs.declared.style.Binaries.TheVariants.{Numbers, ByteStrings}
+use Rattle.sval_cbor.specs.declared.style.Lengths.{Lengths}
+use Rattle.sval_cbor.specs.declared.style.Lengths.TheVariants.{Indefinite, Definite}
 use Rattle.sval_cbor.specs.declared.style.Style.{Style}
 use Rattle.sval_cbor.specs.Packs.{PackRefusal, NotInteger, on_packed, map_packed, has_128_bits, is_whole_number, number_pack, tagged_pack, is_raw, key_bytes, pack_key_as, pack_key, binary_shape, packs, packed_items, packed_pairs, pack_as}
-use Rattle.sval_cbor.specs.Premises.{IsShortText, IsShortLabel, IsShortName, IsShortBinary, IsShortTreeAs, AreShortAs}
+use Rattle.sval_cbor.specs.Cbor.{item_count, pair_count}
+use Rattle.sval_cbor.specs.Premises.{IsShortText, IsShortLabel, IsShortName, IsShortBinary, part_total, IsShortRow, IsShortTreeAs, AreShortAs}
 use Rattle.sval_cbor.proofs.Numbers.{short_of_128, whole_back}
+use Rattle.sval_cbor.proofs.AlikeBytes.{bytes_counted}
 
 abbrev pub IsPackedText : List ℕ → Type 0
 IsPackedText bytes = IsUtf8 bytes × IsShortText bytes
@@ -45,14 +49,19 @@ abbrev pub IsPackedBinary : Binaries → List ℕ → Type 0
 IsPackedBinary Numbers bytes = ⊥
 IsPackedBinary ByteStrings bytes = AllByRecursion (λ byte. byte < 256) bytes × IsShortText bytes
 
+-- where lengths are definite, so many items or pairs are fewer than 2 ^ 64
+abbrev pub HasShortCount : Lengths → ℕ → Type 0
+HasShortCount Indefinite n = ⊤
+HasShortCount Definite n = n < 2 ^ 64
+
 abbrev mutual
   pub IsPacked : Style → Json → Type 0
   IsPacked style (shape.number bytes) = IsPackedNumber bytes
   IsPacked style (shape.text bytes) = IsPackedText bytes
   IsPacked style (shape.quoted bytes) = IsPackedBinary style.binaries bytes
   IsPacked style (shape.raw _) = ⊥
-  IsPacked style (shape.array row) = ArePacked style row
-  IsPacked style (shape.object row) = PairsArePacked style row
+  IsPacked style (shape.array row) = ArePacked style row × HasShortCount style.lengths (item_count row)
+  IsPacked style (shape.object row) = PairsArePacked style row × HasShortCount style.lengths (pair_count row)
   IsPacked style _ = ⊤
 
   pub ArePacked : Style → Items → Type 0
@@ -135,8 +144,12 @@ bytes_packed : (style : Style) (bytes : List ℕ) → AllByRecursion (λ byte. b
 bytes_packed style [] h = tt
 bytes_packed style (byte ∷ bytes) h = ((pos byte, refl, byte_128 byte h.0), bytes_packed style bytes h.1)
 
-binary_packed : (style : Style) (binaries : Binaries) (bytes : List ℕ) → style.binaries ≡ binaries → AllByRecursion (λ byte. byte < 256) bytes → IsShortBinary binaries bytes → IsPacked style (binary_shape binaries bytes)
-binary_packed style Numbers bytes e h s = bytes_packed style bytes h
+short_bytes : (lengths : Lengths) (bytes : List ℕ) → IsShortBinary Numbers lengths bytes → HasShortCount lengths (item_count (byte_items bytes))
+short_bytes Indefinite bytes s = tt
+short_bytes Definite bytes s = omega (arith, s, bytes_counted bytes)
+
+binary_packed : (style : Style) (binaries : Binaries) (bytes : List ℕ) → style.binaries ≡ binaries → AllByRecursion (λ byte. byte < 256) bytes → IsShortBinary binaries style.lengths bytes → IsPacked style (binary_shape binaries bytes)
+binary_packed style Numbers bytes e h s = (bytes_packed style bytes h, short_bytes style.lengths bytes s)
 binary_packed style ByteStrings bytes e h s = subst (λ b. IsPackedBinary b bytes) (sym e) (h, s)
 
 -- ---- names
@@ -174,8 +187,12 @@ handle_packed (Some l) i u s = (u, s)
 handle_packed None None u s = tt
 handle_packed None (Some i) u s = index_text_packed (index_text i) (index_packed i)
 
+one_short : (lengths : Lengths) → HasShortCount lengths 1
+one_short Indefinite = tt
+one_short Definite = omega arith
+
 wrap_in_packed : (style : Style) (o : Option (List ℕ)) (json : Json) → IfSome o IsPackedText → IsPacked style json → IsPacked style (wrap_in Inside o json)
-wrap_in_packed style (Some bytes) json u m = (u, m, tt)
+wrap_in_packed style (Some bytes) json u m = ((u, m, tt), one_short style.lengths)
 wrap_in_packed style None json u m = m
 
 wrap_packed : (style : Style) (variant : Bool) (n : Name) (json : Json) → IsRealName n → IsShortName n → IsPacked style json → IsPacked style (wrap Inside variant n json)
@@ -298,6 +315,57 @@ key_as (Ok k) false h = h
 pack_key_packed : (style : Style) (t : Tree) → IsInRange t → IsShortTreeAs style t → IfOk IsPackedKey (pack_key t)
 pack_key_packed style t r s = key_as (key t false) (is_raw t) (key_packed style t false r s)
 
+-- ---- counts
+
+-- no more items, or pairs, than parts
+item_total : (p : Result Json PackRefusal) (r : Result Items PackRefusal) (n : ℕ) → IfOk (λ row. item_count row ≤ n) r
+    → IfOk (λ row. item_count row ≤ 1 + n) (on_packed p (λ json. map_packed (item json) r))
+item_total (Ok json) (Ok row) n h = omega (arith, h)
+item_total (Ok json) (Err why) n h = tt
+item_total (Err why) r n h = tt
+
+items_total : (style : Style) (parts : Parts) → IfOk (λ row. item_count row ≤ part_total parts) (packed_items style parts)
+items_total style none = omega arith
+items_total style (part slot tree parts) = item_total (packs style tree false) (packed_items style parts) (part_total parts) (items_total style parts)
+
+pair_total : (k : Result Key PackRefusal) (p : Result Json PackRefusal) (r : Result Pairs PackRefusal) (n m : ℕ) → n < m → IfOk (λ row. pair_count row ≤ n) r
+    → IfOk (λ row. pair_count row ≤ m) (on_packed k (λ key. on_packed p (λ json. map_packed (pair key json) r)))
+pair_total (Ok k) (Ok json) (Ok row) n m l h = omega (arith, l, h)
+pair_total (Ok k) (Ok json) (Err why) n m l h = tt
+pair_total (Ok k) (Err why) r n m l h = tt
+pair_total (Err why) p r n m l h = tt
+
+pairs_total : (style : Style) (parts : Parts) → IfOk (λ row. pair_count row ≤ part_total parts) (packed_pairs style parts)
+pairs_total style (part Slot.Key key (part slot value parts)) =
+    pair_total (pack_key key) (packs style value false) (packed_pairs style parts) (part_total parts) (1 + (1 + part_total parts)) (omega arith) (pairs_total style parts)
+pairs_total style (part (Slot.Field tag label) tree parts) =
+    pair_total (Ok (escaped_key label.text)) (packs style tree false) (packed_pairs style parts) (part_total parts) (1 + part_total parts) (omega arith) (pairs_total style parts)
+pairs_total style (part (Slot.FieldPlace tag label index) tree parts) =
+    pair_total (Ok (escaped_key label.text)) (packs style tree false) (packed_pairs style parts) (part_total parts) (1 + part_total parts) (omega arith) (pairs_total style parts)
+pairs_total style parts = omega arith
+
+short_count : (lengths : Lengths) (parts : Parts) (n : ℕ) → n ≤ part_total parts → IsShortRow lengths parts → HasShortCount lengths n
+short_count Indefinite parts n h s = tt
+short_count Definite parts n h s = omega (arith, h, s)
+
+abbrev AreShortItems : Style → Items → Type 0
+AreShortItems style row = ArePacked style row × HasShortCount style.lengths (item_count row)
+
+abbrev AreShortPairs : Style → Pairs → Type 0
+AreShortPairs style row = PairsArePacked style row × HasShortCount style.lengths (pair_count row)
+
+if_both : {T : Type 0} (P Q R : T → Type 0) (r : Result T PackRefusal) → ((x : T) → P x → Q x → R x) → IfOk P r → IfOk Q r → IfOk R r
+if_both P Q R (Ok x) g h k = g x h k
+if_both P Q R (Err why) g h k = tt
+
+items_short : (style : Style) (parts : Parts) → IsShortRow style.lengths parts → IfOk (ArePacked style) (packed_items style parts) → IfOk (AreShortItems style) (packed_items style parts)
+items_short style parts s h =
+    if_both (ArePacked style) (λ row. item_count row ≤ part_total parts) (AreShortItems style) (packed_items style parts) (λ row m n. (m, short_count style.lengths parts (item_count row) n s)) h (items_total style parts)
+
+pairs_short : (style : Style) (parts : Parts) → IsShortRow style.lengths parts → IfOk (PairsArePacked style) (packed_pairs style parts) → IfOk (AreShortPairs style) (packed_pairs style parts)
+pairs_short style parts s h =
+    if_both (PairsArePacked style) (λ row. pair_count row ≤ part_total parts) (AreShortPairs style) (packed_pairs style parts) (λ row m n. (m, short_count style.lengths parts (pair_count row) n s)) h (pairs_total style parts)
+
 -- ---- trees
 
 mutual
@@ -313,14 +381,14 @@ mutual
       (tagged_packed style (text_kind name.tag) tree (packs style tree false) (packs_packed style tree false r.1 s.1))
   packs_packed style (EmptyEnum name) variant r s = wrap_packed style variant name (own name) r s (own_packed style name r s)
   packs_packed style (Enum name tree) variant r s = if_map (IsPacked style) (IsPacked style) (wrap Inside variant name) (packs style tree true) (λ json m. wrap_packed style variant name json r.0 s.0 m) (packs_packed style tree true r.1 s.1)
-  packs_packed style (Container Head.Seq parts) variant r s = if_map (ArePacked style) (IsPacked style) shape.array (packed_items style parts) (λ row m. m) (items_packed style parts r.1 s.1)
-  packs_packed style (Container Head.Map parts) variant r s = if_map (PairsArePacked style) (IsPacked style) shape.object (packed_pairs style parts) (λ row m. m) (pairs_packed style parts r.1 s.1)
+  packs_packed style (Container Head.Seq parts) variant r s = if_map (AreShortItems style) (IsPacked style) shape.array (packed_items style parts) (λ row m. m) (items_short style parts s.2 (items_packed style parts r.1 s.1))
+  packs_packed style (Container Head.Map parts) variant r s = if_map (AreShortPairs style) (IsPacked style) shape.object (packed_pairs style parts) (λ row m. m) (pairs_short style parts s.2 (pairs_packed style parts r.1 s.1))
   packs_packed style (Container (Head.Record name) parts) variant r s =
-      if_map (PairsArePacked style) (IsPacked style) (λ fields. wrap Inside variant name (shape.object fields)) (packed_pairs style parts) (λ fields m. wrap_packed style variant name (shape.object fields) r.0 s.0 m) (pairs_packed style parts r.1 s.1)
+      if_map (AreShortPairs style) (IsPacked style) (λ fields. wrap Inside variant name (shape.object fields)) (packed_pairs style parts) (λ fields m. wrap_packed style variant name (shape.object fields) r.0 s.0 m) (pairs_short style parts s.2 (pairs_packed style parts r.1 s.1))
   packs_packed style (Container (Head.Tuple name) parts) variant r s =
-      if_map (ArePacked style) (IsPacked style) (λ places. wrap Inside variant name (shape.array places)) (packed_items style parts) (λ places m. wrap_packed style variant name (shape.array places) r.0 s.0 m) (items_packed style parts r.1 s.1)
+      if_map (AreShortItems style) (IsPacked style) (λ places. wrap Inside variant name (shape.array places)) (packed_items style parts) (λ places m. wrap_packed style variant name (shape.array places) r.0 s.0 m) (items_short style parts s.2 (items_packed style parts r.1 s.1))
   packs_packed style (Container (Head.RecordTuple name) parts) variant r s =
-      if_map (PairsArePacked style) (IsPacked style) (λ fields. wrap Inside variant name (shape.object fields)) (packed_pairs style parts) (λ fields m. wrap_packed style variant name (shape.object fields) r.0 s.0 m) (pairs_packed style parts r.1 s.1)
+      if_map (AreShortPairs style) (IsPacked style) (λ fields. wrap Inside variant name (shape.object fields)) (packed_pairs style parts) (λ fields m. wrap_packed style variant name (shape.object fields) r.0 s.0 m) (pairs_short style parts s.2 (pairs_packed style parts r.1 s.1))
 
   items_packed : (style : Style) (parts : Parts) → AreInRange parts → AreShortAs style parts → IfOk (ArePacked style) (packed_items style parts)
   items_packed style none r s = tt

@@ -10,10 +10,9 @@ use Rattle.sval_io.proofs.Appending.{counted_since, counts_since, writes_nothing
 use Rattle.sval_cbor.specs.declared.error.Stop.{Stop}
 use Rattle.sval_cbor.specs.declared.error.Stop.TheVariants as stop
 use Rattle.sval_cbor.specs.declared.writer.Writer.{Writer}
-use Rattle.sval_cbor.specs.declared.style.Style.{Style}
 use Rattle.sval_cbor.specs.Packs.{PackRefusal, on_packed, map_packed}
 use Rattle.sval_cbor.specs.SeenWriter.{seen_pack_refusal}
-use Rattle.sval_cbor.specs.Writing.{CborState, cbor_start, writes, cbor_step, written_from, written_as}
+use Rattle.sval_cbor.specs.Writing.{CborState, writes, cbor_step, written_from}
 use Rattle.sval_cbor.specs.WriterLaw.{StepAnswer, due_bytes, due_state, CborTarget, CborWriterView, with_cbor_bytes, after_step, MayDoStep, HasDoneStep, IsLeftByStep, cbor_writer_law, cbor_writer_state, cbor_writer_view, cbor_writer_standing}
 use Rattle.sval_cbor.specs.Streamed.{WroteAll, IsDeclined, IsHalted}
 use Rattle.sval_cbor.proofs.Doing.{written_whole, nothing_done, done_both}
@@ -181,11 +180,11 @@ halted_held (Some (stop.Sink why)) due old new halted = record {
   front = λ bytes is. front_held (halted.front bytes is);
 }
 
-module _ {K : Type 0} (told : K → Told) (style : Style) (e : Emission) (old new : Writer K) (is_start : cbor_writer_state old ≡ cbor_start style) where
-  is_written : due_written (steps e.calls (cbor_writer_state old)) ≡ written_as style e.calls
+module _ {K : Type 0} (told : K → Told) (start : CborState) (e : Emission) (old new : Writer K) (is_start : cbor_writer_state old ≡ start) where
+  is_written : due_written (steps e.calls (cbor_writer_state old)) ≡ written_from e.calls start
   is_written = sym (steps_written e.calls (cbor_writer_state old)) ∙ ap (written_from e.calls) is_start
 
-  pub after_streams : Streams cbor_writer_law (cbor_writer_standing told old) e (cbor_writer_standing told new) → IsAfter (written_as style e.calls) old.sink.ghost_name new.sink.ghost_name (told old.sink.now) (told new.sink.now)
+  pub after_streams : Streams cbor_writer_law (cbor_writer_standing told old) e (cbor_writer_standing told new) → IsAfter (written_from e.calls start) old.sink.ghost_name new.sink.ghost_name (told old.sink.now) (told new.sink.now)
   after_streams s =
       let d = ran_as e.calls (cbor_writer_view told old) (cbor_writer_view told new) s.ran in
       record {
@@ -193,7 +192,7 @@ module _ {K : Type 0} (told : K → Told) (style : Style) (e : Emission) (old ne
         wrote = subst (λ due. WroteAll due (told old.sink.now) (told new.sink.now)) is_written (whole_held (wrote_all (steps e.calls (cbor_writer_state old)) d));
       }
 
-  pub after_stops : e.refuses ≡ false → Stops cbor_writer_law (cbor_writer_standing told old) e (cbor_writer_standing told new) → IsAfterStop new.why (written_as style e.calls) old.sink.ghost_name new.sink.ghost_name (told old.sink.now) (told new.sink.now)
+  pub after_stops : e.refuses ≡ false → Stops cbor_writer_law (cbor_writer_standing told old) e (cbor_writer_standing told new) → IsAfterStop new.why (written_from e.calls start) old.sink.ghost_name new.sink.ghost_name (told old.sink.now) (told new.sink.now)
   after_stops willing s =
       let cut = cut_of (cbor_writer_standing told old) (cbor_writer_standing told new) e.calls e.refuses (cbor_writer_view told old) willing s.stopped in
       record {

@@ -1,21 +1,23 @@
 -- Results in front of others: what is written of a tree before its enum ends, and of parts within their container.
-use Rattle.std.specs.Prelude.{◌≡◌, ℕ, Bool, true, false, List, [], ◌∷◌, ◌++◌, if◌then◌else◌, Option, Some, None, Result, Ok, Err, refl}
-use Rattle.std.proofs.Common.{sym, ap, ◌∙◌, append_assoc, append-nil}
+use Rattle.std.specs.Prelude.{◌≡◌, ℕ, ◌+◌, Bool, true, false, List, [], ◌++◌, if◌then◌else◌, Option, Some, None, Result, Ok, Err, refl}
+use Rattle.std.proofs.Common.{sym, ap, arith, ◌∙◌, append_assoc, append-nil}
 use Rattle.sval_label.specs.Calls.{Head, Name}
 use Rattle.sval_core.specs.Trees.{Tree, Null, Truth, Int, Text, Binary, Standalone, Tagged, EmptyEnum, Enum, Container, text_kind}
 use Rattle.sval_json.specs.Json as shape
 use Rattle.sval_json.specs.Json.{Key, escaped_key, Json, Items, no_item, item, Pairs, no_pair, pair}
 use Rattle.sval_json.specs.declared.style.Variants.TheVariants.{Inside}
 use Rattle.sval_json.specs.Shape.{handle, own, wrap_in, wrap}
+use Rattle.sval_cbor.specs.declared.style.Lengths.{Lengths}
 use Rattle.sval_cbor.specs.declared.style.Style.{Style}
 use Rattle.sval_cbor.specs.Packs.{PackRefusal, on_packed, map_packed, tagged_pack, binary_shape, packs, packed_items, packed_pairs}
-use Rattle.sval_cbor.specs.Cbor.{string, cbor, cbor_items, cbor_pairs}
+use Rattle.sval_cbor.specs.Cbor.{string, item_count, pair_count, held_count, row_head, row_end, cbor_as, cbor_items_as, cbor_pairs_as}
 use Rattle.sval_cbor.specs.Writing.{EnumPlace, Elsewhere, Begun, Ended, CborState, cbor_state, opening, after_handle, enum_end_bytes}
+use Rattle.sval_cbor.proofs.Packed.{IfOk}
 use Rattle.sval_cbor.proofs.WritingPlain.{prepend, prepend_twice, and_then, bare_handle}
 use Rattle.sval_cbor.proofs.WritingKeys.{key_string, is_begun, after}
 
-abbrev pub in_value : Style → EnumPlace → CborState
-in_value style place = cbor_state style place false false
+abbrev pub in_value : Style → EnumPlace → List ℕ → CborState
+in_value style place counts = cbor_state style place false false counts
 
 abbrev nameless : Name
 nameless = record { tag = None; label = None; index = None }
@@ -41,13 +43,13 @@ body style (Container (Head.RecordTuple name) parts) = map_packed shape.object (
 body style tree = packs style tree false
 
 -- directly in an enum, what comes in front of a value that has a handle
-abbrev pub front : Option (List ℕ) → Bool → List ℕ
-front (Some bytes) variant = if variant then 0xbf ∷ string 3 bytes else []
-front None variant = []
+abbrev pub front : Lengths → Option (List ℕ) → Bool → List ℕ
+front lengths (Some bytes) variant = if variant then row_head lengths 5 1 ++ string 3 bytes else []
+front lengths None variant = []
 
 -- what is written of a tree before its enum ends
 abbrev pub unclosed : Style → Tree → Bool → Result (List ℕ) PackRefusal
-unclosed style t variant = map_packed (λ json. front (handle (name_of t)) variant ++ cbor json) (body style t)
+unclosed style t variant = map_packed (λ json. front style.lengths (handle (name_of t)) variant ++ cbor_as style.lengths json) (body style t)
 
 -- ---- results
 
@@ -82,75 +84,97 @@ packs_body style (Container (Head.Record name) parts) variant = sym (map_twice s
 packs_body style (Container (Head.Tuple name) parts) variant = sym (map_twice shape.array (wrap Inside variant name) (packed_items style parts))
 packs_body style (Container (Head.RecordTuple name) parts) variant = sym (map_twice shape.object (wrap Inside variant name) (packed_pairs style parts))
 
-no_front : (h : Option (List ℕ)) (bytes : List ℕ) → front h false ++ bytes ≡ bytes
-no_front (Some x) bytes = refl
-no_front None bytes = refl
+no_front : (lengths : Lengths) (h : Option (List ℕ)) (bytes : List ℕ) → front lengths h false ++ bytes ≡ bytes
+no_front lengths (Some x) bytes = refl
+no_front lengths None bytes = refl
 
 same_map : {T U : Type 0} (f g : T → U) → ((x : T) → f x ≡ g x) → (r : Result T PackRefusal) → map_packed f r ≡ map_packed g r
 same_map f g h (Ok x) = ap Ok (h x)
 same_map f g h (Err why) = refl
 
 -- outside enums nothing stands in front
-pub unclosed_plain : (style : Style) (t : Tree) → unclosed style t false ≡ map_packed cbor (packs style t false)
+pub unclosed_plain : (style : Style) (t : Tree) → unclosed style t false ≡ map_packed (cbor_as style.lengths) (packs style t false)
 unclosed_plain style t =
-    same_map (λ json. front (handle (name_of t)) false ++ cbor json) cbor (λ json. no_front (handle (name_of t)) (cbor json)) (body style t)
-    ∙ ap (map_packed cbor) (sym (packs_body style t false ∙ map_same (wrap Inside false (name_of t)) (λ json. refl) (body style t)))
+    let bytes = cbor_as style.lengths in
+    same_map (λ json. front style.lengths (handle (name_of t)) false ++ bytes json) bytes (λ json. no_front style.lengths (handle (name_of t)) (bytes json)) (body style t)
+    ∙ ap (map_packed bytes) (sym (packs_body style t false ∙ map_same (wrap Inside false (name_of t)) (λ json. refl) (body style t)))
 
-pub value_opening : (h : Option (List ℕ)) (place : EnumPlace) → opening h place false ≡ (let r : Result (List ℕ) PackRefusal = Ok (front h (is_begun place)) in r)
-value_opening (Some bytes) Begun = refl
-value_opening (Some bytes) Elsewhere = refl
-value_opening (Some bytes) Ended = refl
-value_opening None Begun = refl
-value_opening None Elsewhere = refl
-value_opening None Ended = refl
+pub value_opening : (lengths : Lengths) (h : Option (List ℕ)) (place : EnumPlace) → opening lengths h place false ≡ (let r : Result (List ℕ) PackRefusal = Ok (front lengths h (is_begun place)) in r)
+value_opening lengths (Some bytes) Begun = refl
+value_opening lengths (Some bytes) Elsewhere = refl
+value_opening lengths (Some bytes) Ended = refl
+value_opening lengths None Begun = refl
+value_opening lengths None Elsewhere = refl
+value_opening lengths None Ended = refl
 
--- ---- frames: a first byte, what is within, and the break
+-- ---- frames: a head, what is within, and the end
 
-framed : {T : Type 0} (first : ℕ) (bytes_of : T → List ℕ) (made : List ℕ) (r : Result T PackRefusal) (q : Result (List ℕ) PackRefusal)
-    → prepend (made ++ (first ∷ [])) (and_then (map_packed bytes_of r) (prepend (0xff ∷ []) q)) ≡ and_then (map_packed (λ row. made ++ (first ∷ bytes_of row ++ (0xff ∷ []))) r) q
-framed first bytes_of made (Ok row) q =
-    ap (prepend (made ++ (first ∷ []))) (prepend_twice (bytes_of row) (0xff ∷ []) q) ∙ prepend_twice (made ++ (first ∷ [])) (bytes_of row ++ (0xff ∷ [])) q
-    ∙ ap (λ x. prepend x q) (append_assoc made (first ∷ []) (bytes_of row ++ (0xff ∷ [])))
-framed first bytes_of made (Err why) q = refl
+framed : (made head within end : List ℕ) (q : Result (List ℕ) PackRefusal) → prepend (made ++ head) (prepend within (prepend end q)) ≡ prepend (made ++ (head ++ within ++ end)) q
+framed made head within end q =
+    prepend_twice (made ++ head) within (prepend end q) ∙ prepend_twice (made ++ head ++ within) end q
+    ∙ ap (λ x. prepend x q) (ap (λ x. x ++ end) (append_assoc made head within) ∙ append_assoc made (head ++ within) end)
 
-pub array_framed : (made : List ℕ) (r : Result Items PackRefusal) (q : Result (List ℕ) PackRefusal)
-    → prepend (made ++ (0x9f ∷ [])) (and_then (map_packed cbor_items r) (prepend (0xff ∷ []) q)) ≡ and_then (map_packed (λ json. made ++ cbor json) (map_packed shape.array r)) q
-array_framed made r q = framed 0x9f cbor_items made r q ∙ ap (λ x. and_then x q) (sym (map_twice shape.array (λ json. made ++ cbor json) r))
+pub array_framed : (lengths : Lengths) (n : ℕ) (made : List ℕ) (r : Result Items PackRefusal) (q : Result (List ℕ) PackRefusal) → IfOk (λ row. item_count row ≡ n) r
+    → prepend (made ++ row_head lengths 4 (held_count n)) (and_then (map_packed (cbor_items_as lengths) r) (prepend (row_end lengths) q)) ≡ and_then (map_packed (λ json. made ++ cbor_as lengths json) (map_packed shape.array r)) q
+array_framed lengths n made (Ok row) q e =
+    ap (λ k. prepend (made ++ row_head lengths 4 (held_count k)) (prepend (cbor_items_as lengths row) (prepend (row_end lengths) q))) (sym e)
+    ∙ framed made (row_head lengths 4 (held_count (item_count row))) (cbor_items_as lengths row) (row_end lengths) q
+array_framed lengths n made (Err why) q e = refl
 
-pub object_framed : (made : List ℕ) (r : Result Pairs PackRefusal) (q : Result (List ℕ) PackRefusal)
-    → prepend (made ++ (0xbf ∷ [])) (and_then (map_packed cbor_pairs r) (prepend (0xff ∷ []) q)) ≡ and_then (map_packed (λ json. made ++ cbor json) (map_packed shape.object r)) q
-object_framed made r q = framed 0xbf cbor_pairs made r q ∙ ap (λ x. and_then x q) (sym (map_twice shape.object (λ json. made ++ cbor json) r))
+pub object_framed : (lengths : Lengths) (n : ℕ) (made : List ℕ) (r : Result Pairs PackRefusal) (q : Result (List ℕ) PackRefusal) → IfOk (λ row. pair_count row ≡ n) r
+    → prepend (made ++ row_head lengths 5 (held_count n)) (and_then (map_packed (cbor_pairs_as lengths) r) (prepend (row_end lengths) q)) ≡ and_then (map_packed (λ json. made ++ cbor_as lengths json) (map_packed shape.object r)) q
+object_framed lengths n made (Ok row) q e =
+    ap (λ k. prepend (made ++ row_head lengths 5 (held_count k)) (prepend (cbor_pairs_as lengths row) (prepend (row_end lengths) q))) (sym e)
+    ∙ framed made (row_head lengths 5 (held_count (pair_count row))) (cbor_pairs_as lengths row) (row_end lengths) q
+object_framed lengths n made (Err why) q e = refl
 
-pub items_joined : (p : Result Json PackRefusal) (r : Result Items PackRefusal) (q : Result (List ℕ) PackRefusal)
-    → and_then (map_packed cbor p) (and_then (map_packed cbor_items r) q) ≡ and_then (map_packed cbor_items (on_packed p (λ json. map_packed (item json) r))) q
-items_joined (Ok json) (Ok row) q = prepend_twice (cbor json) (cbor_items row) q
-items_joined (Ok json) (Err why) q = refl
-items_joined (Err why) r q = refl
+pub items_joined : (lengths : Lengths) (p : Result Json PackRefusal) (r : Result Items PackRefusal) (q : Result (List ℕ) PackRefusal)
+    → and_then (map_packed (cbor_as lengths) p) (and_then (map_packed (cbor_items_as lengths) r) q) ≡ and_then (map_packed (cbor_items_as lengths) (on_packed p (λ json. map_packed (item json) r))) q
+items_joined lengths (Ok json) (Ok row) q = prepend_twice (cbor_as lengths json) (cbor_items_as lengths row) q
+items_joined lengths (Ok json) (Err why) q = refl
+items_joined lengths (Err why) r q = refl
 
-pub pairs_joined : (k : Result Key PackRefusal) (p : Result Json PackRefusal) (r : Result Pairs PackRefusal) (q : Result (List ℕ) PackRefusal)
-    → and_then (map_packed key_string k) (and_then (map_packed cbor p) (and_then (map_packed cbor_pairs r) q)) ≡ and_then (map_packed cbor_pairs (on_packed k (λ key. on_packed p (λ json. map_packed (pair key json) r)))) q
-pairs_joined (Ok k) (Ok json) (Ok row) q =
-    prepend_twice (key_string k) (cbor json) (prepend (cbor_pairs row) q) ∙ prepend_twice (key_string k ++ cbor json) (cbor_pairs row) q
-pairs_joined (Ok k) (Ok json) (Err why) q = refl
-pairs_joined (Ok k) (Err why) r q = refl
-pairs_joined (Err why) p r q = refl
+pub pairs_joined : (lengths : Lengths) (k : Result Key PackRefusal) (p : Result Json PackRefusal) (r : Result Pairs PackRefusal) (q : Result (List ℕ) PackRefusal)
+    → and_then (map_packed key_string k) (and_then (map_packed (cbor_as lengths) p) (and_then (map_packed (cbor_pairs_as lengths) r) q)) ≡ and_then (map_packed (cbor_pairs_as lengths) (on_packed k (λ key. on_packed p (λ json. map_packed (pair key json) r)))) q
+pairs_joined lengths (Ok k) (Ok json) (Ok row) q =
+    prepend_twice (key_string k) (cbor_as lengths json) (prepend (cbor_pairs_as lengths row) q) ∙ prepend_twice (key_string k ++ cbor_as lengths json) (cbor_pairs_as lengths row) q
+pairs_joined lengths (Ok k) (Ok json) (Err why) q = refl
+pairs_joined lengths (Ok k) (Err why) r q = refl
+pairs_joined lengths (Err why) p r q = refl
+
+-- ---- counts of what parts pack to
+
+pub item_counted : (p : Result Json PackRefusal) (r : Result Items PackRefusal) (n : ℕ) → IfOk (λ row. item_count row ≡ n) r
+    → IfOk (λ row. item_count row ≡ 1 + n) (on_packed p (λ json. map_packed (item json) r))
+item_counted (Ok json) (Ok row) n e = omega (arith, e)
+item_counted (Ok json) (Err why) n e = tt
+item_counted (Err why) r n e = tt
+
+pub pair_counted : (k : Result Key PackRefusal) (p : Result Json PackRefusal) (r : Result Pairs PackRefusal) (n m : ℕ) → m ≡ 1 + n → IfOk (λ row. pair_count row ≡ n) r
+    → IfOk (λ row. pair_count row ≡ m) (on_packed k (λ key. on_packed p (λ json. map_packed (pair key json) r)))
+pair_counted (Ok k) (Ok json) (Ok row) n m l e = omega (arith, l, e)
+pair_counted (Ok k) (Ok json) (Err why) n m l e = tt
+pair_counted (Ok k) (Err why) r n m l e = tt
+pair_counted (Err why) p r n m l e = tt
 
 -- ---- enums
 
-abbrev pub closing : EnumPlace → List ℕ
-closing Ended = 0xff ∷ []
-closing _ = []
+abbrev pub closing : Lengths → EnumPlace → List ℕ
+closing lengths Ended = row_end lengths
+closing lengths _ = []
 
-wrapped_bytes : (h : Option (List ℕ)) (json : Json) → cbor (wrap_in Inside h json) ≡ front h true ++ cbor json ++ closing (after_handle h)
-wrapped_bytes (Some bytes) json = ap (λ x. 0xbf ∷ x ++ (0xff ∷ [])) (append-nil (string 3 bytes ++ cbor json))
-wrapped_bytes None json = sym (append-nil (cbor json))
+wrapped_bytes : (lengths : Lengths) (h : Option (List ℕ)) (json : Json) → cbor_as lengths (wrap_in Inside h json) ≡ front lengths h true ++ cbor_as lengths json ++ closing lengths (after_handle h)
+wrapped_bytes lengths (Some bytes) json =
+    ap (λ x. row_head lengths 5 1 ++ x ++ row_end lengths) (append-nil (string 3 bytes ++ cbor_as lengths json))
+    ∙ ap (λ x. x ++ row_end lengths) (sym (append_assoc (row_head lengths 5 1) (string 3 bytes) (cbor_as lengths json)))
+wrapped_bytes lengths None json = sym (append-nil (cbor_as lengths json))
 
-pub enum_closed : (made : List ℕ) (h : Option (List ℕ)) (r : Result Json PackRefusal) (q : Result (List ℕ) PackRefusal)
-    → prepend (made ++ []) (and_then (map_packed (λ json. front h true ++ cbor json) r) (prepend (closing (after_handle h)) q)) ≡ and_then (map_packed (λ json. made ++ cbor json) (map_packed (wrap_in Inside h) r)) q
-enum_closed made h (Ok json) q =
-    ap (prepend (made ++ [])) (prepend_twice (front h true ++ cbor json) (closing (after_handle h)) q ∙ ap (λ x. prepend x q) (sym (wrapped_bytes h json)))
-    ∙ prepend_twice (made ++ []) (cbor (wrap_in Inside h json)) q ∙ ap (λ x. prepend (x ++ cbor (wrap_in Inside h json)) q) (append-nil made)
-enum_closed made h (Err why) q = refl
+pub enum_closed : (lengths : Lengths) (made : List ℕ) (h : Option (List ℕ)) (r : Result Json PackRefusal) (q : Result (List ℕ) PackRefusal)
+    → prepend (made ++ []) (and_then (map_packed (λ json. front lengths h true ++ cbor_as lengths json) r) (prepend (closing lengths (after_handle h)) q)) ≡ and_then (map_packed (λ json. made ++ cbor_as lengths json) (map_packed (wrap_in Inside h) r)) q
+enum_closed lengths made h (Ok json) q =
+    ap (prepend (made ++ [])) (prepend_twice (front lengths h true ++ cbor_as lengths json) (closing lengths (after_handle h)) q ∙ ap (λ x. prepend x q) (sym (wrapped_bytes lengths h json)))
+    ∙ prepend_twice (made ++ []) (cbor_as lengths (wrap_in Inside h json)) q ∙ ap (λ x. prepend (x ++ cbor_as lengths (wrap_in Inside h json)) q) (append-nil made)
+enum_closed lengths made h (Err why) q = refl
 
 after_is : (t : Tree) → after t ≡ after_handle (handle (name_of t))
 after_is (Tagged name tree) = ap after_handle (bare_handle name)
@@ -163,10 +187,10 @@ after_is (Container (Head.Tuple name) parts) = ap after_handle (bare_handle name
 after_is (Container (Head.RecordTuple name) parts) = ap after_handle (bare_handle name)
 after_is _ = refl
 
-end_by : (h : Option (List ℕ)) (j : Json) → enum_end_bytes (after_handle h) false j ≡ closing (after_handle h)
-end_by (Some bytes) j = refl
-end_by None j = refl
+end_by : (lengths : Lengths) (h : Option (List ℕ)) (j : Json) → enum_end_bytes lengths (after_handle h) false j ≡ closing lengths (after_handle h)
+end_by lengths (Some bytes) j = refl
+end_by lengths None j = refl
 
 -- the end of an enum ends the map that its value was put into
-pub enum_closes : (t : Tree) (j : Json) → enum_end_bytes (after t) false j ≡ closing (after_handle (handle (name_of t)))
-enum_closes t j = ap (λ place. enum_end_bytes place false j) (after_is t) ∙ end_by (handle (name_of t)) j
+pub enum_closes : (lengths : Lengths) (t : Tree) (j : Json) → enum_end_bytes lengths (after t) false j ≡ closing lengths (after_handle (handle (name_of t)))
+enum_closes lengths t j = ap (λ place. enum_end_bytes lengths place false j) (after_is t) ∙ end_by lengths (handle (name_of t)) j

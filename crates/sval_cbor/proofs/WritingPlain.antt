@@ -9,7 +9,8 @@ use Rattle.sval_json.specs.Json.{Json}
 use Rattle.sval_json.specs.Shape.{handle, handle_of, is_none_tag, label_or_index, own}
 use Rattle.sval_json.proofs.Writing.{handle_bare}
 use Rattle.sval_cbor.specs.Packs.{PackRefusal, RawJson, on_packed, map_packed}
-use Rattle.sval_cbor.specs.Writing.{Elsewhere, Begun, CborState, CborStep, writes, unless_key, opening, opens_name, after_handle, cbor_after_name, enum_end_bytes, tagged_begins, json_step, cbor_step, written_from, FragmentProgress, NoText, NoFragment, OneFragment, fragment_progress, are_whole}
+use Rattle.sval_cbor.specs.Cbor.{row_end}
+use Rattle.sval_cbor.specs.Writing.{Elsewhere, Begun, CborState, CborStep, next_head, after_head, writes, unless_key, opening, opens_name, after_handle, cbor_after_name, enum_end_bytes, tagged_begins, json_step, cbor_step, written_from, FragmentProgress, NoText, NoFragment, OneFragment, fragment_progress, are_whole}
 use Rattle.sval_json.proofs.WritingPlain.{handle_plain}
 
 -- ---- bytes in front of others
@@ -56,7 +57,7 @@ plain_handle name = handle_plain name.label name.index
 -- ---- calls
 
 opens_plain : (name : Name) (bytes : List ℕ) (next state : CborState) → opens_name (plain_name name) bytes next state ≡ opens_name name bytes next state
-opens_plain name bytes next state = ap (λ h. on_packed (opening h state.place state.in_key) (λ front. writes (front ++ bytes) next)) (plain_handle name)
+opens_plain name bytes next state = ap (λ h. on_packed (opening state.style.lengths h state.place state.in_key) (λ front. writes (front ++ bytes) next)) (plain_handle name)
 
 ends_bare : (name : Name) (bytes : List ℕ) (state : CborState) → writes bytes (cbor_after_name (bare_name name) state) ≡ writes bytes (cbor_after_name name state)
 ends_bare name bytes state = ap (λ h. writes bytes (record state { place = after_handle h })) (bare_handle name)
@@ -65,8 +66,8 @@ tagged_plain : (kind : TextKind) (name : Name) (state : CborState) → tagged_be
 tagged_plain Ordinary name state = opens_plain name [] (record state { place = Elsewhere }) state
 tagged_plain Number name state = opens_plain name [] (record state { place = Elsewhere; in_number = true }) state
 tagged_plain JsonValue name state = refl
-tagged_plain JsonText name state = ap (λ h. on_packed (opening h state.place state.in_key) (λ front. Err RawJson)) (plain_handle name)
-tagged_plain JsonNumber name state = ap (λ h. on_packed (opening h state.place state.in_key) (λ front. Err RawJson)) (plain_handle name)
+tagged_plain JsonText name state = ap (λ h. on_packed (opening state.style.lengths h state.place state.in_key) (λ front. Err RawJson)) (plain_handle name)
+tagged_plain JsonNumber name state = ap (λ h. on_packed (opening state.style.lengths h state.place state.in_key) (λ front. Err RawJson)) (plain_handle name)
 
 abbrev SameStep : Option Call → Call → CborState → Type 0
 SameStep None call state = writes [] state ≡ cbor_step call state
@@ -79,19 +80,19 @@ same_step (Call.BinaryFragment _ bytes) state = refl
 same_step (Call.Standalone name) state = ap (λ json. json_step json state) (plain_own name)
 same_step (Call.EnumBegin name) state = opens_plain name [] (record state { place = Begun }) state
 same_step (Call.EnumEnd name) state =
-    ap (λ json. writes (enum_end_bytes state.place state.in_key json) (cbor_after_name (bare_name name) state)) (bare_own name) ∙ ends_bare name (enum_end_bytes state.place state.in_key (own name)) state
+    ap (λ json. writes (enum_end_bytes state.style.lengths state.place state.in_key json) (cbor_after_name (bare_name name) state)) (bare_own name) ∙ ends_bare name (enum_end_bytes state.style.lengths state.place state.in_key (own name)) state
 same_step (Call.TaggedBegin name) state = tagged_plain (text_kind name.tag) name state
 same_step (Call.TaggedEnd name) state = ends_bare name [] (record state { in_number = false })
 same_step (Call.Begin Head.Seq size) state = refl
 same_step (Call.Begin Head.Map size) state = refl
-same_step (Call.Begin (Head.Record name) size) state = ap (unless_key state) (opens_plain name (0xbf ∷ []) (record state { place = Elsewhere }) state)
-same_step (Call.Begin (Head.Tuple name) size) state = ap (unless_key state) (opens_plain name (0x9f ∷ []) (record state { place = Elsewhere }) state)
-same_step (Call.Begin (Head.RecordTuple name) size) state = ap (unless_key state) (opens_plain name (0xbf ∷ []) (record state { place = Elsewhere }) state)
+same_step (Call.Begin (Head.Record name) size) state = ap (unless_key state) (opens_plain name (next_head 5 state) (after_head state) state)
+same_step (Call.Begin (Head.Tuple name) size) state = ap (unless_key state) (opens_plain name (next_head 4 state) (after_head state) state)
+same_step (Call.Begin (Head.RecordTuple name) size) state = ap (unless_key state) (opens_plain name (next_head 5 state) (after_head state) state)
 same_step (Call.End Head.Seq) state = refl
 same_step (Call.End Head.Map) state = refl
-same_step (Call.End (Head.Record name)) state = ends_bare name (0xff ∷ []) state
-same_step (Call.End (Head.Tuple name)) state = ends_bare name (0xff ∷ []) state
-same_step (Call.End (Head.RecordTuple name)) state = ends_bare name (0xff ∷ []) state
+same_step (Call.End (Head.Record name)) state = ends_bare name (row_end state.style.lengths) state
+same_step (Call.End (Head.Tuple name)) state = ends_bare name (row_end state.style.lengths) state
+same_step (Call.End (Head.RecordTuple name)) state = ends_bare name (row_end state.style.lengths) state
 same_step (Call.PartBegin Slot.Item) state = refl
 same_step (Call.PartBegin _) state = refl
 same_step (Call.PartEnd Slot.Item) state = refl

@@ -1,8 +1,10 @@
--- The bytes of CBOR (RFC 8949) of a packed shape: definite strings, arrays and maps up to a break, heads of the least width.
-use Rattle.std.specs.Prelude.{ℕ, ◌+◌, ◌*◌, ◌^◌, ℤ, pos, negsuc, Bool, true, false, ◌==◌, nat_lt, if◌then◌else◌, List, [], ◌∷◌, ◌++◌, length}
+-- The bytes of CBOR (RFC 8949) of a packed shape: definite strings, arrays and maps up to a break or of a definite length, heads of the least width.
+use Rattle.std.specs.Prelude.{ℕ, suc, ◌+◌, ◌*◌, ◌^◌, ℤ, pos, negsuc, Bool, true, false, ◌-◌, min, ◌==◌, nat_lt, if◌then◌else◌, List, [], ◌∷◌, ◌++◌, length}
 use Rattle.std.specs.Int.{bytes_high_first}
 use Rattle.std.specs.Str.Parse.{signed_digits_value}
 use Rattle.sval_json.specs.Json.{Json, null, truth, number, text, quoted, raw, array, object, Items, no_item, item, Pairs, no_pair, pair}
+use Rattle.sval_cbor.specs.declared.style.Lengths.{Lengths}
+use Rattle.sval_cbor.specs.declared.style.Lengths.TheVariants.{Indefinite, Definite}
 use Rattle.sval_cbor.specs.Packs.{key_bytes}
 
 -- a head: a major type, and a number in the fewest bytes (RFC 8949, sections 3 and 4.2.1)
@@ -41,24 +43,60 @@ abbrev pub truth_bytes : Bool → List ℕ
 truth_bytes false = 0xf4 ∷ []
 truth_bytes true = 0xf5 ∷ []
 
+-- how many items an array has
+abbrev pub item_count : Items → ℕ
+item_count no_item = 0
+item_count (item _ items) = suc (item_count items)
+
+-- how many pairs a map has
+abbrev pub pair_count : Pairs → ℕ
+pair_count no_pair = 0
+pair_count (pair _ _ pairs) = suc (pair_count pairs)
+
+-- a number of items or pairs, where one past the greatest that a head holds is that
+abbrev pub held_count : ℕ → ℕ
+held_count n = min n (2 ^ 64 - 1)
+
+-- what begins an array, whose major type is 4, or a map, whose is 5: additional information 31 says that its length is indefinite
+abbrev pub row_head : Lengths → ℕ → ℕ → List ℕ
+row_head Indefinite major n = (32 * major + 31) ∷ []
+row_head Definite major n = head_bytes major n
+
+-- what ends it: a break, where its length is indefinite
+abbrev pub row_end : Lengths → List ℕ
+row_end Indefinite = 0xff ∷ []
+row_end Definite = []
+
 abbrev mutual
   -- the bytes of a shape; `quoted` is a byte string, and raw JSON is in no packed shape, and has none
-  pub cbor : Json → List ℕ
-  cbor null = 0xf6 ∷ []
-  cbor (truth b) = truth_bytes b
-  cbor (number bytes) = integer (signed_digits_value 10 bytes)
-  cbor (text bytes) = string 3 bytes
-  cbor (quoted bytes) = string 2 bytes
-  cbor (raw _) = []
-  cbor (array items) = 0x9f ∷ cbor_items items ++ (0xff ∷ [])
-  cbor (object pairs) = 0xbf ∷ cbor_pairs pairs ++ (0xff ∷ [])
+  pub cbor_as : Lengths → Json → List ℕ
+  cbor_as lengths null = 0xf6 ∷ []
+  cbor_as lengths (truth b) = truth_bytes b
+  cbor_as lengths (number bytes) = integer (signed_digits_value 10 bytes)
+  cbor_as lengths (text bytes) = string 3 bytes
+  cbor_as lengths (quoted bytes) = string 2 bytes
+  cbor_as lengths (raw _) = []
+  cbor_as lengths (array items) = row_head lengths 4 (held_count (item_count items)) ++ cbor_items_as lengths items ++ row_end lengths
+  cbor_as lengths (object pairs) = row_head lengths 5 (held_count (pair_count pairs)) ++ cbor_pairs_as lengths pairs ++ row_end lengths
 
   -- the bytes of an array's items, in order
-  pub cbor_items : Items → List ℕ
-  cbor_items no_item = []
-  cbor_items (item json items) = cbor json ++ cbor_items items
+  pub cbor_items_as : Lengths → Items → List ℕ
+  cbor_items_as lengths no_item = []
+  cbor_items_as lengths (item json items) = cbor_as lengths json ++ cbor_items_as lengths items
 
   -- the bytes of an object's pairs, in order, each a key, which is a text, and its value
-  pub cbor_pairs : Pairs → List ℕ
-  cbor_pairs no_pair = []
-  cbor_pairs (pair key json pairs) = string 3 (key_bytes key) ++ cbor json ++ cbor_pairs pairs
+  pub cbor_pairs_as : Lengths → Pairs → List ℕ
+  cbor_pairs_as lengths no_pair = []
+  cbor_pairs_as lengths (pair key json pairs) = string 3 (key_bytes key) ++ cbor_as lengths json ++ cbor_pairs_as lengths pairs
+
+-- the same with indefinite lengths
+abbrev pub cbor : Json → List ℕ
+cbor json = cbor_as Indefinite json
+
+-- the items of an array so
+abbrev pub cbor_items : Items → List ℕ
+cbor_items items = cbor_items_as Indefinite items
+
+-- the pairs of an object so
+abbrev pub cbor_pairs : Pairs → List ℕ
+cbor_pairs pairs = cbor_pairs_as Indefinite pairs

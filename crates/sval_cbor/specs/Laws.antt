@@ -10,13 +10,13 @@ use Rattle.sval_json.specs.Shape.{json_of}
 use Rattle.sval_buffer.specs.Forest.{Forest, Holds, forest, replayed}
 use Rattle.sval_cbor.specs.declared.style.Style.{Style}
 use Rattle.sval_cbor.specs.Packs.{PackRefusal, map_packed, pack_as, pack_of}
-use Rattle.sval_cbor.specs.Cbor.{cbor}
-use Rattle.sval_cbor.specs.Writing.{CborState, cbor_step, written_as, Went, HaveWholeTexts}
+use Rattle.sval_cbor.specs.Cbor.{cbor_as}
+use Rattle.sval_cbor.specs.Writing.{CborState, cbor_step, written_from, written_as, Went, HaveWholeTexts}
 use Rattle.sval_cbor.specs.Premises.{IsShortTreeAs, HasPlainIdentifiers}
 
 -- the bytes of a packed shape are bytes, in each style
 abbrev pub CborIsBytes : Type 0
-CborIsBytes = (style : Style) (tree : Tree) (json : Json) → IsReal tree → IsShortTreeAs style tree → pack_as style tree ≡ Ok json → AllByRecursion (λ byte. byte < 256) (cbor json)
+CborIsBytes = (style : Style) (tree : Tree) (json : Json) → IsReal tree → IsShortTreeAs style tree → pack_as style tree ≡ Ok json → AllByRecursion (λ byte. byte < 256) (cbor_as style.lengths json)
 
 -- where a tree packs in the default style and its identifiers need no escapes, the tree has a shape too, and both have the same text
 abbrev pub PacksAsWritten : Type 0
@@ -30,7 +30,7 @@ StylesRefuseAlike = (one other : Style) (tree : Tree) (why : PackRefusal) → pa
 -- whatever calls with whole texts spell a tree, the writer writes the bytes of what the tree packs to, or is refused as the tree is
 abbrev pub WholeSpellingsAreWritten : Type 0
 WholeSpellingsAreWritten =
-    (style : Style) (calls : List Call) (tree : Tree) → Spells calls tree → HaveWholeTexts calls → written_as style calls ≡ map_packed cbor (pack_as style tree)
+    (style : Style) (calls : List Call) (tree : Tree) → Spells calls tree → HaveWholeTexts calls → written_as style calls ≡ map_packed (cbor_as style.lengths) (pack_as style tree)
 
 -- the canonical calls of a tree have whole texts
 abbrev pub CanonicalCallsAreWhole : Type 0
@@ -39,13 +39,13 @@ CanonicalCallsAreWhole = (tree : Tree) → HaveWholeTexts (calls_of tree)
 -- however calls cut their texts: what is captured of calls that spell a tree is written as the bytes of what the tree packs to, or is refused as the tree is
 abbrev pub CapturedIsWritten : Type 0
 CapturedIsWritten = (style : Style) (calls : List Call) (tree : Tree) (captured : Forest) → Spells calls tree → forest calls ≡ Holds captured
-    → written_as style (replayed captured) ≡ map_packed cbor (pack_as style tree)
+    → written_as style (replayed captured) ≡ map_packed (cbor_as style.lengths) (pack_as style tree)
 
 -- calls that were taken one by one are written as the bytes that they gave
 abbrev pub TakenCallsAreWritten : Type 0
-TakenCallsAreWritten = (style : Style) (calls : List Call) (bytes : List ℕ) (state : CborState) → Went style calls bytes state → written_as style calls ≡ Ok bytes
+TakenCallsAreWritten = (start : CborState) (calls : List Call) (bytes : List ℕ) (state : CborState) → Went start calls bytes state → written_from calls start ≡ Ok bytes
 
 -- and where the next call is refused, so are all calls that begin so
 abbrev pub RefusedCallRefuses : Type 0
-RefusedCallRefuses = (style : Style) (calls more : List Call) (bytes : List ℕ) (state : CborState) (call : Call) (why : PackRefusal) → Went style calls bytes state
-    → cbor_step call state ≡ Err why → written_as style (calls ++ call ∷ more) ≡ Err why
+RefusedCallRefuses = (start : CborState) (calls more : List Call) (bytes : List ℕ) (state : CborState) (call : Call) (why : PackRefusal) → Went start calls bytes state
+    → cbor_step call state ≡ Err why → written_from (calls ++ call ∷ more) start ≡ Err why

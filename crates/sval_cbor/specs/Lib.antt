@@ -1,6 +1,9 @@
 pub mod Packs
 pub mod Cbor
 pub mod Premises
+pub mod Counting
+pub mod SeenRows
+pub mod CounterLaw
 pub mod Writing
 pub mod Laws
 pub mod SeenWriter

@@ -1,5 +1,5 @@
 -- What the writer in code is seen as.
-use Rattle.std.specs.Prelude.{ℕ, ℤ, pos, negsuc, List, ◌++◌, codes, Option, Some, None, option_map, Result, Ok, Err}
+use Rattle.std.specs.Prelude.{ℕ, ℤ, pos, negsuc, List, ◌++◌, codes, Option, Some, None, Result, Ok, Err}
 use Rattle.sval_json.specs.Number as json
 use Rattle.sval_json.specs.Number.{sign}
 use Rattle.sval_cbor.specs.declared.error.Refusal as program_refusal

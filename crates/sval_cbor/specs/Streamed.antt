@@ -18,7 +18,7 @@ use Rattle.sval_cbor.specs.declared.error.Stop.TheVariants as stop
 use Rattle.sval_cbor.specs.declared.style.Style.{Style}
 use Rattle.sval_cbor.specs.declared.style.TheConstants.Style.{DEFAULT}
 use Rattle.sval_cbor.specs.Packs.{PackRefusal, BadKey, BadNumber, RawJson, NotInteger, pack_as, pack_of}
-use Rattle.sval_cbor.specs.Cbor.{cbor}
+use Rattle.sval_cbor.specs.Cbor.{cbor_as}
 use Rattle.sval_cbor.specs.SeenWriter.{seen_pack_refusal}
 
 -- what streaming to CBOR answers
@@ -119,7 +119,7 @@ IsCborDue e (Err error.NoMemory) = ⊥
 pub record WritesCborTree (style : Style) (tree : Tree) (old new : Told) : Type 0 where
   pub json : Json
   pub packs : pack_as style tree ≡ Ok json
-  pub appends : Appends old (cbor json) new
+  pub appends : Appends old (cbor_as style.lengths json) new
 
 -- the bytes of the tree that the calls spell were taken
 abbrev pub WritesSpelled : Style → List Call → Told → Told → Type 0
@@ -127,15 +127,15 @@ WritesSpelled style calls old new = (tree : Tree) → Spells calls tree → Writ
 
 -- where the calls spell a tree that packs, a first part of its bytes was taken
 abbrev pub BeginsSpelled : Style → List Call → Told → Told → Type 0
-BeginsSpelled style calls old new = (tree : Tree) (json : Json) → Spells calls tree → pack_as style tree ≡ Ok json → AppendsFront old (cbor json) new
+BeginsSpelled style calls old new = (tree : Tree) (json : Json) → Spells calls tree → pack_as style tree ≡ Ok json → AppendsFront old (cbor_as style.lengths json) new
 
 -- where the calls spell a tree that packs, a first part of its bytes was taken, but not all of them
 abbrev pub CutsSpelled : Style → List Call → Told → Told → Type 0
-CutsSpelled style calls old new = (tree : Tree) (json : Json) → Spells calls tree → pack_as style tree ≡ Ok json → AppendsPart old (cbor json) new
+CutsSpelled style calls old new = (tree : Tree) (json : Json) → Spells calls tree → pack_as style tree ≡ Ok json → AppendsPart old (cbor_as style.lengths json) new
 
 -- where the calls spell a tree that packs, its bytes have no place in the room that is told
 abbrev pub LacksCborRoom : Style → List Call → Told → Type 0
-LacksCborRoom style calls old = (tree : Tree) (json : Json) → Spells calls tree → pack_as style tree ≡ Ok json → LacksRoom old (cbor json)
+LacksCborRoom style calls old = (tree : Tree) (json : Json) → Spells calls tree → pack_as style tree ≡ Ok json → LacksRoom old (cbor_as style.lengths json)
 
 -- memory was wanting to check the value; or it is a whole one, and memory was wanting to capture it
 abbrev pub TakesMemory : Emission → Type 0

@@ -27,7 +27,7 @@ due_bytes (Err why) = []
 -- the state after it, which doesn't matter where it is refused
 abbrev pub due_state : StepAnswer → CborState
 due_state (Ok done) = done.state
-due_state (Err why) = cbor_start DEFAULT
+due_state (Err why) = cbor_start DEFAULT []
 
 -- why it is refused, if it is
 abbrev pub due_refusal : StepAnswer → Option PackRefusal
@@ -96,7 +96,7 @@ cbor_writer_law = record {
 
 -- the state of the steps
 abbrev pub cbor_writer_state : {K : Type 0} → Writer K → CborState
-cbor_writer_state w = cbor_state w.style (seen_place w.place) w.in_key w.in_number
+cbor_writer_state w = cbor_state w.style (seen_place w.place) w.in_key w.in_number w.counts.now
 
 -- the sink; `told` is what it tells
 abbrev pub writer_target : {K : Type 0} → (K → Told) → Writer K → CborTarget

@@ -7,13 +7,14 @@ use Rattle.sval_core.specs.Trees.{TextKind, Ordinary, Number, JsonValue, JsonTex
 use Rattle.sval_json.specs.Json.{Json, null, number}
 use Rattle.sval_json.specs.Number as json
 use Rattle.sval_json.specs.Number.{normal}
-use Rattle.sval_json.specs.Shape.{handle, own, bare_text, byte_items}
-use Rattle.sval_cbor.specs.declared.style.Binaries.{Binaries}
-use Rattle.sval_cbor.specs.declared.style.Binaries.TheVariants.{Numbers, ByteStrings}
+use Rattle.sval_json.specs.Shape.{handle, own, bare_text}
+use Rattle.sval_cbor.specs.declared.style.Lengths.{Lengths}
+use Rattle.sval_cbor.specs.declared.style.Lengths.TheVariants.{Indefinite, Definite}
 use Rattle.sval_cbor.specs.declared.style.Style.{Style}
 use Rattle.sval_cbor.specs.declared.style.TheConstants.Style.{DEFAULT}
-use Rattle.sval_cbor.specs.Packs.{PackRefusal, BadKey, BadNumber, RawJson, on_packed, map_packed, number_pack}
-use Rattle.sval_cbor.specs.Cbor.{string, truth_bytes, cbor, cbor_items}
+use Rattle.sval_cbor.specs.Packs.{PackRefusal, BadKey, BadNumber, RawJson, on_packed, map_packed, number_pack, binary_shape}
+use Rattle.sval_cbor.specs.Cbor.{string, truth_bytes, row_head, row_end, cbor_as, cbor}
+use Rattle.sval_cbor.specs.Counting.{counts_due}
 
 -- where the writer stands as to enums: in none that matters, in one that has begun and holds nothing yet, or after a value that has a handle
 pub data EnumPlace : Type 0 where
@@ -21,20 +22,22 @@ pub data EnumPlace : Type 0 where
   Begun : EnumPlace
   Ended : EnumPlace
 
--- the style, the place, whether it is in a map's key, and whether text stands for a number
+-- The style, the place, whether it is in a map's key, and whether text stands for a number. Where lengths are definite, also
+-- how many items or pairs each container has that is still to begin, in the order of the begins.
 pub record CborState : Type 0 where
   pub style : Style
   pub place : EnumPlace
   pub in_key : Bool
   pub in_number : Bool
+  pub counts : List ℕ
 
--- a state by its four parts
-abbrev pub cbor_state : Style → EnumPlace → Bool → Bool → CborState
-cbor_state style place in_key in_number = record { style = style; place = place; in_key = in_key; in_number = in_number }
+-- a state by its five parts
+abbrev pub cbor_state : Style → EnumPlace → Bool → Bool → List ℕ → CborState
+cbor_state style place in_key in_number counts = record { style = style; place = place; in_key = in_key; in_number = in_number; counts = counts }
 
 -- before the first call: outside enums, keys and numbers
-abbrev pub cbor_start : Style → CborState
-cbor_start style = cbor_state style Elsewhere false false
+abbrev pub cbor_start : Style → List ℕ → CborState
+cbor_start style counts = cbor_state style Elsewhere false false counts
 
 -- the bytes of a call, and the state after it
 pub record CborStep : Type 0 where
@@ -75,13 +78,13 @@ abbrev pub unless_key : CborState → Result CborStep PackRefusal → Result Cbo
 unless_key state cbor_step = if state.in_key then Err BadKey else cbor_step
 
 -- directly in an enum a map of the one pair of the handle and the value begins
-abbrev pub opening : Option (List ℕ) → EnumPlace → Bool → Result (List ℕ) PackRefusal
-opening (Some bytes) Begun in_key = if in_key then Err BadKey else Ok (0xbf ∷ string 3 bytes)
-opening _ _ _ = Ok []
+abbrev pub opening : Lengths → Option (List ℕ) → EnumPlace → Bool → Result (List ℕ) PackRefusal
+opening lengths (Some bytes) Begun in_key = if in_key then Err BadKey else Ok (row_head lengths 5 1 ++ string 3 bytes)
+opening lengths _ _ _ = Ok []
 
 -- what a name opens, and then these bytes
 abbrev pub opens_name : Name → List ℕ → CborState → CborState → Result CborStep PackRefusal
-opens_name name bytes next state = on_packed (opening (handle name) state.place state.in_key) (λ front. writes (front ++ bytes) next)
+opens_name name bytes next state = on_packed (opening state.style.lengths (handle name) state.place state.in_key) (λ front. writes (front ++ bytes) next)
 
 -- after a value with a name
 abbrev pub after_handle : Option (List ℕ) → EnumPlace
@@ -93,34 +96,53 @@ abbrev pub cbor_after_name : Name → CborState → CborState
 cbor_after_name name state = record state { place = after_handle (handle name) }
 
 -- what an enum's end writes: for one that holds nothing what its name is by itself, and else the end of the map that its value was put into
-abbrev pub enum_end_bytes : EnumPlace → Bool → Json → List ℕ
-enum_end_bytes Begun in_key json = simple in_key (bare_text json) (cbor json)
-enum_end_bytes Ended in_key json = if in_key then [] else 0xff ∷ []
-enum_end_bytes Elsewhere in_key json = []
+abbrev pub enum_end_bytes : Lengths → EnumPlace → Bool → Json → List ℕ
+enum_end_bytes lengths Begun in_key json = simple in_key (bare_text json) (cbor json)
+enum_end_bytes lengths Ended in_key json = if in_key then [] else row_end lengths
+enum_end_bytes lengths Elsewhere in_key json = []
 
 -- a tag under which text is meant as raw JSON refuses, in a key only after what its name or kind refuses there
 abbrev pub tagged_begins : TextKind → Name → CborState → Result CborStep PackRefusal
 tagged_begins Ordinary name state = opens_name name [] (record state { place = Elsewhere }) state
 tagged_begins Number name state = opens_name name [] (record state { place = Elsewhere; in_number = true }) state
 tagged_begins JsonValue name state = if state.in_key then Err BadKey else Err RawJson
-tagged_begins JsonText name state = on_packed (opening (handle name) state.place state.in_key) (λ front. Err RawJson)
-tagged_begins JsonNumber name state = on_packed (opening (handle name) state.place state.in_key) (λ front. Err RawJson)
+tagged_begins JsonText name state = on_packed (opening state.style.lengths (handle name) state.place state.in_key) (λ front. Err RawJson)
+tagged_begins JsonNumber name state = on_packed (opening state.style.lengths (handle name) state.place state.in_key) (λ front. Err RawJson)
 
--- arrays and maps that a break ends, behind the name of a record, a tuple or a record tuple
+-- the first of these counts
+abbrev pub first_count : List ℕ → ℕ
+first_count [] = 0
+first_count (count ∷ counts) = count
+
+-- the counts after a container's begin, which takes the first where lengths are definite
+abbrev pub later_counts : Lengths → List ℕ → List ℕ
+later_counts Indefinite counts = counts
+later_counts Definite [] = []
+later_counts Definite (count ∷ counts) = counts
+
+-- the head of an array or a map, by its major type
+abbrev pub next_head : ℕ → CborState → List ℕ
+next_head major state = row_head state.style.lengths major (first_count state.counts)
+
+-- the state after it
+abbrev pub after_head : CborState → CborState
+after_head state = record state { place = Elsewhere; counts = later_counts state.style.lengths state.counts }
+
+-- arrays and maps, behind the name of a record, a tuple or a record tuple
 abbrev pub cbor_container_begins : Head → CborState → Result CborStep PackRefusal
-cbor_container_begins Head.Seq state = unless_key state (writes (0x9f ∷ []) (record state { place = Elsewhere }))
-cbor_container_begins Head.Map state = unless_key state (writes (0xbf ∷ []) (record state { place = Elsewhere }))
-cbor_container_begins (Head.Record name) state = unless_key state (opens_name name (0xbf ∷ []) (record state { place = Elsewhere }) state)
-cbor_container_begins (Head.Tuple name) state = unless_key state (opens_name name (0x9f ∷ []) (record state { place = Elsewhere }) state)
-cbor_container_begins (Head.RecordTuple name) state = unless_key state (opens_name name (0xbf ∷ []) (record state { place = Elsewhere }) state)
+cbor_container_begins Head.Seq state = unless_key state (writes (next_head 4 state) (after_head state))
+cbor_container_begins Head.Map state = unless_key state (writes (next_head 5 state) (after_head state))
+cbor_container_begins (Head.Record name) state = unless_key state (opens_name name (next_head 5 state) (after_head state) state)
+cbor_container_begins (Head.Tuple name) state = unless_key state (opens_name name (next_head 4 state) (after_head state) state)
+cbor_container_begins (Head.RecordTuple name) state = unless_key state (opens_name name (next_head 5 state) (after_head state) state)
 
--- the break
+-- the break, where lengths are indefinite
 abbrev pub cbor_container_ends : Head → CborState → Result CborStep PackRefusal
-cbor_container_ends Head.Seq state = writes (0xff ∷ []) (record state { place = Elsewhere })
-cbor_container_ends Head.Map state = writes (0xff ∷ []) (record state { place = Elsewhere })
-cbor_container_ends (Head.Record name) state = writes (0xff ∷ []) (cbor_after_name name state)
-cbor_container_ends (Head.Tuple name) state = writes (0xff ∷ []) (cbor_after_name name state)
-cbor_container_ends (Head.RecordTuple name) state = writes (0xff ∷ []) (cbor_after_name name state)
+cbor_container_ends Head.Seq state = writes (row_end state.style.lengths) (record state { place = Elsewhere })
+cbor_container_ends Head.Map state = writes (row_end state.style.lengths) (record state { place = Elsewhere })
+cbor_container_ends (Head.Record name) state = writes (row_end state.style.lengths) (cbor_after_name name state)
+cbor_container_ends (Head.Tuple name) state = writes (row_end state.style.lengths) (cbor_after_name name state)
+cbor_container_ends (Head.RecordTuple name) state = writes (row_end state.style.lengths) (cbor_after_name name state)
 
 -- a field's label is a key
 abbrev pub cbor_part_begins : Slot → CborState → Result CborStep PackRefusal
@@ -136,20 +158,9 @@ abbrev pub cbor_part_ends : Slot → CborState → Result CborStep PackRefusal
 cbor_part_ends Slot.Key state = writes [] (record state { place = Elsewhere; in_key = false })
 cbor_part_ends _ state = writes [] (record state { place = Elsewhere })
 
--- what begins an array of numbers, up to a break; a byte string needs no more than its fragment
-abbrev pub binary_begin : Binaries → List ℕ
-binary_begin Numbers = 0x9f ∷ []
-binary_begin ByteStrings = []
-
--- the one fragment of a binary
-abbrev pub binary_bytes : Binaries → List ℕ → List ℕ
-binary_bytes Numbers bytes = cbor_items (byte_items bytes)
-binary_bytes ByteStrings bytes = string 2 bytes
-
--- the break behind an array of numbers
-abbrev pub binary_end : Binaries → List ℕ
-binary_end Numbers = 0xff ∷ []
-binary_end ByteStrings = []
+-- a binary, by its one fragment
+abbrev pub binary_bytes : Style → List ℕ → List ℕ
+binary_bytes style bytes = cbor_as style.lengths (binary_shape style.binaries bytes)
 
 -- what one call writes, and the state after it, or why it is refused
 abbrev pub cbor_step : Call → CborState → Result CborStep PackRefusal
@@ -161,11 +172,11 @@ cbor_step (Call.TagHint _) state = writes [] state
 cbor_step (Call.TextBegin _) state = writes [] state
 cbor_step (Call.TextFragment _ bytes) state = on_packed (text_bytes state bytes) (λ made. writes made (record state { place = Elsewhere }))
 cbor_step Call.TextEnd state = writes [] state
-cbor_step (Call.BinaryBegin _) state = unless_key state (writes (binary_begin state.style.binaries) (record state { place = Elsewhere }))
-cbor_step (Call.BinaryFragment _ bytes) state = writes (binary_bytes state.style.binaries bytes) state
-cbor_step Call.BinaryEnd state = writes (binary_end state.style.binaries) state
+cbor_step (Call.BinaryBegin _) state = unless_key state (writes [] (record state { place = Elsewhere }))
+cbor_step (Call.BinaryFragment _ bytes) state = writes (binary_bytes state.style bytes) state
+cbor_step Call.BinaryEnd state = writes [] state
 cbor_step (Call.EnumBegin name) state = opens_name name [] (record state { place = Begun }) state
-cbor_step (Call.EnumEnd name) state = writes (enum_end_bytes state.place state.in_key (own name)) (cbor_after_name name state)
+cbor_step (Call.EnumEnd name) state = writes (enum_end_bytes state.style.lengths state.place state.in_key (own name)) (cbor_after_name name state)
 cbor_step (Call.TaggedBegin name) state = tagged_begins (text_kind name.tag) name state
 cbor_step (Call.TaggedEnd name) state = writes [] (cbor_after_name name (record state { in_number = false }))
 cbor_step (Call.Begin head _) state = cbor_container_begins head state
@@ -180,17 +191,17 @@ written_from (call ∷ calls) state = on_packed (cbor_step call state) (λ done.
 
 -- the bytes of all calls in a style, or the first refusal
 abbrev pub written_as : Style → List Call → Result (List ℕ) PackRefusal
-written_as style calls = written_from calls (cbor_start style)
+written_as style calls = written_from calls (cbor_start style (counts_due style.lengths calls))
 
 -- the same in the default style
 abbrev pub written_cbor : List Call → Result (List ℕ) PackRefusal
 written_cbor calls = written_as DEFAULT calls
 
--- Went style calls bytes state: from the start on these calls were taken one by one, with these bytes, and have led to this state
-pub data Went : Style → List Call → List ℕ → CborState → Type 0 where
-  at_start : {style : Style} → Went style [] [] (cbor_start style)
-  onward : {style : Style} {calls : List Call} {bytes : List ℕ} {state : CborState} {done : CborStep} (call : Call) → Went style calls bytes state → cbor_step call state ≡ Ok done
-      → Went style (calls ++ call ∷ []) (bytes ++ done.bytes) done.state
+-- Went start calls bytes state: from a state on these calls were taken one by one, with these bytes, and have led to this state
+pub data Went : CborState → List Call → List ℕ → CborState → Type 0 where
+  at_start : {start : CborState} → Went start [] [] start
+  onward : {start : CborState} {calls : List Call} {bytes : List ℕ} {state : CborState} {done : CborStep} (call : Call) → Went start calls bytes state → cbor_step call state ≡ Ok done
+      → Went start (calls ++ call ∷ []) (bytes ++ done.bytes) done.state
 
 -- how much of a text or binary has come
 pub data FragmentProgress : Type 0 where

@@ -2,10 +2,11 @@
 
 ghost use Rattle.std.specs.Prelude.{◌≡◌, ◌<◌, ◌≤◌, ◌++◌, length};
 ghost use Rattle.sval_io.specs.Sinks.{WritesAll};
-ghost use Rattle.sval_cbor.specs.Cbor.{head_bytes, without_zero_bytes, string, bignum, integer};
+ghost use Rattle.sval_cbor.specs.Cbor.{head_bytes, without_zero_bytes, string, bignum, integer, row_head};
 ghost use Rattle.sval_cbor.specs.SeenWriter.{seen_integer};
 
 use crate::integer::Integer;
+use crate::style::Lengths;
 use sval_io::{Sink, SinkError, write_all};
 
 /// The major type of byte strings.
@@ -40,6 +41,22 @@ pub(crate) fn write_head<K: Sink>(sink: &mut K, major: u8, number: u64) -> Resul
             sink,
             &[first + 27, b[0], b[1], b[2], b[3], b[4], b[5], b[6], b[7]],
         )
+    }
+}
+
+/// Writes what begins an array or a map of this many items or pairs, by its major type.
+pub(crate) fn write_row_head<K: Sink>(
+    sink: &mut K,
+    lengths: Lengths,
+    major: u8,
+    number: u64,
+) -> Result<(), SinkError>
+    requires { major < 8 }
+    ensures { WritesAll result (K.told sink.old) (row_head lengths major number) (K.told sink.new) }
+{
+    match lengths {
+        Lengths::Indefinite => write_all(sink, &[32 * major + 31]),
+        Lengths::Definite => write_head(sink, major, number),
     }
 }
 

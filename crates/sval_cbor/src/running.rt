@@ -49,7 +49,7 @@ fn write_captured<'v, K: Sink, V: Value<'v, Lent<'v>>>(out: &mut K, v: &'v V) ->
     ensures { (script : List ℕ) → IsCborVerdict (Whole (written_cbor (V.emission v.now).calls)) script
         → ServesBytes cbor_terms K.told tt script result out.old out.new }
 {
-    match write_value(v, Style::DEFAULT, out) {
+    match write_value(v, Style::DEFAULT, &[], out) {
         Ok(()) => Ok(()),
         Err(error) => Err(unwritten(error)),
     }

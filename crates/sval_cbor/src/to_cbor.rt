@@ -1,10 +1,11 @@
 //! Values written to a sink.
 
 ghost use Rattle.std.specs.Prelude.{◌≡◌, false, IsOk, Err};
-ghost use Rattle.sval_cbor.specs.Writing.{written_as};
+ghost use Rattle.sval_cbor.specs.Writing.{cbor_start, written_from};
 ghost use Rattle.sval_cbor.specs.Streamed.{StreamsCbor, StreamsCborAs, IsChecked, WritesCalls, AnswersDue, IsCauseOfValue, IsCborWant};
 ghost use Rattle.sval_cbor.specs.Streamed.{check_error, stop_error};
 
+use crate::counting::counts_due;
 use crate::error::{CborError, Refusal, Stop};
 use crate::style::Style;
 use crate::writer::{Place, Writer};
@@ -70,7 +71,9 @@ pub fn stream_to_cbor<'v, K: Sink, V: Value<'v, Lent<'v>>>(
 /// Streams a value to a sink as CBOR (RFC 8949) in this style.
 ///
 /// On `Ok` it appended the bytes of what the tree that the value's calls spell packs to in this style. A [`Style`] says
-/// which form a binary has. [`stream_to_cbor`] says the rest: it is this call in the style [`Style::DEFAULT`].
+/// which form a binary has, and how the lengths of arrays and maps are written. Where these are definite, the entries of
+/// what was captured are counted first, whatever sizes its calls tell. [`stream_to_cbor`] says the rest: it is this call
+/// in the style [`Style::DEFAULT`].
 ///
 /// ```
 /// let mut sink = VecSink::new(alloc);
@@ -78,10 +81,13 @@ pub fn stream_to_cbor<'v, K: Sink, V: Value<'v, Lent<'v>>>(
 /// assert_eq!(rt; sink.as_slice(), b"\x42\x00\xff".as_slice());
 /// ```
 ///
+/// In the style [`Style::DEFINITE`] a map of one pair is `a1`, its key and its value.
+///
 /// # Errors
 ///
 /// They are those of [`stream_to_cbor`], and come of the same values in each style (the law `styles_refuse_alike` of
-/// [`packing_laws`](crate::laws::packing_laws)).
+/// [`packing_laws`](crate::laws::packing_laws)). [`CborError::NoMemory`] comes too where memory was wanting for the
+/// counts, which leaves the sink as it was.
 pub fn stream_to_cbor_with<'v, K: Sink, V: Value<'v, Lent<'v>>>(
     alloc: Global,
     out: &mut K,
@@ -137,7 +143,10 @@ fn write_checked<'v, K: Sink, V: Value<'v, Lent<'v>>>(
     ensures want { result ≡ Err CborError.NoMemory → IsCborWant K.told (V.emission v.now) out.old out.new }
 {
     match ValueBuf::collect(alloc, v) {
-        Ok(buffer) => write_value(&buffer, style, out),
+        Ok(buffer) => match counts_due(alloc, &buffer, style.lengths) {
+            Ok(counts) => write_value(&buffer, style, counts.as_slice(), out),
+            Err(why) => Err(why),
+        },
         Err(error) => match error.kind() {
             ErrorKind::NoAlloc { .. } => Err(CborError::NoMemory),
             _ => unreachable!("a value that spells a tree is captured"),
@@ -145,18 +154,21 @@ fn write_checked<'v, K: Sink, V: Value<'v, Lent<'v>>>(
     }
 }
 
-/// Writes a value whose texts and binaries come whole, unless a step of the writer refuses one of its calls.
+/// Writes a value whose texts and binaries come whole, unless a step of the writer refuses one of its calls. Where
+/// lengths are definite, `counts` says how many items or pairs each container has.
 pub(crate) fn write_value<'v, K: Sink, V: Value<'v, Lent<'v>>>(
     v: &'v V,
     style: Style,
+    counts: &[u64],
     out: &mut K,
 ) -> Result<(), CborError>
     requires { (V.emission v.now).refuses ≡ false }
-    ensures due { AnswersDue result (K.told out.old) (written_as style (V.emission v.now).calls) (K.told out.new) }
+    ensures due { AnswersDue result (K.told out.old)
+        (written_from (V.emission v.now).calls (cbor_start style counts.now)) (K.told out.new) }
     ensures left { IsCauseOfValue result → out.new ≡ out.old }
 {
-    match write_calls(v, style, &mut CountSink::new()) {
-        Ok(()) => write_whole(v, style, out),
+    match write_calls(v, style, counts, &mut CountSink::new()) {
+        Ok(()) => write_whole(v, style, counts, out),
         Err(why) => Err(stop_error(why)),
     }
 }
@@ -165,14 +177,16 @@ pub(crate) fn write_value<'v, K: Sink, V: Value<'v, Lent<'v>>>(
 fn write_whole<'v, K: Sink, V: Value<'v, Lent<'v>>>(
     v: &'v V,
     style: Style,
+    counts: &[u64],
     out: &mut K,
 ) -> Result<(), CborError>
     requires willing { (V.emission v.now).refuses ≡ false }
-    requires whole { IsOk (written_as style (V.emission v.now).calls) }
-    ensures due { AnswersDue result (K.told out.old) (written_as style (V.emission v.now).calls) (K.told out.new) }
+    requires whole { IsOk (written_from (V.emission v.now).calls (cbor_start style counts.now)) }
+    ensures due { AnswersDue result (K.told out.old)
+        (written_from (V.emission v.now).calls (cbor_start style counts.now)) (K.told out.new) }
     ensures left { IsCauseOfValue result → out.new ≡ out.old }
 {
-    match write_calls(v, style, out) {
+    match write_calls(v, style, counts, out) {
         Ok(()) => Ok(()),
         Err(why) => Err(stop_error(why)),
     }
@@ -182,10 +196,12 @@ fn write_whole<'v, K: Sink, V: Value<'v, Lent<'v>>>(
 fn write_calls<'v, K: Sink, V: Value<'v, Lent<'v>>>(
     v: &'v V,
     style: Style,
+    counts: &[u64],
     out: &mut K,
 ) -> Result<(), Stop>
     requires { (V.emission v.now).refuses ≡ false }
-    ensures { WritesCalls result (written_as style (V.emission v.now).calls) (K.told out.old) (K.told out.new) }
+    ensures { WritesCalls result (written_from (V.emission v.now).calls (cbor_start style counts.now))
+        (K.told out.old) (K.told out.new) }
 {
     let mut writer = Writer {
         sink: out,
@@ -194,6 +210,7 @@ fn write_calls<'v, K: Sink, V: Value<'v, Lent<'v>>>(
         in_key: false,
         in_number: false,
         why: None,
+        counts,
     };
     let streamed = v.stream(&mut writer);
     let why = writer.why;

@@ -4,33 +4,33 @@ mod names;
 mod parts;
 mod texts;
 
-ghost use Rattle.std.specs.Prelude.{Err};
+ghost use Rattle.std.specs.Prelude.{◌<◌, ◌++◌, Err};
 ghost use Rattle.std.specs.Fmt.{signed_decimal};
 ghost use Rattle.sval_label.specs.Grouped.{int_number};
 ghost use Rattle.sval_label.specs.Made.{lent_call};
 ghost use Rattle.sval_core.specs.Law.{Answers};
 ghost use Rattle.sval_json.specs.Json.{number};
-ghost use Rattle.sval_cbor.specs.Cbor.{string, integer};
+ghost use Rattle.sval_cbor.specs.Cbor.{string, integer, row_head, row_end};
 ghost use Rattle.sval_cbor.specs.SeenWriter.{seen_pack_refusal, seen_integer};
 ghost use Rattle.sval_cbor.specs.Writing.{writes, simple, simple_step, json_step};
 ghost use Rattle.sval_cbor.specs.WriterLaw.{CborWriterView, CborDoes, json_bytes, cbor_writer_law, cbor_writer_state, writer_target, cbor_writer_view, cbor_writer_standing};
 
 use crate::error::{Refusal, Stop};
-use crate::head::{write_integer, write_text};
+use crate::head::{write_integer, write_row_head, write_text};
 use crate::integer::Integer;
-use crate::style::Style;
+use crate::style::{Lengths, Style};
 use itoa::Buffer;
 use sval_core::{Call, Error, Fragment, GroupedCall, Int, Lent, Result, Stream};
 use sval_io::{Sink, write_all};
 
-/// What ends an array or a map (RFC 8949, section 3.2.1).
+/// What ends an array or a map of indefinite length (RFC 8949, section 3.2.1).
 const BREAK: &[u8] = b"\xff";
 
-/// What begins an array of any length.
-const ARRAY: &[u8] = b"\x9f";
+/// The major type of arrays.
+const ARRAY: u8 = 4;
 
-/// What begins a map of any length.
-const MAP: &[u8] = b"\xbf";
+/// The major type of maps.
+const MAP: u8 = 5;
 
 /// Where the writer is with respect to enums.
 #[derive(Clone, Copy)]
@@ -59,6 +59,8 @@ pub(crate) struct Writer<'k, K: Sink> {
     pub(crate) in_number: bool,
     /// What stopped it, if something did.
     pub(crate) why: Option<Stop>,
+    /// Where lengths are definite, how many items or pairs each container has that is still to begin.
+    pub(crate) counts: &'k [u64],
 }
 
 impl<'k, K: Sink> Writer<'k, K> {
@@ -73,6 +75,32 @@ impl<'k, K: Sink> Writer<'k, K> {
                 self.why = Some(Stop::Sink(why));
                 Err(Error::new())
             }
+        }
+    }
+
+    /// Writes what begins an array or a map of this many items or pairs, by its major type.
+    fn write_row_head(&mut self, major: u8, number: u64) -> Result
+        requires { major < 8 }
+        ensures { CborDoes (writes (row_head self.old.style.lengths major number) (cbor_writer_state self.old)) result
+            (writer_target K.told self.old) (cbor_writer_view K.told self.new) }
+    {
+        match write_row_head(self.sink, self.style.lengths, major, number) {
+            Ok(()) => Ok(()),
+            Err(why) => {
+                self.why = Some(Stop::Sink(why));
+                Err(Error::new())
+            }
+        }
+    }
+
+    /// Writes what ends an array or a map.
+    fn write_row_end(&mut self) -> Result
+        ensures { CborDoes (writes (row_end self.old.style.lengths) (cbor_writer_state self.old)) result
+            (writer_target K.told self.old) (cbor_writer_view K.told self.new) }
+    {
+        match self.style.lengths {
+            Lengths::Indefinite => self.write(BREAK),
+            Lengths::Definite => self.write(b""),
         }
     }
 
@@ -176,12 +204,12 @@ impl<'k, 'sval, K: Sink> Stream<Lent<'sval>> for Writer<'k, K> {
             GroupedCall::Bool(true) => self.take_simple(b"true", b"\xf5"),
             GroupedCall::Int(number) => self.take_int(number),
             GroupedCall::TextBegin(_) | GroupedCall::TextEnd | GroupedCall::TagHint(_) => Ok(()),
+            GroupedCall::BinaryEnd => Ok(()),
             GroupedCall::TextFragment(Fragment::Borrowed(text)) => self.write_fragment(text),
             GroupedCall::TextFragment(Fragment::Computed(text)) => self.write_fragment(text),
             GroupedCall::BinaryBegin(_) => self.begin_binary(),
             GroupedCall::BinaryFragment(Fragment::Borrowed(bytes)) => self.write_binary(bytes),
             GroupedCall::BinaryFragment(Fragment::Computed(bytes)) => self.write_binary(bytes),
-            GroupedCall::BinaryEnd => self.end_binary(),
             GroupedCall::EnumBegin(name) => self.begin_enum(name.label, name.index),
             GroupedCall::EnumEnd(name) => self.end_enum(name.tag, name.label, name.index),
             GroupedCall::TaggedBegin(name) => self.begin_tagged(name.tag, name.label, name.index),

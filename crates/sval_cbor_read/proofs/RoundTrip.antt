@@ -1,5 +1,5 @@
 -- The bytes of a packed shape are an item, and that item's tree packs to the same shape in the same style.
-use Rattle.std.specs.Prelude.{◌≡◌, ℕ, ◌^◌, ◌<◌, ◌≤◌, ℤ, pos, negsuc, Bool, true, false, nat_lt, if◌then◌else◌, List, [], ◌∷◌, ◌++◌, length, take, drop, IsTrue, Some, Ok, refl}
+use Rattle.std.specs.Prelude.{◌≡◌, ℕ, suc, ◌^◌, ◌<◌, ◌≤◌, ℤ, pos, negsuc, Bool, true, false, nat_lt, if◌then◌else◌, List, [], ◌∷◌, ◌++◌, length, take, drop, IsTrue, Some, Ok, refl}
 use Rattle.std.specs.Str.{is_utf8}
 use Rattle.std.specs.Str.Parse.{signed_digits_value}
 use Rattle.std.proofs.Common.{sym, ap, ◌∙◌, subst, arith, append_assoc, append-nil, length-append}
@@ -15,14 +15,16 @@ use Rattle.sval_json.specs.declared.style.Variants.TheVariants.{Inside}
 use Rattle.sval_json.specs.Shape.{shape as shape_of, items, pairs, json_of}
 use Rattle.sval_cbor.specs.declared.style.Binaries.{Binaries}
 use Rattle.sval_cbor.specs.declared.style.Binaries.TheVariants.{Numbers, ByteStrings}
+use Rattle.sval_cbor.specs.declared.style.Lengths.{Lengths}
+use Rattle.sval_cbor.specs.declared.style.Lengths.TheVariants.{Indefinite, Definite}
 use Rattle.sval_cbor.specs.declared.style.Style.{Style}
 use Rattle.sval_cbor.specs.declared.style.TheConstants.Style.{DEFAULT}
 use Rattle.sval_cbor.specs.Packs.{has_128_bits, binary_shape, packs, packed_items, packed_pairs, pack_as, pack_of}
-use Rattle.sval_cbor.specs.Cbor.{head_bytes, short_bytes, string as string_bytes, bignum, integer, cbor, cbor_items, cbor_pairs}
+use Rattle.sval_cbor.specs.Cbor.{head_bytes, short_bytes, string as string_bytes, bignum, integer, item_count, pair_count, held_count, row_head, row_end, cbor_as, cbor_items_as, cbor_pairs_as, cbor}
 use Rattle.sval_cbor.specs.Premises.{IsShortText, IsShortTreeAs, IsShortTree}
 use Rattle.sval_cbor.proofs.Numbers.{value_of_decimal, short_of_128}
-use Rattle.sval_cbor.proofs.Packed.{IsPackedText, IsPackedNumber, IsPackedBinary, IsPacked, ArePacked, PairsArePacked, packed}
-use Rattle.sval_cbor_read.specs.Items.{head, head_at_front, negative_type, is_piece, IsDefiniteString, string, definite, IsItem, by_head, seq_to_break, map_to_break, falsehood, truth, null, IsBody, unsigned, negative, binary, text, big, negative_big, ItemsToBreak, items_end, items_go_on, EntriesToBreak, entries_end, entries_go_on, IsItemOf}
+use Rattle.sval_cbor.proofs.Packed.{IsPackedText, IsPackedNumber, IsPackedBinary, HasShortCount, IsPacked, ArePacked, PairsArePacked, packed}
+use Rattle.sval_cbor_read.specs.Items.{head, head_at_front, negative_type, is_piece, IsDefiniteString, string, definite, IsItem, by_head, seq_to_break, map_to_break, falsehood, truth, null, IsBody, unsigned, negative, binary, text, seq, map, big, negative_big, AreItems, no_items, an_item, AreEntries, no_pairs, a_pair, ItemsToBreak, items_end, items_go_on, EntriesToBreak, entries_end, entries_go_on, IsItemOf}
 use Rattle.sval_cbor_read.proofs.Heads.{head_read, short_length, short_value}
 use Rattle.sval_cbor_read.proofs.OneTree.{one_item}
 
@@ -102,27 +104,84 @@ integer_read (negsuc n) h = go (nat_lt n (2 ^ 64)) refl
 abbrev WritesNumbers : Style → Type 0
 WritesNumbers style = style.binaries ≡ Numbers
 
+-- the items of an array are read: up to the break, or so many
+abbrev RowIsRead : Lengths → ℕ → List ℕ → Parts → List ℕ → Type 0
+RowIsRead Indefinite n bytes parts rest = ItemsToBreak (bytes ++ 0xff ∷ rest) parts rest
+RowIsRead Definite n bytes parts rest = AreItems n (bytes ++ rest) parts rest
+
+-- the same of the pairs of a map
+abbrev EntriesAreRead : Lengths → ℕ → List ℕ → Parts → List ℕ → Type 0
+EntriesAreRead Indefinite n bytes parts rest = EntriesToBreak (bytes ++ 0xff ∷ rest) parts rest
+EntriesAreRead Definite n bytes parts rest = AreEntries n (bytes ++ rest) parts rest
+
 -- the bytes are an item, whose tree packs to this shape again, and has it as its JSON where binaries are numbers
 record IsReadBack (style : Style) (json : Json) : Type 0 where
   tree : Tree
-  is_item : (rest : List ℕ) → IsItem (cbor json ++ rest) tree rest
+  is_item : (rest : List ℕ) → IsItem (cbor_as style.lengths json ++ rest) tree rest
   has_shape : WritesNumbers style → shape_of Inside tree false ≡ Ok json
   repacks : packs style tree false ≡ Ok json
 
 record AreReadBack (style : Style) (row : Items) : Type 0 where
   parts : Parts
-  are_items : (rest : List ℕ) → ItemsToBreak (cbor_items row ++ 0xff ∷ rest) parts rest
+  are_items : (rest : List ℕ) → RowIsRead style.lengths (item_count row) (cbor_items_as style.lengths row) parts rest
   have_shape : WritesNumbers style → items Inside parts ≡ Ok row
   repack : packed_items style parts ≡ Ok row
 
-record PairsAreReadBack (style : Style) (row : Pairs) : Type 0 where
+record EntriesAreReadBack (style : Style) (row : Pairs) : Type 0 where
   parts : Parts
-  are_entries : (rest : List ℕ) → EntriesToBreak (cbor_pairs row ++ 0xff ∷ rest) parts rest
+  are_entries : (rest : List ℕ) → EntriesAreRead style.lengths (pair_count row) (cbor_pairs_as style.lengths row) parts rest
   have_shape : WritesNumbers style → pairs Inside parts ≡ Ok row
   repack : packed_pairs style parts ≡ Ok row
 
 joined : (xs rest : List ℕ) → xs ++ (0xff ∷ []) ++ rest ≡ xs ++ 0xff ∷ rest
 joined xs rest = append_assoc xs (0xff ∷ []) rest
+
+-- ---- arrays and maps by their lengths
+
+held_alike : (n : ℕ) → n < 2 ^ 64 → held_count n ≡ n
+held_alike n h = omega (arith, h)
+
+definite_head : (major n : ℕ) (bytes rest : List ℕ) → n < 2 ^ 64 → head_at_front (head_bytes major (held_count n) ++ bytes ++ [] ++ rest) ≡ Some (head major n (bytes ++ rest))
+definite_head major n bytes rest h =
+    ap (λ x. head_at_front (x ++ rest)) (append-nil (head_bytes major (held_count n) ++ bytes))
+    ∙ ap head_at_front (append_assoc (head_bytes major (held_count n)) bytes rest)
+    ∙ ap (λ k. head_at_front (head_bytes major k ++ (bytes ++ rest))) (held_alike n h)
+    ∙ head_read major n (bytes ++ rest) h
+
+seq_back : (lengths : Lengths) (n : ℕ) (bytes : List ℕ) (parts : Parts) (rest : List ℕ) → HasShortCount lengths n → RowIsRead lengths n bytes parts rest
+    → IsItem (row_head lengths 4 (held_count n) ++ bytes ++ row_end lengths ++ rest) (Container Seq parts) rest
+seq_back Indefinite n bytes parts rest h r = subst (λ x. IsItem (0x9f ∷ x) (Container Seq parts) rest) (sym (joined bytes rest)) (seq_to_break r)
+seq_back Definite n bytes parts rest h r = by_head (definite_head 4 n bytes rest h) (seq r)
+
+map_back : (lengths : Lengths) (n : ℕ) (bytes : List ℕ) (parts : Parts) (rest : List ℕ) → HasShortCount lengths n → EntriesAreRead lengths n bytes parts rest
+    → IsItem (row_head lengths 5 (held_count n) ++ bytes ++ row_end lengths ++ rest) (Container Map parts) rest
+map_back Indefinite n bytes parts rest h r = subst (λ x. IsItem (0xbf ∷ x) (Container Map parts) rest) (sym (joined bytes rest)) (map_to_break r)
+map_back Definite n bytes parts rest h r = by_head (definite_head 5 n bytes rest h) (map r)
+
+no_items_read : (lengths : Lengths) (rest : List ℕ) → RowIsRead lengths 0 [] none rest
+no_items_read Indefinite rest = items_end
+no_items_read Definite rest = no_items
+
+item_read : (lengths : Lengths) (n : ℕ) (one bytes : List ℕ) (tree : Tree) (parts : Parts) (rest : List ℕ) → ((after : List ℕ) → IsItem (one ++ after) tree after) → RowIsRead lengths n bytes parts rest
+    → RowIsRead lengths (suc n) (one ++ bytes) (part Item tree parts) rest
+item_read Indefinite n one bytes tree parts rest h r =
+    subst (λ x. ItemsToBreak x (part Item tree parts) rest) (sym (append_assoc one bytes (0xff ∷ rest))) (items_go_on (h (bytes ++ 0xff ∷ rest)) r)
+item_read Definite n one bytes tree parts rest h r =
+    subst (λ x. AreItems (suc n) x (part Item tree parts) rest) (sym (append_assoc one bytes rest)) (an_item (h (bytes ++ rest)) r)
+
+no_pairs_read : (lengths : Lengths) (rest : List ℕ) → EntriesAreRead lengths 0 [] none rest
+no_pairs_read Indefinite rest = entries_end
+no_pairs_read Definite rest = no_pairs
+
+pair_joined : (key one bytes rest : List ℕ) → key ++ (one ++ (bytes ++ rest)) ≡ key ++ one ++ bytes ++ rest
+pair_joined key one bytes rest = sym (append_assoc (key ++ one) bytes rest ∙ append_assoc key one (bytes ++ rest))
+
+pair_read : (lengths : Lengths) (n : ℕ) (key one bytes : List ℕ) (name tree : Tree) (parts : Parts) (rest : List ℕ) → ((after : List ℕ) → IsItem (key ++ after) name after) → ((after : List ℕ) → IsItem (one ++ after) tree after)
+    → EntriesAreRead lengths n bytes parts rest → EntriesAreRead lengths (suc n) (key ++ one ++ bytes) (part Key name (part Value tree parts)) rest
+pair_read Indefinite n key one bytes name tree parts rest k h r =
+    subst (λ x. EntriesToBreak x (part Key name (part Value tree parts)) rest) (pair_joined key one bytes (0xff ∷ rest)) (entries_go_on (k (one ++ (bytes ++ 0xff ∷ rest))) (h (bytes ++ 0xff ∷ rest)) r)
+pair_read Definite n key one bytes name tree parts rest k h r =
+    subst (λ x. AreEntries (suc n) x (part Key name (part Value tree parts)) rest) (pair_joined key one bytes rest) (a_pair (k (one ++ (bytes ++ rest))) (h (bytes ++ rest)) r)
 
 module _ (style : Style) where
   number_back : (bytes : List ℕ) → IsPackedNumber bytes → IsReadBack style (shape.number bytes)
@@ -149,18 +208,18 @@ module _ (style : Style) where
     repacks = ap (λ binaries. Ok (binary_shape binaries bytes)) e;
   }
 
-  array_back : (row : Items) → AreReadBack style row → IsReadBack style (shape.array row)
-  array_back row r = record {
+  array_back : (row : Items) → AreReadBack style row → HasShortCount style.lengths (item_count row) → IsReadBack style (shape.array row)
+  array_back row r h = record {
     tree = Container Seq r.parts;
-    is_item = λ rest. subst (λ x. IsItem (0x9f ∷ x) (Container Seq r.parts) rest) (sym (joined (cbor_items row) rest)) (seq_to_break (r.are_items rest));
+    is_item = λ rest. seq_back style.lengths (item_count row) (cbor_items_as style.lengths row) r.parts rest h (r.are_items rest);
     has_shape = λ n. rw (r.have_shape n) refl;
     repacks = rw r.repack refl;
   }
 
-  object_back : (row : Pairs) → PairsAreReadBack style row → IsReadBack style (shape.object row)
-  object_back row r = record {
+  object_back : (row : Pairs) → EntriesAreReadBack style row → HasShortCount style.lengths (pair_count row) → IsReadBack style (shape.object row)
+  object_back row r h = record {
     tree = Container Map r.parts;
-    is_item = λ rest. subst (λ x. IsItem (0xbf ∷ x) (Container Map r.parts) rest) (sym (joined (cbor_pairs row) rest)) (map_to_break (r.are_entries rest));
+    is_item = λ rest. map_back style.lengths (pair_count row) (cbor_pairs_as style.lengths row) r.parts rest h (r.are_entries rest);
     has_shape = λ n. rw (r.have_shape n) refl;
     repacks = rw r.repack refl;
   }
@@ -168,18 +227,16 @@ module _ (style : Style) where
   item_back : (json : Json) (row : Items) → IsReadBack style json → AreReadBack style row → AreReadBack style (item json row)
   item_back json row r s = record {
     parts = part Item r.tree s.parts;
-    are_items = λ rest. subst (λ x. ItemsToBreak x (part Item r.tree s.parts) rest) (sym (append_assoc (cbor json) (cbor_items row) (0xff ∷ rest)))
-        (items_go_on (r.is_item (cbor_items row ++ 0xff ∷ rest)) (s.are_items rest));
+    are_items = λ rest. item_read style.lengths (item_count row) (cbor_as style.lengths json) (cbor_items_as style.lengths row) r.tree s.parts rest r.is_item (s.are_items rest);
     have_shape = λ n. rw (r.has_shape n, s.have_shape n) refl;
     repack = rw (r.repacks, s.repack) refl;
   }
 
-  pair_back : (bytes : List ℕ) (json : Json) (row : Pairs) → IsPackedText bytes → IsReadBack style json → PairsAreReadBack style row → PairsAreReadBack style (pair (escaped_key bytes) json row)
+  pair_back : (bytes : List ℕ) (json : Json) (row : Pairs) → IsPackedText bytes → IsReadBack style json → EntriesAreReadBack style row → EntriesAreReadBack style (pair (escaped_key bytes) json row)
   pair_back bytes json row k r s = record {
     parts = part Key (Text bytes) (part Value r.tree s.parts);
-    are_entries = λ rest. subst (λ x. EntriesToBreak x (part Key (Text bytes) (part Value r.tree s.parts)) rest)
-        (sym (append_assoc (string_bytes 3 bytes ++ cbor json) (cbor_pairs row) (0xff ∷ rest) ∙ append_assoc (string_bytes 3 bytes) (cbor json) (cbor_pairs row ++ 0xff ∷ rest)))
-        (entries_go_on (text_read bytes (cbor json ++ (cbor_pairs row ++ 0xff ∷ rest)) k) (r.is_item (cbor_pairs row ++ 0xff ∷ rest)) (s.are_entries rest));
+    are_entries = λ rest. pair_read style.lengths (pair_count row) (string_bytes 3 bytes) (cbor_as style.lengths json) (cbor_pairs_as style.lengths row) (Text bytes) r.tree s.parts rest
+        (λ after. text_read bytes after k) r.is_item (s.are_entries rest);
     have_shape = λ n. rw (r.has_shape n, s.have_shape n) refl;
     repack = rw (r.repacks, s.repack) refl;
   }
@@ -192,24 +249,24 @@ module _ (style : Style) where
     read_back (shape.text bytes) h = record { tree = Text bytes; is_item = λ rest. text_read bytes rest h; has_shape = λ n. refl; repacks = refl }
     read_back (shape.quoted bytes) h = binary_back bytes style.binaries refl h
     read_back (shape.raw bytes) h = absurd h
-    read_back (shape.array row) h = array_back row (items_back row h)
-    read_back (shape.object row) h = object_back row (pairs_back row h)
+    read_back (shape.array row) h = array_back row (items_back row h.0) h.1
+    read_back (shape.object row) h = object_back row (pairs_back row h.0) h.1
 
     items_back : (row : Items) → ArePacked style row → AreReadBack style row
-    items_back no_item h = record { parts = none; are_items = λ rest. items_end; have_shape = λ n. refl; repack = refl }
+    items_back no_item h = record { parts = none; are_items = no_items_read style.lengths; have_shape = λ n. refl; repack = refl }
     items_back (item json row) h = item_back json row (read_back json h.0) (items_back row h.1)
 
-    pairs_back : (row : Pairs) → PairsArePacked style row → PairsAreReadBack style row
-    pairs_back no_pair h = record { parts = none; are_entries = λ rest. entries_end; have_shape = λ n. refl; repack = refl }
+    pairs_back : (row : Pairs) → PairsArePacked style row → EntriesAreReadBack style row
+    pairs_back no_pair h = record { parts = none; are_entries = no_pairs_read style.lengths; have_shape = λ n. refl; repack = refl }
     pairs_back (pair (escaped_key bytes) json row) h = pair_back bytes json row h.0 (read_back json h.1) (pairs_back row h.2)
     pairs_back (pair (raw_key bytes) json row) h = absurd h.0
 
   -- what a real tree with short texts is written as in a style is an item of one tree, which packs to the same shape in that style
   pub styles_are_read_back : (tree : Tree) (json : Json) → IsReal tree → IsShortTreeAs style tree → pack_as style tree ≡ Ok json
-      → (read : Tree) × IsItemOf (cbor json) read × ((other : Tree) → IsItemOf (cbor json) other → other ≡ read) × (pack_as style read ≡ Ok json)
+      → (read : Tree) × IsItemOf (cbor_as style.lengths json) read × ((other : Tree) → IsItemOf (cbor_as style.lengths json) other → other ≡ read) × (pack_as style read ≡ Ok json)
   styles_are_read_back tree json r s e =
       let back = read_back json (packed style tree json r s e) in
-      let i : IsItemOf (cbor json) back.tree = subst (λ x. IsItem x back.tree []) (append-nil (cbor json)) (back.is_item []) in
+      let i : IsItemOf (cbor_as style.lengths json) back.tree = subst (λ x. IsItem x back.tree []) (append-nil (cbor_as style.lengths json)) (back.is_item []) in
       (back.tree, i, (λ other j. (one_item j i).0), back.repacks)
 
 -- what a real tree with short texts is written as is an item of one tree, whose shape is what the tree packs to

@@ -10,7 +10,7 @@ use Rattle.sval_json.specs.Number.{Refusal, InvalidKey}
 use Rattle.sval_json.specs.Shape.{json_of}
 use Rattle.sval_cbor.specs.declared.style.Style.{Style}
 use Rattle.sval_cbor.specs.Packs.{pack_as, pack_of}
-use Rattle.sval_cbor.specs.Cbor.{head_bytes, cbor}
+use Rattle.sval_cbor.specs.Cbor.{head_bytes, cbor_as, cbor}
 use Rattle.sval_cbor.specs.Premises.{IsShortTreeAs, IsShortTree}
 use Rattle.sval_cbor_read.specs.Items.{head, head_at_front, IsItem, IsItemOf}
 use Rattle.sval_cbor_read.specs.WellFormed.{IsWellFormed}
@@ -93,4 +93,4 @@ WrittenIsReadBack = (tree : Tree) (json : Json) → IsReal tree → IsShortTree 
 -- the same in each style, in which that tree packs to the shape that was written
 abbrev pub StylesAreReadBack : Type 0
 StylesAreReadBack = (style : Style) (tree : Tree) (json : Json) → IsReal tree → IsShortTreeAs style tree → pack_as style tree ≡ Ok json
-    → (read : Tree) × IsItemOf (cbor json) read × ((other : Tree) → IsItemOf (cbor json) other → other ≡ read) × (pack_as style read ≡ Ok json)
+    → (read : Tree) × IsItemOf (cbor_as style.lengths json) read × ((other : Tree) → IsItemOf (cbor_as style.lengths json) other → other ≡ read) × (pack_as style read ≡ Ok json)

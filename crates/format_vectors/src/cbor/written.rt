@@ -3,29 +3,44 @@
 use crate::cases::{Case, try_cases};
 use std::alloc::Global;
 use std::test::Fail;
-use sval_cbor::{Style, stream_to_cbor, stream_to_cbor_with};
+use sval_cbor::{Lengths, Style, stream_to_cbor, stream_to_cbor_with};
 use sval_io::VecSink;
 use sval_script::Script;
 
-/// A script, and behind `cbor` the bytes that are written of it in hex, or behind `error` why none are. `strings` before
-/// that asks for binaries as byte strings.
+/// A script, and behind `cbor` the bytes that are written of it in hex, or behind `error` why none are. A word before
+/// that asks for a style: `strings` for byte strings, `definite` for these and definite lengths, and `counted` for
+/// definite lengths alone.
 struct Written;
+
+/// The style that the first word of what is due asks for, and that word.
+fn style_of(due: &str) -> (Style, &'static str) {
+    if due.starts_with("strings ") {
+        return (Style::BYTE_STRINGS, "strings ");
+    }
+    if due.starts_with("definite ") {
+        return (Style::DEFINITE, "definite ");
+    }
+    if due.starts_with("counted ") {
+        let mut style = Style::DEFAULT;
+        style.lengths = Lengths::Definite;
+        return (style, "counted ");
+    }
+    (Style::DEFAULT, "")
+}
 
 impl Case for Written {
     fn seen(alloc: Global, input: &str, due: &str) -> Result<String, Fail> {
         let script = Script::read(alloc, input.as_bytes())?;
         let mut sink = VecSink::new(alloc);
-        let strings = due.starts_with("strings ");
-        let answer = if strings {
-            stream_to_cbor_with(alloc, &mut sink, &script, Style::BYTE_STRINGS)
-        } else {
-            stream_to_cbor(alloc, &mut sink, &script)
+        let (style, word) = style_of(due);
+        let answer = match word {
+            "" => stream_to_cbor(alloc, &mut sink, &script),
+            _ => stream_to_cbor_with(alloc, &mut sink, &script, style),
         };
         let bytes = hex::encode(alloc, sink.as_slice())?;
-        let style = if strings { "strings " } else { "" };
         match answer {
-            Ok(()) => Ok(format!(in alloc; "{style}cbor {bytes}")?),
-            Err(error) => Ok(format!(in alloc; "{style}error {bytes}{error:?}")?),
+            Ok(()) => Ok(format!(in alloc; "{word}cbor {bytes}")?),
+            Err(error) => Ok(format!(in alloc; "{word}error {bytes}{error:?}")?),
         }
     }
 }
@@ -264,6 +279,133 @@ tagged_end NUMBER - -
 = strings error NotInteger
 "#;
 
+/// Arrays and maps of definite length, some of them examples of RFC 8949, appendix A. A size that calls don't tell is
+/// counted, and a variant with its name is a map of one pair.
+const DEFINITE: &'static str = r#"
+seq_begin -
+seq_end
+= definite cbor 80
+= counted cbor 80
+= strings cbor 9fff
+
+seq_begin 0
+seq_end
+= definite cbor 80
+
+map_begin -
+map_end
+= definite cbor a0
+
+seq_begin -
+seq_value_begin
+u8 1
+seq_value_end
+seq_value_begin
+seq_begin -
+seq_value_begin
+u8 2
+seq_value_end
+seq_value_begin
+u8 3
+seq_value_end
+seq_end
+seq_value_end
+seq_value_begin
+seq_begin 2
+seq_value_begin
+u8 4
+seq_value_end
+seq_value_begin
+u8 5
+seq_value_end
+seq_end
+seq_value_end
+seq_end
+= definite cbor 8301820203820405
+
+@ two_keys
+= definite cbor a26130f46131f5
+= counted cbor a26130f46131f5
+
+record_begin - =52 - 2
+record_value_begin - =61
+u8 1
+record_value_end - =61
+record_value_begin - =62
+seq_begin -
+seq_value_begin
+u8 2
+seq_value_end
+seq_value_begin
+u8 3
+seq_value_end
+seq_end
+record_value_end - =62
+record_end - =52 -
+= definite cbor a26161016162820203
+
+binary_begin -
+binary_fragment =01
+binary_fragment =02ff
+binary_end
+= definite cbor 430102ff
+= counted cbor 83010218ff
+
+binary_begin -
+binary_end
+= definite cbor 40
+= counted cbor 80
+
+enum_begin - =45 -
+record_begin - =56 - 1
+record_value_begin - =61
+i32 1
+record_value_end - =61
+record_end - =56 -
+enum_end - =45 -
+= definite cbor a16156a1616101
+
+enum_begin - =4f -
+enum_begin - =45 -
+tagged_begin - - 7
+seq_begin -
+seq_value_begin
+enum_begin - =4c -
+enum_end - =4c -
+seq_value_end
+seq_end
+tagged_end - - 7
+enum_end - =45 -
+enum_end - =4f -
+= definite cbor a16145a1613781614c
+
+map_begin -
+map_key_begin
+enum_begin - =4c -
+enum_end - =4c -
+map_key_end
+map_value_begin
+map_begin -
+map_end
+map_value_end
+map_end
+= definite cbor a1614ca0
+
+map_begin -
+map_key_begin
+seq_begin -
+seq_end
+map_key_end
+map_value_begin
+null
+map_value_end
+map_end
+= definite error Key
+
+seq_begin 1
+= definite error Unfinished
+"#;
+
 /// Numbers that come as text.
 const NUMBERS: &'static str = r#"
 enum_begin - =45 -
@@ -433,9 +575,66 @@ map_end
 #[test]
 fn scripts_that_are_written(rt: HostRuntime) -> Result<(), Fail> {
     for table in [
-        EXAMPLES, MAPS, WIDE, BINARIES, NUMBERS, TEXTS, VARIANTS, NOT_WHOLE, RAW, NO_VALUE,
+        EXAMPLES, MAPS, WIDE, BINARIES, DEFINITE, NUMBERS, TEXTS, VARIANTS, NOT_WHOLE, RAW, NO_VALUE,
     ] {
         try_cases::<Written>(&rt, rt.alloc(), table)?;
+    }
+    Ok(())
+}
+
+/// The lines of a container whose entries are all alike.
+struct Alike {
+    begin: &'static str,
+    entry: &'static str,
+    end: &'static str,
+    /// An entry in hex.
+    bytes: &'static str,
+}
+
+/// An array of nulls.
+const NULLS: Alike = Alike {
+    begin: "seq_begin -\n",
+    entry: "seq_value_begin\nnull\nseq_value_end\n",
+    end: "seq_end\n",
+    bytes: "f6",
+};
+
+/// A map of one key to nulls.
+const ENTRIES: Alike = Alike {
+    begin: "map_begin -\n",
+    entry: "map_key_begin\ni8 1\nmap_key_end\nmap_value_begin\nnull\nmap_value_end\n",
+    end: "map_end\n",
+    bytes: "6131f6",
+};
+
+/// A text, this many times another, and a third text.
+fn repeated(alloc: Global, first: &str, middle: &str, count: u16, last: &str) -> Result<String, Fail> {
+    let mut text = String::from_str(alloc, first)?;
+    for _ in 0..count {
+        text.push_str(middle)?;
+    }
+    text.push_str(last)?;
+    Ok(text)
+}
+
+#[test]
+fn counts_in_heads(rt: HostRuntime) -> Result<(), Fail> {
+    let alloc = rt.alloc();
+    for (count, array, map) in [
+        (0, "80", "a0"),
+        (1, "81", "a1"),
+        (23, "97", "b7"),
+        (24, "9818", "b818"),
+        (255, "98ff", "b8ff"),
+        (256, "990100", "b90100"),
+    ] {
+        for (alike, head) in [(NULLS, array), (ENTRIES, map)] {
+            let script = repeated(alloc, alike.begin, alike.entry, count, alike.end)?;
+            let start = format!(in alloc; "definite cbor {head}")?;
+            let due = repeated(alloc, start.as_str(), alike.bytes, count, "")?;
+            let seen = Written::seen(alloc, script.as_str(), due.as_str())?;
+            assert_eq!(rt; seen.as_str(), due.as_str());
+        }
     }
     Ok(())
 }

@@ -4,9 +4,10 @@ use Rattle.std.specs.Fmt.{digits}
 use Rattle.sval_label.specs.Calls.{Name, U16, U128, I32, I64, I128, Seq, Map, Record, Item, Key, Value, Field}
 use Rattle.sval_core.specs.Trees.{Tree, Null, Truth, Int, Text, Binary, Tagged, Enum, Container, none, part}
 use Rattle.sval_json.specs.Json.{escaped_key, null, truth, number, text, quoted, array, object, Items, no_item, item, no_pair, pair}
-use Rattle.sval_cbor.specs.declared.style.TheConstants.Style.{BYTE_STRINGS}
+use Rattle.sval_cbor.specs.declared.style.Lengths.TheVariants.{Definite}
+use Rattle.sval_cbor.specs.declared.style.TheConstants.Style.{BYTE_STRINGS, DEFINITE}
 use Rattle.sval_cbor.specs.Packs.{PackRefusal, BadKey, BadNumber, RawJson, NotInteger, map_packed, pack_as, pack_of}
-use Rattle.sval_cbor.specs.Cbor.{head_bytes, without_zero_bytes, short_bytes, cbor}
+use Rattle.sval_cbor.specs.Cbor.{head_bytes, without_zero_bytes, short_bytes, cbor_as, cbor}
 
 abbrev bytes_of_tree : Tree → Result (List ℕ) PackRefusal
 bytes_of_tree tree = map_packed cbor (pack_of tree)
@@ -47,6 +48,17 @@ byte_string_in_a_variant : map_packed cbor (pack_as BYTE_STRINGS (Enum (named (c
     ≡ Ok (0xbf ∷ 0x61 ∷ 0x56 ∷ 0x41 ∷ 0x61 ∷ 0xff ∷ [])
 unfolding head_bytes without_zero_bytes short_bytes digits
 byte_string_in_a_variant = refl
+
+-- RFC 8949, appendix A
+definite_items : map_packed (cbor_as Definite) (pack_as DEFINITE (Container Seq (part Item (Int U16 (pos 1)) (part Item (Container Seq (part Item (Int U16 (pos 2)) (part Item (Int U16 (pos 3)) none))) none))))
+    ≡ Ok (0x82 ∷ 0x01 ∷ 0x82 ∷ 0x02 ∷ 0x03 ∷ [])
+unfolding head_bytes without_zero_bytes short_bytes digits
+definite_items = refl
+
+definite_variant : map_packed (cbor_as Definite) (pack_as DEFINITE (Enum (named (codes "E")) (Tagged (named (codes "V")) (Binary (0x61 ∷ [])))))
+    ≡ Ok (0xa1 ∷ 0x61 ∷ 0x56 ∷ 0x41 ∷ 0x61 ∷ [])
+unfolding head_bytes without_zero_bytes short_bytes digits
+definite_variant = refl
 
 variant_number : bytes_of_tree (Enum (named (codes "E")) (Tagged (record { tag = Some (codes "NUMBER"); label = (named (codes "N")).label; index = None }) (Text (codes "01"))))
     ≡ Ok (0xbf ∷ 0x61 ∷ 0x4e ∷ 0x01 ∷ 0xff ∷ [])

@@ -1,8 +1,8 @@
 -- Calls and the bytes that they are written as.
 use Rattle.std.specs.Prelude.{◌≡◌, ℕ, true, false, List, [], ◌∷◌, codes, pos, Some, None, Ok, Err, refl}
 use Rattle.std.specs.Fmt.{digits}
-use Rattle.sval_label.specs.Calls.{Call, Name, I32, Map, Key, Value}
-use Rattle.sval_cbor.specs.declared.style.TheConstants.Style.{BYTE_STRINGS}
+use Rattle.sval_label.specs.Calls.{Call, Name, I32, Seq, Map, Item, Key, Value}
+use Rattle.sval_cbor.specs.declared.style.TheConstants.Style.{BYTE_STRINGS, DEFINITE}
 use Rattle.sval_cbor.specs.Packs.{BadKey, RawJson}
 use Rattle.sval_cbor.specs.Cbor.{head_bytes}
 use Rattle.sval_cbor.specs.Writing.{NoText, written_as, written_cbor, are_whole}
@@ -27,6 +27,17 @@ hinted_binary = refl
 hinted_byte_string : written_as BYTE_STRINGS (Call.BinaryBegin (Some 2) ∷ Call.TagHint (codes "x") ∷ Call.BinaryFragment true (0x00 ∷ 0xff ∷ []) ∷ Call.BinaryEnd ∷ []) ≡ Ok (0x42 ∷ 0x00 ∷ 0xff ∷ [])
 unfolding head_bytes digits
 hinted_byte_string = refl
+
+-- sizes that aren't told are counted
+counted_items : written_as DEFINITE (Call.Begin Seq None ∷ Call.PartBegin Item ∷ Call.Int I32 (pos 1) ∷ Call.PartEnd Item ∷ Call.PartBegin Item ∷ Call.Begin Map None ∷ Call.End Map ∷ Call.PartEnd Item ∷ Call.End Seq ∷ [])
+    ≡ Ok (0x82 ∷ 0x01 ∷ 0xa0 ∷ [])
+unfolding head_bytes digits
+counted_items = refl
+
+counted_pairs : written_as DEFINITE (Call.Begin Map None ∷ Call.PartBegin Key ∷ Call.Int I32 (pos 0) ∷ Call.PartEnd Key ∷ Call.PartBegin Value ∷ Call.Begin Seq None ∷ Call.End Seq ∷ Call.PartEnd Value ∷ Call.End Map ∷ [])
+    ≡ Ok (0xa1 ∷ 0x61 ∷ 0x30 ∷ 0x80 ∷ [])
+unfolding head_bytes digits
+counted_pairs = refl
 
 variant_number : written_cbor (Call.EnumBegin (named (codes "E")) ∷ Call.TaggedBegin (record { tag = Some (codes "NUMBER"); label = (named (codes "N")).label; index = None })
     ∷ Call.TextBegin (Some 2) ∷ Call.TextFragment true (codes "01") ∷ Call.TextEnd

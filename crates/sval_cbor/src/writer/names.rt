@@ -5,14 +5,14 @@ ghost use Rattle.sval_label.specs.Calls.{EnumEnd, TaggedBegin, Standalone};
 ghost use Rattle.sval_label.specs.SeenName.{name_of};
 ghost use Rattle.sval_json.specs.Shape.{handle_of, own, number_or_null};
 ghost use Rattle.sval_cbor.specs.Packs.{on_packed, RawJson};
-ghost use Rattle.sval_cbor.specs.Cbor.{string};
+ghost use Rattle.sval_cbor.specs.Cbor.{string, row_head, row_end};
 ghost use Rattle.sval_cbor.specs.Writing.{Elsewhere, Begun, writes, opening, after_handle, enum_end_bytes, cbor_step};
 ghost use Rattle.sval_json.specs.Marks.{seen_option_index, seen_handle};
 ghost use Rattle.sval_cbor.specs.SeenWriter.{seen_place};
 ghost use Rattle.sval_cbor.specs.WriterLaw.{CborDoes, json_bytes, cbor_writer_state, writer_target, cbor_writer_view};
 
 use crate::error::Refusal;
-use crate::writer::{BREAK, MAP, Place, Writer};
+use crate::writer::{MAP, Place, Writer};
 use itoa::Buffer;
 use sval_core::{Index, Int, Label, Result, Tag};
 use sval_io::Sink;
@@ -29,19 +29,21 @@ pub(crate) fn place_after(label: Option<&Label>, index: Option<&Index>) -> Place
 }
 
 impl<'k, K: Sink> Writer<'k, K> {
-    /// Begins a map, up to its first value.
+    /// Begins a map of one pair, up to its value.
     fn write_pair(&mut self, key: &[u8]) -> Result
-        ensures { CborDoes (writes (0xbf ∷ string 3 key.now) (cbor_writer_state self.old)) result
+        ensures { CborDoes
+            (writes (row_head self.old.style.lengths 5 1 ++ string 3 key.now) (cbor_writer_state self.old)) result
             (writer_target K.told self.old) (cbor_writer_view K.told self.new) }
     {
-        self.write(MAP)?;
+        self.write_row_head(MAP, 1)?;
         self.write_text(key)
     }
 
     /// Opens the map of one pair around a value, or refuses the value in a key.
     fn open_pair(&mut self, key: &[u8]) -> Result
         ensures { let state = cbor_writer_state self.old in
-            CborDoes (on_packed (opening (Some key.now) Begun state.in_key) (λ front. writes front state)) result
+            CborDoes (on_packed (opening state.style.lengths (Some key.now) Begun state.in_key)
+            (λ front. writes front state)) result
             (writer_target K.told self.old) (cbor_writer_view K.told self.new) }
     {
         if self.in_key {
@@ -53,7 +55,7 @@ impl<'k, K: Sink> Writer<'k, K> {
     /// Opens the map of one pair around a value that is directly in an enum.
     fn open_variant(&mut self, handle: &[u8]) -> Result
         ensures { let state = cbor_writer_state self.old in
-            CborDoes (on_packed (opening (Some handle.now) state.place state.in_key)
+            CborDoes (on_packed (opening state.style.lengths (Some handle.now) state.place state.in_key)
             (λ front. writes front state)) result
             (writer_target K.told self.old) (cbor_writer_view K.told self.new) }
     {
@@ -64,9 +66,10 @@ impl<'k, K: Sink> Writer<'k, K> {
     }
 
     /// Opens the map around a value of this name, where that is due.
-    fn open_handle(&mut self, label: Option<&Label>, index: Option<&Index>) -> Result
+    pub(crate) fn open_handle(&mut self, label: Option<&Label>, index: Option<&Index>) -> Result
         ensures { let state = cbor_writer_state self.old in
-            CborDoes (on_packed (opening (seen_handle label.entry index.entry) state.place state.in_key)
+            CborDoes (on_packed
+            (opening state.style.lengths (seen_handle label.entry index.entry) state.place state.in_key)
             (λ front. writes front state)) result
             (writer_target K.told self.old) (cbor_writer_view K.told self.new) }
     {
@@ -87,7 +90,8 @@ impl<'k, K: Sink> Writer<'k, K> {
         mark: &[u8],
     ) -> Result
         ensures { let state = cbor_writer_state self.old in
-            CborDoes (on_packed (opening (seen_handle label.entry index.entry) state.place state.in_key)
+            CborDoes (on_packed
+            (opening state.style.lengths (seen_handle label.entry index.entry) state.place state.in_key)
             (λ front. writes (front ++ mark.now) (record state { place = Elsewhere }))) result
             (writer_target K.told self.old) (cbor_writer_view K.told self.new) }
     {
@@ -99,7 +103,8 @@ impl<'k, K: Sink> Writer<'k, K> {
     /// Refuses raw JSON, after what its name refuses.
     fn refuse_raw(&mut self, label: Option<&Label>, index: Option<&Index>) -> Result
         ensures { let state = cbor_writer_state self.old in
-            CborDoes (on_packed (opening (seen_handle label.entry index.entry) state.place state.in_key)
+            CborDoes (on_packed
+            (opening state.style.lengths (seen_handle label.entry index.entry) state.place state.in_key)
             (λ front. Err RawJson)) result
             (writer_target K.told self.old) (cbor_writer_view K.told self.new) }
     {
@@ -161,7 +166,8 @@ impl<'k, K: Sink> Writer<'k, K> {
     #[inline(never)]
     pub(crate) fn begin_enum(&mut self, label: Option<&Label>, index: Option<&Index>) -> Result
         ensures { let state = cbor_writer_state self.old in
-            CborDoes (on_packed (opening (seen_handle label.entry index.entry) state.place state.in_key)
+            CborDoes (on_packed
+            (opening state.style.lengths (seen_handle label.entry index.entry) state.place state.in_key)
             (λ front. writes (front ++ []) (record state { place = Begun }))) result
             (writer_target K.told self.old) (cbor_writer_view K.told self.new) }
     {
@@ -173,13 +179,13 @@ impl<'k, K: Sink> Writer<'k, K> {
     /// Ends the map of one pair around a value. In a key there is none.
     fn close_pair(&mut self) -> Result
         ensures { let state = cbor_writer_state self.old in
-            CborDoes (writes (if state.in_key then [] else 0xff ∷ []) state) result
+            CborDoes (writes (if state.in_key then [] else row_end state.style.lengths) state) result
             (writer_target K.told self.old) (cbor_writer_view K.told self.new) }
     {
         if self.in_key {
             return Ok(());
         }
-        self.write(BREAK)
+        self.write_row_end()
     }
 
     /// Ends an enum that was at this place. It writes the name of an enum that holds nothing, and else ends the map
@@ -192,7 +198,7 @@ impl<'k, K: Sink> Writer<'k, K> {
         index: Option<&Index>,
     ) -> Result
         ensures { let state = cbor_writer_state self.old in
-            CborDoes (writes (enum_end_bytes (seen_place place) state.in_key
+            CborDoes (writes (enum_end_bytes state.style.lengths (seen_place place) state.in_key
             (own (name_of tag.entry label.entry index.entry))) state) result
             (writer_target K.told self.old) (cbor_writer_view K.told self.new) }
     {
@@ -244,7 +250,8 @@ impl<'k, K: Sink> Writer<'k, K> {
     /// Begins a number that comes as text.
     fn begin_number(&mut self, label: Option<&Label>, index: Option<&Index>) -> Result
         ensures { let state = cbor_writer_state self.old in
-            CborDoes (on_packed (opening (seen_handle label.entry index.entry) state.place state.in_key)
+            CborDoes (on_packed
+            (opening state.style.lengths (seen_handle label.entry index.entry) state.place state.in_key)
             (λ front. writes (front ++ []) (record state { place = Elsewhere; in_number = true }))) result
             (writer_target K.told self.old) (cbor_writer_view K.told self.new) }
     {

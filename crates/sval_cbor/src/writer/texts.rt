@@ -1,15 +1,16 @@
 //! Texts, numbers in texts, and binaries.
 
-ghost use Rattle.std.specs.Prelude.{◌≡◌, ◌++◌, false, true, Ok};
+ghost use Rattle.std.specs.Prelude.{◌≡◌, ◌++◌, [], false, true, Ok};
 ghost use Rattle.sval_json.specs.Digits.{has_digit};
 ghost use Rattle.sval_json.specs.Number.{normal, sign};
 ghost use Rattle.sval_json.specs.Shape.{byte_items};
 ghost use Rattle.sval_cbor.specs.Packs.{on_packed};
-ghost use Rattle.sval_cbor.specs.Cbor.{string, integer, cbor_items};
+ghost use Rattle.sval_cbor.specs.Cbor.{string, integer, row_end, cbor_as, cbor_items};
+ghost use Rattle.sval_json.specs.Json.{array};
 ghost use Rattle.sval_cbor.specs.SeenNumber.{IsUnsigned};
 ghost use Rattle.sval_cbor.specs.SeenWriter.{seen_normal};
 ghost use Rattle.sval_cbor.specs.Writing.{Elsewhere, writes, unless_key, text_bytes, number_bytes};
-ghost use Rattle.sval_cbor.specs.Writing.{binary_begin, binary_bytes, binary_end};
+ghost use Rattle.sval_cbor.specs.Writing.{binary_bytes};
 ghost use Rattle.sval_cbor.specs.WriterLaw.{CborDoes, cbor_writer_state, writer_target, cbor_writer_view};
 
 use crate::error::{Refusal, Stop};
@@ -17,7 +18,7 @@ use crate::head::{write_byte_string, write_joined};
 use crate::integer::Integer;
 use crate::number::{NormalForm, normal, whole};
 use crate::style::Binaries;
-use crate::writer::{ARRAY, BREAK, Place, Writer};
+use crate::writer::{ARRAY, Place, Writer};
 use sval_core::{Error, Result};
 use sval_io::Sink;
 
@@ -132,14 +133,14 @@ impl<'k, K: Sink> Writer<'k, K> {
     /// Begins a binary, which can't be in a key.
     pub(crate) fn begin_binary(&mut self) -> Result
         ensures { let state = cbor_writer_state self.old in
-            CborDoes (unless_key state (writes (binary_begin state.style.binaries)
-            (record state { place = Elsewhere }))) result
+            CborDoes (unless_key state (writes [] (record state { place = Elsewhere }))) result
             (writer_target K.told self.old) (cbor_writer_view K.told self.new) }
     {
-        match self.style.binaries {
-            Binaries::Numbers => self.open(ARRAY),
-            Binaries::ByteStrings => self.open(b""),
+        if self.in_key {
+            return self.refuse(Refusal::Key);
         }
+        self.place = Place::Elsewhere;
+        self.write(b"")
     }
 
     /// Writes a byte string.
@@ -156,27 +157,35 @@ impl<'k, K: Sink> Writer<'k, K> {
         }
     }
 
-    /// Writes the bytes of a binary.
-    pub(crate) fn write_binary(&mut self, bytes: &[u8]) -> Result
+    /// Writes bytes as items of an array, and its end.
+    fn write_items(&mut self, bytes: &[u8]) -> Result
         ensures { let state = cbor_writer_state self.old in
-            CborDoes (writes (binary_bytes state.style.binaries bytes.now) state) result
+            CborDoes (writes (cbor_items (byte_items bytes.now) ++ row_end state.style.lengths) state) result
             (writer_target K.told self.old) (cbor_writer_view K.told self.new) }
     {
-        match self.style.binaries {
-            Binaries::Numbers => self.write_bytes(bytes),
-            Binaries::ByteStrings => self.write_byte_string(bytes),
-        }
+        self.write_bytes(bytes)?;
+        self.write_row_end()
     }
 
-    /// Ends a binary.
-    pub(crate) fn end_binary(&mut self) -> Result
+    /// Writes bytes as an array of numbers.
+    fn write_numbers(&mut self, bytes: &[u8]) -> Result
         ensures { let state = cbor_writer_state self.old in
-            CborDoes (writes (binary_end state.style.binaries) state) result
+            CborDoes (writes (cbor_as state.style.lengths (array (byte_items bytes.now))) state) result
+            (writer_target K.told self.old) (cbor_writer_view K.told self.new) }
+    {
+        self.write_row_head(ARRAY, bytes.len() as u64)?;
+        self.write_items(bytes)
+    }
+
+    /// Writes a binary.
+    pub(crate) fn write_binary(&mut self, bytes: &[u8]) -> Result
+        ensures { let state = cbor_writer_state self.old in
+            CborDoes (writes (binary_bytes state.style bytes.now) state) result
             (writer_target K.told self.old) (cbor_writer_view K.told self.new) }
     {
         match self.style.binaries {
-            Binaries::Numbers => self.write(BREAK),
-            Binaries::ByteStrings => self.write(b""),
+            Binaries::Numbers => self.write_numbers(bytes),
+            Binaries::ByteStrings => self.write_byte_string(bytes),
         }
     }
 }

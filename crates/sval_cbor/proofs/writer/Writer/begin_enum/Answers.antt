@@ -9,9 +9,9 @@ pub returns-in_err-open_named : goal.returns-in_err-open_named
 returns-in_err-open_named g c =
     let state = cbor_writer_state c.args.self.now in
     stops_as c.from_residual.result c.from_residual.ensures.0
-    (opened_stopped_changes (opening (seen_handle c.args.label c.args.index) state.place state.in_key) [] (record state { place = Elsewhere }) (record state { place = Begun }) c.in_err-open_named.ensures)
+    (opened_stopped_changes (opening state.style.lengths (seen_handle c.args.label c.args.index) state.place state.in_key) [] (record state { place = Elsewhere }) (record state { place = Begun }) c.in_err-open_named.ensures)
 
 pub returns : goal.returns
 returns g c =
     let state = cbor_writer_state c.args.self.now in
-    opened_changes (opening (seen_handle c.args.label c.args.index) state.place state.in_key) [] (record state { place = Elsewhere }) (λ (s : CborState). record s { place = Begun }) c.in_ok-open_named.ensures
+    opened_changes (opening state.style.lengths (seen_handle c.args.label c.args.index) state.place state.in_key) [] (record state { place = Elsewhere }) (λ (s : CborState). record s { place = Begun }) c.in_ok-open_named.ensures

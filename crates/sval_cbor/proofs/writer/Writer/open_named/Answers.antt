@@ -8,9 +8,9 @@ pub returns-in_err-open_handle : goal.returns-in_err-open_handle
 returns-in_err-open_handle g c =
     let state = cbor_writer_state c.args.self.now in
     stops_as c.from_residual.result c.from_residual.ensures.0
-    (opened_stopped (opening (seen_handle c.args.label c.args.index) state.place state.in_key) c.args.mark.now state (record state { place = Elsewhere }) c.in_err-open_handle.ensures)
+    (opened_stopped (opening state.style.lengths (seen_handle c.args.label c.args.index) state.place state.in_key) c.args.mark.now state (record state { place = Elsewhere }) c.in_err-open_handle.ensures)
 
 pub returns : goal.returns
 returns g c =
     let state = cbor_writer_state c.args.self.now in
-    opened_then (opening (seen_handle c.args.label c.args.index) state.place state.in_key) c.args.mark.now state (λ (s : CborState). record s { place = Elsewhere }) c.write.result _ _ c.in_ok-open_handle.ensures c.write.ensures
+    opened_then (opening state.style.lengths (seen_handle c.args.label c.args.index) state.place state.in_key) c.args.mark.now state (λ (s : CborState). record s { place = Elsewhere }) c.write.result _ _ c.in_ok-open_handle.ensures c.write.ensures

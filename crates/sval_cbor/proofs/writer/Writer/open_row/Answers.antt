@@ -1,0 +1,16 @@
+use Rattle.sval_json.specs.Marks.{seen_handle}
+use Rattle.sval_cbor.specs.Writing.{opening, next_head, after_head}
+use Rattle.sval_cbor.specs.WriterLaw.{cbor_writer_state}
+use Rattle.sval_cbor.proofs.Doing.{opened_next, opened_stopped, stops_as}
+use Rattle.sval_cbor.proofs.writer.Writer.open_row.Goals as goal
+
+pub returns-in_err-open_handle : goal.returns-in_err-open_handle
+returns-in_err-open_handle g c =
+    let state = cbor_writer_state c.args.self.now in
+    stops_as c.from_residual.result c.from_residual.ensures.0
+    (opened_stopped (opening state.style.lengths (seen_handle c.args.label c.args.index) state.place state.in_key) (next_head c.args.major state) state (after_head state) c.in_err-open_handle.ensures)
+
+pub returns : goal.returns
+returns g c =
+    let state = cbor_writer_state c.args.self.now in
+    opened_next (opening state.style.lengths (seen_handle c.args.label c.args.index) state.place state.in_key) (next_head c.args.major) state after_head c.write_next_head.result _ _ c.in_ok-open_handle.ensures c.write_next_head.ensures
