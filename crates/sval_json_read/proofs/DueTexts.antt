@@ -93,3 +93,8 @@ module _ (input : List ℕ) (calls : List Call) (r : IsReadText input calls) whe
     due = record { value = r.document.value; denotes = r.document.denotes; is = record { is_text = refl; reads_back = canon-reads_back (tree_of r.document.value) (printable few) } };
     writes = w;
   }
+
+  -- its script was written
+  pub writes_script : {K : Type 0} (told : K → Told) (old new : K) (result : Result (Unit {0}) SinkError) → length input < 2 ^ 64
+      → WritesAll result (told old) (canon (tree_of r.document.value)) (told new) → WritesDueText told input form.Calls result old new
+  writes_script told old new result few w = script_due few (text_written told old new (canon (tree_of r.document.value)) result w)

@@ -12,12 +12,12 @@ use Rattle.sval_json_read.specs.Calls.{Piece, run, piece_bytes, byte_before, uni
 abbrev pub pieces_text : List Piece → List ℕ
 pieces_text row = concat (map piece_bytes row)
 
-before_text : (byte : ℕ) (row : List Piece) → pieces_text (byte_before byte row) ≡ byte ∷ pieces_text row
+pub before_text : (byte : ℕ) (row : List Piece) → pieces_text (byte_before byte row) ≡ byte ∷ pieces_text row
 before_text byte [] = refl
 before_text byte (run bytes ∷ row) = refl
 before_text byte (part.escape bytes ∷ row) = refl
 
-plain_byte : (byte : ℕ) (bytes : List ℕ) → is_unescaped byte ≡ true → pieces (byte ∷ bytes) ≡ byte_before byte (pieces bytes)
+pub plain_byte : (byte : ℕ) (bytes : List ℕ) → is_unescaped byte ≡ true → pieces (byte ∷ bytes) ≡ byte_before byte (pieces bytes)
 plain_byte byte bytes h = let e : (byte == 92) ≡ false = grind (arith, nat_tests) in rw e refl
 
 pub short_escape : (letter byte : ℕ) (bytes : List ℕ) → escaped_byte letter ≡ Some byte → pieces (92 ∷ letter ∷ bytes) ≡ part.escape (byte ∷ []) ∷ pieces bytes
@@ -42,11 +42,11 @@ pair_after_is a b c d e f g h high low bytes p q r =
     ap (λ o. unit_escape o (code_unit e f g h)) p ∙ ap (λ o. unit_escape (Some high) o) r
     ∙ ap (λ b. cond b (let y : Escape = record { stands_for = encode_utf8 (pair_of high low); follow = 11 } in y) (record { stands_for = encode_utf8 high; follow = 5 })) q
 
-unit_piece : (a b c d u : ℕ) (bytes : List ℕ) → code_unit a b c d ≡ Some u → is_surrogate u ≡ false
+pub unit_piece : (a b c d u : ℕ) (bytes : List ℕ) → code_unit a b c d ≡ Some u → is_surrogate u ≡ false
     → pieces (92 ∷ 117 ∷ a ∷ b ∷ c ∷ d ∷ bytes) ≡ part.escape (encode_utf8 u) ∷ pieces bytes
 unit_piece a b c d u bytes e s = ap (λ (x : Escape). part.escape x.stands_for ∷ pieces_after x.follow (117 ∷ a ∷ b ∷ c ∷ d ∷ bytes)) (unit_after_is a b c d u bytes e s)
 
-pair_piece : (a b c d e f g h high low : ℕ) (bytes : List ℕ) → code_unit a b c d ≡ Some high → is_high_surrogate high ≡ true → code_unit e f g h ≡ Some low
+pub pair_piece : (a b c d e f g h high low : ℕ) (bytes : List ℕ) → code_unit a b c d ≡ Some high → is_high_surrogate high ≡ true → code_unit e f g h ≡ Some low
     → pieces (92 ∷ 117 ∷ a ∷ b ∷ c ∷ d ∷ 92 ∷ 117 ∷ e ∷ f ∷ g ∷ h ∷ bytes) ≡ part.escape (encode_utf8 (pair_of high low)) ∷ pieces bytes
 pair_piece a b c d e f g h high low bytes p q r =
     ap (λ (x : Escape). part.escape x.stands_for ∷ pieces_after x.follow (117 ∷ a ∷ b ∷ c ∷ d ∷ 92 ∷ 117 ∷ e ∷ f ∷ g ∷ h ∷ bytes)) (pair_after_is a b c d e f g h high low bytes p q r)

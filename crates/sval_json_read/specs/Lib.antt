@@ -38,3 +38,4 @@ pub mod TokenMarks
 pub mod NextCharacters
 pub mod TokenTexts
 pub mod TextParts
+pub mod TokenScripts

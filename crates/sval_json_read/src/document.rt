@@ -7,6 +7,7 @@ ghost use Rattle.sval_io.specs.Sinks.{WritesAll};
 ghost use Rattle.sval_json.specs.Grammar.{Denotes};
 ghost use Rattle.sval_json.specs.Json.{Json, compact};
 ghost use Rattle.sval_json.specs.Shape.{json_of};
+ghost use Rattle.sval_script.specs.Canon.{canon};
 ghost use Rattle.sval_json_read.specs.Calls.{document_calls};
 ghost use Rattle.sval_json_read.specs.SeenValues.{value_in};
 ghost use Rattle.sval_json_read.specs.Documents.{IsDocument};
@@ -24,6 +25,7 @@ use crate::json_ref::JsonRef;
 use crate::json_tokens::JsonTokens;
 use crate::node::Node;
 use crate::node_calls::stream_nodes;
+use crate::node_script::print_nodes;
 use crate::node_text::write_nodes;
 use crate::reader::Reader;
 pub use limited::LimitedError;
@@ -191,9 +193,27 @@ impl<'a> JsonDoc<'a> {
         write_nodes(self.text, self.nodes.as_slice(), out)
     }
 
-    /// How many nodes are kept of the text.
-    pub(crate) fn node_count(&self) -> usize {
-        self.nodes.len()
+    /// Writes the canonical script of the value, as `print_canon` of `sval_script` does of its captured calls: each string
+    /// comes in one fragment.
+    ///
+    /// It makes no calls and takes no memory.
+    ///
+    /// ```
+    /// let doc = JsonDoc::read_str(alloc, "[\"a\\n\"]")?;
+    /// let mut out = VecSink::new(alloc);
+    /// doc.write_script(&mut out)?;
+    /// let script = "seq_begin -\nseq_value_begin\ntext_begin 2\ntext_fragment =610a\ntext_end\nseq_value_end\nseq_end\n";
+    /// assert_eq!(rt; out.as_slice(), script.as_bytes());
+    /// ```
+    ///
+    /// # Errors
+    ///
+    /// Those of the sink. It took a first part of the script then, and not all.
+    pub fn write_script<K: Sink>(&self, out: &mut K) -> Result<(), SinkError>
+        ensures { (input : List ℕ) (document : IsDocument input self.now)
+            → WritesAll result (K.told out.old) (canon (tree_of document.value)) (K.told out.new) }
+    {
+        print_nodes(self.text, self.nodes.as_slice(), out)
     }
 }
 

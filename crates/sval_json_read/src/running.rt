@@ -3,9 +3,7 @@
 ghost use Rattle.std.specs.Prelude.{◌<◌, ◌^◌, ℕ, List, length, map, string_bytes};
 ghost use Rattle.sval_program.specs.Jobs.{ServesBytes, ServesInput, Serves};
 ghost use Rattle.sval_program.specs.Runs.{Ends, Reports};
-ghost use Rattle.sval_json_read.specs.Calls.{document_calls};
 ghost use Rattle.sval_json_read.specs.Documents.{IsDocument};
-ghost use Rattle.sval_json_read.specs.ReadErrors.{IsReadText};
 ghost use Rattle.sval_json_read.specs.Serves.{json_read_terms, WritesDueText};
 
 use crate::document::JsonDoc;
@@ -13,31 +11,17 @@ use crate::program::ReadJson;
 use std::alloc::Global;
 use sval_io::{Sink, SinkError, Source, read_input};
 use sval_program::job::run;
-use sval_program::{Failure, ReadForm, print_captured, read_form};
-
-/// Captures a document, and prints the canonical script of what it captured.
-fn print_script<K: Sink>(alloc: Global, doc: &JsonDoc<'_>, out: &mut K) -> Result<(), SinkError>
-    requires { (input : List ℕ) × IsReadText input (document_calls doc.now) × (length input < 2 ^ 64) }
-    ensures { (input : List ℕ) → IsReadText input (document_calls doc.now) → length input < 2 ^ 64
-        → WritesDueText K.told input ReadForm.Calls result out.old out.new }
-{
-    print_captured(alloc, doc.node_count(), doc, out)
-}
+use sval_program::{Failure, ReadForm, read_form};
 
 /// Writes what is asked for of a document.
-fn write_document<K: Sink>(
-    alloc: Global,
-    form: ReadForm,
-    doc: &JsonDoc<'_>,
-    out: &mut K,
-) -> Result<(), SinkError>
+fn write_document<K: Sink>(form: ReadForm, doc: &JsonDoc<'_>, out: &mut K) -> Result<(), SinkError>
     requires { (input : List ℕ) × IsDocument input doc.now × (length input < 2 ^ 64) }
     ensures { (input : List ℕ) → IsDocument input doc.now → length input < 2 ^ 64
         → WritesDueText K.told input form result out.old out.new }
 {
     match form {
         ReadForm::Json => doc.write_json(out),
-        ReadForm::Calls => print_script(alloc, doc, out),
+        ReadForm::Calls => doc.write_script(out),
     }
 }
 
@@ -52,7 +36,7 @@ fn serve_bytes<K: Sink>(
     ensures { ServesBytes json_read_terms K.told form bytes.now result out.old out.new }
 {
     let doc = JsonDoc::read(alloc, bytes)?;
-    Ok(write_document(alloc, form, &doc, out)?)
+    Ok(write_document(form, &doc, out)?)
 }
 
 /// Reads the input whole, and serves its bytes.
@@ -90,7 +74,7 @@ pub(crate) fn serve<I: Source, K: Sink>(
 /// The words are those after the program's name: one word, `json` or `calls`. The input is read to its end, at most
 /// 16,777,216 bytes and one more to see that there are too many, and as a text of JSON (RFC 8259). With `json` the JSON
 /// of the value that it denotes is written, without white space; it denotes the same value, with `0` for each number
-/// `-0`. With `calls` the canonical script of the value's calls is written, after it was captured. Where the status
+/// `-0`. With `calls` the canonical script of the value's calls is written. Where the status
 /// isn't 0, one line is written to `diag` that says why. Whatever `diag` answers, the status and what is left of the
 /// input and the output are such as [`work`](sval_program::job::work) may give, which has no `diag`.
 ///
