@@ -226,26 +226,15 @@ impl Reader {
         self.expected = Expected::AnItem;
     }
 
-    /// Ends the innermost array.
+    /// Ends the innermost array or map, with a node of this kind.
     #[inline(always)]
-    fn end_seq(&mut self, next: usize) -> Result<(), NoMemory>
+    fn end_parts(&mut self, end: Kind, next: usize) -> Result<(), NoMemory>
         ensures { IfOk result (λ done. EndsItem (around_frame self.old.opened) self.old
-            (item_node kind.EndSeq (item_place_in (around_frame self.old.opened)) self.old.at) next self.new) }
+            (item_node end (item_place_in (around_frame self.old.opened)) self.old.at) next self.new) }
     {
         self.opened.pop();
         let place = self.place();
-        self.end_item(Kind::EndSeq, place, self.at, next)
-    }
-
-    /// Ends the innermost map.
-    #[inline(always)]
-    fn end_map(&mut self, next: usize) -> Result<(), NoMemory>
-        ensures { IfOk result (λ done. EndsItem (around_frame self.old.opened) self.old
-            (item_node kind.EndMap (item_place_in (around_frame self.old.opened)) self.old.at) next self.new) }
-    {
-        self.opened.pop();
-        let place = self.place();
-        self.end_item(Kind::EndMap, place, self.at, next)
+        self.end_item(end, place, self.at, next)
     }
 
     /// Begins the next item of an array, or ends the array.
@@ -263,7 +252,7 @@ impl Reader {
                 self.begin_part(Frame::Items(left));
                 Ok(true)
             },
-            NextPart::End(next) => match self.end_seq(next) {
+            NextPart::End(next) => match self.end_parts(Kind::EndSeq, next) {
                 Ok(()) => Ok(true),
                 Err(error) => Err(error),
             },
@@ -285,7 +274,7 @@ impl Reader {
                 self.begin_part(Frame::Keys(left));
                 Ok(true)
             },
-            NextPart::End(next) => match self.end_map(next) {
+            NextPart::End(next) => match self.end_parts(Kind::EndMap, next) {
                 Ok(()) => Ok(true),
                 Err(error) => Err(error),
             },

@@ -19,7 +19,7 @@ returns-in-Another-clause-goes c =
 pub returns-in-Ok-clause-goes : goal.returns-in-Ok-clause-goes
 returns-in-Ok-clause-goes c =
     let opened = c.args.self.now.opened in
-    part_ends c.args.bytes.now c.args.self.now c.requires.is c.end_seq.new.self EndSeq c.in-End.next
+    part_ends c.args.bytes.now c.args.self.now c.requires.is c.end_parts.new.self EndSeq c.in-End.next
     (seq_ends c.args.left c.args.bytes.now c.args.self.now.at c.in-End.next opened c.requires.top.0 c.requires.top.1 c.in-End.ensures) refl refl tt refl
     (λ deepest nodes. seq_closes c.args.bytes.now c.args.self.now.at c.in-End.next c.args.left opened c.requires.top.0 deepest nodes c.requires.top.1
     (parts_end c.args.left c.args.bytes.now c.args.self.now.at c.in-End.next c.in-End.ensures)) c.in-End.ensures.2 c.in-Ok.ensures
