@@ -3,7 +3,7 @@
 ghost use Rattle.sval_cbor_read.specs.Serves.{cbor_read_terms};
 
 use crate::document::CborReadError;
-use crate::running::serve;
+use crate::running::serve_input;
 use std::alloc::Global;
 use sval_io::{Sink, Source};
 use sval_program::{Failure, Fault, Job, Line, read_form};
@@ -48,6 +48,9 @@ impl Job for ReadCbor {
         input: &mut I,
         out: &mut K,
     ) -> Result<(), Failure> {
-        serve(alloc, words, input, out)
+        match read_form(words) {
+            None => Err(Failure::Usage),
+            Some(form) => serve_input(alloc, form, input, out),
+        }
     }
 }

@@ -1,7 +1,7 @@
 //! The whole program, over any words and devices.
 
 ghost use Rattle.std.specs.Prelude.{◌<◌, ◌^◌, ℕ, List, length, map, string_bytes};
-ghost use Rattle.sval_program.specs.Jobs.{ServesBytes, ServesInput, Serves};
+ghost use Rattle.sval_program.specs.Jobs.{ServesBytes, ServesInput};
 ghost use Rattle.sval_program.specs.Runs.{Ends, Reports};
 ghost use Rattle.sval_cbor_read.specs.ReadErrors.{IsReadItem};
 ghost use Rattle.sval_cbor_read.specs.Serves.{cbor_read_terms, IsInMemory};
@@ -12,7 +12,7 @@ use std::alloc::Global;
 use sval_io::{Sink, SinkError, Source, read_input};
 use sval_json::{ErrorKind, stream_to_io_write};
 use sval_program::job::run;
-use sval_program::{Failure, Fault, ReadForm, print_captured, read_form};
+use sval_program::{Failure, Fault, ReadForm, print_captured};
 
 /// Writes the JSON of a document.
 fn write_json<K: Sink>(doc: &CborDoc<'_>, out: &mut K) -> Result<(), Failure>
@@ -73,7 +73,7 @@ fn serve_bytes<K: Sink>(
 }
 
 /// Reads the input whole, and serves its bytes.
-fn serve_input<I: Source, K: Sink>(
+pub(crate) fn serve_input<I: Source, K: Sink>(
     alloc: Global,
     form: ReadForm,
     input: &mut I,
@@ -83,22 +83,6 @@ fn serve_input<I: Source, K: Sink>(
 {
     let bytes = read_input(alloc, input)?;
     serve_bytes(alloc, form, bytes.as_slice(), out)
-}
-
-/// Serves the words, if they are a form.
-pub(crate) fn serve<I: Source, K: Sink>(
-    alloc: Global,
-    words: &[String],
-    input: &mut I,
-    out: &mut K,
-) -> Result<(), Failure>
-    ensures { Serves cbor_read_terms I.told K.told (map string_bytes words.now) result
-        input.old input.new out.old out.new }
-{
-    match read_form(words) {
-        None => Err(Failure::Usage),
-        Some(form) => serve_input(alloc, form, input, out),
-    }
 }
 
 /// Runs the program on its words, its devices and an allocator, and answers its status, one of those of
