@@ -583,6 +583,7 @@ fn scripts_that_are_written(rt: HostRuntime) -> Result<(), Fail> {
 }
 
 /// The lines of a container whose entries are all alike.
+#[derive(Clone, Copy)]
 struct Alike {
     begin: &'static str,
     entry: &'static str,
