@@ -34,9 +34,9 @@ pub enum CborReadError {
     /// a chunk or a break.
     Malformed { at: u64 },
     /// They are one well-formed item, but none of this profile. `at` is the offset of the head of a float, of a simple
-    /// value other than `false`, `true` and `null`, or of a text or a chunk that is not UTF-8. Where the tag 2 or 3
-    /// stands before something other than a byte string of a number of 128 bits, it is the offset of that tag, or one
-    /// in what stands behind it.
+    /// value other than `false`, `true` and `null`, or of a text or a chunk that is not UTF-8. Where the tag 2 or 3 is
+    /// not followed by a byte string of a number of 128 bits, it is the offset of what follows the tag, or that of a
+    /// chunk or a break in it.
     Unsupported { at: u64 },
     /// There was no memory for what is kept of them or for telling the other two apart, or something begins 2^48 bytes
     /// behind the first one.
@@ -199,7 +199,7 @@ fn read_item(alloc: Global, bytes: &[u8]) -> Result<(Vec<Node>, usize), Unread>
         match reader.step(bytes) {
             Ok(true) => {},
             Ok(false) => return Err(Unread::At(reader.at)),
-            Err(_) => return Err(Unread::NoMemory),
+            Err(cause) => return Err(Unread::from(cause)),
         }
     }
     let used = reader.at;

@@ -4,7 +4,7 @@ use crate::cases::try_cases;
 use crate::cbor::items::{Front, Read};
 use std::test::Fail;
 
-/// Floats, of which the first are those of the standard's appendix A.
+/// Floats: those of the standard's appendix A, and then some in arrays, in maps and under a tag.
 const FLOATS: &'static str = r#"
 f90000
 = error Unsupported { at: 0 }
@@ -192,7 +192,7 @@ c25f4101f7ff
 = error Malformed { at: 4 }
 "#;
 
-/// The same of the front of bytes: what is behind the first item tells nothing of it.
+/// Bytes whose front is read: what is behind the first item tells nothing of it.
 const FRONTS: &'static str = r#"
 f93c00ff
 = error unsupported CBOR at byte 0: a float, a simple value, invalid UTF-8 or an invalid bignum

@@ -6,6 +6,7 @@ ghost use Rattle.sval_cbor_read.specs.SeenUnread.{IsUnread};
 use super::CborReadError;
 use crate::well_formed::well_formed_end;
 use std::alloc::Global;
+use sval_core::NoMemory;
 
 /// Why no item was read from the front of bytes.
 #[derive(Clone, Copy)]
@@ -14,6 +15,17 @@ pub(crate) enum Unread {
     At(usize),
     /// There was no memory for what is kept of them.
     NoMemory,
+}
+
+impl From<NoMemory> for Unread {
+    ghost use Rattle.std.specs.Prelude.{◌≡◌};
+    ghost use Rattle.sval_cbor_read.specs.declared.document.unread.Unread.TheVariants as unread;
+
+    ghost from_gives = { λ _ why. why ≡ unread.NoMemory };
+
+    fn from(_cause: NoMemory) -> Unread {
+        Unread::NoMemory
+    }
 }
 
 /// The error of bytes that are not one item, whole and with nothing behind it.
@@ -33,7 +45,7 @@ pub(crate) fn whole_error(alloc: Global, bytes: &[u8], why: Unread) -> CborReadE
             CborReadError::Unsupported { at }
         },
         Ok(None) => CborReadError::Malformed { at },
-        Err(_) => CborReadError::NoMemory,
+        Err(cause) => CborReadError::from(cause),
     }
 }
 
@@ -50,6 +62,6 @@ pub(crate) fn front_error(alloc: Global, bytes: &[u8], why: Unread) -> CborReadE
     match well_formed_end(alloc, bytes) {
         Ok(Some(_)) => CborReadError::Unsupported { at },
         Ok(None) => CborReadError::Malformed { at },
-        Err(_) => CborReadError::NoMemory,
+        Err(cause) => CborReadError::from(cause),
     }
 }

@@ -26,7 +26,7 @@ returns-in-Ok-false-clause-err c =
     stuck_is_bad c.args.bytes.now (spot_of c.args.bytes.now c.loop-reader.reader) _ c.loop-reader.invariant.reached on.goes on.within
 
 pub returns-in-Err-clause-err : goal.returns-in-Err-clause-err
-returns-in-Err-clause-err c = makes_some c.args.bytes.now (spot_of c.args.bytes.now c.loop-reader.reader) c.loop-reader.invariant.reached c.in-Err.ensures.no_memory
+returns-in-Err-clause-err c = rw c.from.ensures (makes_some c.args.bytes.now (spot_of c.args.bytes.now c.loop-reader.reader) c.loop-reader.invariant.reached c.in-Err.ensures.no_memory)
 
 pub returns-clause-front : goal.returns-clause-front
 returns-clause-front c = front_is c.args.bytes.now c.loop-reader.reader c.loop-reader-test.ensures c.loop-reader.invariant.reached c.loop-reader.invariant.within
