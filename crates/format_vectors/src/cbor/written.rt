@@ -575,7 +575,8 @@ map_end
 #[test]
 fn scripts_that_are_written(rt: HostRuntime) -> Result<(), Fail> {
     for table in [
-        EXAMPLES, MAPS, WIDE, BINARIES, DEFINITE, NUMBERS, TEXTS, VARIANTS, NOT_WHOLE, RAW, NO_VALUE,
+        EXAMPLES, MAPS, WIDE, BINARIES, DEFINITE, NUMBERS, TEXTS, VARIANTS, NOT_WHOLE, RAW,
+        NO_VALUE,
     ] {
         try_cases::<Written>(&rt, rt.alloc(), table)?;
     }
@@ -609,7 +610,13 @@ const ENTRIES: Alike = Alike {
 };
 
 /// A text, this many times another, and a third text.
-fn repeated(alloc: Global, first: &str, middle: &str, count: u16, last: &str) -> Result<String, Fail> {
+fn repeated(
+    alloc: Global,
+    first: &str,
+    middle: &str,
+    count: u16,
+    last: &str,
+) -> Result<String, Fail> {
     let mut text = String::from_str(alloc, first)?;
     for _ in 0..count {
         text.push_str(middle)?;
