@@ -2,7 +2,7 @@
 
 ghost use Rattle.sval_cbor.specs.Serves.{cbor_terms};
 
-use crate::running::{named_form, serve};
+use crate::running::{named_form, serve_input};
 use std::alloc::Global;
 use sval_io::{Sink, Source};
 use sval_program::{Failure, Job, Line};
@@ -30,6 +30,9 @@ impl Job for WriteCbor {
         input: &mut I,
         out: &mut K,
     ) -> Result<(), Failure> {
-        serve(alloc, words, input, out)
+        match named_form(words) {
+            None => Err(Failure::Usage),
+            Some(()) => serve_input(alloc, input, out),
+        }
     }
 }

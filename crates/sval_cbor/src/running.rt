@@ -2,7 +2,7 @@
 
 ghost use Rattle.std.specs.Prelude.{◌≡◌, ℕ, List, true, false, Some, is_some, map, string_bytes};
 ghost use Rattle.sval_core.specs.Values.{makes};
-ghost use Rattle.sval_program.specs.Jobs.{ServesBytes, ServesInput, Serves};
+ghost use Rattle.sval_program.specs.Jobs.{ServesBytes, ServesInput};
 ghost use Rattle.sval_program.specs.Runs.{Ends, Reports};
 ghost use Rattle.sval_program.specs.Verdict.{Whole};
 ghost use Rattle.sval_script.specs.Lines.{lines, Good};
@@ -82,7 +82,11 @@ fn write_script<K: Sink>(alloc: Global, script: &Script, out: &mut K) -> Result<
 }
 
 /// Reads the input whole, and serves it as a script.
-fn serve_input<I: Source, K: Sink>(alloc: Global, input: &mut I, out: &mut K) -> Result<(), Failure>
+pub(crate) fn serve_input<I: Source, K: Sink>(
+    alloc: Global,
+    input: &mut I,
+    out: &mut K,
+) -> Result<(), Failure>
     ensures { ServesInput cbor_terms I.told K.told tt result input.old input.new out.old out.new }
 {
     let reader = read_script(alloc, input)?;
@@ -97,22 +101,6 @@ pub(crate) fn named_form(words: &[String]) -> Option<()>
     match words {
         [] => Some(()),
         _ => None,
-    }
-}
-
-/// Serves the words, if they are a form.
-pub(crate) fn serve<I: Source, K: Sink>(
-    alloc: Global,
-    words: &[String],
-    input: &mut I,
-    out: &mut K,
-) -> Result<(), Failure>
-    ensures { Serves cbor_terms I.told K.told (map string_bytes words.now) result
-        input.old input.new out.old out.new }
-{
-    match named_form(words) {
-        None => Err(Failure::Usage),
-        Some(()) => serve_input(alloc, input, out),
     }
 }
 
