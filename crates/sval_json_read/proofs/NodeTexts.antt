@@ -1,15 +1,11 @@
 -- The JSON of nodes that is written piece by piece.
-use Rattle.std.specs.Prelude.{◌≡◌, ℕ, ◌+◌, ◌<◌, ◌≤◌, Bool, true, false, not, ◌||◌, ◌==◌, nat_lt, List, [], ◌∷◌, ◌++◌, Result, Ok, Err, map, length, drop, take, get_or, refl}
-use Rattle.std.specs.List.{between, concat, list_all, AllPass}
+use Rattle.std.specs.Prelude.{◌≡◌, ℕ, ◌+◌, ◌<◌, Bool, true, List, [], ◌∷◌, ◌++◌, Result, Ok, Err, map, length, drop, get_or, refl}
+use Rattle.std.specs.List.{between, concat, list_all}
 use Rattle.std.proofs.Common.{sym, ap, subst, ◌∙◌, append_assoc, append-nil, arith}
-use Rattle.std.proofs.lemmas.Bool.{and_parts}
-use Rattle.std.proofs.lemmas.List.{take_all}
-use Rattle.std.proofs.lemmas.List.Sums.{list_all-from_AllPass}
 use Rattle.sval_io.specs.Sinks.{Told, WritesWhole, WritesFront, WritesAll}
 use Rattle.sval_io.specs.declared.sink.SinkError.{SinkError}
 use Rattle.sval_io.proofs.Appending.{writes_nothing, writes_both, stops_after}
-use Rattle.sval_json.specs.Escape.{escaped, is_plain}
-use Rattle.sval_json.proofs.EscapedPieces.{escaped_whole}
+use Rattle.sval_json.specs.Escape.{escaped}
 use Rattle.sval_json.proofs.Texts.{escaped-append}
 use Rattle.sval_json_read.specs.Calls.{Piece, piece_bytes, pieces}
 use Rattle.sval_json_read.specs.RawStrings.{is_no_backslash}
@@ -55,31 +51,12 @@ pub next_piece_text : (raw behind : List ℕ) (piece : Piece) → pieces raw ≡
 next_piece_text raw behind piece e =
     ap (λ row. escaped (concat (map piece_bytes row))) e ∙ escaped-append (piece_bytes piece) (text_in behind)
 
-last_bit : (a b c : Bool) → not ((a || b) || c) ≡ true → not c ≡ true
-last_bit true true c h = cc h
-last_bit true false c h = cc h
-last_bit false true c h = cc h
-last_bit false false c h = h
-
-no_backslashes : (bytes : List ℕ) → list_all is_plain bytes ≡ true → list_all is_no_backslash bytes ≡ true
-no_backslashes [] h = refl
-no_backslashes (byte ∷ bytes) h =
-    let (p, q) = and_parts (is_plain byte) (list_all is_plain bytes) h in
-    let here : is_no_backslash byte ≡ true = last_bit (nat_lt byte 32) (byte == 34) (byte == 92) p in
-    rw (here, no_backslashes bytes q) refl
-
 pub one_run_text : (raw : List ℕ) → list_all is_no_backslash raw ≡ true → text_in raw ≡ raw
 one_run_text [] h = refl
 one_run_text (byte ∷ bytes) h =
     ap text_in (sym (append-nil (byte ∷ bytes)))
     ∙ ap (λ row. concat (map piece_bytes row)) (pieces-run byte bytes [] h refl)
     ∙ append-nil (byte ∷ bytes)
-
--- bytes that need no escape stand for themselves
-pub plain_text : (raw : List ℕ) (n : ℕ) → length raw ≤ n → AllPass is_plain (take n raw) → raw ≡ escaped (text_in raw)
-plain_text raw n end plain =
-    let all : AllPass is_plain raw = subst (AllPass is_plain) (take_all n raw end) plain in
-    sym (ap escaped (one_run_text raw (no_backslashes raw (list_all-from_AllPass is_plain raw all))) ∙ escaped_whole raw n end plain)
 
 -- ---- node by node
 

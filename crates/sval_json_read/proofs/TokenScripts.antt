@@ -28,7 +28,8 @@ use Rattle.sval_json_read.specs.Tokens.{Place, Alone, Item, Key, Value, Token, P
 use Rattle.sval_json_read.specs.Trees.{fits_i64, whole_value, number_name, number_tree, tree_of, items_of, entries_of}
 use Rattle.sval_json_read.specs.declared.node.Node.{Node}
 use Rattle.sval_json_read.proofs.NodeStreams.{here}
-use Rattle.sval_json_read.proofs.NodeTexts.{IsWrittenUpTo, up_to_begin, up_to_next, up_to_end, stops_in_next}
+use Rattle.sval_json_read.specs.TextParts.{IsWrittenUpTo}
+use Rattle.sval_json_read.proofs.NodeTexts.{up_to_begin, up_to_next, up_to_end, stops_in_next}
 use Rattle.sval_json_read.proofs.PieceTexts.{pieces_text, before_text, plain_byte, short_escape, unit_piece, pair_piece, pieces-text}
 
 -- ---- the calls of the tokens are those of the tree

@@ -10,6 +10,7 @@ ghost use Rattle.sval_json_read.specs.RawStrings.{IsRaw};
 ghost use Rattle.sval_json_read.specs.SeenNodes.{node_place, seen_node, IsKeptOf, AreKeptOf};
 ghost use Rattle.sval_json_read.specs.SeenPieces.{seen_piece};
 ghost use Rattle.sval_json_read.specs.SeenValues.{text_in};
+ghost use Rattle.sval_json_read.specs.TextParts.{IsPlainPart};
 ghost use Rattle.sval_json_read.specs.TokenTexts.{begins_container, comma_at, colon_behind, placed_text, tokens_text};
 ghost use Rattle.sval_json_read.specs.Trees.{settled_number};
 
@@ -17,7 +18,7 @@ use crate::node::{Node, Place};
 use crate::piece::{Piece, first_piece};
 use crate::text_part::TextPart;
 use sval_io::{Sink, SinkError, write_all, write_in_place};
-use sval_json::escape::{first_escape, write_escaped};
+use sval_json::escape::write_escaped;
 
 /// Writes the text of a run or of an escape, with the escapes that it needs.
 fn write_piece<K: Sink>(piece: Piece<'_>, out: &mut K) -> Result<(), SinkError>
@@ -250,13 +251,14 @@ impl Place {
         }
     }
 
-    /// Writes the string from `from` up to `to` with all that is due around it. A string without an escape is one
-    /// piece, as it was read, if the bytes around it are what is due.
+    /// Writes the string from `from` up to `to` with all that is due around it. A string in the plain part is one piece,
+    /// as it was read, if the bytes around it are what is due.
     #[inline(always)]
     fn write_text<K: Sink>(
         self,
         is_first: bool,
         text: &str,
+        plain: TextPart,
         from: usize,
         to: usize,
         out: &mut K,
@@ -265,13 +267,13 @@ impl Place {
         requires begin { IsCharBoundary text.now from }
         requires end { IsCharBoundary text.now to }
         requires raw { IsRaw (between from to text.now) }
+        requires plain { IsPlainPart text.now plain }
         ensures { WritesAll result (K.told out.old) (comma_at is_first (node_place self)
             ++ (in_quotes (escaped (text_in (between from to text.now))) ++ colon_behind (node_place self)))
             (K.told out.new) }
     {
-        let raw = &text[from..to];
-        if first_escape(raw.as_bytes()) < raw.len() {
-            return self.write_text_with_escape(is_first, raw, out);
+        if from < plain.from || plain.to < to {
+            return self.write_text_with_escape(is_first, &text[from..to], out);
         }
         self.write_plain_text(is_first, text.as_bytes(), from, to, out)
     }
@@ -289,15 +291,17 @@ impl Node {
         }
     }
 
-    /// Writes it behind its comma, from the text of the document.
+    /// Writes it behind its comma, from the text of the document. No backslash is in the plain part of that.
     #[inline(always)]
     pub(crate) fn write<K: Sink>(
         self,
         text: &str,
+        plain: TextPart,
         is_first: bool,
         out: &mut K,
     ) -> Result<(), SinkError>
-        requires { IsKeptOf text.now self }
+        requires kept { IsKeptOf text.now self }
+        requires plain { IsPlainPart text.now plain }
         ensures { WritesAll result (K.told out.old) (placed_text is_first (placed_in text.now (seen_node self)))
             (K.told out.new) }
     {
@@ -309,7 +313,7 @@ impl Node {
                 place.write_number(is_first, text, from, from + length as usize, out)
             },
             Node::Text(place, length, from) => {
-                place.write_text(is_first, text, from, from + length as usize, out)
+                place.write_text(is_first, text, plain, from, from + length as usize, out)
             },
             Node::BeginArray(place) => place.write_word(is_first, b",[", out),
             Node::EndArray(_) => write_in_place(out, b"]"),

@@ -254,7 +254,7 @@ impl Node {
             });
         }
         write_all(out, &text.as_bytes()[pending.from..pending.to])?;
-        self.write(text, is_first, out)?;
+        self.write(text, plain, is_first, out)?;
         let next = self.next_place(text, pending.to);
         Ok(TextPart {
             from: next,

@@ -4,7 +4,7 @@ use denote.Shadow.{shadow}
 use Rattle.hex.specs.Hex.{encode_lower}
 use Rattle.sval_json_read.specs.RawStrings.{IsRaw}
 use Rattle.sval_json_read.specs.SeenValues.{text_in}
-use Rattle.sval_json_read.proofs.NodeTexts.{IsWrittenUpTo}
+use Rattle.sval_json_read.specs.TextParts.{IsWrittenUpTo}
 use Rattle.sval_json_read.proofs.node_script.write_text_hex.Given as goal
 
 -- what is left is text, and the digits of all before it were written
