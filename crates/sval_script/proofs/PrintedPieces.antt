@@ -1,5 +1,5 @@
 -- A line that is written piece by piece.
-use Rattle.std.specs.Prelude.{◌≡◌, ◌⊎◌, ℕ, ◌-◌, ◌/◌, ◌%◌, true, false, List, [], ◌∷◌, ◌++◌, Option, Result, Ok, Err, length, slice_index, take, drop, refl}
+use Rattle.std.specs.Prelude.{◌≡◌, ◌⊎◌, ℕ, ◌-◌, ◌/◌, ◌%◌, true, false, List, [], ◌∷◌, ◌++◌, Option, Some, Result, Ok, Err, length, slice_index, take, drop, refl}
 use Rattle.std.specs.List.{join_with_byte}
 use Rattle.std.proofs.Common.{sym, ap, ◌∙◌, subst, inl, inr, append_assoc, append-nil}
 use Rattle.std.proofs.lemmas.List.{take-append-drop, take_rest}
@@ -11,6 +11,7 @@ use Rattle.sval_label.specs.declared.grouped.Head as made
 use Rattle.sval_label.specs.declared.grouped.Head.TheVariants as made_head
 use Rattle.sval_label.specs.Grouped.{seen_head}
 use Rattle.sval_io.specs.declared.sink.SinkError.{SinkError}
+use Rattle.sval_io.specs.Filled.{Filled, filled_told}
 use Rattle.sval_io.specs.Sinks.{Told, WritesWhole, WritesFront, WritesAll}
 use Rattle.sval_io.proofs.Appending.{writes_nothing, writes_both, stops_after}
 use Rattle.sval_script.specs.Printed.{size_field, hint_text, name_fields, words_of, line}
@@ -24,6 +25,13 @@ stops_first {old} xs ys e f = stops_after [] xs ys (writes_nothing old) e f
 pub goes_on : {old mid : Told} (new : Told) (r : Result (Unit {0}) SinkError) {all : List ℕ} (xs ys : List ℕ) → all ≡ xs ++ ys → WritesWhole old xs mid → WritesAll r mid ys new → WritesAll r old all new
 goes_on {old} new (Ok done) xs ys e w v = subst (λ all. WritesWhole old all new) (sym e) (writes_both xs ys w v)
 goes_on new (Err why) xs ys e w v = stops_after xs ys [] w (e ∙ ap (λ more. xs ++ more) (sym (append-nil ys))) v
+
+-- what an empty buffer has taken is all that it has
+pub joined_is : (old new : Filled) (bytes : List ℕ) → old.bytes ≡ [] → WritesWhole (filled_told old) bytes (filled_told new) → new.bytes ≡ bytes
+joined_is old new bytes e w =
+    let told : Some new.bytes ≡ Some (old.bytes ++ bytes) = w.appends.text in
+    let same : new.bytes ≡ old.bytes ++ bytes = cc told in
+    same ∙ ap (λ taken. taken ++ bytes) e
 
 -- ---- fields and words
 

@@ -15,9 +15,9 @@ ghost use Rattle.sval_script.specs.Printing.{Printing, PrintsLine, last_error, p
 use crate::print_error::PrintError;
 use crate::printer::fields::write_fields;
 use crate::printer::known::knows_tags;
-use crate::printer::words::word;
+use crate::printer::words::{bare_line, word};
 use sval_core::{Call, Error, GroupedCall, Lent, Stream};
-use sval_io::{Sink, SinkError, write_all};
+use sval_io::{FixedSink, Sink, SinkError, write_all, write_in_place};
 
 /// A stream that writes each call as its line of a script, with a line feed.
 ///
@@ -69,14 +69,33 @@ impl<K: Sink> Printer<K> {
     }
 }
 
-/// Writes the line of a call.
-fn write_line<K: Sink>(sink: &mut K, call: GroupedCall<'_, &str, &[u8]>) -> Result<(), SinkError>
+/// How many bytes of a line are joined on the stack at most.
+const ROOM: usize = 128;
+
+/// Writes the line of a call, piece by piece.
+fn write_pieces<K: Sink>(sink: &mut K, call: GroupedCall<'_, &str, &[u8]>) -> Result<(), SinkError>
     ensures { let said = grouped_call (λ text. text.now) (λ bytes. bytes.now) call.entry in
         WritesAll result (K.told sink.old) (whole_line said) (K.told sink.new) }
 {
     write_all(sink, word(call))?;
     write_fields(sink, call)?;
     write_all(sink, b"\n")
+}
+
+/// Writes the line of a call, as one piece where it is short.
+fn write_line<K: Sink>(sink: &mut K, call: GroupedCall<'_, &str, &[u8]>) -> Result<(), SinkError>
+    ensures { let said = grouped_call (λ text. text.now) (λ bytes. bytes.now) call.entry in
+        WritesAll result (K.told sink.old) (whole_line said) (K.told sink.new) }
+{
+    if let Some(line) = bare_line(call) {
+        return write_in_place(sink, line);
+    }
+    let mut buffer = [0; ROOM];
+    let mut joined = FixedSink::new(&mut buffer);
+    match write_pieces(&mut joined, call) {
+        Ok(()) => write_in_place(sink, joined.as_slice()),
+        Err(_) => write_pieces(sink, call),
+    }
 }
 
 /// Writes the line of a call, if each of its tags is one of the ten.

@@ -11,7 +11,7 @@ use sval_core::Index;
 use sval_io::{Sink, SinkError, write_all};
 
 /// How many bytes become digits at once.
-const PIECE: usize = 32;
+const PIECE: usize = 64;
 
 /// Puts the hex digits of some bytes at the front of an array, and gives them.
 fn encode<'a>(bytes: &[u8], digits: &'a mut [u8]) -> &'a [u8]
@@ -25,7 +25,7 @@ fn encode<'a>(bytes: &[u8], digits: &'a mut [u8]) -> &'a [u8]
 
 /// Writes a few bytes in hex.
 fn write_piece<K: Sink>(sink: &mut K, bytes: &[u8]) -> Result<(), SinkError>
-    requires { length bytes.now ≤ 32 }
+    requires { length bytes.now ≤ 64 }
     ensures { WritesAll result (K.told sink.old) (encode_lower bytes.now) (K.told sink.new) }
 {
     let mut digits = [0u8; 2 * PIECE];

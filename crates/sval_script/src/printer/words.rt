@@ -1,10 +1,10 @@
 //! The words that lines begin with.
 
-ghost use Rattle.std.specs.Prelude.{◌≡◌, None};
+ghost use Rattle.std.specs.Prelude.{◌≡◌, ◌++◌, None, IfSome, codes};
 ghost use Rattle.sval_label.specs.Calls as call;
 ghost use Rattle.sval_label.specs.Grouped.{grouped_call, int_type, seen_head, seen_slot};
 ghost use Rattle.sval_script.specs.Printed as line;
-ghost use Rattle.sval_script.specs.Printing.{word_of};
+ghost use Rattle.sval_script.specs.Printing.{fields_of, spaced, word_of};
 
 use sval_core::{Fragment, GroupedCall, Head, Int, Slot};
 
@@ -106,5 +106,50 @@ pub(crate) fn word(call: GroupedCall<'_, &str, &[u8]>) -> &'static [u8]
         GroupedCall::End(head) => head_end_word(head),
         GroupedCall::PartBegin(slot) => part_begin_word(slot),
         GroupedCall::PartEnd(slot) => part_end_word(slot),
+    }
+}
+
+/// The line of a part's begin that has no name.
+fn part_begin_line(slot: Slot) -> Option<&'static [u8]>
+    ensures { let said = call.PartBegin (seen_slot slot.entry) in
+        IfSome result (λ line. line.now ≡ word_of said ++ (spaced (fields_of said) ++ codes "\n")) }
+{
+    match slot {
+        Slot::Item => Some(b"seq_value_begin\n"),
+        Slot::Key => Some(b"map_key_begin\n"),
+        Slot::Value => Some(b"map_value_begin\n"),
+        Slot::Field(_, _) | Slot::Place(_, _) | Slot::FieldPlace(_, _, _) => None,
+    }
+}
+
+/// The line of a part's end that has no name.
+fn part_end_line(slot: Slot) -> Option<&'static [u8]>
+    ensures { let said = call.PartEnd (seen_slot slot.entry) in
+        IfSome result (λ line. line.now ≡ word_of said ++ (spaced (fields_of said) ++ codes "\n")) }
+{
+    match slot {
+        Slot::Item => Some(b"seq_value_end\n"),
+        Slot::Key => Some(b"map_key_end\n"),
+        Slot::Value => Some(b"map_value_end\n"),
+        Slot::Field(_, _) | Slot::Place(_, _) | Slot::FieldPlace(_, _, _) => None,
+    }
+}
+
+/// The line of a call whose line is the same whatever the call holds, with its line feed.
+pub(crate) fn bare_line(call: GroupedCall<'_, &str, &[u8]>) -> Option<&'static [u8]>
+    ensures { let said = grouped_call (λ text. text.now) (λ bytes. bytes.now) call.entry in
+        IfSome result (λ line. line.now ≡ word_of said ++ (spaced (fields_of said) ++ codes "\n")) }
+{
+    match call {
+        GroupedCall::Null => Some(b"null\n"),
+        GroupedCall::TextEnd => Some(b"text_end\n"),
+        GroupedCall::BinaryEnd => Some(b"binary_end\n"),
+        GroupedCall::Begin(Head::Seq, None) => Some(b"seq_begin -\n"),
+        GroupedCall::Begin(Head::Map, None) => Some(b"map_begin -\n"),
+        GroupedCall::End(Head::Seq) => Some(b"seq_end\n"),
+        GroupedCall::End(Head::Map) => Some(b"map_end\n"),
+        GroupedCall::PartBegin(slot) => part_begin_line(slot),
+        GroupedCall::PartEnd(slot) => part_end_line(slot),
+        _ => None,
     }
 }

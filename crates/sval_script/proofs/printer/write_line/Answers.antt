@@ -1,28 +1,18 @@
-use Rattle.std.proofs.Common.{rules, [], ◌∷◌, ◌++◌, Err, refl}
+use Rattle.std.proofs.Common.{refl, rules, sym, ◌∙◌, subst}
 use Rattle.sval_label.specs.Grouped.{grouped_call}
-use Rattle.sval_script.specs.Printing.{spaced, fields_of}
-use Rattle.sval_script.proofs.PrintedPieces.{goes_on, stops_first, line_split}
+use Rattle.sval_io.specs.Sinks.{WritesAll}
+use Rattle.sval_script.specs.Printing.{word_of, whole_line}
+use Rattle.sval_script.proofs.PrintedPieces.{line_split, joined_is}
 use Rattle.sval_script.proofs.printer.write_line.Goals as goal
 
-pub returns-in_err-write_all : goal.returns-in_err-write_all
-returns-in_err-write_all g c =
+pub returns-in-Some : goal.returns-in-Some
+returns-in-Some g c =
     let call = grouped_call (λ text. text.now) (λ bytes. bytes.now) c.args.call in
-    let piece = c.word.result.now in
-    let stops = stops_first piece (spaced (fields_of call) ++ (10 ∷ [])) (line_split call piece c.word.ensures) c.in_err-write_all.ensures.writes in search rules
+    subst (λ bytes. WritesAll c.write_in_place.result (g.K.Sink.told c.args.sink.now) bytes (g.K.Sink.told c.write_in_place.new.sink))
+    (c.in-Some.ensures ∙ sym (line_split call (word_of call) refl)) c.write_in_place.ensures.writes
 
-pub returns-in_err-write_fields : goal.returns-in_err-write_fields
-returns-in_err-write_fields g c =
+pub returns-in-Ok : goal.returns-in-Ok
+returns-in-Ok g c =
     let call = grouped_call (λ text. text.now) (λ bytes. bytes.now) c.args.call in
-    let piece = c.word.result.now in
-    let fields = spaced (fields_of call) in
-    let stops = stops_first fields (10 ∷ []) refl c.in_err-write_fields.ensures in
-    let all = goes_on _ (Err c.in_err-write_fields.field-0.0) piece (fields ++ (10 ∷ [])) (line_split call piece c.word.ensures) c.in_ok-write_all.ensures.writes stops in search rules
-
-pub returns : goal.returns
-returns g c =
-    let call = grouped_call (λ text. text.now) (λ bytes. bytes.now) c.args.call in
-    let piece = c.word.result.now in
-    let fields = spaced (fields_of call) in
-    let r = c.write_all-2.result in
-    let later = goes_on _ r fields (10 ∷ []) refl c.in_ok-write_fields.ensures c.write_all-2.ensures.writes in
-    goes_on _ r piece (fields ++ (10 ∷ [])) (line_split call piece c.word.ensures) c.in_ok-write_all.ensures.writes later
+    subst (λ bytes. WritesAll c.write_in_place-in-Ok.result (g.K.Sink.told c.args.sink.now) bytes (g.K.Sink.told c.write_in_place-in-Ok.new.sink))
+    (c.as_slice.ensures ∙ joined_is c.new-joined.result c.write_pieces.new.sink (whole_line call) (search rules) c.in-Ok.ensures) c.write_in_place-in-Ok.ensures.writes
