@@ -188,47 +188,41 @@ one_piece f end xs (p ∷ []) behind rest one apart e =
     (append-nil p ∙ sym (one xs p head), tail)
 one_piece f end xs (p ∷ q ∷ ps) behind rest one apart e = let head : end ≡ f q = cc e in absurd (apart q (sym head))
 
+-- a text or a binary that comes whole
+whole_begins : (begin : Option ℕ → Call) (fragment : Bool → List ℕ → Call) (end : Call) (due calls later rest : List Call) (size : Option ℕ) (content bytes : List ℕ) (pieces : List (List ℕ))
+    → (first : IsFirst due calls (begin size) (map (fragment false) pieces ++ (end ∷ rest))) → first.seen ≡ begin size → size ≡ Some (length content) → concat pieces ≡ bytes → AreExactFrom due later
+    → canonical_calls (begin size ∷ first.later) ≡ begin size ∷ fragment true content ∷ end ∷ canonical_calls later → plain first.later ≡ fragment false content ∷ end ∷ plain later
+    → ((a b : List ℕ) → fragment false a ≡ fragment false b → a ≡ b) → ((a : List ℕ) → fragment false a ≡ end → ⊥)
+    → Begins due calls rest (λ tail. begin (Some (length bytes)) ∷ fragment true bytes ∷ end ∷ tail)
+unfolding printed
+whole_begins begin fragment end due calls later rest size content bytes pieces first origin sized whole exact shown kept one apart =
+    let same = one_piece (fragment false) end content pieces (plain later) rest one apart (sym kept ∙ first.plain_later) in
+    let is : content ≡ bytes = sym same.0 ∙ whole in
+    let are : canonical_calls calls ≡ begin (Some (length bytes)) ∷ fragment true bytes ∷ end ∷ canonical_calls later =
+    first.same ∙ ap (λ seen. canonical_calls (seen ∷ first.later)) origin ∙ shown ∙ ap (λ size. begin size ∷ fragment true content ∷ end ∷ canonical_calls later) sized
+    ∙ ap (λ bytes. begin (Some (length bytes)) ∷ fragment true bytes ∷ end ∷ canonical_calls later) is in
+    record {
+      later = later;
+      plain_later = same.1;
+      exact = exact;
+      prints = λ tail e. ap printed are ∙ ap (λ lines. whole_line (begin (Some (length bytes))) ++ (whole_line (fragment true bytes) ++ (whole_line end ++ lines))) e;
+    }
+
 text_begins : (due calls rest : List Call) (bytes : List ℕ) (size : Option ℕ) (pieces : List (List ℕ)) → concat pieces ≡ bytes
     → plain calls ≡ call.TextBegin size ∷ map (call.TextFragment false) pieces ++ call.TextEnd ∷ rest → AreExactFrom due calls → Begins due calls rest (calls_then (Text bytes))
 text_begins due calls rest bytes size pieces whole e exact =
     let first = first_of due calls (call.TextBegin size) (map (call.TextFragment false) pieces ++ (call.TextEnd ∷ rest)) e exact in
-    let here : AreExactFrom due (call.TextBegin size ∷ first.later) = subst (λ seen. AreExactFrom due (seen ∷ first.later)) first.origin first.exact in
-    let text = here.0 in
-    let one = one_piece (call.TextFragment false) call.TextEnd text.bytes pieces (plain text.later) rest (λ a b same. cc same) (λ a same. cc same) (sym (ap plain text.are) ∙ first.plain_later) in
-    let is : text.bytes ≡ bytes = sym one.0 ∙ whole in
-    let sized : size ≡ Some (length bytes) = text.has_size ∙ ap (λ bytes. Some (length bytes)) is in
-    record {
-      later = text.later;
-      plain_later = one.1;
-      exact = subst (AreExactFrom due) text.are here.1;
-      prints = λ tail printed_later.
-          let same : canonical_calls calls ≡ call.TextBegin size ∷ canonical_calls first.later = first.same ∙ ap (λ seen. canonical_calls (seen ∷ first.later)) first.origin in
-          let fragment : canonical_calls first.later ≡ call.TextFragment true text.bytes ∷ canonical_calls (call.TextEnd ∷ text.later) = ap canonical_calls text.are in
-          let end = one_line (call.TextEnd ∷ text.later) text.later call.TextEnd call.TextEnd tail refl refl printed_later in
-          let middle = one_line first.later (call.TextEnd ∷ text.later) (call.TextFragment true text.bytes) (call.TextFragment true bytes) (call.TextEnd ∷ tail) fragment (ap (λ bytes. line (call.TextFragment true bytes)) is) end in
-          one_line calls first.later (call.TextBegin size) (call.TextBegin (Some (length bytes))) (call.TextFragment true bytes ∷ call.TextEnd ∷ tail) same (ap (λ size. line (call.TextBegin size)) sized) middle;
-    }
+    let (text, behind) = subst (λ seen. AreExactFrom due (seen ∷ first.later)) first.origin first.exact in
+    whole_begins call.TextBegin call.TextFragment call.TextEnd due calls text.later rest size text.bytes bytes pieces first first.origin text.has_size whole (subst (AreExactFrom due) text.are behind)
+    (ap (λ later. canonical_calls (call.TextBegin size ∷ later)) text.are) (ap plain text.are) (λ a b same. cc same) (λ a same. cc same)
 
 binary_begins : (due calls rest : List Call) (bytes : List ℕ) (size : Option ℕ) (pieces : List (List ℕ)) → concat pieces ≡ bytes
     → plain calls ≡ call.BinaryBegin size ∷ map (call.BinaryFragment false) pieces ++ call.BinaryEnd ∷ rest → AreExactFrom due calls → Begins due calls rest (calls_then (Binary bytes))
 binary_begins due calls rest bytes size pieces whole e exact =
     let first = first_of due calls (call.BinaryBegin size) (map (call.BinaryFragment false) pieces ++ (call.BinaryEnd ∷ rest)) e exact in
-    let here : AreExactFrom due (call.BinaryBegin size ∷ first.later) = subst (λ seen. AreExactFrom due (seen ∷ first.later)) first.origin first.exact in
-    let binary = here.0 in
-    let one = one_piece (call.BinaryFragment false) call.BinaryEnd binary.bytes pieces (plain binary.later) rest (λ a b same. cc same) (λ a same. cc same) (sym (ap plain binary.are) ∙ first.plain_later) in
-    let is : binary.bytes ≡ bytes = sym one.0 ∙ whole in
-    let sized : size ≡ Some (length bytes) = binary.has_size ∙ ap (λ bytes. Some (length bytes)) is in
-    record {
-      later = binary.later;
-      plain_later = one.1;
-      exact = subst (AreExactFrom due) binary.are here.1;
-      prints = λ tail printed_later.
-          let same : canonical_calls calls ≡ call.BinaryBegin size ∷ canonical_calls first.later = first.same ∙ ap (λ seen. canonical_calls (seen ∷ first.later)) first.origin in
-          let fragment : canonical_calls first.later ≡ call.BinaryFragment true binary.bytes ∷ canonical_calls (call.BinaryEnd ∷ binary.later) = ap canonical_calls binary.are in
-          let end = one_line (call.BinaryEnd ∷ binary.later) binary.later call.BinaryEnd call.BinaryEnd tail refl refl printed_later in
-          let middle = one_line first.later (call.BinaryEnd ∷ binary.later) (call.BinaryFragment true binary.bytes) (call.BinaryFragment true bytes) (call.BinaryEnd ∷ tail) fragment (ap (λ bytes. line (call.BinaryFragment true bytes)) is) end in
-          one_line calls first.later (call.BinaryBegin size) (call.BinaryBegin (Some (length bytes))) (call.BinaryFragment true bytes ∷ call.BinaryEnd ∷ tail) same (ap (λ size. line (call.BinaryBegin size)) sized) middle;
-    }
+    let (binary, behind) = subst (λ seen. AreExactFrom due (seen ∷ first.later)) first.origin first.exact in
+    whole_begins call.BinaryBegin call.BinaryFragment call.BinaryEnd due calls binary.later rest size binary.bytes bytes pieces first first.origin binary.has_size whole (subst (AreExactFrom due) binary.are behind)
+    (ap (λ later. canonical_calls (call.BinaryBegin size ∷ later)) binary.are) (ap plain binary.are) (λ a b same. cc same) (λ a same. cc same)
 
 -- ---- what a begin and its end hold
 
@@ -236,33 +230,15 @@ binary_begins due calls rest bytes size pieces whole e exact =
 abbrev Closes : List Call → Call → Call → Type 0
 Closes due end kept = (seen : Call) (later : List Call) → Origin kept seen → AreExactFrom (end ∷ due) (seen ∷ later) → (seen ≡ end) × AreExactFrom due later
 
-enum_closes : (due : List Call) (name kept : Name) → Closes due (call.EnumEnd name) (call.EnumEnd kept)
-enum_closes due name kept seen later (other, is) exact =
-    let (outer, same, rest) = subst (λ seen. AreExactFrom (call.EnumEnd name ∷ due) (seen ∷ later)) is exact in
-    let one : other ≡ name = cc same in
+closes : {X : Type 0} (end_of : X → Call) (due : List Call) (it : X) (kept : Call) → ((seen : Call) → Origin kept seen → (other : X) × (seen ≡ end_of other))
+    → ((other : X) (later : List Call) → AreExactFrom (end_of it ∷ due) (end_of other ∷ later) → (outer : List Call) × (end_of it ∷ due ≡ end_of other ∷ outer) × AreExactFrom outer later)
+    → Closes due (end_of it) kept
+closes end_of due it kept origin here seen later is_origin exact =
+    let (other, is) = origin seen is_origin in
+    let (outer, same, rest) = here other later (subst (λ seen. AreExactFrom (end_of it ∷ due) (seen ∷ later)) is exact) in
+    let one : end_of other ≡ end_of it = cc same in
     let outside : outer ≡ due = cc same in
-    (is ∙ ap call.EnumEnd one, subst (λ due. AreExactFrom due later) outside rest)
-
-tagged_closes : (due : List Call) (name kept : Name) → Closes due (call.TaggedEnd name) (call.TaggedEnd kept)
-tagged_closes due name kept seen later (other, is) exact =
-    let (outer, same, rest) = subst (λ seen. AreExactFrom (call.TaggedEnd name ∷ due) (seen ∷ later)) is exact in
-    let one : other ≡ name = cc same in
-    let outside : outer ≡ due = cc same in
-    (is ∙ ap call.TaggedEnd one, subst (λ due. AreExactFrom due later) outside rest)
-
-container_closes : (due : List Call) (head kept : Head) → Closes due (call.End head) (call.End kept)
-container_closes due head kept seen later (other, is) exact =
-    let (outer, same, rest) = subst (λ seen. AreExactFrom (call.End head ∷ due) (seen ∷ later)) is exact in
-    let one : other ≡ head = cc same in
-    let outside : outer ≡ due = cc same in
-    (is ∙ ap call.End one, subst (λ due. AreExactFrom due later) outside rest)
-
-part_closes : (due : List Call) (slot kept : Slot) → Closes due (call.PartEnd slot) (call.PartEnd kept)
-part_closes due slot kept seen later (other, is) exact =
-    let (outer, same, rest) = subst (λ seen. AreExactFrom (call.PartEnd slot ∷ due) (seen ∷ later)) is exact in
-    let one : other ≡ slot = cc same in
-    let outside : outer ≡ due = cc same in
-    (is ∙ ap call.PartEnd one, subst (λ due. AreExactFrom due later) outside rest)
+    (is ∙ one, subst (λ due. AreExactFrom due later) outside rest)
 
 -- a begin, what it holds, and its end
 wrapped : (due calls inner rest : List Call) (kept begin shown wanted kept_end end wanted_end : Call) (made : List Call → List Call) (first : IsFirst due calls kept inner) → first.seen ≡ begin
@@ -306,7 +282,7 @@ mutual
       let inside : AreExactFrom (call.TaggedEnd seen ∷ due) first.later = subst (λ seen. AreExactFrom due (seen ∷ first.later)) is first.exact in
       let held = tree_begins tree (call.TaggedEnd seen ∷ due) first.later (end ∷ rest) (subst (λ calls. Says tree calls (end ∷ rest)) (sym first.plain_later) says) inside in
       wrapped due calls inner rest (call.TaggedBegin name) (call.TaggedBegin seen) (call.TaggedBegin seen) (call.TaggedBegin name) end (call.TaggedEnd seen) (call.TaggedEnd name) (calls_then tree) first is refl
-      (named_line (codes "tagged_begin") call.TaggedBegin (λ name. refl) seen name kept) refl (named_line (codes "tagged_end") call.TaggedEnd (λ name. refl) seen name kept) (tagged_closes due seen (bare_name name)) held
+      (named_line (codes "tagged_begin") call.TaggedBegin (λ name. refl) seen name kept) refl (named_line (codes "tagged_end") call.TaggedEnd (λ name. refl) seen name kept) (closes call.TaggedEnd due seen end (λ seen is. is) (λ other later exact. exact)) held
   tree_begins (EmptyEnum name) due calls rest e exact =
       let end = call.EnumEnd (bare_name name) in
       let first = first_of due calls (call.EnumBegin name) (end ∷ rest) e exact in
@@ -314,7 +290,7 @@ mutual
       let inside : AreExactFrom (call.EnumEnd seen ∷ due) first.later = subst (λ seen. AreExactFrom due (seen ∷ first.later)) is first.exact in
       let held : Begins (call.EnumEnd seen ∷ due) first.later (end ∷ rest) (λ tail. tail) = record { later = first.later; plain_later = first.plain_later; exact = inside; prints = λ tail e. e } in
       wrapped due calls (end ∷ rest) rest (call.EnumBegin name) (call.EnumBegin seen) (call.EnumBegin seen) (call.EnumBegin name) end (call.EnumEnd seen) (call.EnumEnd name) (λ tail. tail) first is refl
-      (named_line (codes "enum_begin") call.EnumBegin (λ name. refl) seen name kept) refl (named_line (codes "enum_end") call.EnumEnd (λ name. refl) seen name kept) (enum_closes due seen (bare_name name)) held
+      (named_line (codes "enum_begin") call.EnumBegin (λ name. refl) seen name kept) refl (named_line (codes "enum_end") call.EnumEnd (λ name. refl) seen name kept) (closes call.EnumEnd due seen end (λ seen is. is) (λ other later exact. exact)) held
   tree_begins (Enum name tree) due calls rest (inner, e, says) exact =
       let first = first_of due calls (call.EnumBegin name) inner e exact in
       let (seen, is, kept) = first.origin in
@@ -322,7 +298,7 @@ mutual
       let inside : AreExactFrom (call.EnumEnd seen ∷ due) first.later = subst (λ seen. AreExactFrom due (seen ∷ first.later)) is first.exact in
       let held = tree_begins tree (call.EnumEnd seen ∷ due) first.later (end ∷ rest) (subst (λ calls. Says tree calls (end ∷ rest)) (sym first.plain_later) says) inside in
       wrapped due calls inner rest (call.EnumBegin name) (call.EnumBegin seen) (call.EnumBegin seen) (call.EnumBegin name) end (call.EnumEnd seen) (call.EnumEnd name) (calls_then tree) first is refl
-      (named_line (codes "enum_begin") call.EnumBegin (λ name. refl) seen name kept) refl (named_line (codes "enum_end") call.EnumEnd (λ name. refl) seen name kept) (enum_closes due seen (bare_name name)) held
+      (named_line (codes "enum_begin") call.EnumBegin (λ name. refl) seen name kept) refl (named_line (codes "enum_end") call.EnumEnd (λ name. refl) seen name kept) (closes call.EnumEnd due seen end (λ seen is. is) (λ other later exact. exact)) held
   tree_begins (Container head parts) due calls rest (size, inner, sized, e, says) exact =
       let first = first_of due calls (call.Begin head size) inner e exact in
       let (seen, is, kept) = first.origin in
@@ -330,7 +306,7 @@ mutual
       let inside : AreExactFrom (call.End seen ∷ due) first.later = subst (λ seen. AreExactFrom due (seen ∷ first.later)) is first.exact in
       let held = parts_begin parts (call.End seen ∷ due) first.later (end ∷ rest) (subst (λ calls. SayParts parts calls (end ∷ rest)) (sym first.plain_later) says) inside in
       wrapped due calls inner rest (call.Begin head size) (call.Begin seen size) (call.Begin seen None) (call.Begin head None) end (call.End seen) (call.End head) (part_calls_then parts) first is refl
-      (begin_line seen head kept) refl (end_line seen head kept) (container_closes due seen (bare_head head)) held
+      (begin_line seen head kept) refl (end_line seen head kept) (closes call.End due seen end (λ seen is. is) (λ other later exact. exact)) held
 
   parts_begin : (parts : Parts) (due calls rest : List Call) → SayParts parts (plain calls) rest → AreExactFrom due calls → Begins due calls rest (part_calls_then parts)
   parts_begin none due calls rest says exact = record { later = calls; plain_later = says; exact = exact; prints = λ tail e. e }
@@ -341,7 +317,7 @@ mutual
       let inside : AreExactFrom (call.PartEnd seen ∷ due) first.later = subst (λ seen. AreExactFrom due (seen ∷ first.later)) is first.exact in
       let held = tree_begins tree (call.PartEnd seen ∷ due) first.later (end ∷ after) (subst (λ calls. Says tree calls (end ∷ after)) (sym first.plain_later) says) inside in
       let one = wrapped due calls inner after (call.PartBegin slot) (call.PartBegin seen) (call.PartBegin seen) (call.PartBegin slot) end (call.PartEnd seen) (call.PartEnd slot) (calls_then tree) first is refl
-      (part_begin_line seen slot kept) refl (part_end_line seen slot kept) (part_closes due seen (bare_slot slot)) held in
+      (part_begin_line seen slot kept) refl (part_end_line seen slot kept) (closes call.PartEnd due seen end (λ seen is. is) (λ other later exact. exact)) held in
       let others = parts_begin parts due one.later rest (subst (λ calls. SayParts parts calls rest) (sym one.plain_later) say_parts) one.exact in
       record {
         later = others.later;
