@@ -47,7 +47,7 @@ pub passes_digits : (bytes : List ℕ) (at n : ℕ) (reader : Reader) (phase : P
     → AllPass is_ascii_digit (take n (drop at bytes)) → after_bytes (seen_state bytes at reader) (take n (drop at bytes)) ≡ Some (seen_state bytes (at + n) reader)
 passes_digits bytes at n reader phase e t le digits =
     let opened = reader.opened in
-    let tokens = tokens_in bytes (map seen_node reader.nodes.items) in
+    let tokens = tokens_in bytes (map seen_node reader.nodes) in
     let read = between reader.from at bytes in
     let run = take n (drop at bytes) in
     let before : seen_state bytes at reader ≡ in_number opened tokens phase read = ap (λ x. at_state (expected_of bytes reader.from at x) opened tokens) e in
@@ -93,7 +93,7 @@ module _ (bytes : List ℕ) (from : ℕ) (opened : List Opened) (tokens : List P
 pub passes_spaces : (bytes : List ℕ) (at n : ℕ) (reader : Reader) → skips_spaces reader.expected ≡ true → AllPass is_space (take n (drop at bytes))
     → after_bytes (seen_state bytes at reader) (take n (drop at bytes)) ≡ Some (seen_state bytes (at + n) reader)
 passes_spaces bytes at n reader t spaces =
-    let tokens = tokens_in bytes (map seen_node reader.nodes.items) in
+    let tokens = tokens_in bytes (map seen_node reader.nodes) in
     let run = take n (drop at bytes) in
     space_steps bytes reader.from reader.opened tokens reader.expected t at run (list_all-from_AllPass is_space run spaces)
     ∙ ap (λ x. Some x) (same_upto bytes reader.from reader.opened tokens reader.expected t at (at + n))

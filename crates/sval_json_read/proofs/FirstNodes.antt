@@ -83,9 +83,9 @@ module _ {bytes : List ℕ} {nodes : List Node} (a : AreOfValue bytes nodes) whe
       go (node.Bool p b) e = absurd (n p b e)
       go (node.Number p size from) e = ap json_truth_of (begins a e)
       go (node.Text p size from) e = ap json_truth_of (begins a e)
-      go (node.BeginArray p) e = ap json_truth_of (begins a e).1
+      go (node.BeginArray p held) e = ap json_truth_of (begins a e).1
       go (node.EndArray p) e = absurd (begins a e)
-      go (node.BeginObject p) e = ap json_truth_of (begins a e).1
+      go (node.BeginObject p held) e = ap json_truth_of (begins a e).1
       go (node.EndObject p) e = absurd (begins a e)
 
   pub no_number : ((p : made_place.Place) (size from : ℕ) → get_or nodes 0 (node.Null place.Alone) ≡ node.Number p size from → ⊥)
@@ -97,9 +97,9 @@ module _ {bytes : List ℕ} {nodes : List Node} (a : AreOfValue bytes nodes) whe
       go (node.Bool p b) e = ap json_number_of (begins a e)
       go (node.Number p size from) e = absurd (n p size from e)
       go (node.Text p size from) e = ap json_number_of (begins a e)
-      go (node.BeginArray p) e = ap json_number_of (begins a e).1
+      go (node.BeginArray p held) e = ap json_number_of (begins a e).1
       go (node.EndArray p) e = absurd (begins a e)
-      go (node.BeginObject p) e = ap json_number_of (begins a e).1
+      go (node.BeginObject p held) e = ap json_number_of (begins a e).1
       go (node.EndObject p) e = absurd (begins a e)
 
 -- ---- numbers
@@ -139,7 +139,7 @@ no_fit_i128 text f = rw f refl
 -- ---- arrays and objects
 
 module _ {bytes : List ℕ} {nodes : List Node} (a : AreOfValue bytes nodes) where
-  pub no_items : ((p : made_place.Place) → get_or nodes 0 (node.Null place.Alone) ≡ node.BeginArray p → ⊥) → items_of (value_in (tokens_in bytes (map seen_node nodes))) ≡ None
+  pub no_items : ((p : made_place.Place) (held : ℕ) → get_or nodes 0 (node.Null place.Alone) ≡ node.BeginArray p held → ⊥) → items_of (value_in (tokens_in bytes (map seen_node nodes))) ≡ None
   no_items n = go (get_or nodes 0 (node.Null place.Alone)) refl
     where
       go : (first : Node) → get_or nodes 0 (node.Null place.Alone) ≡ first → items_of (value_in (tokens_in bytes (map seen_node nodes))) ≡ None
@@ -147,12 +147,12 @@ module _ {bytes : List ℕ} {nodes : List Node} (a : AreOfValue bytes nodes) whe
       go (node.Bool p b) e = ap items_of (begins a e)
       go (node.Number p size from) e = ap items_of (begins a e)
       go (node.Text p size from) e = ap items_of (begins a e)
-      go (node.BeginArray p) e = absurd (n p e)
+      go (node.BeginArray p held) e = absurd (n p held e)
       go (node.EndArray p) e = absurd (begins a e)
-      go (node.BeginObject p) e = ap items_of (begins a e).1
+      go (node.BeginObject p held) e = ap items_of (begins a e).1
       go (node.EndObject p) e = absurd (begins a e)
 
-  pub no_members : ((p : made_place.Place) → get_or nodes 0 (node.Null place.Alone) ≡ node.BeginObject p → ⊥) → members_of (value_in (tokens_in bytes (map seen_node nodes))) ≡ None
+  pub no_members : ((p : made_place.Place) (held : ℕ) → get_or nodes 0 (node.Null place.Alone) ≡ node.BeginObject p held → ⊥) → members_of (value_in (tokens_in bytes (map seen_node nodes))) ≡ None
   no_members n = go (get_or nodes 0 (node.Null place.Alone)) refl
     where
       go : (first : Node) → get_or nodes 0 (node.Null place.Alone) ≡ first → members_of (value_in (tokens_in bytes (map seen_node nodes))) ≡ None
@@ -160,7 +160,7 @@ module _ {bytes : List ℕ} {nodes : List Node} (a : AreOfValue bytes nodes) whe
       go (node.Bool p b) e = ap members_of (begins a e)
       go (node.Number p size from) e = ap members_of (begins a e)
       go (node.Text p size from) e = ap members_of (begins a e)
-      go (node.BeginArray p) e = ap members_of (begins a e).1
+      go (node.BeginArray p held) e = ap members_of (begins a e).1
       go (node.EndArray p) e = absurd (begins a e)
-      go (node.BeginObject p) e = absurd (n p e)
+      go (node.BeginObject p held) e = absurd (n p held e)
       go (node.EndObject p) e = absurd (begins a e)

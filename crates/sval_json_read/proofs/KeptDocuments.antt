@@ -13,6 +13,7 @@ use Rattle.sval_json_read.specs.Nodes.{token_in, tokens_in}
 use Rattle.sval_json_read.specs.Documents.{IsDocument}
 use Rattle.sval_json_read.specs.RawStrings.{IsProperToken, AreProperTokens}
 use Rattle.sval_json_read.specs.SeenNodes.{seen_node, StandsIn, IsCutFrom, AreKeptOf}
+use Rattle.sval_json_read.specs.NodeCounts.{AreCounted}
 use Rattle.sval_json_read.specs.ReadErrors.{IsReadText}
 use Rattle.sval_json.specs.Grammar.{Denotes}
 use Rattle.sval_json_read.specs.Calls.{document_calls}
@@ -67,9 +68,9 @@ cut_one bytes (node.Null place) u s p = tt
 cut_one bytes (node.Bool place value) u s p = tt
 cut_one bytes (node.Number place size from) u s p = number_cut bytes from size u s p
 cut_one bytes (node.Text place size from) u s p = s
-cut_one bytes (node.BeginArray place) u s p = tt
+cut_one bytes (node.BeginArray place held) u s p = tt
 cut_one bytes (node.EndArray place) u s p = tt
-cut_one bytes (node.BeginObject place) u s p = tt
+cut_one bytes (node.BeginObject place held) u s p = tt
 cut_one bytes (node.EndObject place) u s p = tt
 
 cut_all : (bytes : List ℕ) (nodes : List Node) → IsUtf8 bytes → AllByRecursion (StandsIn bytes) nodes → AreProperTokens (tokens_in bytes (map seen_node nodes)) → AreKeptOf bytes nodes
@@ -82,12 +83,12 @@ document-kept bytes denoting nodes u s d = cut_all bytes nodes u s (document-tok
 pub root-is : {bytes : List ℕ} {tokens : List Placed} (d : IsDocument bytes tokens) → IsOfValue tokens d.value
 root-is d = subst (λ row. IsOfValue row d.value) (sym d.same) (alone d.denotes.is_value)
 
-pub kept-document : (bytes denoting : List ℕ) (nodes : List Node) → IsUtf8 bytes → AllByRecursion (StandsIn bytes) nodes → IsDocument denoting (tokens_in bytes (map seen_node nodes)) → IsKeptDocument bytes nodes
-kept-document bytes denoting nodes u s d = record { kept = document-kept bytes denoting nodes u s d; denoting = denoting; document = d }
+pub kept-document : (bytes denoting : List ℕ) (nodes : List Node) → IsUtf8 bytes → AllByRecursion (StandsIn bytes) nodes → AreCounted nodes → IsDocument denoting (tokens_in bytes (map seen_node nodes)) → IsKeptDocument bytes nodes
+kept-document bytes denoting nodes u s c d = record { kept = document-kept bytes denoting nodes u s d; counted = c; denoting = denoting; document = d }
 
 -- and they are those of a value, which the calls spell
 pub root-nodes : (bytes : List ℕ) (nodes : List Node) → IsKeptDocument bytes nodes → AreOfValue bytes nodes
-root-nodes bytes nodes k = record { kept = k.kept; value = k.document.value; is_of = root-is k.document }
+root-nodes bytes nodes k = record { kept = k.kept; counted = k.counted; value = k.document.value; is_of = root-is k.document }
 
 -- which is the one that the bytes denote
 pub document-denotes : (bytes : List ℕ) (tokens : List Placed) → IsDocument bytes tokens → Denotes bytes (value_in tokens)

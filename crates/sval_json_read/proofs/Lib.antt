@@ -26,6 +26,7 @@ pub mod FrontsOfBytes
 pub mod ParsedNumbers
 pub mod RawStrings
 pub mod KeptNodes
+pub mod NodeCounts
 pub mod EscapePlaces
 pub mod ExtendedPieces
 pub mod WritableTrees

@@ -19,6 +19,7 @@ use Rattle.sval_json_read.specs.ValueNodes.{IsOfValue, item, of_pair, IsOfValues
 use Rattle.sval_json_read.proofs.PieceTexts.{pieces-text}
 use Rattle.sval_json_read.proofs.SpanTokens.{token_span, span-tokens, value-span}
 use Rattle.sval_json_read.proofs.SeenValues.{value-seen, values-seen, members-seen}
+use Rattle.sval_json_read.proofs.NodeCounts.{counted_front, counted_behind}
 use Rattle.sval_json_read.proofs.InnerNodes.{tokens_within, tokens_behind, tokens_length, kept_front, kept_behind}
 
 front_of : {A : Type 0} (xs ys : List A) → take (length xs) (xs ++ ys) ≡ xs
@@ -97,8 +98,8 @@ first_item bytes nodes a s =
     let behind = subst (λ tokens. IsOfValues tokens parts.others) (sym (more_tokens bytes nodes parts.value parts.more parts.leads)) parts.are_of in
     record {
       within = span_within bytes nodes parts.value parts.more parts.leads;
-      first = record { kept = kept_front bytes n nodes a.kept; value = parts.value; is_of = front };
-      behind = record { kept = kept_behind bytes n nodes a.kept; values = parts.others; are_of = behind };
+      first = record { kept = kept_front bytes n nodes a.kept; counted = counted_front n nodes a.counted; value = parts.value; is_of = front };
+      behind = record { kept = kept_behind bytes n nodes a.kept; counted = counted_behind n nodes a.counted; values = parts.others; are_of = behind };
       is = ap values_listed (values-seen a.are_of ∙ parts.is) ∙ ap (λ v. v ∷ values_listed parts.others) (sym (value-seen front)) ∙ ap (λ vs. value_in (tokens_in bytes (map seen_node (take n nodes))) ∷ values_listed vs) (sym (values-seen behind));
     }
 
@@ -169,8 +170,8 @@ first_pair bytes nodes raw a s k =
     let same_raw : parts.raw ≡ raw = same_key (sym parts.first_is ∙ k) in
     record {
       within = span_within bytes (drop 1 nodes) parts.value parts.more parts.leads;
-      first = record { kept = kept_front bytes n (drop 1 nodes) (kept_behind bytes 1 nodes a.kept); value = parts.value; is_of = front };
-      behind = record { kept = kept_behind bytes n (drop 1 nodes) (kept_behind bytes 1 nodes a.kept); members = parts.others; are_of = behind };
+      first = record { kept = kept_front bytes n (drop 1 nodes) (kept_behind bytes 1 nodes a.kept); counted = counted_front n (drop 1 nodes) (counted_behind 1 nodes a.counted); value = parts.value; is_of = front };
+      behind = record { kept = kept_behind bytes n (drop 1 nodes) (kept_behind bytes 1 nodes a.kept); counted = counted_behind n (drop 1 nodes) (counted_behind 1 nodes a.counted); members = parts.others; are_of = behind };
       is = ap paired (members-seen a.are_of ∙ parts.is ∙ ap (λ r. json.a_member (text_in r) parts.value parts.others) same_raw)
           ∙ ap (λ v. record { name = text_in raw; value = v } ∷ paired parts.others) (sym (value-seen front))
           ∙ ap (λ ms. record { name = text_in raw; value = value_in (tokens_in bytes (map seen_node (take n (drop 1 nodes)))) } ∷ paired ms) (sym (members-seen behind));
@@ -200,7 +201,7 @@ a_key_first bytes nodes a s n = go nodes (pair_parts bytes nodes _ a.members ref
     go (node.Bool p b ∷ row) e n = absurd (cc e)
     go (node.Number p size from ∷ row) e n = absurd (cc e)
     go (node.Text p size from ∷ row) e n = n p size from refl
-    go (node.BeginArray p ∷ row) e n = absurd (cc e)
+    go (node.BeginArray p held ∷ row) e n = absurd (cc e)
     go (node.EndArray p ∷ row) e n = absurd (cc e)
-    go (node.BeginObject p ∷ row) e n = absurd (cc e)
+    go (node.BeginObject p held ∷ row) e n = absurd (cc e)
     go (node.EndObject p ∷ row) e n = absurd (cc e)

@@ -113,31 +113,31 @@ module _ {bytes : List ℕ} {nodes : List Node} (a : AreOfValue bytes nodes) (in
       ap (λ tokens. document_calls (by_itself tokens)) parts.same ∙ container-calls parts.place begin end (tokens_in bytes (map seen_node inner)) first last f g
       ∙ ap (λ calls. first ∷ (calls ++ (last ∷ []))) (sym (streamed-calls bytes (map seen_node inner)))
 
-  pub array-calls : (p : made_place.Place) → get_or nodes 0 (node.Null place.Alone) ≡ node.BeginArray p
+  pub array-calls : (p : made_place.Place) (held : ℕ) → get_or nodes 0 (node.Null place.Alone) ≡ node.BeginArray p held
       → document_calls (by_itself (tokens_in bytes (map seen_node nodes))) ≡ Call.Begin Head.Seq None ∷ (streamed bytes (map seen_node inner) ++ (Call.End Head.Seq ∷ []))
-  array-calls p e =
-      let parts = subst (λ row. StandsBetween bytes nodes row token.BeginArray token.EndArray) (sym same) (array_tokens bytes nodes a p e (some_nodes bytes nodes a)) in
+  array-calls p held e =
+      let parts = subst (λ row. StandsBetween bytes nodes row token.BeginArray token.EndArray) (sym same) (array_tokens bytes nodes a p held e (some_nodes bytes nodes a)) in
       between-calls token.BeginArray token.EndArray (Call.Begin Head.Seq None) (Call.End Head.Seq) parts refl refl
 
-  pub object-calls : (p : made_place.Place) → get_or nodes 0 (node.Null place.Alone) ≡ node.BeginObject p
+  pub object-calls : (p : made_place.Place) (held : ℕ) → get_or nodes 0 (node.Null place.Alone) ≡ node.BeginObject p held
       → document_calls (by_itself (tokens_in bytes (map seen_node nodes))) ≡ Call.Begin Head.Map None ∷ (streamed bytes (map seen_node inner) ++ (Call.End Head.Map ∷ []))
-  object-calls p e =
-      let parts = subst (λ row. StandsBetween bytes nodes row token.BeginObject token.EndObject) (sym same) (object_tokens bytes nodes a p e (some_nodes bytes nodes a)) in
+  object-calls p held e =
+      let parts = subst (λ row. StandsBetween bytes nodes row token.BeginObject token.EndObject) (sym same) (object_tokens bytes nodes a p held e (some_nodes bytes nodes a)) in
       between-calls token.BeginObject token.EndObject (Call.Begin Head.Map None) (Call.End Head.Map) parts refl refl
 
-not-begin : (bytes : List ℕ) (one : Node) → ((p : made_place.Place) → one ≡ node.BeginArray p → ⊥) → ((p : made_place.Place) → one ≡ node.BeginObject p → ⊥)
+not-begin : (bytes : List ℕ) (one : Node) → ((p : made_place.Place) (held : ℕ) → one ≡ node.BeginArray p held → ⊥) → ((p : made_place.Place) (held : ℕ) → one ≡ node.BeginObject p held → ⊥)
     → begins_nothing (token_in bytes (seen_node one).kept)
 not-begin bytes (node.Null p) n o = tt
 not-begin bytes (node.Bool p b) n o = tt
 not-begin bytes (node.Number p size from) n o = tt
 not-begin bytes (node.Text p size from) n o = tt
-not-begin bytes (node.BeginArray p) n o = n p refl
+not-begin bytes (node.BeginArray p held) n o = n p held refl
 not-begin bytes (node.EndArray p) n o = tt
-not-begin bytes (node.BeginObject p) n o = o p refl
+not-begin bytes (node.BeginObject p held) n o = o p held refl
 not-begin bytes (node.EndObject p) n o = tt
 
-pub single-calls : (bytes : List ℕ) (nodes : List Node) (d : Node) → AreOfValue bytes nodes → ((p : made_place.Place) → get_or nodes 0 d ≡ node.BeginArray p → ⊥)
-    → ((p : made_place.Place) → get_or nodes 0 d ≡ node.BeginObject p → ⊥)
+pub single-calls : (bytes : List ℕ) (nodes : List Node) (d : Node) → AreOfValue bytes nodes → ((p : made_place.Place) (held : ℕ) → get_or nodes 0 d ≡ node.BeginArray p held → ⊥)
+    → ((p : made_place.Place) (held : ℕ) → get_or nodes 0 d ≡ node.BeginObject p held → ⊥)
     → document_calls (by_itself (tokens_in bytes (map seen_node nodes))) ≡ token_own_calls (token_in bytes (seen_node (get_or nodes 0 d)).kept)
 single-calls bytes [] d a n o = let l = some_nodes bytes [] a in absurd (omega (arith, l))
 single-calls bytes (one ∷ nodes) d a n o =

@@ -55,7 +55,7 @@ pub passes_over : (bytes : List ℕ) (at n : ℕ) (reader : Reader) (is_key : Bo
     → after_bytes (seen_state bytes at reader) (take n (drop at bytes)) ≡ Some (seen_state bytes (at + n) reader)
 passes_over bytes at n reader is_key e le plain =
     let opened = reader.opened in
-    let tokens = tokens_in bytes (map seen_node reader.nodes.items) in
+    let tokens = tokens_in bytes (map seen_node reader.nodes) in
     let read = between reader.from at bytes in
     let run = take n (drop at bytes) in
     let before : seen_state bytes at reader ≡ in_string is_key opened tokens read = ap (λ x. at_state (expected_of bytes reader.from at x) opened tokens) e in

@@ -11,6 +11,8 @@ pub mod Laws
 pub mod SeenOpened
 pub mod Words
 pub mod SeenNodes
+pub mod NodeSpans
+pub mod NodeCounts
 pub mod SeenReader
 pub mod ReadErrors
 pub mod Outlines
@@ -26,7 +28,6 @@ pub mod NodeCalls
 pub mod Serves
 pub mod SeenValues
 pub mod Lookups
-pub mod NodeSpans
 pub mod ValueNodes
 pub mod SeenParts
 pub mod Pointers

@@ -26,9 +26,9 @@ seen_node (node.Null place) = placed_node place nodes.Null
 seen_node (node.Bool place value) = placed_node place (nodes.Truth value)
 seen_node (node.Number place length from) = placed_node place (nodes.Number from (from + length))
 seen_node (node.Text place length from) = placed_node place (nodes.Text from (from + length))
-seen_node (node.BeginArray place) = placed_node place nodes.BeginArray
+seen_node (node.BeginArray place count) = placed_node place nodes.BeginArray
 seen_node (node.EndArray place) = placed_node place nodes.EndArray
-seen_node (node.BeginObject place) = placed_node place nodes.BeginObject
+seen_node (node.BeginObject place count) = placed_node place nodes.BeginObject
 seen_node (node.EndObject place) = placed_node place nodes.EndObject
 
 -- a number ends within the bytes, and a string begins and ends with whole characters

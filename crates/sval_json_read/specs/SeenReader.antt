@@ -17,7 +17,8 @@ use Rattle.sval_json_read.specs.Nodes.{tokens_in}
 use Rattle.sval_json_read.specs.Numbers as numbers
 use Rattle.sval_json_read.specs.Strings as strings
 use Rattle.sval_json_read.specs.Reader as machine
-use Rattle.sval_json_read.specs.SeenOpened.{opened_of}
+use Rattle.sval_json_read.specs.SeenOpened.{opened_of, around_container}
+use Rattle.sval_json_read.specs.NodeCounts.{begin_of, end_of}
 use Rattle.sval_json_read.specs.SeenNodes.{node_place, seen_node, StandsIn}
 use Rattle.sval_json_read.specs.Words.{expected_word}
 
@@ -67,7 +68,7 @@ abbrev pub seen_state : List ℕ → ℕ → Reader → machine.ReaderState
 seen_state bytes upto reader = record {
   expected = expected_of bytes reader.from upto reader.expected;
   opened = reader.opened;
-  tokens = tokens_in bytes (map seen_node reader.nodes.items);
+  tokens = tokens_in bytes (map seen_node reader.nodes);
 }
 
 -- what the machine gives for a byte is what the answer says: the byte was taken and the state is this, or it wasn't
@@ -97,16 +98,25 @@ pub record AddsNode (old : Reader) (node : Node) (expected : made_expected.Expec
   pub expected_is : new.expected ≡ expected
   pub from_is : new.from ≡ old.from
   pub opened_is : new.opened ≡ old.opened
-  pub nodes_are : new.nodes.items ≡ old.nodes.items ++ (node ∷ [])
+  pub nodes_are : new.nodes ≡ old.nodes ++ (node ∷ [])
 
--- a container begins, with this node in its place
-pub record OpensContainer (old : Reader) (container : Opened) (node : Place → Node) (expected : made_expected.Expected) (new : Reader) : Type 0 where
+-- a container begins
+pub record OpensContainer (old : Reader) (container : Opened) (expected : made_expected.Expected) (new : Reader) : Type 0 where
   pub place : Place
   pub place_is : node_place place ≡ machine.place_in old.opened
   pub expected_is : new.expected ≡ expected
   pub from_is : new.from ≡ old.from
   pub opened_is : new.opened ≡ opened_of container ∷ old.opened
-  pub nodes_are : new.nodes.items ≡ old.nodes.items ++ (node place ∷ [])
+  pub nodes_are : new.nodes ≡ old.nodes ++ (begin_of container place 0 ∷ [])
+
+-- the innermost container ends
+pub record ClosesContainer (old : Reader) (container : Opened) (new : Reader) : Type 0 where
+  pub place : Place
+  pub place_is : node_place place ≡ machine.place_in (around_container old.opened)
+  pub expected_is : new.expected ≡ expected.Next
+  pub from_is : new.from ≡ old.from
+  pub opened_is : new.opened ≡ around_container old.opened
+  pub nodes_are : new.nodes ≡ old.nodes ++ (end_of container place ∷ [])
 
 -- a token was kept, or a number is being read that may end
 abbrev pub HasToken : machine.ReaderState → Type 0
@@ -123,7 +133,7 @@ KeepsAt state next = HasToken state ⊎ KeepsToken next
 
 -- what the reader keeps stands in the bytes up to this place
 abbrev pub IsReadTo : List ℕ → ℕ → Reader → Type 0
-IsReadTo bytes upto reader = ReadsIn bytes upto reader.from reader.nodes.items
+IsReadTo bytes upto reader = ReadsIn bytes upto reader.from reader.nodes
 
 -- ---- bytes that are passed over at once
 

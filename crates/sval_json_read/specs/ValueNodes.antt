@@ -5,6 +5,7 @@ use Rattle.sval_json_read.specs.declared.node.Node as made_node
 use Rattle.sval_json_read.specs.Tokens.{Alone, Item, Key, Value, Text, Placed, placed_at, between_quotes, tokens_of}
 use Rattle.sval_json_read.specs.Nodes.{tokens_in}
 use Rattle.sval_json_read.specs.SeenNodes.{seen_node, AreKeptOf}
+use Rattle.sval_json_read.specs.NodeCounts.{AreCounted}
 
 -- tokens of a value
 pub data IsOfValue : List Placed → JsonValue → Type 0 where
@@ -28,17 +29,20 @@ pub data IsOfMembers : List Placed → Members → Type 0 where
 -- nodes of a value
 pub record AreOfValue (bytes : List ℕ) (nodes : List made_node.Node) : Type 0 where
   pub kept : AreKeptOf bytes nodes
+  pub counted : AreCounted nodes
   pub value : JsonValue
   pub is_of : IsOfValue (tokens_in bytes (map seen_node nodes)) value
 
 -- nodes of values, as items of an array
 pub record AreOfValues (bytes : List ℕ) (nodes : List made_node.Node) : Type 0 where
   pub kept : AreKeptOf bytes nodes
+  pub counted : AreCounted nodes
   pub values : Values
   pub are_of : IsOfValues (tokens_in bytes (map seen_node nodes)) values
 
 -- nodes of the pairs of an object
 pub record AreOfMembers (bytes : List ℕ) (nodes : List made_node.Node) : Type 0 where
   pub kept : AreKeptOf bytes nodes
+  pub counted : AreCounted nodes
   pub members : Members
   pub are_of : IsOfMembers (tokens_in bytes (map seen_node nodes)) members

@@ -12,6 +12,7 @@ ghost use Rattle.sval_json_read.specs.Calls.{document_calls};
 ghost use Rattle.sval_json_read.specs.SeenValues.{value_in};
 ghost use Rattle.sval_json_read.specs.Documents.{IsDocument};
 ghost use Rattle.sval_json_read.specs.Nodes.{tokens_in};
+ghost use Rattle.sval_json_read.specs.NodeCounts.{AreCounted};
 ghost use Rattle.sval_json_read.specs.SeenNodes.{seen_node, StandsIn};
 ghost use Rattle.sval_json_read.specs.TokenTexts.{tokens_text};
 ghost use Rattle.sval_json_read.specs.Trees.{tree_of};
@@ -223,6 +224,7 @@ fn read_nodes(alloc: Global, bytes: &[u8]) -> Result<Vec<Node>, ReadError>
     requires { IsUtf8 bytes.now }
     ensures ok { IfOk result (λ nodes. IsDocument bytes.now (tokens_in bytes.now (map seen_node nodes.items))) }
     ensures stand { IfOk result (λ nodes. AllByRecursion (StandsIn bytes.now) nodes.items) }
+    ensures counted { IfOk result (λ nodes. AreCounted nodes.items) }
     ensures err { IfErr result (IsTextReadError bytes.now) }
 {
     let mut reader = Reader::new(alloc);
@@ -235,7 +237,7 @@ fn read_nodes(alloc: Global, bytes: &[u8]) -> Result<Vec<Node>, ReadError>
         }
     }
     match reader.finish(bytes) {
-        Ok(true) => Ok(reader.nodes),
+        Ok(true) => Ok(reader.nodes.into_nodes()),
         Ok(false) => Err(ReadError::BadJson { at: at as u64 }),
         Err(cause) => Err(ReadError::from(cause)),
     }

@@ -63,12 +63,12 @@ fn stream_alone<'v, S: Stream<Lent<'v>>>(
         (S.standing stream.new) }
 {
     match nodes[0] {
-        Node::BeginArray(_) => {
+        Node::BeginArray(..) => {
             stream.seq_begin(None)?;
             stream_nodes(text, between_ends(nodes), stream)?;
             stream.seq_end()
         },
-        Node::BeginObject(_) => {
+        Node::BeginObject(..) => {
             stream.map_begin(None)?;
             stream_nodes(text, between_ends(nodes), stream)?;
             stream.map_end()

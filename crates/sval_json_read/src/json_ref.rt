@@ -101,8 +101,8 @@ impl<'d> JsonRef<'d> {
             Node::Bool(..) => JsonKind::Bool,
             Node::Number(..) => JsonKind::Number,
             Node::Text(..) => JsonKind::Text,
-            Node::BeginArray(_) | Node::EndArray(_) => JsonKind::Array,
-            Node::BeginObject(_) | Node::EndObject(_) => JsonKind::Object,
+            Node::BeginArray(..) | Node::EndArray(_) => JsonKind::Array,
+            Node::BeginObject(..) | Node::EndObject(_) => JsonKind::Object,
         }
     }
 
@@ -213,7 +213,7 @@ impl<'d> JsonRef<'d> {
         ensures { result ≡ items_of self.now }
     {
         match self.nodes[0] {
-            Node::BeginArray(_) => { Some(JsonItems::new(self.text, between_ends(self.nodes))) },
+            Node::BeginArray(..) => { Some(JsonItems::new(self.text, between_ends(self.nodes))) },
             _ => None,
         }
     }
@@ -239,7 +239,9 @@ impl<'d> JsonRef<'d> {
         ensures { result ≡ members_of self.now }
     {
         match self.nodes[0] {
-            Node::BeginObject(_) => { Some(JsonMembers::new(self.text, between_ends(self.nodes))) },
+            Node::BeginObject(..) => {
+                Some(JsonMembers::new(self.text, between_ends(self.nodes)))
+            },
             _ => None,
         }
     }

@@ -76,7 +76,7 @@ impl<'d> JsonToken<'d> {
         ensures { result ≡ kind_of_token self.now.token }
     {
         match self.node {
-            Node::BeginArray(_) | Node::BeginObject(_) => TokenKind::Begin,
+            Node::BeginArray(..) | Node::BeginObject(..) => TokenKind::Begin,
             Node::EndArray(_) | Node::EndObject(_) => TokenKind::End,
             _ => TokenKind::Single,
         }
@@ -114,9 +114,9 @@ impl<'d> JsonToken<'d> {
             Node::Text(_, length, from) => {
                 JsonMark::Text(JsonText::new(&self.text[from..from + length as usize]))
             }
-            Node::BeginArray(_) => JsonMark::BeginArray,
+            Node::BeginArray(..) => JsonMark::BeginArray,
             Node::EndArray(_) => JsonMark::EndArray,
-            Node::BeginObject(_) => JsonMark::BeginObject,
+            Node::BeginObject(..) => JsonMark::BeginObject,
             Node::EndObject(_) => JsonMark::EndObject,
         }
     }

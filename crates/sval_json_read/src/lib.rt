@@ -22,6 +22,7 @@ mod json_tokens;
 pub mod laws;
 mod node;
 mod node_calls;
+mod node_list;
 mod node_script;
 mod node_text;
 mod number;

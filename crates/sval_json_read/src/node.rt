@@ -17,17 +17,17 @@ pub(crate) enum Place {
 
 /// A token of a text, in its place. A begin and an end have the place of their array or object.
 ///
-/// A number or a string, without its quotes, has a length and a place in the text where it begins. So a node takes 16
-/// bytes.
+/// A number or a string, without its quotes, has a length and a place in the text where it begins. The begin of an array
+/// or object counts its nodes, from itself to its end. So a node takes 16 bytes.
 #[derive(Clone, Copy)]
 pub(crate) enum Node {
     Null(Place),
     Bool(Place, bool),
     Number(Place, u32, usize),
     Text(Place, u32, usize),
-    BeginArray(Place),
+    BeginArray(Place, usize),
     EndArray(Place),
-    BeginObject(Place),
+    BeginObject(Place, usize),
     EndObject(Place),
 }
 

@@ -54,8 +54,8 @@ impl Node {
             | Node::Bool(place, _)
             | Node::Number(place, _, _)
             | Node::Text(place, _, _)
-            | Node::BeginArray(place)
-            | Node::BeginObject(place) => place.begin(stream),
+            | Node::BeginArray(place, _)
+            | Node::BeginObject(place, _) => place.begin(stream),
         }
     }
 
@@ -74,9 +74,9 @@ impl Node {
             Node::Text(_, length, from) => {
                 stream_string(&text[from..from + length as usize], stream)
             },
-            Node::BeginArray(_) => stream.seq_begin(None),
+            Node::BeginArray(..) => stream.seq_begin(None),
             Node::EndArray(_) => stream.seq_end(),
-            Node::BeginObject(_) => stream.map_begin(None),
+            Node::BeginObject(..) => stream.map_begin(None),
             Node::EndObject(_) => stream.map_end(),
         }
     }
@@ -88,7 +88,7 @@ impl Node {
             (S.standing stream.new) }
     {
         match self {
-            Node::BeginArray(_) | Node::BeginObject(_) => Ok(()),
+            Node::BeginArray(..) | Node::BeginObject(..) => Ok(()),
             Node::Null(place)
             | Node::Bool(place, _)
             | Node::Number(place, _, _)

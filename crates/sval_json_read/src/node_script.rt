@@ -296,9 +296,9 @@ impl Node {
             Node::Text(place, length, from) => {
                 place.print_text(&text[from..from + length as usize], out)
             },
-            Node::BeginArray(place) => place.print_begin(b"seq_begin -\n", out),
+            Node::BeginArray(place, _) => place.print_begin(b"seq_begin -\n", out),
             Node::EndArray(place) => place.print_end(b"seq_end\n", out),
-            Node::BeginObject(place) => place.print_begin(b"map_begin -\n", out),
+            Node::BeginObject(place, _) => place.print_begin(b"map_begin -\n", out),
             Node::EndObject(place) => place.print_end(b"map_end\n", out),
         }
     }

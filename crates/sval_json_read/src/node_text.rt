@@ -286,7 +286,7 @@ impl Node {
         ensures { (text : List ℕ) → result ≡ begins_container (placed_in text (seen_node self)).token }
     {
         match self {
-            Node::BeginArray(_) | Node::BeginObject(_) => true,
+            Node::BeginArray(..) | Node::BeginObject(..) => true,
             _ => false,
         }
     }
@@ -315,9 +315,9 @@ impl Node {
             Node::Text(place, length, from) => {
                 place.write_text(is_first, text, plain, from, from + length as usize, out)
             },
-            Node::BeginArray(place) => place.write_word(is_first, b",[", out),
+            Node::BeginArray(place, _) => place.write_word(is_first, b",[", out),
             Node::EndArray(_) => write_in_place(out, b"]"),
-            Node::BeginObject(place) => place.write_word(is_first, b",{", out),
+            Node::BeginObject(place, _) => place.write_word(is_first, b",{", out),
             Node::EndObject(_) => write_in_place(out, b"}"),
         }
     }

@@ -141,8 +141,8 @@ impl Node {
             | Node::Bool(place, _)
             | Node::Number(place, _, _)
             | Node::Text(place, _, _)
-            | Node::BeginArray(place)
-            | Node::BeginObject(place) => place.behind_comma(is_first, text.as_bytes(), at),
+            | Node::BeginArray(place, _)
+            | Node::BeginObject(place, _) => place.behind_comma(is_first, text.as_bytes(), at),
         }
     }
 
@@ -166,9 +166,9 @@ impl Node {
             Node::Text(place, length, from) => {
                 place.behind_text(bytes, plain, at, from, from + length as usize)
             },
-            Node::BeginArray(_) => behind_byte(bytes, at, b'['),
+            Node::BeginArray(..) => behind_byte(bytes, at, b'['),
             Node::EndArray(_) => behind_byte(bytes, at, b']'),
-            Node::BeginObject(_) => behind_byte(bytes, at, b'{'),
+            Node::BeginObject(..) => behind_byte(bytes, at, b'{'),
             Node::EndObject(_) => behind_byte(bytes, at, b'}'),
         }
     }

@@ -4,6 +4,7 @@ ghost use Rattle.std.specs.Prelude.{◌≡◌, ◌+◌, ◌<◌, ℕ, List, [], 
 ghost use Rattle.sval_json_read.specs.Reader as machine;
 ghost use Rattle.sval_json_read.specs.Nodes.{tokens_in};
 ghost use Rattle.sval_json_read.specs.SeenNodes.{node_place, seen_node, StandsIn};
+ghost use Rattle.sval_json_read.specs.NodeCounts.{IsLeaf};
 ghost use Rattle.sval_json_read.specs.SeenReader.{seen_state, HasToken, EndsText, AddsNode, TakesByte, KeepsRead, WantsOnlyFor, IsReadTo};
 
 mod begins;
@@ -14,6 +15,7 @@ mod scalar;
 pub(crate) mod waiting;
 
 use crate::node::{Node, Place};
+use crate::node_list::NodeList;
 use crate::number::Phase;
 use crate::stack::{Opened, Stack};
 use crate::string::Within;
@@ -46,7 +48,7 @@ pub(crate) struct Reader {
     /// Where the number or string begins that is being read.
     pub(crate) from: usize,
     pub(crate) opened: Stack,
-    pub(crate) nodes: Vec<Node>,
+    pub(crate) nodes: NodeList,
 }
 
 impl Reader {
@@ -54,18 +56,19 @@ impl Reader {
     pub(crate) fn new(alloc: Global) -> Self
         ensures starts { (bytes : List ℕ) → seen_state bytes 0 result ≡ machine.reader_start }
         ensures from { result.from ≡ 0 }
-        ensures nodes { result.nodes.items ≡ [] }
+        ensures nodes { result.nodes ≡ [] }
     {
         Reader {
             expected: Expected::AValue,
             from: 0,
             opened: Stack::new(alloc),
-            nodes: Vec::new(alloc),
+            nodes: NodeList::new(alloc),
         }
     }
 
-    /// Keeps a node.
+    /// Keeps a node that begins and ends nothing.
     fn add(&mut self, node: Node, expected: Expected) -> Result<(), NoMemory>
+        requires { IsLeaf node }
         ensures { IfOk result (λ done. AddsNode self.old node expected self.new) }
     {
         self.nodes.push(node)?;
@@ -109,7 +112,7 @@ impl Reader {
     pub(crate) fn finish(&mut self, bytes: &[u8]) -> Result<bool, NoMemory>
         requires { IsReadTo bytes.now (length bytes.now) self.old }
         ensures ends { IfOk result (EndsText (machine.tokens_at_end (seen_state bytes.now (length bytes.now) self.old))
-            (tokens_in bytes.now (map seen_node self.new.nodes.items))) }
+            (tokens_in bytes.now (map seen_node self.new.nodes))) }
         ensures reads { KeepsRead bytes.now (length bytes.now) result self.new }
         ensures no_memory { IfErr result (λ error. HasToken (seen_state bytes.now (length bytes.now) self.old)) }
     {

@@ -7,6 +7,7 @@ ghost use Rattle.sval_json_read.specs.Calls.{document_calls};
 ghost use Rattle.sval_json_read.specs.Documents.{IsDocument};
 ghost use Rattle.sval_json_read.specs.JsonFronts.{EndsFront, IsTextFrontError, IsJsonFrontError};
 ghost use Rattle.sval_json_read.specs.Nodes.{tokens_in};
+ghost use Rattle.sval_json_read.specs.NodeCounts.{AreCounted};
 ghost use Rattle.sval_json_read.specs.ReadErrors.{IsReadText};
 ghost use Rattle.sval_json_read.specs.SeenNodes.{seen_node, StandsIn};
 ghost use Rattle.sval_json_read.specs.SeenValues.{value_in};
@@ -54,6 +55,7 @@ fn front_nodes(alloc: Global, bytes: &[u8]) -> Result<(Vec<Node>, usize), ReadEr
     ensures ok { IfOk result (λ front. IsDocument (take front.1 bytes.now)
         (tokens_in bytes.now (map seen_node front.0.items))) }
     ensures stand { IfOk result (λ front. AllByRecursion (StandsIn bytes.now) front.0.items) }
+    ensures counted { IfOk result (λ front. AreCounted front.0.items) }
     ensures ends { IfOk result (λ front. EndsFront bytes.now front.1) }
     ensures err { IfErr result (IsTextFrontError bytes.now) }
 {
@@ -70,7 +72,7 @@ fn front_nodes(alloc: Global, bytes: &[u8]) -> Result<(Vec<Node>, usize), ReadEr
         }
     }
     match reader.end_front(bytes, at) {
-        Ok(()) => Ok((reader.nodes, at)),
+        Ok(()) => Ok((reader.nodes.into_nodes(), at)),
         Err(cause) => Err(ReadError::from(cause)),
     }
 }

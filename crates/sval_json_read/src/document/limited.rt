@@ -6,6 +6,7 @@ ghost use Rattle.sval_json.specs.Grammar.{Denotes};
 ghost use Rattle.sval_json_read.specs.Calls.{document_calls};
 ghost use Rattle.sval_json_read.specs.Documents.{IsDocument};
 ghost use Rattle.sval_json_read.specs.JsonLimits.{IsWithin, IsLimitedTextError, IsLimitedJsonError};
+ghost use Rattle.sval_json_read.specs.NodeCounts.{AreCounted};
 ghost use Rattle.sval_json_read.specs.Nodes.{tokens_in};
 ghost use Rattle.sval_json_read.specs.Outlines as outlines;
 ghost use Rattle.sval_json_read.specs.ReadErrors.{IsReadText};
@@ -138,6 +139,7 @@ fn limited_nodes(alloc: Global, bytes: &[u8], limits: Limits) -> Result<Vec<Node
     requires { IsUtf8 bytes.now }
     ensures ok { IfOk result (λ nodes. IsDocument bytes.now (tokens_in bytes.now (map seen_node nodes.items))) }
     ensures stand { IfOk result (λ nodes. AllByRecursion (StandsIn bytes.now) nodes.items) }
+    ensures counted { IfOk result (λ nodes. AreCounted nodes.items) }
     ensures within { IfOk result (λ nodes. IsWithin bytes.now limits) }
     ensures err { IfErr result (IsLimitedTextError bytes.now limits) }
 {
@@ -153,7 +155,7 @@ fn limited_nodes(alloc: Global, bytes: &[u8], limits: Limits) -> Result<Vec<Node
         }
     }
     match reader.finish(bytes) {
-        Ok(true) => Ok(reader.nodes),
+        Ok(true) => Ok(reader.nodes.into_nodes()),
         Ok(false) => Err(LimitedError::Read(ReadError::BadJson { at: at as u64 })),
         Err(cause) => Err(LimitedError::from(cause)),
     }

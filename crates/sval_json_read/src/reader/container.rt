@@ -4,9 +4,7 @@ ghost use Rattle.std.specs.Prelude.{◌≡◌, ◌+◌, ◌<◌, [], IfOk, lengt
 ghost use Rattle.sval_json.specs.Grammar.{is_space};
 ghost use Rattle.sval_json_read.specs.Strings.{Plain};
 ghost use Rattle.sval_json_read.specs.Reader as machine;
-ghost use Rattle.sval_json_read.specs.SeenReader.{seen_state, GivesState, OpensContainer, TakesByte, KeepsRead, WantsOnlyFor, IsReadTo};
-ghost use Rattle.sval_json_read.specs.declared.node.Node.TheVariants as node;
-ghost use Rattle.sval_json_read.specs.declared.stack.Opened.TheVariants as opened;
+ghost use Rattle.sval_json_read.specs.SeenReader.{seen_state, GivesState, OpensContainer, ClosesContainer, TakesByte, KeepsRead, WantsOnlyFor, IsReadTo};
 ghost use Rattle.sval_json_read.specs.declared.reader.Expected.TheVariants as expected;
 
 use super::{Expected, Reader};
@@ -33,16 +31,8 @@ impl Reader {
         match (self.opened.top(), bytes[at]) {
             (Some(Opened::Array), b',') => self.expected = Expected::AValue,
             (Some(Opened::Object), b',') => self.expected = Expected::NextKey,
-            (Some(Opened::Array), b']') => {
-                self.opened.pop();
-                let place = self.place();
-                self.add(Node::EndArray(place), Expected::Next)?;
-            },
-            (Some(Opened::Object), b'}') => {
-                self.opened.pop();
-                let place = self.place();
-                self.add(Node::EndObject(place), Expected::Next)?;
-            },
+            (Some(Opened::Array), b']') => self.end(Opened::Array)?,
+            (Some(Opened::Object), b'}') => self.end(Opened::Object)?,
             _ => return Ok(false),
         }
         Ok(true)
@@ -65,24 +55,25 @@ impl Reader {
         self.goes_on(bytes, at)
     }
 
-    /// Begins an array.
-    fn begin_array(&mut self) -> Result<(), NoMemory>
-        ensures { IfOk result (λ done. OpensContainer self.old opened.Array node.BeginArray expected.FirstItem
-            self.new) }
+    /// Begins an array or an object.
+    fn begin(&mut self, container: Opened, expected: Expected) -> Result<(), NoMemory>
+        ensures { IfOk result (λ done. OpensContainer self.old container expected self.new) }
     {
         let place = self.place();
-        self.add(Node::BeginArray(place), Expected::FirstItem)?;
-        self.opened.push(Opened::Array)
+        self.nodes.begin(container, place)?;
+        self.expected = expected;
+        self.opened.push(container)
     }
 
-    /// Begins an object.
-    fn begin_object(&mut self) -> Result<(), NoMemory>
-        ensures { IfOk result (λ done. OpensContainer self.old opened.Object node.BeginObject
-            expected.FirstKey self.new) }
+    /// Ends the array or the object that is innermost.
+    fn end(&mut self, container: Opened) -> Result<(), NoMemory>
+        ensures { IfOk result (λ done. ClosesContainer self.old container self.new) }
     {
+        self.opened.pop();
         let place = self.place();
-        self.add(Node::BeginObject(place), Expected::FirstKey)?;
-        self.opened.push(Opened::Object)
+        self.nodes.end(container, place)?;
+        self.expected = Expected::Next;
+        Ok(())
     }
 
     /// Begins a string behind its quote.
@@ -112,8 +103,8 @@ impl Reader {
         let byte = bytes[at];
         match byte {
             b'"' => self.begin_string(false, bytes, at),
-            b'[' => self.begin_array()?,
-            b'{' => self.begin_object()?,
+            b'[' => self.begin(Opened::Array, Expected::FirstItem)?,
+            b'{' => self.begin(Opened::Object, Expected::FirstKey)?,
             b'n' => {
                 let place = self.place();
                 self.add(Node::Null(place), Expected::Letter(Word::Ull))?;

@@ -36,7 +36,7 @@ impl Reader {
         requires ends { front_ends self.old.opened
             (expected_of bytes.now self.old.from at self.old.expected) bytes.now at ≡ true }
         ensures ends { IfOk result (λ done. machine.tokens_at_end (seen_state bytes.now at self.old)
-            ≡ Some (tokens_in bytes.now (map seen_node self.new.nodes.items))) }
+            ≡ Some (tokens_in bytes.now (map seen_node self.new.nodes))) }
         ensures reads { KeepsRead bytes.now at result self.new }
         ensures no_memory { IfErr result (λ error. HasToken (seen_state bytes.now at self.old)) }
     {

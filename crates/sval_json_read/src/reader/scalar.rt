@@ -133,7 +133,7 @@ impl Reader {
         requires alone { self.old.opened ≡ [] }
         requires is { self.old.expected ≡ InNumber phase }
         ensures ends { IfOk result (EndsText (machine.tokens_at_end (seen_state bytes.now (length bytes.now) self.old))
-            (tokens_in bytes.now (map seen_node self.new.nodes.items))) }
+            (tokens_in bytes.now (map seen_node self.new.nodes))) }
         ensures reads { KeepsRead bytes.now (length bytes.now) result self.new }
         ensures no_memory { IfErr result (λ error. HasToken (seen_state bytes.now (length bytes.now) self.old)) }
     {

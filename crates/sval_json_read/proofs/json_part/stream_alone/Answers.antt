@@ -14,32 +14,32 @@ bounds-0 g c = some_nodes c.args.text.now c.args.nodes.now c.requires
 
 pub between_ends-requires : goal.between_ends-requires
 between_ends-requires g c =
-    array_two c.args.text.now c.args.nodes.now c.requires c.in-BeginArray.field-0 c.in-BeginArray.is (some_nodes c.args.text.now c.args.nodes.now c.requires)
+    array_two c.args.text.now c.args.nodes.now c.requires c.in-BeginArray.field-0 c.in-BeginArray.field-1 c.in-BeginArray.is (some_nodes c.args.text.now c.args.nodes.now c.requires)
 
 pub returns-in_err-stream_nodes-in-BeginArray : goal.returns-in_err-stream_nodes-in-BeginArray
 returns-in_err-stream_nodes-in-BeginArray g c =
-    let whole = array-calls c.requires c.between_ends.result.now c.between_ends.ensures c.in-BeginArray.field-0 c.in-BeginArray.is in
+    let whole = array-calls c.requires c.between_ends.result.now c.between_ends.ensures c.in-BeginArray.field-0 c.in-BeginArray.field-1 c.in-BeginArray.is in
     passes_on c.from_residual-in_err-stream_nodes-in-BeginArray.result c.from_residual-in_err-stream_nodes-in-BeginArray.ensures.0
     (stops-within _ _ _ whole c.in_ok-seq_begin-in-BeginArray.ensures c.in_err-stream_nodes-in-BeginArray.ensures)
 
 pub returns-in_ok-stream_nodes-in-BeginArray : goal.returns-in_ok-stream_nodes-in-BeginArray
 returns-in_ok-stream_nodes-in-BeginArray g c =
-    let whole = array-calls c.requires c.between_ends.result.now c.between_ends.ensures c.in-BeginArray.field-0 c.in-BeginArray.is in
+    let whole = array-calls c.requires c.between_ends.result.now c.between_ends.ensures c.in-BeginArray.field-0 c.in-BeginArray.field-1 c.in-BeginArray.is in
     emits-whole _ _ _ whole c.seq_end.result (g.S.Stream.standing c.seq_end.new.self) c.in_ok-seq_begin-in-BeginArray.ensures c.in_ok-stream_nodes-in-BeginArray.ensures c.seq_end.ensures
 
 pub between_ends-requires-in-BeginObject : goal.between_ends-requires-in-BeginObject
 between_ends-requires-in-BeginObject g c =
-    object_two c.args.text.now c.args.nodes.now c.requires c.in-BeginObject.field-0 c.in-BeginObject.is (some_nodes c.args.text.now c.args.nodes.now c.requires)
+    object_two c.args.text.now c.args.nodes.now c.requires c.in-BeginObject.field-0 c.in-BeginObject.field-1 c.in-BeginObject.is (some_nodes c.args.text.now c.args.nodes.now c.requires)
 
 pub returns-in_err-stream_nodes-in-BeginObject : goal.returns-in_err-stream_nodes-in-BeginObject
 returns-in_err-stream_nodes-in-BeginObject g c =
-    let whole = object-calls c.requires c.between_ends-in-BeginObject.result.now c.between_ends-in-BeginObject.ensures c.in-BeginObject.field-0 c.in-BeginObject.is in
+    let whole = object-calls c.requires c.between_ends-in-BeginObject.result.now c.between_ends-in-BeginObject.ensures c.in-BeginObject.field-0 c.in-BeginObject.field-1 c.in-BeginObject.is in
     passes_on c.from_residual-in_err-stream_nodes-in-BeginObject.result c.from_residual-in_err-stream_nodes-in-BeginObject.ensures.0
     (stops-within _ _ _ whole c.in_ok-map_begin-in-BeginObject.ensures c.in_err-stream_nodes-in-BeginObject.ensures)
 
 pub returns-in_ok-stream_nodes-in-BeginObject : goal.returns-in_ok-stream_nodes-in-BeginObject
 returns-in_ok-stream_nodes-in-BeginObject g c =
-    let whole = object-calls c.requires c.between_ends-in-BeginObject.result.now c.between_ends-in-BeginObject.ensures c.in-BeginObject.field-0 c.in-BeginObject.is in
+    let whole = object-calls c.requires c.between_ends-in-BeginObject.result.now c.between_ends-in-BeginObject.ensures c.in-BeginObject.field-0 c.in-BeginObject.field-1 c.in-BeginObject.is in
     emits-whole _ _ _ whole c.map_end.result (g.S.Stream.standing c.map_end.new.self) c.in_ok-map_begin-in-BeginObject.ensures c.in_ok-stream_nodes-in-BeginObject.ensures c.map_end.ensures
 
 pub bounds-nodes-0 : goal.bounds-nodes-0

@@ -8,7 +8,7 @@ use Rattle.sval_json_read.proofs.document.JsonDoc.read_str.Goals as goal
 
 pub invariant_of-result : goal.invariant_of-result
 invariant_of-result c =
-    kept-document c.args.text.now c.args.text.now c.in-Ok.nodes.items c.utf8.text (subst (λ bytes. AllByRecursion (StandsIn bytes) c.in-Ok.nodes.items) c.as_bytes.ensures.value c.in-Ok.ensures.stand)
+    kept-document c.args.text.now c.args.text.now c.in-Ok.nodes.items c.utf8.text (subst (λ bytes. AllByRecursion (StandsIn bytes) c.in-Ok.nodes.items) c.as_bytes.ensures.value c.in-Ok.ensures.stand) c.in-Ok.ensures.counted
     (subst (λ bytes. IsDocument bytes (tokens_in bytes (map seen_node c.in-Ok.nodes.items))) c.as_bytes.ensures.value c.in-Ok.ensures.ok)
 
 pub returns-in-Ok-clause-ok : goal.returns-in-Ok-clause-ok

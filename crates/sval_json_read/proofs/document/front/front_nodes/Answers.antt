@@ -1,6 +1,8 @@
-use Rattle.std.proofs.Common.{◌≡◌, ◌+◌, ◌-◌, false, get_or, Some, refl, sym, ap, subst, arith}
+use Rattle.std.proofs.Common.{◌≡◌, ◌+◌, ◌-◌, false, take, get_or, Some, refl, sym, ap, subst, arith}
 use Rattle.sval_json.specs.Grammar.{is_space}
+use Rattle.sval_json_read.specs.Documents.{IsDocument}
 use Rattle.sval_json_read.specs.JsonFronts.{IsTextFrontError}
+use Rattle.sval_json_read.specs.Nodes.{tokens_in}
 use Rattle.sval_json_read.specs.SeenReader.{seen_state}
 use Rattle.sval_json_read.proofs.FrontEnds.{space_behind, past_next, starts_before}
 use Rattle.sval_json_read.proofs.ReadFronts.{ends-front, front-document, bad-front, refused-fails, ended-fails}
@@ -55,8 +57,13 @@ returns-in-Err-clause-err c =
 
 pub returns-in-Ok-clause-ok : goal.returns-in-Ok-clause-ok
 returns-in-Ok-clause-ok c =
-    front-document c.args.bytes.now c.loop-reader.at (seen_state c.args.bytes.now c.loop-reader.at c.loop-reader.reader) c.requires c.loop-reader.invariant.within c.loop-reader.invariant.reached
-    (sym c.loop-reader-test.ensures) _ c.in-Ok.ensures.ends
+    let bytes = c.args.bytes.now in
+    subst (λ row. IsDocument (take c.loop-reader.at bytes) (tokens_in bytes row)) (sym c.into_nodes.ensures.seen)
+    (front-document c.args.bytes.now c.loop-reader.at (seen_state c.args.bytes.now c.loop-reader.at c.loop-reader.reader) c.requires c.loop-reader.invariant.within c.loop-reader.invariant.reached
+    (sym c.loop-reader-test.ensures) _ c.in-Ok.ensures.ends)
+
+pub returns-in-Ok-clause-stand : goal.returns-in-Ok-clause-stand
+returns-in-Ok-clause-stand c = c.into_nodes.ensures.stand c.args.bytes.now c.in-Ok.ensures.reads.stand
 
 pub returns-in-Ok-clause-ends : goal.returns-in-Ok-clause-ends
 returns-in-Ok-clause-ends c =

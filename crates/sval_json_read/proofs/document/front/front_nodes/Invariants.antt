@@ -10,7 +10,7 @@ abbrev pub invariant-loop-reader : goal.invariant-loop-reader
 invariant-loop-reader l = record {
   within : l.at ≤ length l.bytes;
   reached : after_bytes reader_start (take l.at l.bytes) ≡ Some (seen_state l.bytes l.at l.reader);
-  reads : ReadsIn l.bytes l.at l.reader.from l.reader.nodes.items;
+  reads : ReadsIn l.bytes l.at l.reader.from l.reader.nodes;
   fresh : is_past l.reader.opened l.reader.expected ≡ true → is_space (get_or l.bytes (l.at - 1) 0) ≡ false;
 }
 

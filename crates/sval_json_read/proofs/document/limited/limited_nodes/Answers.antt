@@ -3,9 +3,10 @@ use Rattle.std.proofs.lemmas.Result.{err_from_is_err_and}
 use Rattle.sval_io.specs.declared.limits.Limits.{Limits}
 use Rattle.sval_json_read.specs.declared.document.limited.LimitedError.{LimitedError}
 use Rattle.sval_json_read.specs.declared.document.limited.LimitedError.TheVariants.{Read, TooDeep, TooMany}
-use Rattle.sval_json_read.specs.Documents.{IsBadJson}
+use Rattle.sval_json_read.specs.Documents.{IsBadJson, IsDocument}
 use Rattle.sval_json_read.specs.JsonLimits.{IsWithinTo, IsTooDeep, IsTooMany, IsLimitedTextError}
 use Rattle.sval_json_read.specs.Outlines.{begun_nodes}
+use Rattle.sval_json_read.specs.Nodes.{tokens_in}
 use Rattle.sval_json_read.specs.SeenReader.{seen_state}
 use Rattle.sval_json_read.specs.SeenLimits.{PassesLimit}
 use Rattle.sval_json_read.specs.Reader.{ReaderState, reader_start, after_bytes}
@@ -72,9 +73,13 @@ returns-in-Ok-false-clause-err c = (
 
 pub returns-in-Ok-true-finish-clause-ok : goal.returns-in-Ok-true-finish-clause-ok
 returns-in-Ok-true-finish-clause-ok c =
-    ended-document c.args.bytes.now (seen_state c.args.bytes.now (length c.args.bytes.now) c.loop-at.reader) c.requires
+    subst (λ row. IsDocument c.args.bytes.now (tokens_in c.args.bytes.now row)) (sym c.into_nodes.ensures.seen)
+    (ended-document c.args.bytes.now (seen_state c.args.bytes.now (length c.args.bytes.now) c.loop-at.reader) c.requires
     (all_taken c.args.bytes.now c.loop-at.at c.loop-at.reader c.loop-at-test.false c.loop-at.invariant.within c.loop-at.invariant.reached)
-    _ (rw c.in-Ok-true-finish.field-0-test at c.in-Ok-true-finish.ensures.ends)
+    _ (rw c.in-Ok-true-finish.field-0-test at c.in-Ok-true-finish.ensures.ends))
+
+pub returns-in-Ok-true-finish-clause-stand : goal.returns-in-Ok-true-finish-clause-stand
+returns-in-Ok-true-finish-clause-stand c = c.into_nodes.ensures.stand c.args.bytes.now c.in-Ok-true-finish.ensures.reads.stand
 
 pub returns-in-Ok-false-finish-clause-err : goal.returns-in-Ok-false-finish-clause-err
 returns-in-Ok-false-finish-clause-err c =

@@ -10,7 +10,7 @@ abbrev pub invariant-loop-at : goal.invariant-loop-at
 invariant-loop-at l = record {
   within : l.at ≤ length l.bytes;
   reached : after_bytes reader_start (take l.at l.bytes) ≡ Some (seen_state l.bytes l.at l.reader);
-  reads : ReadsIn l.bytes l.at l.reader.from l.reader.nodes.items;
+  reads : ReadsIn l.bytes l.at l.reader.from l.reader.nodes;
   counted : l.begun ≡ begun_nodes (take l.at l.bytes);
   kept : IsWithinTo l.bytes l.limits l.at;
 }

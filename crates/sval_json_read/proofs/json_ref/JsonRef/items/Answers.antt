@@ -13,18 +13,18 @@ bounds-0 c = some_nodes c.self.inside.text.now c.self.inside.nodes.now c.self.in
 
 pub between_ends-requires : goal.between_ends-requires
 between_ends-requires c =
-    array_two c.self.inside.text.now c.self.inside.nodes.now c.self.invariant c.in-BeginArray.field-0 c.in-BeginArray.is
+    array_two c.self.inside.text.now c.self.inside.nodes.now c.self.invariant c.in-BeginArray.field-0 c.in-BeginArray.field-1 c.in-BeginArray.is
     (some_nodes c.self.inside.text.now c.self.inside.nodes.now c.self.invariant)
 
 pub new-requires : goal.new-requires
 new-requires c =
-    let within = array_within c.self.inside.text.now c.self.inside.nodes.now c.self.invariant c.in-BeginArray.field-0 c.in-BeginArray.is
+    let within = array_within c.self.inside.text.now c.self.inside.nodes.now c.self.invariant c.in-BeginArray.field-0 c.in-BeginArray.field-1 c.in-BeginArray.is
     (some_nodes c.self.inside.text.now c.self.inside.nodes.now c.self.invariant) in
     subst (AreOfValues c.self.inside.text.now) (sym c.between_ends.ensures) within.are
 
 pub returns-in-BeginArray : goal.returns-in-BeginArray
 returns-in-BeginArray c =
-    let within = array_within c.self.inside.text.now c.self.inside.nodes.now c.self.invariant c.in-BeginArray.field-0 c.in-BeginArray.is
+    let within = array_within c.self.inside.text.now c.self.inside.nodes.now c.self.invariant c.in-BeginArray.field-0 c.in-BeginArray.field-1 c.in-BeginArray.is
     (some_nodes c.self.inside.text.now c.self.inside.nodes.now c.self.invariant) in
     ap Some (c.new.ensures ∙ ap (λ nodes. values_listed (values_in (tokens_in c.self.inside.text.now (map seen_node nodes)))) c.between_ends.ensures)
     ∙ ap items_of (sym within.is ∙ c.self.view_is)

@@ -11,12 +11,12 @@ returns-in-Text c = ap json_kind_of (sym (begins c.self.invariant c.in-Text.is))
 
 pub returns-in-BeginArray : goal.returns-in-BeginArray
 returns-in-BeginArray c = elim c.in-BeginArray.is [
-  | inl b ↦ ap json_kind_of (sym (begins c.self.invariant b.1).1) ∙ ap json_kind_of c.self.view_is
+  | inl b ↦ ap json_kind_of (sym (begins c.self.invariant b.2).1) ∙ ap json_kind_of c.self.view_is
   | inr e ↦ absurd (begins c.self.invariant e.1)
 ]
 
 pub returns-in-BeginObject : goal.returns-in-BeginObject
 returns-in-BeginObject c = elim c.in-BeginObject.is [
-  | inl b ↦ ap json_kind_of (sym (begins c.self.invariant b.1).1) ∙ ap json_kind_of c.self.view_is
+  | inl b ↦ ap json_kind_of (sym (begins c.self.invariant b.2).1) ∙ ap json_kind_of c.self.view_is
   | inr e ↦ absurd (begins c.self.invariant e.1)
 ]

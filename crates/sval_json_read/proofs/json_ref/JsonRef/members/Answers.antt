@@ -13,18 +13,18 @@ bounds-0 c = some_nodes c.self.inside.text.now c.self.inside.nodes.now c.self.in
 
 pub between_ends-requires : goal.between_ends-requires
 between_ends-requires c =
-    object_two c.self.inside.text.now c.self.inside.nodes.now c.self.invariant c.in-BeginObject.field-0 c.in-BeginObject.is
+    object_two c.self.inside.text.now c.self.inside.nodes.now c.self.invariant c.in-BeginObject.field-0 c.in-BeginObject.field-1 c.in-BeginObject.is
     (some_nodes c.self.inside.text.now c.self.inside.nodes.now c.self.invariant)
 
 pub new-requires : goal.new-requires
 new-requires c =
-    let within = object_within c.self.inside.text.now c.self.inside.nodes.now c.self.invariant c.in-BeginObject.field-0 c.in-BeginObject.is
+    let within = object_within c.self.inside.text.now c.self.inside.nodes.now c.self.invariant c.in-BeginObject.field-0 c.in-BeginObject.field-1 c.in-BeginObject.is
     (some_nodes c.self.inside.text.now c.self.inside.nodes.now c.self.invariant) in
     subst (AreOfMembers c.self.inside.text.now) (sym c.between_ends.ensures) within.are
 
 pub returns-in-BeginObject : goal.returns-in-BeginObject
 returns-in-BeginObject c =
-    let within = object_within c.self.inside.text.now c.self.inside.nodes.now c.self.invariant c.in-BeginObject.field-0 c.in-BeginObject.is
+    let within = object_within c.self.inside.text.now c.self.inside.nodes.now c.self.invariant c.in-BeginObject.field-0 c.in-BeginObject.field-1 c.in-BeginObject.is
     (some_nodes c.self.inside.text.now c.self.inside.nodes.now c.self.invariant) in
     ap Some (c.new.ensures ∙ ap (λ nodes. paired (members_in (tokens_in c.self.inside.text.now (map seen_node nodes)))) c.between_ends.ensures)
     ∙ ap members_of (sym within.is ∙ c.self.view_is)
