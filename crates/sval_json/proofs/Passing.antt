@@ -1,5 +1,5 @@
 -- A writer takes the calls that a program passes where its steps take them.
-use Rattle.std.specs.Prelude.{List, [], ◌∷◌, Bool, Result, Ok, Err}
+use Rattle.std.specs.Prelude.{ℕ, List, [], ◌∷◌, Bool, Option, Result, Ok, Err, IsUtf8}
 use Rattle.std.proofs.Common.{inl, inr}
 use Rattle.sval_label.specs.declared.error.Error.{Error}
 use Rattle.sval_label.specs.Calls.{Call}
@@ -7,6 +7,7 @@ use Rattle.sval_core.specs.Law.{Standing, Emission, HasCause, Answers, Ran, Stop
 use Rattle.std.specs.List.{AllByRecursion}
 use Rattle.sval_core.specs.Trees.{Tree}
 use Rattle.sval_core.specs.Spells.{Spells}
+use Rattle.sval_core.specs.Values.{makes, whole_text_calls, whole_key_calls}
 use Rattle.sval_core.specs.Real.{IsRealCall, IsReal}
 use Rattle.sval_core.proofs.RealTrees.{real_calls-real_tree}
 use Rattle.sval_json.specs.Passed.{IsPassed, ArePassed}
@@ -36,6 +37,15 @@ pub emits_passed : (r : Result (Unit {0}) Error) (old new : Standing WriterView)
 emits_passed (Ok done) old new e passed s = record { willing = s.willing; ran = ran_passed e.calls old.view new.view passed s.ran; faults = s.faults; wants = s.wants }
 emits_passed (Err refusal) old new e passed s =
     record { stopped = stopped_passed old new e.calls e.refuses old.view passed s.stopped; faults = s.faults; wants = s.wants }
+
+-- a text of one fragment, and one that is a key
+pub text_passed : (r : Result (Unit {0}) Error) (old new : Standing WriterView) (size : Option ℕ) (text : List ℕ) → IsUtf8 text
+    → Emits step_law r old (makes (whole_text_calls size text)) new → Emits writer_law r old (makes (whole_text_calls size text)) new
+text_passed r old new size text u e = emits_passed r old new (makes (whole_text_calls size text)) ((tt, tt), ((u, tt), ((tt, tt), tt))) e
+
+pub key_passed : (r : Result (Unit {0}) Error) (old new : Standing WriterView) (size : Option ℕ) (text : List ℕ) → IsUtf8 text
+    → Emits step_law r old (makes (whole_key_calls size text)) new → Emits writer_law r old (makes (whole_key_calls size text)) new
+key_passed r old new size text u e = emits_passed r old new (makes (whole_key_calls size text)) ((tt, tt), ((tt, tt), ((u, tt), ((tt, tt), ((tt, tt), tt))))) e
 
 each_real : (calls : List Call) → ArePassed calls → AllByRecursion IsRealCall calls
 each_real [] passed = tt

@@ -30,7 +30,7 @@ use crate::style::Variants;
 use crate::writer::short::{Quoted, push_between, push_plain};
 use arrayvec::ArrayString;
 use itoa::Buffer;
-use sval_core::{Call, Error, Fragment, GroupedCall, Int, Lent, Result, Stream};
+use sval_core::{Call, Error, Fragment, GroupedCall, Int, Lent, Result, Slot, Stream};
 use sval_io::{Sink, SinkError, write_all, write_in_place};
 
 /// What happens to the fragments of a text.
@@ -305,6 +305,28 @@ impl<'k, K: Sink> JsonWriter<'k, K> {
             GroupedCall::PartEnd(slot) => self.end_part(slot),
         }
     }
+
+    /// Takes a text of one fragment, call by call.
+    fn take_text(&mut self, text: &str, size: Option<usize>) -> Result
+        ensures { Emits step_law result (writer_standing K.told self.old)
+            (makes (whole_text_calls size text.now)) (writer_standing K.told self.new) }
+    {
+        self.take_grouped(GroupedCall::TextBegin(size))?;
+        self.take_grouped(GroupedCall::TextFragment(Fragment::Borrowed(text)))?;
+        self.take_grouped(GroupedCall::TextEnd)
+    }
+
+    /// Takes a key that is a text of one fragment, call by call.
+    fn take_text_key(&mut self, text: &str, size: Option<usize>) -> Result
+        ensures { Emits step_law result (writer_standing K.told self.old)
+            (makes (whole_key_calls size text.now)) (writer_standing K.told self.new) }
+    {
+        self.take_grouped(GroupedCall::PartBegin(Slot::Key))?;
+        self.take_grouped(GroupedCall::TextBegin(size))?;
+        self.take_grouped(GroupedCall::TextFragment(Fragment::Borrowed(text)))?;
+        self.take_grouped(GroupedCall::TextEnd)?;
+        self.take_grouped(GroupedCall::PartEnd(Slot::Key))
+    }
 }
 
 impl<'k, 'sval, K: Sink> Stream<Lent<'sval>> for JsonWriter<'k, K> {
@@ -315,6 +337,7 @@ impl<'k, 'sval, K: Sink> Stream<Lent<'sval>> for JsonWriter<'k, K> {
     ghost standing = { writer_standing K.told };
 
     #[inline(always)]
+    #[tactic(auto, using(crate::proofs::Passing::text_passed))]
     fn whole_text(&mut self, text: &'sval str, size: Option<usize>) -> Result
         ensures { Emits writer_law result (writer_standing K.told self.old)
             (makes (whole_text_calls size text.now)) (writer_standing K.told self.new) }
@@ -325,12 +348,11 @@ impl<'k, 'sval, K: Sink> Stream<Lent<'sval>> for JsonWriter<'k, K> {
             self.empty = false;
             return self.write_few(joined.as_bytes());
         }
-        self.take(Call::TextBegin(size))?;
-        self.take(Call::TextFragment(text))?;
-        self.take(Call::TextEnd)
+        self.take_text(text, size)
     }
 
     #[inline(always)]
+    #[tactic(auto, using(crate::proofs::Passing::key_passed))]
     fn whole_text_key(&mut self, text: &'sval str, size: Option<usize>) -> Result
         ensures { Emits writer_law result (writer_standing K.told self.old)
             (makes (whole_key_calls size text.now)) (writer_standing K.told self.new) }
@@ -344,11 +366,7 @@ impl<'k, 'sval, K: Sink> Stream<Lent<'sval>> for JsonWriter<'k, K> {
             self.quoted = true;
             return self.write_few(&joined.as_bytes()[no_comma..]);
         }
-        self.take(Call::MapKeyBegin)?;
-        self.take(Call::TextBegin(size))?;
-        self.take(Call::TextFragment(text))?;
-        self.take(Call::TextEnd)?;
-        self.take(Call::MapKeyEnd)
+        self.take_text_key(text, size)
     }
 
     #[inline(always)]

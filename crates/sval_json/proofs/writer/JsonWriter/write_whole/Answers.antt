@@ -1,7 +1,12 @@
-use Rattle.sval_json.specs.Steps.{quote_if_quoted}
+use Rattle.sval_json.specs.Steps.{fragment, quote_if_quoted}
 use Rattle.sval_json.proofs.Doing.{done_then, stopped_first, stopped_later}
 use Rattle.sval_json.proofs.Combined.{does_then, stops_as}
 use Rattle.sval_json.proofs.writer.JsonWriter.write_whole.Goals as goal
+
+pub returns-in_err-begin_text : goal.returns-in_err-begin_text
+returns-in_err-begin_text g c =
+    stops_as c.from_residual.result c.from_residual.ensures.0
+    (stopped_first quote_if_quoted (stopped_first (fragment c.args.text.now) c.in_err-begin_text.ensures))
 
 pub returns-in_err-write_fragment : goal.returns-in_err-write_fragment
 returns-in_err-write_fragment g c =

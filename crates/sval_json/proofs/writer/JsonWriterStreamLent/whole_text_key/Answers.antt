@@ -1,9 +1,9 @@
 use Rattle.std.proofs.Common.{rules, sym, ap, subst, ◌∙◌, ◌≡◌, ◌++◌, ◌-◌, codes, drop, take, length, take_all, length-drop, List, ℕ, true, false, refl, arith}
-use Rattle.sval_core.specs.Values.{makes, whole_key_calls}
+use Rattle.sval_core.specs.Values.{whole_key_calls}
 use Rattle.sval_json.specs.Actions.{WriterState, write}
 use Rattle.sval_json.specs.WriterLaw.{Does, writer_state, writer_view}
 use Rattle.std.specs.Prelude.{IsUtf8}
-use Rattle.sval_json.proofs.Passing.{emits_passed}
+use Rattle.sval_json.proofs.Passing.{key_passed}
 use Rattle.sval_json.proofs.Joined.{JoinsAs, emits_joined, escaping, key_begins, key_joins}
 use Rattle.sval_json.proofs.writer.JsonWriterStreamLent.whole_text_key.Goals as goal
 use Rattle.sval_json.proofs.writer.JsonWriterStreamLent.whole_text_key.Goals.{then-self, else-self}
@@ -31,6 +31,6 @@ returns-then-push_plain g c =
     subst (λ (s : WriterState). JoinsAs w.variants s calls bytes (record { named = false; empty = false; quoted = true; handler = s.handler })) (sym state_is)
     (key_joins w.variants w.named w.empty w.quoted c.args.size text c.if-push_plain.ensures.plain) in
     let u : IsUtf8 text = c.text_is_real.ensures in
-    emits_passed c.write_few.result _ _ (makes calls) ((tt, tt), ((tt, tt), ((u, tt), ((tt, tt), ((tt, tt), tt))))) (emits_joined g.K.Sink.told w c.write_few.new.self c.write_few.result calls bytes last joins
+    key_passed c.write_few.result _ _ c.args.size text u (emits_joined g.K.Sink.told w c.write_few.new.self c.write_few.result calls bytes last joins
     (subst (λ b. Does (write b) c.write_few.result (writer_view g.K.Sink.told (record w { named = false; empty = false; quoted = true })) (writer_view g.K.Sink.told c.write_few.new.self)) bytes_are c.write_few.ensures.does)
     c.write_few.ensures.full)
