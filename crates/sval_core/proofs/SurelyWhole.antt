@@ -6,8 +6,7 @@ use Rattle.std.proofs.ByRecursion.{All-push}
 use Rattle.std.proofs.lemmas.List.{take_more, map-append}
 use Rattle.sval_label.specs.Calls.{Head, Slot, Name, IntType}
 use Rattle.sval_core.specs.Trees as tree
-use Rattle.sval_core.specs.Trees.{Tree, Parts, none, part, text_kind, MayHold, AreInOrder, Ordinary}
-use Rattle.sval_core.specs.Spells.{entries}
+use Rattle.sval_core.specs.Trees.{Tree, Parts, none, part, text_kind, MayHold, Ordinary}
 use Rattle.sval_core.specs.Law.{Emission, then_emits}
 use Rattle.sval_core.specs.Names.{tag_alone, constant_size_tag, some_name, none_name}
 use Rattle.sval_core.specs.Values.{part_emission, entry_emission, tagged_emission, tag_emission, parts_emission, null_emission, truth_emission, int_emission, one_text_emission, binary_emission, binary_array_emission, seq_emission, array_emission, map_emission, option_emission, tuple_emission}
@@ -15,7 +14,7 @@ use Rattle.sval_core.specs.ValueTrees.{Tells, TellsParts}
 use Rattle.sval_core.specs.ValueLaws.{TellEach}
 use Rattle.sval_core.specs.OneValue.{IsOneValue, EachIsOneValue, EachEntryIsWhole}
 use Rattle.sval_core.proofs.Joining.{associate}
-use Rattle.sval_core.proofs.ToldTrees.{tagged_tells, enums_tell, no_part_tells, part_tells, container_tells, plain_values_tell, tuple_tells}
+use Rattle.sval_core.proofs.ToldTrees.{TellsEntries, entries_tell_container, tagged_tells, enums_tell, no_part_tells, part_tells, plain_values_tell, tuple_tells}
 
 -- what tells a tree is one whole value, and the other way round
 pub whole_from_told : {e : Emission} {t : Tree} → Tells e t → IsOneValue e
@@ -60,22 +59,21 @@ tagged_is_whole name e ordinary one =
 
 module _ {T : Type 0} (emission : T → Emission) where
   items_are_parts : (xs : List T) → EachIsOneValue emission xs
-      → (parts : Parts) × TellsParts (parts_emission (λ x. part_emission Slot.Item (emission x)) xs) parts × AreInOrder tree.Item parts × (entries parts ≡ length xs)
+      → (parts : Parts) × TellsEntries tree.Item (parts_emission (λ x. part_emission Slot.Item (emission x)) xs) parts (length xs)
   unfolding parts_emission
-  items_are_parts [] all = (none, no_part_tells, tt, refl)
+  items_are_parts [] all = (none, record { tells = no_part_tells; in_order = tt; counted = refl })
   items_are_parts (x ∷ xs) all =
-      let more = items_are_parts xs all.1 in
-      let count = more.3 in (
+      let more = items_are_parts xs all.1 in (
         part Slot.Item all.0.spells.0 more.0,
-        part_tells Slot.Item (emission x) (parts_emission (λ x. part_emission Slot.Item (emission x)) xs) all.0.spells.0 more.0 (told_from_whole all.0) more.1,
-        (refl, more.2),
-        omega arith,
+        record {
+          tells = part_tells Slot.Item (emission x) (parts_emission (λ x. part_emission Slot.Item (emission x)) xs) all.0.spells.0 more.0 (told_from_whole all.0) more.1.tells;
+          in_order = (refl, more.1.in_order);
+          counted = omega (arith, more.1.counted);
+        },
       )
 
   pub seq_is_whole : (xs : List T) → EachIsOneValue emission xs → IsOneValue (seq_emission emission xs)
-  seq_is_whole xs all =
-      let items = items_are_parts xs all in
-      whole_from_told (container_tells Head.Seq (length xs) (parts_emission (λ x. part_emission Slot.Item (emission x)) xs) items.0 items.1 items.2 items.3)
+  seq_is_whole xs all = whole_from_told (entries_tell_container Head.Seq (items_are_parts xs all).1)
 
   pub array_is_whole : (xs : List T) → EachIsOneValue emission xs → IsOneValue (array_emission emission xs)
   array_is_whole xs all = tagged_is_whole (tag_alone constant_size_tag) (seq_emission emission xs) refl (seq_is_whole xs all)
@@ -97,20 +95,21 @@ module _ {K V : Type 0} (key : K → Emission) (value : V → Emission) where
   entry e = entry_emission (key e.0) (value e.1)
 
   entries_are_parts : (all : List (K × V)) → EachEntryIsWhole key value all
-      → (parts : Parts) × TellsParts (parts_emission entry all) parts × AreInOrder tree.Key parts × (entries parts ≡ length all)
+      → (parts : Parts) × TellsEntries tree.Key (parts_emission entry all) parts (length all)
   unfolding parts_emission
-  entries_are_parts [] each = (none, no_part_tells, tt, refl)
+  entries_are_parts [] each = (none, record { tells = no_part_tells; in_order = tt; counted = refl })
   entries_are_parts (e ∷ all) each =
       let more = entries_are_parts all each.1 in
-      let count = more.3 in
       let rest = parts_emission entry all in
       let held = part Slot.Value each.0.1.spells.0 more.0 in (
         part Slot.Key each.0.0.spells.0 held,
-        subst (λ x. TellsParts x (part Slot.Key each.0.0.spells.0 held)) (sym (associate (part_emission Slot.Key (key e.0)) (part_emission Slot.Value (value e.1)) rest))
-            (part_tells Slot.Key (key e.0) (then_emits (part_emission Slot.Value (value e.1)) rest) each.0.0.spells.0 held (told_from_whole each.0.0)
-            (part_tells Slot.Value (value e.1) rest each.0.1.spells.0 more.0 (told_from_whole each.0.1) more.1)),
-        (refl, (refl, more.2)),
-        omega arith,
+        record {
+          tells = subst (λ x. TellsParts x (part Slot.Key each.0.0.spells.0 held)) (sym (associate (part_emission Slot.Key (key e.0)) (part_emission Slot.Value (value e.1)) rest))
+              (part_tells Slot.Key (key e.0) (then_emits (part_emission Slot.Value (value e.1)) rest) each.0.0.spells.0 held (told_from_whole each.0.0)
+              (part_tells Slot.Value (value e.1) rest each.0.1.spells.0 more.0 (told_from_whole each.0.1) more.1.tells));
+          in_order = (refl, (refl, more.1.in_order));
+          counted = omega (arith, more.1.counted);
+        },
       )
 
   -- one entry more of those that an iterator gives
@@ -120,9 +119,7 @@ module _ {K V : Type 0} (key : K → Emission) (value : V → Emission) where
       subst (EachEntryIsWhole key value) (sym (map-append shows xs (x ∷ []))) (All-push (λ e. IsOneValue (key e.0) × IsOneValue (value e.1)) (map shows xs) (shows x) each one)
 
   pub map_is_whole : (all : List (K × V)) → EachEntryIsWhole key value all → IsOneValue (map_emission key value all)
-  map_is_whole all each =
-      let parts = entries_are_parts all each in
-      whole_from_told (container_tells Head.Map (length all) (parts_emission entry all) parts.0 parts.1 parts.2 parts.3)
+  map_is_whole all each = whole_from_told (entries_tell_container Head.Map (entries_are_parts all each).1)
 
 -- ---- tuples
 

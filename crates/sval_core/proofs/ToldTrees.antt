@@ -5,7 +5,7 @@ use Rattle.std.proofs.Common.{ap, ◌∙◌, sym, subst, arith, append_assoc, ap
 use Rattle.std.proofs.lemmas.List.Elements.{filter_map-append}
 use Rattle.sval_label.specs.Calls.{Call, Head, Slot, Name, Label}
 use Rattle.sval_core.specs.Trees as tree
-use Rattle.sval_core.specs.Trees.{Tree, Null, Truth, Int, Text, Binary, Standalone, Tagged, EmptyEnum, Enum, Container, Parts, none, part, text_kind, MayHold, IsVariant, plain_name, plain_label, plain_head, plain_slot, first_kind, AreInOrder, IsGood, AreGood}
+use Rattle.sval_core.specs.Trees.{Kind, Tree, Null, Truth, Int, Text, Binary, Standalone, Tagged, EmptyEnum, Enum, Container, Parts, none, part, text_kind, MayHold, IsVariant, plain_name, plain_label, plain_head, plain_slot, first_kind, AreInOrder}
 use Rattle.sval_core.specs.Spells.{bare_name, bare_head, bare_slot, plain_call, plain, entries, Says, SayParts}
 use Rattle.sval_core.specs.Law.{Emission, silent, emits, then_emits}
 use Rattle.sval_core.specs.Names.{tag_alone, constant_size_tag, no_name, offset, some_name}
@@ -49,21 +49,6 @@ plain_label_twice (Some label) = refl
 pub plain_name_twice : (name : Name) → plain_name (plain_name name) ≡ plain_name name
 plain_name_twice name = ap (λ label. let n : Name = record { tag = name.tag; label = label; index = name.index } in n) (plain_label_twice name.label)
 
-pub plain_head_twice : (head : Head) → plain_head (plain_head head) ≡ plain_head head
-plain_head_twice Head.Seq = refl
-plain_head_twice Head.Map = refl
-plain_head_twice (Head.Record name) = ap Head.Record (plain_name_twice name)
-plain_head_twice (Head.Tuple name) = ap Head.Tuple (plain_name_twice name)
-plain_head_twice (Head.RecordTuple name) = ap Head.RecordTuple (plain_name_twice name)
-
-pub plain_slot_twice : (slot : Slot) → plain_slot (plain_slot slot) ≡ plain_slot slot
-plain_slot_twice Slot.Item = refl
-plain_slot_twice Slot.Key = refl
-plain_slot_twice Slot.Value = refl
-plain_slot_twice (Slot.Field tag label) = refl
-plain_slot_twice (Slot.Place tag index) = refl
-plain_slot_twice (Slot.FieldPlace tag label index) = refl
-
 pub bare_plain_name : (name : Name) → bare_name (plain_name name) ≡ bare_name name
 bare_plain_name name = go name.label
   where
@@ -71,28 +56,34 @@ bare_plain_name name = go name.label
     go None = refl
     go (Some label) = refl
 
+-- what a head that a tree keeps is once more kept, what its end keeps of it, and what it may hold
+kept_head : (head : Head) → (plain_head (plain_head head) ≡ plain_head head) × (bare_head (plain_head head) ≡ bare_head head) × (first_kind (plain_head head) ≡ first_kind head)
+kept_head Head.Seq = (refl, refl, refl)
+kept_head Head.Map = (refl, refl, refl)
+kept_head (Head.Record name) = (ap Head.Record (plain_name_twice name), ap Head.Record (bare_plain_name name), refl)
+kept_head (Head.Tuple name) = (ap Head.Tuple (plain_name_twice name), ap Head.Tuple (bare_plain_name name), refl)
+kept_head (Head.RecordTuple name) = (ap Head.RecordTuple (plain_name_twice name), ap Head.RecordTuple (bare_plain_name name), refl)
+
+pub plain_head_twice : (head : Head) → plain_head (plain_head head) ≡ plain_head head
+plain_head_twice head = (kept_head head).0
+
 pub bare_plain_head : (head : Head) → bare_head (plain_head head) ≡ bare_head head
-bare_plain_head Head.Seq = refl
-bare_plain_head Head.Map = refl
-bare_plain_head (Head.Record name) = ap Head.Record (bare_plain_name name)
-bare_plain_head (Head.Tuple name) = ap Head.Tuple (bare_plain_name name)
-bare_plain_head (Head.RecordTuple name) = ap Head.RecordTuple (bare_plain_name name)
+bare_plain_head head = (kept_head head).1
+
+-- the same of the place of a part
+kept_slot : (slot : Slot) → (plain_slot (plain_slot slot) ≡ plain_slot slot) × (bare_slot (plain_slot slot) ≡ bare_slot slot)
+kept_slot Slot.Item = (refl, refl)
+kept_slot Slot.Key = (refl, refl)
+kept_slot Slot.Value = (refl, refl)
+kept_slot (Slot.Field tag label) = (refl, refl)
+kept_slot (Slot.Place tag index) = (refl, refl)
+kept_slot (Slot.FieldPlace tag label index) = (refl, refl)
+
+pub plain_slot_twice : (slot : Slot) → plain_slot (plain_slot slot) ≡ plain_slot slot
+plain_slot_twice slot = (kept_slot slot).0
 
 pub bare_plain_slot : (slot : Slot) → bare_slot (plain_slot slot) ≡ bare_slot slot
-bare_plain_slot Slot.Item = refl
-bare_plain_slot Slot.Key = refl
-bare_plain_slot Slot.Value = refl
-bare_plain_slot (Slot.Field tag label) = refl
-bare_plain_slot (Slot.Place tag index) = refl
-bare_plain_slot (Slot.FieldPlace tag label index) = refl
-
--- a head that a tree keeps may hold what its own may
-same_first_kind : (head : Head) → first_kind (plain_head head) ≡ first_kind head
-same_first_kind Head.Seq = refl
-same_first_kind Head.Map = refl
-same_first_kind (Head.Record name) = refl
-same_first_kind (Head.Tuple name) = refl
-same_first_kind (Head.RecordTuple name) = refl
+bare_plain_slot slot = (kept_slot slot).1
 
 -- ---- one layer
 
@@ -186,7 +177,7 @@ container_tells head size e parts tells order count =
     subst (λ x. Tells x (Container (plain_head head) parts)) (sym (between_is (Call.Begin head (Some size)) (Call.End head) e tells.willing)) (record {
       willing = refl;
       spells = (
-        (plain_head_twice head, subst (λ k. AreInOrder k parts) (sym (same_first_kind head)) order, tells.good),
+        (plain_head_twice head, subst (λ k. AreInOrder k parts) (sym (kept_head head).2) order, tells.good),
         (
           Some size,
           plain (e.calls ++ Call.End head ∷ []),
@@ -199,6 +190,16 @@ container_tells head size e parts tells order count =
         ),
       );
     })
+
+-- the emission is the parts of a container from this kind of part on, which are in order and so many entries
+pub record TellsEntries (kind : Kind) (e : Emission) (parts : Parts) (size : ℕ) : Type 0 where
+  pub tells : TellsParts e parts
+  pub in_order : AreInOrder kind parts
+  pub counted : entries parts ≡ size
+
+pub entries_tell_container : (head : Head) {size : ℕ} {e : Emission} {parts : Parts} → TellsEntries (first_kind head) e parts size
+    → Tells (container_emission head size e) (Container (plain_head head) parts)
+entries_tell_container head {size = size} {e = e} {parts = parts} all = container_tells head size e parts all.tells all.in_order all.counted
 
 -- ---- values that are built of no others
 
@@ -251,41 +252,39 @@ module _ {K V : Type 0} (key : K → Emission) (value : V → Emission) (k : K �
   abbrev entry : K × V → Emission
   entry e = entry_emission (key e.0) (value e.1)
 
-  entries_tell : (all : List (K × V)) → AllByRecursion (λ e. Tells (key e.0) (k e.0) × Tells (value e.1) (v e.1)) all → TellsParts (parts_emission entry all) (entry_parts k v all)
+  entries_tell : (all : List (K × V)) → AllByRecursion (λ e. Tells (key e.0) (k e.0) × Tells (value e.1) (v e.1)) all → TellsEntries tree.Key (parts_emission entry all) (entry_parts k v all) (length all)
   unfolding parts_emission
-  entries_tell [] each = no_part_tells
+  entries_tell [] each = record { tells = no_part_tells; in_order = tt; counted = refl }
   entries_tell (e ∷ all) each =
       let rest = parts_emission entry all in
-      subst (λ x. TellsParts x (entry_parts k v (e ∷ all))) (sym (associate (part_emission Slot.Key (key e.0)) (part_emission Slot.Value (value e.1)) rest))
-      (part_tells Slot.Key (key e.0) (then_emits (part_emission Slot.Value (value e.1)) rest) (k e.0) (part Slot.Value (v e.1) (entry_parts k v all)) each.0.0
-      (part_tells Slot.Value (value e.1) rest (v e.1) (entry_parts k v all) each.0.1 (entries_tell all each.1)))
-
-  entries_in_order : (all : List (K × V)) → AreInOrder tree.Key (entry_parts k v all)
-  entries_in_order [] = tt
-  entries_in_order (e ∷ all) = (refl, (refl, entries_in_order all))
-
-  entries_count : (all : List (K × V)) → entries (entry_parts k v all) ≡ length all
-  entries_count [] = refl
-  entries_count (e ∷ all) = let more = entries_count all in omega arith
+      let more = entries_tell all each.1 in
+      record {
+        tells = subst (λ x. TellsParts x (entry_parts k v (e ∷ all))) (sym (associate (part_emission Slot.Key (key e.0)) (part_emission Slot.Value (value e.1)) rest))
+            (part_tells Slot.Key (key e.0) (then_emits (part_emission Slot.Value (value e.1)) rest) (k e.0) (part Slot.Value (v e.1) (entry_parts k v all)) each.0.0
+            (part_tells Slot.Value (value e.1) rest (v e.1) (entry_parts k v all) each.0.1 more.tells));
+        in_order = (refl, (refl, more.in_order));
+        counted = omega (arith, more.counted);
+      }
 
   pub map_tells : (all : List (K × V)) → AllByRecursion (λ e. Tells (key e.0) (k e.0) × Tells (value e.1) (v e.1)) all → Tells (map_emission key value all) (map_tree k v all)
-  map_tells all each = container_tells Head.Map (length all) (parts_emission entry all) (entry_parts k v all) (entries_tell all each) (entries_in_order all) (entries_count all)
+  map_tells all each = entries_tell_container Head.Map (entries_tell all each)
 
-places_tell : (i : ℕ) (es : List Emission) (ts : List Tree) → TellEach es ts → TellsParts (places_emission i es) (place_parts i ts)
-places_tell i [] [] each = no_part_tells
+places_tell : (i : ℕ) (es : List Emission) (ts : List Tree) → TellEach es ts → TellsEntries tree.Place (places_emission i es) (place_parts i ts) (length es)
+places_tell i [] [] each = record { tells = no_part_tells; in_order = tt; counted = refl }
 places_tell i [] (t ∷ ts) each = absurd each
 places_tell i (e ∷ es) [] each = absurd each
-places_tell i (e ∷ es) (t ∷ ts) each = part_tells (Slot.Place None (offset i)) e (places_emission (i + 1) es) t (place_parts (i + 1) ts) each.0 (places_tell (i + 1) es ts each.1)
+places_tell i (e ∷ es) (t ∷ ts) each =
+    let more = places_tell (i + 1) es ts each.1 in
+    record {
+      tells = part_tells (Slot.Place None (offset i)) e (places_emission (i + 1) es) t (place_parts (i + 1) ts) each.0 more.tells;
+      in_order = (refl, more.in_order);
+      counted = omega (arith, more.counted);
+    }
 
-places_in_order : (i : ℕ) (ts : List Tree) → AreInOrder tree.Place (place_parts i ts)
-places_in_order i [] = tt
-places_in_order i (t ∷ ts) = (refl, places_in_order (i + 1) ts)
-
-places_count : (i : ℕ) (es : List Emission) (ts : List Tree) → TellEach es ts → entries (place_parts i ts) ≡ length es
-places_count i [] [] each = refl
-places_count i [] (t ∷ ts) each = absurd each
-places_count i (e ∷ es) [] each = absurd each
-places_count i (e ∷ es) (t ∷ ts) each = let more = places_count (i + 1) es ts each.1 in omega arith
+-- a tuple of any name
+pub places_container_tells : (name : Name) (es : List Emission) (ts : List Tree) → TellEach es ts
+    → Tells (container_emission (Head.Tuple name) (length es) (places_emission 0 es)) (Container (plain_head (Head.Tuple name)) (place_parts 0 ts))
+places_container_tells name es ts each = entries_tell_container (Head.Tuple name) (places_tell 0 es ts each)
 
 pub tuple_tells : (es : List Emission) (ts : List Tree) → TellEach es ts → Tells (tuple_emission es) (tuple_tree ts)
-tuple_tells es ts each = container_tells (Head.Tuple no_name) (length es) (places_emission 0 es) (place_parts 0 ts) (places_tell 0 es ts each) (places_in_order 0 ts) (places_count 0 es ts each)
+tuple_tells es ts each = places_container_tells no_name es ts each
