@@ -22,4 +22,4 @@ pub use sval_label::{
     NoMemory, Result, Slot, Tag, refusal, tags,
 };
 pub use value::Value;
-pub use values::{Null, stream_seq, stream_str};
+pub use values::{Null, stream_seq, stream_str, stream_tuple_value};

@@ -18,3 +18,4 @@ mod tuples;
 pub use leaves::Null;
 pub use sequences::stream_seq;
 pub use texts::stream_str;
+pub use tuple_streaming::stream_tuple_value;

@@ -11,35 +11,35 @@ use crate::value::Value;
 use crate::values::names::place;
 use sval_label::{Lending, Lent, Result};
 
-/// Begins the field of a tuple at this place.
-fn begin_field<L: Lending, S: Stream<L>>(stream: &mut S, number: usize) -> Result
+/// Begins the value of a tuple at the index `number`.
+fn begin_value<L: Lending, S: Stream<L>>(stream: &mut S, number: usize) -> Result
     ensures { Answers S.law result
         (S.standing stream.old) (PartBegin (Place None (offset number))) (S.standing stream.new) }
 {
     stream.tuple_value_begin(None, &place(number))
 }
 
-/// Ends the field of a tuple at this place.
-fn end_field<L: Lending, S: Stream<L>>(stream: &mut S, number: usize) -> Result
+/// Ends the value of a tuple at the index `number`.
+fn end_value<L: Lending, S: Stream<L>>(stream: &mut S, number: usize) -> Result
     ensures { Answers S.law result
         (S.standing stream.old) (PartEnd (Place None (offset number))) (S.standing stream.new) }
 {
     stream.tuple_value_end(None, &place(number))
 }
 
-/// Streams the field of a tuple at this place.
+/// Streams `value` as the value of a tuple at the index `number`, between `tuple_value_begin` and `tuple_value_end`.
 #[tactic(auto, using(crate::proofs::Between::of_between))]
-fn stream_field<'v, L: Lending, T: Value<'v, L>, S: Stream<L>>(
+pub fn stream_tuple_value<'v, L: Lending, T: Value<'v, L>, S: Stream<L>>(
     stream: &mut S,
     number: usize,
-    field: &'v T,
+    value: &'v T,
 ) -> Result
     ensures { Emits S.law result (S.standing stream.old)
-        (part_emission (Place None (offset number)) (T.emission field.now)) (S.standing stream.new) }
+        (part_emission (Place None (offset number)) (T.emission value.now)) (S.standing stream.new) }
 {
-    begin_field(stream, number)?;
-    field.stream(stream)?;
-    end_field(stream, number)
+    begin_value(stream, number)?;
+    value.stream(stream)?;
+    end_value(stream, number)
 }
 
 /// A tuple without a name that is streamed field by field, as std's `DebugTuple` prints one. Nothing more is streamed
@@ -77,7 +77,7 @@ impl TupleStreaming {
     {
         match self.result {
             Ok(()) => TupleStreaming {
-                result: stream_field(stream, number, field),
+                result: stream_tuple_value(stream, number, field),
             },
             Err(_) => self,
         }

@@ -8,8 +8,8 @@ use Rattle.sval_core.proofs.values.tuple_streaming.TupleStreaming.field.Goals as
 
 pub returns-in-Ok : goal.returns-in-Ok
 returns-in-Ok g c start before e =
-    emits_then c.stream_field.result (g.S.Stream.standing c.stream_field.new.stream) before
-    (part_emission (Place None (offset c.args.number)) (g.T.Value.emission c.args.field.now)) (rw c.in-Ok.is at e) c.stream_field.ensures
+    emits_then c.stream_tuple_value.result (g.S.Stream.standing c.stream_tuple_value.new.stream) before
+    (part_emission (Place None (offset c.args.number)) (g.T.Value.emission c.args.field.now)) (rw c.in-Ok.is at e) c.stream_tuple_value.ensures
 
 pub returns-in-Err : goal.returns-in-Err
 returns-in-Err g c start before e =
