@@ -1,68 +1,53 @@
 -- Where the values of fields tell trees, a struct of them tells the tree of these.
-use Rattle.std.specs.Prelude.{◌≡◌, ℕ, ◌+◌, List, [], ◌∷◌, length, None, refl}
+use Rattle.std.specs.Prelude.{ℕ, ◌+◌, List, [], ◌∷◌, length, None, refl}
 use Rattle.std.proofs.Common.{arith, subst}
 use Rattle.sval_label.specs.Calls.{Head, Slot, Name}
-use Rattle.sval_core.specs.Law.{Emission}
 use Rattle.sval_core.specs.Names.{ident, offset, no_name}
 use Rattle.sval_core.specs.Trees as tree
-use Rattle.sval_core.specs.Trees.{Tree, Container, FieldPlace, part, plain_slot, plain_head, AreInOrder}
-use Rattle.sval_core.specs.Spells.{entries}
+use Rattle.sval_core.specs.Trees.{Container, FieldPlace, part, plain_slot, plain_head}
 use Rattle.sval_core.specs.Values.{container_emission, tag_emission, tagged_emission, places_emission}
-use Rattle.sval_core.specs.ValueTrees.{Tells, TellsParts, place_parts}
-use Rattle.sval_core.specs.ValueLaws.{TellEach}
-use Rattle.sval_core.proofs.ToldTrees.{part_tells, container_tells, no_part_tells, tagged_tells, enum_tells, enums_tell}
+use Rattle.sval_core.specs.ValueTrees.{Tells, TellsParts}
+use Rattle.sval_core.proofs.ToldTrees.{TellsEntries, entries_tell_container, places_container_tells, part_tells, no_part_tells, tagged_tells, enum_tells, enums_tell}
 use Rattle.sval.specs.Structs.{Field, field_label, type_name, variant_name, fields_emission, placed_emission, record_emission, struct_emission, unit_struct_emission, newtype_emission, tuple_struct_emission, unit_variant_emission, value_variant_emission, struct_variant_emission, tuple_variant_emission}
 use Rattle.sval.specs.StructTrees.{NamedTree, named_parts, placed_parts, FieldsTell, RecordsTell, StructsTell, UnitStructsTell, NewtypesTell, TupleStructsTell, UnitVariantsTell, ValueVariantsTell, TupleVariantsTell, StructVariantsTell}
 
 -- ---- fields under their names
 
-named_tell : (fs : List Field) (ts : List NamedTree) → FieldsTell fs ts → TellsParts (fields_emission fs) (named_parts ts)
-named_tell [] [] each = no_part_tells
+named_tell : (fs : List Field) (ts : List NamedTree) → FieldsTell fs ts → TellsEntries tree.Field (fields_emission fs) (named_parts ts) (length fs)
+named_tell [] [] each = record { tells = no_part_tells; in_order = tt; counted = refl }
 named_tell [] (t ∷ ts) each = absurd each
 named_tell (f ∷ fs) [] each = absurd each
 named_tell (f ∷ fs) (t ∷ ts) each =
-    subst (λ n. TellsParts (fields_emission (f ∷ fs)) (part (plain_slot (Slot.Field None (field_label n))) t.tree (named_parts ts))) each.0.0
-    (part_tells (Slot.Field None (field_label f.name)) f.value (fields_emission fs) t.tree (named_parts ts) each.0.1 (named_tell fs ts each.1))
-
-named_in_order : (ts : List NamedTree) → AreInOrder tree.Field (named_parts ts)
-named_in_order [] = tt
-named_in_order (t ∷ ts) = (refl, named_in_order ts)
-
-named_counted : (fs : List Field) (ts : List NamedTree) → FieldsTell fs ts → entries (named_parts ts) ≡ length fs
-named_counted [] [] each = refl
-named_counted [] (t ∷ ts) each = absurd each
-named_counted (f ∷ fs) [] each = absurd each
-named_counted (f ∷ fs) (t ∷ ts) each = let more = named_counted fs ts each.1 in omega arith
+    let more = named_tell fs ts each.1 in
+    record {
+      tells = subst (λ n. TellsParts (fields_emission (f ∷ fs)) (part (plain_slot (Slot.Field None (field_label n))) t.tree (named_parts ts))) each.0.0
+          (part_tells (Slot.Field None (field_label f.name)) f.value (fields_emission fs) t.tree (named_parts ts) each.0.1 more.tells);
+      in_order = (refl, more.in_order);
+      counted = omega (arith, more.counted);
+    }
 
 pub records_tell : RecordsTell
 unfolding record_emission
-records_tell fs ts each =
-    container_tells (Head.Record no_name) (length fs) (fields_emission fs) (named_parts ts) (named_tell fs ts each) (named_in_order ts) (named_counted fs ts each)
+records_tell fs ts each = entries_tell_container (Head.Record no_name) (named_tell fs ts each)
 
 -- ---- fields under their names and places
 
-placed_tell : (i : ℕ) (fs : List Field) (ts : List NamedTree) → FieldsTell fs ts → TellsParts (placed_emission i fs) (placed_parts i ts)
-placed_tell i [] [] each = no_part_tells
+placed_tell : (i : ℕ) (fs : List Field) (ts : List NamedTree) → FieldsTell fs ts → TellsEntries FieldPlace (placed_emission i fs) (placed_parts i ts) (length fs)
+placed_tell i [] [] each = record { tells = no_part_tells; in_order = tt; counted = refl }
 placed_tell i [] (t ∷ ts) each = absurd each
 placed_tell i (f ∷ fs) [] each = absurd each
 placed_tell i (f ∷ fs) (t ∷ ts) each =
-    subst (λ n. TellsParts (placed_emission i (f ∷ fs)) (part (plain_slot (Slot.FieldPlace None (ident n) (offset i))) t.tree (placed_parts (i + 1) ts))) each.0.0
-    (part_tells (Slot.FieldPlace None (ident f.name) (offset i)) f.value (placed_emission (i + 1) fs) t.tree (placed_parts (i + 1) ts) each.0.1 (placed_tell (i + 1) fs ts each.1))
-
-in_order : (i : ℕ) (ts : List NamedTree) → AreInOrder FieldPlace (placed_parts i ts)
-in_order i [] = tt
-in_order i (t ∷ ts) = (refl, in_order (i + 1) ts)
-
-counted : (i : ℕ) (fs : List Field) (ts : List NamedTree) → FieldsTell fs ts → entries (placed_parts i ts) ≡ length fs
-counted i [] [] each = refl
-counted i [] (t ∷ ts) each = absurd each
-counted i (f ∷ fs) [] each = absurd each
-counted i (f ∷ fs) (t ∷ ts) each = let more = counted (i + 1) fs ts each.1 in omega arith
+    let more = placed_tell (i + 1) fs ts each.1 in
+    record {
+      tells = subst (λ n. TellsParts (placed_emission i (f ∷ fs)) (part (plain_slot (Slot.FieldPlace None (ident n) (offset i))) t.tree (placed_parts (i + 1) ts))) each.0.0
+          (part_tells (Slot.FieldPlace None (ident f.name) (offset i)) f.value (placed_emission (i + 1) fs) t.tree (placed_parts (i + 1) ts) each.0.1 more.tells);
+      in_order = (refl, more.in_order);
+      counted = omega (arith, more.counted);
+    }
 
 named_tells : (name : Name) (fs : List Field) (ts : List NamedTree) → FieldsTell fs ts
     → Tells (container_emission (Head.RecordTuple name) (length fs) (placed_emission 0 fs)) (Container (plain_head (Head.RecordTuple name)) (placed_parts 0 ts))
-named_tells name fs ts each =
-    container_tells (Head.RecordTuple name) (length fs) (placed_emission 0 fs) (placed_parts 0 ts) (placed_tell 0 fs ts each) (in_order 0 ts) (counted 0 fs ts each)
+named_tells name fs ts each = entries_tell_container (Head.RecordTuple name) (placed_tell 0 fs ts each)
 
 pub structs_tell : StructsTell
 unfolding struct_emission
@@ -70,30 +55,9 @@ structs_tell name fs ts each = named_tells (type_name name) fs ts each
 
 -- ---- fields under their places
 
-places_tell : (i : ℕ) (es : List Emission) (ts : List Tree) → TellEach es ts → TellsParts (places_emission i es) (place_parts i ts)
-places_tell i [] [] each = no_part_tells
-places_tell i [] (t ∷ ts) each = absurd each
-places_tell i (e ∷ es) [] each = absurd each
-places_tell i (e ∷ es) (t ∷ ts) each = part_tells (Slot.Place None (offset i)) e (places_emission (i + 1) es) t (place_parts (i + 1) ts) each.0 (places_tell (i + 1) es ts each.1)
-
-places_in_order : (i : ℕ) (ts : List Tree) → AreInOrder tree.Place (place_parts i ts)
-places_in_order i [] = tt
-places_in_order i (t ∷ ts) = (refl, places_in_order (i + 1) ts)
-
-places_counted : (i : ℕ) (es : List Emission) (ts : List Tree) → TellEach es ts → entries (place_parts i ts) ≡ length es
-places_counted i [] [] each = refl
-places_counted i [] (t ∷ ts) each = absurd each
-places_counted i (e ∷ es) [] each = absurd each
-places_counted i (e ∷ es) (t ∷ ts) each = let more = places_counted (i + 1) es ts each.1 in omega arith
-
-tuples_tell : (name : Name) (es : List Emission) (ts : List Tree) → TellEach es ts
-    → Tells (container_emission (Head.Tuple name) (length es) (places_emission 0 es)) (Container (plain_head (Head.Tuple name)) (place_parts 0 ts))
-tuples_tell name es ts each =
-    container_tells (Head.Tuple name) (length es) (places_emission 0 es) (place_parts 0 ts) (places_tell 0 es ts each) (places_in_order 0 ts) (places_counted 0 es ts each)
-
 pub tuple_structs_tell : TupleStructsTell
 unfolding tuple_struct_emission
-tuple_structs_tell name es ts each = tuples_tell (type_name name) es ts each
+tuple_structs_tell name es ts each = places_container_tells (type_name name) es ts each
 
 -- ---- structs that hold nothing or one value
 
@@ -121,7 +85,7 @@ pub tuple_variants_tell : TupleVariantsTell
 unfolding tuple_variant_emission
 tuple_variants_tell type variant place es ts each =
     enum_tells (type_name type) (container_emission (Head.Tuple (variant_name variant place)) (length es) (places_emission 0 es)) _ tt
-    (tuples_tell (variant_name variant place) es ts each)
+    (places_container_tells (variant_name variant place) es ts each)
 
 pub struct_variants_tell : StructVariantsTell
 unfolding struct_variant_emission

@@ -1,14 +1,11 @@
 //! The fields of tuple structs and of tuple variants.
 
-ghost use Rattle.std.specs.Prelude.{◌≡◌, ◌+◌, ◌^◌, ◌<◌, true, List, [], ◌∷◌, length, None};
-ghost use Rattle.sval_label.specs.Calls.{PartBegin, PartEnd, Place};
-ghost use Rattle.sval_core.specs.Law.{Emission, Answers, Emits};
-ghost use Rattle.sval_core.specs.Names.{offset};
+ghost use Rattle.std.specs.Prelude.{◌≡◌, ◌+◌, ◌^◌, ◌<◌, true, List, [], ◌∷◌, length};
+ghost use Rattle.sval_core.specs.Law.{Emission, Emits};
 ghost use Rattle.sval_core.specs.OneValue.{EachIsOneValue};
-ghost use Rattle.sval_core.specs.Values.{part_emission, places_emission};
+ghost use Rattle.sval_core.specs.Values.{places_emission};
 
-use crate::fields::place;
-use sval_core::{Lending, Result, Stream, Value, is_surely_whole};
+use sval_core::{Lending, Result, Stream, Value, is_surely_whole, stream_tuple_value};
 
 /// References to the fields of a tuple struct or a tuple variant, in nested pairs: `()` for no field, and
 /// `(&first, others)` for one before the others.
@@ -65,38 +62,7 @@ impl<'v, L: Lending, T: Value<'v, L>, F: TupleFields<'v, L>> TupleFields<'v, L> 
 
     #[tactic(auto, using(sval_core::proofs::ValueProofs::of_emissions))]
     fn stream_fields<S: Stream<L>>(self, stream: &mut S, first: usize) -> Result {
-        stream_field(stream, first, self.0)?;
+        stream_tuple_value(stream, first, self.0)?;
         self.1.stream_fields(stream, first + 1)
     }
-}
-
-/// Begins the field of a tuple with the index `number`.
-fn begin_field<L: Lending, S: Stream<L>>(stream: &mut S, number: usize) -> Result
-    ensures { Answers S.law result
-        (S.standing stream.old) (PartBegin (Place None (offset number))) (S.standing stream.new) }
-{
-    stream.tuple_value_begin(None, &place(number))
-}
-
-/// Ends the field of a tuple with the index `number`.
-fn end_field<L: Lending, S: Stream<L>>(stream: &mut S, number: usize) -> Result
-    ensures { Answers S.law result
-        (S.standing stream.old) (PartEnd (Place None (offset number))) (S.standing stream.new) }
-{
-    stream.tuple_value_end(None, &place(number))
-}
-
-/// Streams a value as the field of a tuple with the index `number`.
-#[tactic(auto, using(sval_core::proofs::ValueProofs::of_between))]
-fn stream_field<'v, L: Lending, T: Value<'v, L>, S: Stream<L>>(
-    stream: &mut S,
-    number: usize,
-    value: &'v T,
-) -> Result
-    ensures { Emits S.law result (S.standing stream.old)
-        (part_emission (Place None (offset number)) (T.emission value.now)) (S.standing stream.new) }
-{
-    begin_field(stream, number)?;
-    value.stream(stream)?;
-    end_field(stream, number)
 }
