@@ -100,3 +100,16 @@ filled_on xs d b post rest s n len e size h room =
     ∙ ap (λ m. take (m + n) (xs ++ ((b ++ post) ++ rest))) (sym size)
     ∙ take-append-add xs ((b ++ post) ++ rest) n
     ∙ ap (λ x. xs ++ x) (ap (take n) (append_assoc b post rest) ∙ take-append-le n b (post ++ rest) h)
+
+-- a part that was read behind the first bytes of a vector, where these were kept and there was room
+pub part_read : (old : Option (List ℕ)) (mid new : Supply) (before made lent buffer post rest : List ℕ) (filled len n : ℕ)
+    → IsPartlyRead old mid.left (take filled before) → filled ≤ length before → take filled made ≡ take filled before → filled < length made
+    → lent ≡ made → length made ≡ len → length buffer ≡ length (take (length lent - filled) (drop filled lent)) → Gives n mid buffer new
+    → IsPartlyRead old new.left (take (filled + n) (take len ((take filled lent ++ (buffer ++ post)) ++ rest))) × (filled + n ≤ len)
+part_read old mid new before made lent buffer post rest filled len n read there kept room is long size gives =
+    let all : length lent ≡ len = ap length is ∙ long in
+    let behind : length (take (length lent - filled) (drop filled lent)) ≡ length lent - filled =
+    length-take-le (length lent - filled) (drop filled lent) (omega (arith, length-drop filled lent)) in
+    let within : filled + n ≤ len = omega (arith, gives.within) in
+    let items = filled_on (take filled before) lent buffer post rest filled n len (ap (take filled) is ∙ kept) (length-take-le filled before there) gives.within within in
+    (subst (IsPartlyRead old new.left) (sym items) (read_on old mid new (take filled before) buffer n read gives), within)

@@ -1,28 +1,21 @@
-use Rattle.std.proofs.Common.{rules, arith, ◌≡◌, ◌≤◌, ◌+◌, ◌-◌, ◌∙◌, take, drop, length, IfSome, refl, subst, sym, ap}
-use Rattle.std.proofs.lemmas.List.{length-take-le, length-drop, take_all}
+use Rattle.std.proofs.Common.{rules, arith, ◌≡◌, ◌∙◌, take, length, IfSome, refl, subst}
+use Rattle.std.proofs.lemmas.List.{length-take-le, take_all}
 use Rattle.std.proofs.lemmas.Result.{err_from_is_err_and}
 use Rattle.sval_io.specs.WholeInputs.{TakesAll}
-use Rattle.sval_io.proofs.ReadParts.{IsPartlyRead, read_on, read_whole, read_long, read_short, filled_on}
+use Rattle.sval_io.proofs.ReadParts.{read_whole, read_long, read_short, part_read}
 use Rattle.sval_io.proofs.reading.read_input.Goals as goal
 
 pub loop-filled-preserved : goal.loop-filled-preserved
 loop-filled-preserved g c =
     let room = c.in_ok-make_room.ensures in
-    let part = c.in_ok-count.ensures in
     let held : length c.loop-filled.bytes.items ≡ c.loop-filled.bytes.len = search rules in
     let longer : length c.make_room.new.bytes.items ≡ c.make_room.new.bytes.len = search rules in
-    let size : length (take c.loop-filled.filled c.loop-filled.bytes.items) ≡ c.loop-filled.filled =
-    length-take-le c.loop-filled.filled c.loop-filled.bytes.items (omega (arith, c.loop-filled.invariant.filled, held)) in
-    let kept : take c.loop-filled.filled c.deref_mut.result.now ≡ take c.loop-filled.filled c.loop-filled.bytes.items = ap (take c.loop-filled.filled) c.deref_mut.ensures.value ∙ room.kept in
-    let all : length c.deref_mut.result.now ≡ c.make_room.new.bytes.len = ap length c.deref_mut.ensures.value ∙ longer in
-    let within : c.loop-filled.filled + c.in_ok-count.count ≤ c.make_room.new.bytes.len =
-    omega (arith, part.within, c.read.auto.buffer, all, length-drop c.loop-filled.filled c.deref_mut.result.now, length-take-le (length c.deref_mut.result.now - c.loop-filled.filled) (drop c.loop-filled.filled c.deref_mut.result.now) (omega (arith, length-drop c.loop-filled.filled c.deref_mut.result.now)), room.room, longer) in
-    let items = filled_on (take c.loop-filled.filled c.loop-filled.bytes.items) c.deref_mut.result.now c.read.new.buffer _ _ c.loop-filled.filled c.in_ok-count.count c.make_room.new.bytes.len kept size part.within within in
+    let part = part_read _ _ _ c.loop-filled.bytes.items c.make_room.new.bytes.items c.deref_mut.result.now c.read.new.buffer _ _ c.loop-filled.filled c.make_room.new.bytes.len c.in_ok-count.count c.loop-filled.invariant.read (omega (arith, c.loop-filled.invariant.filled, held)) room.kept room.room c.deref_mut.ensures.value longer c.read.auto.buffer c.in_ok-count.ensures in
     record {
-      read = subst (IsPartlyRead _ _) (sym items) (read_on _ _ _ (take c.loop-filled.filled c.loop-filled.bytes.items) c.read.new.buffer c.in_ok-count.count c.loop-filled.invariant.read part);
-      filled = omega (arith, within);
+      read = part.0;
+      filled = omega (arith, part.1, longer);
       short = omega (arith, room.short, longer);
-      faults = part.faults ∙ c.loop-filled.invariant.faults;
+      faults = c.in_ok-count.ensures.faults ∙ c.loop-filled.invariant.faults;
     }
 
 pub returns-in_err-read-clause-err : goal.returns-in_err-read-clause-err
