@@ -3,12 +3,12 @@ use Rattle.sval_buffer.specs.Forest.{Becomes}
 use Rattle.sval_buffer.specs.SeenParts.{begin_call}
 use Rattle.sval_buffer.specs.FlatForest.{forest_in}
 use Rattle.sval_buffer.proofs.Steps.{was_pushed}
-use Rattle.sval_buffer.proofs.KeptParts.{Holds, holds_it, newest_again, holds_begun, tell}
+use Rattle.sval_buffer.proofs.KeptParts.{holds_it, newest_again, holds_begun, tell}
 use Rattle.sval_buffer.proofs.parts.Parts.begin.Goals as goal
 
 pub invariant_of-self-in-Ok : goal.invariant_of-self-in-Ok
 invariant_of-self-in-Ok g c =
-    let h : Holds (g.N.CallStore.calls c.self.inside.named) c.self.inside.parts.items c.self.inside.places.items c.self.inside.in_fragments (forest_in c.args.self.now) = holds_it _ c.self.invariant (ap forest_in c.self.view_is) in
+    let h = holds_it (forest_in c.args.self.now) c.self.invariant (ap forest_in c.self.view_is) in
     let e = was_pushed c.push.result _ _ c.push.ensures.items (ap is_ok c.in-Ok.is) in
     let p : c.push_reserved.new.self.items ≡ c.self.inside.places.items ++ (c.len-place.result ∷ []) = c.push_reserved.ensures.items ∙ ap (λ (qs : List ℕ). qs ++ (c.len-place.result ∷ [])) c.reserve.ensures.items in
     let now = holds_begun h _ (begin_call c.args.begin) c.len-place.result refl (newest_again c.newest.ensures c.self.view_is) (c.len-place.ensures ∙ c.self.inside.parts.ok.0) tt in
@@ -16,7 +16,7 @@ invariant_of-self-in-Ok g c =
 
 pub returns-in-Ok : goal.returns-in-Ok
 returns-in-Ok g c =
-    let h : Holds (g.N.CallStore.calls c.self.inside.named) c.self.inside.parts.items c.self.inside.places.items c.self.inside.in_fragments (forest_in c.args.self.now) = holds_it _ c.self.invariant (ap forest_in c.self.view_is) in
+    let h = holds_it (forest_in c.args.self.now) c.self.invariant (ap forest_in c.self.view_is) in
     let e = was_pushed c.push.result _ _ c.push.ensures.items (ap is_ok c.in-Ok.is) in
     let p : c.push_reserved.new.self.items ≡ c.self.inside.places.items ++ (c.len-place.result ∷ []) = c.push_reserved.ensures.items ∙ ap (λ (qs : List ℕ). qs ++ (c.len-place.result ∷ [])) c.reserve.ensures.items in
     let now = holds_begun h _ (begin_call c.args.begin) c.len-place.result refl (newest_again c.newest.ensures c.self.view_is) (c.len-place.ensures ∙ c.self.inside.parts.ok.0) tt in

@@ -10,7 +10,7 @@ use Rattle.sval_buffer.specs.declared.part.Medium.{Medium}
 use Rattle.sval_buffer.specs.declared.part.Medium.TheVariants as medium
 use Rattle.sval_buffer.specs.FlatForest.{forest_in}
 use Rattle.sval_buffer.proofs.Steps.{was_pushed}
-use Rattle.sval_buffer.proofs.KeptParts.{Holds, holds_it, newest_again, holds_added, holds_flagged, tell}
+use Rattle.sval_buffer.proofs.KeptParts.{holds_it, newest_again, holds_added, holds_flagged, tell}
 use Rattle.sval_buffer.proofs.parts.Parts.begin_fragments.Goals as goal
 
 one : (calls : List Call) (m : Medium) (k : Keeping) → flat_node (no_fragments m k) ≡ flat_part (flat_kind calls (no_fragments_yet m k)) (holds_of (no_fragments_yet m k)) ∷ []
@@ -27,7 +27,7 @@ kept n medium.Binary k = tt
 
 pub invariant_of-self : goal.invariant_of-self
 invariant_of-self g c =
-    let h : Holds (g.N.CallStore.calls c.self.inside.named) c.self.inside.parts.items c.self.inside.places.items c.self.inside.in_fragments (forest_in c.args.self.now) = holds_it _ c.self.invariant (ap forest_in c.self.view_is) in
+    let h = holds_it (forest_in c.args.self.now) c.self.invariant (ap forest_in c.self.view_is) in
     let calls = g.N.CallStore.calls c.self.inside.named in
     let e = was_pushed c.push.result _ _ c.push.ensures.items (ap is_ok c.in-Ok.is) in
     let p : Part = record { kind = no_fragments_yet c.args.medium c.args.keeping; holder = c.newest.result } in
@@ -36,7 +36,7 @@ invariant_of-self g c =
 
 pub returns-in-Ok : goal.returns-in-Ok
 returns-in-Ok g c =
-    let h : Holds (g.N.CallStore.calls c.self.inside.named) c.self.inside.parts.items c.self.inside.places.items c.self.inside.in_fragments (forest_in c.args.self.now) = holds_it _ c.self.invariant (ap forest_in c.self.view_is) in
+    let h = holds_it (forest_in c.args.self.now) c.self.invariant (ap forest_in c.self.view_is) in
     let calls = g.N.CallStore.calls c.self.inside.named in
     let e = was_pushed c.push.result _ _ c.push.ensures.items (ap is_ok c.in-Ok.is) in
     let p : Part = record { kind = no_fragments_yet c.args.medium c.args.keeping; holder = c.newest.result } in

@@ -2,13 +2,13 @@ use Rattle.std.proofs.Common.{◌≡◌, ℕ, List, [], ◌∷◌, ◌++◌, ap,
 use Rattle.sval_buffer.specs.Forest.{Becomes}
 use Rattle.sval_buffer.specs.declared.part.Part.{Part}
 use Rattle.sval_buffer.specs.FlatForest.{forest_in}
-use Rattle.sval_buffer.proofs.KeptParts.{Holds, holds_it, newest_again, tell}
+use Rattle.sval_buffer.proofs.KeptParts.{holds_it, newest_again, tell}
 use Rattle.sval_buffer.proofs.NamedParts.{named_container, holds_container}
 use Rattle.sval_buffer.proofs.parts.Parts.begin_named.Goals as goal
 
 pub invariant_of-self-in-Ok : goal.invariant_of-self-in-Ok
 invariant_of-self-in-Ok g c =
-    let h : Holds (g.N.CallStore.calls c.self.inside.named) c.self.inside.parts.items c.self.inside.places.items c.self.inside.in_fragments (forest_in c.args.self.now) = holds_it _ c.self.invariant (ap forest_in c.self.view_is) in
+    let h = holds_it (forest_in c.args.self.now) c.self.invariant (ap forest_in c.self.view_is) in
     let now = holds_container h c.in-Ok.ensures.extends c.in-Ok.ensures.kept (newest_again c.newest-holder.ensures c.self.view_is) (c.len-place.ensures ∙ c.self.inside.parts.ok.0) in
     let e : c.push_reserved.new.self.items ≡ c.self.inside.parts.items ++ (named_container c.in-Ok.at c.newest-holder.result ∷ []) = c.push_reserved.ensures.items ∙ ap (λ (ps : List Part). ps ++ (named_container c.in-Ok.at c.newest-holder.result ∷ [])) c.reserve-2.ensures.items in
     let p : c.push_reserved-in-Ok.new.self.items ≡ c.self.inside.places.items ++ (c.len-place.result ∷ []) = c.push_reserved-in-Ok.ensures.items ∙ ap (λ (qs : List ℕ). qs ++ (c.len-place.result ∷ [])) c.reserve.ensures.items in
@@ -16,7 +16,7 @@ invariant_of-self-in-Ok g c =
 
 pub returns-in-Ok : goal.returns-in-Ok
 returns-in-Ok g c =
-    let h : Holds (g.N.CallStore.calls c.self.inside.named) c.self.inside.parts.items c.self.inside.places.items c.self.inside.in_fragments (forest_in c.args.self.now) = holds_it _ c.self.invariant (ap forest_in c.self.view_is) in
+    let h = holds_it (forest_in c.args.self.now) c.self.invariant (ap forest_in c.self.view_is) in
     let now = holds_container h c.in-Ok.ensures.extends c.in-Ok.ensures.kept (newest_again c.newest-holder.ensures c.self.view_is) (c.len-place.ensures ∙ c.self.inside.parts.ok.0) in
     let e : c.push_reserved.new.self.items ≡ c.self.inside.parts.items ++ (named_container c.in-Ok.at c.newest-holder.result ∷ []) = c.push_reserved.ensures.items ∙ ap (λ (ps : List Part). ps ++ (named_container c.in-Ok.at c.newest-holder.result ∷ [])) c.reserve-2.ensures.items in
     let p : c.push_reserved-in-Ok.new.self.items ≡ c.self.inside.places.items ++ (c.len-place.result ∷ []) = c.push_reserved-in-Ok.ensures.items ∙ ap (λ (qs : List ℕ). qs ++ (c.len-place.result ∷ [])) c.reserve.ensures.items in

@@ -4,33 +4,33 @@ use Rattle.sval_buffer.specs.Forest.{Becomes}
 use Rattle.sval_buffer.specs.SeenParts.{with_holds}
 use Rattle.sval_buffer.specs.declared.part.Part.{Part}
 use Rattle.sval_buffer.specs.FlatForest.{forest_in}
-use Rattle.sval_buffer.proofs.KeptParts.{Holds, holds_it, place_in, holds_closed, tell}
+use Rattle.sval_buffer.proofs.KeptParts.{holds_it, place_in, holds_closed, tell}
 use Rattle.sval_buffer.proofs.parts.Parts.end.Goals as goal
 
 pub overflow_sub-holds : goal.overflow_sub-holds
 overflow_sub-holds g c =
-    let h : Holds (g.N.CallStore.calls c.self.inside.named) c.self.inside.parts.items c.self.inside.places.items c.self.inside.in_fragments (forest_in c.args.self.now) = holds_it _ c.self.invariant (ap forest_in c.self.view_is) in
+    let h = holds_it (forest_in c.args.self.now) c.self.invariant (ap forest_in c.self.view_is) in
     let lt : c.in-Some.place < length c.self.inside.parts.items = place_in h c.pop.new.self.items c.in-Some.place c.in-Some.ensures.items in
     let n : length c.self.inside.parts.items ≡ vec_len c.self.inside.parts = sym c.self.inside.parts.ok.0 in
     omega arith
 
 pub overflow_sub-holds-in-Some : goal.overflow_sub-holds-in-Some
 overflow_sub-holds-in-Some g c =
-    let h : Holds (g.N.CallStore.calls c.self.inside.named) c.self.inside.parts.items c.self.inside.places.items c.self.inside.in_fragments (forest_in c.args.self.now) = holds_it _ c.self.invariant (ap forest_in c.self.view_is) in
+    let h = holds_it (forest_in c.args.self.now) c.self.invariant (ap forest_in c.self.view_is) in
     let lt : c.in-Some.place < length c.self.inside.parts.items = place_in h c.pop.new.self.items c.in-Some.place c.in-Some.ensures.items in
     let n : length c.self.inside.parts.items ≡ vec_len c.self.inside.parts = sym c.self.inside.parts.ok.0 in
     omega arith
 
 pub index_mut-requires : goal.index_mut-requires
 index_mut-requires g c =
-    let h : Holds (g.N.CallStore.calls c.self.inside.named) c.self.inside.parts.items c.self.inside.places.items c.self.inside.in_fragments (forest_in c.args.self.now) = holds_it _ c.self.invariant (ap forest_in c.self.view_is) in
+    let h = holds_it (forest_in c.args.self.now) c.self.invariant (ap forest_in c.self.view_is) in
     let lt : c.in-Some.place < length c.self.inside.parts.items = place_in h c.pop.new.self.items c.in-Some.place c.in-Some.ensures.items in
     let n : length c.self.inside.parts.items ≡ vec_len c.self.inside.parts = sym c.self.inside.parts.ok.0 in
     omega arith
 
 pub invariant_of-self : goal.invariant_of-self
 invariant_of-self g c =
-    let h : Holds (g.N.CallStore.calls c.self.inside.named) c.self.inside.parts.items c.self.inside.places.items c.self.inside.in_fragments (forest_in c.args.self.now) = holds_it _ c.self.invariant (ap forest_in c.self.view_is) in
+    let h = holds_it (forest_in c.args.self.now) c.self.invariant (ap forest_in c.self.view_is) in
     let d = c.index_mut.result.now in
     let same : c.close.new.self ≡ (let x : Part = slice_index_or c.self.inside.parts.items c.in-Some.place d in record x { kind = with_holds x.kind (length c.self.inside.parts.items - c.in-Some.place - 1) }) =
     c.close.ensures
@@ -40,7 +40,7 @@ invariant_of-self g c =
 
 pub returns-in-Some : goal.returns-in-Some
 returns-in-Some g c =
-    let h : Holds (g.N.CallStore.calls c.self.inside.named) c.self.inside.parts.items c.self.inside.places.items c.self.inside.in_fragments (forest_in c.args.self.now) = holds_it _ c.self.invariant (ap forest_in c.self.view_is) in
+    let h = holds_it (forest_in c.args.self.now) c.self.invariant (ap forest_in c.self.view_is) in
     let d = c.index_mut.result.now in
     let same : c.close.new.self ≡ (let x : Part = slice_index_or c.self.inside.parts.items c.in-Some.place d in record x { kind = with_holds x.kind (length c.self.inside.parts.items - c.in-Some.place - 1) }) =
     c.close.ensures

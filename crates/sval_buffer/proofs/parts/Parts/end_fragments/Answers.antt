@@ -1,14 +1,14 @@
 use Rattle.std.proofs.Common.{false, ap}
 use Rattle.sval_buffer.specs.FlatForest.{forest_in}
-use Rattle.sval_buffer.proofs.KeptParts.{Holds, holds_it, holds_flagged, tell}
+use Rattle.sval_buffer.proofs.KeptParts.{holds_it, holds_flagged, tell}
 use Rattle.sval_buffer.proofs.parts.Parts.end_fragments.Goals as goal
 
 pub invariant_of-self : goal.invariant_of-self
 invariant_of-self g c =
-    let h : Holds (g.N.CallStore.calls c.self.inside.named) c.self.inside.parts.items c.self.inside.places.items c.self.inside.in_fragments (forest_in c.args.self.now) = holds_it _ c.self.invariant (ap forest_in c.self.view_is) in
+    let h = holds_it (forest_in c.args.self.now) c.self.invariant (ap forest_in c.self.view_is) in
     tell (holds_flagged h false)
 
 pub returns : goal.returns
 returns g c =
-    let h : Holds (g.N.CallStore.calls c.self.inside.named) c.self.inside.parts.items c.self.inside.places.items c.self.inside.in_fragments (forest_in c.args.self.now) = holds_it _ c.self.invariant (ap forest_in c.self.view_is) in
+    let h = holds_it (forest_in c.args.self.now) c.self.invariant (ap forest_in c.self.view_is) in
     (holds_flagged h false).is.view

@@ -7,18 +7,18 @@ use Rattle.sval_buffer.specs.Forest.{Becomes, add}
 use Rattle.sval_buffer.specs.Capture.{Captures}
 use Rattle.sval_buffer.specs.FlatForest.{forest_in}
 use Rattle.sval_buffer.proofs.Steps.{within_it}
-use Rattle.sval_buffer.proofs.KeptParts.{Holds, holds_it}
+use Rattle.sval_buffer.proofs.KeptParts.{holds_it}
 use Rattle.sval_buffer.proofs.parts.Parts.hint.Goals as goal
 
 pub returns-then-self : goal.returns-then-self
 returns-then-self g c =
-    let h : Holds (g.N.CallStore.calls c.self.inside.named) c.self.inside.parts.items c.self.inside.places.items c.self.inside.in_fragments (forest_in c.args.self.now) = holds_it _ c.self.invariant (ap forest_in c.self.view_is) in
+    let h = holds_it (forest_in c.args.self.now) c.self.invariant (ap forest_in c.self.view_is) in
     let e : (forest_in c.args.self.now).in_fragments ≡ true = sym (within_it h.is) ∙ c.if-self.true in
     rw e refl
 
 pub returns : goal.returns
 returns g c =
-    let h : Holds (g.N.CallStore.calls c.self.inside.named) c.self.inside.parts.items c.self.inside.places.items c.self.inside.in_fragments (forest_in c.args.self.now) = holds_it _ c.self.invariant (ap forest_in c.self.view_is) in
+    let h = holds_it (forest_in c.args.self.now) c.self.invariant (ap forest_in c.self.view_is) in
     let e : (forest_in c.args.self.now).in_fragments ≡ false = sym (within_it h.is) ∙ c.if-self.false in
     let was = forest_in c.args.self.now in
     let node = forest.Single (calls.TagHint (seen_ref_tag c.args.tag)) in

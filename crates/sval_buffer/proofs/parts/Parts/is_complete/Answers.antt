@@ -4,13 +4,13 @@ use Rattle.std.proofs.lemmas.List.{length-map}
 use Rattle.sval_buffer.specs.FlatForest.{forest_in}
 use Rattle.sval_buffer.specs.SeenParts.{seen_part}
 use Rattle.sval_buffer.proofs.Steps.{none_complete, open_incomplete, complete_is}
-use Rattle.sval_buffer.proofs.KeptParts.{Holds, holds_it}
+use Rattle.sval_buffer.proofs.KeptParts.{holds_it}
 use Rattle.sval_buffer.proofs.parts.Parts.is_complete.Goals as goal
 use Rattle.sval_buffer.proofs.parts.Parts.is_complete.Goals.{then-is_empty-via-then-is_empty, then-is_empty-via-else-is_empty+then-not-is_empty}
 
 pub returns-then-is_empty : goal.returns-then-is_empty
 returns-then-is_empty g c =
-    let h : Holds (g.N.CallStore.calls c.self.inside.named) c.self.inside.parts.items c.self.inside.places.items c.self.inside.in_fragments (forest_in c.args.self.now) = holds_it _ c.self.invariant (ap forest_in c.self.view_is) in
+    let h = holds_it (forest_in c.args.self.now) c.self.invariant (ap forest_in c.self.view_is) in
     let n : length c.self.inside.parts.items ≡ vec_len c.self.inside.parts = sym c.self.inside.parts.ok.0 in
     let m : length c.self.inside.places.items ≡ vec_len c.self.inside.places = sym c.self.inside.places.ok.0 in
     elim c.then-is_empty.branch [
@@ -20,7 +20,7 @@ returns-then-is_empty g c =
 
 pub returns : goal.returns
 returns g c =
-    let h : Holds (g.N.CallStore.calls c.self.inside.named) c.self.inside.parts.items c.self.inside.places.items c.self.inside.in_fragments (forest_in c.args.self.now) = holds_it _ c.self.invariant (ap forest_in c.self.view_is) in
+    let h = holds_it (forest_in c.args.self.now) c.self.invariant (ap forest_in c.self.view_is) in
     let n : length c.self.inside.parts.items ≡ vec_len c.self.inside.parts = sym c.self.inside.parts.ok.0 in
     let m : length c.self.inside.places.items ≡ vec_len c.self.inside.places = sym c.self.inside.places.ok.0 in
     let size = length-map c.self.inside.parts.items (seen_part (g.N.CallStore.calls c.self.inside.named)) in

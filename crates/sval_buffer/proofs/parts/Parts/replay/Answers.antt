@@ -10,12 +10,12 @@ use Rattle.sval_buffer.specs.FlatForest.{forest_in}
 use Rattle.sval_buffer.proofs.Steps.{tells_it}
 use Rattle.sval_buffer.proofs.Nests.{tells_nested}
 use Rattle.sval_buffer.proofs.Replaying.{replay_none, replay_some, null_emitted}
-use Rattle.sval_buffer.proofs.KeptParts.{Holds, holds_it, seen_length}
+use Rattle.sval_buffer.proofs.KeptParts.{holds_it, seen_length}
 use Rattle.sval_buffer.proofs.parts.Parts.replay.Goals as goal
 
 pub returns-then-is_empty : goal.returns-then-is_empty
 returns-then-is_empty g c =
-    let h : Holds (g.N.CallStore.calls c.self.inside.named) c.self.inside.parts.items c.self.inside.places.items c.self.inside.in_fragments (forest_in c.args.self.now) = holds_it _ c.self.invariant (ap forest_in c.self.view_is) in
+    let h = holds_it (forest_in c.args.self.now) c.self.invariant (ap forest_in c.self.view_is) in
     let seen = seen_parts (g.N.CallStore.calls c.self.inside.named) c.self.inside.parts.items in
     let n : length c.self.inside.parts.items ≡ vec_len c.self.inside.parts = sym c.self.inside.parts.ok.0 in
     let z : length c.self.inside.parts.items ≡ 0 = grind (arith, nat_tests, c.if-is_empty.true) in
@@ -24,13 +24,13 @@ returns-then-is_empty g c =
 
 pub replay_parts-requires : goal.replay_parts-requires
 replay_parts-requires g c κs =
-    let h : Holds (g.N.CallStore.calls c.self.inside.named) c.self.inside.parts.items c.self.inside.places.items c.self.inside.in_fragments (forest_in c.args.self.now) = holds_it _ c.self.invariant (ap forest_in c.self.view_is) in
+    let h = holds_it (forest_in c.args.self.now) c.self.invariant (ap forest_in c.self.view_is) in
     let calls = g.N.CallStore.calls c.self.inside.named in
     ((refl, tt), (subst (λ (ps : List Part). IsNested (seen_parts calls ps)) (sym c.as_slice.ensures.value) (tells_nested (seen_parts calls c.self.inside.parts.items) c.self.inside.places.items (forest_in c.args.self.now) (tells_it h.is)), subst (AllKept (length calls)) (sym c.as_slice.ensures.value) h.kept))
 
 pub returns : goal.returns
 returns g c =
-    let h : Holds (g.N.CallStore.calls c.self.inside.named) c.self.inside.parts.items c.self.inside.places.items c.self.inside.in_fragments (forest_in c.args.self.now) = holds_it _ c.self.invariant (ap forest_in c.self.view_is) in
+    let h = holds_it (forest_in c.args.self.now) c.self.invariant (ap forest_in c.self.view_is) in
     let calls = g.N.CallStore.calls c.self.inside.named in
     let seen = seen_parts calls c.self.inside.parts.items in
     let n : length c.self.inside.parts.items ≡ vec_len c.self.inside.parts = sym c.self.inside.parts.ok.0 in

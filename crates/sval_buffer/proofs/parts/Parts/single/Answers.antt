@@ -4,19 +4,19 @@ use Rattle.sval_buffer.specs.Forest.{Becomes}
 use Rattle.sval_buffer.specs.SeenParts.{single_call}
 use Rattle.sval_buffer.specs.FlatForest.{forest_in}
 use Rattle.sval_buffer.proofs.Steps.{was_pushed}
-use Rattle.sval_buffer.proofs.KeptParts.{Holds, holds_it, newest_again, holds_added, tell}
+use Rattle.sval_buffer.proofs.KeptParts.{holds_it, newest_again, holds_added, tell}
 use Rattle.sval_buffer.proofs.parts.Parts.single.Goals as goal
 
 pub invariant_of-self-2 : goal.invariant_of-self-2
 invariant_of-self-2 g c =
-    let h : Holds (g.N.CallStore.calls c.self.inside.named) c.self.inside.parts.items c.self.inside.places.items c.self.inside.in_fragments (forest_in c.args.self.now) = holds_it _ c.self.invariant (ap forest_in c.self.view_is) in
+    let h = holds_it (forest_in c.args.self.now) c.self.invariant (ap forest_in c.self.view_is) in
     let e = was_pushed c.push.result _ _ c.push.ensures.items (ap is_ok c.in-Ok.is) in
     let now = holds_added h _ (forest.Single (single_call c.args.single)) refl (λ place o. refl) (newest_again c.newest.ensures c.self.view_is) tt in
     rw e (tell now)
 
 pub returns : goal.returns
 returns g c =
-    let h : Holds (g.N.CallStore.calls c.self.inside.named) c.self.inside.parts.items c.self.inside.places.items c.self.inside.in_fragments (forest_in c.args.self.now) = holds_it _ c.self.invariant (ap forest_in c.self.view_is) in
+    let h = holds_it (forest_in c.args.self.now) c.self.invariant (ap forest_in c.self.view_is) in
     let e = was_pushed c.push.result _ _ c.push.ensures.items (ap is_ok c.in-Ok.is) in
     let now = holds_added h _ (forest.Single (single_call c.args.single)) refl (λ place o. refl) (newest_again c.newest.ensures c.self.view_is) tt in
     ap Becomes (sym (rw e now.is.view))
