@@ -2,7 +2,8 @@
 
 /// How large a document may be. A reader stops at the first byte that passes a limit, before it keeps more.
 ///
-/// `JsonDoc::read_with` of `sval_json_read` takes them, and says what it counts as a node.
+/// `JsonDoc::read_with` of `sval_json_read` and `CborDoc::read_with` of `sval_cbor_read` take them. Each says what it
+/// counts as a level, and what as a node.
 #[derive(Clone, Copy, Debug, PartialEq, Eq)]
 pub struct Limits {
     /// How many arrays and objects may be open at once.
