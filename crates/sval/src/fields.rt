@@ -153,7 +153,6 @@ fn end_field<L: Lending, N: Named, S: Stream<L>>(stream: &mut S, name: N) -> Res
 }
 
 /// Streams a value as the field of this name of a record.
-#[tactic(auto, using(sval_core::proofs::ValueProofs::of_between))]
 fn stream_field<'v, L: Lending, N: Named, T: Value<'v, L>, S: Stream<L>>(
     stream: &mut S,
     name: N,
@@ -198,7 +197,6 @@ fn end_place<L: Lending, N: Named, S: Stream<L>>(stream: &mut S, name: N, number
 }
 
 /// Streams a value as the field of this name and place of a record tuple.
-#[tactic(auto, using(sval_core::proofs::ValueProofs::of_between))]
 fn stream_place<'v, L: Lending, N: Named, T: Value<'v, L>, S: Stream<L>>(
     stream: &mut S,
     name: N,

@@ -39,7 +39,6 @@ impl<'a, K, V> MapSlice<'a, K, V> {
 }
 
 /// Streams a key of a map.
-#[tactic(auto, using(sval_core::proofs::ValueProofs::of_between))]
 fn stream_key<'v, K: Value<'v, Lent<'v>>, S: Stream<Lent<'v>>>(stream: &mut S, key: &'v K) -> Result
     ensures { Emits S.law result
         (S.standing stream.old) (part_emission Slot.Key (K.emission key.now)) (S.standing stream.new) }
@@ -50,7 +49,6 @@ fn stream_key<'v, K: Value<'v, Lent<'v>>, S: Stream<Lent<'v>>>(stream: &mut S, k
 }
 
 /// Streams the value of a key of a map.
-#[tactic(auto, using(sval_core::proofs::ValueProofs::of_between))]
 fn stream_value<'v, V: Value<'v, Lent<'v>>, S: Stream<Lent<'v>>>(
     stream: &mut S,
     value: &'v V,

@@ -28,7 +28,6 @@ fn skip_fields<'v, L: Lending, F: Fields<'v, L>, S: Stream<L>>(stream: &mut S, f
 /// # Errors
 ///
 /// It refuses where a field refuses by itself, after its calls, or at the first call that the stream refuses.
-#[tactic(auto, using(sval_core::proofs::ValueProofs::of_between), unfolding(crate::specs::Structs::record_emission))]
 pub fn stream_record<'v, L: Lending, F: Fields<'v, L>, S: Stream<L>>(
     stream: &mut S,
     fields: F,
@@ -79,7 +78,6 @@ fn end_struct<L: Lending, N: Named, S: Stream<L>>(stream: &mut S, name: N) -> Re
 /// # Errors
 ///
 /// Those of [`stream_record`].
-#[tactic(auto, using(sval_core::proofs::ValueProofs::of_between), unfolding(crate::specs::Structs::struct_emission))]
 pub fn stream_struct<'v, L: Lending, N: Named, F: Fields<'v, L>, S: Stream<L>>(
     stream: &mut S,
     name: N,
@@ -130,7 +128,6 @@ fn stream_name<L: Lending, N: Named, S: Stream<L>>(
 /// # Errors
 ///
 /// It refuses at the first call that the stream refuses.
-#[tactic(auto, using(sval_core::proofs::ValueProofs::of_between), unfolding(crate::specs::Structs::unit_variant_emission))]
 pub fn stream_unit_variant<L: Lending, N: Named, M: Named, S: Stream<L>>(
     stream: &mut S,
     name: N,
@@ -173,7 +170,6 @@ fn end_tagged<L: Lending, N: Named, S: Stream<L>>(
 }
 
 /// Streams a value under the name of a variant.
-#[tactic(auto, using(sval_core::proofs::ValueProofs::of_between))]
 fn stream_tagged<'v, L: Lending, N: Named, T: Value<'v, L>, S: Stream<L>>(
     stream: &mut S,
     variant: N,
@@ -193,7 +189,6 @@ fn stream_tagged<'v, L: Lending, N: Named, T: Value<'v, L>, S: Stream<L>>(
 /// # Errors
 ///
 /// It refuses where the value refuses by itself, after its calls, or at the first call that the stream refuses.
-#[tactic(auto, using(sval_core::proofs::ValueProofs::of_between), unfolding(crate::specs::Structs::value_variant_emission))]
 pub fn stream_value_variant<'v, L: Lending, N: Named, M: Named, T: Value<'v, L>, S: Stream<L>>(
     stream: &mut S,
     name: N,
@@ -243,7 +238,6 @@ fn end_variant<L: Lending, N: Named, S: Stream<L>>(
 }
 
 /// Streams fields under the name of a variant.
-#[tactic(auto, using(sval_core::proofs::ValueProofs::of_between))]
 fn stream_variant_fields<'v, L: Lending, N: Named, F: Fields<'v, L>, S: Stream<L>>(
     stream: &mut S,
     variant: N,
@@ -266,7 +260,6 @@ fn stream_variant_fields<'v, L: Lending, N: Named, F: Fields<'v, L>, S: Stream<L
 /// # Errors
 ///
 /// Those of [`stream_record`].
-#[tactic(auto, using(sval_core::proofs::ValueProofs::of_between), unfolding(crate::specs::Structs::struct_variant_emission))]
 pub fn stream_struct_variant<'v, L: Lending, N: Named, M: Named, F: Fields<'v, L>, S: Stream<L>>(
     stream: &mut S,
     name: N,

@@ -82,7 +82,6 @@ fn end_newtype<L: Lending, N: Named, S: Stream<L>>(stream: &mut S, name: N) -> R
 /// # Errors
 ///
 /// It refuses where the value refuses by itself, after its calls, or at the first call that the stream refuses.
-#[tactic(auto, using(sval_core::proofs::ValueProofs::of_between), unfolding(crate::specs::Structs::newtype_emission))]
 pub fn stream_newtype<'v, L: Lending, N: Named, T: Value<'v, L>, S: Stream<L>>(
     stream: &mut S,
     name: N,
@@ -131,7 +130,6 @@ fn end_struct<L: Lending, N: Named, S: Stream<L>>(stream: &mut S, name: N) -> Re
 /// # Errors
 ///
 /// It refuses where a field refuses by itself, after its calls, or at the first call that the stream refuses.
-#[tactic(auto, using(sval_core::proofs::ValueProofs::of_between), unfolding(crate::specs::Structs::tuple_struct_emission))]
 pub fn stream_tuple_struct<'v, L: Lending, N: Named, F: TupleFields<'v, L>, S: Stream<L>>(
     stream: &mut S,
     name: N,
@@ -180,7 +178,6 @@ fn end_variant<L: Lending, N: Named, S: Stream<L>>(
 }
 
 /// Streams fields as a tuple under the name of a variant.
-#[tactic(auto, using(sval_core::proofs::ValueProofs::of_between))]
 fn stream_variant_fields<'v, L: Lending, N: Named, F: TupleFields<'v, L>, S: Stream<L>>(
     stream: &mut S,
     variant: N,
@@ -212,7 +209,6 @@ fn stream_variant_fields<'v, L: Lending, N: Named, F: TupleFields<'v, L>, S: Str
 /// # Errors
 ///
 /// Those of [`stream_tuple_struct`].
-#[tactic(auto, using(sval_core::proofs::ValueProofs::of_between), unfolding(crate::specs::Structs::tuple_variant_emission))]
 pub fn stream_tuple_variant<
     'v,
     L: Lending,
