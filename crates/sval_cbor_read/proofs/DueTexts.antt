@@ -3,10 +3,9 @@ use Rattle.std.specs.Prelude.{◌≡◌, ℕ, true, List, Option, Some, None, Re
 use Rattle.std.proofs.Common.{sym, ap, subst, ◌∙◌, inr}
 use Rattle.sval_label.specs.Calls.{Call}
 use Rattle.sval_core.specs.Law.{Rose}
-use Rattle.sval_core.specs.Real.{IsPrintable}
 use Rattle.sval_core.specs.Trees.{Tree}
 use Rattle.sval_io.specs.declared.sink.SinkError.TheVariants.{Failed, NoMemory}
-use Rattle.sval_io.specs.Sinks.{Told, IsSteady, NoCountFell, Appends, AppendsFront}
+use Rattle.sval_io.specs.Sinks.{Told, IsSteady, NoCountFell, Appends, AppendsFront, WritesWhole, WritesFront}
 use Rattle.sval_io.specs.declared.sink.SinkError.{SinkError}
 use Rattle.sval_json.specs.declared.style.Variants.TheVariants.{Inside}
 use Rattle.sval_json.specs.Json.{Json, compact}
@@ -23,7 +22,7 @@ use Rattle.sval_program.specs.declared.failure.Fault.{Fault}
 use Rattle.sval_program.specs.declared.failure.Fault.TheVariants as fault
 use Rattle.sval_program.specs.declared.failure.Failure.TheVariants as failure
 use Rattle.sval_program.specs.Jobs.{may_write, ServesBytes}
-use Rattle.sval_program.specs.Outputs.{WritesText}
+use Rattle.sval_program.specs.Outputs.{StopsWithin}
 use Rattle.sval_program.specs.declared.form.ReadForm.{ReadForm}
 use Rattle.sval_program.specs.declared.form.ReadForm.TheVariants as form
 use Rattle.sval_cbor_read.specs.Document.{cbor_document_calls}
@@ -146,12 +145,14 @@ module _ (input : List ℕ) (calls : List Call) (r : IsReadItem input calls) whe
 
   -- ---- a document as a script
 
-  pub printable : IsInMemory input → IsPrintable r.tree
-  printable m = item_printable m r.item
-
   module _ {K : Type 0} (told : K → Told) (old new : K) where
-    pub writes_script : IsInMemory input → WritesText (Ok tt) told (canon r.tree) old new → ServesBytes cbor_read_terms told form.Calls input (Ok tt) old new
+    -- its script was written, or a first part of it
+    pub writes_script : IsInMemory input → WritesWhole (told old) (canon r.tree) (told new) → ServesBytes cbor_read_terms told form.Calls input (Ok tt) old new
     writes_script m w = record { bytes = canon r.tree; due = script_due m r.item; writes = w }
 
-    pub script_stops : IsInMemory input → (why : SinkError) → WritesText (Err why) told (canon r.tree) old new → ServesBytes cbor_read_terms told form.Calls input (Err (failure.Write why)) old new
-    script_stops m why w = record { found = None; bytes = canon r.tree; due = script_due m r.item; may = refl; stops = w.stops }
+    script_stops_for : (why : SinkError) → WritesFront why (told old) (canon r.tree) (told new) → StopsWithin why told (canon r.tree) old new
+    script_stops_for Failed w = record { cause = w.cause; begins = w.front; counts = w.counts }
+    script_stops_for NoMemory w = record { cause = inr w.cause; begins = w.front; counts = w.counts }
+
+    pub script_stops : IsInMemory input → (why : SinkError) → WritesFront why (told old) (canon r.tree) (told new) → ServesBytes cbor_read_terms told form.Calls input (Err (failure.Write why)) old new
+    script_stops m why w = record { found = None; bytes = canon r.tree; due = script_due m r.item; may = refl; stops = script_stops_for why w }

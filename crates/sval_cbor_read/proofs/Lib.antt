@@ -34,6 +34,9 @@ pub mod Loop
 pub mod UnreadCauses
 pub mod LimitedHeads
 pub mod ItemTrees
+pub mod ItemScripts
+pub mod PlainCalls
+pub mod NodeScripts
 pub mod DueTexts
 pub mod OneDue
 mod examples

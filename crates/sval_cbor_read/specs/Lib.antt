@@ -30,4 +30,5 @@ pub mod CborLimits
 pub mod SeenLimited
 pub mod ErrorTexts
 pub mod LimitedCborTexts
+pub mod ItemScripts
 pub mod Serves

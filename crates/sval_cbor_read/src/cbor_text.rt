@@ -40,7 +40,7 @@ impl<'d> Model for CborText<'d> {
 }
 
 /// The text of the chunk at a place.
-fn text_chunk_at<'d>(bytes: &'d [u8], at: usize) -> &'d str
+pub(crate) fn text_chunk_at<'d>(bytes: &'d [u8], at: usize) -> &'d str
     requires { 0 < length (piece_calls 3 (drop at bytes.now)) }
     ensures { piece_calls 3 (drop at bytes.now) ≡ call.TextFragment true result.now ∷ [] }
 {
@@ -51,7 +51,7 @@ fn text_chunk_at<'d>(bytes: &'d [u8], at: usize) -> &'d str
 }
 
 /// The content of the chunk of a byte string at a place.
-fn byte_chunk_at<'d>(bytes: &'d [u8], at: usize) -> &'d [u8]
+pub(crate) fn byte_chunk_at<'d>(bytes: &'d [u8], at: usize) -> &'d [u8]
     requires { 0 < length (piece_calls 2 (drop at bytes.now)) }
     ensures { piece_calls 2 (drop at bytes.now) ≡ call.BinaryFragment true result.now ∷ [] }
 {

@@ -1,7 +1,12 @@
 //! Documents: bytes that were read.
 
-ghost use Rattle.std.specs.Prelude.{◌≡◌, [], drop, IfOk, IfErr};
+ghost use Rattle.std.specs.Prelude.{◌≡◌, ℕ, List, [], drop, IfOk, IfErr};
+ghost use Rattle.sval_core.specs.Trees.{Tree};
 ghost use Rattle.sval_core.specs.Values.{makes};
+ghost use Rattle.sval_io.specs.Sinks.{WritesAll};
+ghost use Rattle.sval_script.specs.Canon.{canon};
+ghost use Rattle.sval_cbor_read.specs.Items.{IsItem};
+ghost use Rattle.sval_cbor_read.specs.Document.{cbor_calls};
 ghost use Rattle.sval_cbor_read.specs.ReadErrors.{IsReadItem, IsReadFront, IsCborReadError, IsCborFrontError};
 ghost use Rattle.sval_cbor_read.specs.Reading.{Ended, Reached};
 ghost use Rattle.sval_cbor_read.specs.CborValues.{cbor_value_in};
@@ -15,6 +20,7 @@ mod unread;
 use crate::cbor_ref::CborRef;
 use crate::node::Node;
 use crate::node_calls::stream_nodes;
+use crate::node_script::print_nodes;
 use crate::reader::Reader;
 pub use limited::CborLimitedError;
 use std::alloc::Global;
@@ -22,6 +28,7 @@ use std::error::Error;
 use std::fmt;
 use std::marker::Model;
 use sval_core::{Lent, NoMemory, Result as StreamResult, Stream, Value};
+use sval_io::{Sink, SinkError};
 use sval_ref::ValueRef;
 use unread::{Unread, front_error, whole_error};
 
@@ -180,9 +187,27 @@ impl<'a> CborDoc<'a> {
         CborRef::new(self.bytes, self.nodes.as_slice())
     }
 
-    /// How many nodes are kept of the bytes.
-    pub(crate) fn node_count(&self) -> usize {
-        self.nodes.len()
+    /// Writes the canonical script of the calls that the document makes: `-` for the size of each array and map, and
+    /// each text and byte string in one fragment. The lines are written node by node, from the bytes, so nothing is
+    /// captured. It takes no memory but what the sink takes, and doesn't flush the sink.
+    ///
+    /// ```
+    /// let doc = CborDoc::read(alloc, b"\x81\x7f\x61\x61\x61\x0a\xff".as_slice())?;
+    /// let mut out = VecSink::new(alloc);
+    /// doc.write_script(&mut out)?;
+    /// let script = "seq_begin -\nseq_value_begin\ntext_begin 2\ntext_fragment =610a\ntext_end\nseq_value_end\nseq_end\n";
+    /// assert_eq!(rt; out.as_slice(), script.as_bytes());
+    /// ```
+    ///
+    /// # Errors
+    ///
+    /// Those of the sink. It took a first part of the script then, and not all.
+    pub fn write_script<K: Sink>(&self, out: &mut K) -> Result<(), SinkError>
+        ensures { (bytes rest : List ℕ) (tree : Tree) (item : IsItem bytes tree rest)
+            → self.now ≡ cbor_calls item []
+            → WritesAll result (K.told out.old) (canon tree) (K.told out.new) }
+    {
+        print_nodes(self.bytes, self.nodes.as_slice(), out)
     }
 }
 

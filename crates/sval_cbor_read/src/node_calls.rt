@@ -71,7 +71,7 @@ fn stream_negative<L: Lending, S: Stream<L>>(n: u64, stream: &mut S) -> Result
 
 /// Whether a byte begins an item of indefinite length, or is `false`, `true` or null.
 #[inline(always)]
-fn is_mark(first: u8) -> bool
+pub(crate) fn is_mark(first: u8) -> bool
     ensures mark { result ≡ true → mark_of first ≢ None }
     ensures none { result ≡ false → mark_of first ≡ None }
 {
@@ -220,7 +220,7 @@ pub(crate) fn big_at(bytes: &[u8], at: usize) -> u128
 }
 
 /// The number -1 - `n`.
-fn negative_of(n: u128) -> i128
+pub(crate) fn negative_of(n: u128) -> i128
     requires { n < 2 ^ 127 }
     ensures { result ≡ negsuc n }
 {

@@ -12,7 +12,7 @@ use std::alloc::Global;
 use sval_io::{Sink, SinkError, Source, read_input};
 use sval_json::{ErrorKind, stream_to_io_write};
 use sval_program::job::run;
-use sval_program::{Failure, Fault, ReadForm, print_captured};
+use sval_program::{Failure, Fault, ReadForm};
 
 /// Writes the JSON of a document.
 fn write_json<K: Sink>(doc: &CborDoc<'_>, out: &mut K) -> Result<(), Failure>
@@ -32,29 +32,24 @@ fn write_json<K: Sink>(doc: &CborDoc<'_>, out: &mut K) -> Result<(), Failure>
     }
 }
 
-/// Captures a document, and prints the canonical script of what it captured.
-fn print_script<K: Sink>(alloc: Global, doc: &CborDoc<'_>, out: &mut K) -> Result<(), Failure>
+/// Writes the canonical script of a document.
+fn print_script<K: Sink>(doc: &CborDoc<'_>, out: &mut K) -> Result<(), Failure>
     requires { (input : List ℕ) × IsReadItem input doc.now × IsInMemory input }
     ensures { (input : List ℕ) → IsReadItem input doc.now → IsInMemory input
         → ServesBytes cbor_read_terms K.told ReadForm.Calls input result out.old out.new }
 {
-    Ok(print_captured(alloc, doc.node_count(), doc, out)?)
+    Ok(doc.write_script(out)?)
 }
 
 /// Writes what is asked for of a document.
-fn write_document<K: Sink>(
-    alloc: Global,
-    form: ReadForm,
-    doc: &CborDoc<'_>,
-    out: &mut K,
-) -> Result<(), Failure>
+fn write_document<K: Sink>(form: ReadForm, doc: &CborDoc<'_>, out: &mut K) -> Result<(), Failure>
     requires { (input : List ℕ) × IsReadItem input doc.now × IsInMemory input }
     ensures { (input : List ℕ) → IsReadItem input doc.now → IsInMemory input
         → ServesBytes cbor_read_terms K.told form input result out.old out.new }
 {
     match form {
         ReadForm::Json => write_json(doc, out),
-        ReadForm::Calls => print_script(alloc, doc, out),
+        ReadForm::Calls => print_script(doc, out),
     }
 }
 
@@ -69,7 +64,7 @@ fn serve_bytes<K: Sink>(
     ensures { ServesBytes cbor_read_terms K.told form bytes.now result out.old out.new }
 {
     let doc = CborDoc::read(alloc, bytes)?;
-    write_document(alloc, form, &doc, out)
+    write_document(form, &doc, out)
 }
 
 /// Reads the input whole, and serves its bytes.
@@ -92,8 +87,7 @@ pub(crate) fn serve_input<I: Source, K: Sink>(
 /// 16,777,216 bytes and one more to see that there are too many, and as one item of CBOR (RFC 8949) in the profile of
 /// [`CborDoc::read`]. With `json` the JSON of the item's value is written, without white space. Byte strings are arrays
 /// of numbers there, and keys that are numbers, truth values or null are texts. With `calls` the canonical script of
-/// the document's calls is written, after it was captured. Where the status isn't 0, one line is written to `diag` that
-/// says why. Whatever `diag` answers, the status and what is left of the input and the output are such as
+/// the document's calls is written. Where the status isn't 0, one line is written to `diag` that says why. Whatever `diag` answers, the status and what is left of the input and the output are such as
 /// [`work`](sval_program::job::work) may give, which has no `diag`.
 ///
 /// What is due is `Due` of `cbor_read_terms`, and of an input it is one thing at most

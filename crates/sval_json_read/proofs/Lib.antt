@@ -59,6 +59,6 @@ mod PartCalls
 mod ProperParts
 mod ShorterTexts
 mod WholeDocuments
-mod TokenScripts
+pub mod TokenScripts
 pub mod Waits
 pub mod Continued

@@ -239,7 +239,7 @@ other_lines text f = rw f refl
 
 -- ---- pieces of a string
 
-encode-append : (xs ys : List ℕ) → encode_lower (xs ++ ys) ≡ encode_lower xs ++ encode_lower ys
+pub encode-append : (xs ys : List ℕ) → encode_lower (xs ++ ys) ≡ encode_lower xs ++ encode_lower ys
 unfolding encode_with
 encode-append [] ys = refl
 encode-append (x ∷ xs) ys = ap (λ more. slice_index lower_digits (x / 16) ∷ slice_index lower_digits (x % 16) ∷ more) (encode-append xs ys)

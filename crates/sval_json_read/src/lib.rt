@@ -33,6 +33,7 @@ pub mod pointer;
 mod program;
 mod reader;
 mod running;
+pub mod script_pieces;
 mod span;
 mod stack;
 pub mod status;

@@ -1,6 +1,6 @@
 //! The canonical script of nodes, from the text of the document.
 
-ghost use Rattle.std.specs.Prelude.{◌≡◌, ◌≤◌, ◌*◌, ◌++◌, codes, decimal, length, map, true};
+ghost use Rattle.std.specs.Prelude.{◌≡◌, ◌++◌, codes, decimal, length, map, true};
 ghost use Rattle.std.specs.Fmt.{signed_decimal};
 ghost use Rattle.hex.specs.Hex.{encode_lower};
 ghost use Rattle.sval_io.specs.Sinks.{WritesAll};
@@ -15,48 +15,13 @@ ghost use Rattle.sval_json_read.specs.TokenScripts.{line_before, line_behind, te
 
 use crate::node::{Node, Place};
 use crate::piece::{Piece, first_piece};
+use crate::script_pieces::{write_between, write_hex};
 use crate::string_calls::is_one_run;
 use itoa::Buffer;
 use sval_io::{FixedSink, Sink, SinkError, write_all, write_in_place};
 
 /// How many bytes of a node's lines are joined on the stack at most.
 const ROOM: usize = 256;
-
-/// How many bytes become hex digits at once.
-const RUN: usize = 64;
-
-/// Puts the hex digits of some bytes at the front of an array, and gives them.
-#[inline(always)]
-fn encode<'a>(bytes: &[u8], digits: &'a mut [u8]) -> &'a [u8]
-    requires { 2 * length bytes.now ≤ length digits.old }
-    ensures { result.now ≡ encode_lower bytes.now }
-{
-    let front = &mut digits[..2 * bytes.len()];
-    let _ = hex::encode_to_slice(bytes, front);
-    front
-}
-
-/// Writes at most [`RUN`] bytes in hex.
-#[inline(always)]
-fn write_run<K: Sink>(bytes: &[u8], out: &mut K) -> Result<(), SinkError>
-    requires { length bytes.now ≤ 64 }
-    ensures { WritesAll result (K.told out.old) (encode_lower bytes.now) (K.told out.new) }
-{
-    let mut digits = [0u8; 2 * RUN];
-    write_in_place(out, encode(bytes, &mut digits))
-}
-
-/// Writes bytes in hex.
-fn write_hex<K: Sink>(bytes: &[u8], out: &mut K) -> Result<(), SinkError>
-    ensures { WritesAll result (K.told out.old) (encode_lower bytes.now) (K.told out.new) }
-{
-    let mut rest = bytes;
-    while rest.len() > RUN {
-        write_run(&rest[..RUN], out)?;
-        rest = &rest[RUN..];
-    }
-    write_run(rest, out)
-}
 
 /// Writes the text of a run or of an escape in hex.
 fn write_piece_hex<K: Sink>(piece: Piece<'_>, out: &mut K) -> Result<(), SinkError>
@@ -122,21 +87,6 @@ fn write_two<K: Sink>(first: &[u8], second: &[u8], out: &mut K) -> Result<(), Si
 {
     write_in_place(out, first)?;
     write_in_place(out, second)
-}
-
-/// Writes a piece between two others.
-#[inline(always)]
-fn write_between<K: Sink>(
-    before: &[u8],
-    piece: &[u8],
-    behind: &[u8],
-    out: &mut K,
-) -> Result<(), SinkError>
-    ensures { WritesAll result (K.told out.old) (before.now ++ (piece.now ++ behind.now)) (K.told out.new) }
-{
-    write_in_place(out, before)?;
-    write_in_place(out, piece)?;
-    write_in_place(out, behind)
 }
 
 /// Writes the lines of a text of this length, up to its digits.

@@ -1,7 +1,7 @@
 use Rattle.std.proofs.Common.{rules, arith}
 use Rattle.std.proofs.lemmas.List.{length-take}
 use Rattle.sval_script.proofs.PrintedPieces.{piece_done, piece_stopped}
-use Rattle.sval_json_read.proofs.node_script.write_hex.Goals as goal
+use Rattle.sval_json_read.proofs.script_pieces.write_hex.Goals as goal
 
 pub slice_bounds-write_run-end : goal.slice_bounds-write_run-end
 slice_bounds-write_run-end g c = omega (arith, length-take 64 c.loop-rest.rest.now, c.loop-rest-test.true)

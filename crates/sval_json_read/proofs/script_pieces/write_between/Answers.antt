@@ -1,7 +1,7 @@
 use Rattle.std.proofs.Common.{◌++◌, refl, rules}
 use Rattle.sval_io.proofs.Appending.{stops_after}
 use Rattle.sval_json_read.proofs.NodeTexts.{both_written}
-use Rattle.sval_json_read.proofs.node_script.write_between.Goals as goal
+use Rattle.sval_json_read.proofs.script_pieces.write_between.Goals as goal
 
 pub returns-in_err-write_in_place-2 : goal.returns-in_err-write_in_place-2
 returns-in_err-write_in_place-2 g c =
