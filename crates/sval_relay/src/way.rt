@@ -1,6 +1,6 @@
 //! The ways to serve a script, and the forms of the program's words.
 
-ghost use Rattle.std.specs.Prelude.{◌≡◌, map, string_bytes};
+ghost use Rattle.std.specs.Prelude.{◌≡◌, [], ◌∷◌, map, string_bytes};
 ghost use Rattle.sval_relay.specs.Ways.{way_alone, way_beside, served_in, records_named, relay_form};
 
 /// The ways to serve a script: what is written of each value that it spells.
@@ -90,20 +90,39 @@ fn named_records(word: &str) -> Option<u32>
     (records <= MOST).then_some(records)
 }
 
+/// The form that two words are, if they are one.
+fn form_of_two(first: &str, last: &str) -> Option<Form>
+    ensures { result ≡ relay_form (first.now ∷ last.now ∷ []) }
+{
+    if first == "made" {
+        return Some(Form::Made(named_records(last)?));
+    }
+    match last {
+        "lines" => Form::served(alone(first), true),
+        "beside" => Form::served(beside(first), false),
+        _ => None,
+    }
+}
+
+/// The form that three words are, if they are one.
+fn form_of_three(first: &str, middle: &str, last: &str) -> Option<Form>
+    ensures { result ≡ relay_form (first.now ∷ middle.now ∷ last.now ∷ []) }
+{
+    if middle == "beside" && last == "lines" {
+        Form::served(beside(first), true)
+    } else {
+        None
+    }
+}
+
 /// The form that the program's words are, if they are one.
 pub(crate) fn named_form(words: &[String]) -> Option<Form>
     ensures { result ≡ relay_form (map string_bytes words.now) }
 {
     match words {
         [word] => Form::served(alone(word.as_str()), false),
-        [word, number] if word.as_str() == "made" => {
-            Some(Form::Made(named_records(number.as_str())?))
-        }
-        [word, last] if last.as_str() == "lines" => Form::served(alone(word.as_str()), true),
-        [word, last] if last.as_str() == "beside" => Form::served(beside(word.as_str()), false),
-        [word, middle, last] if middle.as_str() == "beside" && last.as_str() == "lines" => {
-            Form::served(beside(word.as_str()), true)
-        }
+        [first, last] => form_of_two(first.as_str(), last.as_str()),
+        [first, middle, last] => form_of_three(first.as_str(), middle.as_str(), last.as_str()),
         _ => None,
     }
 }
