@@ -122,7 +122,7 @@ fn print_string_begin<K: Sink>(
     write_between(begin, Buffer::new().format(size).as_bytes(), fragment, out)
 }
 
-/// Writes the lines of a string in one fragment. `begin`, `fragment` and `end` stand around its size and its digits.
+/// Writes the lines of a string in one fragment: `begin`, its size, `fragment`, its digits and `end`.
 fn print_string<K: Sink>(
     begin: &[u8],
     fragment: &[u8],
@@ -319,7 +319,7 @@ impl Node {
     }
 }
 
-/// The length of the chunk that a node is, if it is one.
+/// The length of a node's chunk. Only a node of a chunk has one.
 fn chunk_len(bytes: &[u8], node: Node) -> Option<usize>
     requires { NodeStands bytes.now node }
     ensures { IsChunkLength bytes.now node result }
@@ -331,7 +331,8 @@ fn chunk_len(bytes: &[u8], node: Node) -> Option<usize>
     }
 }
 
-/// The length of all chunks that some nodes begin with. It has 128 bits, since nodes may stand at the same place.
+/// The length of all chunks that some nodes begin with. It has 128 bits, since no fact about nodes says that their
+/// chunks don't overlap.
 fn chunks_len(bytes: &[u8], nodes: &[Node]) -> u128
     requires { NodesStand bytes.now nodes.now }
     ensures { result ≡ chunks_length (streamed_items bytes.now nodes.now) }
