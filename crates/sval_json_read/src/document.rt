@@ -152,9 +152,21 @@ impl<'a> JsonDoc<'a> {
         ensures err { IfErr result (IsTextReadError text.now) }
     {
         match read_nodes(alloc, text.as_bytes()) {
-            Ok(nodes) => Ok(JsonDoc { text, nodes }),
+            Ok(nodes) => Ok(JsonDoc::of_nodes(text, nodes)),
             Err(error) => Err(error),
         }
+    }
+
+    /// The document whose nodes were read of a text.
+    fn of_nodes(text: &'a str, nodes: Vec<Node>) -> Self
+        requires document { IsDocument text.now (tokens_in text.now (map seen_node nodes.items)) }
+        requires stand { AllByRecursion (StandsIn text.now) nodes.items }
+        requires counted { AreCounted nodes.items }
+        ensures ok { IsReadText text.now (document_calls result) }
+        ensures document { IsDocument text.now result }
+        ensures value { Denotes text.now (value_in result) }
+    {
+        JsonDoc { text, nodes }
     }
 
     /// The value that the text denotes.

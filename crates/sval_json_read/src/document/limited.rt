@@ -128,7 +128,7 @@ impl<'a> JsonDoc<'a> {
         ensures err { IfErr result (IsLimitedTextError text.now limits) }
     {
         match limited_nodes(alloc, text.as_bytes(), limits) {
-            Ok(nodes) => Ok(JsonDoc { text, nodes }),
+            Ok(nodes) => Ok(JsonDoc::of_nodes(text, nodes)),
             Err(error) => Err(error),
         }
     }
