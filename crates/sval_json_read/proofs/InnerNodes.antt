@@ -14,6 +14,7 @@ use Rattle.sval_json_read.specs.SeenNodes.{seen_node, AreKeptOf}
 use Rattle.sval_json_read.specs.SeenValues.{value_in, values_in, members_in}
 use Rattle.sval_json_read.specs.ValueNodes.{IsOfValue, alone, item, of_pair, IsOfValues, no_items, an_item, IsOfMembers, no_pairs, a_pair, AreOfValue, AreOfValues, AreOfMembers}
 use Rattle.sval_json_read.proofs.NodeCounts.{counted_front, counted_behind}
+use Rattle.sval_json_read.proofs.FirstNodes.{some_nodes}
 use Rattle.sval_json_read.proofs.SeenValues.{value-seen, values-seen, members-seen}
 
 -- ---- items and pairs one by one
@@ -146,9 +147,9 @@ module _ (bytes : List ℕ) (nodes : List Node) (a : AreOfValue bytes nodes) whe
   abbrev pub inner : List Node
   inner = take (length nodes - 1 - 1) (drop 1 nodes)
 
-  first_is : (P : Token → Type 0) (p : Token) (first : Node) → get_or nodes 0 (node.Null place.Alone) ≡ first → 0 < length nodes → P (token_in bytes (seen_node first).kept)
+  first_is : (P : Token → Type 0) (p : Token) (first : Node) → get_or nodes 0 (node.Null place.Alone) ≡ first → P (token_in bytes (seen_node first).kept)
       → First P (tokens_in bytes (map seen_node nodes))
-  first_is P p first e l h = go nodes e l
+  first_is P p first e h = go nodes e (some_nodes bytes nodes a)
     where
       go : (row : List Node) → get_or row 0 (node.Null place.Alone) ≡ first → 0 < length row → First P (tokens_in bytes (map seen_node row))
       go [] e l = absurd (omega (arith, l))
@@ -165,15 +166,15 @@ module _ (bytes : List ℕ) (nodes : List Node) (a : AreOfValue bytes nodes) whe
       let n = sym (tokens_length bytes nodes) ∙ ap (λ (tokens : List Placed). length tokens) e in
       omega (arith, l, n)
 
-  pub array_two : (p : made_place.Place) (held : ℕ) → get_or nodes 0 (node.Null place.Alone) ≡ node.BeginArray p held → 0 < length nodes → 2 ≤ length nodes
-  array_two p held e l = let parts = array_of a.is_of (first_is begins_array token.BeginArray (node.BeginArray p held) e l tt) in two_nodes _ _ parts.mid parts.same
+  pub array_two : (p : made_place.Place) (held : ℕ) → get_or nodes 0 (node.Null place.Alone) ≡ node.BeginArray p held → 2 ≤ length nodes
+  array_two p held e = let parts = array_of a.is_of (first_is begins_array token.BeginArray (node.BeginArray p held) e tt) in two_nodes _ _ parts.mid parts.same
 
-  pub object_two : (p : made_place.Place) (held : ℕ) → get_or nodes 0 (node.Null place.Alone) ≡ node.BeginObject p held → 0 < length nodes → 2 ≤ length nodes
-  object_two p held e l = let parts = object_of a.is_of (first_is begins_object token.BeginObject (node.BeginObject p held) e l tt) in two_nodes _ _ parts.mid parts.same
+  pub object_two : (p : made_place.Place) (held : ℕ) → get_or nodes 0 (node.Null place.Alone) ≡ node.BeginObject p held → 2 ≤ length nodes
+  object_two p held e = let parts = object_of a.is_of (first_is begins_object token.BeginObject (node.BeginObject p held) e tt) in two_nodes _ _ parts.mid parts.same
 
-  pub array_within : (p : made_place.Place) (held : ℕ) → get_or nodes 0 (node.Null place.Alone) ≡ node.BeginArray p held → 0 < length nodes → Within bytes nodes inner
-  array_within p held e l =
-      let parts = array_of a.is_of (first_is begins_array token.BeginArray (node.BeginArray p held) e l tt) in
+  pub array_within : (p : made_place.Place) (held : ℕ) → get_or nodes 0 (node.Null place.Alone) ≡ node.BeginArray p held → Within bytes nodes inner
+  array_within p held e =
+      let parts = array_of a.is_of (first_is begins_array token.BeginArray (node.BeginArray p held) e tt) in
       let t = inner_tokens _ _ parts.mid parts.same in
       let are_of = subst (λ tokens. IsOfValues tokens parts.values) (sym t) parts.are_of in
       record {
@@ -181,9 +182,9 @@ module _ (bytes : List ℕ) (nodes : List Node) (a : AreOfValue bytes nodes) whe
         is = value-seen a.is_of ∙ parts.is ∙ ap json.Array (sym (values-seen are_of));
       }
 
-  pub object_within : (p : made_place.Place) (held : ℕ) → get_or nodes 0 (node.Null place.Alone) ≡ node.BeginObject p held → 0 < length nodes → WithinObject bytes nodes inner
-  object_within p held e l =
-      let parts = object_of a.is_of (first_is begins_object token.BeginObject (node.BeginObject p held) e l tt) in
+  pub object_within : (p : made_place.Place) (held : ℕ) → get_or nodes 0 (node.Null place.Alone) ≡ node.BeginObject p held → WithinObject bytes nodes inner
+  object_within p held e =
+      let parts = object_of a.is_of (first_is begins_object token.BeginObject (node.BeginObject p held) e tt) in
       let t = inner_tokens _ _ parts.mid parts.same in
       let are_of = subst (λ tokens. IsOfMembers tokens parts.members) (sym t) parts.are_of in
       record {
@@ -191,14 +192,14 @@ module _ (bytes : List ℕ) (nodes : List Node) (a : AreOfValue bytes nodes) whe
         is = value-seen a.is_of ∙ parts.is ∙ ap json.Object (sym (members-seen are_of));
       }
 
-  pub array_tokens : (p : made_place.Place) (held : ℕ) → get_or nodes 0 (node.Null place.Alone) ≡ node.BeginArray p held → 0 < length nodes → StandsBetween bytes nodes inner token.BeginArray token.EndArray
-  array_tokens p held e l =
-      let parts = array_of a.is_of (first_is begins_array token.BeginArray (node.BeginArray p held) e l tt) in
+  pub array_tokens : (p : made_place.Place) (held : ℕ) → get_or nodes 0 (node.Null place.Alone) ≡ node.BeginArray p held → StandsBetween bytes nodes inner token.BeginArray token.EndArray
+  array_tokens p held e =
+      let parts = array_of a.is_of (first_is begins_array token.BeginArray (node.BeginArray p held) e tt) in
       let t = inner_tokens _ _ parts.mid parts.same in
       record { place = parts.place; same = parts.same ∙ ap (λ mid. placed_at parts.place token.BeginArray ∷ (mid ++ (placed_at parts.place token.EndArray ∷ []))) (sym t) }
 
-  pub object_tokens : (p : made_place.Place) (held : ℕ) → get_or nodes 0 (node.Null place.Alone) ≡ node.BeginObject p held → 0 < length nodes → StandsBetween bytes nodes inner token.BeginObject token.EndObject
-  object_tokens p held e l =
-      let parts = object_of a.is_of (first_is begins_object token.BeginObject (node.BeginObject p held) e l tt) in
+  pub object_tokens : (p : made_place.Place) (held : ℕ) → get_or nodes 0 (node.Null place.Alone) ≡ node.BeginObject p held → StandsBetween bytes nodes inner token.BeginObject token.EndObject
+  object_tokens p held e =
+      let parts = object_of a.is_of (first_is begins_object token.BeginObject (node.BeginObject p held) e tt) in
       let t = inner_tokens _ _ parts.mid parts.same in
       record { place = parts.place; same = parts.same ∙ ap (λ mid. placed_at parts.place token.BeginObject ∷ (mid ++ (placed_at parts.place token.EndObject ∷ []))) (sym t) }

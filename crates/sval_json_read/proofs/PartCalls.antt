@@ -116,13 +116,13 @@ module _ {bytes : List ℕ} {nodes : List Node} (a : AreOfValue bytes nodes) (in
   pub array-calls : (p : made_place.Place) (held : ℕ) → get_or nodes 0 (node.Null place.Alone) ≡ node.BeginArray p held
       → document_calls (by_itself (tokens_in bytes (map seen_node nodes))) ≡ Call.Begin Head.Seq None ∷ (streamed bytes (map seen_node inner) ++ (Call.End Head.Seq ∷ []))
   array-calls p held e =
-      let parts = subst (λ row. StandsBetween bytes nodes row token.BeginArray token.EndArray) (sym same) (array_tokens bytes nodes a p held e (some_nodes bytes nodes a)) in
+      let parts = subst (λ row. StandsBetween bytes nodes row token.BeginArray token.EndArray) (sym same) (array_tokens bytes nodes a p held e) in
       between-calls token.BeginArray token.EndArray (Call.Begin Head.Seq None) (Call.End Head.Seq) parts refl refl
 
   pub object-calls : (p : made_place.Place) (held : ℕ) → get_or nodes 0 (node.Null place.Alone) ≡ node.BeginObject p held
       → document_calls (by_itself (tokens_in bytes (map seen_node nodes))) ≡ Call.Begin Head.Map None ∷ (streamed bytes (map seen_node inner) ++ (Call.End Head.Map ∷ []))
   object-calls p held e =
-      let parts = subst (λ row. StandsBetween bytes nodes row token.BeginObject token.EndObject) (sym same) (object_tokens bytes nodes a p held e (some_nodes bytes nodes a)) in
+      let parts = subst (λ row. StandsBetween bytes nodes row token.BeginObject token.EndObject) (sym same) (object_tokens bytes nodes a p held e) in
       between-calls token.BeginObject token.EndObject (Call.Begin Head.Map None) (Call.End Head.Map) parts refl refl
 
 not-begin : (bytes : List ℕ) (one : Node) → ((p : made_place.Place) (held : ℕ) → one ≡ node.BeginArray p held → ⊥) → ((p : made_place.Place) (held : ℕ) → one ≡ node.BeginObject p held → ⊥)

@@ -14,7 +14,7 @@ bounds-0 g c = some_nodes c.args.text.now c.args.nodes.now c.requires
 
 pub between_ends-requires : goal.between_ends-requires
 between_ends-requires g c =
-    array_two c.args.text.now c.args.nodes.now c.requires c.in-BeginArray.field-0 c.in-BeginArray.field-1 c.in-BeginArray.is (some_nodes c.args.text.now c.args.nodes.now c.requires)
+    array_two c.args.text.now c.args.nodes.now c.requires c.in-BeginArray.field-0 c.in-BeginArray.field-1 c.in-BeginArray.is
 
 pub returns-in_err-stream_nodes-in-BeginArray : goal.returns-in_err-stream_nodes-in-BeginArray
 returns-in_err-stream_nodes-in-BeginArray g c =
@@ -29,7 +29,7 @@ returns-in_ok-stream_nodes-in-BeginArray g c =
 
 pub between_ends-requires-in-BeginObject : goal.between_ends-requires-in-BeginObject
 between_ends-requires-in-BeginObject g c =
-    object_two c.args.text.now c.args.nodes.now c.requires c.in-BeginObject.field-0 c.in-BeginObject.field-1 c.in-BeginObject.is (some_nodes c.args.text.now c.args.nodes.now c.requires)
+    object_two c.args.text.now c.args.nodes.now c.requires c.in-BeginObject.field-0 c.in-BeginObject.field-1 c.in-BeginObject.is
 
 pub returns-in_err-stream_nodes-in-BeginObject : goal.returns-in_err-stream_nodes-in-BeginObject
 returns-in_err-stream_nodes-in-BeginObject g c =

@@ -12,20 +12,16 @@ pub bounds-0 : goal.bounds-0
 bounds-0 c = some_nodes c.self.inside.text.now c.self.inside.nodes.now c.self.invariant
 
 pub between_ends-requires : goal.between_ends-requires
-between_ends-requires c =
-    array_two c.self.inside.text.now c.self.inside.nodes.now c.self.invariant c.in-BeginArray.field-0 c.in-BeginArray.field-1 c.in-BeginArray.is
-    (some_nodes c.self.inside.text.now c.self.inside.nodes.now c.self.invariant)
+between_ends-requires c = array_two c.self.inside.text.now c.self.inside.nodes.now c.self.invariant c.in-BeginArray.field-0 c.in-BeginArray.field-1 c.in-BeginArray.is
 
 pub new-requires : goal.new-requires
 new-requires c =
-    let within = array_within c.self.inside.text.now c.self.inside.nodes.now c.self.invariant c.in-BeginArray.field-0 c.in-BeginArray.field-1 c.in-BeginArray.is
-    (some_nodes c.self.inside.text.now c.self.inside.nodes.now c.self.invariant) in
+    let within = array_within c.self.inside.text.now c.self.inside.nodes.now c.self.invariant c.in-BeginArray.field-0 c.in-BeginArray.field-1 c.in-BeginArray.is in
     subst (AreOfValues c.self.inside.text.now) (sym c.between_ends.ensures) within.are
 
 pub returns-in-BeginArray : goal.returns-in-BeginArray
 returns-in-BeginArray c =
-    let within = array_within c.self.inside.text.now c.self.inside.nodes.now c.self.invariant c.in-BeginArray.field-0 c.in-BeginArray.field-1 c.in-BeginArray.is
-    (some_nodes c.self.inside.text.now c.self.inside.nodes.now c.self.invariant) in
+    let within = array_within c.self.inside.text.now c.self.inside.nodes.now c.self.invariant c.in-BeginArray.field-0 c.in-BeginArray.field-1 c.in-BeginArray.is in
     ap Some (c.new.ensures ∙ ap (λ nodes. values_listed (values_in (tokens_in c.self.inside.text.now (map seen_node nodes)))) c.between_ends.ensures)
     ∙ ap items_of (sym within.is ∙ c.self.view_is)
 

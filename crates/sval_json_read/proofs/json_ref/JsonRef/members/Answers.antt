@@ -12,20 +12,16 @@ pub bounds-0 : goal.bounds-0
 bounds-0 c = some_nodes c.self.inside.text.now c.self.inside.nodes.now c.self.invariant
 
 pub between_ends-requires : goal.between_ends-requires
-between_ends-requires c =
-    object_two c.self.inside.text.now c.self.inside.nodes.now c.self.invariant c.in-BeginObject.field-0 c.in-BeginObject.field-1 c.in-BeginObject.is
-    (some_nodes c.self.inside.text.now c.self.inside.nodes.now c.self.invariant)
+between_ends-requires c = object_two c.self.inside.text.now c.self.inside.nodes.now c.self.invariant c.in-BeginObject.field-0 c.in-BeginObject.field-1 c.in-BeginObject.is
 
 pub new-requires : goal.new-requires
 new-requires c =
-    let within = object_within c.self.inside.text.now c.self.inside.nodes.now c.self.invariant c.in-BeginObject.field-0 c.in-BeginObject.field-1 c.in-BeginObject.is
-    (some_nodes c.self.inside.text.now c.self.inside.nodes.now c.self.invariant) in
+    let within = object_within c.self.inside.text.now c.self.inside.nodes.now c.self.invariant c.in-BeginObject.field-0 c.in-BeginObject.field-1 c.in-BeginObject.is in
     subst (AreOfMembers c.self.inside.text.now) (sym c.between_ends.ensures) within.are
 
 pub returns-in-BeginObject : goal.returns-in-BeginObject
 returns-in-BeginObject c =
-    let within = object_within c.self.inside.text.now c.self.inside.nodes.now c.self.invariant c.in-BeginObject.field-0 c.in-BeginObject.field-1 c.in-BeginObject.is
-    (some_nodes c.self.inside.text.now c.self.inside.nodes.now c.self.invariant) in
+    let within = object_within c.self.inside.text.now c.self.inside.nodes.now c.self.invariant c.in-BeginObject.field-0 c.in-BeginObject.field-1 c.in-BeginObject.is in
     ap Some (c.new.ensures ∙ ap (λ nodes. paired (members_in (tokens_in c.self.inside.text.now (map seen_node nodes)))) c.between_ends.ensures)
     ∙ ap members_of (sym within.is ∙ c.self.view_is)
 
