@@ -93,6 +93,12 @@ module _ {V : Type 0} (step : List ℕ → V → Option V) where
   pub token_last : (token : List ℕ) (value : V) → HasNoSlash token → evaluated step [] token value ≡ step token value
   token_last token value h = ap (λ bytes. evaluated step [] bytes value) (sym (append-nil token)) ∙ token_over [] token [] value h
 
+  -- one turn of a loop over the tokens: `whole` is what the pointer references, and `next` what the token up to the next `/` does
+  pub token_taken : (whole next : Option V) (rest token behind : List ℕ) (found : V) → whole ≡ evaluated step [] rest found → (rest ≡ token ++ (47 ∷ behind)) × HasNoSlash token → next ≡ step token found
+      → whole ≡ option_and_then (evaluated step [] behind) next
+  token_taken whole next rest token behind found before cut is =
+      before ∙ ap (λ r. evaluated step [] r found) cut.0 ∙ token_then token behind found cut.1 ∙ ap (option_and_then (evaluated step [] behind)) (sym is)
+
   pub no_slash_first : (pointer : List ℕ) (value : V) → 0 < length pointer → ((rest : List ℕ) → pointer ≢ 47 ∷ rest) → pointed_by step pointer value ≡ None
   no_slash_first [] value some other = absurd (omega (arith, some))
   no_slash_first (byte ∷ bytes) value some other = rw (ne_eqb byte 47 (λ e. other bytes (ap (λ b. b ∷ bytes) e))) refl
