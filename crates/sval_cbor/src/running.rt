@@ -104,39 +104,26 @@ pub(crate) fn named_form(words: &[String]) -> Option<()>
     }
 }
 
-/// Runs the program on its words, its devices and an allocator, and answers its status, one of those of
-/// [`status`](crate::status) and of [`sval_program::status`].
+/// Runs the program as [`run`] runs each, and answers its status, one of those of [`status`](crate::status) and of
+/// [`sval_program::status`].
 ///
-/// The words are those after the program's name: there are none. The input is a script of calls, and is read to its
-/// end, at most 16,777,216 bytes and one more to see that there are too many. The value that its calls spell is written
-/// as [`stream_to_cbor`](crate::stream_to_cbor) writes it. Where the status isn't 0, one line is written to `diag` that
-/// says why. Whatever `diag` answers, the status and what is left of the input and the output are such as
-/// [`work`](sval_program::job::work) may give, which has no `diag`.
+/// There are no words. The input is a script of calls. The value that its calls spell is written as
+/// [`stream_to_cbor`](crate::stream_to_cbor) writes it. Of an input one thing is due: a fault or none, and the bytes to
+/// write ([`verdict_laws`](crate::laws::verdict_laws)).
+///
+/// Its own statuses:
 ///
 /// | status | comes |
 /// |---|---|
-/// | 0 | the sink took exactly the CBOR of the script's value, and holds back nothing of it, as far as it says so |
-/// | 2 | there are words; nothing is read |
 /// | 3 | a line is no call |
 /// | 4 | no value goes on with the call of a line |
 /// | 5 | the calls are not one whole value |
 /// | 6 | a map's key can't be written as a key |
 /// | 7 | a text tagged as a number is none, and doesn't begin with s, n or i after at most one sign: then it is null |
-/// | 8 | only where the output failed |
-/// | 9 | only where the input failed, and wherever its count of faults moved |
-/// | 10 | memory was wanting |
-/// | 11 | the input is longer than is kept |
 /// | 14 | the value has text that says it is JSON |
 /// | 15 | a text tagged as a number is one with a fraction, an exponent or more than 128 bits |
 ///
-/// Of 6, 7, 14 and 15 the first cause from left to right decides. Where there are no words and neither device fails,
-/// the status is the one that the script's verdict asks for, or 10; of a script that is too long, 11 or 10. The sink is
-/// as it was after all statuses but 0, 8 and 10; after 10 too, unless its own count of wants rose. After 8, and after
-/// 10 where that count rose, a first part of the bytes may have been taken.
-///
-/// The clause `ends` says when each status comes and what is left of the input and the output, and `reports` what
-/// `diag` is told. Of an input one thing is due: a fault or none, and the bytes to write
-/// ([`verdict_laws`](crate::laws::verdict_laws)).
+/// Of 6, 7, 14 and 15 the first cause from left to right decides. The sink is as it was after all of these.
 ///
 /// ```
 /// let mut out = VecSink::new(alloc);

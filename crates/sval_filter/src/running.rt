@@ -116,38 +116,22 @@ pub(crate) fn serve<I: Source, K: Sink>(
     }
 }
 
-/// Runs the program on its words, its devices and an allocator, and answers its status, one of those of
-/// [`sval_program::status`].
+/// Runs the program as [`run`] runs each, and answers its status, one of those of [`sval_program::status`].
 ///
-/// The words are those after the program's name: `drop` or `keep`, and then one or more words, each the labels of a
-/// path between dots, none of them empty. They are tested before any path is made. The input is a script of calls, and
-/// is read to its end, at most 16,777,216 bytes and one more to see that there are too many. What the rule and the
-/// paths leave of the value that its calls spell, as [`prune`](crate::prune) does, is written as JSON without white
-/// space. Where the status isn't 0, one line is written to `diag` that says why. Whatever `diag` answers, the status
-/// and what is left of the input and the output are such as [`work`](sval_program::job::work) may give, which has no
-/// `diag`.
+/// The words are `drop` or `keep`, and then one or more words, each the labels of a path between dots, none of them
+/// empty. They are tested before any path is made. The input is a script of calls. What the rule and the paths leave of
+/// the value that its calls spell, as [`prune`](crate::prune) does, is written as JSON without white space. Of an input
+/// one thing is due: a fault or none, and the bytes to write ([`verdict_laws`](crate::laws::verdict_laws)).
+///
+/// Its own statuses:
 ///
 /// | status | comes |
 /// |---|---|
-/// | 0 | the sink took exactly the JSON of what is left, and holds back nothing of it, as far as it says so |
-/// | 2 | the words are no form; nothing is read |
 /// | 3 | a line is no call |
 /// | 4 | no value goes on with the call of a line |
 /// | 5 | the calls are not one whole value |
 /// | 6 | in what is left a map's key can't be written as a key; the sink took exactly what is written before that |
 /// | 7 | in what is left a text tagged as a number is no number; the sink took exactly what is written before that |
-/// | 8 | only where the output failed |
-/// | 9 | only where the input failed, and wherever its count of faults moved |
-/// | 10 | memory was wanting |
-/// | 11 | the input is longer than is kept |
-///
-/// Where the words are a form and neither device fails, the status is the one that the script's verdict asks for, or
-/// 10; of a script that is too long, 11 or 10. After 10 the sink is as it was, unless its own count of wants rose.
-/// After 8, and after 10 where that count rose, a first part of what 0, 6 or 7 leave may have been taken.
-///
-/// The clause `ends` says when each status comes and what is left of the input and the output, and `reports` what
-/// `diag` is told. Of an input one thing is due: a fault or none, and the bytes to write
-/// ([`verdict_laws`](crate::laws::verdict_laws)).
 ///
 /// ```
 /// let mut out = VecSink::new(alloc);

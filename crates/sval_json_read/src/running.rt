@@ -52,34 +52,20 @@ pub(crate) fn serve_input<I: Source, K: Sink>(
     serve_bytes(alloc, form, bytes.as_slice(), out)
 }
 
-/// Runs the program on its words, its devices and an allocator, and answers its status, one of those of
-/// [`status`](crate::status) and of [`sval_program::status`].
+/// Runs the program as [`run`] runs each, and answers its status, one of those of [`status`](crate::status) and of
+/// [`sval_program::status`].
 ///
-/// The words are those after the program's name: one word, `json` or `calls`. The input is read to its end, at most
-/// 16,777,216 bytes and one more to see that there are too many, and as a text of JSON (RFC 8259). With `json` the JSON
-/// of the value that it denotes is written, without white space; it denotes the same value, with `0` for each number
-/// `-0`. With `calls` the canonical script of the value's calls is written. Where the status
-/// isn't 0, one line is written to `diag` that says why. Whatever `diag` answers, the status and what is left of the
-/// input and the output are such as [`work`](sval_program::job::work) may give, which has no `diag`.
+/// The words are one word, `json` or `calls`. The input is read as a text of JSON (RFC 8259). With `json` the JSON of
+/// the value that it denotes is written, without white space; it denotes the same value, with `0` for each number `-0`.
+/// With `calls` the canonical script of the value's calls is written. Of an input one thing is due at most
+/// ([`reading_laws`](crate::laws::reading_laws)).
 ///
-/// What is due is `Due` of `json_read_terms`, and of an input it is one thing at most
-/// ([`reading_laws`](crate::laws::reading_laws)). `Ends` says when each status comes and what is left of the devices,
-/// and `Reports` which line is told.
+/// Its own statuses:
 ///
 /// | status | comes |
 /// |---|---|
-/// | 0 | the input denotes a value; the sink took exactly what is due, and holds back nothing, as far as it says so |
-/// | 2 | the words are no form; nothing is read |
-/// | 8 | only where the output failed |
-/// | 9 | only where the input failed, and wherever its count of faults moved |
-/// | 10 | memory was wanting |
-/// | 11 | the input is longer than is kept |
 /// | 12 | the input is not UTF-8 |
 /// | 13 | it is UTF-8 and denotes no value; the line names the byte at which it fails |
-///
-/// Where the words are a form and neither device fails, the status is the one that the input asks for, or 10; of an
-/// input that is too long, 11 or 10. After 10 the sink is as it was, unless its own count of wants rose. After 8, and
-/// after 10 where that count rose, a first part of what is due may have been taken.
 ///
 /// ```
 /// let mut out = VecSink::new(alloc);

@@ -83,9 +83,29 @@ fn conclude<J: Job, D: Sink>(ended: Result<(), Failure>, diag: &mut D) -> u8
 
 /// Runs a program on its words, its devices and an allocator, and answers its status.
 ///
-/// Where the words ask for the input, it is read to its end, at most 16,777,216 bytes and one more to see that there
-/// are too many. Where the status isn't 0, one line is written to `diag` that says why. Whatever `diag` answers, the
-/// status and what is left of the input and the output are such as [`work`] may give, which has no `diag`.
+/// The words are those after the program's name. Where they ask for the input, it is read to its end, at most
+/// 16,777,216 bytes and one more to see that there are too many. Where the status isn't 0, one line is written to `diag`
+/// that says why. Whatever `diag` answers, the status and what is left of the input and the output are such as [`work`]
+/// may give, which has no `diag`.
+///
+/// Beside the statuses of its own faults each program has these:
+///
+/// | status | comes |
+/// |---|---|
+/// | 0 | the sink took exactly what is due, and holds back nothing of it, as far as it says so |
+/// | 2 | the words are no form; nothing is read |
+/// | 8 | only where the output failed |
+/// | 9 | only where the input failed, and wherever its count of faults moved |
+/// | 10 | memory was wanting |
+/// | 11 | the input is longer than is kept |
+///
+/// Where the words ask for the input and neither device fails, the status is the one that the input asks for, or 10; of
+/// an input that is too long, 11 or 10. After 10 the sink is as it was, unless its own count of wants rose, or memory
+/// may be wanting between two parts of what is written. After 8, and where 10 doesn't leave the sink as it was, a first
+/// part of what is due may have been taken.
+///
+/// What is due is `Due` of the job's terms. `Ends` says when each status comes and what is left of the devices, and
+/// `Reports` which line is told.
 pub fn run<J: Job, I: Source, K: Sink, D: Sink>(
     alloc: Global,
     words: &[String],

@@ -123,10 +123,9 @@ pub(crate) fn serve_made<K: Sink>(alloc: Global, count: u32, out: &mut K) -> Res
     Ok(relay_made(alloc, count, out)?)
 }
 
-/// Runs the program on its words, its devices and an allocator, and answers its status, one of those of
-/// [`status`](crate::status).
+/// Runs the program as [`job::run`] runs each, and answers its status, one of those of [`status`](crate::status).
 ///
-/// The words are those after the program's name, and are one of these forms:
+/// The words are one of these forms:
 ///
 /// | words | writes |
 /// |---|---|
@@ -137,40 +136,29 @@ pub(crate) fn serve_made<K: Sink>(alloc: Global, count: u32, out: &mut K) -> Res
 /// | one of these and `lines` | the same of each of the values that the calls spell; JSON has a line feed behind it |
 /// | `made N` | the line `calls C json B`: how many calls a made script of `N` records has, and how long its JSON is |
 ///
-/// The script is the input, which it reads to its end, at most 16,777,216 bytes and one more to see that there are too
-/// many. For `made N`, where `N` is a decimal up to 50,000, it reads nothing: what is due is what
-/// [`relay_made`](crate::relay_made) writes. Where the status isn't 0, it writes one line to `diag` that says why.
-/// Whatever `diag` answers, the status and what is left of the input and the output are such as
-/// [`work`](sval_program::job::work) may give, which has no `diag`.
+/// The script is the input. For `made N`, where `N` is a decimal up to 50,000, it reads nothing: what is due is what
+/// [`relay_made`](crate::relay_made) writes. Of an input one thing is due
+/// ([`verdict_laws`](crate::laws::verdict_laws)).
 ///
 /// `done` says what status 0 means for `direct` and `buffered`: the script's calls spell one tree, and
-/// exactly the text of its JSON was written. The other clauses say all of a run:
-/// what is due is `Due` of `relay_terms`, and of an input it is one thing
-/// ([`verdict_laws`](crate::laws::verdict_laws)). `Ends` says when each status comes and what is left of the devices,
-/// and `Reports` which line is told.
+/// exactly the text of its JSON was written. The other clauses say all of a run.
+///
+/// Its own statuses:
 ///
 /// | status | comes |
 /// |---|---|
-/// | 0 | the sink took exactly what is due, and holds back nothing of it, as far as it says so |
-/// | 2 | the words are no form; nothing is read |
 /// | 3 | a line is no call |
 /// | 4 | no value, or with `lines` no list of values, goes on with the call of a line |
 /// | 5 | the calls are not one whole value, or with `lines` not whole values |
 /// | 6 | a map's key can't be written as a key; the sink took what is written up to there |
 /// | 7 | a text tagged as a number is no number; the sink took what is written up to there |
-/// | 8 | only where the output failed |
-/// | 9 | only where the input failed, and wherever its count of faults moved |
-/// | 10 | memory was wanting |
-/// | 11 | the input is longer than is kept |
 ///
 /// With `lines` all calls are checked before anything is written. After 6 and 7 what was written before the refused
 /// value stays, and neither comes with `calls`. With `made N` only 0, 8 and 10 come.
 ///
-/// Where the words ask for a script and neither device fails, the status is the one that the input's verdict asks for,
-/// or 10; of an input that is too long, 11 or 10. After 10 the sink is as it was, unless its own count of wants rose.
-/// Only with `lines` after `buffered`, `buffered beside` or `calls`, where each value is captured by itself, a first
-/// part of what is due may have been taken, even all of it. Then too no count of the sink moved, unless its count of
-/// wants rose.
+/// Only with `lines` after `buffered`, `buffered beside` or `calls`, where each value is captured by itself, may memory
+/// be wanting between two parts of what is written. Then a first part of what is due may have been taken, even all of
+/// it, and no count of the sink moved, unless its count of wants rose.
 ///
 /// ```
 /// let mut out = VecSink::new(alloc);
