@@ -17,7 +17,7 @@ use Rattle.sval_cbor_read.specs.declared.reader.Expected.TheVariants as expected
 use Rattle.sval_cbor_read.specs.declared.reader.Reader.{Reader}
 use Rattle.sval_cbor_read.specs.declared.node.Place.{Place}
 use Rattle.sval_cbor_read.specs.Items.{IsDefiniteString, ArePieces}
-use Rattle.sval_cbor_read.specs.Reading.{OpenItem, Items, Keys, ItemState, Item, Ended, Pieces, moves, item_step, part_step, fragment_call, string_end, piece_step, reading_step}
+use Rattle.sval_cbor_read.specs.Reading.{OpenItem, Items, Keys, ItemState, Item, Ended, Pieces, moves, item_step, part_step, fragment_call, string_end, part_or_end, piece_step, reading_step}
 use Rattle.sval_cbor_read.specs.Steps.{Spot, spot, ItemSteps, one_step, at_once, IsStuckWith, MakesSomeCall}
 use Rattle.sval_cbor_read.specs.SeenStops.{ItemStops}
 use Rattle.sval_cbor_read.specs.HeadFronts.{head_front, NextHead, at_its_head}
@@ -195,37 +195,34 @@ module _ (bytes : List ℕ) (old : Reader) (is : old.expected ≡ expected.APart
     kept = λ all. all;
   }
 
--- what follows in an array
-pub seq_ends : (left : Option ℕ) (bytes : List ℕ) (at next : ℕ) (frames rest : List OpenItem) → frames ≡ Items left ∷ rest → Follows left bytes at (End next)
-    → part_step (drop at bytes) frames ≡ moves (Call.End calls.Seq ∷ []) (drop next bytes) (Ended (around_frame frames))
-seq_ends left bytes at next frames rest o (f, l, k) =
-    ap (part_step (drop at bytes)) o ∙ f (λ more. moves (Call.PartBegin calls.Item ∷ []) (drop at bytes) (Item (Items more ∷ rest))) (λ after. moves (Call.End calls.Seq ∷ []) after (Ended rest))
-    ∙ ap (λ x. moves (Call.End calls.Seq ∷ []) (drop next bytes) (Ended (around_frame x))) (sym o)
+-- ---- what follows in an array or a map
 
-pub seq_stuck : (left : Option ℕ) (bytes : List ℕ) (at : ℕ) (frames rest : List OpenItem) → frames ≡ Items left ∷ rest → Follows left bytes at Nothing → part_step (drop at bytes) frames ≡ None
-seq_stuck left bytes at frames rest o f =
-    ap (part_step (drop at bytes)) o ∙ f (moves (Call.End calls.Seq ∷ []) (drop at bytes) (Ended rest)) (λ more. moves (Call.PartBegin calls.Item ∷ []) (drop at bytes) (Item (Items more ∷ rest))) (λ after. moves (Call.End calls.Seq ∷ []) after (Ended rest))
+-- where the next part is to come, arrays and maps differ in their frames and in their ends alone
+pub record GoesOnBy (holds : Option ℕ → OpenItem) (head : calls.Head) : Type 0 where
+  pub step : (left : Option ℕ) (bytes : List ℕ) (rest : List OpenItem)
+      → part_step bytes (holds left ∷ rest) ≡ part_or_end left bytes (moves (Call.End head ∷ []) bytes (Ended rest))
+      (λ more. moves (item_place_begins (item_place_in (holds more ∷ rest))) bytes (Item (holds more ∷ rest))) (λ after. moves (Call.End head ∷ []) after (Ended rest))
 
-pub seq_begins : (left more : Option ℕ) (bytes : List ℕ) (at : ℕ) (rest : List OpenItem) → Follows left bytes at (Another more)
-    → part_step (drop at bytes) (Items left ∷ rest) ≡ moves (item_place_begins (item_place_in (Items more ∷ rest))) (drop at bytes) (Item (Items more ∷ rest))
-seq_begins left more bytes at rest f =
-    f (moves (Call.End calls.Seq ∷ []) (drop at bytes) (Ended rest)) (λ more. moves (Call.PartBegin calls.Item ∷ []) (drop at bytes) (Item (Items more ∷ rest))) (λ after. moves (Call.End calls.Seq ∷ []) after (Ended rest))
+pub arrays_go_on : GoesOnBy Items calls.Seq
+arrays_go_on = record { step = λ left bytes rest. refl }
 
--- what follows in a map
-pub map_ends : (left : Option ℕ) (bytes : List ℕ) (at next : ℕ) (frames rest : List OpenItem) → frames ≡ Keys left ∷ rest → Follows left bytes at (End next)
-    → part_step (drop at bytes) frames ≡ moves (Call.End calls.Map ∷ []) (drop next bytes) (Ended (around_frame frames))
-map_ends left bytes at next frames rest o (f, l, k) =
-    ap (part_step (drop at bytes)) o ∙ f (λ more. moves (Call.PartBegin calls.Key ∷ []) (drop at bytes) (Item (Keys more ∷ rest))) (λ after. moves (Call.End calls.Map ∷ []) after (Ended rest))
-    ∙ ap (λ x. moves (Call.End calls.Map ∷ []) (drop next bytes) (Ended (around_frame x))) (sym o)
+pub maps_go_on : GoesOnBy Keys calls.Map
+maps_go_on = record { step = λ left bytes rest. refl }
 
-pub map_stuck : (left : Option ℕ) (bytes : List ℕ) (at : ℕ) (frames rest : List OpenItem) → frames ≡ Keys left ∷ rest → Follows left bytes at Nothing → part_step (drop at bytes) frames ≡ None
-map_stuck left bytes at frames rest o f =
-    ap (part_step (drop at bytes)) o ∙ f (moves (Call.End calls.Map ∷ []) (drop at bytes) (Ended rest)) (λ more. moves (Call.PartBegin calls.Key ∷ []) (drop at bytes) (Item (Keys more ∷ rest))) (λ after. moves (Call.End calls.Map ∷ []) after (Ended rest))
+module _ {holds : Option ℕ → OpenItem} {head : calls.Head} (by : GoesOnBy holds head) (left : Option ℕ) (bytes : List ℕ) (at : ℕ) where
+  pub frame_ends : (next : ℕ) (frames rest : List OpenItem) → frames ≡ holds left ∷ rest → Follows left bytes at (End next)
+      → part_step (drop at bytes) frames ≡ moves (Call.End head ∷ []) (drop next bytes) (Ended (around_frame frames))
+  frame_ends next frames rest o (f, l, k) =
+      ap (part_step (drop at bytes)) o ∙ by.step left (drop at bytes) rest
+      ∙ f (λ more. moves (item_place_begins (item_place_in (holds more ∷ rest))) (drop at bytes) (Item (holds more ∷ rest))) (λ after. moves (Call.End head ∷ []) after (Ended rest))
+      ∙ ap (λ x. moves (Call.End head ∷ []) (drop next bytes) (Ended (around_frame x))) (sym o)
 
-pub map_begins : (left more : Option ℕ) (bytes : List ℕ) (at : ℕ) (rest : List OpenItem) → Follows left bytes at (Another more)
-    → part_step (drop at bytes) (Keys left ∷ rest) ≡ moves (item_place_begins (item_place_in (Keys more ∷ rest))) (drop at bytes) (Item (Keys more ∷ rest))
-map_begins left more bytes at rest f =
-    f (moves (Call.End calls.Map ∷ []) (drop at bytes) (Ended rest)) (λ more. moves (Call.PartBegin calls.Key ∷ []) (drop at bytes) (Item (Keys more ∷ rest))) (λ after. moves (Call.End calls.Map ∷ []) after (Ended rest))
+  pub frame_stuck : (frames rest : List OpenItem) → frames ≡ holds left ∷ rest → Follows left bytes at Nothing → part_step (drop at bytes) frames ≡ None
+  frame_stuck frames rest o f = ap (part_step (drop at bytes)) o ∙ by.step left (drop at bytes) rest ∙ f _ _ _
+
+  pub frame_goes_on : (more : Option ℕ) (rest : List OpenItem) → Follows left bytes at (Another more)
+      → part_step (drop at bytes) (holds left ∷ rest) ≡ moves (item_place_begins (item_place_in (holds more ∷ rest))) (drop at bytes) (Item (holds more ∷ rest))
+  frame_goes_on more rest f = by.step left (drop at bytes) rest ∙ f _ _ _
 
 -- ---- strings in pieces
 
