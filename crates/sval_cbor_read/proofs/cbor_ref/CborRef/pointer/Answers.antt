@@ -1,8 +1,7 @@
-use Rattle.std.proofs.Common.{◌≡◌, [], None, option_and_then, sym, ap, ◌∙◌, arith, rules}
+use Rattle.std.proofs.Common.{◌≡◌, None, sym, ◌∙◌, arith, rules}
 use Rattle.std.proofs.lemmas.Str.Pattern.{strip_prefix_char, split_parts}
-use Rattle.sval_json_read.specs.Pointers.{evaluated}
 use Rattle.sval_cbor_read.specs.CborPointers.{cbor_referenced}
-use Rattle.sval_json_read.proofs.Pointers.{token_then, token_last, no_slash_first}
+use Rattle.sval_json_read.proofs.Pointers.{token_taken, token_last, no_slash_first}
 use Rattle.sval_cbor_read.proofs.cbor_ref.CborRef.pointer.Goals as goal
 
 pub returns-in_err-rest : goal.returns-in_err-rest
@@ -17,15 +16,13 @@ returns-in_err-found c =
     let l = c.tokens in
     let cut = rw c.in-Some.is at (split_parts 47 l.rest.now c.split_once.result c.split_once.ensures.cases (omega arith)) in
     let gone : c.from_residual-in_err-found.result ≡ None = grind arith in
-    let turn = l.invariant.0 ∙ ap (λ rest. evaluated cbor_referenced [] rest l.found) cut.0 ∙ token_then cbor_referenced _ _ l.found cut.1 in
-    rw gone (sym (turn ∙ ap (option_and_then (evaluated cbor_referenced [] c.in-Some.behind.now)) (sym c.in_err-found.ensures)))
+    rw gone (sym (token_taken cbor_referenced _ _ l.rest.now _ c.in-Some.behind.now l.found l.invariant.0 cut c.in_err-found.ensures))
 
 pub tokens-preserved : goal.tokens-preserved
 tokens-preserved c =
     let l = c.tokens in
     let cut = rw c.in-Some.is at (split_parts 47 l.rest.now c.split_once.result c.split_once.ensures.cases (omega arith)) in
-    let turn = l.invariant.0 ∙ ap (λ rest. evaluated cbor_referenced [] rest l.found) cut.0 ∙ token_then cbor_referenced _ _ l.found cut.1 in
-    (turn ∙ ap (option_and_then (evaluated cbor_referenced [] c.in-Some.behind.now)) (sym c.in_ok-found.ensures), search rules)
+    (token_taken cbor_referenced _ _ l.rest.now _ c.in-Some.behind.now l.found l.invariant.0 cut c.in_ok-found.ensures, search rules)
 
 pub returns : goal.returns
 returns c =
