@@ -1,9 +1,7 @@
 //! Calls that were read from a tape.
 
-ghost use Rattle.std.specs.Prelude.{◌≡◌, ℕ, List, option_map};
-ghost use Rattle.sval_label.specs.Made.{call_of};
-ghost use Rattle.sval_label.specs.Grouped.{int_call, seen_slot};
-ghost use Rattle.sval_label.specs.SeenName.{seen_name};
+ghost use Rattle.std.specs.Prelude.{◌≡◌, option_map};
+ghost use Rattle.sval_label.specs.Grouped.{int_call};
 ghost use Rattle.sval_label.specs.SeenIndex.{seen_index, untagged};
 ghost use Rattle.sval_label.specs.SeenTags.{seen_tag};
 ghost use Rattle.sval_label.specs.Calls as call;
@@ -11,7 +9,7 @@ ghost use Rattle.sval_core.specs.Law.{Answers};
 ghost use Rattle.sval_tape.specs.ReadCalls.{tape_alone_call, tape_opening_call, tape_named_call, tape_head_of, tape_part_call, tag_read, index_number_read, index_read, label_read, name_read, call_read};
 
 use sval_core::{Lent, Result, Stream};
-use sval_label::{AnyCall, GroupedCall, Index, Int, Label, Lending, Name, Slot, Tag};
+use sval_label::{Index, Int, Label, Lending, Tag};
 
 /// The calls without an operand.
 #[derive(Clone, Copy)]
@@ -127,93 +125,6 @@ pub(crate) enum CallRead<'sval> {
     FieldPlace(Side, Option<TagRead>, LabelRead<'sval>, IndexRead),
 }
 
-impl Alone {
-    /// The call.
-    #[inline(always)]
-    fn call<'c, T, B>(self) -> AnyCall<'c, T, B>
-        ensures { (text : T → List ℕ) (bytes : B → List ℕ) → call_of text bytes result ≡ tape_alone_call self }
-    {
-        match self {
-            Alone::Null => AnyCall::Null,
-            Alone::TextEnd => AnyCall::TextEnd,
-            Alone::BinaryEnd => AnyCall::BinaryEnd,
-            Alone::SeqEnd => AnyCall::SeqEnd,
-            Alone::MapEnd => AnyCall::MapEnd,
-            Alone::ItemBegin => AnyCall::SeqValueBegin,
-            Alone::ItemEnd => AnyCall::SeqValueEnd,
-            Alone::KeyBegin => AnyCall::MapKeyBegin,
-            Alone::KeyEnd => AnyCall::MapKeyEnd,
-            Alone::ValueBegin => AnyCall::MapValueBegin,
-            Alone::ValueEnd => AnyCall::MapValueEnd,
-        }
-    }
-}
-
-impl Opening {
-    /// The call with this size.
-    #[inline(always)]
-    fn call<'c, T, B>(self, size: Option<usize>) -> AnyCall<'c, T, B>
-        ensures { (text : T → List ℕ) (bytes : B → List ℕ)
-            → call_of text bytes result ≡ tape_opening_call self size }
-    {
-        match self {
-            Opening::Text => AnyCall::TextBegin(size),
-            Opening::Binary => AnyCall::BinaryBegin(size),
-            Opening::Seq => AnyCall::SeqBegin(size),
-            Opening::Map => AnyCall::MapBegin(size),
-        }
-    }
-}
-
-impl Named {
-    /// The call with this name.
-    #[inline(always)]
-    fn call<'c, T, B>(self, name: Name<'c>) -> AnyCall<'c, T, B>
-        ensures { (text : T → List ℕ) (bytes : B → List ℕ)
-            → call_of text bytes result ≡ tape_named_call self (seen_name name.entry) }
-    {
-        match self {
-            Named::Tag => AnyCall::Tag(name),
-            Named::EnumBegin => AnyCall::EnumBegin(name),
-            Named::EnumEnd => AnyCall::EnumEnd(name),
-            Named::TaggedBegin => AnyCall::TaggedBegin(name),
-            Named::TaggedEnd => AnyCall::TaggedEnd(name),
-            Named::RecordEnd => AnyCall::RecordEnd(name),
-            Named::TupleEnd => AnyCall::TupleEnd(name),
-            Named::RecordTupleEnd => AnyCall::RecordTupleEnd(name),
-        }
-    }
-}
-
-impl Container {
-    /// The begin with this name and size.
-    #[inline(always)]
-    fn call<'c, T, B>(self, name: Name<'c>, size: Option<usize>) -> AnyCall<'c, T, B>
-        ensures { (text : T → List ℕ) (bytes : B → List ℕ)
-            → call_of text bytes result ≡ call.Begin (tape_head_of self (seen_name name.entry)) size }
-    {
-        match self {
-            Container::Record => AnyCall::RecordBegin(name, size),
-            Container::Tuple => AnyCall::TupleBegin(name, size),
-            Container::RecordTuple => AnyCall::RecordTupleBegin(name, size),
-        }
-    }
-}
-
-impl Side {
-    /// The call of this part.
-    #[inline(always)]
-    fn call<'c, T, B>(self, slot: Slot<'c>) -> AnyCall<'c, T, B>
-        ensures { (text : T → List ℕ) (bytes : B → List ℕ)
-            → call_of text bytes result ≡ tape_part_call self (seen_slot slot.entry) }
-    {
-        match self {
-            Side::Begin => GroupedCall::PartBegin(slot).call(),
-            Side::End => GroupedCall::PartEnd(slot).call(),
-        }
-    }
-}
-
 impl TagRead {
     /// The tag.
     #[inline(always)]
@@ -282,20 +193,46 @@ fn make_index(index: IndexRead) -> Index
 }
 
 /// Makes the call without an operand.
+#[inline(always)]
 fn make_alone<L: Lending, S: Stream<L>>(alone: Alone, stream: &mut S) -> Result
     ensures { Answers S.law result (S.standing stream.old) (tape_alone_call alone) (S.standing stream.new) }
 {
-    stream.take(alone.call())
+    match alone {
+        Alone::Null => stream.null(),
+        Alone::TextEnd => stream.text_end(),
+        Alone::BinaryEnd => stream.binary_end(),
+        Alone::SeqEnd => stream.seq_end(),
+        Alone::MapEnd => stream.map_end(),
+        Alone::ItemBegin => stream.seq_value_begin(),
+        Alone::ItemEnd => stream.seq_value_end(),
+        Alone::KeyBegin => stream.map_key_begin(),
+        Alone::KeyEnd => stream.map_key_end(),
+        Alone::ValueBegin => stream.map_value_begin(),
+        Alone::ValueEnd => stream.map_value_end(),
+    }
 }
 
 /// Makes the call of a whole number.
+#[inline(always)]
 fn make_int<L: Lending, S: Stream<L>>(number: Int, stream: &mut S) -> Result
     ensures { Answers S.law result (S.standing stream.old) (int_call number) (S.standing stream.new) }
 {
-    stream.take(GroupedCall::Int(number).call())
+    match number {
+        Int::U8(number) => stream.u8(number),
+        Int::U16(number) => stream.u16(number),
+        Int::U32(number) => stream.u32(number),
+        Int::U64(number) => stream.u64(number),
+        Int::U128(number) => stream.u128(number),
+        Int::I8(number) => stream.i8(number),
+        Int::I16(number) => stream.i16(number),
+        Int::I32(number) => stream.i32(number),
+        Int::I64(number) => stream.i64(number),
+        Int::I128(number) => stream.i128(number),
+    }
 }
 
 /// Makes the begin with this size.
+#[inline(always)]
 fn make_opening<L: Lending, S: Stream<L>>(
     opening: Opening,
     size: Option<usize>,
@@ -303,10 +240,16 @@ fn make_opening<L: Lending, S: Stream<L>>(
 ) -> Result
     ensures { Answers S.law result (S.standing stream.old) (tape_opening_call opening size) (S.standing stream.new) }
 {
-    stream.take(opening.call(size))
+    match opening {
+        Opening::Text => stream.text_begin(size),
+        Opening::Binary => stream.binary_begin(size),
+        Opening::Seq => stream.seq_begin(size),
+        Opening::Map => stream.map_begin(size),
+    }
 }
 
 /// Makes the fragment of a text.
+#[inline(always)]
 fn make_text<'v, S: Stream<Lent<'v>>>(borrowed: bool, text: &'v str, stream: &mut S) -> Result
     ensures { Answers S.law result (S.standing stream.old)
         (call.TextFragment borrowed text.now) (S.standing stream.new) }
@@ -318,6 +261,7 @@ fn make_text<'v, S: Stream<Lent<'v>>>(borrowed: bool, text: &'v str, stream: &mu
 }
 
 /// Makes the fragment of a binary.
+#[inline(always)]
 fn make_binary<'v, S: Stream<Lent<'v>>>(borrowed: bool, bytes: &'v [u8], stream: &mut S) -> Result
     ensures { Answers S.law result (S.standing stream.old)
         (call.BinaryFragment borrowed bytes.now) (S.standing stream.new) }
@@ -365,12 +309,17 @@ fn make_named<L: Lending, S: Stream<L>>(word: Named, name: NameRead<'_>, stream:
     let tag = tag_option(name.tag);
     let label = label_option(name.label);
     let index = index_option(name.index);
-    let name = Name {
-        tag: tag.as_ref(),
-        label: label.as_ref(),
-        index: index.as_ref(),
-    };
-    stream.take(word.call(name))
+    let (tag, label, index) = (tag.as_ref(), label.as_ref(), index.as_ref());
+    match word {
+        Named::Tag => stream.tag(tag, label, index),
+        Named::EnumBegin => stream.enum_begin(tag, label, index),
+        Named::EnumEnd => stream.enum_end(tag, label, index),
+        Named::TaggedBegin => stream.tagged_begin(tag, label, index),
+        Named::TaggedEnd => stream.tagged_end(tag, label, index),
+        Named::RecordEnd => stream.record_end(tag, label, index),
+        Named::TupleEnd => stream.tuple_end(tag, label, index),
+        Named::RecordTupleEnd => stream.record_tuple_end(tag, label, index),
+    }
 }
 
 /// Makes the begin of a container with this name.
@@ -386,12 +335,12 @@ fn make_begin<L: Lending, S: Stream<L>>(
     let tag = tag_option(name.tag);
     let label = label_option(name.label);
     let index = index_option(name.index);
-    let name = Name {
-        tag: tag.as_ref(),
-        label: label.as_ref(),
-        index: index.as_ref(),
-    };
-    stream.take(container.call(name, size))
+    let (tag, label, index) = (tag.as_ref(), label.as_ref(), index.as_ref());
+    match container {
+        Container::Record => stream.record_begin(tag, label, index, size),
+        Container::Tuple => stream.tuple_begin(tag, label, index, size),
+        Container::RecordTuple => stream.record_tuple_begin(tag, label, index, size),
+    }
 }
 
 /// Makes the begin or the end of a field with this label.
@@ -406,7 +355,10 @@ fn make_field<L: Lending, S: Stream<L>>(
 {
     let tag = tag_option(tag);
     let label = make_label(label);
-    stream.take(side.call(Slot::Field(tag.as_ref(), &label)))
+    match side {
+        Side::Begin => stream.record_value_begin(tag.as_ref(), &label),
+        Side::End => stream.record_value_end(tag.as_ref(), &label),
+    }
 }
 
 /// Makes the begin or the end of a field with this index.
@@ -421,7 +373,10 @@ fn make_place<L: Lending, S: Stream<L>>(
 {
     let tag = tag_option(tag);
     let index = make_index(index);
-    stream.take(side.call(Slot::Place(tag.as_ref(), &index)))
+    match side {
+        Side::Begin => stream.tuple_value_begin(tag.as_ref(), &index),
+        Side::End => stream.tuple_value_end(tag.as_ref(), &index),
+    }
 }
 
 /// Makes the begin or the end of a field with this label and this index.
@@ -438,7 +393,10 @@ fn make_field_place<L: Lending, S: Stream<L>>(
     let tag = tag_option(tag);
     let label = make_label(label);
     let index = make_index(index);
-    stream.take(side.call(Slot::FieldPlace(tag.as_ref(), &label, &index)))
+    match side {
+        Side::Begin => stream.record_tuple_value_begin(tag.as_ref(), &label, &index),
+        Side::End => stream.record_tuple_value_end(tag.as_ref(), &label, &index),
+    }
 }
 
 impl<'sval> CallRead<'sval> {
