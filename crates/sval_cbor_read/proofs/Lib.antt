@@ -15,6 +15,7 @@ pub mod ReadStrings
 pub mod BegunItems
 pub mod Stops
 pub mod KeptNodes
+pub mod KeptFrames
 pub mod HeadsGo
 pub mod ByteStrings
 pub mod ItemCalls

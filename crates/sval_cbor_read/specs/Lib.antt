@@ -18,6 +18,7 @@ pub mod SeenFound
 pub mod SeenEntries
 pub mod SeenChunks
 pub mod SeenFrames
+pub mod KeptFrames
 pub mod SeenWellFormed
 pub mod SeenDue
 pub mod SeenStops

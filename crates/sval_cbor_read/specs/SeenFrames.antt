@@ -1,5 +1,5 @@
 -- What the stack of the code stands for.
-use Rattle.std.specs.Prelude.{◌≡◌, List, [], ◌∷◌, Option, Some, None, map, reverse}
+use Rattle.std.specs.Prelude.{◌≡◌, List, [], ◌∷◌, Option, Some, None}
 use Rattle.sval_cbor_read.specs.declared.stack.Frame as made_frame
 use Rattle.sval_cbor_read.specs.declared.stack.Frame.TheVariants as made
 use Rattle.sval_cbor_read.specs.declared.node.Place.{Place}
@@ -12,10 +12,10 @@ frame_of (made.Items left) = Items left
 frame_of (made.Keys left) = Keys left
 frame_of (made.Values left) = Values left
 
--- what is open, by the innermost frame and those around it, which come with the outermost first
-abbrev pub open_frames : Option made_frame.Frame → List made_frame.Frame → List OpenItem
+-- what is open, by the innermost frame and those around it
+abbrev pub open_frames : Option made_frame.Frame → List OpenItem → List OpenItem
 open_frames None outer = []
-open_frames (Some top) outer = frame_of top ∷ reverse (map frame_of outer)
+open_frames (Some top) outer = frame_of top ∷ outer
 
 -- the innermost frame, if something is open
 abbrev pub TopFrameIs : Option made_frame.Frame → List OpenItem → Type 0

@@ -1,8 +1,9 @@
 //! What is open.
 
-ghost use Rattle.std.specs.Prelude.{◌≡◌, nat_lt, [], ◌∷◌, length, map, reverse, IfOk};
+ghost use Rattle.std.specs.Prelude.{◌≡◌, nat_lt, [], ◌∷◌, length, IfOk};
 ghost use Rattle.sval_cbor_read.specs.SeenFrames.{frame_of, open_frames, TopFrameIs, around_frame, changed};
 
+use crate::outer::Outer;
 use std::alloc::Global;
 use std::marker::Model;
 use std::mem::replace;
@@ -26,15 +27,14 @@ pub(crate) enum Frame {
 #[derive(Drop)]
 pub(crate) struct Stack {
     top: Option<Frame>,
-    /// What is around the innermost frame, with the outermost first.
-    outer: Vec<Frame>,
+    outer: Outer,
     alloc: Global,
 }
 
 /// These frames with another one behind them, or none where there is no other one.
 #[inline(never)]
-fn with_inner(mut outer: Vec<Frame>, inner: Option<Frame>) -> Result<Vec<Frame>, NoMemory>
-    ensures { IfOk result (λ all. reverse (map frame_of all.items) ≡ open_frames inner outer.items) }
+fn with_inner(mut outer: Outer, inner: Option<Frame>) -> Result<Outer, NoMemory>
+    ensures { IfOk result (λ all. all ≡ open_frames inner outer) }
 {
     match inner {
         None => outer.clear(),
@@ -50,7 +50,7 @@ impl Model for Stack {
 
     ghost Value = { List OpenItem };
 
-    ghost view = { λ stack. open_frames stack.top stack.outer.items };
+    ghost view = { λ stack. open_frames stack.top stack.outer };
 }
 
 impl Stack {
@@ -61,7 +61,7 @@ impl Stack {
     {
         Stack {
             top: None,
-            outer: Vec::new(alloc),
+            outer: Outer::new(alloc),
             alloc,
         }
     }
@@ -86,7 +86,7 @@ impl Stack {
     pub(crate) fn push(&mut self, frame: Frame) -> Result<(), NoMemory>
         ensures { IfOk result (λ done. self.new ≡ frame_of frame ∷ self.old) }
     {
-        let outer = replace(&mut self.outer, Vec::new(self.alloc));
+        let outer = replace(&mut self.outer, Outer::new(self.alloc));
         let _none = replace(&mut self.outer, with_inner(outer, self.top)?);
         self.top = Some(frame);
         Ok(())
@@ -103,6 +103,7 @@ impl Stack {
     }
 
     /// Closes the innermost array or map, if there is one.
+    #[tactic(auto, using(crate::proofs::KeptFrames::taken))]
     #[inline(always)]
     pub(crate) fn pop(&mut self)
         ensures { self.new ≡ around_frame self.old }
