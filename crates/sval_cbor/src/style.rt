@@ -19,7 +19,12 @@ pub enum Lengths {
 }
 
 /// The forms of CBOR that [`stream_to_cbor_with`](crate::stream_to_cbor_with) writes, where RFC 8949 has several.
-/// Further choices may come.
+/// Further choices may come, so another crate begins with one of the constants and changes its fields:
+///
+/// ```
+/// let mut style = Style::DEFINITE;
+/// style.binaries = Binaries::Numbers;
+/// ```
 #[non_exhaustive]
 #[derive(Clone, Copy, Debug, PartialEq, Eq)]
 pub struct Style {
@@ -43,7 +48,8 @@ impl Style {
         lengths: Lengths::Indefinite,
     };
 
-    /// Byte strings and definite lengths, as most other tools write them.
+    /// Byte strings and definite lengths, as most other tools write them. The pairs of a map keep their order, and equal
+    /// keys stay.
     pub const DEFINITE: Style = Style {
         binaries: Binaries::ByteStrings,
         lengths: Lengths::Definite,

@@ -285,7 +285,11 @@ impl<'d> JsonRef<'d> {
     }
 }
 
-/// It takes no memory, and never fails.
+/// It takes no memory, and never fails. Like every `clone` it answers a `Result`:
+///
+/// ```
+/// let again = doc.root().clone()?;
+/// ```
 impl<'d> Clone for JsonRef<'d> {
     ghost use Rattle.std.specs.Prelude.{◌≡◌, ⊤};
 
