@@ -4,6 +4,8 @@ ghost use Rattle.sval_core.specs.Law.{emits};
 ghost use Rattle.sval_label.specs.Calls as call;
 
 use crate::fakes::Record;
+use crate::shown::{agrees, compare};
+use std::alloc::Global;
 use std::fmt::Write;
 use std::test::Fail;
 use sval_core::{Index, Label, Lending, Lent, Result, Stream, Tag, Value, tags};
@@ -84,21 +86,31 @@ record_tuple_value_end JSON_VALUE =69 -9 -> PartEnd(FieldPlace(Some(Tag { text: 
 record_tuple_end - - - -> End(RecordTuple(Name { tag: None, label: None, index: None }))
 "#;
 
+/// Adds a row's line to a script, and its call to those that are due.
+fn add_row(row: &str, script: &mut String, calls: &mut String) -> std::result::Result<(), Fail> {
+    if let Some((line, call)) = row.split_once(" -> ") {
+        write!(script, "{line}\n")?;
+        write!(calls, "{call}\n")?;
+    }
+    Ok(())
+}
+
+/// What is written down of a script's calls.
+fn calls_of(alloc: Global, script: &str) -> std::result::Result<String, Fail> {
+    let mut record = Record::new(alloc);
+    let script = Script::read(alloc, script.as_bytes())?;
+    script.stream(&mut record)?;
+    Ok(record.text)
+}
+
 #[test]
 fn makes_the_calls_of_its_lines(rt: HostRuntime) -> std::result::Result<(), Fail> {
     let mut script = String::new(rt.alloc());
     let mut calls = String::new(rt.alloc());
     for row in LINES.lines() {
-        if let Some((line, call)) = row.split_once(" -> ") {
-            write!(script, "{line}\n")?;
-            write!(calls, "{call}\n")?;
-        }
+        add_row(row, &mut script, &mut calls)?;
     }
-    let mut record = Record::new(rt.alloc());
-    let script = Script::read(rt.alloc(), script.as_bytes())?;
-    script.stream(&mut record)?;
-    assert_eq!(rt; record.text.as_str(), calls.as_str());
-    Ok(())
+    agrees(&rt, calls_of(rt.alloc(), &script), &calls)
 }
 
 /// A value that says that there is none.
@@ -113,38 +125,54 @@ impl<'v> Value<'v, Lent<'v>> for Nothing {
     }
 }
 
-/// The calls of plain values, of texts and of binaries.
-fn make_plain<'v, S: Stream<Lent<'v>>>(stream: &mut S) -> Result {
+/// The calls of a null, a truth value and numbers without a sign.
+fn make_unsigned<L: Lending, S: Stream<L>>(stream: &mut S) -> Result {
     stream.null()?;
     stream.bool(true)?;
     stream.u8(8)?;
     stream.u16(16)?;
     stream.u32(32)?;
     stream.u64(64)?;
-    stream.u128(128)?;
+    stream.u128(128)
+}
+
+/// The calls of numbers with a sign.
+fn make_signed<L: Lending, S: Stream<L>>(stream: &mut S) -> Result {
     stream.i8(-8)?;
     stream.i16(-16)?;
     stream.i32(-32)?;
     stream.i64(-64)?;
-    stream.i128(-128)?;
+    stream.i128(-128)
+}
+
+/// The calls of a text.
+fn make_text<'v, S: Stream<Lent<'v>>>(stream: &mut S) -> Result {
     stream.text_begin(Some(2))?;
     stream.text_fragment("a")?;
     stream.text_fragment_computed("b")?;
-    stream.text_end()?;
+    stream.text_end()
+}
+
+/// The calls of a binary.
+fn make_binary<'v, S: Stream<Lent<'v>>>(stream: &mut S) -> Result {
     stream.binary_begin(Some(2))?;
     stream.binary_fragment(b"a")?;
     stream.binary_fragment_computed(b"b")?;
     stream.binary_end()
 }
 
-/// The calls of maps and sequences.
-fn make_parts<L: Lending, S: Stream<L>>(stream: &mut S) -> Result {
+/// The calls of a map.
+fn make_map<L: Lending, S: Stream<L>>(stream: &mut S) -> Result {
     stream.map_begin(Some(1))?;
     stream.map_key_begin()?;
     stream.map_key_end()?;
     stream.map_value_begin()?;
     stream.map_value_end()?;
-    stream.map_end()?;
+    stream.map_end()
+}
+
+/// The calls of a sequence.
+fn make_seq<L: Lending, S: Stream<L>>(stream: &mut S) -> Result {
     stream.seq_begin(Some(1))?;
     stream.seq_value_begin()?;
     stream.seq_value_end()?;
@@ -161,16 +189,28 @@ fn make_named<L: Lending, S: Stream<L>>(stream: &mut S, tag: &Tag) -> Result {
     stream.tag_hint(tag)
 }
 
-/// The calls of records and tuples.
-fn make_fields<L: Lending, S: Stream<L>>(stream: &mut S, label: &Label, index: &Index) -> Result {
+/// The calls of a record.
+fn make_record<L: Lending, S: Stream<L>>(stream: &mut S, label: &Label) -> Result {
     stream.record_begin(None, Some(label), None, Some(1))?;
     stream.record_value_begin(None, label)?;
     stream.record_value_end(None, label)?;
-    stream.record_end(None, None, None)?;
+    stream.record_end(None, None, None)
+}
+
+/// The calls of a tuple.
+fn make_tuple<L: Lending, S: Stream<L>>(stream: &mut S, index: &Index) -> Result {
     stream.tuple_begin(None, None, Some(index), Some(1))?;
     stream.tuple_value_begin(None, index)?;
     stream.tuple_value_end(None, index)?;
-    stream.tuple_end(None, None, None)?;
+    stream.tuple_end(None, None, None)
+}
+
+/// The calls of a record tuple.
+fn make_record_tuple<L: Lending, S: Stream<L>>(
+    stream: &mut S,
+    label: &Label,
+    index: &Index,
+) -> Result {
     stream.record_tuple_begin(None, None, None, None)?;
     stream.record_tuple_value_begin(None, label, index)?;
     stream.record_tuple_value_end(None, label, index)?;
@@ -230,15 +270,28 @@ Null
 Null
 "#;
 
+/// The calls of records and tuples.
+fn make_all_fields<L: Lending, S: Stream<L>>(stream: &mut S) -> Result {
+    let label = Label::new("a");
+    let index = Index::new(0);
+    make_record(stream, &label)?;
+    make_tuple(stream, &index)?;
+    make_record_tuple(stream, &label, &index)
+}
+
 #[test]
 fn passes_each_call_on(rt: HostRuntime) -> std::result::Result<(), Fail> {
     let mut record = Record::new(rt.alloc());
-    make_plain(&mut record)?;
-    make_parts(&mut record)?;
+    make_unsigned(&mut record)?;
+    make_signed(&mut record)?;
+    make_text(&mut record)?;
+    make_binary(&mut record)?;
+    make_map(&mut record)?;
+    make_seq(&mut record)?;
     make_named(&mut record, &tags::NUMBER)?;
-    make_fields(&mut record, &Label::new("a"), &Index::new(0))?;
+    make_all_fields(&mut record)?;
     record.value(&Nothing {})?;
     record.value_computed(&Nothing {})?;
-    assert_eq!(rt; record.text.as_str(), CALLS);
+    compare(&rt, &record.text, CALLS, "each call");
     Ok(())
 }

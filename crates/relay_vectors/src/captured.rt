@@ -1,7 +1,7 @@
 //! Calls that no value goes on with, captured: which are refused, and what is made again of the others.
 
-use crate::rows::compare;
-use std::alloc::Global;
+use crate::shown::compare;
+use std::alloc::{AllocError, Global};
 use std::process::Abort;
 use std::test::Fail;
 use sval_buffer::ValueBuf;
@@ -22,6 +22,32 @@ fn buffer_of(alloc: Global, script: &Script) -> ValueBuf<'_> {
     buffer
 }
 
+/// The calls that a buffer makes again, as lines.
+fn lines_of(alloc: Global, buffer: &ValueBuf<'_>) -> Result<String, Fail> {
+    let mut printer = Printer::new(VecSink::new(alloc));
+    buffer.stream(&mut printer)?;
+    Ok(String::from_utf8(printer.into_inner().into_vec())?)
+}
+
+/// Whether a buffer is complete, and why it refused a call, if it did.
+fn state_of(alloc: Global, buffer: ValueBuf<'_>) -> Result<String, AllocError> {
+    let is_complete = buffer.is_complete();
+    match buffer.into_err() {
+        Some(error) => format!(in alloc; "{is_complete}, {:?}", error.kind()),
+        None => format!(in alloc; "{is_complete}, no error"),
+    }
+}
+
+/// Whether what is captured of a script's calls is complete, why a call was refused, if one was, and the calls that are
+/// made again, as lines.
+fn captured_of(alloc: Global, script: &str) -> Result<String, Fail> {
+    let read = Script::read(alloc, script.as_bytes())?;
+    let buffer = buffer_of(alloc, &read);
+    let lines = lines_of(alloc, &buffer)?;
+    let state = state_of(alloc, buffer)?;
+    Ok(format!(in alloc; "{state}: {lines}")?)
+}
+
 /// Captures a script's calls, and compares whether what was captured is complete, why a call was refused, if one was,
 /// and the calls that are made again, as lines.
 pub(crate) fn try_captured(
@@ -30,20 +56,17 @@ pub(crate) fn try_captured(
     script: &str,
     due: &str,
 ) -> Result<(), Fail> {
+    compare(rt, &captured_of(alloc, script)?, due, script);
+    Ok(())
+}
+
+/// The JSON of what is captured of a script's calls.
+fn captured_json_of(alloc: Global, script: &str) -> Result<String, Fail> {
     let read = Script::read(alloc, script.as_bytes())?;
     let buffer = buffer_of(alloc, &read);
-    let mut printer = Printer::new(VecSink::new(alloc));
-    buffer.stream(&mut printer)?;
-    let lines = printer.into_inner().into_vec();
-    let is_complete = buffer.is_complete();
-    let error = match buffer.into_err() {
-        Some(error) => format!(in alloc; "{:?}", error.kind())?,
-        None => String::from_str(alloc, "no error")?,
-    };
-    let lines = std::str::from_utf8(&lines)?;
-    let seen = format!(in alloc; "{is_complete}, {error}: {lines}")?;
-    compare(rt, &seen, due, script);
-    Ok(())
+    let mut out = VecSink::new(alloc);
+    stream_to_io_write(&mut out, &buffer)?;
+    Ok(String::from_utf8(out.into_vec())?)
 }
 
 /// Captures a script's calls, and compares the JSON of what was captured.
@@ -53,10 +76,6 @@ pub(crate) fn try_captured_json(
     script: &str,
     due: &str,
 ) -> Result<(), Fail> {
-    let read = Script::read(alloc, script.as_bytes())?;
-    let buffer = buffer_of(alloc, &read);
-    let mut out = VecSink::new(alloc);
-    stream_to_io_write(&mut out, &buffer)?;
-    compare(rt, std::str::from_utf8(out.as_slice())?, due, script);
+    compare(rt, &captured_json_of(alloc, script)?, due, script);
     Ok(())
 }

@@ -1,8 +1,9 @@
 //! The forms of the program's words, and a run of one over any devices.
 
 use std::alloc::{AllocError, Global};
+use std::io::{Read, Write};
 use sval_io::Sink;
-use sval_relay::{Source, run};
+use sval_relay::{Source, relay_streams, run};
 
 /// Each form that reads a script, its words with a space between two.
 pub(crate) const FORMS: [&'static str; 10] = [
@@ -66,12 +67,35 @@ pub(crate) fn takes_many(form: &str) -> bool {
 }
 
 /// The words of a form.
-pub(crate) fn words_of(alloc: Global, form: &str) -> Result<Vec<String>, AllocError> {
+fn words_of(alloc: Global, form: &str) -> Result<Vec<String>, AllocError> {
     let mut words = Vec::new(alloc);
     for word in form.split(' ') {
         words.push(String::from_str(alloc, word)?)?;
     }
     Ok(words)
+}
+
+/// Runs words over these devices, and answers the status. It promises nothing, so that tests have little to prove.
+pub(crate) fn run_words<I: Source, K: Sink, D: Sink>(
+    alloc: Global,
+    words: &[String],
+    input: &mut I,
+    out: &mut K,
+    diag: &mut D,
+) -> u8 {
+    run(alloc, words, input, out, diag)
+}
+
+/// Runs a form over std's readers and writers, and answers the status.
+pub(crate) fn run_over_std<R: Read + Drop, W: Write + Drop>(
+    alloc: Global,
+    form: &str,
+    input: R,
+    out: &mut W,
+    diag: &mut W,
+) -> Result<u8, AllocError> {
+    let words = words_of(alloc, form)?;
+    Ok(relay_streams(alloc, &words, input, out, diag))
 }
 
 /// Runs a form over these devices, and answers the status.
@@ -83,5 +107,5 @@ pub(crate) fn run_over<I: Source, K: Sink, D: Sink>(
     diag: &mut D,
 ) -> Result<u8, AllocError> {
     let words = words_of(alloc, form)?;
-    Ok(run(alloc, &words, input, out, diag))
+    Ok(run_words(alloc, &words, input, out, diag))
 }

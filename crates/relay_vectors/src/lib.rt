@@ -26,6 +26,8 @@ mod rows;
 #[cfg(test)]
 mod scripts;
 #[cfg(test)]
+mod shown;
+#[cfg(test)]
 mod sinks;
 #[cfg(test)]
 mod slices;

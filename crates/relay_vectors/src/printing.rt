@@ -5,7 +5,9 @@ ghost use Rattle.sval_label.specs.SeenTags.{seen_tag};
 ghost use Rattle.sval_label.specs.Calls.{TagHint, Null, Standalone};
 ghost use Rattle.sval_core.specs.Values.{makes};
 
+use crate::shown::{holds, shows};
 use std::io::Cursor;
+use std::process::Abort;
 use std::test::Fail;
 use sval_core::{Index, Label, Lending, Stream, Tag, Value, tags};
 use sval_io::{RealSink, VecSink};
@@ -69,30 +71,50 @@ fn prints_what_is_read(rt: HostRuntime) -> Result<(), Fail> {
     let script = Script::read(rt.alloc(), EACH_CALL.as_bytes())?;
     let mut printer = Printer::new(VecSink::new(rt.alloc()));
     script.stream(&mut printer)?;
-    let printed = printer.into_inner();
-    assert_eq!(rt; printed.as_slice(), EACH_CALL.as_bytes());
+    has_printed(&rt, printer, EACH_CALL);
     Ok(())
 }
 
-/// Labels and tags of the program, and unknown tags. Each unknown tag is refused for good.
+/// Asserts that these lines were printed.
+fn has_printed(rt: &impl Abort, printer: Printer<VecSink>, lines: &str) {
+    shows(
+        rt,
+        String::from_utf8(printer.into_inner().into_vec()),
+        lines,
+    );
+}
+
+/// Labels and tags of the program.
 #[test]
 fn prints_known_names(rt: HostRuntime) -> Result<(), Fail> {
     let mut printer = Printer::new(VecSink::new(rt.alloc()));
-    let own = Tag::new("OWN");
-    let label = Label::new("id");
-    printer.record_value_begin(None, &label.with_tag(&tags::VALUE_IDENT))?;
+    let label = Label::new("id").with_tag(&tags::VALUE_IDENT);
+    printer.record_value_begin(None, &label)?;
     printer.tuple_value_end(Some(&tags::NUMBER), &Index::new(3))?;
-    assert_eq!(rt; printer.why(), None);
-    let hint = printer.tag_hint(&own).is_err();
+    holds(&rt, printer.why().is_none(), "known tags");
+    let lines = "record_value_begin - =6964:VALUE_IDENT\ntuple_value_end NUMBER 3\n";
+    has_printed(&rt, printer, lines);
+    Ok(())
+}
+
+/// Unknown tags. Each is refused for good.
+#[test]
+fn refuses_unknown_tags(rt: HostRuntime) -> Result<(), Fail> {
+    let mut printer = Printer::new(VecSink::new(rt.alloc()));
+    let own = Tag::new("OWN");
+    printer.tag(Some(&tags::NUMBER), None, None)?;
+    holds(&rt, printer.tag_hint(&own).is_err(), "a hint");
+    holds(&rt, printer.why() == Some(PrintError::UnknownTag), "a hint");
     let label = Label::new("id").with_tag(&own);
-    let end = printer
-        .record_value_end(Some(&tags::RUST_UNIT), &label)
-        .is_err();
-    let why = printer.why();
+    let end = printer.record_value_end(Some(&tags::RUST_UNIT), &label);
+    holds(&rt, end.is_err(), "a field's end");
     printer.null()?;
-    assert!(rt; hint && end && why == Some(PrintError::UnknownTag) && why == printer.why());
-    let lines = "record_value_begin - =6964:VALUE_IDENT\ntuple_value_end NUMBER 3\nnull\n";
-    assert_eq!(rt; printer.into_inner().as_slice(), lines.as_bytes());
+    holds(
+        &rt,
+        printer.why() == Some(PrintError::UnknownTag),
+        "the end",
+    );
+    has_printed(&rt, printer, "tag NUMBER - -\nnull\n");
     Ok(())
 }
 
@@ -101,9 +123,10 @@ fn prints_up_to_the_room(rt: HostRuntime) -> Result<(), Fail> {
     let mut room = Cursor::new([b'-'; 10]);
     let mut printer = Printer::new(RealSink::new(&mut room));
     printer.null()?;
-    assert!(rt; printer.bool(true).is_err() && printer.why() == Some(PrintError::Write));
+    holds(&rt, printer.bool(true).is_err(), "the answer");
+    holds(&rt, printer.why() == Some(PrintError::Write), "the error");
     drop(printer);
-    assert_eq!(rt; room.into_inner(), *b"null\nbool ");
+    holds(&rt, room.into_inner() == *b"null\nbool ", "the bytes");
     Ok(())
 }
 
@@ -126,19 +149,28 @@ impl<L: Lending> ValueRef<L> for Hinted {
 
 /// What is printed canonically of it: no hint is asked for its tag.
 #[test]
-fn prints_canonically(rt: HostRuntime) -> Result<(), Fail> {
+fn prints_canonically(rt: HostRuntime) {
     let mut sink = VecSink::new(rt.alloc());
     let unknown = Hinted {
         tag: Tag::new("OWN"),
     };
-    let known = Hinted { tag: tags::NUMBER };
     let refused = print_canon(&unknown, &mut sink);
-    let printed = print_canon(&known, &mut sink);
-    assert!(rt; refused == Err(PrintError::UnknownTag) && printed == Ok(()));
-    assert_eq!(rt; sink.as_slice(), b"null\nnull\ntag NUMBER - -\n".as_slice());
+    holds(
+        &rt,
+        refused == Err(PrintError::UnknownTag),
+        "an unknown tag",
+    );
+    let known = Hinted { tag: tags::NUMBER };
+    holds(&rt, print_canon(&known, &mut sink) == Ok(()), "a known tag");
+    let lines = "null\nnull\ntag NUMBER - -\n";
+    shows(&rt, String::from_utf8(sink.into_vec()), lines);
+}
+
+#[test]
+fn prints_canonically_up_to_the_room(rt: HostRuntime) {
+    let known = Hinted { tag: tags::NUMBER };
     let mut room = Cursor::new([b'-'; 8]);
     let written = print_canon(&known, &mut RealSink::new(&mut room));
-    assert!(rt; written == Err(PrintError::Write));
-    assert_eq!(rt; room.into_inner(), *b"null\ntag");
-    Ok(())
+    holds(&rt, written == Err(PrintError::Write), "the answer");
+    holds(&rt, room.into_inner() == *b"null\ntag", "the bytes");
 }

@@ -1,5 +1,6 @@
 //! Std's writers, and writers that work late or never.
 
+use crate::shown::{agrees, holds, shows};
 use crate::sinks::answer_of;
 use std::alloc::Global;
 use std::io;
@@ -141,10 +142,10 @@ fn told_of_flushing(alloc: Global, mut writer: Late) -> Result<String, Fail> {
 #[test]
 fn late_writers(rt: HostRuntime) -> Result<(), Fail> {
     for (delay, kind, writing, flushing) in LATE {
-        let seen = told_of_writing(rt.alloc(), Late::new(rt.alloc(), delay, kind))?;
-        assert_eq!(rt; seen.as_str(), writing);
-        let seen = told_of_flushing(rt.alloc(), Late::new(rt.alloc(), delay, kind))?;
-        assert_eq!(rt; seen.as_str(), flushing);
+        let seen = told_of_writing(rt.alloc(), Late::new(rt.alloc(), delay, kind));
+        agrees(&rt, seen, writing)?;
+        let seen = told_of_flushing(rt.alloc(), Late::new(rt.alloc(), delay, kind));
+        agrees(&rt, seen, flushing)?;
     }
     Ok(())
 }
@@ -154,35 +155,56 @@ fn flushes_after_a_fault(rt: HostRuntime) {
     let denied = Some(io::ErrorKind::PermissionDenied);
     let mut writer = Late::new(rt.alloc(), 1, denied);
     let mut sink = RealSink::new(&mut writer);
-    assert!(rt; sink.write(b"a") == Err(SinkError::Failed) && sink.flush() == Ok(()));
-    assert!(rt; sink.write(b"b") == Ok(1) && sink.flush() == Ok(()));
-    assert!(rt; sink.last_error() == denied);
+    let failed = sink.write(b"a");
+    holds(
+        &rt,
+        failed == Err(SinkError::Failed) && sink.flush() == Ok(()),
+        "a",
+    );
+    let taken = sink.write(b"b");
+    holds(&rt, taken == Ok(1) && sink.flush() == Ok(()), "b");
+    holds(&rt, sink.last_error() == denied, "the error");
     drop(sink);
-    assert!(rt; writer.flushes == 2 && writer.taken.as_slice() == b"b".as_slice());
+    holds(&rt, writer.flushes == 2, "the flushes");
+    shows(&rt, String::from_utf8(writer.taken), "b");
 }
 
-/// A piece is passed to the writer whole, by one call, and an empty one by none.
+/// A piece is passed to the writer whole, by one call.
 #[test]
 fn passes_a_piece_whole(rt: HostRuntime) -> Result<(), Fail> {
     let piece = vec![in rt.alloc(); b'a'; 100_000]?;
     let mut writer = Late::new(rt.alloc(), 0, None);
     let taken = RealSink::new(&mut writer).write(piece.as_slice());
-    assert!(rt; taken == Ok(100_000) && writer.pieces == 1);
-    let mut sink = RealSink::new(Late::new(rt.alloc(), 1, None));
-    assert!(rt; sink.write(b"") == Ok(0) && sink.last_error().is_none());
+    holds(
+        &rt,
+        taken == Ok(100_000) && writer.pieces == 1,
+        "a long piece",
+    );
     Ok(())
 }
 
 #[test]
-fn writes_to_memory(rt: HostRuntime) -> Result<(), Fail> {
+fn passes_no_empty_piece(rt: HostRuntime) {
+    let mut sink = RealSink::new(Late::new(rt.alloc(), 1, None));
+    holds(&rt, sink.write(b"") == Ok(0), "the answer");
+    holds(&rt, sink.last_error().is_none(), "the error");
+}
+
+#[test]
+fn writes_to_memory(rt: HostRuntime) {
     let mut bytes: Vec<u8> = Vec::new(rt.alloc());
-    let answer = answer_of(rt.alloc(), &mut RealSink::new(&mut bytes), &-7i64)?;
-    assert!(rt; answer.as_str() == "Ok" && bytes.as_slice() == b"-7".as_slice());
+    let answer = answer_of(rt.alloc(), &mut RealSink::new(&mut bytes), &-7i64);
+    shows(&rt, answer, "Ok");
+    shows(&rt, String::from_utf8(bytes), "-7");
+}
+
+#[test]
+fn writes_up_to_the_room(rt: HostRuntime) {
     let mut full = Cursor::new([0u8; 4]);
     let mut sink = RealSink::new(&mut full);
-    let answer = answer_of(rt.alloc(), &mut sink, &false)?;
+    shows(&rt, answer_of(rt.alloc(), &mut sink, &false), "IO");
     let error = sink.last_error();
-    assert!(rt; answer.as_str() == "IO" && error == Some(io::ErrorKind::WriteZero));
-    assert_eq!(rt; full.into_inner(), *b"fals");
-    Ok(())
+    holds(&rt, error == Some(io::ErrorKind::WriteZero), "the error");
+    drop(sink);
+    holds(&rt, full.into_inner() == *b"fals", "the bytes");
 }

@@ -23,15 +23,16 @@
 //! newline, and `␀`, `␉`, `␊`, `␍`, `␠` and `␡` are pictures of the letters that they stand for.
 
 use crate::captured::{try_captured, try_captured_json};
-use crate::forms::{EACH_WAY, LISTS, run_over, words_of};
+use crate::forms::{EACH_WAY, LISTS, run_over, run_over_std};
 use crate::pictures::{add_line, plain_text};
+use crate::shown::{answer_text, compare, holds};
 use std::alloc::{AllocError, Global};
 use std::process::Abort;
 use std::test::Fail;
 use sval_check::{Checked, check};
 use sval_core::Value;
 use sval_io::{FaultySink, VecSink};
-use sval_relay::{MemSource, relay_streams};
+use sval_relay::MemSource;
 use sval_script::{Printer, Script, print_canon};
 
 /// Tries each row.
@@ -73,24 +74,41 @@ fn try_row(rt: &impl Abort, alloc: Global, script: &str, due: &str) -> Result<()
     }
 }
 
-/// Compares what is seen of a script with what is due.
-pub(crate) fn compare(rt: &impl Abort, seen: &str, due: &str, script: &str) {
-    assert_eq!(rt; seen, due, "at {script:?}");
-}
-
 /// Runs a form on a script. `row` has the form, and what is due.
 fn try_run(rt: &impl Abort, alloc: Global, script: &str, row: &str) -> Result<(), Fail> {
     let (form, due) = row.split_once(": ").unwrap_or((row, ""));
     try_way(rt, alloc, form, script, due)
 }
 
-/// Prints a script's calls canonically.
-fn try_canon(rt: &impl Abort, alloc: Global, script: &str, due: &str) -> Result<(), Fail> {
+/// A script's calls, printed canonically.
+fn canon_of(alloc: Global, script: &str) -> Result<String, Fail> {
     let read = Script::read(alloc, script.as_bytes())?;
     let mut sink = VecSink::new(alloc);
     print_canon(&read.as_slice(), &mut sink)?;
-    compare(rt, std::str::from_utf8(sink.as_slice())?, due, script);
+    Ok(String::from_utf8(sink.into_vec())?)
+}
+
+/// Prints a script's calls canonically.
+fn try_canon(rt: &impl Abort, alloc: Global, script: &str, due: &str) -> Result<(), Fail> {
+    compare(rt, &canon_of(alloc, script)?, due, script);
     Ok(())
+}
+
+/// How many lines a script has, or which of them is no call.
+fn reading_of(alloc: Global, script: &str) -> Result<String, AllocError> {
+    match Script::read(alloc, script.as_bytes()) {
+        Ok(read) => format!(in alloc; "{} lines", read.line_count()),
+        Err(error) => format!(in alloc; "{error:?}"),
+    }
+}
+
+/// What is due of reading a script.
+fn reading_due(alloc: Global, script: &str, kind: &str, rest: &str) -> Result<String, AllocError> {
+    if kind == "bad-line" {
+        format!(in alloc; "BadLine {{ line: {rest} }}")
+    } else {
+        format!(in alloc; "{} lines", script.lines().count())
+    }
 }
 
 /// Reads a script: how many lines it has, or which of them is no call.
@@ -101,17 +119,26 @@ fn try_reading(
     kind: &str,
     rest: &str,
 ) -> Result<(), Fail> {
-    let seen = match Script::read(alloc, script.as_bytes()) {
-        Ok(read) => format!(in alloc; "{} lines", read.line_count())?,
-        Err(error) => format!(in alloc; "{error:?}")?,
-    };
-    let due = if kind == "bad-line" {
-        format!(in alloc; "BadLine {{ line: {rest} }}")?
-    } else {
-        format!(in alloc; "{} lines", script.lines().count())?
-    };
+    let seen = reading_of(alloc, script)?;
+    let due = reading_due(alloc, script, kind, rest)?;
     compare(rt, &seen, &due, script);
     Ok(())
+}
+
+/// What checking says of a script's calls.
+fn checking_of(alloc: Global, script: &str) -> Result<String, Fail> {
+    let read = Script::read(alloc, script.as_bytes())?;
+    let answer = check(alloc, &read);
+    Ok(format!(in alloc; "{answer:?}")?)
+}
+
+/// What is due of checking a script.
+fn checking_due(alloc: Global, kind: &str, rest: &str) -> Result<String, AllocError> {
+    match kind {
+        "bad-call" | "second" => format!(in alloc; "Err(BadCall {{ at: {rest} }})"),
+        "unfinished" => String::from_str(alloc, "Err(Unfinished)"),
+        _ => String::from_str(alloc, "Ok(())"),
+    }
 }
 
 /// Checks a script whose lines are calls.
@@ -122,34 +149,41 @@ fn try_checking(
     kind: &str,
     rest: &str,
 ) -> Result<(), Fail> {
-    let due = match kind {
-        "bad-line" => return Ok(()),
-        "bad-call" | "second" => format!(in alloc; "Err(BadCall {{ at: {rest} }})")?,
-        "unfinished" => String::from_str(alloc, "Err(Unfinished)")?,
-        _ => String::from_str(alloc, "Ok(())")?,
-    };
-    let read = Script::read(alloc, script.as_bytes())?;
-    let seen = format!(in alloc; "{:?}", check(alloc, &read))?;
-    compare(rt, &seen, &due, script);
+    if kind == "bad-line" {
+        return Ok(());
+    }
+    let due = checking_due(alloc, kind, rest)?;
+    compare(rt, &checking_of(alloc, script)?, &due, script);
     if due.starts_with("Err(BadCall") {
-        let seen = checked_calls(alloc, script, &read)?;
-        let due = format!(in alloc; "Some(NotViable) at line {rest}")?;
-        compare(rt, &seen, &due, script);
+        try_refused(rt, alloc, script, rest)?;
     }
     Ok(())
 }
 
+/// Streams a script's calls into a `Checked`, which refuses the one of this line.
+fn try_refused(rt: &impl Abort, alloc: Global, script: &str, line: &str) -> Result<(), Fail> {
+    let seen = checked_calls(alloc, script)?;
+    let due = format!(in alloc; "Some(NotViable) at line {line}")?;
+    compare(rt, &seen, &due, script);
+    Ok(())
+}
+
 /// Why a `Checked` refused a call of a script, and the line behind those of the calls that it took.
-fn checked_calls(alloc: Global, text: &str, script: &Script) -> Result<String, AllocError> {
+fn checked_calls(alloc: Global, text: &str) -> Result<String, Fail> {
+    let script = Script::read(alloc, text.as_bytes())?;
     let mut checked = Checked::new(alloc, Printer::new(VecSink::new(alloc)));
     let _answer = script.stream(&mut checked);
     let why = checked.why();
     let taken = checked.into_inner().into_inner().into_vec();
     if !text.as_bytes().starts_with(&taken) {
-        return String::from_str(alloc, "other calls");
+        return Ok(String::from_str(alloc, "other calls")?);
     }
-    let lines = taken.iter().filter(|byte| **byte == b'\n').count();
-    format!(in alloc; "{why:?} at line {}", lines.saturating_add(1))
+    Ok(format!(in alloc; "{why:?} at line {}", newlines(&taken).saturating_add(1))?)
+}
+
+/// How many newlines there are.
+fn newlines(bytes: &[u8]) -> usize {
+    bytes.iter().filter(|byte| **byte == b'\n').count()
 }
 
 /// The status of a run on a script in memory, what it wrote, and behind a bar what it told.
@@ -158,20 +192,15 @@ pub(crate) fn run_in(alloc: Global, form: &str, script: &str) -> Result<String, 
     let mut out = VecSink::new(alloc);
     let mut diag = VecSink::new(alloc);
     let status = run_over(alloc, form, &mut input, &mut out, &mut diag)?;
-    let out = std::str::from_utf8(out.as_slice())?;
-    let diag = std::str::from_utf8(diag.as_slice())?;
-    Ok(format!(in alloc; "{status} {out}|{diag}")?)
+    answer_text(alloc, status, out.as_slice(), diag.as_slice())
 }
 
 /// The status, the output and the line of a form on a script, over std's readers and writers.
 pub(crate) fn run_over_streams(alloc: Global, form: &str, script: &str) -> Result<String, Fail> {
-    let words = words_of(alloc, form)?;
     let mut out = Vec::new(alloc);
     let mut diag = Vec::new(alloc);
-    let status = relay_streams(alloc, &words, script.as_bytes(), &mut out, &mut diag);
-    let out = std::str::from_utf8(&out)?;
-    let diag = std::str::from_utf8(&diag)?;
-    Ok(format!(in alloc; "{status} {out}|{diag}")?)
+    let status = run_over_std(alloc, form, script.as_bytes(), &mut out, &mut diag)?;
+    answer_text(alloc, status, &out, &diag)
 }
 
 /// What is due of a run that writes JSON.
@@ -219,30 +248,56 @@ fn try_ways(
         }
     }
     try_reports(rt, alloc, script, &due)?;
+    try_calls(rt, alloc, script, kind, rest, &due)
+}
+
+/// Prints a script's calls, where what is due tells of them.
+fn try_calls(
+    rt: &impl Abort,
+    alloc: Global,
+    script: &str,
+    kind: &str,
+    rest: &str,
+    due: &str,
+) -> Result<(), Fail> {
     match kind {
         "beside" => Ok(()),
-        "bad-line" | "second" | "unfinished" => {
-            compare(rt, &run_in(alloc, "calls", script)?, &due, script);
-            Ok(())
-        }
+        "bad-line" | "second" | "unfinished" => try_in_memory(rt, alloc, "calls", script, due),
         "bad-call" => {
-            compare(rt, &run_in(alloc, "calls", script)?, &due, script);
+            try_in_memory(rt, alloc, "calls", script, due)?;
             try_behind_a_value(rt, alloc, script, rest)
         }
-        _ => try_canonical(rt, alloc, script, &due),
+        _ => try_canonical(rt, alloc, script, due),
     }
+}
+
+/// Runs a form on a script over memory.
+fn try_in_memory(
+    rt: &impl Abort,
+    alloc: Global,
+    form: &str,
+    script: &str,
+    due: &str,
+) -> Result<(), Fail> {
+    compare(rt, &run_in(alloc, form, script)?, due, script);
+    Ok(())
+}
+
+/// The status of a run on a script, and a space, where the third device fails at this call.
+fn status_at(alloc: Global, script: &str, failing: u64) -> Result<String, AllocError> {
+    let failing = [failing];
+    let mut input = MemSource::new(script.as_bytes());
+    let mut out = VecSink::new(alloc);
+    let mut diag = FaultySink::new(alloc, 1, &failing);
+    let status = run_over(alloc, "direct", &mut input, &mut out, &mut diag)?;
+    format!(in alloc; "{status} ")
 }
 
 /// A line that isn't taken changes no status.
 fn try_reports(rt: &impl Abort, alloc: Global, script: &str, due: &str) -> Result<(), Fail> {
     for failing in 1..4 {
-        let failing = [failing];
-        let mut input = MemSource::new(script.as_bytes());
-        let mut out = VecSink::new(alloc);
-        let mut diag = FaultySink::new(alloc, 1, &failing);
-        let status = run_over(alloc, "direct", &mut input, &mut out, &mut diag)?;
-        let status = format!(in alloc; "{status} ")?;
-        assert!(rt; due.starts_with(status.as_str()), "{script:?}");
+        let status = status_at(alloc, script, failing)?;
+        holds(rt, due.starts_with(status.as_str()), script);
     }
     Ok(())
 }
@@ -258,7 +313,7 @@ fn try_behind_a_value(
     let line = line.parse::<u64>()?.saturating_add(1);
     let due = format!(in alloc; "4 |line {line}: no value goes on with this call\n")?;
     for form in LISTS {
-        compare(rt, &run_in(alloc, form, &behind)?, &due, &behind);
+        try_in_memory(rt, alloc, form, &behind, &due)?;
     }
     Ok(())
 }
@@ -270,7 +325,6 @@ fn try_canonical(rt: &impl Abort, alloc: Global, script: &str, due: &str) -> Res
     let (lines, told) = rest.split_once('|').unwrap_or((rest, "no bar"));
     compare(rt, status, "0", script);
     compare(rt, told, "", script);
-    compare(rt, &run_in(alloc, "direct", lines)?, due, script);
-    compare(rt, &run_in(alloc, "calls", lines)?, &printed, script);
-    Ok(())
+    try_in_memory(rt, alloc, "direct", lines, due)?;
+    try_in_memory(rt, alloc, "calls", lines, &printed)
 }

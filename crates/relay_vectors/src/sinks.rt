@@ -5,6 +5,7 @@ ghost use Rattle.sval_label.specs.Calls as call;
 
 use crate::fakes::{Balky, HoldingSink};
 use crate::forms::{INSIDE, run_over};
+use crate::shown::{agrees, answer_text, holds, shows};
 use std::alloc::{AllocError, Global};
 use std::test::Fail;
 use sval_check::{CheckError, check};
@@ -60,33 +61,52 @@ fn stops_where_a_sink_stops(rt: HostRuntime) -> Result<(), Fail> {
     let script = Script::read(alloc, SCRIPT.as_bytes())?;
     for (stop, kind) in [(SinkError::Failed, "IO"), (SinkError::NoMemory, "NoMemory")] {
         for taken in 0..JSON.len() {
-            let at = taken + 1;
-            let text = std::str::from_utf8(&JSON[..taken])?;
-            let seen = told_of(alloc, &script, Balky::trickling(alloc, Some((at, stop))))?;
-            let due = format!(in alloc; "{kind}, {at} calls, 0 flushes: {text}")?;
-            assert_eq!(rt; seen.as_str(), due.as_str());
+            let due = told_due(alloc, kind, taken + 1, &JSON[..taken])?;
+            let sink = Balky::trickling(alloc, Some((taken + 1, stop)));
+            agrees(&rt, told_of(alloc, &script, sink), &due)?;
         }
     }
-    let seen = told_of(alloc, &script, Balky::trickling(alloc, None))?;
-    let text = std::str::from_utf8(JSON)?;
-    let due = format!(in alloc; "Ok, {} calls, 0 flushes: {text}", JSON.len())?;
-    assert_eq!(rt; seen.as_str(), due.as_str());
     Ok(())
+}
+
+/// What is due of writing JSON over a sink: the answer, how often it is called, and what it has.
+fn told_due(alloc: Global, answer: &str, calls: usize, taken: &[u8]) -> Result<String, Fail> {
+    let taken = std::str::from_utf8(taken)?;
+    Ok(format!(in alloc; "{answer}, {calls} calls, 0 flushes: {taken}")?)
+}
+
+#[test]
+fn trickles_to_the_end(rt: HostRuntime) -> Result<(), Fail> {
+    let script = Script::read(rt.alloc(), SCRIPT.as_bytes())?;
+    let sink = Balky::trickling(rt.alloc(), None);
+    let due = told_due(rt.alloc(), "Ok", JSON.len(), JSON)?;
+    agrees(&rt, told_of(rt.alloc(), &script, sink), &due)
+}
+
+/// What writing the script's JSON over a sink with this room answers, what room is left, and what it has.
+fn fitted(alloc: Global, script: &Script, room: usize) -> Result<String, Fail> {
+    let mut buffer = vec![in alloc; 0; room]?;
+    let mut sink = FixedSink::new(&mut buffer);
+    let answer = answer_of(alloc, &mut sink, script)?;
+    let left = sink.room();
+    let taken = std::str::from_utf8(sink.as_slice())?;
+    Ok(format!(in alloc; "{answer}, {left} left: {taken}")?)
+}
+
+/// What is due of a sink that has this.
+fn fitted_due(alloc: Global, taken: &[u8]) -> Result<String, Fail> {
+    let answer = if taken.len() < JSON.len() { "IO" } else { "Ok" };
+    let taken = std::str::from_utf8(taken)?;
+    Ok(format!(in alloc; "{answer}, 0 left: {taken}")?)
 }
 
 /// Rooms from none to enough.
 #[test]
 fn fails_where_room_is_lacking(rt: HostRuntime) -> Result<(), Fail> {
-    let alloc = rt.alloc();
-    let script = Script::read(alloc, SCRIPT.as_bytes())?;
+    let script = Script::read(rt.alloc(), SCRIPT.as_bytes())?;
     for room in 0..=JSON.len() {
-        let mut buffer = vec![in alloc; 0; room]?;
-        let mut sink = FixedSink::new(&mut buffer);
-        let answer = answer_of(alloc, &mut sink, &script)?;
-        let due = if room < JSON.len() { "IO" } else { "Ok" };
-        assert_eq!(rt; answer.as_str(), due, "room {room}");
-        assert_eq!(rt; sink.as_slice(), &JSON[..room], "room {room}");
-        assert_eq!(rt; sink.room(), 0, "room {room}");
+        let due = fitted_due(rt.alloc(), &JSON[..room])?;
+        agrees(&rt, fitted(rt.alloc(), &script, room), &due)?;
     }
     Ok(())
 }
@@ -105,42 +125,46 @@ const RUN_JSON: &'static str =
 fn writes_a_run_as_one_piece(rt: HostRuntime) -> Result<(), Fail> {
     let alloc = rt.alloc();
     let script = Script::read(alloc, RUN.as_bytes())?;
-    let seen = told_of(alloc, &script, Balky::new(alloc))?;
-    let due = format!(in alloc; "Ok, 3 calls, 0 flushes: {RUN_JSON}")?;
-    assert_eq!(rt; seen.as_str(), due.as_str());
-    Ok(())
+    let due = told_due(alloc, "Ok", 3, RUN_JSON.as_bytes())?;
+    agrees(&rt, told_of(alloc, &script, Balky::new(alloc)), &due)
 }
 
 #[test]
-fn writes_a_piece_whole(rt: HostRuntime) -> Result<(), Fail> {
+fn writes_a_piece_whole(rt: HostRuntime) {
     let mut sink = Balky::trickling(rt.alloc(), None);
     let empty = write_all(&mut sink, b"");
-    assert!(rt; empty == Ok(()) && sink.calls == 0);
+    holds(&rt, empty == Ok(()) && sink.calls == 0, "no piece");
     let whole = write_all(&mut sink, b"abc");
-    assert!(rt; whole == Ok(()) && sink.calls == 3);
-    assert!(rt; sink.flush() == Ok(()) && sink.flushes == 1);
-    assert_eq!(rt; sink.taken.into_vec().as_slice(), b"abc".as_slice());
-    Ok(())
+    holds(&rt, whole == Ok(()) && sink.calls == 3, "a piece");
+    holds(&rt, sink.flush() == Ok(()) && sink.flushes == 1, "a flush");
+    shows(&rt, String::from_utf8(sink.taken.into_vec()), "abc");
 }
 
-/// Outputs of the program: one that fails at each flush, and one that holds back all until it is flushed.
+/// What a run answers, writes and tells over an output that fails at each flush.
+fn run_unflushed(alloc: Global, way: &str) -> Result<String, Fail> {
+    let mut input = MemSource::new(SCRIPT.as_bytes());
+    let mut out = Balky::trickling(alloc, Some((0, SinkError::Failed)));
+    let mut diag = VecSink::new(alloc);
+    let status = run_over(alloc, way, &mut input, &mut out, &mut diag)?;
+    answer_text(alloc, status, out.taken.as_slice(), diag.as_slice())
+}
+
+/// What a run answers, passes on and tells over an output that holds back all until it is flushed.
+fn run_held_back(alloc: Global, way: &str) -> Result<String, Fail> {
+    let mut input = MemSource::new(SCRIPT.as_bytes());
+    let mut out = HoldingSink::new(alloc);
+    let mut diag = VecSink::new(alloc);
+    let status = run_over(alloc, way, &mut input, &mut out, &mut diag)?;
+    answer_text(alloc, status, &out.passed, diag.as_slice())
+}
+
 #[test]
 fn flushes_at_the_end(rt: HostRuntime) -> Result<(), Fail> {
-    let alloc = rt.alloc();
+    let unflushed = answer_text(rt.alloc(), 8, JSON, b"write fault\n")?;
+    let flushed = answer_text(rt.alloc(), 0, JSON, b"")?;
     for way in INSIDE {
-        let mut diag = VecSink::new(alloc);
-        let mut input = MemSource::new(SCRIPT.as_bytes());
-        let mut out = Balky::trickling(alloc, Some((0, SinkError::Failed)));
-        let status = run_over(alloc, way, &mut input, &mut out, &mut diag)?;
-        assert_eq!(rt; status, 8, "{way}");
-        assert_eq!(rt; out.taken.as_slice(), JSON, "{way}");
-        assert_eq!(rt; diag.as_slice(), b"write fault\n".as_slice(), "{way}");
-        let mut input = MemSource::new(SCRIPT.as_bytes());
-        let mut out = HoldingSink::new(alloc);
-        let status = run_over(alloc, way, &mut input, &mut out, &mut diag)?;
-        assert_eq!(rt; status, 0, "{way}");
-        assert_eq!(rt; out.passed.as_slice(), JSON, "{way}");
-        assert_eq!(rt; diag.as_slice(), b"write fault\n".as_slice(), "{way}");
+        agrees(&rt, run_unflushed(rt.alloc(), way), &unflushed)?;
+        agrees(&rt, run_held_back(rt.alloc(), way), &flushed)?;
     }
     Ok(())
 }
@@ -161,12 +185,11 @@ impl<'v> Value<'v, Lent<'v>> for Refusing {
 
 /// A refusal of a value isn't one of its stream.
 #[test]
-fn tells_a_value_that_refuses(rt: HostRuntime) -> Result<(), Fail> {
+fn tells_a_value_that_refuses(rt: HostRuntime) {
     let refusing = [Refusing {}];
     let mut sink = VecSink::new(rt.alloc());
-    let answer = answer_of(rt.alloc(), &mut sink, &refusing)?;
-    assert_eq!(rt; answer.as_str(), "Generic");
-    assert_eq!(rt; sink.as_slice(), b"[null".as_slice());
-    assert_eq!(rt; check(rt.alloc(), &refusing), Err(CheckError::Refused));
-    Ok(())
+    shows(&rt, answer_of(rt.alloc(), &mut sink, &refusing), "Generic");
+    shows(&rt, String::from_utf8(sink.into_vec()), "[null");
+    let answer = check(rt.alloc(), &refusing);
+    holds(&rt, answer == Err(CheckError::Refused), "a check");
 }

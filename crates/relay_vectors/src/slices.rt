@@ -1,5 +1,7 @@
 //! Which slices a script has, and the lines of each.
 
+use crate::shown::compare;
+use std::alloc::{AllocError, Global};
 use std::test::Fail;
 use sval_core::Value;
 use sval_io::VecSink;
@@ -24,18 +26,32 @@ const SLICES: [(u64, u64, Option<&'static str>); 9] = [
     (7, 7, None),
 ];
 
+/// How many lines the slice from `from` to `to` has, and these lines, or that there is no slice.
+fn slice_of(alloc: Global, script: &Script, from: u64, to: u64) -> Result<String, Fail> {
+    let Some(slice) = script.slice(from, to) else {
+        return Ok(String::from_str(alloc, "no slice")?);
+    };
+    let mut printer = Printer::new(VecSink::new(alloc));
+    slice.stream(&mut printer)?;
+    let lines = String::from_utf8(printer.into_inner().into_vec())?;
+    Ok(format!(in alloc; "{} lines: {lines}", slice.line_count())?)
+}
+
+/// What is due of these lines from one place to another.
+fn slice_due(alloc: Global, from: u64, to: u64, lines: Option<&str>) -> Result<String, AllocError> {
+    match lines {
+        Some(lines) => format!(in alloc; "{} lines: {lines}", to.saturating_sub(from)),
+        None => String::from_str(alloc, "no slice"),
+    }
+}
+
 #[test]
 fn has_the_lines_of_its_place(rt: HostRuntime) -> Result<(), Fail> {
     let script = Script::read(rt.alloc(), VALUES.as_bytes())?;
     for (from, to, lines) in SLICES {
-        let slice = script.slice(from, to);
-        assert_eq!(rt; slice.is_some(), lines.is_some(), "at {from} to {to}");
-        if let (Some(slice), Some(lines)) = (slice, lines) {
-            let mut printer = Printer::new(VecSink::new(rt.alloc()));
-            slice.stream(&mut printer)?;
-            assert_eq!(rt; slice.line_count(), to - from);
-            assert_eq!(rt; printer.into_inner().as_slice(), lines.as_bytes());
-        }
+        let seen = slice_of(rt.alloc(), &script, from, to)?;
+        let due = slice_due(rt.alloc(), from, to, lines)?;
+        compare(&rt, &seen, &due, "a slice");
     }
     Ok(())
 }

@@ -191,11 +191,10 @@ pub(crate) fn each_case(alloc: Global) -> Result<Vec<Case>, AllocError> {
 
 /// Compares what a case came to over a device, which was of this size or failed at this call, with what is due.
 pub(crate) fn compare(rt: &impl Abort, case: &Case, at: usize, ran: Answer<'_>, due: Answer<'_>) {
-    assert_eq!(rt; ran.0, due.0, "{} at {at}: {:?}", case.form, case.script);
+    let is_due = ran.0 == due.0 && ran.1 == due.1 && ran.2 == due.2;
     assert!(rt;
-        ran.1 == due.1 && ran.2 == due.2,
-        "{} at {at}: {:?}",
-        case.form,
-        case.script
+        is_due,
+        "{} at {at}, status {}: {:?}",
+        case.form, ran.0, case.script
     );
 }

@@ -3,9 +3,10 @@
 
 ghost use Rattle.std.specs.Prelude.{◌≤◌};
 
-use super::cases::{Case, compare, each_case};
+use super::cases::{Answer, Case, compare, each_case};
 use crate::forms::{EACH_WAY, run_over};
-use std::alloc::Global;
+use crate::shown::{agrees, answer_text, holds};
+use std::alloc::{AllocError, Global};
 use std::process::Abort;
 use std::test::Fail;
 use sval_io::{FaultySink, VecSink};
@@ -20,6 +21,40 @@ const READ_FAULT: &'static [u8] = b"read fault\n";
 /// More calls than any device gets.
 const CALLS: usize = 10_000;
 
+/// What a case came to: a status, what was written, and what was told.
+#[derive(Drop)]
+struct Ran {
+    status: u8,
+    out: Vec<u8>,
+    diag: Vec<u8>,
+}
+
+impl Ran {
+    fn new(alloc: Global, status: u8, out: &[u8], diag: &[u8]) -> Result<Ran, AllocError> {
+        Ok(Ran {
+            status,
+            out: Vec::from_slice(alloc, out)?,
+            diag: Vec::from_slice(alloc, diag)?,
+        })
+    }
+
+    fn answer(&self) -> Answer<'_> {
+        (self.status, &self.out, &self.diag)
+    }
+}
+
+/// Runs a case over an output that takes at most `chunk` bytes a call, and fails at this call.
+fn write_at(alloc: Global, case: &Case, chunk: usize, call: u64) -> Result<Ran, AllocError>
+    requires { 1 ≤ chunk }
+{
+    let failing = [call];
+    let mut input = MemSource::new(case.script.as_bytes());
+    let mut out = FaultySink::new(alloc, chunk, &failing);
+    let mut diag = VecSink::new(alloc);
+    let status = run_over(alloc, case.form, &mut input, &mut out, &mut diag)?;
+    Ran::new(alloc, status, out.as_slice(), diag.as_slice())
+}
+
 /// Runs a form over an output that takes at most `chunk` bytes a call, and fails at each of its calls in turn, until a
 /// run meets no failure. The output has a first part of what is due. With one byte a call these are exactly the bytes
 /// before the failure.
@@ -27,27 +62,27 @@ fn try_writes(rt: &impl Abort, alloc: Global, case: &Case, chunk: usize) -> Resu
     requires { 1 ≤ chunk }
 {
     for made in 0..CALLS {
-        let failing = [made as u64 + 1];
-        let mut input = MemSource::new(case.script.as_bytes());
-        let mut out = FaultySink::new(alloc, chunk, &failing);
-        let mut diag = VecSink::new(alloc);
-        let status = run_over(alloc, case.form, &mut input, &mut out, &mut diag)?;
-        let taken = out.as_slice();
-        let ran = (status, taken, diag.as_slice());
-        assert!(rt; chunk > 1 || taken.len() == made, "{} at {made}", case.form);
-        if taken.len() == case.out.len() {
-            compare(rt, case, made, ran, case.answer());
+        let ran = write_at(alloc, case, chunk, made as u64 + 1)?;
+        holds(rt, chunk > 1 || ran.out.len() == made, case.form);
+        if ran.out.len() == case.out.len() {
+            compare(rt, case, made, ran.answer(), case.answer());
             return Ok(());
         }
-        assert!(rt;
-            case.out.as_bytes().starts_with(taken),
-            "{} at {made}",
-            case.form
-        );
-        compare(rt, case, made, ran, (8, taken, WRITE_FAULT));
+        holds(rt, case.out.as_bytes().starts_with(&ran.out), case.form);
+        compare(rt, case, made, ran.answer(), (8, &ran.out, WRITE_FAULT));
     }
-    assert!(rt; false, "{}: {:?}", case.form, case.script);
+    holds(rt, false, case.form);
     Ok(())
+}
+
+/// Runs a case over an input that gives seven bytes a call, and fails at this call.
+fn read_at(alloc: Global, case: &Case, call: u64) -> Result<Ran, AllocError> {
+    let failing = [call];
+    let mut input = FaultySource::new(case.script.as_bytes(), 7, &failing);
+    let mut out = VecSink::new(alloc);
+    let mut diag = VecSink::new(alloc);
+    let status = run_over(alloc, case.form, &mut input, &mut out, &mut diag)?;
+    Ran::new(alloc, status, out.as_slice(), diag.as_slice())
 }
 
 /// Runs a form over an input that gives seven bytes a call, and fails at each in turn, the one that sees the end too:
@@ -55,57 +90,61 @@ fn try_writes(rt: &impl Abort, alloc: Global, case: &Case, chunk: usize) -> Resu
 fn try_reads(rt: &impl Abort, alloc: Global, case: &Case) -> Result<(), Fail> {
     let parts = case.script.len().div_ceil(7);
     for made in 0..CALLS {
-        let failing = [made as u64 + 1];
-        let mut input = FaultySource::new(case.script.as_bytes(), 7, &failing);
-        let mut out = VecSink::new(alloc);
-        let mut diag = VecSink::new(alloc);
-        let status = run_over(alloc, case.form, &mut input, &mut out, &mut diag)?;
-        let ran = (status, out.as_slice(), diag.as_slice());
+        let ran = read_at(alloc, case, made as u64 + 1)?;
         if made > parts {
-            compare(rt, case, made, ran, case.answer());
+            compare(rt, case, made, ran.answer(), case.answer());
             return Ok(());
         }
-        compare(rt, case, made, ran, (9, b"", READ_FAULT));
+        compare(rt, case, made, ran.answer(), (9, b"", READ_FAULT));
     }
-    assert!(rt; false, "{}: {:?}", case.form, case.script);
+    holds(rt, false, case.form);
     Ok(())
+}
+
+/// Runs a case over a third device that takes one byte a call, and fails at this call.
+fn report_at(alloc: Global, case: &Case, call: u64) -> Result<Ran, AllocError> {
+    let failing = [call];
+    let mut input = MemSource::new(case.script.as_bytes());
+    let mut out = VecSink::new(alloc);
+    let mut diag = FaultySink::new(alloc, 1, &failing);
+    let status = run_over(alloc, case.form, &mut input, &mut out, &mut diag)?;
+    Ran::new(alloc, status, out.as_slice(), diag.as_slice())
 }
 
 /// Runs a form over a third device that takes one byte a call, and fails at each in turn until it meets no failure: it
 /// has the bytes before the failure, and all else is as if it took them all.
 fn try_reports(rt: &impl Abort, alloc: Global, case: &Case) -> Result<(), Fail> {
-    let (status_due, out_due, line) = case.answer();
+    let (status, out, line) = case.answer();
     for made in 0..CALLS {
-        let failing = [made as u64 + 1];
-        let mut input = MemSource::new(case.script.as_bytes());
-        let mut out = VecSink::new(alloc);
-        let mut diag = FaultySink::new(alloc, 1, &failing);
-        let status = run_over(alloc, case.form, &mut input, &mut out, &mut diag)?;
-        let told = diag.as_slice();
-        assert!(rt;
-            told.len() == made && line.starts_with(told),
-            "{} at {made}",
-            case.form
-        );
-        let ran = (status, out.as_slice(), told);
-        compare(rt, case, made, ran, (status_due, out_due, told));
+        let ran = report_at(alloc, case, made as u64 + 1)?;
+        let told = ran.diag.as_slice();
+        holds(rt, told.len() == made && line.starts_with(told), case.form);
+        compare(rt, case, made, ran.answer(), (status, out, told));
         if told.len() == line.len() {
             return Ok(());
         }
     }
-    assert!(rt; false, "{}: {:?}", case.form, case.script);
+    holds(rt, false, case.form);
     Ok(())
+}
+
+/// Runs a case over devices that give at most `given` and take at most `taken` bytes a call.
+fn run_in_parts(alloc: Global, case: &Case, given: usize, taken: usize) -> Result<Ran, AllocError>
+    requires gives { 1 ≤ given }
+    requires takes { 1 ≤ taken }
+{
+    let mut input = FaultySource::new(case.script.as_bytes(), given, &[]);
+    let mut out = FaultySink::new(alloc, taken, &[]);
+    let mut diag = FaultySink::new(alloc, given, &[]);
+    let status = run_over(alloc, case.form, &mut input, &mut out, &mut diag)?;
+    Ran::new(alloc, status, out.as_slice(), diag.as_slice())
 }
 
 /// Runs a form over devices that give and take from 1 to 70 bytes a call at most.
 fn try_sizes(rt: &impl Abort, alloc: Global, case: &Case) -> Result<(), Fail> {
     for size in 1..71 {
-        let mut input = FaultySource::new(case.script.as_bytes(), size, &[]);
-        let mut out = FaultySink::new(alloc, 71 - size, &[]);
-        let mut diag = FaultySink::new(alloc, size, &[]);
-        let status = run_over(alloc, case.form, &mut input, &mut out, &mut diag)?;
-        let ran = (status, out.as_slice(), diag.as_slice());
-        compare(rt, case, size, ran, case.answer());
+        let ran = run_in_parts(alloc, case, size, 71 - size)?;
+        compare(rt, case, size, ran.answer(), case.answer());
     }
     Ok(())
 }
@@ -123,19 +162,23 @@ fn devices_in_each_case(rt: HostRuntime) -> Result<(), Fail> {
     Ok(())
 }
 
-/// The line of a made script over an output that fails at a call, and a third device that fails at the same one. The
-/// input, which would fail, isn't read.
+/// What is answered and written of a made script, and told, over an output and a third device that fail at the same
+/// call, as two texts. The input, which would fail, isn't read.
+fn made_at(alloc: Global, form: &str, call: u64) -> Result<String, Fail> {
+    let failing = [call];
+    let mut input = FaultySource::new(b"nil\n", 1, &[1]);
+    let mut out = FaultySink::new(alloc, 1, &failing);
+    let mut diag = FaultySink::new(alloc, 1, &failing);
+    let status = run_over(alloc, form, &mut input, &mut out, &mut diag)?;
+    answer_text(alloc, status, out.as_slice(), diag.as_slice())
+}
+
+/// The line of a made script over an output that fails at a call, and a third device that fails at the same one.
 fn try_made(rt: &impl Abort, alloc: Global, form: &str, line: &[u8]) -> Result<(), Fail> {
     for taken in 0..line.len() {
-        let failing = [taken as u64 + 1];
-        let mut input = FaultySource::new(b"nil\n", 1, &[1]);
-        let mut out = FaultySink::new(alloc, 1, &failing);
-        let mut diag = FaultySink::new(alloc, 1, &failing);
-        let status = run_over(alloc, form, &mut input, &mut out, &mut diag)?;
-        assert_eq!(rt; status, 8, "{form} after {taken}");
-        assert_eq!(rt; out.as_slice(), &line[..taken], "{form}");
         let told = &WRITE_FAULT[..taken.min(WRITE_FAULT.len())];
-        assert_eq!(rt; diag.as_slice(), told, "{form}");
+        let due = answer_text(alloc, 8, &line[..taken], told)?;
+        agrees(rt, made_at(alloc, form, taken as u64 + 1), &due)?;
     }
     Ok(())
 }
@@ -148,28 +191,28 @@ fn made_scripts(rt: HostRuntime) -> Result<(), Fail> {
 
 /// Calls at which the input fails, and the output; and the status, what is written, and what is told, of a third device
 /// that fails at its fourth call.
-type Failing = (&'static [u64], &'static [u64], &'static str);
+const TOGETHER: [(&'static [u64], &'static [u64], &'static str); 4] = [
+    (&[2], &[2], "9 |rea"),
+    (&[1], &[], "9 |rea"),
+    (&[], &[2], "8 t|wri"),
+    (&[], &[], "0 true|"),
+];
+
+/// What a form answers, writes and tells where calls of all three devices fail.
+fn run_failing(alloc: Global, form: &str, reads: &[u64], writes: &[u64]) -> Result<String, Fail> {
+    let mut input = FaultySource::new(b"bool true\n", 4, reads);
+    let mut out = FaultySink::new(alloc, 1, writes);
+    let mut diag = FaultySink::new(alloc, 1, &[4]);
+    let status = run_over(alloc, form, &mut input, &mut out, &mut diag)?;
+    answer_text(alloc, status, out.as_slice(), diag.as_slice())
+}
 
 /// Where two or all devices fail, the input's failure is the answer, and then the output's.
 #[test]
 fn devices_that_fail_together(rt: HostRuntime) -> Result<(), Fail> {
-    let alloc = rt.alloc();
-    let table: [Failing; 4] = [
-        (&[2], &[2], "9 |rea"),
-        (&[1], &[], "9 |rea"),
-        (&[], &[2], "8 t|wri"),
-        (&[], &[], "0 true|"),
-    ];
     for form in EACH_WAY {
-        for (reads, writes, due) in table {
-            let mut input = FaultySource::new(b"bool true\n", 4, reads);
-            let mut out = FaultySink::new(alloc, 1, writes);
-            let mut diag = FaultySink::new(alloc, 1, &[4]);
-            let status = run_over(alloc, form, &mut input, &mut out, &mut diag)?;
-            let text = std::str::from_utf8(out.as_slice())?;
-            let told = std::str::from_utf8(diag.as_slice())?;
-            let seen = format!(in alloc; "{status} {text}|{told}")?;
-            assert_eq!(rt; seen.as_str(), due, "{form} at {reads:?} and {writes:?}");
+        for (reads, writes, due) in TOGETHER {
+            agrees(&rt, run_failing(rt.alloc(), form, reads, writes), due)?;
         }
     }
     Ok(())

@@ -248,13 +248,18 @@ fn push_between(
 pub(crate) fn each_kind(alloc: Global) -> Result<Vec<Kind>, AllocError> {
     let mut kinds = Vec::new(alloc);
     for rows in KINDS.split("\n\n") {
-        let mut kind = Kind::new(alloc);
-        for line in rows.lines() {
-            kind.add(alloc, line)?;
-        }
-        kinds.push(kind)?;
+        kinds.push(kind_of(alloc, rows)?)?;
     }
     Ok(kinds)
+}
+
+/// The kind of some rows.
+fn kind_of(alloc: Global, rows: &str) -> Result<Kind, AllocError> {
+    let mut kind = Kind::new(alloc);
+    for line in rows.lines() {
+        kind.add(alloc, line)?;
+    }
+    Ok(kind)
 }
 
 /// A sequence of the 13 values of all kinds.

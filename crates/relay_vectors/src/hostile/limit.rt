@@ -1,6 +1,7 @@
 //! Inputs at the limit of what is read, and a script in memory that is longer.
 
 use crate::forms::run_over;
+use crate::shown::{agrees, answer_text, holds};
 use std::alloc::{AllocError, Global};
 use std::test::Fail;
 use sval_io::VecSink;
@@ -14,23 +15,23 @@ fn threes(alloc: Global, before: &str, count: usize, behind: &str) -> Result<Vec
     Ok(text)
 }
 
-/// How many newlines are given, how many bytes are left of them, and the status and the line.
+/// How many newlines are given, how many bytes are left of them, and the status and, behind a bar, the line.
 const NEWLINES: [(usize, usize, &'static str); 4] = [
-    (16_777_216, 0, "3 line 1: not a call\n"),
+    (16_777_216, 0, "3 |line 1: not a call\n"),
     (
         16_777_217,
         0,
-        "11 the input is longer than 16777216 bytes\n",
+        "11 |the input is longer than 16777216 bytes\n",
     ),
     (
         16_777_218,
         1,
-        "11 the input is longer than 16777216 bytes\n",
+        "11 |the input is longer than 16777216 bytes\n",
     ),
     (
         50_331_648,
         33_554_431,
-        "11 the input is longer than 16777216 bytes\n",
+        "11 |the input is longer than 16777216 bytes\n",
     ),
 ];
 
@@ -41,34 +42,53 @@ fn reads_up_to_the_limit(rt: HostRuntime) -> Result<(), Fail> {
     for (count, left, due) in NEWLINES {
         let feeds = vec![in alloc; b'\n'; count]?;
         let mut input = MemSource::new(&feeds);
-        let mut out = VecSink::new(alloc);
-        let mut diag = VecSink::new(alloc);
-        let status = run_over(alloc, "direct", &mut input, &mut out, &mut diag)?;
-        let told = std::str::from_utf8(diag.as_slice())?;
-        let seen = format!(in alloc; "{status} {told}")?;
-        assert_eq!(rt; seen.as_str(), due, "at {count}");
+        agrees(&rt, run_direct(alloc, &mut input), due)?;
         let read = input.read(&mut vec![in alloc; 0; count]?);
-        assert!(rt; read == Ok(left) && out.as_slice().is_empty(), "at {count}");
+        holds(&rt, read == Ok(left), due);
     }
     Ok(())
 }
 
+/// What a run over an input answers, writes and tells.
+fn run_direct<I: Source>(alloc: Global, input: &mut I) -> Result<String, Fail> {
+    let mut out = VecSink::new(alloc);
+    let mut diag = VecSink::new(alloc);
+    let status = run_over(alloc, "direct", input, &mut out, &mut diag)?;
+    answer_text(alloc, status, out.as_slice(), diag.as_slice())
+}
+
 /// How many hex digits a script of 16,777,216 bytes or of one more has, the call of the source that fails, and the
-/// status and the line: at the last part, at the call that looks for a byte past the limit, and behind it. With a byte
+/// status, whether JSON is written, and the line: at the last part, at the call that looks for a byte past the limit, and behind it. With a byte
 /// past the limit that call is the last one too.
 const FAULTS: [(&'static str, usize, u64, &'static str); 6] = [
-    ("text_fragment", 16_777_178, 256, "9 read fault\n"),
-    ("text_fragment", 16_777_178, 257, "9 read fault\n"),
-    ("text_fragment", 16_777_178, 258, "0 "),
-    ("text_fragment_computed", 16_777_170, 256, "9 read fault\n"),
-    ("text_fragment_computed", 16_777_170, 257, "9 read fault\n"),
+    ("text_fragment", 16_777_178, 256, "9 |read fault\n"),
+    ("text_fragment", 16_777_178, 257, "9 |read fault\n"),
+    ("text_fragment", 16_777_178, 258, "0 JSON|"),
+    ("text_fragment_computed", 16_777_170, 256, "9 |read fault\n"),
+    ("text_fragment_computed", 16_777_170, 257, "9 |read fault\n"),
     (
         "text_fragment_computed",
         16_777_170,
         258,
-        "11 the input is longer than 16777216 bytes\n",
+        "11 |the input is longer than 16777216 bytes\n",
     ),
 ];
+
+/// What a run over a source of a script answers and tells, and whether it writes nothing, where this call of the source
+/// fails.
+fn run_failing(alloc: Global, script: &[u8], failing: u64) -> Result<String, Fail> {
+    let failing = [failing];
+    let mut input = FaultySource::new(script, 65_536, &failing);
+    let mut out = VecSink::new(alloc);
+    let mut diag = VecSink::new(alloc);
+    let status = run_over(alloc, "direct", &mut input, &mut out, &mut diag)?;
+    let written = if out.as_slice().is_empty() {
+        ""
+    } else {
+        "JSON"
+    };
+    answer_text(alloc, status, written.as_bytes(), diag.as_slice())
+}
 
 #[test]
 fn faults_at_the_limit(rt: HostRuntime) -> Result<(), Fail> {
@@ -76,18 +96,7 @@ fn faults_at_the_limit(rt: HostRuntime) -> Result<(), Fail> {
     for (fragment, digits, failing, due) in FAULTS {
         let before = format!(in alloc; "text_begin -\n{fragment} =")?;
         let script = threes(alloc, &before, digits, "\ntext_end\n")?;
-        let failing = [failing];
-        let mut input = FaultySource::new(&script, 65_536, &failing);
-        let mut out = VecSink::new(alloc);
-        let mut diag = VecSink::new(alloc);
-        let status = run_over(alloc, "direct", &mut input, &mut out, &mut diag)?;
-        let told = std::str::from_utf8(diag.as_slice())?;
-        let seen = format!(in alloc; "{status} {told}")?;
-        assert_eq!(rt; seen.as_str(), due, "at {failing:?}");
-        assert!(rt;
-            out.as_slice().is_empty() == (status != 0),
-            "at {failing:?}"
-        );
+        agrees(&rt, run_failing(alloc, &script, failing), due)?;
     }
     Ok(())
 }
@@ -96,24 +105,28 @@ fn faults_at_the_limit(rt: HostRuntime) -> Result<(), Fail> {
 #[test]
 fn two_long_fragments(rt: HostRuntime) -> Result<(), Fail> {
     let alloc = rt.alloc();
-    let mut script = threes(
-        alloc,
-        "text_begin 10000000\ntext_fragment =",
-        10_000_000,
-        "\n",
-    )?;
-    let second = threes(
-        alloc,
-        "text_fragment_computed =",
-        10_000_000,
-        "\ntext_end\n",
-    )?;
-    script.extend_from_slice(&second)?;
+    let script = long_script(alloc)?;
     let json = threes(alloc, "\"", 10_000_000, "\"")?;
     for way in [Way::Direct, Way::Buffered, Way::BufferedBeside] {
-        let mut out = VecSink::new(alloc);
-        relay(alloc, &script, way, &mut out)?;
-        assert!(rt; out.as_slice() == json.as_slice(), "{way:?}");
+        let written = json_of(alloc, &script, way)?;
+        holds(&rt, written.as_slice() == json.as_slice(), "a way");
     }
     Ok(())
+}
+
+/// The script of a text of two fragments with 10,000,000 digits each.
+fn long_script(alloc: Global) -> Result<Vec<u8>, AllocError> {
+    let begin = "text_begin 10000000\ntext_fragment =";
+    let mut script = threes(alloc, begin, 10_000_000, "\n")?;
+    let begin = "text_fragment_computed =";
+    let second = threes(alloc, begin, 10_000_000, "\ntext_end\n")?;
+    script.extend_from_slice(&second)?;
+    Ok(script)
+}
+
+/// The JSON of a script in a way.
+fn json_of(alloc: Global, script: &[u8], way: Way) -> Result<Vec<u8>, Fail> {
+    let mut out = VecSink::new(alloc);
+    relay(alloc, script, way, &mut out)?;
+    Ok(out.into_vec())
 }

@@ -2,6 +2,7 @@
 
 use crate::pictures::plain_text;
 use crate::rows::{run_in, run_over_streams};
+use crate::shown::holds;
 use std::alloc::Global;
 use std::process::Abort;
 use std::test::Fail;
@@ -301,12 +302,16 @@ fn try_forms(
     due: &str,
 ) -> Result<(), Fail> {
     for form in forms.split(", ") {
-        let seen = run_in(alloc, form, script)?;
-        let streamed = run_over_streams(alloc, form, script)?;
-        let agrees = seen.as_str() == due && streamed.as_str() == due;
-        assert!(rt; agrees, "{form} of {} bytes", script.len());
+        holds(rt, is_due(run_in(alloc, form, script), due)?, form);
+        let streamed = run_over_streams(alloc, form, script);
+        holds(rt, is_due(streamed, due)?, form);
     }
     Ok(())
+}
+
+/// Whether a text is what is due. A failure doesn't show it, since it may be long.
+fn is_due(seen: Result<String, Fail>, due: &str) -> Result<bool, Fail> {
+    Ok(seen?.as_str() == due)
 }
 
 /// Tries the script of some rows.

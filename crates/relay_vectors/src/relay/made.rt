@@ -1,5 +1,7 @@
 //! What is told of scripts that are made.
 
+use crate::shown::{agrees, compare, holds};
+use std::alloc::Global;
 use std::test::Fail;
 use sval_io::{FaultySink, VecSink};
 use sval_relay::{MadeError, Way, relay, relay_made};
@@ -30,21 +32,45 @@ const LINES: [(u32, &'static str); 4] = [
     (50_000, "calls 650002 json 1427781\n"),
 ];
 
-/// A script of one record is served, and the lines of made ones are told; one over an output that fails, in part.
+#[test]
+fn serves_one_record(rt: HostRuntime) -> Result<(), Fail> {
+    let mut out = VecSink::new(rt.alloc());
+    relay(rt.alloc(), ONE_RECORD.as_bytes(), Way::Buffered, &mut out)?;
+    let json = "[{\"id\":0,\"name\":\"n0\"}]";
+    compare(
+        &rt,
+        std::str::from_utf8(out.as_slice())?,
+        json,
+        "one record",
+    );
+    Ok(())
+}
+
+/// What is told of a script of made records.
+fn line_of(alloc: Global, count: u32) -> Result<String, Fail> {
+    let mut out = VecSink::new(alloc);
+    relay_made(alloc, count, &mut out)?;
+    Ok(String::from_utf8(out.into_vec())?)
+}
+
 #[test]
 fn tells_of_scripts(rt: HostRuntime) -> Result<(), Fail> {
-    let alloc = rt.alloc();
-    let mut out = VecSink::new(alloc);
-    relay(alloc, ONE_RECORD.as_bytes(), Way::Buffered, &mut out)?;
-    let json = b"[{\"id\":0,\"name\":\"n0\"}]";
-    assert_eq!(rt; out.as_slice(), json.as_slice());
     for (count, line) in LINES {
-        let mut out = VecSink::new(alloc);
-        relay_made(alloc, count, &mut out)?;
-        assert_eq!(rt; out.as_slice(), line.as_bytes(), "{count}");
+        agrees(&rt, line_of(rt.alloc(), count), line)?;
     }
-    let mut out = FaultySink::new(alloc, 1, &[10]);
-    assert!(rt; relay_made(alloc, 2, &mut out) == Err(MadeError::Write));
-    assert_eq!(rt; out.as_slice(), b"calls 28 ".as_slice());
+    Ok(())
+}
+
+#[test]
+fn tells_in_part_where_the_output_fails(rt: HostRuntime) -> Result<(), Fail> {
+    let mut out = FaultySink::new(rt.alloc(), 1, &[10]);
+    let answer = relay_made(rt.alloc(), 2, &mut out);
+    holds(&rt, answer == Err(MadeError::Write), "the answer");
+    compare(
+        &rt,
+        std::str::from_utf8(out.as_slice())?,
+        "calls 28 ",
+        "the line",
+    );
     Ok(())
 }

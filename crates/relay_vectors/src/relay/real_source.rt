@@ -1,6 +1,8 @@
 //! Readers that are interrupted, or fail.
 
 use super::sources::reads_of;
+use crate::shown::agrees;
+use std::alloc::Global;
 use std::io;
 use std::test::Fail;
 use sval_relay::RealSource;
@@ -62,15 +64,19 @@ const READERS: [(io::ErrorKind, u32, u64, &'static str); 11] = [
     ),
 ];
 
+/// What is told of reads of a reader, and the number of failures that it has left.
+fn reads_of_failing(alloc: Global, mut reader: Failing, count: u64) -> Result<String, Fail> {
+    let mut source = RealSource::new(&mut reader);
+    let told = reads_of(alloc, &mut source, &mut [b'-'; 4], count)?;
+    drop(source);
+    Ok(format!(in alloc; "{told}{}", reader.times)?)
+}
+
 #[test]
 fn errors_of_readers(rt: HostRuntime) -> Result<(), Fail> {
     for (error, times, count, due) in READERS {
-        let mut reader = Failing { error, times };
-        let mut source = RealSource::new(&mut reader);
-        let told = reads_of(rt.alloc(), &mut source, &mut [b'-'; 4], count)?;
-        drop(source);
-        let seen = format!(in rt.alloc(); "{told}{}", reader.times)?;
-        assert_eq!(rt; seen.as_str(), due, "at {error:?}, {times} times");
+        let reader = Failing { error, times };
+        agrees(&rt, reads_of_failing(rt.alloc(), reader, count), due)?;
     }
     Ok(())
 }
@@ -80,7 +86,6 @@ fn errors_of_readers(rt: HostRuntime) -> Result<(), Fail> {
 fn fills_the_buffer(rt: HostRuntime) -> Result<(), Fail> {
     let mut bytes: &[u8] = &[b'a'; 10_000];
     let mut source = RealSource::new(&mut bytes);
-    let seen = reads_of(rt.alloc(), &mut source, &mut [0; 9_000], 3)?;
-    assert_eq!(rt; seen.as_str(), "Ok(9000) aaaa\nOk(1000) aaaa\nOk(0) aaaa\n");
-    Ok(())
+    let seen = reads_of(rt.alloc(), &mut source, &mut [0; 9_000], 3);
+    agrees(&rt, seen, "Ok(9000) aaaa\nOk(1000) aaaa\nOk(0) aaaa\n")
 }

@@ -1,9 +1,10 @@
 //! What serving a script of one value or of many answers and writes.
 
-use std::alloc::Global;
+use crate::shown::compare;
+use std::alloc::{AllocError, Global};
 use std::process::Abort;
 use std::test::Fail;
-use sval_io::{FaultySink, VecSink};
+use sval_io::{FaultySink, Sink, VecSink};
 use sval_relay::{Way, relay, relay_lines};
 
 /// The ways that write JSON.
@@ -51,6 +52,14 @@ const LISTS: [(&'static str, &'static str, &'static str); 9] = [
     ),
 ];
 
+/// The answer for a script of many values in a way, and what is written.
+fn list_of(alloc: Global, way: Way, script: &str) -> Result<(String, String), Fail> {
+    let mut out = VecSink::new(alloc);
+    let answer = relay_lines(alloc, script.as_bytes(), way, &mut out);
+    let answer = format!(in alloc; "{answer:?}")?;
+    Ok((answer, String::from_utf8(out.into_vec())?))
+}
+
 /// Serves a script of many values in a way.
 fn try_list(
     rt: &impl Abort,
@@ -59,11 +68,9 @@ fn try_list(
     script: &str,
     due: (&str, &str),
 ) -> Result<(), Fail> {
-    let mut out = VecSink::new(alloc);
-    let answer = relay_lines(alloc, script.as_bytes(), way, &mut out);
-    let answer = format!(in alloc; "{answer:?}")?;
-    assert_eq!(rt; answer.as_str(), due.0, "{way:?} at {script:?}");
-    assert_eq!(rt; out.as_slice(), due.1.as_bytes(), "{way:?} at {script:?}");
+    let (answer, text) = list_of(alloc, way, script)?;
+    compare(rt, &answer, due.0, script);
+    compare(rt, &text, due.1, script);
     Ok(())
 }
 
@@ -77,6 +84,17 @@ fn answers_for_lists(rt: HostRuntime) -> Result<(), Fail> {
     Ok(())
 }
 
+/// What is answered for a script of one value, whose JSON is written to a sink.
+fn answer_of<K: Sink>(
+    alloc: Global,
+    way: Way,
+    script: &str,
+    out: &mut K,
+) -> Result<String, AllocError> {
+    let answer = relay(alloc, script.as_bytes(), way, out);
+    format!(in alloc; "{answer:?}")
+}
+
 /// Serves a script of one value in a way.
 fn try_way(
     rt: &impl Abort,
@@ -86,9 +104,8 @@ fn try_way(
     due: (&str, &str),
 ) -> Result<(), Fail> {
     let mut out = VecSink::new(alloc);
-    let answer = format!(in alloc; "{:?}", relay(alloc, script.as_bytes(), way, &mut out))?;
-    assert_eq!(rt; answer.as_str(), due.0, "{way:?} at {script:?}");
-    assert_eq!(rt; out.as_slice(), due.1.as_bytes(), "{way:?} at {script:?}");
+    compare(rt, &answer_of(alloc, way, script, &mut out)?, due.0, script);
+    compare(rt, std::str::from_utf8(out.as_slice())?, due.1, script);
     Ok(())
 }
 
@@ -102,16 +119,30 @@ fn answers(rt: HostRuntime) -> Result<(), Fail> {
     Ok(())
 }
 
+/// Scripts that are served one after another, the way of each, and the answer.
+const APPENDED: [(&'static str, Way, &'static str); 3] = [
+    ("bool true\n", Way::Direct, "Ok(())"),
+    ("i64 -9\n", Way::Buffered, "Ok(())"),
+    ("bool true\n", Way::Direct, "Err(Write)"),
+];
+
 /// What is written is appended, up to a write that fails.
 #[test]
 fn appends(rt: HostRuntime) -> Result<(), Fail> {
-    let alloc = rt.alloc();
-    let mut out = FaultySink::new(alloc, 1, &[9]);
-    relay(alloc, b"bool true\n", Way::Direct, &mut out)?;
-    relay(alloc, b"i64 -9\n", Way::Buffered, &mut out)?;
-    let answer = relay(alloc, b"bool true\n", Way::Direct, &mut out);
-    let answer = format!(in alloc; "{answer:?}")?;
-    assert_eq!(rt; answer.as_str(), "Err(Write)");
-    assert_eq!(rt; out.as_slice(), b"true-9tr".as_slice());
+    let mut out = FaultySink::new(rt.alloc(), 1, &[9]);
+    for (script, way, due) in APPENDED {
+        compare(
+            &rt,
+            &answer_of(rt.alloc(), way, script, &mut out)?,
+            due,
+            script,
+        );
+    }
+    compare(
+        &rt,
+        std::str::from_utf8(out.as_slice())?,
+        "true-9tr",
+        "the end",
+    );
     Ok(())
 }

@@ -1,6 +1,7 @@
 //! Reading memory, and a source that fails where it is told to.
 
 use crate::forms::{INSIDE, run_over};
+use crate::shown::{agrees, answer_text};
 use std::alloc::Global;
 use std::fmt::Write;
 use std::test::Fail;
@@ -28,18 +29,14 @@ pub(super) fn reads_of<I: Source>(
 fn reads_part_by_part(rt: HostRuntime) -> Result<(), Fail> {
     let alloc = rt.alloc();
     let mut source = MemSource::new(b"abcde");
-    let seen = reads_of(alloc, &mut source, &mut [], 1)?;
-    assert_eq!(rt; seen.as_str(), "Ok(0) \n");
-    let seen = reads_of(alloc, &mut source, &mut [b'-'; 3], 4)?;
-    assert_eq!(rt;
-        seen.as_str(),
-        "Ok(3) abc\nOk(2) dec\nOk(0) dec\nOk(0) dec\n"
-    );
+    let seen = reads_of(alloc, &mut source, &mut [], 1);
+    agrees(&rt, seen, "Ok(0) \n")?;
+    let seen = reads_of(alloc, &mut source, &mut [b'-'; 3], 4);
+    agrees(&rt, seen, "Ok(3) abc\nOk(2) dec\nOk(0) dec\nOk(0) dec\n")?;
     let bytes = vec![in alloc; b'7'; 100_000]?;
     let mut buffer = vec![in alloc; b'0'; 100_001]?;
-    let seen = reads_of(alloc, &mut MemSource::new(&bytes), &mut buffer, 2)?;
-    assert_eq!(rt; seen.as_str(), "Ok(100000) 7777\nOk(0) 7777\n");
-    Ok(())
+    let seen = reads_of(alloc, &mut MemSource::new(&bytes), &mut buffer, 2);
+    agrees(&rt, seen, "Ok(100000) 7777\nOk(0) 7777\n")
 }
 
 /// The calls that are listed fail, and the others give what is next.
@@ -55,33 +52,34 @@ Ok(0) ed--
 #[test]
 fn fails_at_listed_calls(rt: HostRuntime) -> Result<(), Fail> {
     let mut source = FaultySource::new(b"abcde", 2, &[1, 3, 4]);
-    let seen = reads_of(rt.alloc(), &mut source, &mut [b'-'; 4], 7)?;
-    assert_eq!(rt; seen.as_str(), FAILING);
-    Ok(())
+    let seen = reads_of(rt.alloc(), &mut source, &mut [b'-'; 4], 7);
+    agrees(&rt, seen, FAILING)
 }
 
-/// The call that fails, the status, what is written, and what is told.
-const FAULTS: [(u64, u8, &'static str, &'static str); 4] = [
-    (1, 9, "", "read fault\n"),
-    (2, 9, "", "read fault\n"),
-    (3, 9, "", "read fault\n"),
-    (4, 0, "null", ""),
+/// The call that fails, and what is answered, written and told.
+const FAULTS: [(u64, &'static str); 4] = [
+    (1, "9 |read fault\n"),
+    (2, "9 |read fault\n"),
+    (3, "9 |read fault\n"),
+    (4, "0 null|"),
 ];
+
+/// What a run answers, writes and tells where a call of its input fails.
+fn run_at(alloc: Global, way: &str, call: u64) -> Result<String, Fail> {
+    let failing = [call];
+    let mut input = FaultySource::new(b"null\n", 3, &failing);
+    let mut out = VecSink::new(alloc);
+    let mut diag = VecSink::new(alloc);
+    let status = run_over(alloc, way, &mut input, &mut out, &mut diag)?;
+    answer_text(alloc, status, out.as_slice(), diag.as_slice())
+}
 
 /// A run stops at a call that fails. The second call gives the last bytes, and the third sees the end.
 #[test]
 fn runs_over_a_fault(rt: HostRuntime) -> Result<(), Fail> {
-    let alloc = rt.alloc();
     for way in INSIDE {
-        for (call, wanted, text, told) in FAULTS {
-            let failing = [call];
-            let mut input = FaultySource::new(b"null\n", 3, &failing);
-            let mut out = VecSink::new(alloc);
-            let mut diag = VecSink::new(alloc);
-            let status = run_over(alloc, way, &mut input, &mut out, &mut diag)?;
-            assert_eq!(rt; status, wanted, "{way} at {call}");
-            assert_eq!(rt; out.as_slice(), text.as_bytes(), "{way} at {call}");
-            assert_eq!(rt; diag.as_slice(), told.as_bytes(), "{way} at {call}");
+        for (call, due) in FAULTS {
+            agrees(&rt, run_at(rt.alloc(), way, call), due)?;
         }
     }
     Ok(())

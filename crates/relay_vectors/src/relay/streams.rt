@@ -1,11 +1,11 @@
 //! What the program answers and writes over std's readers and writers that fail.
 
-use crate::forms::words_of;
+use crate::forms::run_over_std;
+use crate::shown::{answer_text, compare};
 use std::alloc::Global;
 use std::io;
 use std::process::Abort;
 use std::test::Fail;
-use sval_relay::relay_streams;
 
 /// A writer that takes `room` bytes, and then gives an error.
 #[derive(Drop)]
@@ -62,12 +62,9 @@ fn try_streams<R: io::Read + Drop>(
     due: &str,
 ) -> Result<(), Fail> {
     let (mut stdout, mut stderr) = devices;
-    let words = words_of(alloc, form)?;
-    let status = relay_streams(alloc, &words, input, &mut stdout, &mut stderr);
-    let out = std::str::from_utf8(&stdout.taken)?;
-    let told = std::str::from_utf8(&stderr.taken)?;
-    let seen = format!(in alloc; "{status} {out}|{told}")?;
-    assert_eq!(rt; seen.as_str(), due);
+    let status = run_over_std(alloc, form, input, &mut stdout, &mut stderr)?;
+    let seen = answer_text(alloc, status, &stdout.taken, &stderr.taken)?;
+    compare(rt, &seen, due, form);
     Ok(())
 }
 
@@ -81,19 +78,26 @@ const OUTPUTS: [(usize, io::ErrorKind, usize, &'static str); 6] = [
     (3, io::ErrorKind::Interrupted, 0, "8 [tr|"),
 ];
 
-/// An output that is closed, or full after some bytes, and a third device that takes nothing or little; and an input
-/// that fails.
+/// A sequence of one truth value.
+const SCRIPT: &'static [u8] = b"seq_begin 1\nseq_value_begin\nbool true\nseq_value_end\nseq_end\n";
+
+/// An output that is closed, or full after some bytes, and a third device that takes nothing or little.
 #[test]
-fn devices_that_fail(rt: HostRuntime) -> Result<(), Fail> {
+fn outputs_that_fail(rt: HostRuntime) -> Result<(), Fail> {
     let alloc = rt.alloc();
-    let script = "seq_begin 1\nseq_value_begin\nbool true\nseq_value_end\nseq_end\n";
     for (room, error, told, due) in OUTPUTS {
         let devices = (
             Limited::new(alloc, room, error),
             Limited::new(alloc, told, io::ErrorKind::BrokenPipe),
         );
-        try_streams(&rt, alloc, "direct", script.as_bytes(), devices, due)?;
+        try_streams(&rt, alloc, "direct", SCRIPT, devices, due)?;
     }
+    Ok(())
+}
+
+#[test]
+fn an_input_that_fails(rt: HostRuntime) -> Result<(), Fail> {
+    let alloc = rt.alloc();
     let devices = (
         Limited::new(alloc, 100, io::ErrorKind::StorageFull),
         Limited::new(alloc, 100, io::ErrorKind::StorageFull),

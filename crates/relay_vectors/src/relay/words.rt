@@ -1,11 +1,13 @@
 //! Words that are no form.
 
+use crate::forms::run_words;
 use crate::pictures::plain_text;
+use crate::shown::holds;
 use std::alloc::{AllocError, Global};
 use std::process::Abort;
 use std::test::Fail;
 use sval_io::{FaultySink, VecSink};
-use sval_relay::{MemSource, Source, run};
+use sval_relay::{MemSource, Source};
 
 /// Words, each behind a bar. The first row has no word.
 const ROWS: &'static str = r#"
@@ -66,12 +68,16 @@ fn try_words(rt: &impl Abort, alloc: Global, row: &str, taken: usize) -> Result<
     let mut input = MemSource::new(b"null\n");
     let mut out = VecSink::new(alloc);
     let mut diag = FaultySink::new(alloc, 1, &failing);
-    let status = run(alloc, &words, &mut input, &mut out, &mut diag);
-    let told = diag.as_slice();
-    assert!(rt; status == 2 && out.as_slice().is_empty(), "{row}");
-    assert!(rt; input.read(&mut [0; 8]) == Ok(5), "{row}");
-    assert!(rt; told.len() == taken && USAGE.starts_with(told), "{row}");
+    let status = run_words(alloc, &words, &mut input, &mut out, &mut diag);
+    holds(rt, status == 2 && out.as_slice().is_empty(), row);
+    holds(rt, input.read(&mut [0; 8]) == Ok(5), row);
+    holds(rt, begins_usage(diag.as_slice(), taken), row);
     Ok(())
+}
+
+/// Whether `told` is the first `taken` bytes of the usage.
+fn begins_usage(told: &[u8], taken: usize) -> bool {
+    told.len() == taken && USAGE.starts_with(told)
 }
 
 #[test]
