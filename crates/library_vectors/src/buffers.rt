@@ -1,7 +1,7 @@
 //! Texts and binaries that are collected of values, and what printed values add to a text.
 
 use crate::rendered::Unprintable;
-use crate::shown::shows;
+use crate::shown::{compare, holds, shows};
 use std::alloc::{AllocError, Global};
 use std::test::Fail;
 use sval::{BinarySlice, StdDisplay};
@@ -45,11 +45,16 @@ fn collects_values(rt: HostRuntime) {
         text_of(alloc, &1u8),
         "unexpected integer, expected text",
     );
-    let bytes = "[97, 32, 115, 116, 114, 105, 110, 103]";
-    let lent = format!(in alloc; "{bytes} true");
-    let copied = format!(in alloc; "{bytes} false");
-    assert!(rt; binary_of(alloc, &BinarySlice::new(b"a string")) == lent);
-    assert!(rt; binary_of(alloc, b"a string") == copied);
+}
+
+#[test]
+fn collects_binaries(rt: HostRuntime) {
+    let alloc = rt.alloc();
+    let lent = "[97, 32, 115, 116, 114, 105, 110, 103] true";
+    let binary = BinarySlice::new(b"a string");
+    shows(&rt, binary_of(alloc, &binary), lent);
+    let copied = "[97, 32, 115, 116, 114, 105, 110, 103] false";
+    shows(&rt, binary_of(alloc, b"a string"), copied);
     shows(
         &rt,
         binary_of(alloc, &true),
@@ -61,7 +66,7 @@ fn collects_values(rt: HostRuntime) {
 fn collects_what_is_printed(rt: HostRuntime) -> Result<(), Fail> {
     let alloc = rt.alloc();
     let printed = TextBuf::collect_display(alloc, &true)?;
-    assert_eq!(rt; printed.as_str(), "true");
+    compare(&rt, printed.as_str(), "true");
     let unprintable = StdDisplay { value: Unprintable };
     let refused = TextBuf::collect_display(alloc, &unprintable).err();
     let refused = refused.ok_or("printed what can't be printed")?;
@@ -75,11 +80,16 @@ fn adds_what_is_printed(rt: HostRuntime) -> Result<(), Fail> {
     let mut text = TextBuf::new(rt.alloc());
     text.push_display(&true)?;
     text.push_display(&false)?;
-    assert_eq!(rt; text.as_str(), "truefalse");
-    assert!(rt; text.as_borrowed_str().is_none());
+    compare(&rt, text.as_str(), "truefalse");
+    holds(&rt, text.as_borrowed_str().is_none(), "a copy is kept");
+    Ok(())
+}
+
+#[test]
+fn adds_nothing_where_printing_fails(rt: HostRuntime) {
     let mut text = TextBuf::from_text(rt.alloc(), "n = ");
     let refused = text.push_display(&StdDisplay { value: Unprintable });
-    assert!(rt; refused.is_err());
-    assert_eq!(rt; text.as_borrowed_str(), Some("n = "));
-    Ok(())
+    holds(&rt, refused.is_err(), "printing fails");
+    let is_lent = text.as_borrowed_str() == Some("n = ");
+    holds(&rt, is_lent, "the text is as it was");
 }

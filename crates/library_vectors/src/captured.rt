@@ -1,6 +1,6 @@
 //! What captured values make again, as the lines of a script.
 
-use crate::shown::{has_printed, makes, new_printer, writes};
+use crate::shown::{has_printed, holds, makes, new_printer, writes};
 use std::alloc::Global;
 use std::process::Abort;
 use std::test::Fail;
@@ -18,7 +18,8 @@ pub(crate) const SOME: &str = "tagged_begin RUST_OPTION_SOME =536f6d65:VALUE_IDE
 /// Asserts that what was captured makes the calls of these lines.
 pub(crate) fn makes_again(rt: &impl Abort, alloc: Global, captured: &ValueBuf<'_>, lines: &str) {
     let mut printer = new_printer(alloc);
-    assert!(rt; stream_ref(&mut printer, captured).is_ok());
+    let answer = stream_ref(&mut printer, captured);
+    holds(rt, answer.is_ok(), "it streams");
     has_printed(rt, printer, lines);
 }
 
@@ -32,7 +33,7 @@ pub(crate) fn captures<'v, V: sval_core::Value<'v, Lent<'v>>>(
     let captured: Result<ValueBuf<'v>, sval_buffer::Error> = stream_to_value(alloc, value);
     match captured {
         Ok(captured) => makes_again(rt, alloc, &captured, lines),
-        Err(_) => assert!(rt; false),
+        Err(_) => holds(rt, false, "the value is captured"),
     }
 }
 
@@ -90,7 +91,7 @@ fn makes_truths_and_numbers_again(rt: HostRuntime) {
 fn captures_what_was_captured(rt: HostRuntime) -> Result<(), Fail> {
     let alloc = rt.alloc();
     let some = Some(42i32);
-    assert!(rt; check(alloc, &some).is_ok());
+    holds(&rt, check(alloc, &some).is_ok(), "the value is whole");
     let buffer: ValueBuf<'_> = ValueBuf::collect(alloc, &some)?;
     makes_again(&rt, alloc, &buffer, SOME);
     let value: Value<'_> = buffer.to_value()?;

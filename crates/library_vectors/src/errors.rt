@@ -2,8 +2,7 @@
 
 use crate::shown::shows;
 use anyhow::{Context, Result};
-use std::alloc::Global;
-use std::test::Fail;
+use std::alloc::{AllocError, Global};
 use sval_buffer::ValueBuf;
 use sval_check::check;
 use sval_json::stream_to_string;
@@ -36,13 +35,17 @@ const ANSWERS: [(&str, &str); 4] = [
 ];
 
 #[test]
-fn errors_are_passed_up(rt: HostRuntime) -> std::result::Result<(), Fail> {
+fn errors_are_passed_up(rt: HostRuntime) {
     let alloc = rt.alloc();
     for (lines, want) in ANSWERS {
-        match json_of(alloc, lines) {
-            Ok(json) => assert_eq!(rt; json.as_str(), want),
-            Err(error) => shows(&rt, format!(in alloc; "{error:#}"), want),
-        }
+        shows(&rt, answer_of(alloc, lines), want);
     }
-    Ok(())
+}
+
+/// The JSON of what a script captures, or the text of the error, with its causes.
+fn answer_of(alloc: Global, lines: &str) -> std::result::Result<String, AllocError> {
+    match json_of(alloc, lines) {
+        Ok(json) => Ok(json),
+        Err(error) => format!(in alloc; "{error:#}"),
+    }
 }

@@ -1,6 +1,6 @@
 //! What a refusal says, and what labels and indexes keep.
 
-use crate::shown::shows;
+use crate::shown::{holds, shows};
 use std::alloc::Global;
 use std::process::Abort;
 use std::test::Fail;
@@ -31,10 +31,17 @@ fn labels_keep_text_tag_and_staticness(rt: HostRuntime) -> Result<(), Fail> {
     label_says(&rt, alloc, &computed.to_owned(alloc)?, want);
     label_says(&rt, alloc, &computed.try_to_owned(alloc)?, want);
     label_says(&rt, alloc, &computed.try_clone(alloc)?, want);
+    Ok(())
+}
+
+#[test]
+fn labels_are_equal_by_their_texts(rt: HostRuntime) -> Result<(), Fail> {
     let fixed = Label::new("a");
-    label_says(&rt, alloc, &fixed, "a None Some(\"a\")");
-    assert!(rt; fixed == computed);
-    assert!(rt; Label::new_owned(String::from_str(alloc, "b")?) != fixed);
+    label_says(&rt, rt.alloc(), &fixed, "a None Some(\"a\")");
+    let computed = Label::new_computed("a").with_tag(&tags::VALUE_IDENT);
+    holds(&rt, fixed == computed, "the texts are equal");
+    let owned = Label::new_owned(String::from_str(rt.alloc(), "b")?);
+    holds(&rt, owned != fixed, "the texts differ");
     Ok(())
 }
 
@@ -95,9 +102,10 @@ fn indexes_are_exact_in_each_type(rt: HostRuntime) {
 #[test]
 fn indexes_are_equal_and_ordered_by_number(rt: HostRuntime) {
     let tagged = Index::new(7).with_tag(&tags::VALUE_OFFSET);
-    assert!(rt; tagged == Index::new_i32(7));
-    assert!(rt; Index::new_isize(-1) < tagged);
-    assert!(rt; Tag::new("VALUE_OFFSET") == tags::VALUE_OFFSET);
+    holds(&rt, tagged == Index::new_i32(7), "the numbers are equal");
+    holds(&rt, Index::new_isize(-1) < tagged, "-1 is below 7");
+    let tag = Tag::new("VALUE_OFFSET");
+    holds(&rt, tag == tags::VALUE_OFFSET, "the tags are equal");
 }
 
 #[test]

@@ -1,7 +1,7 @@
 //! What captured values make again whose texts are their own, as the lines of a script.
 
 use crate::captured::{SOME, makes_again};
-use crate::shown::{makes, shows};
+use crate::shown::{holds, makes, shows};
 use std::test::Fail;
 use sval::Stream;
 use sval_buffer::{Value, ValueBuf, stream_to_value_owned};
@@ -14,14 +14,21 @@ fn owns_texts(rt: HostRuntime) -> Result<(), Fail> {
     let alloc = rt.alloc();
     let text = String::from_str(alloc, "abc")?;
     let owned: ValueBuf<'_> = stream_to_value_owned(alloc, &text)?;
-    assert!(rt; owned.is_complete());
+    holds(&rt, owned.is_complete(), "the value is whole");
     makes_again(&rt, alloc, &owned, TEXT);
     let owned: ValueBuf<'_> = ValueBuf::collect_owned(alloc, &text)?;
     makes_again(&rt, alloc, &owned, TEXT);
+    Ok(())
+}
+
+#[test]
+fn makes_texts_its_own(rt: HostRuntime) -> Result<(), Fail> {
+    let alloc = rt.alloc();
+    let text = String::from_str(alloc, "abc")?;
     let captured: ValueBuf<'_> = ValueBuf::collect(alloc, &text)?;
     match captured.into_owned() {
         Ok(owned) => makes_again(&rt, alloc, &owned, TEXT),
-        Err(_) => assert!(rt; false),
+        Err(_) => holds(&rt, false, "it is owned"),
     }
     Ok(())
 }
@@ -46,7 +53,7 @@ fn owns_copies(rt: HostRuntime) -> Result<(), Fail> {
     let copy = captured.try_clone()?;
     match copy.into_owned() {
         Ok(owned) => makes(&rt, rt.alloc(), &owned, SOME),
-        Err(_) => assert!(rt; false),
+        Err(_) => holds(&rt, false, "it is owned"),
     }
     Ok(())
 }
@@ -58,9 +65,9 @@ fn goes_on_owned(rt: HostRuntime) -> Result<(), Fail> {
     match buffer.into_owned() {
         Ok(mut owned) => {
             owned.seq_end()?;
-            assert!(rt; owned.is_complete());
+            holds(&rt, owned.is_complete(), "the value is whole");
         }
-        Err(_) => assert!(rt; false),
+        Err(_) => holds(&rt, false, "it is owned"),
     }
     Ok(())
 }
@@ -69,13 +76,13 @@ fn goes_on_owned(rt: HostRuntime) -> Result<(), Fail> {
 fn stays_refused_owned(rt: HostRuntime) {
     let alloc = rt.alloc();
     let mut buffer: ValueBuf<'_> = ValueBuf::new(alloc);
-    assert!(rt; buffer.seq_end().is_err());
+    holds(&rt, buffer.seq_end().is_err(), "the end is refused");
     match buffer.into_owned() {
         Ok(owned) => shows(
             &rt,
             format!(in alloc; "{:?}", owned.into_err()),
             "Some(Error { kind: InvalidValue { reason: Unbalanced } })",
         ),
-        Err(_) => assert!(rt; false),
+        Err(_) => holds(&rt, false, "it is owned"),
     }
 }

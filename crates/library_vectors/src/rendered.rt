@@ -1,6 +1,6 @@
 //! Values that print themselves, and that can't.
 
-use crate::shown::shows;
+use crate::shown::{compare, holds, shows};
 use std::fmt;
 use std::process::Abort;
 use std::test::Fail;
@@ -18,7 +18,7 @@ impl fmt::Display for Unprintable {
 
 /// Appends what a value prints.
 fn append<V: Render>(rt: &impl Abort, text: &mut String, value: &V) {
-    assert!(rt; value.render(text).is_ok());
+    holds(rt, value.render(text).is_ok(), "the value is printed");
 }
 
 #[test]
@@ -33,15 +33,13 @@ fn appends_what_values_print(rt: HostRuntime) -> Result<(), Fail> {
     append(&rt, &mut text, &String::from_str(alloc, "c")?);
     append(&rt, &mut text, &&&7u64);
     append(&rt, &mut text, &StdDisplay { value: 42u16 });
-    assert_eq!(rt;
-        text.as_str(),
-        ":trueé0-170141183460469231731687303715884105728a bc742"
-    );
+    let want = ":trueé0-170141183460469231731687303715884105728a bc742";
+    compare(&rt, text.as_str(), want);
     Ok(())
 }
 
 #[test]
-fn appends_each_type_of_numbers(rt: HostRuntime) -> Result<(), Fail> {
+fn appends_each_type_of_numbers(rt: HostRuntime) {
     let mut text = String::new(rt.alloc());
     append(&rt, &mut text, &u8::MAX);
     append(&rt, &mut text, &1u16);
@@ -53,11 +51,8 @@ fn appends_each_type_of_numbers(rt: HostRuntime) -> Result<(), Fail> {
     append(&rt, &mut text, &-2i32);
     append(&rt, &mut text, &-3i64);
     append(&rt, &mut text, &4i128);
-    assert_eq!(rt;
-        text.as_str(),
-        "255123340282366920938463463374607431768211455-128-1-2-34"
-    );
-    Ok(())
+    let want = "255123340282366920938463463374607431768211455-128-1-2-34";
+    compare(&rt, text.as_str(), want);
 }
 
 #[test]

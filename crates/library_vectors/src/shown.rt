@@ -10,9 +10,19 @@ use sval_script::Printer;
 /// Asserts that a text was made, and that it is this one.
 pub(crate) fn shows<E: Drop>(rt: &impl Abort, seen: Result<String, E>, want: &str) {
     match seen {
-        Ok(text) => assert_eq!(rt; text.as_str(), want),
-        Err(_) => assert!(rt; false, "no text"),
+        Ok(text) => compare(rt, text.as_str(), want),
+        Err(_) => holds(rt, false, "a text is made"),
     }
+}
+
+/// Compares a text with what is due.
+pub(crate) fn compare(rt: &impl Abort, seen: &str, want: &str) {
+    assert_eq!(rt; seen, want);
+}
+
+/// Asserts what is so. A failure names `what`.
+pub(crate) fn holds(rt: &impl Abort, is_so: bool, what: &str) {
+    assert!(rt; is_so, "{what}");
 }
 
 /// What prints calls as the lines of a script.
@@ -37,7 +47,7 @@ pub(crate) fn makes<'v, V: Value<'v, Lent<'v>>>(
     lines: &str,
 ) {
     let mut printer = new_printer(alloc);
-    assert!(rt; value.stream(&mut printer).is_ok());
+    holds(rt, value.stream(&mut printer).is_ok(), "the value streams");
     has_printed(rt, printer, lines);
 }
 

@@ -1,6 +1,6 @@
 //! Calls as tokens.
 
-use crate::shown::shows;
+use crate::shown::{holds, shows};
 use std::alloc::{AllocError, Global};
 use std::process::Abort;
 use std::test::Fail;
@@ -11,7 +11,11 @@ use sval_script::Script;
 /// The tokens of the calls of a script.
 fn tokens_of<'a>(rt: &impl Abort, alloc: Global, script: &'a Script) -> TokenBuf<'a> {
     let mut tokens = TokenBuf::new(alloc);
-    assert!(rt; script.stream(&mut tokens).is_ok());
+    holds(
+        rt,
+        script.stream(&mut tokens).is_ok(),
+        "the calls are taken",
+    );
     tokens
 }
 
@@ -110,7 +114,7 @@ fn compares_contents(rt: HostRuntime) -> Result<(), Fail> {
         let expected = Script::read(alloc, expected.as_bytes())?;
         let tokens = tokens_of(&rt, alloc, &expected);
         let matches = tokens_of(&rt, alloc, &taken).matches(tokens.as_tokens());
-        assert!(rt; matches == same);
+        holds(&rt, matches == same, "the tokens match or not");
     }
     Ok(())
 }
@@ -129,9 +133,9 @@ fn takes_tokens_that_are_written(rt: HostRuntime) -> Result<(), Fail> {
         Token::BinaryFragmentComputed(bytes),
     ];
     let mut tokens = tokens_of(&rt, alloc, &script);
-    assert!(rt; tokens.matches(&written));
-    assert!(rt; !tokens.lacked_memory());
+    holds(&rt, tokens.matches(&written), "they match");
+    holds(&rt, !tokens.lacked_memory(), "memory is there");
     tokens.clear();
-    assert!(rt; tokens.as_tokens().is_empty());
+    holds(&rt, tokens.as_tokens().is_empty(), "none is left");
     Ok(())
 }

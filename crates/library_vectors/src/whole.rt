@@ -1,7 +1,7 @@
 //! What is written and captured of values whose calls are checked first.
 
 use crate::captured::makes_again;
-use crate::shown::shows;
+use crate::shown::{holds, shows};
 use records::{Metres, MyRecord, Shape};
 use std::alloc::{AllocError, Global};
 use std::test::Fail;
@@ -87,11 +87,10 @@ const JSON: &str = "{\"field_0\":1,\"field_1\":true,\"field_2\":\"some text\"}";
 fn writes_a_struct_to_each_target(rt: HostRuntime) -> Result<(), Fail> {
     let alloc = rt.alloc();
     shows(&rt, json_of(alloc, &RECORD), JSON);
-    let bytes = to_json_vec(alloc, &RECORD)?;
-    assert_eq!(rt; bytes.as_slice(), JSON.as_bytes());
+    shows(&rt, String::from_utf8(to_json_vec(alloc, &RECORD)?), JSON);
     let mut sink = VecSink::new(alloc);
     write_json(alloc, &mut sink, &RECORD)?;
-    assert_eq!(rt; sink.as_slice(), JSON.as_bytes());
+    shows(&rt, String::from_utf8(sink.into_vec()), JSON);
     Ok(())
 }
 
@@ -108,10 +107,10 @@ fn writes_variants_beside_their_names(rt: HostRuntime) -> Result<(), Fail> {
         BESIDE,
     );
     let bytes = to_json_vec_with(alloc, &circle, Variants::Beside)?;
-    assert_eq!(rt; bytes.as_slice(), BESIDE.as_bytes());
+    shows(&rt, String::from_utf8(bytes), BESIDE);
     let mut sink = VecSink::new(alloc);
     write_json_with(alloc, &mut sink, &circle, Variants::Beside)?;
-    assert_eq!(rt; sink.as_slice(), BESIDE.as_bytes());
+    shows(&rt, String::from_utf8(sink.into_vec()), BESIDE);
     Ok(())
 }
 
@@ -121,29 +120,46 @@ fn leaves_a_sink_as_it_was(rt: HostRuntime) -> Result<(), Fail> {
     let mut sink = VecSink::new(alloc);
     write_json(alloc, &mut sink, &true)?;
     let script = Script::read(alloc, b"seq_begin -\n")?;
-    assert!(rt; write_json(alloc, &mut sink, &script) == Err(WriteError::Unfinished));
-    assert_eq!(rt; sink.as_slice(), b"true".as_slice());
+    let answer = write_json(alloc, &mut sink, &script);
+    holds(
+        &rt,
+        answer == Err(WriteError::Unfinished),
+        "it is cut short",
+    );
+    shows(&rt, String::from_utf8(sink.into_vec()), "true");
+    Ok(())
+}
+
+#[test]
+fn writes_up_to_the_room(rt: HostRuntime) {
     let mut buffer = [0; 10];
     let mut sink = FixedSink::new(&mut buffer);
-    assert!(rt; write_json(alloc, &mut sink, &RECORD) == Err(WriteError::Write));
-    assert_eq!(rt; sink.into_slice(), b"{\"field_0\"".as_slice());
-    Ok(())
+    let answer = write_json(rt.alloc(), &mut sink, &RECORD);
+    holds(&rt, answer == Err(WriteError::Write), "room is lacking");
+    let is_front = sink.into_slice() == b"{\"field_0\"".as_slice();
+    holds(&rt, is_front, "the room is filled");
 }
 
 /// A text in two halves, as it is captured: in one fragment.
 const TEXT: &str = "text_begin 4\ntext_fragment_computed =61626364\ntext_end\n";
 
 #[test]
-fn captures_whole_values_alone(rt: HostRuntime) -> Result<(), Fail> {
+fn captures_whole_values(rt: HostRuntime) -> Result<(), Fail> {
     let alloc = rt.alloc();
     let halves = "text_begin 4\ntext_fragment =6162\ntext_fragment =6364\ntext_end\n";
     let script = Script::read(alloc, halves.as_bytes())?;
     let slice = script.as_slice();
     let captured: ValueBuf<'_> = collect_whole(alloc, &slice)?;
     makes_again(&rt, alloc, &captured, TEXT);
-    let script = Script::read(alloc, b"seq_begin -\nseq_end\nseq_end\n")?;
+    Ok(())
+}
+
+#[test]
+fn captures_nothing_else(rt: HostRuntime) -> Result<(), Fail> {
+    let script = Script::read(rt.alloc(), b"seq_begin -\nseq_end\nseq_end\n")?;
     let slice = script.as_slice();
-    let refused: Result<ValueBuf<'_>, CheckError> = collect_whole(alloc, &slice);
-    assert!(rt; refused.err() == Some(CheckError::BadCall { at: 3 }));
+    let refused: Result<ValueBuf<'_>, CheckError> = collect_whole(rt.alloc(), &slice);
+    let is_due = refused.err() == Some(CheckError::BadCall { at: 3 });
+    holds(&rt, is_due, "the third call is refused");
     Ok(())
 }

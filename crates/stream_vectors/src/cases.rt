@@ -5,7 +5,6 @@ use crate::{checked, collected, replayed, written};
 use std::alloc::{AllocError, Global};
 use std::process::Abort;
 use std::test::Fail;
-use sval_check::check;
 use sval_json::Variants;
 use sval_script::Script;
 
@@ -30,16 +29,15 @@ pub(crate) enum Look {
 
 /// Looks at the calls of a script.
 fn look_at(alloc: Global, look: Look, script: &Script) -> Result<String, Fail> {
-    let seen = match look {
-        Look::Check => format!(in alloc; "{:?}", check(alloc, script))?,
-        Look::Passed => checked::passed(alloc, script)?,
-        Look::Answers(room) => checked::answers(alloc, script, room)?,
-        Look::Captured => replayed::replayed(alloc, script)?,
-        Look::Text => collected::text_of(alloc, &captured(alloc, script))?,
-        Look::Binary => collected::binary_of(alloc, &captured(alloc, script))?,
-        Look::Json(variants) => written::written(alloc, &captured(alloc, script), variants)?,
-    };
-    Ok(seen)
+    match look {
+        Look::Check => checked::spelled(alloc, script),
+        Look::Passed => checked::passed(alloc, script),
+        Look::Answers(room) => checked::answers(alloc, script, room),
+        Look::Captured => replayed::replayed(alloc, script),
+        Look::Text => collected::text_of(alloc, &captured(alloc, script)),
+        Look::Binary => collected::binary_of(alloc, &captured(alloc, script)),
+        Look::Json(variants) => written::written(alloc, &captured(alloc, script), variants),
+    }
 }
 
 /// Looks at each case of a table.
@@ -65,7 +63,7 @@ fn agree(rt: &impl Abort, alloc: Global, look: Look, table: &'static str) -> Res
             add_line(&mut lines, line)?;
         }
     }
-    assert!(rt; is_whole, "nothing is to be seen of {lines}");
+    holds(rt, is_whole, lines.as_str());
     Ok(())
 }
 
@@ -79,8 +77,7 @@ fn try_case(
 ) -> Result<(), Fail> {
     let script = Script::read(alloc, lines.as_bytes())?;
     let seen = look_at(alloc, look, &script)?;
-    let want = plain_text(alloc, want)?;
-    assert_eq!(rt; seen.as_str(), want.as_str(), "of {lines}");
+    compare(rt, &seen, &plain_text(alloc, want)?, lines);
     Ok(())
 }
 
@@ -102,9 +99,28 @@ fn plain_text(alloc: Global, shown: &str) -> Result<String, AllocError> {
     Ok(text)
 }
 
-/// Asserts that this is what is to be seen.
-pub(crate) fn shows(rt: &impl Abort, seen: &str, want: &str) {
-    assert_eq!(rt; seen, want);
+/// Compares a text with what is to be seen, or hands on why there is none.
+pub(crate) fn agrees(rt: &impl Abort, seen: Result<String, Fail>, want: &str) -> Result<(), Fail> {
+    assert_eq!(rt; seen?.as_str(), want);
+    Ok(())
+}
+
+/// Asserts that a text was made, and that it is what is to be seen.
+pub(crate) fn shows<E: Drop>(rt: &impl Abort, seen: Result<String, E>, want: &str) {
+    match seen {
+        Ok(text) => assert_eq!(rt; text.as_str(), want),
+        Err(_) => assert!(rt; false, "no text, but {want:?}"),
+    }
+}
+
+/// Compares what is seen with what is to be seen. A failure names `place`.
+pub(crate) fn compare(rt: &impl Abort, seen: &str, want: &str, place: &str) {
+    assert_eq!(rt; seen, want, "of {place}");
+}
+
+/// Asserts what is so. A failure names `place`.
+pub(crate) fn holds(rt: &impl Abort, is_so: bool, place: &str) {
+    assert!(rt; is_so, "{place}");
 }
 
 /// What is looked at in each table.

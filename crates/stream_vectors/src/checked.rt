@@ -5,10 +5,11 @@ ghost use Rattle.sval_core.specs.Law.{Answers};
 ghost use Rattle.sval_core.specs.Lenient.{lenient, with_wants};
 
 use std::alloc::{AllocError, Global};
-use sval_check::Checked;
+use std::test::Fail;
+use sval_check::{Checked, check};
 use sval_core::{Call, Lent, Result as Answer, Stream, Value, refusal};
 use sval_ref::ValueRef;
-use sval_script::Script;
+use sval_script::{Script, ScriptSlice};
 
 /// Counts the calls that it takes, up to `room`.
 #[derive(Drop)]
@@ -50,36 +51,50 @@ fn checked_with(alloc: Global, room: usize) -> Checked<Counted> {
     )
 }
 
+/// What checking says of these calls.
+pub(crate) fn spelled(alloc: Global, script: &Script) -> Result<String, Fail> {
+    let answer = check(alloc, script);
+    Ok(format!(in alloc; "{answer:?}")?)
+}
+
 /// Whether what was passed on is one value, and how many calls that was.
-fn told(alloc: Global, checked: Checked<Counted>) -> Result<String, AllocError> {
+fn told(alloc: Global, checked: Checked<Counted>) -> Result<String, Fail> {
     let whole = checked.is_whole();
     let taken = checked.into_inner().taken;
-    format!(in alloc; "whole: {whole}, passed on: {taken}")
+    Ok(format!(in alloc; "whole: {whole}, passed on: {taken}")?)
 }
 
 /// What is passed on of these calls, before one is refused.
-pub(crate) fn passed(alloc: Global, script: &Script) -> Result<String, AllocError> {
+pub(crate) fn passed(alloc: Global, script: &Script) -> Result<String, Fail> {
     let mut checked = checked_with(alloc, usize::MAX);
     let _answer = script.stream(&mut checked);
     told(alloc, checked)
 }
 
-/// Whether each call is taken, and then why the last that wasn't was refused and whether the calls so far are one
-/// value.
-pub(crate) fn answers(alloc: Global, script: &Script, room: usize) -> Result<String, AllocError> {
+/// Whether the call of a line is taken, and then why the last that wasn't was refused and whether the calls so far are
+/// one value.
+fn answer(
+    alloc: Global,
+    line: &ScriptSlice<'_>,
+    checked: &mut Checked<Counted>,
+) -> Result<String, AllocError> {
+    let taken = line.stream_ref(checked).is_ok();
+    let why = checked.why();
+    let whole = checked.is_whole();
+    format!(in alloc; "taken: {taken}, why: {why:?}, whole: {whole}\n")
+}
+
+/// What is answered to each call, and what is told in the end.
+pub(crate) fn answers(alloc: Global, script: &Script, room: usize) -> Result<String, Fail> {
     let mut checked = checked_with(alloc, room);
     let mut seen = String::new(alloc);
     for at in 0..script.line_count() {
         let Some(line) = script.slice(at, at + 1) else {
             break;
         };
-        let taken = line.stream_ref(&mut checked).is_ok();
-        let why = checked.why();
-        let whole = checked.is_whole();
-        let answer = format!(in alloc; "taken: {taken}, why: {why:?}, whole: {whole}\n")?;
-        seen.push_str(answer.as_str())?;
+        seen.push_str(&answer(alloc, &line, &mut checked)?)?;
     }
-    seen.push_str(told(alloc, checked)?.as_str())?;
+    seen.push_str(&told(alloc, checked)?)?;
     Ok(seen)
 }
 

@@ -1,24 +1,24 @@
 //! What is collected of values as texts and as binaries.
 
-use crate::cases::shows;
-use std::alloc::{AllocError, Global};
+use crate::cases::agrees;
+use std::alloc::Global;
 use std::test::Fail;
 use sval_buffer::{BinaryBuf, TextBuf, ValueBuf};
 use sval_core::{Call, Label, Name, Stream, tags};
 
 /// What is collected of captured calls as a text, and whether it is borrowed, or why nothing is.
-pub(crate) fn text_of(alloc: Global, value: &ValueBuf<'_>) -> Result<String, AllocError> {
+pub(crate) fn text_of(alloc: Global, value: &ValueBuf<'_>) -> Result<String, Fail> {
     match TextBuf::collect(alloc, value) {
-        Ok(text) => format!(in alloc; "{text:?} {}", text.as_borrowed_str().is_some()),
-        Err(error) => format!(in alloc; "{error}"),
+        Ok(text) => Ok(format!(in alloc; "{text:?} {}", text.as_borrowed_str().is_some())?),
+        Err(error) => Ok(format!(in alloc; "{error}")?),
     }
 }
 
 /// What is collected of captured calls as a binary, and whether it is borrowed, or why nothing is.
-pub(crate) fn binary_of(alloc: Global, value: &ValueBuf<'_>) -> Result<String, AllocError> {
+pub(crate) fn binary_of(alloc: Global, value: &ValueBuf<'_>) -> Result<String, Fail> {
     match BinaryBuf::collect(alloc, value) {
-        Ok(bytes) => format!(in alloc; "{bytes:?} {}", bytes.as_borrowed_slice().is_some()),
-        Err(error) => format!(in alloc; "{error}"),
+        Ok(bytes) => Ok(format!(in alloc; "{bytes:?} {}", bytes.as_borrowed_slice().is_some())?),
+        Err(error) => Ok(format!(in alloc; "{error}")?),
     }
 }
 
@@ -87,7 +87,7 @@ fn collects_static_labels(rt: HostRuntime) -> Result<(), Fail> {
             label: Some(&kind),
             index: None,
         }))?;
-        shows(&rt, text_of(rt.alloc(), &value)?.as_str(), want);
+        agrees(&rt, text_of(rt.alloc(), &value), want)?;
     }
     Ok(())
 }

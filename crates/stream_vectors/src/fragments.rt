@@ -1,6 +1,6 @@
 //! What buffers for texts and binaries hold, and what they make of it.
 
-use crate::cases::shows;
+use crate::cases::{agrees, shows};
 use crate::replayed::{lent_script_of, script_of};
 use std::alloc::{AllocError, Global};
 use std::test::Fail;
@@ -160,8 +160,8 @@ fn holds_fragments(rt: HostRuntime) -> Result<(), Fail> {
     for (step, fragment, want_text, want_binary) in STEPS {
         step_text(rt.alloc(), &mut text, step, fragment)?;
         step_binary(rt.alloc(), &mut binary, step, fragment.as_bytes())?;
-        shows(&rt, text_seen(rt.alloc(), &text)?.as_str(), want_text);
-        shows(&rt, binary_seen(rt.alloc(), &binary)?.as_str(), want_binary);
+        shows(&rt, text_seen(rt.alloc(), &text), want_text);
+        shows(&rt, binary_seen(rt.alloc(), &binary), want_binary);
     }
     Ok(())
 }
@@ -171,22 +171,21 @@ fn holds_fragments(rt: HostRuntime) -> Result<(), Fail> {
 fn lends_what_it_joins(rt: HostRuntime) -> Result<(), Fail> {
     let mut text = TextBuf::from_text(rt.alloc(), "abc");
     text.push_fragment("def")?;
-    let again = script_of(rt.alloc(), &text)?;
     let want = "text_begin 6\ntext_fragment =616263646566\ntext_end\n";
-    shows(&rt, again.as_str(), want);
-    let lent = lent_script_of(rt.alloc(), &text)?;
+    agrees(&rt, script_of(rt.alloc(), &text), want)?;
     let want = "text_begin 6\ntext_fragment_computed =616263646566\ntext_end\n";
-    shows(&rt, lent.as_str(), want);
+    agrees(&rt, lent_script_of(rt.alloc(), &text), want)
+}
 
+/// A binary that is joined is borrowed from the buffer, but lent as a computed one for longer.
+#[test]
+fn lends_bytes_that_it_joins(rt: HostRuntime) -> Result<(), Fail> {
     let mut binary = BinaryBuf::from_bytes(rt.alloc(), b"abc");
     binary.push_fragment_computed(b"def")?;
-    let again = script_of(rt.alloc(), &binary)?;
     let want = "binary_begin 6\nbinary_fragment =616263646566\nbinary_end\n";
-    shows(&rt, again.as_str(), want);
-    let lent = lent_script_of(rt.alloc(), &binary)?;
+    agrees(&rt, script_of(rt.alloc(), &binary), want)?;
     let want = "binary_begin 6\nbinary_fragment_computed =616263646566\nbinary_end\n";
-    shows(&rt, lent.as_str(), want);
-    Ok(())
+    agrees(&rt, lent_script_of(rt.alloc(), &binary), want)
 }
 
 /// Fragments that are pushed, with spaces between them, and the calls that a text of them makes and lends.
@@ -208,21 +207,31 @@ const PUSHED: [(&'static str, &'static str, &'static str); 3] = [
     ),
 ];
 
+/// A text of these fragments.
+fn joined(alloc: Global, fragments: &'static str) -> Result<TextBuf<'static>, Error> {
+    let mut text = TextBuf::new(alloc);
+    for fragment in fragments.split(' ') {
+        text.push_fragment(fragment)?;
+    }
+    Ok(text)
+}
+
 /// A fragment alone is lent as it came; one behind a text makes it a copy.
 #[test]
 fn lends_what_it_borrows(rt: HostRuntime) -> Result<(), Fail> {
     let alloc = rt.alloc();
     for (fragments, own, lent) in PUSHED {
-        let mut text = TextBuf::new(alloc);
-        for fragment in fragments.split(' ') {
-            text.push_fragment(fragment)?;
-        }
-        shows(&rt, script_of(alloc, &text)?.as_str(), own);
-        shows(&rt, lent_script_of(alloc, &text)?.as_str(), lent);
+        let text = joined(alloc, fragments)?;
+        agrees(&rt, script_of(alloc, &text), own)?;
+        agrees(&rt, lent_script_of(alloc, &text), lent)?;
     }
-    let mut binary = BinaryBuf::new(alloc);
+    Ok(())
+}
+
+#[test]
+fn lends_bytes_that_it_borrows(rt: HostRuntime) -> Result<(), Fail> {
+    let mut binary = BinaryBuf::new(rt.alloc());
     binary.push_fragment(b"abc")?;
     let want = "binary_begin 3\nbinary_fragment =616263\nbinary_end\n";
-    shows(&rt, lent_script_of(alloc, &binary)?.as_str(), want);
-    Ok(())
+    agrees(&rt, lent_script_of(rt.alloc(), &binary), want)
 }

@@ -1,7 +1,7 @@
 //! Calls with static labels, which scripts don't have, and which a buffer keeps by reference.
 
 use crate::cases::shows;
-use std::alloc::Global;
+use std::alloc::{AllocError, Global};
 use std::fmt::Write;
 use std::process::Abort;
 use std::test::Fail;
@@ -99,6 +99,12 @@ fn field(text: Option<&'static str>) -> (Option<&'static str>, Option<Tag>) {
     }
 }
 
+/// The tag of a field.
+fn tag_of(text: Option<&'static str>) -> Option<Tag> {
+    let (text, _tag) = field(text);
+    Some(Tag { text: text? })
+}
+
 /// The label of a field.
 fn label_of(text: Option<&'static str>) -> Option<Label<'static>> {
     let (text, tag) = field(text);
@@ -185,24 +191,25 @@ fn capture(
 ) -> Result<(), Fail> {
     let mut fields = line.split(' ');
     let word = fields.next().unwrap_or("");
-    let tag = match field(fields.next()) {
-        (Some(text), _) => Some(Tag { text }),
-        (None, _) => None,
-    };
-    let label = fields.next();
+    let tag = tag_of(fields.next());
+    let label = label_of(fields.next());
     let index = index_of(fields.next())?;
     let size = size_of(fields.next())?;
-    let label = label_of(label);
     let name = Name {
         tag: tag.as_ref(),
         label: label.as_ref(),
         index: index.as_ref(),
     };
     let call = call_of(word, name, size).ok_or(line)?;
-    let before = if listed.is_empty() { "[" } else { ", " };
-    write!(listed, "{before}{call:?}")?;
+    list(listed, call)?;
     buffer.take(call)?;
     Ok(())
+}
+
+/// Adds a call to those that are listed, as `Debug` lists them.
+fn list(listed: &mut String, call: Call<'_, '_>) -> Result<(), AllocError> {
+    let before = if listed.is_empty() { "[" } else { ", " };
+    write!(listed, "{before}{call:?}")
 }
 
 /// Compares the calls that a buffer makes again with those that it captured, as `Debug` lists both.
@@ -212,11 +219,8 @@ fn makes_again(
     buffer: &ValueBuf<'static>,
     listed: &str,
 ) -> Result<(), Fail> {
-    shows(
-        rt,
-        format!(in alloc; "{buffer:?}")?.as_str(),
-        format!(in alloc; "{listed}]")?.as_str(),
-    );
+    let due = format!(in alloc; "{listed}]")?;
+    shows(rt, format!(in alloc; "{buffer:?}"), due.as_str());
     Ok(())
 }
 

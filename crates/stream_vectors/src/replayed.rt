@@ -1,7 +1,8 @@
 //! What a buffer captures of calls, refused ones among them, and what it makes again.
 
-use crate::cases::shows;
+use crate::cases::{agrees, holds};
 use std::alloc::Global;
+use std::fmt::Write;
 use std::test::Fail;
 use sval_buffer::ValueBuf;
 use sval_core::{Lent, Value};
@@ -47,21 +48,25 @@ pub(crate) fn lent_script_of<'sval, V: ValueRef<Lent<'sval>>>(
 /// refused.
 pub(crate) fn replayed(alloc: Global, script: &Script) -> Result<String, Fail> {
     let buffer = captured(alloc, script);
-    let again = script_of(alloc, &buffer)?;
-    let alike = lent_script_of(alloc, &buffer)? == again;
-    let calls = if again == script_of(alloc, script)? {
+    let mut seen = made_again(alloc, &buffer, script)?;
+    if let Some(error) = buffer.into_err() {
+        write!(seen, "\n{:?}: {error}", error.kind())?;
+    }
+    Ok(seen)
+}
+
+/// What a buffer makes again of the calls of a script, and whether that is a whole value.
+fn made_again(alloc: Global, buffer: &ValueBuf<'_>, script: &Script) -> Result<String, Fail> {
+    let again = script_of(alloc, buffer)?;
+    let alike = lent_script_of(alloc, buffer)? == again;
+    let is_same = script_of(alloc, script)? == again;
+    let calls = if is_same {
         "the same\n"
     } else {
         again.as_str()
     };
-    let seen = format!(in alloc;
-        "{calls}complete: {}, lent alike: {alike}",
-        buffer.is_complete()
-    )?;
-    match buffer.into_err() {
-        Some(error) => Ok(format!(in alloc; "{seen}\n{:?}: {error}", error.kind())?),
-        None => Ok(seen),
-    }
+    let complete = buffer.is_complete();
+    Ok(format!(in alloc; "{calls}complete: {complete}, lent alike: {alike}")?)
 }
 
 /// Calls that are no value's, or not whole: what can be is made again with its ends, and without what was refused.
@@ -274,8 +279,8 @@ fn collects_values(rt: HostRuntime) -> Result<(), Fail> {
         let script = Script::read(rt.alloc(), lines.as_bytes())?;
         let buffer = captured(rt.alloc(), &script);
         let again: ValueBuf<'_> = ValueBuf::collect(rt.alloc(), &buffer)?;
-        assert!(rt; again.is_complete());
-        shows(&rt, script_of(rt.alloc(), &again)?.as_str(), lines);
+        holds(&rt, again.is_complete(), lines);
+        agrees(&rt, script_of(rt.alloc(), &again), lines)?;
     }
     Ok(())
 }
@@ -285,6 +290,5 @@ fn forgets_calls(rt: HostRuntime) -> Result<(), Fail> {
     let script = Script::read(rt.alloc(), b"seq_begin -\ntext_end\n")?;
     let mut buffer = captured(rt.alloc(), &script);
     buffer.clear();
-    shows(&rt, script_of(rt.alloc(), &buffer)?.as_str(), "null\n");
-    Ok(())
+    agrees(&rt, script_of(rt.alloc(), &buffer), "null\n")
 }

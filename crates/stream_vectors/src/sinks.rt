@@ -1,6 +1,6 @@
 //! JSON that is written as it is, and what takes JSON.
 
-use crate::cases::shows;
+use crate::cases::{agrees, compare, holds, shows};
 use crate::written::told;
 use std::alloc::Global;
 use std::test::Fail;
@@ -15,12 +15,12 @@ use sval_json::{
 fn writes_json_as_it_is(rt: HostRuntime) -> Result<(), Fail> {
     let json = JsonString::boxed(String::from_str(rt.alloc(), "[1, 2]")?);
     let text = json.as_json_str();
-    assert!(rt; text.is_text("[1, 2]") && text == JsonStr::from("[1, 2]"));
+    holds(&rt, text.is_text("[1, 2]"), "its text");
+    holds(&rt, text == JsonStr::from("[1, 2]"), "an equal one");
+    shows(&rt, format!(in rt.alloc(); "{text}"), "[1, 2]");
     let mut sink = VecSink::new(rt.alloc());
-    stream_to_io_write(&mut sink, &text)?;
-    let shown = format!(in rt.alloc(); "{text} {}", str::from_utf8(sink.as_slice())?)?;
-    shows(&rt, shown.as_str(), "[1, 2] [1, 2]");
-    Ok(())
+    let answer = stream_to_io_write(&mut sink, &text);
+    agrees(&rt, told(rt.alloc(), sink.as_slice(), answer), "[1, 2]")
 }
 
 /// A JSON of 13 bytes.
@@ -31,14 +31,10 @@ fn takes_one_byte_a_call_and_counts(rt: HostRuntime) -> Result<(), Fail> {
     let value = JsonStr::new(FIELD);
     let mut sink = TrickleSink::new(rt.alloc());
     let answer = stream_to_io_write(&mut sink, &value);
-    shows(
-        &rt,
-        told(rt.alloc(), sink.as_slice(), answer)?.as_str(),
-        FIELD,
-    );
+    agrees(&rt, told(rt.alloc(), sink.as_slice(), answer), FIELD)?;
     let mut count = CountSink::new();
     stream_to_io_write(&mut count, &value)?;
-    assert_eq!(rt; count.count(), 13);
+    holds(&rt, count.count() == 13, "the count");
     Ok(())
 }
 
@@ -53,31 +49,27 @@ fn fitted(alloc: Global, buffer: &mut [u8]) -> Result<String, Fail> {
 
 #[test]
 fn takes_what_fits(rt: HostRuntime) -> Result<(), Fail> {
-    let seen = fitted(rt.alloc(), &mut [0; 10])?;
     let want = "IO: failed to write JSON, after `{\"field_0\"` 0";
-    shows(&rt, seen.as_str(), want);
-    let seen = fitted(rt.alloc(), &mut [0; 13])?;
-    shows(&rt, seen.as_str(), "{\"field_0\":1} 0");
-    Ok(())
+    agrees(&rt, fitted(rt.alloc(), &mut [0; 10]), want)?;
+    agrees(&rt, fitted(rt.alloc(), &mut [0; 13]), "{\"field_0\":1} 0")
 }
 
 #[test]
 fn fails_where_it_is_told_to(rt: HostRuntime) -> Result<(), Fail> {
     let mut sink = FaultySink::new(rt.alloc(), 1, &[3]);
     let answer = stream_to_io_write(&mut sink, &JsonStr::new(FIELD));
-    let seen = told(rt.alloc(), sink.as_slice(), answer)?;
-    shows(&rt, seen.as_str(), "IO: failed to write JSON, after `{\"`");
-    Ok(())
+    let seen = told(rt.alloc(), sink.as_slice(), answer);
+    agrees(&rt, seen, "IO: failed to write JSON, after `{\"`")
 }
 
 #[test]
 fn writes_the_same_to_all_targets(rt: HostRuntime) -> Result<(), Fail> {
     let value = JsonStr::new(FIELD);
     let bytes = stream_to_vec(rt.alloc(), &value)?;
-    shows(&rt, str::from_utf8(bytes.as_slice())?, FIELD);
-    shows(&rt, stream_to_string(rt.alloc(), &value)?.as_str(), FIELD);
+    shows(&rt, String::from_utf8(bytes), FIELD);
+    shows(&rt, stream_to_string(rt.alloc(), &value), FIELD);
     let json = stream_to_json_str(rt.alloc(), &value)?;
-    shows(&rt, json.as_json_str().as_str(), FIELD);
+    compare(&rt, json.as_json_str().as_str(), FIELD, "a text of JSON");
     Ok(())
 }
 
@@ -86,18 +78,13 @@ fn writes_the_same_to_sinks(rt: HostRuntime) -> Result<(), Fail> {
     let value = JsonStr::new(FIELD);
     let mut sink = TrickleSink::new(rt.alloc());
     let answer = stream_to_fmt_write(&mut sink, &value);
-    shows(
-        &rt,
-        told(rt.alloc(), sink.as_slice(), answer)?.as_str(),
-        FIELD,
-    );
+    agrees(&rt, told(rt.alloc(), sink.as_slice(), answer), FIELD)?;
     let mut buffer = [0; 10];
     let mut short = FixedSink::new(&mut buffer);
     let answer = stream_to_fmt_write(&mut short, &value);
-    let seen = told(rt.alloc(), short.as_slice(), answer)?;
+    let seen = told(rt.alloc(), short.as_slice(), answer);
     let want = "Generic: an error occurred serializing a value to JSON, after `{\"field_0\"`";
-    shows(&rt, seen.as_str(), want);
-    Ok(())
+    agrees(&rt, seen, want)
 }
 
 /// Texts, and the place of the first byte of each that is escaped, or the length where none is. The lengths are those
@@ -124,14 +111,15 @@ const ESCAPES: &'static str = r#"0:
 fn finds_the_first_byte_to_escape(rt: HostRuntime) -> Result<(), Fail> {
     for row in ESCAPES.lines() {
         let (place, text) = row.split_once(':').ok_or("a row has no colon")?;
-        assert_eq!(rt;
-            first_escape(text.as_bytes()),
-            place.parse::<usize>()?,
-            "{text}"
-        );
-    }
-    for (bytes, place) in [(b"ab\n".as_slice(), 2), (b"\x1f", 0), (b"\x7f ", 2)] {
-        assert_eq!(rt; first_escape(bytes), place);
+        let place = place.parse::<usize>()?;
+        holds(&rt, first_escape(text.as_bytes()) == place, text);
     }
     Ok(())
+}
+
+#[test]
+fn finds_a_control_character(rt: HostRuntime) {
+    for (bytes, place) in [(b"ab\n".as_slice(), 2), (b"\x1f", 0), (b"\x7f ", 2)] {
+        holds(&rt, first_escape(bytes) == place, "a control character");
+    }
 }

@@ -1,5 +1,8 @@
 //! Tapes of all calls: written by hand, read and written again, cut short and spoiled.
 
+use crate::cases::holds;
+use std::alloc::{AllocError, Global};
+use std::process::Abort;
 use std::test::Fail;
 use sval_core::{Index, Label, Stream, Tag, Value};
 use sval_io::{FixedSink, VecSink};
@@ -107,18 +110,45 @@ const SPOILED: [&'static [u8]; 22] = [
     &[39, 0],
 ];
 
-#[test]
-fn all_calls_are_read_and_written_again(rt: HostRuntime) -> Result<(), Fail> {
-    let mut bytes = Vec::new(rt.alloc());
+/// The tape of all calls.
+fn tape_of_all(alloc: Global) -> Result<Vec<u8>, AllocError> {
+    let mut bytes = Vec::new(alloc);
     for call in CALLS {
         bytes.extend_from_slice(call)?;
     }
+    Ok(bytes)
+}
+
+/// Compares the bytes of a tape.
+fn has_written(rt: &impl Abort, writer: TapeWriter<VecSink>, due: &[u8]) {
+    assert_eq!(rt; writer.into_inner().as_slice(), due);
+}
+
+#[test]
+fn all_calls_are_read_and_written_again(rt: HostRuntime) -> Result<(), Fail> {
+    let bytes = tape_of_all(rt.alloc())?;
     let tape = Tape::read(bytes.as_slice())?;
     let mut writer = TapeWriter::new(VecSink::new(rt.alloc()));
     tape.stream(&mut writer)?;
-    let written = writer.into_inner();
-    assert_eq!(rt; written.as_slice(), bytes.as_slice());
+    has_written(&rt, writer, &bytes);
     Ok(())
+}
+
+/// Where a tape is bad, if it is.
+fn bad_place(bytes: &[u8]) -> Option<usize> {
+    match Tape::read(bytes) {
+        Ok(_tape) => None,
+        Err(TapeError::Bad { at }) => Some(at),
+    }
+}
+
+/// Where a tape is to be bad whose last call has a beginning of these bytes.
+fn bad_place_due(begin: usize, length: usize, call: &[u8]) -> Option<usize> {
+    if length.saturating_sub(begin) < call.len() {
+        Some(begin)
+    } else {
+        None
+    }
 }
 
 #[test]
@@ -128,12 +158,8 @@ fn bytes_cut_within_a_call_are_bad_where_it_begins(rt: HostRuntime) -> Result<()
         let begin = bytes.len();
         for byte in call {
             bytes.push(*byte)?;
-            let read = Tape::read(bytes.as_slice()).err();
-            if bytes.len().saturating_sub(begin) < call.len() {
-                assert_eq!(rt; read, Some(TapeError::Bad { at: begin }));
-            } else {
-                assert_eq!(rt; read, None);
-            }
+            let due = bad_place_due(begin, bytes.len(), call);
+            holds(&rt, bad_place(&bytes) == due, "a cut call");
         }
     }
     Ok(())
@@ -142,13 +168,9 @@ fn bytes_cut_within_a_call_are_bad_where_it_begins(rt: HostRuntime) -> Result<()
 #[test]
 fn spoiled_calls_are_bad_where_they_begin(rt: HostRuntime) -> Result<(), Fail> {
     for call in SPOILED {
-        let mut bytes = Vec::new(rt.alloc());
-        bytes.extend_from_slice(&[0, 15])?;
+        let mut bytes = Vec::from_slice(rt.alloc(), &[0, 15])?;
         bytes.extend_from_slice(call)?;
-        assert_eq!(rt;
-            Tape::read(bytes.as_slice()).err(),
-            Some(TapeError::Bad { at: 2 })
-        );
+        holds(&rt, bad_place(&bytes) == Some(2), "a spoiled call");
     }
     Ok(())
 }
@@ -165,35 +187,38 @@ fn writes_the_bytes_of_a_record(rt: HostRuntime) -> Result<(), Fail> {
     let due = [
         30, 1, 3, 111, 119, 110, 0, 0, 1, 172, 2, 41, 0, 2, 105, 100, 0, 5, 0, 9, 215, 4,
     ];
-    let written = writer.into_inner();
-    assert_eq!(rt; written.as_slice(), due.as_slice());
+    has_written(&rt, writer, &due);
     Ok(())
 }
 
 #[test]
 fn all_calls_are_streamed_as_they_are_read(rt: HostRuntime) -> Result<(), Fail> {
-    let mut bytes = Vec::new(rt.alloc());
-    for call in CALLS {
-        bytes.extend_from_slice(call)?;
-    }
+    let bytes = tape_of_all(rt.alloc())?;
     let mut writer = TapeWriter::new(VecSink::new(rt.alloc()));
     stream_tape(bytes.as_slice(), &mut writer)??;
-    let written = writer.into_inner();
-    assert_eq!(rt; written.as_slice(), bytes.as_slice());
+    has_written(&rt, writer, &bytes);
     Ok(())
 }
 
+/// A null, a text's end, and a byte that begins no call.
+const BAD: [u8; 3] = [0, 15, 48];
+
 #[test]
-fn streaming_ends_at_a_bad_or_a_refused_call(rt: HostRuntime) -> Result<(), Fail> {
-    let bytes: [u8; 3] = [0, 15, 48];
+fn streaming_ends_at_a_bad_call(rt: HostRuntime) {
     let mut writer = TapeWriter::new(VecSink::new(rt.alloc()));
-    let streamed = stream_tape(&bytes, &mut writer);
-    assert_eq!(rt; streamed.err(), Some(TapeError::Bad { at: 2 }));
-    assert_eq!(rt; writer.into_inner().as_slice(), &bytes[..2]);
+    let streamed = stream_tape(&BAD, &mut writer);
+    let is_bad = streamed.err() == Some(TapeError::Bad { at: 2 });
+    holds(&rt, is_bad, "the answer");
+    has_written(&rt, writer, &BAD[..2]);
+}
+
+#[test]
+fn streaming_ends_at_a_refused_call(rt: HostRuntime) -> Result<(), Fail> {
     let mut room = [0; 1];
     let mut writer = TapeWriter::new(FixedSink::new(&mut room));
-    let streamed = stream_tape(&bytes, &mut writer)?;
-    assert_eq!(rt; streamed.is_err(), true);
-    assert_eq!(rt; writer.into_inner().as_slice(), &bytes[..1]);
+    let streamed = stream_tape(&BAD, &mut writer)?;
+    holds(&rt, streamed.is_err(), "the answer");
+    let written = writer.into_inner();
+    holds(&rt, written.as_slice() == &BAD[..1], "the bytes");
     Ok(())
 }

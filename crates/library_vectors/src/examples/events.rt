@@ -1,7 +1,7 @@
 //! Events that are recorded and written.
 
 use super::structs::{EVENT, disk_is_full};
-use crate::shown::shows;
+use crate::shown::{holds, shows};
 use event_log::EventLog;
 use std::alloc::{AllocError, Global};
 use std::collections::BTreeMap;
@@ -25,8 +25,8 @@ fn event<'a>(
 /// Records an event.
 fn record(rt: &impl Abort, alloc: Global, log: &mut EventLog<'_>, level: &str, message: &str) {
     match event(alloc, level, message) {
-        Ok(event) => assert!(rt; log.record(&event).is_ok()),
-        Err(_) => assert!(rt; false),
+        Ok(event) => holds(rt, log.record(&event).is_ok(), "it is recorded"),
+        Err(_) => holds(rt, false, "an event is made"),
     }
 }
 
@@ -37,8 +37,7 @@ fn keeps_the_two_newest(rt: HostRuntime) -> Result<(), Fail> {
     record(&rt, alloc, &mut log, "info", "started");
     record(&rt, alloc, &mut log, "warning", "disk \"a\" is full");
     record(&rt, alloc, &mut log, "error", "stopped");
-    assert!(rt; log.len() == 2);
-
+    holds(&rt, log.len() == 2, "the log holds two");
     let mut sink = VecSink::new(alloc);
     log.write_lines(&mut sink)?;
     shows(
@@ -46,17 +45,16 @@ fn keeps_the_two_newest(rt: HostRuntime) -> Result<(), Fail> {
         String::from_utf8(sink.into_vec()),
         "{\"level\":\"warning\",\"message\":\"disk \\\"a\\\" is full\"}\n{\"level\":\"error\",\"message\":\"stopped\"}\n",
     );
-
     log.clear();
-    assert!(rt; log.is_empty());
+    holds(&rt, log.is_empty(), "the log is empty");
     Ok(())
 }
 
 /// Writes a log out, as a program does that passes `rt.stdout()`.
 fn write_out<W: Write + Drop>(rt: &impl Abort, log: &EventLog<'_>, writer: W) {
     let mut sink = RealSink::new(writer);
-    assert!(rt; log.write_lines(&mut sink).is_ok());
-    assert!(rt; sink.flush().is_ok());
+    holds(rt, log.write_lines(&mut sink).is_ok(), "it is written");
+    holds(rt, sink.flush().is_ok(), "it is flushed");
 }
 
 #[test]

@@ -5,7 +5,7 @@ ghost use Rattle.sval.specs.Fields.{a_struct, tuple_struct, tuple_variant, value
 ghost use Rattle.records.specs.Records.{shape_emission};
 
 use crate::captured::captures;
-use crate::shown::{makes, shows, writes};
+use crate::shown::{holds, makes, shows, writes};
 use records::{Interval, Item, Metres, Origin, Pair, Point, Shape, Versioned};
 use std::alloc::Global;
 use std::process::Abort;
@@ -83,13 +83,24 @@ pub(super) fn has_form<'v, V: Value<'v, Lent<'v>>>(
     value: &'v V,
     (json, beside, lines): (&str, &str, &str),
 ) {
-    assert!(rt; check(alloc, value).is_ok());
+    holds(rt, check(alloc, value).is_ok(), "the value is whole");
     writes(rt, alloc, value, json);
-    let mut sink = VecSink::new(alloc);
-    assert!(rt; stream_to_io_write_with(&mut sink, value, Variants::Beside).is_ok());
-    shows(rt, String::from_utf8(sink.into_vec()), beside);
+    writes_beside(rt, alloc, value, beside);
     makes(rt, alloc, value, lines);
     captures(rt, alloc, value, lines);
+}
+
+/// Asserts that this is a value's JSON with each variant beside its name.
+fn writes_beside<'v, V: Value<'v, Lent<'v>>>(
+    rt: &impl Abort,
+    alloc: Global,
+    value: &'v V,
+    json: &str,
+) {
+    let mut sink = VecSink::new(alloc);
+    let answer = stream_to_io_write_with(&mut sink, value, Variants::Beside);
+    holds(rt, answer.is_ok(), "the value is written");
+    shows(rt, String::from_utf8(sink.into_vec()), json);
 }
 
 /// The JSON of a struct, its JSON with each variant beside its name, and the lines of its calls.

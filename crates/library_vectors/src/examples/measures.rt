@@ -1,6 +1,6 @@
 //! Readings that are checked, added up, written and captured.
 
-use crate::shown::{shows, writes};
+use crate::shown::{holds, shows, writes};
 use readings::{Reading, Readings, Report, check_readings, to_json, total_of};
 use std::alloc::{AllocError, Global};
 use std::test::Fail;
@@ -22,8 +22,9 @@ const JSON: &str = "[\"tea \\\"green\\\"\",-95,100]";
 fn serves_readings(rt: HostRuntime) -> Result<(), Fail> {
     let alloc = rt.alloc();
     let readings = three_readings(alloc)?;
-    assert!(rt; check_readings(alloc, &readings).is_ok());
-    assert!(rt; total_of(&readings) == Some(5));
+    let answer = check_readings(alloc, &readings);
+    holds(&rt, answer.is_ok(), "they are whole");
+    holds(&rt, total_of(&readings) == Some(5), "their total");
     shows(&rt, String::from_utf8(to_json(alloc, &readings)?), JSON);
     let captured = ValueBuf::collect(alloc, &readings)?;
     writes(&rt, alloc, &captured, JSON);

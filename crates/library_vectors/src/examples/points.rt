@@ -1,5 +1,6 @@
 //! The tokens of a point.
 
+use crate::shown::holds;
 use assert_tokens::{Point, tokens_match};
 use sval_check::{Token, TokenName};
 use sval_core::Label;
@@ -17,7 +18,8 @@ fn a_point_is_a_record(rt: HostRuntime) {
         Token::RecordValueEnd(None, Label::new("y")),
         Token::RecordEnd(TokenName::none()),
     ];
-    assert!(rt; tokens_match(rt.alloc(), &point, &tokens) == Ok(true));
-    // The first of them are too few.
-    assert!(rt; tokens_match(rt.alloc(), &point, &tokens[..1]) == Ok(false));
+    let all = tokens_match(rt.alloc(), &point, &tokens);
+    holds(&rt, all == Ok(true), "they match");
+    let first = tokens_match(rt.alloc(), &point, &tokens[..1]);
+    holds(&rt, first == Ok(false), "the first of them are too few");
 }

@@ -1,7 +1,7 @@
 //! Structs and enums of a user's own: the JSON of each, and what is made of one in other ways.
 
 use super::forms::has_form;
-use crate::shown::{makes, shows};
+use crate::shown::{holds, makes, shows};
 use records::{Body, Event, Headers, Item, Level, MyRecord, Order, Payment, Request, Site};
 use std::alloc::{AllocError, Global};
 use std::test::Fail;
@@ -67,7 +67,7 @@ pub(super) fn disk_is_full(alloc: Global) -> Result<Event, AllocError> {
 fn fields_may_be_rows_and_none(rt: HostRuntime) -> Result<(), Fail> {
     let alloc = rt.alloc();
     let event = disk_is_full(alloc)?;
-    assert!(rt; check(alloc, &event).is_ok());
+    holds(&rt, check(alloc, &event).is_ok(), "the event is whole");
     shows(&rt, stream_to_string(alloc, &event), EVENT);
     Ok(())
 }
@@ -99,7 +99,7 @@ fn fields_may_be_structs(rt: HostRuntime) -> Result<(), Fail> {
             charged: true,
         },
     };
-    assert!(rt; check(alloc, &order).is_ok());
+    holds(&rt, check(alloc, &order).is_ok(), "the order is whole");
     shows(&rt, stream_to_string(alloc, &order), ORDER);
     Ok(())
 }
@@ -109,7 +109,7 @@ fn variants_are_their_names(rt: HostRuntime) -> Result<(), Fail> {
     let alloc = rt.alloc();
     shows(&rt, stream_to_string(alloc, &Payment::Open), "\"Open\"");
     let transfer = Payment::Transfer(String::from_str(alloc, "r1")?);
-    assert!(rt; check(alloc, &transfer).is_ok());
+    holds(&rt, check(alloc, &transfer).is_ok(), "it is whole");
     shows(
         &rt,
         stream_to_string(alloc, &transfer),
