@@ -150,22 +150,22 @@ begins_nothing_stuck {bytes = bytes} frames made (no_number {tag = tag} {after =
 
 -- the calls of simple values are whole, and those of what a break ends begin it
 pub truth_is_whole : (b : Bool) → AreWhole (Call.Truth b ∷ [])
-truth_is_whole b = (omega arith, record { value = value.Truth b; puts_it = λ levels. refl })
+truth_is_whole b = (omega arith, record { value = value.Truth b; puts_it = λ levels. refl; begins = tt; closed = λ depth more. refl })
 
 pub null_is_whole : AreWhole (Call.Null ∷ [])
-null_is_whole = (omega arith, record { value = value.Null; puts_it = λ levels. refl })
+null_is_whole = (omega arith, record { value = value.Null; puts_it = λ levels. refl; begins = tt; closed = λ depth more. refl })
 
 pub seq_begins : AreBegin (Call.Begin Seq None ∷ [])
-seq_begins = (omega arith, record { of = λ level. value.Array level.values; closes_it = λ levels. refl })
+seq_begins = (omega arith, record { of = λ level. value.Array level.values; closes_it = λ levels. refl; begins = tt; opens = λ depth more. refl })
 
 pub map_begins : AreBegin (Call.Begin Map None ∷ [])
-map_begins = (omega arith, record { of = λ level. value.Map level.values; closes_it = λ levels. refl })
+map_begins = (omega arith, record { of = λ level. value.Map level.values; closes_it = λ levels. refl; begins = tt; opens = λ depth more. refl })
 
 pub text_chunks_begin : AreBegin (Call.TextBegin None ∷ [])
-text_chunks_begin = (omega arith, record { of = λ level. value.Text level.texts; closes_it = λ levels. refl })
+text_chunks_begin = (omega arith, record { of = λ level. value.Text level.texts; closes_it = λ levels. refl; begins = tt; opens = λ depth more. refl })
 
 pub byte_chunks_begin : AreBegin (Call.BinaryBegin None ∷ [])
-byte_chunks_begin = (omega arith, record { of = λ level. value.Binary level.binaries; closes_it = λ levels. refl })
+byte_chunks_begin = (omega arith, record { of = λ level. value.Binary level.binaries; closes_it = λ levels. refl; begins = tt; opens = λ depth more. refl })
 
 pub marked_begins : (bytes : List ℕ) (at : ℕ) (found : made_item.Item) → at < length bytes → IsMarked (get_or bytes at 0) found → Begins bytes at (record { item = found; next = at + 1 })
 marked_begins bytes at found l m =
@@ -249,7 +249,7 @@ binary_begins bytes h content next m b =
     let rest : drop next bytes ≡ drop h.number after = ap (λ n. drop n bytes) b.next_is ∙ sym (drop-drop h.number h.next bytes) in
     begins_behind bytes h item.Whole (string_calls 2 (length content) content) next
     (λ frames. major_is h 2 after frames m ∙ string_goes_behind 2 h.number after content (drop next bytes) frames fits refl b.content_is rest)
-    (omega arith, record { value = value.Binary (content ∷ []); puts_it = λ levels. refl }) (λ here e. single.binary (string_by bytes here (drop next bytes) h 2 m fits refl rest e)) (let n = b.next_is in omega arith) b.within
+    (omega arith, record { value = value.Binary (content ∷ []); puts_it = λ levels. refl; begins = tt; closed = λ depth more. refl }) (λ here e. single.binary (string_by bytes here (drop next bytes) h 2 m fits refl rest e)) (let n = b.next_is in omega arith) b.within
 
 -- a text behind its head
 pub text_begins : (bytes : List ℕ) (h : made_head.Head) (content : List ℕ) (next : ℕ) → h.major ≡ 3 → IsBehind bytes h content next → IsUtf8 content → BeginsBehind bytes h (record { item = item.Whole; next = next })
@@ -260,7 +260,7 @@ text_begins bytes h content next m b u =
     let utf8 : IsTrue (is_piece 3 (take h.number after)) = subst (λ x. IsTrue (is_piece 3 x)) b.content_is (is_utf8-from_IsUtf8 content u) in
     begins_behind bytes h item.Whole (string_calls 3 (length content) content) next
     (λ frames. major_is h 3 after frames m ∙ string_goes_behind 3 h.number after content (drop next bytes) frames fits utf8 b.content_is rest)
-    (omega arith, record { value = value.Text (content ∷ []); puts_it = λ levels. refl }) (λ here e. single.text (string_by bytes here (drop next bytes) h 3 m fits utf8 rest e)) (let n = b.next_is in omega arith) b.within
+    (omega arith, record { value = value.Text (content ∷ []); puts_it = λ levels. refl; begins = tt; closed = λ depth more. refl }) (λ here e. single.text (string_by bytes here (drop next bytes) h 3 m fits utf8 rest e)) (let n = b.next_is in omega arith) b.within
 
 pub no_binary : (bytes : List ℕ) (h : made_head.Head) → h.major ≡ 2 → h.next ≤ length bytes → length bytes < h.next + h.number → BeginsNothingBehind bytes h
 no_binary bytes h m w l = begins_nothing_behind bytes h (λ frames. major_is h 2 (drop h.next bytes) frames m ∙ no_string_step 2 h.number (drop h.next bytes) frames (λ k u. omega (arith, length-drop h.next bytes)))

@@ -107,3 +107,54 @@ mutual
 -- the calls of the whole item
 pub documents_mean : (bytes rest : List ℕ) (tree : Tree) (item : IsItem bytes tree rest) → cbor_joined (cbor_value_in (cbor_calls item [])) ≡ cbor_value_of tree
 documents_mean bytes rest tree item = let m = item_means item [] in ap (λ levels. cbor_joined (cbor_first_value (cbor_innermost_level levels).values)) m.levels ∙ m.same
+
+-- ---- the value of an item, whatever calls follow
+
+both : {first another : CborValue} {values others : CborValues} → first ≡ another → values ≡ others → a_value first values ≡ a_value another others
+both {another = another} {values = values} e f = ap (λ x. a_value x values) e ∙ ap (a_value another) f
+
+mutual
+  unfolding item_means body_means items_mean pairs_mean to_break_mean pairs_to_break_mean then_all part_means
+
+  pub one_value : {bytes rest : List ℕ} {tree : Tree} (i : IsItem bytes tree rest) (more other : List Call) → (item_means i more).value ≡ (item_means i other).value
+  one_value (by_head e b) more other = one_body b more other
+  one_value (bytes_in_pieces p) more other = refl
+  one_value (texts_in_pieces p) more other = refl
+  one_value (seq_to_break s) more other = ap Array (one_to_break s (Call.End calls.Seq ∷ more) (Call.End calls.Seq ∷ other))
+  one_value (map_to_break s) more other = ap Map (one_pairs_to_break s (Call.End calls.Map ∷ more) (Call.End calls.Map ∷ other))
+  one_value falsehood more other = refl
+  one_value truth more other = refl
+  one_value null more other = refl
+
+  one_body : {major n : ℕ} {after rest : List ℕ} {tree : Tree} (b : IsBody major n after tree rest) (more other : List Call) → (body_means b more).value ≡ (body_means b other).value
+  one_body unsigned more other = refl
+  one_body negative more other = refl
+  one_body (binary l) more other = refl
+  one_body (text l u) more other = refl
+  one_body (seq s) more other = ap Array (one_items s (Call.End calls.Seq ∷ more) (Call.End calls.Seq ∷ other))
+  one_body (map_body s) more other = ap Map (one_pairs s (Call.End calls.Map ∷ more) (Call.End calls.Map ∷ other))
+  one_body (big s h) more other = refl
+  one_body (negative_big s h) more other = refl
+  one_body (tagged h k i) more other = one_value i more other
+
+  one_items : {n : ℕ} {bytes rest : List ℕ} {parts : Parts} (s : AreItems n bytes parts rest) (more other : List Call) → (items_mean s more).values ≡ (items_mean s other).values
+  one_items no_items more other = refl
+  one_items (an_item i s) more other = both (one_value i (Call.PartEnd calls.Item ∷ items_calls s more) (Call.PartEnd calls.Item ∷ items_calls s other)) (one_items s more other)
+
+  one_pairs : {n : ℕ} {bytes rest : List ℕ} {parts : Parts} (s : AreEntries n bytes parts rest) (more other : List Call) → (pairs_mean s more).values ≡ (pairs_mean s other).values
+  one_pairs no_pairs more other = refl
+  one_pairs (a_pair i v s) more other =
+      let values : List Call → List Call = λ row. Call.PartBegin calls.Value ∷ cbor_calls v (Call.PartEnd calls.Value ∷ entries_calls s row) in
+      both (one_value i (Call.PartEnd calls.Key ∷ values more) (Call.PartEnd calls.Key ∷ values other))
+      (both (one_value v (Call.PartEnd calls.Value ∷ entries_calls s more) (Call.PartEnd calls.Value ∷ entries_calls s other)) (one_pairs s more other))
+
+  one_to_break : {bytes rest : List ℕ} {parts : Parts} (s : ItemsToBreak bytes parts rest) (more other : List Call) → (to_break_mean s more).values ≡ (to_break_mean s other).values
+  one_to_break items_end more other = refl
+  one_to_break (items_go_on i s) more other = both (one_value i (Call.PartEnd calls.Item ∷ items_to_break_calls s more) (Call.PartEnd calls.Item ∷ items_to_break_calls s other)) (one_to_break s more other)
+
+  one_pairs_to_break : {bytes rest : List ℕ} {parts : Parts} (s : EntriesToBreak bytes parts rest) (more other : List Call) → (pairs_to_break_mean s more).values ≡ (pairs_to_break_mean s other).values
+  one_pairs_to_break entries_end more other = refl
+  one_pairs_to_break (entries_go_on i v s) more other =
+      let values : List Call → List Call = λ row. Call.PartBegin calls.Value ∷ cbor_calls v (Call.PartEnd calls.Value ∷ entries_to_break_calls s row) in
+      both (one_value i (Call.PartEnd calls.Key ∷ values more) (Call.PartEnd calls.Key ∷ values other))
+      (both (one_value v (Call.PartEnd calls.Value ∷ entries_to_break_calls s more) (Call.PartEnd calls.Value ∷ entries_to_break_calls s other)) (one_pairs_to_break s more other))

@@ -38,6 +38,10 @@ pub mod ItemTrees
 pub mod ItemScripts
 pub mod PlainCalls
 pub mod NodeScripts
+pub mod InnerItems
+pub mod ClosedItems
+pub mod PartItems
+pub mod PartStreams
 pub mod DueTexts
 pub mod OneDue
 mod examples

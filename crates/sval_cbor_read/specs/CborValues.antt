@@ -1,10 +1,11 @@
 -- The value that calls are of, as a program looks things up in it. It is read from the last call to the first, so that it is seen in any part of a document's calls.
-use Rattle.std.specs.Prelude.{◌≡◌, ℕ, ℤ, Bool, List, [], ◌∷◌}
+use Rattle.std.specs.Prelude.{◌≡◌, ℕ, ℤ, suc, Bool, List, [], ◌∷◌, ◌++◌}
 use Rattle.std.specs.List.{concat}
 use Rattle.sval_label.specs.Calls.{Call}
 use Rattle.sval_label.specs.Calls as calls
 use Rattle.sval_core.specs.Trees.{Tree, Parts, none, part}
 use Rattle.sval_core.specs.Trees as trees
+use Rattle.sval_cbor_read.specs.CallSpans.{until_closed, calls_while_open, FirstBeginsItem}
 use Rattle.sval_cbor_read.specs.Items.{IsItem, IsItemOf}
 use Rattle.sval_cbor_read.specs.Document.{cbor_calls, cbor_document_calls}
 
@@ -141,11 +142,15 @@ cbor_value_in made = cbor_first_value (cbor_values_in made)
 pub record IsOneItem (made : List Call) : Type 0 where
   pub value : CborValue
   pub puts_it : (levels : List CborLevel) → puts_calls made levels ≡ cbor_puts value levels
+  pub begins : FirstBeginsItem made
+  pub closed : (depth : ℕ) (more : List Call) → until_closed depth (made ++ more) ≡ made ++ calls_while_open depth (until_closed depth more)
 
 -- the calls begin a string, an array or a map, whatever follows
 pub record OpensValue (made : List Call) : Type 0 where
   pub of : CborLevel → CborValue
   pub closes_it : (levels : List CborLevel) → puts_calls made levels ≡ cbor_closes of levels
+  pub begins : FirstBeginsItem made
+  pub opens : (depth : ℕ) (more : List Call) → until_closed depth (made ++ more) ≡ made ++ until_closed (suc depth) more
 
 -- the calls of an item's document are of the value of its tree, but for how its strings are cut
 abbrev pub CborDocumentsMean : Type 0

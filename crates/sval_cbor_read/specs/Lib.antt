@@ -2,7 +2,9 @@ pub mod Items
 pub mod HeadFronts
 pub mod WellFormed
 pub mod Document
+pub mod CallSpans
 pub mod CborValues
+pub mod CborParts
 pub mod CborLookups
 pub mod CborPointers
 pub mod CborCodes

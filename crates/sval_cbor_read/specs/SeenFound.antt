@@ -7,6 +7,7 @@ use Rattle.sval_cbor_read.specs.declared.found.Found.TheVariants as found
 use Rattle.sval_cbor_read.specs.CborValues.{CborValue, Null, Truth, Int, Text, Binary, Array, Map, CborLevel, cbor_innermost_level, cbor_levels_of, cbor_puts, cbor_closes, puts_calls, cbor_values_in, cbor_value_in}
 use Rattle.sval_cbor_read.specs.SeenNodes.{streamed_items, NodesStand}
 use Rattle.sval_cbor_read.specs.NodeSpans.{BeginsItem}
+use Rattle.sval_cbor_read.specs.CborParts.{EndDocument}
 
 -- the value that is found, by the level behind its first node
 abbrev pub found_value : made_found.Found → CborLevel → CborValue
@@ -46,9 +47,15 @@ level_behind bytes nodes = cbor_innermost_level (cbor_levels_of (streamed_items 
 abbrev pub value_at : List ℕ → List Node → CborValue
 value_at bytes nodes = cbor_value_in (streamed_items bytes nodes)
 
--- nodes of the bytes, of which the first begins an item
+-- the last nodes of an item of the bytes
+pub record AreInItem (bytes : List ℕ) (nodes : List Node) : Type 0 where
+  pub stand : NodesStand bytes nodes
+  pub ends : EndDocument (streamed_items bytes nodes)
+
+-- those of which the first begins an item
 pub record AreOfItem (bytes : List ℕ) (nodes : List Node) : Type 0 where
   pub stand : NodesStand bytes nodes
+  pub ends : EndDocument (streamed_items bytes nodes)
   pub begins : BeginsItem nodes
 
 -- the chunks of a text that begin some calls, and those of a byte string

@@ -3,7 +3,8 @@
 ghost use Rattle.std.specs.Prelude.{◌≡◌, length, slice_get};
 ghost use Rattle.sval_cbor_read.specs.CborValues.{cbor_values_in};
 ghost use Rattle.sval_cbor_read.specs.CborLookups.{cbor_last_named, cbor_values_listed, cbor_paired};
-ghost use Rattle.sval_cbor_read.specs.SeenNodes.{streamed_items, NodesStand};
+ghost use Rattle.sval_cbor_read.specs.SeenFound.{AreInItem};
+ghost use Rattle.sval_cbor_read.specs.SeenNodes.{streamed_items};
 ghost use Rattle.sval_cbor_read.specs.SeenEntries.{TakesFirstItem, TakesFirstEntry};
 
 use crate::cbor_ref::CborRef;
@@ -24,7 +25,8 @@ impl<'d> Model for CborItems<'d> {
     ghost use Rattle.sval_cbor_read.specs.CborValues.{CborValue, cbor_values_in};
     ghost use Rattle.sval_cbor_read.specs.CborCodes.{cbor_value_code};
     ghost use Rattle.sval_cbor_read.specs.CborLookups.{cbor_values_listed};
-    ghost use Rattle.sval_cbor_read.specs.SeenNodes.{streamed_items, NodesStand};
+    ghost use Rattle.sval_cbor_read.specs.SeenFound.{AreInItem};
+    ghost use Rattle.sval_cbor_read.specs.SeenNodes.{streamed_items};
 
     ghost Value = { List CborValue };
 
@@ -32,13 +34,13 @@ impl<'d> Model for CborItems<'d> {
 
     ghost view = { λ items. cbor_values_listed (cbor_values_in (streamed_items items.bytes.now items.nodes.now)) };
 
-    ghost invariant = { λ items. NodesStand items.bytes.now items.nodes.now };
+    ghost invariant = { λ items. AreInItem items.bytes.now items.nodes.now };
 }
 
 impl<'d> CborItems<'d> {
     /// The items that these nodes of the bytes begin with, up to the end of the array.
     pub(crate) fn new(bytes: &'d [u8], nodes: &'d [Node]) -> Self
-        requires { NodesStand bytes.now nodes.now }
+        requires { AreInItem bytes.now nodes.now }
         ensures { result ≡ cbor_values_listed (cbor_values_in (streamed_items bytes.now nodes.now)) }
     {
         CborItems { bytes, nodes }
@@ -108,7 +110,8 @@ impl<'d> Model for CborEntries<'d> {
     ghost use Rattle.sval_cbor_read.specs.CborValues.{cbor_values_in};
     ghost use Rattle.sval_cbor_read.specs.CborCodes.{entry_code};
     ghost use Rattle.sval_cbor_read.specs.CborLookups.{Entry, cbor_values_listed, cbor_paired};
-    ghost use Rattle.sval_cbor_read.specs.SeenNodes.{streamed_items, NodesStand};
+    ghost use Rattle.sval_cbor_read.specs.SeenFound.{AreInItem};
+    ghost use Rattle.sval_cbor_read.specs.SeenNodes.{streamed_items};
 
     ghost Value = { List Entry };
 
@@ -117,13 +120,13 @@ impl<'d> Model for CborEntries<'d> {
     ghost view = { λ entries.
         cbor_paired (cbor_values_listed (cbor_values_in (streamed_items entries.bytes.now entries.nodes.now))) };
 
-    ghost invariant = { λ entries. NodesStand entries.bytes.now entries.nodes.now };
+    ghost invariant = { λ entries. AreInItem entries.bytes.now entries.nodes.now };
 }
 
 impl<'d> CborEntries<'d> {
     /// The pairs that these nodes of the bytes begin with, up to the end of the map.
     pub(crate) fn new(bytes: &'d [u8], nodes: &'d [Node]) -> Self
-        requires { NodesStand bytes.now nodes.now }
+        requires { AreInItem bytes.now nodes.now }
         ensures { result ≡ cbor_paired (cbor_values_listed (cbor_values_in (streamed_items bytes.now nodes.now))) }
     {
         CborEntries { bytes, nodes }

@@ -1,10 +1,12 @@
 //! Items of a document.
 
 ghost use Rattle.std.specs.Prelude.{◌≡◌, ◌^◌, ℤ, pos, negsuc, nat_lt, if◌then◌else◌, option_map, Some, None, drop};
-ghost use Rattle.sval_cbor_read.specs.SeenNodes.{NodesStand};
+ghost use Rattle.sval_cbor_read.specs.CborParts.{IsCborPart};
+ghost use Rattle.sval_cbor_read.specs.CborValues.{cbor_value_in};
 ghost use Rattle.sval_cbor_read.specs.SeenFound.{AreOfItem, value_at};
 ghost use Rattle.sval_cbor_read.specs.CborLookups.{cbor_kind_of, cbor_is_null, cbor_truth_of, within_bits, signed_of, cbor_unsigned_of, cbor_text_of, cbor_str_of, cbor_bytes_of, cbor_slice_of, cbor_items_of, cbor_item_at, cbor_entries_of, cbor_len_of, cbor_entry_of, is_this_text};
 
+use crate::cbor_part::CborPart;
 use crate::cbor_parts::{CborEntries, CborItems};
 use crate::cbor_text::{CborBytes, CborText};
 use crate::found::{Found, first_found};
@@ -71,6 +73,21 @@ impl<'d> CborRef<'d> {
         ensures { result ≡ self.now }
     {
         CborRef::new(self.bytes, self.nodes)
+    }
+
+    /// The item as a value that any stream takes, as if it were the whole document. It takes no memory.
+    ///
+    /// ```
+    /// let doc = CborDoc::read(alloc, b"\xa1\x64tags\x82\x61a\xa1\x61b\x07".as_slice())?;
+    /// if let Some(tag) = doc.root().pointer("/tags/1") {
+    ///     assert_eq!(rt; stream_to_vec(alloc, &tag.part())?.as_slice(), b"{\"b\":7}".as_slice());
+    /// }
+    /// ```
+    pub fn part(&self) -> CborPart<'d>
+        ensures part { IsCborPart result self.now }
+        ensures value { cbor_value_in result ≡ self.now }
+    {
+        CborPart::new(self.bytes, self.nodes)
     }
 
     /// Which of the seven it is.

@@ -289,7 +289,7 @@ impl Node {
 
     /// Makes the node's own calls, from the bytes of the document.
     #[inline(always)]
-    fn make<'v, S: Stream<Lent<'v>>>(self, bytes: &'v [u8], stream: &mut S) -> Result
+    pub(crate) fn make<'v, S: Stream<Lent<'v>>>(self, bytes: &'v [u8], stream: &mut S) -> Result
         requires { NodeStands bytes.now self }
         ensures { Emits S.law result (S.standing stream.old)
             (makes (node_own_calls self.kind (drop (node_offset self) bytes.now))) (S.standing stream.new) }
@@ -327,7 +327,7 @@ impl Node {
 
     /// Makes the node's calls, from the bytes of the document.
     #[inline(always)]
-    fn stream<'v, S: Stream<Lent<'v>>>(self, bytes: &'v [u8], stream: &mut S) -> Result
+    pub(crate) fn stream<'v, S: Stream<Lent<'v>>>(self, bytes: &'v [u8], stream: &mut S) -> Result
         requires { NodeStands bytes.now self }
         ensures { Emits S.law result (S.standing stream.old)
             (makes (cbor_node_calls bytes.now self)) (S.standing stream.new) }

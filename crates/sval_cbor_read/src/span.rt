@@ -6,7 +6,7 @@ ghost use Rattle.sval_cbor_read.specs.NodeSpans.{is_first, cbor_depth_behind, cb
 use crate::node::{Kind, Node};
 
 /// The number of strings, arrays and maps that are open behind a node. `depth` is the number before it.
-fn depth_behind(kind: Kind, depth: usize) -> usize
+pub(crate) fn depth_behind(kind: Kind, depth: usize) -> usize
     requires { depth + 1 < 2 ^ 64 }
     ensures { result ≡ cbor_depth_behind kind depth }
 {

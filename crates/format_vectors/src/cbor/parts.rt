@@ -3,7 +3,9 @@
 use crate::cases::{Case, try_cases};
 use std::alloc::Global;
 use std::test::Fail;
+use sval_buffer::ValueBuf;
 use sval_cbor_read::{CborDoc, CborRef};
+use sval_json::stream_to_string;
 
 /// Bytes in hex, and behind `parts` what their item is taken for, item by item and pair by pair.
 struct ItemParts;
@@ -65,6 +67,29 @@ impl Case for Pointed {
             None => seen.push_str("nothing")?,
         }
         Ok(seen)
+    }
+}
+
+/// Bytes in hex, a pointer (RFC 6901) behind a space, and behind `json` what is written of the item by itself that the
+/// pointer references: first of the item, and then of what is captured of it.
+struct Written;
+
+impl Case for Written {
+    fn seen(alloc: Global, input: &str, _due: &str) -> Result<String, Fail> {
+        let line = input.trim_end();
+        let (digits, pointer) = line.split_once(' ').unwrap_or((line, ""));
+        let bytes = hex::decode(alloc, digits)?;
+        let doc = CborDoc::read(alloc, bytes.as_slice())?;
+        match doc.root().pointer(pointer) {
+            Some(item) => {
+                let part = item.part();
+                let captured: ValueBuf<'_> = ValueBuf::collect(alloc, &part)?;
+                let written = stream_to_string(alloc, &part)?;
+                let replayed = stream_to_string(alloc, &captured)?;
+                Ok(format!(in alloc; "json {written} {replayed}")?)
+            },
+            None => Ok(String::from_str(alloc, "nothing")?),
+        }
     }
 }
 
@@ -328,6 +353,64 @@ c1a16161c1820102 /a/1
 = at nothing
 "#;
 
+/// The whole, and items in arrays and maps of both lengths: of each kind, first and last ones, and behind tags.
+const WRITTEN: &'static str = r#"
+f6
+= json null null
+c1f5
+= json true true
+7f6161ff
+= json "a" "a"
+8201820203
+= json [1,[2,3]] [1,[2,3]]
+8301820203f6 /0
+= json 1 1
+8301820203f6 /1
+= json [2,3] [2,3]
+8301820203f6 /1/1
+= json 3 3
+8301820203f6 /2
+= json null null
+9f01820203bf6161f4ff80ff /1
+= json [2,3] [2,3]
+9f01820203bf6161f4ff80ff /2
+= json {"a":false} {"a":false}
+9f01820203bf6161f4ff80ff /2/a
+= json false false
+9f01820203bf6161f4ff80ff /3
+= json [] []
+826261627f616160626263ff /0
+= json "ab" "ab"
+826261627f616160626263ff /1
+= json "abc" "abc"
+82430102035f41014102ff /0
+= json [1,2,3] [1,2,3]
+82430102035f41014102ff /1
+= json [1,2] [1,2]
+822038ff /0
+= json -1 -1
+822038ff /1
+= json -256 -256
+83c249010000000000000000c34901000000000000000000 /0
+= json 18446744073709551616 18446744073709551616
+83c249010000000000000000c34901000000000000000000 /1
+= json -18446744073709551617 -18446744073709551617
+a261610161628301a1616102a0 /b
+= json [1,{"a":2},{}] [1,{"a":2},{}]
+a261610161628301a1616102a0 /b/1
+= json {"a":2} {"a":2}
+a261610161628301a1616102a0 /b/1/a
+= json 2 2
+a261610161628301a1616102a0 /b/2
+= json {} {}
+bf7f61616162ff81f5ff /ab
+= json [true] [true]
+c1a16161c1820102 /a
+= json [1,2] [1,2]
+8100 /1
+= nothing
+"#;
+
 #[test]
 fn what_an_item_holds(rt: HostRuntime) -> Result<(), Fail> {
     try_cases::<ItemParts>(&rt, rt.alloc(), PARTS)
@@ -346,6 +429,11 @@ fn items_at_1(rt: HostRuntime) -> Result<(), Fail> {
 #[test]
 fn items_at_pointers(rt: HostRuntime) -> Result<(), Fail> {
     try_cases::<Pointed>(&rt, rt.alloc(), POINTED)
+}
+
+#[test]
+fn what_is_written_of_an_item(rt: HostRuntime) -> Result<(), Fail> {
+    try_cases::<Written>(&rt, rt.alloc(), WRITTEN)
 }
 
 /// 100,000 items, each an array of one byte string, and the last of them.

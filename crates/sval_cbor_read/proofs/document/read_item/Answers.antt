@@ -3,6 +3,7 @@ use Rattle.sval_cbor_read.specs.SeenNodes.{NodesStand}
 use Rattle.sval_cbor_read.specs.SeenReader.{spot_of}
 use Rattle.sval_cbor_read.proofs.Loop.{reached_by, nearer_by, reached_first, makes_some, stuck_is_bad, end_is_reached, front_is}
 use Rattle.sval_cbor_read.proofs.CborFirsts.{begins_by}
+use Rattle.sval_cbor_read.proofs.InnerItems.{ends_all}
 use Rattle.sval_cbor_read.proofs.document.read_item.Goals as goal
 
 pub loop-reader-init : goal.loop-reader-init
@@ -37,4 +38,4 @@ returns-clause-ended c = end_is_reached c.args.bytes.now c.loop-reader.reader c.
 pub returns-clause-kept : goal.returns-clause-kept
 returns-clause-kept c =
     let front = front_is c.args.bytes.now c.loop-reader.reader c.loop-reader-test.ensures c.loop-reader.invariant.reached c.loop-reader.invariant.within in
-    record { stand = c.loop-reader.invariant.kept; begins = begins_by c.args.bytes.now c.loop-reader.reader.nodes.items front.item front.same c.loop-reader.invariant.kept }
+    record { stand = c.loop-reader.invariant.kept; ends = ends_all front.item front.same; begins = begins_by c.args.bytes.now c.loop-reader.reader.nodes.items front.item front.same c.loop-reader.invariant.kept }

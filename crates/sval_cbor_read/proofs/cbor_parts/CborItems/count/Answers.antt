@@ -4,5 +4,5 @@ use Rattle.sval_cbor_read.proofs.cbor_parts.CborItems.count.Goals as goal
 
 pub loop-count-init : goal.loop-count-init
 loop-count-init c =
-    let fit = values_fit c.self.inside.bytes.now c.self.inside.nodes.now c.self.invariant in
+    let fit = values_fit c.self.inside.bytes.now c.self.inside.nodes.now c.self.invariant.stand in
     (search rules, subst (λ row. length row ≤ length c.self.inside.nodes.now) c.self.view_is fit)

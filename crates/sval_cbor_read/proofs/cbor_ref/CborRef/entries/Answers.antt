@@ -1,14 +1,14 @@
 use Rattle.std.proofs.Common.{sym, ap, ◌∙◌, Some, subst}
 use Rattle.sval_cbor_read.specs.CborLookups.{cbor_entries_of, cbor_values_listed, cbor_paired}
 use Rattle.sval_cbor_read.specs.CborValues.{cbor_values_in}
-use Rattle.sval_cbor_read.specs.SeenNodes.{streamed_items, NodesStand}
-use Rattle.sval_cbor_read.specs.SeenFound.{level_behind}
-use Rattle.sval_cbor_read.proofs.CborNodes.{stand_behind}
+use Rattle.sval_cbor_read.specs.SeenNodes.{streamed_items}
+use Rattle.sval_cbor_read.specs.SeenFound.{level_behind, AreInItem}
+use Rattle.sval_cbor_read.proofs.CborNext.{behind_within, within_item}
 use Rattle.sval_cbor_read.proofs.CborFound.{some_node, no_entries}
 use Rattle.sval_cbor_read.proofs.cbor_ref.CborRef.entries.Goals as goal
 
 pub new-requires : goal.new-requires
-new-requires c = subst (NodesStand c.self.inside.bytes.now) (sym c.behind_first.ensures) (stand_behind c.self.inside.bytes.now c.self.inside.nodes.now 1 c.self.invariant.stand)
+new-requires c = subst (AreInItem c.self.inside.bytes.now) (sym c.behind_first.ensures) (behind_within c.self.inside.bytes.now c.self.inside.nodes.now 1 (within_item c.self.invariant))
 
 pub behind_first-requires : goal.behind_first-requires
 behind_first-requires c = some_node c.self.inside.nodes.now c.self.invariant

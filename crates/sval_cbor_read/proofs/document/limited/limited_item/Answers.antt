@@ -4,6 +4,7 @@ use Rattle.sval_cbor_read.specs.SeenNodes.{NodesStand}
 use Rattle.sval_cbor_read.specs.SeenReader.{spot_of}
 use Rattle.sval_cbor_read.proofs.Loop.{reached_by, nearer_by, reached_first, makes_some, stuck_is_bad, end_is_reached, front_is}
 use Rattle.sval_cbor_read.proofs.CborFirsts.{begins_by}
+use Rattle.sval_cbor_read.proofs.InnerItems.{ends_all}
 use Rattle.sval_cbor_read.proofs.LimitedHeads.{starts_within, stays_within, passes_limit, fails_within, ends_within}
 use Rattle.sval_cbor_read.proofs.UnreadCauses.{limited_cause}
 use Rattle.sval_cbor_read.proofs.document.limited.limited_item.Goals as goal
@@ -63,7 +64,7 @@ returns-clause-ended c = end_is_reached c.args.bytes.now c.loop-alloc.reader c.l
 pub returns-clause-kept : goal.returns-clause-kept
 returns-clause-kept c =
     let front = front_is c.args.bytes.now c.loop-alloc.reader c.loop-alloc-test.ensures c.loop-alloc.invariant.reached c.loop-alloc.invariant.within in
-    record { stand = c.loop-alloc.invariant.kept; begins = begins_by c.args.bytes.now c.loop-alloc.reader.nodes.items front.item front.same c.loop-alloc.invariant.kept }
+    record { stand = c.loop-alloc.invariant.kept; ends = ends_all front.item front.same; begins = begins_by c.args.bytes.now c.loop-alloc.reader.nodes.items front.item front.same c.loop-alloc.invariant.kept }
 
 pub returns-clause-within : goal.returns-clause-within
 returns-clause-within c = ends_within c.args.bytes.now c.args.limits c.loop-alloc.reader c.loop-alloc.begun c.loop-alloc-test.ensures c.loop-alloc.invariant.front
