@@ -1,6 +1,6 @@
 //! Conversions from CBOR.
 
-use crate::trouble::{Trouble, of_item};
+use crate::trouble::{Trouble, of_item, of_left_over};
 use crate::values::write_asked;
 use crate::words::Options;
 use std::alloc::Global;
@@ -10,16 +10,26 @@ use sval_io::Sink;
 /// What is said of bytes that are not well-formed.
 const MALFORMED: &'static str = "no CBOR that is read goes on with these bytes";
 
+/// What is said where the bytes end within an item.
+const CUT: &'static str = "cut short: the bytes end before the item does";
+
 /// What is said of a well-formed item that isn't read.
 const UNSUPPORTED: &'static str =
-    "well-formed CBOR that isn't read: a float, a simple value, invalid UTF-8 or an invalid bignum";
+    "well-formed CBOR that isn't read: a float, a simple value, invalid UTF-8, \
+    or a bignum that is invalid or too large";
 
 /// The trouble with an item that isn't read. The item begins at this offset of the bytes.
 fn unread(alloc: Global, name: &str, bytes: &[u8], from: usize, error: CborReadError) -> Trouble {
     let from = from as u64;
     match error {
         CborReadError::Malformed { at } => {
-            of_item(alloc, name, bytes, at.saturating_add(from), MALFORMED)
+            let at = at.saturating_add(from);
+            let said = if at < bytes.len() as u64 {
+                MALFORMED
+            } else {
+                CUT
+            };
+            of_item(alloc, name, bytes, at, said)
         }
         CborReadError::Unsupported { at } => {
             of_item(alloc, name, bytes, at.saturating_add(from), UNSUPPORTED)
@@ -57,6 +67,18 @@ pub(crate) fn convert_items<K: Sink>(
     Ok(())
 }
 
+/// Reads the one item of the bytes.
+fn read_one<'a>(alloc: Global, name: &str, bytes: &'a [u8]) -> Result<CborDoc<'a>, Trouble> {
+    match CborDoc::read_front(alloc, bytes) {
+        Ok((doc, used)) => if used < bytes.len() {
+            Err(of_left_over(alloc, name, bytes, used as u64))
+        } else {
+            Ok(doc)
+        },
+        Err(error) => Err(unread(alloc, name, bytes, 0, error)),
+    }
+}
+
 /// Reads one item, and writes what is due of it.
 pub(crate) fn convert_item<K: Sink>(
     alloc: Global,
@@ -65,9 +87,9 @@ pub(crate) fn convert_item<K: Sink>(
     bytes: &[u8],
     out: &mut K,
 ) -> Result<(), Trouble> {
-    match CborDoc::read(alloc, bytes) {
+    match read_one(alloc, name, bytes) {
         Ok(doc) => write_asked(alloc, options, &doc, out).map_err(|why| why.of(alloc, name, None)),
-        Err(error) => Err(unread(alloc, name, bytes, 0, error)),
+        Err(trouble) => Err(trouble),
     }
 }
 
@@ -79,9 +101,9 @@ pub(crate) fn check_items(
     bytes: &[u8],
 ) -> Result<(), Trouble> {
     if !options.lines {
-        return match CborDoc::read(alloc, bytes) {
+        return match read_one(alloc, name, bytes) {
             Ok(_) => Ok(()),
-            Err(error) => Err(unread(alloc, name, bytes, 0, error)),
+            Err(trouble) => Err(trouble),
         };
     }
     let mut from: usize = 0;

@@ -2,7 +2,7 @@
 
 use crate::report::{
     Place, expected_at, push_bad_call, push_bad_cbor, push_bad_json, push_bad_line,
-    push_byte_order_mark, push_not_utf8,
+    push_byte_order_mark, push_left_over, push_not_utf8,
 };
 use std::alloc::{AllocError, AllocFailed, Global};
 use sval_cbor::CborError;
@@ -82,8 +82,10 @@ impl Flaw {
     fn text(self) -> &'static str {
         match self {
             Flaw::NotOneValue => "it is not one value",
-            Flaw::KeyForCbor => "a key of it is no text, and has no CBOR",
-            Flaw::KeyForJson => "a key of it is no text and no number, and has no JSON",
+            Flaw::KeyForCbor =>
+                "a key of it is no text, number, truth value or null, and has no CBOR",
+            Flaw::KeyForJson =>
+                "a key of it is no text, number, truth value or null, and has no JSON",
             Flaw::Number => "a number of it is none",
             Flaw::Raw => "a text of it stands for JSON, and has no CBOR",
             Flaw::NotWhole => "a number of it is no whole number of 128 bits, and has no CBOR",
@@ -263,6 +265,15 @@ pub(crate) fn of_document(
 pub(crate) fn of_item(alloc: Global, name: &str, bytes: &[u8], at: u64, said: &str) -> Trouble {
     let mut text = String::new(alloc);
     match push_bad_cbor(&mut text, name, bytes, at, said) {
+        Ok(()) => Trouble::Bad(text),
+        Err(cause) => Trouble::from(cause),
+    }
+}
+
+/// The trouble with bytes behind the one item of CBOR that is read, which begin at this offset.
+pub(crate) fn of_left_over(alloc: Global, name: &str, bytes: &[u8], at: u64) -> Trouble {
+    let mut text = String::new(alloc);
+    match push_left_over(&mut text, name, bytes, at) {
         Ok(()) => Trouble::Bad(text),
         Err(cause) => Trouble::from(cause),
     }

@@ -26,13 +26,15 @@ pub(crate) enum Expected {
     CommaOrBracket,
     /// A comma or the end of an object.
     CommaOrBrace,
-    /// A backslash: the second half of a surrogate pair.
-    Backslash,
+    /// A character of an escape that is the second half of a surrogate pair.
+    SecondHalf,
     /// A digit of base 16.
     HexDigit,
+    /// A digit of base 16 behind `\ud` with which no second half of a surrogate pair begins.
+    NoSecondHalf,
     /// A digit of a number.
     Digit,
-    /// This letter of `null`, `true` or `false`, or of an escape.
+    /// This letter of `null`, `true` or `false`.
     Letter(u8),
     /// The end of the text.
     End,
@@ -55,19 +57,27 @@ fn first_letter(next: NextCharacters, letters: &[u8]) -> Expected {
 
 /// What may follow inside of a string or a number.
 fn in_scalar(next: NextCharacters) -> Expected {
-    if next.contains('\\') {
-        return Expected::Backslash;
-    }
     if next.contains(' ') {
         return Expected::End;
     }
     if next.contains('0') {
-        if next.contains('a') {
-            return Expected::HexDigit;
-        }
-        return Expected::Digit;
+        return digit(next);
     }
-    first_letter(next, b"ulreasd".as_slice())
+    if next.contains('\\') || next.contains('d') || next.contains('c') {
+        return Expected::SecondHalf;
+    }
+    first_letter(next, b"ulreas".as_slice())
+}
+
+/// Which digits may follow.
+fn digit(next: NextCharacters) -> Expected {
+    if next.contains('c') {
+        return Expected::HexDigit;
+    }
+    if next.contains('a') {
+        return Expected::NoSecondHalf;
+    }
+    Expected::Digit
 }
 
 /// What may follow behind a name or a value.
@@ -122,10 +132,15 @@ fn named(next: NextCharacters) -> Expected {
 /// ```
 /// assert_eq!(rt; expected_behind(alloc, "[1 "), Expected::CommaOrBracket);
 /// assert_eq!(rt; expected_behind(alloc, "{"), Expected::NameOrBrace);
+/// assert_eq!(rt; expected_behind(alloc, "\"\\ud83d\\"), Expected::SecondHalf);
 /// ```
 pub(crate) fn expected_behind(alloc: Global, front: &str) -> Expected {
     match sval_json_read::expected(alloc, front) {
-        Ok(next) => named(next),
+        Ok(next) => match named(next) {
+            // Behind a backslash any escape may stand, but in the second half of a surrogate pair.
+            Expected::Letter(_) if front.ends_with('\\') => Expected::SecondHalf,
+            expected => expected,
+        },
         Err(_) => Expected::Unknown,
     }
 }
@@ -143,8 +158,13 @@ pub(crate) fn push_expected(out: &mut String, expected: Expected) -> Result<(), 
         Expected::Colon => out.push_str("`:`"),
         Expected::CommaOrBracket => out.push_str("`,` or `]`"),
         Expected::CommaOrBrace => out.push_str("`,` or `}`"),
-        Expected::Backslash => out.push_str("`\\`"),
+        Expected::SecondHalf => {
+            out.push_str("the second half of a surrogate pair (`\\udc00` to `\\udfff`)")
+        }
         Expected::HexDigit => out.push_str("a hex digit"),
+        Expected::NoSecondHalf => {
+            out.push_str("a hex digit below `c` (no second half of a surrogate pair comes first)")
+        }
         Expected::Digit => out.push_str("a digit"),
         Expected::Letter(letter) => {
             out.push_str("`")?;

@@ -62,7 +62,32 @@ pub(crate) fn push_not_utf8(out: &mut String, place: &Place<'_>) -> Result<(), A
     out.push_str("not UTF-8: ")?;
     push_found(out, place.found())?;
     out.push_str("\n")?;
-    place.push_line(out)
+    place.push_line(out)?;
+    if place.begins_input() && begins_container(place.found()) {
+        out.push_str("hint: this may be CBOR: give --from cbor\n")?;
+    }
+    Ok(())
+}
+
+/// Whether what was found may begin an array or a map of CBOR (RFC 8949, section 3.1), and no text.
+fn begins_container(found: Found) -> bool {
+    matches!(found, Found::Byte(0x80..=0xbf))
+}
+
+/// Adds a line with the first eight of these bytes, if there are any.
+fn push_bytes(out: &mut String, bytes: &[u8]) -> Result<(), AllocError> {
+    if bytes.is_empty() {
+        return Ok(());
+    }
+    out.push_str(" ")?;
+    for byte in bytes.iter().take(8) {
+        out.push_str(" ")?;
+        push_hex(out, *byte)?;
+    }
+    if bytes.len() > 8 {
+        out.push_str(" ...")?;
+    }
+    out.push_str("\n")
 }
 
 /// Adds the error of bytes that are no item of CBOR: the offset, why, and eight bytes at most from there.
@@ -75,22 +100,28 @@ pub(crate) fn push_bad_cbor(
 ) -> Result<(), AllocError> {
     out.push_str("sval: ")?;
     out.push_str(name)?;
-    write!(out, ": byte {at}: {said}\n ")?;
+    write!(out, ": byte {at}: {said}\n")?;
     let from = usize::try_from(at).unwrap_or(bytes.len());
-    let rest = bytes.get(from..).unwrap_or_default();
-    for byte in rest.iter().take(8) {
-        out.push_str(" ")?;
-        push_hex(out, *byte)?;
-    }
-    if rest.is_empty() {
-        out.push_str(" the bytes end")?;
-    }
-    if rest.len() > 8 {
-        out.push_str(" ...")?;
-    }
-    out.push_str("\n")?;
+    push_bytes(out, bytes.get(from..).unwrap_or_default())?;
     if matches!(bytes.first(), Some(b'{' | b'[')) {
         out.push_str("hint: this looks like JSON: leave --from cbor out\n")?;
     }
     Ok(())
+}
+
+/// Adds the error of bytes behind the one item of CBOR that is read.
+pub(crate) fn push_left_over(
+    out: &mut String,
+    name: &str,
+    bytes: &[u8],
+    at: u64,
+) -> Result<(), AllocError> {
+    push_bad_cbor(
+        out,
+        name,
+        bytes,
+        at,
+        "these bytes are left over behind the item",
+    )?;
+    out.push_str("hint: several items, one behind another: give --lines\n")
 }

@@ -107,6 +107,11 @@ impl<'a> Place<'a> {
         self.found
     }
 
+    /// Whether the place is that of the first byte.
+    pub(crate) fn begins_input(&self) -> bool {
+        self.line == 1 && self.column == 1
+    }
+
     /// Whether the place is in a second line or a later one, and only white space is before it there.
     pub(crate) fn begins_line(&self) -> bool {
         self.line > 1 && self.before.trim().is_empty()
