@@ -299,7 +299,11 @@ impl<'d> CborRef<'d> {
     }
 }
 
-/// It takes no memory, and never fails.
+/// It takes no memory, and never fails. Like every `clone` it answers a `Result`:
+///
+/// ```
+/// let again = doc.root().clone()?;
+/// ```
 impl<'d> Clone for CborRef<'d> {
     ghost use Rattle.std.specs.Prelude.{◌≡◌, ⊤};
 

@@ -33,12 +33,15 @@ use sval_ref::ValueRef;
 use unread::{Unread, front_error, whole_error};
 
 /// Why bytes can't be read.
+///
+/// `at` is where the reader stops, and the variant tells of the bytes as a whole. So of `f7 01`, which isn't one item,
+/// the error is `Malformed { at: 0 }`: the reader stops at the simple value `f7`, before the byte that is left over.
 #[derive(Clone, Copy, Debug, PartialEq, Eq)]
 pub enum CborReadError {
     /// They are not one well-formed item of CBOR (RFC 8949, section 3 and appendix C), whole and with nothing behind
     /// it. `at` is the offset of the first head, chunk or break that is cut, not allowed in its place or none of this
-    /// profile, or that of the first byte behind the item. It is the length of the bytes where they end before a head,
-    /// a chunk or a break.
+    /// profile. Where there is none, it is that of the first byte behind the item, or the length of the bytes where
+    /// they end before a head, a chunk or a break.
     Malformed { at: u64 },
     /// They are one well-formed item, but none of this profile. `at` is the offset of the head of a float, of a simple
     /// value other than `false`, `true` and `null`, or of a text or a chunk that is not UTF-8. Where the tag 2 or 3 is
@@ -67,7 +70,8 @@ impl fmt::Display for CborReadError {
             CborReadError::Unsupported { at } => {
                 write!(
                     f,
-                    "unsupported CBOR at byte {at}: a float, a simple value, invalid UTF-8 or an invalid bignum"
+                    "unsupported CBOR at byte {at}: a float, a simple value, invalid UTF-8, \
+                    or a bignum that is invalid or too large"
                 )
             },
             CborReadError::NoMemory => f.write_str("cannot allocate for an item of CBOR"),

@@ -195,19 +195,21 @@ c25f4101f7ff
 /// Bytes whose front is read: what is behind the first item tells nothing of it.
 const FRONTS: &'static str = r#"
 f93c00ff
-= error unsupported CBOR at byte 0: a float, a simple value, invalid UTF-8 or an invalid bignum
+= error unsupported CBOR at byte 0: a float, a simple value, invalid UTF-8, or a bignum that is invalid or too large
 f7f7
-= error unsupported CBOR at byte 0: a float, a simple value, invalid UTF-8 or an invalid bignum
+= error unsupported CBOR at byte 0: a float, a simple value, invalid UTF-8, or a bignum that is invalid or too large
 82f7f700
-= error unsupported CBOR at byte 1: a float, a simple value, invalid UTF-8 or an invalid bignum
+= error unsupported CBOR at byte 1: a float, a simple value, invalid UTF-8, or a bignum that is invalid or too large
 61ff00
-= error unsupported CBOR at byte 0: a float, a simple value, invalid UTF-8 or an invalid bignum
+= error unsupported CBOR at byte 0: a float, a simple value, invalid UTF-8, or a bignum that is invalid or too large
 c2f600
-= error unsupported CBOR at byte 1: a float, a simple value, invalid UTF-8 or an invalid bignum
+= error unsupported CBOR at byte 1: a float, a simple value, invalid UTF-8, or a bignum that is invalid or too large
 c2814101ff
-= error unsupported CBOR at byte 1: a float, a simple value, invalid UTF-8 or an invalid bignum
+= error unsupported CBOR at byte 1: a float, a simple value, invalid UTF-8, or a bignum that is invalid or too large
+c2510100000000000000000000000000000000
+= error unsupported CBOR at byte 1: a float, a simple value, invalid UTF-8, or a bignum that is invalid or too large
 7f61c361a9ff1c
-= error unsupported CBOR at byte 1: a float, a simple value, invalid UTF-8 or an invalid bignum
+= error unsupported CBOR at byte 1: a float, a simple value, invalid UTF-8, or a bignum that is invalid or too large
 f93c
 = error invalid CBOR at byte 0: cut short, not well-formed or left over
 82f7
