@@ -61,7 +61,7 @@ pub fn write_i64<K: Sink>(out: &mut K, number: i64) -> Result<(), SinkError>
 /// - [`CborError::NotInteger`] comes where it is one with a fraction or an exponent, or not from -2^127 to 2^128-1.
 /// - [`CborError::Write`] and [`CborError::NoMemory`] come from the sink, after a first part of the bytes.
 ///
-/// The first two leave the sink as it was.
+/// After the first two the sink tells what it told before.
 pub fn write_number<K: Sink>(out: &mut K, text: &str) -> Result<(), CborError>
     ensures { AnswersDue result (K.told out.old) (number_bytes false (normal text.now)) (K.told out.new) }
 {

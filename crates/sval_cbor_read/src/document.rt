@@ -34,7 +34,8 @@ use unread::{Unread, front_error, whole_error};
 
 /// Why bytes can't be read.
 ///
-/// `at` is where the reader stops, and the variant tells of the bytes as a whole. So of `f7 01`, which isn't one item,
+/// `at` is where the reader stops, and the variant tells of the bytes as a whole. From [`CborDoc::read_front`] it tells
+/// of the first item alone. So of `f7 01`, which isn't one item,
 /// the error is `Malformed { at: 0 }`: the reader stops at the simple value `f7`, before the byte that is left over.
 #[derive(Clone, Copy, Debug, PartialEq, Eq)]
 pub enum CborReadError {

@@ -93,10 +93,10 @@ pub fn expected(alloc: Global, front: &str) -> Result<NextCharacters, NoMemory>
 ///
 /// # Errors
 ///
-/// [`NoMemory`] comes where there was no memory for what is kept of the front, or a number or string in it is 4 GiB or
-/// longer.
+/// Those of [`expected`].
 pub fn goes_on(alloc: Global, front: &str, next: char) -> Result<bool, NoMemory>
-    ensures { IfOk result (λ goes. IsTrue goes ↔ IsFront (front.now ++ encode_utf8 next)) }
+    ensures goes { IfOk result (λ goes. IsTrue goes ↔ IsFront (front.now ++ encode_utf8 next)) }
+    ensures no_memory { IfErr result (λ error. KeepsSome front.now) }
 {
     match expected(alloc, front) {
         Ok(characters) => Ok(characters.contains(next)),

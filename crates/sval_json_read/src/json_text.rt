@@ -41,7 +41,8 @@ impl<'d> JsonText<'d> {
         JsonText { raw }
     }
 
-    /// Its text, lent from the document, where it has no escape.
+    /// Its text, lent from the document, or `None` where it has an escape. That it is lent where it has none is tested, not
+    /// proved.
     pub fn as_lent(&self) -> Option<&'d str>
         ensures { IfSome result (λ text. text.now ≡ self.now) }
     {

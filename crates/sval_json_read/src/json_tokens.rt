@@ -143,9 +143,6 @@ fn mark_number(text: &str) -> JsonMark<'_>
 
 /// The tokens of a document that are left, seen as a list of them.
 ///
-/// What is left out of some tokens is the tokens of another value where whole members go, from their name to the last
-/// token of their value.
-///
 /// ```
 /// let doc = JsonDoc::read_str(alloc, "[null]")?;
 /// let mut tokens = doc.tokens();
