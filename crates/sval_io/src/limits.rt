@@ -1,6 +1,6 @@
 //! How large a document may be that is read from a stranger.
 
-/// How large a document may be. A document that is larger is refused, at the byte that passes a limit.
+/// How large a document may be. A reader stops at the first byte that passes a limit, before it keeps more.
 ///
 /// `JsonDoc::read_with` of `sval_json_read` and `CborDoc::read_with` of `sval_cbor_read` take them. Each says what it
 /// counts as a level, and what as a node.
