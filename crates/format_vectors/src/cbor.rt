@@ -5,6 +5,7 @@ mod items;
 mod limits;
 mod malformed;
 mod parts;
+mod places;
 mod sinks;
 mod unsupported;
 mod written;

@@ -2,6 +2,7 @@
 
 use crate::cases::try_cases;
 use crate::cbor::items::Read;
+use crate::cbor::places::BadBytes;
 use std::test::Fail;
 
 /// The input ends within a head.
@@ -233,6 +234,7 @@ fn each_is_bad(rt: HostRuntime) -> Result<(), Fail> {
     ];
     for table in tables {
         try_cases::<Read>(&rt, rt.alloc(), table)?;
+        try_cases::<BadBytes>(&rt, rt.alloc(), table)?;
     }
     Ok(())
 }

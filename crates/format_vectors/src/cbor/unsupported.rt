@@ -2,6 +2,7 @@
 
 use crate::cases::try_cases;
 use crate::cbor::items::{Front, Read};
+use crate::cbor::places::BadBytes;
 use std::test::Fail;
 
 /// Floats: those of the standard's appendix A, and then some in arrays, in maps and under a tag.
@@ -234,6 +235,9 @@ c25f00ff00
 fn each_has_its_cause(rt: HostRuntime) -> Result<(), Fail> {
     for table in [FLOATS, SIMPLE_VALUES, TEXTS, BIGNUMS, NEITHER] {
         try_cases::<Read>(&rt, rt.alloc(), table)?;
+    }
+    for table in [FLOATS, SIMPLE_VALUES, TEXTS] {
+        try_cases::<BadBytes>(&rt, rt.alloc(), table)?;
     }
     try_cases::<Front>(&rt, rt.alloc(), FRONTS)
 }
