@@ -1,5 +1,6 @@
 //! The reader of JSON.
 
+mod accepted;
 mod depth;
 mod documents;
 mod fronts;

@@ -1,0 +1,9 @@
+use Rattle.std.proofs.Common.{length}
+use Rattle.std.specs.Prelude.{⊤}
+use Rattle.format_vectors.proofs.json.accepted.joined_items.Given as goal
+
+abbrev pub invariant-loop-item : goal.invariant-loop-item
+invariant-loop-item l = ⊤
+
+abbrev pub decreases-loop-item : goal.decreases-loop-item
+decreases-loop-item l = length l.left
