@@ -8,9 +8,9 @@ use sval_json::stream_to_string;
 use sval_json_read::{JsonDoc, JsonItems, JsonMembers, JsonRef};
 
 /// A text, and behind it `same`.
-struct Joined;
+struct Parted;
 
-impl Case for Joined {
+impl Case for Parted {
     fn seen(alloc: Global, input: &str, _due: &str) -> Result<String, Fail> {
         let doc = JsonDoc::read_str(alloc, input)?;
         let whole = stream_to_string(alloc, &doc)?;
@@ -268,5 +268,5 @@ true␄
 
 #[test]
 fn parts_make_the_whole(rt: HostRuntime) -> Result<(), Fail> {
-    try_cases::<Joined>(&rt, rt.alloc(), ACCEPTED)
+    try_cases::<Parted>(&rt, rt.alloc(), ACCEPTED)
 }
