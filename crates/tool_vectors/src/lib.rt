@@ -7,4 +7,6 @@ mod converting;
 #[cfg(test)]
 mod faults;
 #[cfg(test)]
+mod members;
+#[cfg(test)]
 mod rows;
