@@ -44,11 +44,11 @@ fn joined(alloc: Global, value: JsonRef<'_>) -> Result<String, Fail> {
 fn joined_items(alloc: Global, items: JsonItems<'_>) -> Result<String, Fail> {
     let mut text = String::from_str(alloc, "[")?;
     let mut left = items;
-    let mut comma = "";
     while let Some(item) = left.next() {
-        text.push_str(comma)?;
+        if text.len() > 1 {
+            text.push_str(",")?;
+        }
         text.push_str(stream_to_string(alloc, &item.part())?.as_str())?;
-        comma = ",";
     }
     text.push_str("]")?;
     Ok(text)
@@ -58,14 +58,14 @@ fn joined_items(alloc: Global, items: JsonItems<'_>) -> Result<String, Fail> {
 fn joined_members(alloc: Global, members: JsonMembers<'_>) -> Result<String, Fail> {
     let mut text = String::from_str(alloc, "{")?;
     let mut left = members;
-    let mut comma = "";
     while let Some(member) = left.next() {
         let name = member.name.to_text(alloc)?;
-        text.push_str(comma)?;
+        if text.len() > 1 {
+            text.push_str(",")?;
+        }
         text.push_str(stream_to_string(alloc, &name.as_str())?.as_str())?;
         text.push_str(":")?;
         text.push_str(stream_to_string(alloc, &member.value.part())?.as_str())?;
-        comma = ",";
     }
     text.push_str("}")?;
     Ok(text)
