@@ -31,4 +31,5 @@ pub mod ScriptSlices
 pub mod ScriptStreams
 pub mod ScriptTexts
 pub mod WholeLines
+mod NumbersRead
 mod examples
