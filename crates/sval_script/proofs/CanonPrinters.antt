@@ -4,17 +4,17 @@ use Rattle.std.specs.Option.{unwrap_or}
 use Rattle.std.specs.List.{cons_option}
 use Rattle.std.proofs.Common.{inl, inr, ap}
 use Rattle.sval_label.specs.Calls.{Call}
-use Rattle.sval_core.specs.Law.{Standing, Emission, Rose, HasCause, Refuses, Ran, Streams, StoppedIn, Stops, Through, inner_standing, through}
+use Rattle.sval_core.specs.Law.{Standing, Emission, Rose, HasCause, Takes, Refuses, Ran, Streams, StoppedIn, Stops, Through, inner_standing, through}
 use Rattle.sval_io.specs.Sinks.{Told}
 use Rattle.sval_script.specs.declared.print_error.PrintError.{PrintError}
 use Rattle.sval_script.specs.declared.print_error.PrintError.TheVariants as error
 use Rattle.sval_script.specs.declared.canon.CanonPrinter.{CanonPrinter}
 use Rattle.sval_script.specs.Printed.{canonical_call, canonical_calls}
 use Rattle.sval_script.specs.Printing.{Printing, IsCutBy, MayPrint, printer_law}
-use Rattle.sval_script.specs.CanonPrinting.{after_shown, IsShownCut, canon_law, canon_standing}
+use Rattle.sval_script.specs.CanonPrinting.{after_shown, IsShownCut, PrintsShown, canon_law, canon_standing}
 use Rattle.sval_script.specs.PrintedValues.{PrintsValue}
 use Rattle.sval_script.specs.Canon.{as_canonical}
-use Rattle.sval_script.proofs.Printers.{stands, refuses_call}
+use Rattle.sval_script.proofs.Printers.{stands, takes_call, refuses_call}
 use Rattle.sval_script.proofs.PrintedValues.{printed_streams, printed_stops}
 
 -- where the stream stands whose sink, held under this name, tells this
@@ -34,6 +34,22 @@ module _ (old new : Told) (before : Option PrintError) (name : ℕ) (call : Call
   refuses_shown shown why is cut =
       let r = refuses_call old new before why shown cut in
       record { cause = shown_cause shown (stands new (Some why)) is r.cause; left = (rw is r.left, refl); faults = r.faults; wants = r.wants }
+
+  pub takes_shown : (shown : Option Call) → canonical_call call ≡ shown → PrintsShown (Ok tt) old shown new → Takes canon_law (canon_stands old before name) call (canon_stands new before name)
+  takes_shown None is (done, same) = rw same (record { accepted = rw is tt; view = rw is refl; faults = refl; wants = refl })
+  takes_shown (Some shown) is (known, written) =
+      let t = takes_call old new before shown known written in
+      record {
+        accepted = rw is t.accepted;
+        view = rw is (ap (λ (v : Printing). let both : Through Printing = (v, name) in both) t.view);
+        faults = t.faults;
+        wants = t.wants;
+      }
+
+  pub refuses_any : (shown : Option Call) (why : PrintError) → canonical_call call ≡ shown → PrintsShown (Err why) old shown new
+      → Refuses canon_law (canon_stands old before name) call (canon_stands new (Some why) name)
+  refuses_any None why is (never, same) = absurd (cc never)
+  refuses_any (Some shown) why is cut = refuses_shown shown why is cut
 
 -- ---- all calls: a printer takes the canonical ones
 

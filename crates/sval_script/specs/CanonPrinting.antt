@@ -1,5 +1,5 @@
 -- Calls printed canonically to a sink: the law of a stream over a printer's sink, which is shown the canonical calls alone.
-use Rattle.std.specs.Prelude.{◌≡◌, Option, Some, None, IfSome}
+use Rattle.std.specs.Prelude.{◌≡◌, Option, Some, None, IfSome, Result, Ok}
 use Rattle.std.specs.Borrow.{MutBor}
 use Rattle.sval_label.specs.Calls.{Call}
 use Rattle.sval_core.specs.Law.{Law, Standing, Through}
@@ -7,7 +7,7 @@ use Rattle.sval_io.specs.Sinks.{Told}
 use Rattle.sval_script.specs.declared.print_error.PrintError.{PrintError}
 use Rattle.sval_script.specs.declared.canon.CanonPrinter.{CanonPrinter}
 use Rattle.sval_script.specs.Printed.{canonical_call}
-use Rattle.sval_script.specs.Printing.{Printing, MayPrint, IsCutBy, whole_line, with_printed}
+use Rattle.sval_script.specs.Printing.{Printing, PrintsLine, MayPrint, IsCutBy, whole_line, with_printed}
 
 -- the printer after a call that is shown so
 abbrev pub after_shown : Printing → Option Call → Printing
@@ -18,6 +18,11 @@ after_shown printing (Some call) = with_printed (whole_line call) printing
 abbrev pub IsShownCut : Option Call → Printing → Printing → Type 0
 IsShownCut None old left = ⊥
 IsShownCut (Some call) old left = IsCutBy left.why call old.told left.told
+
+-- what printing a call says that is shown so: its line is printed, or nothing is where it isn't shown
+abbrev pub PrintsShown : Result (Unit {0}) PrintError → Told → Option Call → Told → Type 0
+PrintsShown result old None new = (result ≡ Ok tt) × (new ≡ old)
+PrintsShown result old (Some call) new = PrintsLine result old call new
 
 -- a call is taken where it isn't shown or a printer takes the canonical one, and then that one's line was written
 abbrev pub canon_law : Law (Through Printing)

@@ -1,12 +1,11 @@
 //! Values printed canonically.
 
-ghost use Rattle.std.specs.Prelude.{◌≡◌, option_map};
 ghost use Rattle.sval_label.specs.Grouped.{grouped_call};
 ghost use Rattle.sval_label.specs.Made.{lent_call};
 ghost use Rattle.sval_core.specs.Law.{Answers, Through};
 ghost use Rattle.sval_script.specs.Printed.{canonical_call};
 ghost use Rattle.sval_script.specs.Printing.{Printing};
-ghost use Rattle.sval_script.specs.CanonPrinting.{canon_law, canon_standing};
+ghost use Rattle.sval_script.specs.CanonPrinting.{PrintsShown, canon_law, canon_standing};
 ghost use Rattle.sval_script.specs.Canon.{as_canonical};
 ghost use Rattle.sval_script.specs.PrintedValues.{PrintsValue};
 
@@ -24,23 +23,21 @@ pub(crate) struct CanonPrinter<'k, K: Sink> {
     why: Option<PrintError>,
 }
 
-/// The call as a canonical script shows it, if it does.
-fn canonical<'c>(
-    call: GroupedCall<'c, &'c str, &'c [u8]>,
-) -> Option<GroupedCall<'c, &'c str, &'c [u8]>>
-    ensures { let seen = grouped_call (λ text. text.now) (λ bytes. bytes.now) in
-        option_map seen result ≡ canonical_call (seen call.entry) }
+/// Prints a call as a canonical script shows it, if it does.
+fn print_shown<K: Sink>(sink: &mut K, call: GroupedCall<'_, &str, &[u8]>) -> Result<(), PrintError>
+    ensures { let said = grouped_call (λ text. text.now) (λ bytes. bytes.now) call.entry in
+        PrintsShown result (K.told sink.old) (canonical_call said) (K.told sink.new) }
 {
     match call {
-        GroupedCall::TagHint(_) => None,
-        GroupedCall::Begin(head, _) => Some(GroupedCall::Begin(head, None)),
+        GroupedCall::TagHint(_) => Ok(()),
+        GroupedCall::Begin(head, _) => print_call(sink, GroupedCall::Begin(head, None)),
         GroupedCall::TextFragment(Fragment::Computed(text)) => {
-            Some(GroupedCall::TextFragment(Fragment::Borrowed(text)))
+            print_call(sink, GroupedCall::TextFragment(Fragment::Borrowed(text)))
         }
         GroupedCall::BinaryFragment(Fragment::Computed(bytes)) => {
-            Some(GroupedCall::BinaryFragment(Fragment::Borrowed(bytes)))
+            print_call(sink, GroupedCall::BinaryFragment(Fragment::Borrowed(bytes)))
         }
-        _ => Some(call),
+        _ => print_call(sink, call),
     }
 }
 
@@ -55,10 +52,7 @@ impl<'v, 'k, K: Sink> Stream<Lent<'v>> for CanonPrinter<'k, K> {
         ensures { Answers canon_law result
             (canon_standing K.told self.old) (lent_call call.entry) (canon_standing K.told self.new) }
     {
-        let Some(call) = canonical(call.grouped()) else {
-            return Ok(());
-        };
-        match print_call(self.out, call) {
+        match print_shown(self.out, call.grouped()) {
             Ok(()) => Ok(()),
             Err(why) => {
                 self.why = Some(why);
