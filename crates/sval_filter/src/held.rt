@@ -16,9 +16,9 @@ use sval_core::{AnyCall, Fragment, GroupedCall, Lending, NoMemory, Stream};
 use sval_ref::ValueRef;
 
 /// The call with its fragment as a computed one.
-fn as_computed<'c, L: Lending>(
-    call: &'c GroupedCall<'c, L::Text, L::Bytes>,
-) -> GroupedCall<'c, &'static str, &'static [u8]>
+fn as_computed<'a, 'c, L: Lending>(
+    call: &'a GroupedCall<'c, L::Text, L::Bytes>,
+) -> GroupedCall<'a, &'static str, &'static [u8]>
     ensures { (text : _) (bytes : _)
         → grouped_call text bytes result ≡ computed (grouped_call L.text L.bytes call.now) }
 {
