@@ -39,6 +39,8 @@ pub mod NumberStreams
 pub mod KeptTokens
 pub mod PlainRuns
 pub mod ByteRuns
+mod Lanes
+pub mod Passed
 mod examples
 pub mod TokenTexts
 pub mod NodeTexts

@@ -64,7 +64,7 @@ passes_over bytes at n reader is_key e le plain =
     ∙ ap (λ x. Some (in_string is_key opened tokens x)) (sym (between_run bytes reader.from at n le)) ∙ ap (λ x. Some x) (sym behind)
 
 -- a run behind the bytes so far
-after-run : (bytes : List ℕ) (n k : ℕ) (state next : ReaderState) → after_bytes reader_start (take n bytes) ≡ Some state → after_bytes state (take k (drop n bytes)) ≡ Some next → after_bytes reader_start (take (n + k) bytes) ≡ Some next
+pub after-run : (bytes : List ℕ) (n k : ℕ) (state next : ReaderState) → after_bytes reader_start (take n bytes) ≡ Some state → after_bytes state (take k (drop n bytes)) ≡ Some next → after_bytes reader_start (take (n + k) bytes) ≡ Some next
 after-run bytes n k state next e f =
     ap (after_bytes reader_start) (take-add n k bytes) ∙ after-append (take n bytes) (take k (drop n bytes)) reader_start ∙ ap (option_and_then (λ s. after_bytes s (take k (drop n bytes)))) e ∙ f
 

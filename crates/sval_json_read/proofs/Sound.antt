@@ -105,7 +105,7 @@ text_begun (in_text rest c s) = let t = c [] plain in value_then (json.string t.
 key_begun : {bytes : List ℕ} {opened : List Opened} → Fits (InString true Plain []) opened bytes → KeyThen opened (34 ∷ bytes)
 key_begun (in_key rest c s) = let t = c [] plain in key_then refl t.1 s
 
-first_number_byte : (byte : ℕ) (phase : NumberPhase) → first_phase byte ≡ Some phase → is_number_byte byte ≡ true
+pub first_number_byte : (byte : ℕ) (phase : NumberPhase) → first_phase byte ≡ Some phase → is_number_byte byte ≡ true
 first_number_byte byte phase h = go (byte == minus) (byte == zero_digit) (is_ascii_digit byte) refl refl refl h
   where
     go : (m z d : Bool) → (byte == minus) ≡ m → (byte == zero_digit) ≡ z → is_ascii_digit byte ≡ d

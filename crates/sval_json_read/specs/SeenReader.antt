@@ -1,5 +1,5 @@
 -- What the reader of the code stands for: a state of the machine after some first bytes.
-use Rattle.std.specs.Prelude.{◌≡◌, ℕ, ◌+◌, ◌<◌, ◌≤◌, ◌⊎◌, length, get_or, Bool, true, false, List, [], ◌∷◌, ◌++◌, map, Option, Some, None, Result, IfOk, IfErr, IsUtf8, IsCharBoundary}
+use Rattle.std.specs.Prelude.{◌≡◌, ℕ, ◌+◌, ◌<◌, ◌≤◌, ◌⊎◌, length, take, get_or, Bool, true, false, List, [], ◌∷◌, ◌++◌, map, Option, Some, None, Result, IfOk, IfErr, IsUtf8, IsCharBoundary}
 use Rattle.std.specs.List.{between, AllByRecursion}
 use Rattle.sval_label.specs.declared.error.NoMemory.{NoMemory}
 use Rattle.sval_json_read.specs.declared.node.Place.{Place}
@@ -153,6 +153,33 @@ skips_spaces expected.NextKey = true
 skips_spaces expected.Colon = true
 skips_spaces expected.Next = true
 skips_spaces _ = false
+
+-- a value comes next
+abbrev pub takes_values : made_expected.Expected → Bool
+takes_values expected.AValue = true
+takes_values expected.FirstItem = true
+takes_values _ = false
+
+-- a key comes next
+abbrev pub takes_keys : made_expected.Expected → Bool
+takes_keys expected.FirstKey = true
+takes_keys expected.NextKey = true
+takes_keys _ = false
+
+-- the bytes up to this place bring the machine to the state that the reader stands for
+abbrev pub Reaches : List ℕ → ℕ → Reader → Type 0
+Reaches bytes upto reader = machine.after_bytes machine.reader_start (take upto bytes) ≡ Some (seen_state bytes upto reader)
+
+-- from one place on, where the reader was the old one, the bytes were read up to another
+pub record Passes (bytes : List ℕ) (at : ℕ) (old : Reader) (upto : ℕ) (new : Reader) : Type 0 where
+  pub order : at ≤ upto
+  pub within : upto ≤ length bytes
+  pub reaches : Reaches bytes at old → Reaches bytes upto new
+  pub reads : IsReadTo bytes upto new
+
+-- the byte at this place is taken, and this comes next
+abbrev pub LeadsTo : List ℕ → ℕ → Reader → machine.Expected → Type 0
+LeadsTo bytes at old next = machine.reader_step (seen_state bytes at old) (get_or bytes at 0) ≡ Some (machine.expects (seen_state bytes at old) next)
 
 -- ---- reading a byte
 

@@ -1,5 +1,5 @@
 -- What the letters of `null`, `true` and `false` stand for that are left of them.
-use Rattle.std.specs.Prelude.{◌≡◌, ℕ, [], ◌∷◌, Option, Some, None}
+use Rattle.std.specs.Prelude.{◌≡◌, ℕ, List, [], ◌∷◌, Option, Some, None}
 use Rattle.sval_json_read.specs.declared.word.Word.{Word}
 use Rattle.sval_json_read.specs.declared.word.Word.TheVariants as word
 use Rattle.sval_json_read.specs.Reader.{Expected, Letter, Next, ReaderState, step_in, expects}
@@ -15,6 +15,14 @@ expected_word word.E = Letter 101 []
 expected_word word.Alse = Letter 97 (108 ∷ 115 ∷ 101 ∷ [])
 expected_word word.Lse = Letter 108 (115 ∷ 101 ∷ [])
 expected_word word.Se = Letter 115 (101 ∷ [])
+
+-- all letters that are left
+abbrev pub letters_in : Expected → List ℕ
+letters_in (Letter letter letters) = letter ∷ letters
+letters_in _ = []
+
+abbrev pub letters_of : Word → List ℕ
+letters_of word = letters_in (expected_word word)
 
 -- what comes next where this is left of a word
 abbrev pub left_of : Option Word → Expected

@@ -230,8 +230,8 @@ impl<'a> JsonDoc<'a> {
     }
 }
 
-/// Reads the nodes of a text, byte by byte, but that plain bytes of a string, digits and white space are passed over at
-/// once.
+/// Reads the nodes of a text. Where a node may be kept it takes one byte at a time, and what comes between is passed over
+/// at once.
 fn read_nodes(alloc: Global, bytes: &[u8]) -> Result<Vec<Node>, ReadError>
     requires { IsUtf8 bytes.now }
     ensures ok { IfOk result (λ nodes. IsDocument bytes.now (tokens_in bytes.now (map seen_node nodes.items))) }
@@ -243,7 +243,7 @@ fn read_nodes(alloc: Global, bytes: &[u8]) -> Result<Vec<Node>, ReadError>
     let mut at: usize = 0;
     while at < bytes.len() {
         match reader.step(bytes, at) {
-            Ok(true) => at += 1 + reader.plain_run(bytes, at + 1),
+            Ok(true) => at = reader.pass_over(bytes, at + 1),
             Ok(false) => return Err(ReadError::BadJson { at: at as u64 }),
             Err(cause) => return Err(ReadError::from(cause)),
         }

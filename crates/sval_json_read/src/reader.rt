@@ -7,9 +7,11 @@ ghost use Rattle.sval_json_read.specs.SeenNodes.{node_place, seen_node, StandsIn
 ghost use Rattle.sval_json_read.specs.NodeCounts.{IsLeaf};
 ghost use Rattle.sval_json_read.specs.SeenReader.{seen_state, HasToken, EndsText, AddsNode, TakesByte, KeepsRead, WantsOnlyFor, IsReadTo};
 
+mod ahead;
 mod begins;
 mod container;
 mod front;
+mod lanes;
 mod runs;
 mod scalar;
 pub(crate) mod waiting;

@@ -1,15 +1,15 @@
 //! Where values begin and what follows them.
 
-ghost use Rattle.std.specs.Prelude.{◌≡◌, ◌+◌, ◌<◌, [], IfOk, length, get_or};
+ghost use Rattle.std.specs.Prelude.{◌≡◌, ◌+◌, ◌<◌, [], ◌∷◌, IfOk, length, get_or};
 ghost use Rattle.sval_json.specs.Grammar.{is_space};
 ghost use Rattle.sval_json_read.specs.Strings.{Plain};
 ghost use Rattle.sval_json_read.specs.Reader as machine;
-ghost use Rattle.sval_json_read.specs.SeenReader.{seen_state, GivesState, OpensContainer, ClosesContainer, TakesByte, KeepsRead, WantsOnlyFor, IsReadTo};
+ghost use Rattle.sval_json_read.specs.SeenReader.{seen_state, phase_of, GivesState, OpensContainer, ClosesContainer, TakesByte, KeepsRead, WantsOnlyFor, IsReadTo};
 ghost use Rattle.sval_json_read.specs.declared.reader.Expected.TheVariants as expected;
 
 use super::{Expected, Reader};
 use crate::node::Node;
-use crate::number::first_phase;
+use crate::number::{Phase, first_phase};
 use crate::stack::Opened;
 use crate::string::Within;
 use crate::word::Word;
@@ -78,7 +78,7 @@ impl Reader {
 
     /// Begins a string behind its quote.
     #[tactic(auto, using(crate::proofs::KeptNodes::between_nothing))]
-    fn begin_string(&mut self, is_key: bool, bytes: &[u8], at: usize)
+    pub(super) fn begin_string(&mut self, is_key: bool, bytes: &[u8], at: usize)
         requires at_in { at < length bytes.now }
         requires reads { IsReadTo bytes.now at self.old }
         requires quote { get_or bytes.now at 0 ≡ 34 }
@@ -88,6 +88,21 @@ impl Reader {
     {
         self.from = at + 1;
         self.expected = Expected::InString(is_key, Within::Plain);
+    }
+
+    /// Begins a number with this byte.
+    #[tactic(auto, using(crate::proofs::KeptNodes::between_one, crate::proofs::ReaderPlaces::of_places))]
+    pub(super) fn begin_number(&mut self, phase: Phase, bytes: &[u8], at: usize)
+        requires at_in { at < length bytes.now }
+        requires reads { IsReadTo bytes.now at self.old }
+        requires ascii { get_or bytes.now at 0 < 128 }
+        ensures begins { seen_state bytes.now (at + 1) self.new
+            ≡ machine.expects (seen_state bytes.now at self.old)
+            (machine.InNumber (phase_of phase) (get_or bytes.now at 0 ∷ [])) }
+        ensures reads { IsReadTo bytes.now (at + 1) self.new }
+    {
+        self.from = at;
+        self.expected = Expected::InNumber(phase);
     }
 
     /// Reads the first byte of a value.
@@ -119,10 +134,7 @@ impl Reader {
             },
             _ => match first_phase(byte) {
                 None => return Ok(false),
-                Some(phase) => {
-                    self.from = at;
-                    self.expected = Expected::InNumber(phase);
-                },
+                Some(phase) => self.begin_number(phase, bytes, at),
             },
         }
         Ok(true)
@@ -236,8 +248,5 @@ impl Reader {
 pub(super) fn is_white(byte: u8) -> bool
     ensures { result ≡ is_space byte }
 {
-    match byte {
-        b' ' | b'\t' | b'\n' | b'\r' => true,
-        _ => false,
-    }
+    byte <= b' ' && matches!(byte, b' ' | b'\t' | b'\n' | b'\r')
 }

@@ -3,11 +3,13 @@
 ghost use Rattle.std.specs.Prelude.{◌≡◌, ◌+◌, ◌≤◌, Some, length, take, drop};
 ghost use Rattle.std.specs.Char.{is_ascii_digit};
 ghost use Rattle.std.specs.List.{AllPass};
+ghost use Rattle.sval_json.specs.Escape.{is_plain};
 ghost use Rattle.sval_json.specs.Grammar.{is_space};
 ghost use Rattle.sval_json_read.specs.Reader as machine;
 ghost use Rattle.sval_json_read.specs.SeenReader.{seen_state, takes_digits, skips_spaces};
 
 use super::container::is_white;
+use super::lanes::{LANES, others_than_digits, others_than_plain, others_than_spaces};
 use super::{Expected, Reader};
 use crate::number::Phase;
 use crate::string::Within;
@@ -25,7 +27,7 @@ impl Reader {
             ≡ Some (seen_state bytes.now (at + result) self.now) }
     {
         match self.expected {
-            Expected::InString(_, Within::Plain) => first_escape(&bytes[at..]),
+            Expected::InString(_, Within::Plain) => plain_ahead(&bytes[at..]),
             Expected::InNumber(phase) if takes_digits(phase) => digits_ahead(&bytes[at..]),
             expected => match bytes.get(at) {
                 // Most often another token comes at once.
@@ -56,11 +58,34 @@ fn skips_spaces(expected: Expected) -> bool
     }
 }
 
+/// How many bytes come before the first that is escaped between quotes.
+///
+/// Most strings are short, so the first 16 bytes are looked at within the caller.
+#[inline(always)]
+fn plain_ahead(bytes: &[u8]) -> usize
+    ensures within { result ≤ length bytes.now }
+    ensures plain { AllPass is_plain (take result bytes.now) }
+{
+    if bytes.len() >= LANES {
+        let others = others_than_plain(bytes);
+        if others != 0 {
+            return others.trailing_zeros() as usize;
+        }
+    }
+    first_escape(bytes)
+}
+
 /// How many digits come before another byte.
 fn digits_ahead(bytes: &[u8]) -> usize
     ensures within { result ≤ length bytes.now }
     ensures digits { AllPass is_ascii_digit (take result bytes.now) }
 {
+    if bytes.len() >= LANES {
+        let others = others_than_digits(bytes);
+        if others != 0 {
+            return others.trailing_zeros() as usize;
+        }
+    }
     bytes
         .iter()
         .position(|byte| !byte.is_ascii_digit())
@@ -72,6 +97,12 @@ fn spaces_ahead(bytes: &[u8]) -> usize
     ensures within { result ≤ length bytes.now }
     ensures spaces { AllPass is_space (take result bytes.now) }
 {
+    if bytes.len() >= LANES {
+        let others = others_than_spaces(bytes);
+        if others != 0 {
+            return others.trailing_zeros() as usize;
+        }
+    }
     bytes
         .iter()
         .position(|byte| !is_white(*byte))

@@ -48,10 +48,11 @@ impl Reader {
         ensures ok { IfOk result (λ length. self.now.from + length ≡ at) }
         ensures too_long { OnErr result (self.now.from + 2 ^ 32 ≤ at) }
     {
-        match u32::try_from(at - self.from) {
-            Ok(length) => Ok(length),
-            Err(_) => Err(NoMemory::from(AllocError)),
+        let length = at - self.from;
+        if length > u32::MAX as usize {
+            return Err(NoMemory::from(AllocError));
         }
+        Ok(length as u32)
     }
 
     /// Reads one more byte of a number.

@@ -5,8 +5,7 @@ use Rattle.sval_json_read.specs.Nodes.{tokens_in}
 use Rattle.sval_json_read.specs.SeenReader.{seen_state}
 use Rattle.sval_json_read.specs.Reader.{reader_start, after_bytes}
 use Rattle.sval_json_read.specs.declared.reader.Reader.{Reader}
-use Rattle.sval_json_read.proofs.Loop.{refused-at, ended-bad, ended-document}
-use Rattle.sval_json_read.proofs.PlainRuns.{byte_and_run, reads_behind}
+use Rattle.sval_json_read.proofs.Loop.{after-byte, refused-at, ended-bad, ended-document}
 use Rattle.sval_json_read.proofs.ReaderPlaces.{reads_start}
 use Rattle.sval_json_read.proofs.KeptTokens.{kept_at, kept_end}
 use Rattle.sval_json_read.proofs.document.read_nodes.Goals as goal
@@ -34,11 +33,12 @@ pub loop-at-preserved : goal.loop-at-preserved
 loop-at-preserved c =
     let bytes = c.args.bytes.now in
     record {
-      within = omega (arith, c.plain_run.ensures.within);
+      within = c.pass_over-at.ensures.within;
       reached =
-          byte_and_run bytes c.loop-at.at c.plain_run.result (seen_state bytes c.loop-at.at c.loop-at.reader) c.step.new.self c.loop-at-test.true c.loop-at.invariant.reached
-          (rw c.in-Ok-true.field-0-test at c.in-Ok-true.ensures.gives) c.plain_run.ensures.passes;
-      reads = reads_behind bytes c.loop-at.at c.plain_run.result c.in-Ok-true.ensures.reads;
+          c.pass_over-at.ensures.reaches
+          (after-byte bytes c.loop-at.at (seen_state bytes c.loop-at.at c.loop-at.reader) c.loop-at-test.true c.loop-at.invariant.reached
+          ∙ (rw c.in-Ok-true.field-0-test at c.in-Ok-true.ensures.gives));
+      reads = c.pass_over-at.ensures.reads;
     }
 
 pub returns-in-Ok-true-finish-clause-ok : goal.returns-in-Ok-true-finish-clause-ok

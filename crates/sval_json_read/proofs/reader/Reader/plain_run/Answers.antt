@@ -17,8 +17,8 @@ pub returns-in-InString-default-Plain-clause-passes : goal.returns-in-InString-d
 returns-in-InString-default-Plain-clause-passes c =
     let is_key = c.in-InString-default-Plain.field-0 in
     let in_string : c.args.self.now.expected ≡ InString is_key Plain = search rules in
-    let plain = to_the_end is_plain c.args.bytes.now c.args.at c.first_escape.result c.requires.at_in c.first_escape.ensures.plain in
-    passes_over c.args.bytes.now c.args.at c.first_escape.result c.args.self.now is_key in_string c.requires.before plain
+    let plain = to_the_end is_plain c.args.bytes.now c.args.at c.plain_ahead.result c.requires.at_in c.plain_ahead.ensures.plain in
+    passes_over c.args.bytes.now c.args.at c.plain_ahead.result c.args.self.now is_key in_string c.requires.before plain
 
 pub returns-in-InNumber-clause-passes : goal.returns-in-InNumber-clause-passes
 returns-in-InNumber-clause-passes c =
