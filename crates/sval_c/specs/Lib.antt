@@ -4,3 +4,4 @@ pub mod OfTapes
 pub mod OfFilters
 pub mod Lacks
 pub mod Reports
+pub mod Guarded

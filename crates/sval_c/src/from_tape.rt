@@ -11,11 +11,12 @@ ghost use Rattle.sval_c.specs.Reports.{ReportsDue};
 
 use crate::fault::Fault;
 use crate::from_json::laid_out;
+use crate::guarded::Guarded;
 use crate::lack::{Lack, of_check, of_pack, of_tape, of_text};
 use crate::report::{Report, answer};
 use std::alloc::Global;
 use sval_cbor::stream_to_cbor;
-use sval_check::{Checked, check};
+use sval_check::check;
 use sval_core::{Lent, Stream};
 use sval_io::{Sink, VecSink};
 use sval_json::{JsonWriter, Variants, stream_to_vec};
@@ -38,7 +39,7 @@ fn stream_checked<'v, S: Stream<Lent<'v>> + Drop>(
 ) -> Passed<S>
     ensures { OnTrue result.whole (PassesTape S.law tape.now (S.standing stream) (S.standing result.stream)) }
 {
-    let mut checked = Checked::new(alloc, stream);
+    let mut checked = Guarded::new(alloc, stream);
     match stream_tape(tape, &mut checked) {
         Ok(Ok(())) => {
             let whole = checked.is_whole();
@@ -67,7 +68,9 @@ fn write_tape<K: Sink>(alloc: Global, tape: &[u8], out: &mut K) -> bool
 fn in_one_pass(alloc: Global, tape: &[u8]) -> Option<Vec<u8>>
     ensures { IfSome result (λ json. CompactOfTape tape.now None json.items) }
 {
-    let mut sink = VecSink::new(alloc);
+    let Ok(mut sink) = VecSink::with_capacity(alloc, tape.len()) else {
+        return None;
+    };
     if write_tape(alloc, tape, &mut sink) {
         return Some(sink.into_vec());
     }

@@ -13,6 +13,7 @@ pub mod from_cbor;
 pub mod from_json;
 pub mod from_script;
 pub mod from_tape;
+mod guarded;
 mod lack;
 pub mod report;
 mod status;

@@ -146,6 +146,20 @@ impl VecSink {
         }
     }
 
+    /// An empty sink with room for `capacity` bytes, which are asked for at once.
+    ///
+    /// # Errors
+    ///
+    /// Want of memory for the room.
+    pub fn with_capacity(alloc: Global, capacity: usize) -> Result<Self, AllocError>
+        ensures { IfOk result (λ sink. sink ≡ record { bytes = []; wants = 0 }) }
+    {
+        Ok(VecSink {
+            bytes: Vec::with_capacity(alloc, capacity)?,
+            wants: 0,
+        })
+    }
+
     /// The bytes taken so far.
     pub fn as_slice(&self) -> &[u8]
         ensures { result.now ≡ self.now.bytes }
@@ -164,6 +178,7 @@ impl VecSink {
 impl Sink for VecSink {
     ghost told = { taken_told };
 
+    #[inline(always)]
     fn write(&mut self, piece: &[u8]) -> Result<usize, SinkError>
         ensures all { IfOk result (λ count. count ≡ length piece.now) }
         ensures writes { Writes result (taken_told self.old) piece.now (taken_told self.new) }
