@@ -61,6 +61,7 @@ mod reading;
 mod step;
 mod streaming;
 mod tape;
+mod text;
 mod writer;
 
 pub use streaming::stream_tape;

@@ -9,6 +9,7 @@ ghost use Rattle.sval_tape.specs.ReadCalls.{tag_read, index_number_read, index_r
 
 use crate::ints::unzigzag;
 use crate::read_call::{IndexNumber, IndexRead, LabelRead, NameRead, TagRead};
+use crate::text::as_text;
 
 /// 2^121: above seven bits, a number of 128 bits has less.
 const ABOVE: u128 = 0x0200_0000_0000_0000_0000_0000_0000_0000;
@@ -67,9 +68,9 @@ pub(crate) fn read_text(bytes: &[u8]) -> Option<(&str, &[u8])>
     ensures { option_map (λ x. (x.0.now, x.1.now)) result ≡ tape.text_at bytes.now }
 {
     let (block, rest) = read_block(bytes)?;
-    match str::from_utf8(block) {
-        Ok(text) => Some((text, rest)),
-        Err(_) => None,
+    match as_text(block) {
+        Some(text) => Some((text, rest)),
+        None => None,
     }
 }
 
