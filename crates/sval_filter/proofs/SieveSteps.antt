@@ -52,6 +52,14 @@ is_begin (calls.TaggedBegin name) = true
 is_begin (calls.Begin head size) = true
 is_begin call = false
 
+-- the call begins a value that is no container
+abbrev pub is_own_begin : Call → Bool
+is_own_begin (calls.TextBegin size) = true
+is_own_begin (calls.BinaryBegin size) = true
+is_own_begin (calls.EnumBegin name) = true
+is_own_begin (calls.TaggedBegin name) = true
+is_own_begin call = false
+
 -- the call ends a value
 abbrev pub is_value_end : Call → Bool
 is_value_end calls.TextEnd = true
@@ -104,6 +112,16 @@ module _ {V : Type 0} (law : Law V) (old new : SieveView V) (result : Result (Un
       by_call (calls.TaggedBegin name) e m = m
       by_call (calls.Begin head size) e m = m
       by_call call e m = absurd (cc e)
+
+  pub steps_own_begin : (call : Call) → is_own_begin call ≡ true
+      → Moves law old (passed (mode_in old.paths old.kept.layers) (call ∷ []))
+      (record { layers = layer (mode_in old.paths old.kept.layers) ∷ old.kept.layers; held = held_after (mode_in old.paths old.kept.layers) old.kept.held call }) true result new
+      → Moves law old (due_at old call) (next_kept old call) (may_take_memory old.paths old.kept call) result new
+  steps_own_begin (calls.TextBegin size) e m = m
+  steps_own_begin (calls.BinaryBegin size) e m = m
+  steps_own_begin (calls.EnumBegin name) e m = m
+  steps_own_begin (calls.TaggedBegin name) e m = m
+  steps_own_begin call e m = absurd (cc e)
 
   pub steps_end : (call : Call) → is_value_end call ≡ true
       → Moves law old (passed (mode_in old.paths old.kept.layers) (call ∷ [])) (record { layers = below old.kept.layers; held = held_after (mode_in old.paths old.kept.layers) old.kept.held call })

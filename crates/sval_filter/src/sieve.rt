@@ -335,26 +335,26 @@ pub(crate) fn step<L: Lending, S: Stream<L>>(
 {
     let (call, same) = twice(call);
     match same.grouped() {
-        GroupedCall::Null => single(sieve, call),
-        GroupedCall::Bool(_) => single(sieve, call),
-        GroupedCall::Int(_) => single(sieve, call),
-        GroupedCall::Tag(_) => single(sieve, call),
+        GroupedCall::Null
+        | GroupedCall::Bool(_)
+        | GroupedCall::Int(_)
+        | GroupedCall::Tag(_)
+        | GroupedCall::TextFragment(_)
+        | GroupedCall::BinaryFragment(_) => single(sieve, call),
         GroupedCall::TagHint(_) => hint(sieve, call),
-        GroupedCall::TextBegin(_) => begin_same(sieve, call),
-        GroupedCall::TextFragment(_) => single(sieve, call),
-        GroupedCall::TextEnd => end(sieve, call),
-        GroupedCall::BinaryBegin(_) => begin_same(sieve, call),
-        GroupedCall::BinaryFragment(_) => single(sieve, call),
-        GroupedCall::BinaryEnd => end(sieve, call),
-        GroupedCall::EnumBegin(_) => begin_same(sieve, call),
-        GroupedCall::EnumEnd(_) => end(sieve, call),
-        GroupedCall::TaggedBegin(_) => begin_same(sieve, call),
-        GroupedCall::TaggedEnd(_) => end(sieve, call),
+        GroupedCall::TextBegin(_)
+        | GroupedCall::BinaryBegin(_)
+        | GroupedCall::EnumBegin(_)
+        | GroupedCall::TaggedBegin(_) => begin_same(sieve, call),
         GroupedCall::Begin(head, size) => {
             let relayed = GroupedCall::Begin(head, size_of(head, size)).call();
             begin(sieve, call, relayed)
         }
-        GroupedCall::End(_) => end(sieve, call),
+        GroupedCall::TextEnd
+        | GroupedCall::BinaryEnd
+        | GroupedCall::EnumEnd(_)
+        | GroupedCall::TaggedEnd(_)
+        | GroupedCall::End(_) => end(sieve, call),
         GroupedCall::PartBegin(slot) => begin_part(sieve, slot, call),
         GroupedCall::PartEnd(_) if sieve.layers.is_key() => end_key(sieve, call),
         GroupedCall::PartEnd(_) => end_part(sieve, call),
