@@ -1,6 +1,7 @@
 //! Arrays of bytes as binaries.
 #![tactic(auto, unfolding(sval_core::specs::Law::emits, sval_core::specs::Law::then_emits))]
 
+use crate::binary_slice::stream_binary;
 use std::fmt;
 use sval_core::{Lent, Result, Stream, Tag, Value, tags};
 
@@ -64,9 +65,7 @@ impl<'v, 'a, const N: usize> Value<'v, Lent<'v>> for BinaryArray<'a, N> {
 
     fn stream<S: Stream<Lent<'v>>>(&'v self, stream: &mut S) -> Result {
         stream.tagged_begin(Some(constant_size()), None, None)?;
-        stream.binary_begin(Some(self.bytes.len()))?;
-        stream.binary_fragment(self.bytes)?;
-        stream.binary_end()?;
+        stream_binary(stream, self.bytes)?;
         stream.tagged_end(Some(constant_size()), None, None)
     }
 }

@@ -159,9 +159,7 @@ fn stream_number_text<L: Lending, S: Stream<L>>(stream: &mut S, text: &str) -> s
     ensures { Emits S.law result (S.standing stream.old) (makes (number_text_calls text.now)) (S.standing stream.new) }
 {
     stream.tagged_begin(Some(number()), None, None)?;
-    stream.text_begin(None)?;
-    stream.text_fragment_computed(text)?;
-    stream.text_end()?;
+    stream_text(stream, text)?;
     stream.tagged_end(Some(number()), None, None)
 }
 
