@@ -1,7 +1,6 @@
 //! Operands, read from the front of bytes.
 
 ghost use Rattle.std.specs.Prelude.{◌≡◌, Some, None, option_map, if◌then◌else◌};
-ghost use Rattle.std.specs.Bool.{Decides};
 ghost use Rattle.sval_label.specs.Ranges.{is_index};
 ghost use Rattle.sval_label.specs.Tags.{is_tag_name};
 ghost use Rattle.sval_tape.specs.Reading as tape;
@@ -9,7 +8,7 @@ ghost use Rattle.sval_tape.specs.ReadCalls.{tag_read, index_number_read, index_r
 
 use crate::ints::unzigzag;
 use crate::read_call::{IndexNumber, IndexRead, LabelRead, NameRead, TagRead};
-use crate::text::as_text;
+use crate::text::{as_text, is_text};
 
 /// 2^121: above seven bits, a number of 128 bits has less.
 const ABOVE: u128 = 0x0200_0000_0000_0000_0000_0000_0000_0000;
@@ -72,14 +71,6 @@ pub(crate) fn read_text(bytes: &[u8]) -> Option<(&str, &[u8])>
         Some(text) => Some((text, rest)),
         None => None,
     }
-}
-
-/// Whether these bytes are that name. Most names differ in their lengths.
-#[inline(always)]
-fn is_text(text: &[u8], name: &[u8]) -> bool
-    ensures { Decides result (text.now ≡ name.now) }
-{
-    text.len() == name.len() && text == name
 }
 
 /// The tag of the ten with this text.

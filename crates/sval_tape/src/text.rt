@@ -1,9 +1,28 @@
 //! Bytes as texts.
 
 ghost use Rattle.std.specs.Prelude.{◌≡◌, true, None, IfSome, IsUtf8};
+ghost use Rattle.std.specs.Bool.{Decides};
 ghost use Rattle.std.specs.Str.{IsAscii};
 
 use std::str::from_utf8_unchecked;
+
+/// Whether these bytes are that name. Most names differ in their lengths.
+///
+/// The loop is compiled into its caller, which spells the name, and so without a loop.
+#[inline(always)]
+pub(crate) fn is_text(text: &[u8], name: &[u8]) -> bool
+    ensures { Decides result (text.now ≡ name.now) }
+{
+    if text.len() != name.len() {
+        return false;
+    }
+    for index in 0..name.len() {
+        if text[index] != name[index] {
+            return false;
+        }
+    }
+    true
+}
 
 /// Whether all bytes are ASCII, looked at one by one.
 #[inline(always)]
