@@ -302,7 +302,11 @@ fn index_option(index: Option<IndexRead>) -> Option<Index>
 }
 
 /// Makes the call with this name.
-fn make_named<L: Lending, S: Stream<L>>(word: Named, name: NameRead<'_>, stream: &mut S) -> Result
+pub(crate) fn make_named<L: Lending, S: Stream<L>>(
+    word: Named,
+    name: NameRead<'_>,
+    stream: &mut S,
+) -> Result
     ensures { Answers S.law result (S.standing stream.old)
         (tape_named_call word (name_read name.entry)) (S.standing stream.new) }
 {
@@ -344,7 +348,7 @@ fn make_begin<L: Lending, S: Stream<L>>(
 }
 
 /// Makes the begin or the end of a field with this label.
-fn make_field<L: Lending, S: Stream<L>>(
+pub(crate) fn make_field<L: Lending, S: Stream<L>>(
     side: Side,
     tag: Option<TagRead>,
     label: LabelRead<'_>,
@@ -380,7 +384,7 @@ fn make_place<L: Lending, S: Stream<L>>(
 }
 
 /// Makes the begin or the end of a field with this label and this index.
-fn make_field_place<L: Lending, S: Stream<L>>(
+pub(crate) fn make_field_place<L: Lending, S: Stream<L>>(
     side: Side,
     tag: Option<TagRead>,
     label: LabelRead<'_>,

@@ -6,11 +6,11 @@ ghost use Rattle.sval_tape.specs.ReadCalls.{call_read, tape_alone_call, tape_hea
 ghost use Rattle.sval_tape.specs.Reading as tape;
 ghost use Rattle.sval_tape.specs.Streaming.{StepsOn};
 
-use crate::calls::{
-    alone, begin, binary, field, field_place, hint, int, named, opening, place, text, truth,
-};
+use crate::calls::{alone, begin, binary, hint, int, opening, place, text, truth};
 use crate::ints::IntType;
+use crate::read_call;
 use crate::read_call::{Alone, CallRead, Container, Named, Opening, Side};
+use crate::reading::{read_field, read_field_place, read_name};
 use sval_core::{Error, Lent, Stream};
 
 /// What became of the call at the front of bytes.
@@ -107,7 +107,13 @@ fn make_named<'v, S: Stream<Lent<'v>>>(word: Named, bytes: &'v [u8], stream: &mu
     ensures { StepsOn S.law (tape.seen_at (tape_named_call word) tape.name_at_front bytes.now)
         (S.standing stream.old) result (S.standing stream.new) }
 {
-    make(named(word, bytes), stream)
+    match read_name(bytes) {
+        Some((name, rest)) => match read_call::make_named(word, name, stream) {
+            Ok(()) => Step::Taken(rest),
+            Err(refusal) => Step::Refused(refusal),
+        },
+        None => Step::Bad,
+    }
 }
 
 /// Makes the begin of a container with a name and a size.
@@ -125,7 +131,13 @@ fn make_field<'v, S: Stream<Lent<'v>>>(side: Side, bytes: &'v [u8], stream: &mut
     ensures { StepsOn S.law (tape.field_form (tape_part_call side) bytes.now)
         (S.standing stream.old) result (S.standing stream.new) }
 {
-    make(field(side, bytes), stream)
+    match read_field(bytes) {
+        Some(((tag, label), rest)) => match read_call::make_field(side, tag, label, stream) {
+            Ok(()) => Step::Taken(rest),
+            Err(refusal) => Step::Refused(refusal),
+        },
+        None => Step::Bad,
+    }
 }
 
 /// Makes the begin or the end of a part with a tag and an index.
@@ -147,7 +159,15 @@ fn make_field_place<'v, S: Stream<Lent<'v>>>(
     ensures { StepsOn S.law (tape.field_place_form (tape_part_call side) bytes.now)
         (S.standing stream.old) result (S.standing stream.new) }
 {
-    make(field_place(side, bytes), stream)
+    match read_field_place(bytes) {
+        Some(((tag, label, index), rest)) => match read_call::make_field_place(
+            side, tag, label, index, stream,
+        ) {
+            Ok(()) => Step::Taken(rest),
+            Err(refusal) => Step::Refused(refusal),
+        },
+        None => Step::Bad,
+    }
 }
 
 /// Makes the call of this number, whose operands follow. The arms are in the order of the numbers.
