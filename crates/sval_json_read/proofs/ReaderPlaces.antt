@@ -43,4 +43,4 @@ reads_start bytes from nodes u f n =
     subst (λ k. ReadsIn bytes 0 k nodes) (sym f) (subst (ReadsIn bytes 0 0) (sym n) (record { utf8 = u; before = omega arith; whole = IsCharBoundary-start bytes u; stand = tt }))
 
 -- for the functions of a reader
-pub ruleset of_places = (reads_on, reads_number, reads_node)
+pub ruleset of_places = (reads_on, reads_node)

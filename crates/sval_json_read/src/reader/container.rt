@@ -91,7 +91,7 @@ impl Reader {
     }
 
     /// Begins a number with this byte.
-    #[tactic(auto, using(crate::proofs::KeptNodes::between_one, crate::proofs::ReaderPlaces::of_places))]
+    #[tactic(auto, using(crate::proofs::KeptNodes::between_one, crate::proofs::ReaderPlaces::reads_number))]
     pub(super) fn begin_number(&mut self, phase: Phase, bytes: &[u8], at: usize)
         requires at_in { at < length bytes.now }
         requires reads { IsReadTo bytes.now at self.old }
