@@ -84,11 +84,8 @@ fn pass<L: Lending, S: Stream<L>>(
         (seen_guarded S.standing guarded.new) result }
 {
     let (call, passed) = twice(call);
-    match guarded.machine.ready::<L>(call) {
-        Ok(due) => {
-            guarded.machine.finish(due);
-            guarded.inner.take(passed).is_ok()
-        }
+    match guarded.machine.step::<L>(call) {
+        Ok(()) => guarded.inner.take(passed).is_ok(),
         Err(_) => false,
     }
 }

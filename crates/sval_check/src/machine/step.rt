@@ -22,11 +22,13 @@ use crate::machine::{Machine, Refusal};
 use sval_core::{AnyCall, Fragment, GroupedCall, Head, Lending, Name, Slot, Tag};
 
 impl Machine {
-    /// Goes on with a call, or says why it doesn't: [`Machine::ready`] and [`Machine::finish`] at once.
+    /// Goes on with a call, or says why it doesn't: [`Machine::ready`] and [`Machine::finish`] at once, for a stream that
+    /// ends with the first refusal. A refused call may leave a part counted that didn't come.
     ///
-    /// A refused call may leave a part counted that didn't come.
+    /// - [`Refusal::NotViable`] comes exactly where no value goes on with the call.
+    /// - [`Refusal::NoMemory`] comes only where one does, and memory was wanting for what the call begins.
     #[inline(always)]
-    pub(crate) fn step<L: Lending>(
+    pub fn step<L: Lending>(
         &mut self,
         call: AnyCall<'_, L::Text, L::Bytes>,
     ) -> Result<(), Refusal>
