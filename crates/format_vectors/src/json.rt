@@ -1,6 +1,7 @@
 //! The reader of JSON.
 
 mod accepted;
+mod bad_texts;
 mod depth;
 mod documents;
 mod fronts;

@@ -22,4 +22,6 @@ mod process;
 #[cfg(test)]
 mod rows;
 #[cfg(test)]
+mod shown;
+#[cfg(test)]
 mod source_lines;

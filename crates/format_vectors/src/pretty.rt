@@ -1,6 +1,6 @@
 //! Texts, what is written of them, and a sink that fails on the way.
 
-use std::test::Fail;
+use crate::shown::{holds, must};
 use sval_io::{FixedSink, SinkError};
 use sval_pretty::{pretty_to_vec, write_pretty};
 
@@ -25,22 +25,22 @@ const ROWS: [(&'static str, &'static str); 10] = [
 ];
 
 #[test]
-fn lays_out_its_rows(rt: HostRuntime) -> Result<(), Fail> {
+fn lays_out_its_rows(rt: HostRuntime) {
     for (json, pretty) in ROWS {
-        let out = pretty_to_vec(rt.alloc(), json.as_bytes())?;
-        assert_eq!(rt; out.as_slice(), pretty.as_bytes(), "of {json}");
+        let out = must(&rt, pretty_to_vec(rt.alloc(), json.as_bytes()));
+        holds(&rt, out.as_slice() == pretty.as_bytes(), json);
     }
-    Ok(())
 }
 
 #[test]
-fn stops_where_the_sink_is_full(rt: HostRuntime) -> Result<(), Fail> {
+fn stops_where_the_sink_is_full(rt: HostRuntime) {
     let mut buffer = [0; 6];
     let mut sink = FixedSink::new(&mut buffer);
-    assert_eq!(rt;
-        write_pretty(&mut sink, b"[[0]]".as_slice()),
-        Err(SinkError::Failed)
+    let answer = write_pretty(&mut sink, b"[[0]]".as_slice());
+    holds(&rt, answer == Err(SinkError::Failed), "a full sink");
+    holds(
+        &rt,
+        sink.as_slice() == b"[\n  [\n".as_slice(),
+        "a full sink",
     );
-    assert_eq!(rt; sink.as_slice(), b"[\n  [\n".as_slice());
-    Ok(())
 }

@@ -13,8 +13,9 @@
 //! what no picture shows, in hex: `¦c328¦` is two bytes, and `¦600*33¦` is one byte 600 times.
 
 use crate::inputs::lines_of;
-use std::alloc::{AllocError, Global};
-use std::test::Fail;
+use crate::shown::{holds, must};
+use std::alloc::Global;
+use std::process::Abort;
 
 /// An input, and what is due of it.
 #[derive(Drop)]
@@ -24,126 +25,112 @@ pub(crate) struct Row {
 }
 
 /// The rows of a table.
-pub(crate) fn rows_of(alloc: Global, table: &str) -> Result<Vec<Row>, Fail> {
-    let mut rows = Vec::new(alloc);
-    let mut input = Input::new(alloc);
+pub(crate) fn rows_of(rt: &impl Abort, alloc: Global, table: &str) -> Vec<Row> {
+    let mut rows = Rows::new(alloc);
     for line in table.lines() {
-        match line.strip_prefix("= ") {
-            Some(due) => rows.push(input.row(alloc, due)?)?,
-            None => input.take(alloc, line)?,
-        }
+        rows.take(rt, alloc, line);
     }
-    let whole = if input.is_whole { Some(rows) } else { None };
-    Ok(whole.ok_or("nothing is due of the last input")?)
+    holds(rt, rows.is_whole, "the last input, of which nothing is due");
+    rows.rows
 }
 
-/// An input that is read line by line.
+/// The rows that are read so far, and the lines of an input.
 #[derive(Drop)]
-struct Input {
-    bytes: Vec<u8>,
-    /// Whether something is due of it, so that a further line begins another.
+struct Rows {
+    rows: Vec<Row>,
+    input: Vec<u8>,
+    /// Whether something is due of the input, so that a further line begins another.
     is_whole: bool,
 }
 
-impl Input {
+impl Rows {
     fn new(alloc: Global) -> Self {
-        Input {
-            bytes: Vec::new(alloc),
+        Rows {
+            rows: Vec::new(alloc),
+            input: Vec::new(alloc),
             is_whole: false,
         }
     }
 
-    /// The row of the input and what is due of it.
-    fn row(&mut self, alloc: Global, due: &str) -> Result<Row, AllocError> {
-        self.is_whole = true;
-        Ok(Row {
-            input: Vec::from_slice(alloc, self.bytes.as_slice())?,
-            due: String::from_str(alloc, due)?,
-        })
+    /// Takes a line of a table.
+    fn take(&mut self, rt: &impl Abort, alloc: Global, line: &str) {
+        if line.is_empty() || line.starts_with("# ") {
+            return;
+        }
+        match line.strip_prefix("= ") {
+            Some(due) => self.take_due(rt, alloc, due),
+            None => self.take_input(rt, alloc, line),
+        }
     }
 
-    /// Takes a line that doesn't say what is due.
-    fn take(&mut self, alloc: Global, line: &str) -> Result<(), Fail> {
-        if line.is_empty() || line.starts_with("# ") {
-            return Ok(());
-        }
+    /// Takes what is due of the input.
+    fn take_due(&mut self, rt: &impl Abort, alloc: Global, due: &str) {
+        self.is_whole = true;
+        let input = must(rt, Vec::from_slice(alloc, &self.input));
+        let due = plain_text(rt, alloc, due);
+        must(rt, self.rows.push(Row { input, due }));
+    }
+
+    /// Takes a line of an input, or the name of one that several tables have.
+    fn take_input(&mut self, rt: &impl Abort, alloc: Global, line: &str) {
         if self.is_whole {
-            self.bytes.clear();
+            self.input.clear();
             self.is_whole = false;
         }
         match line.strip_prefix("@ ") {
-            Some(name) => self.take_named(alloc, name),
-            None => add_line(alloc, &mut self.bytes, line),
+            Some(name) => add_named(rt, alloc, &mut self.input, name),
+            None => add_line(rt, alloc, &mut self.input, line),
         }
-    }
-
-    /// Takes the lines of an input that several tables have.
-    fn take_named(&mut self, alloc: Global, words: &str) -> Result<(), Fail> {
-        let (name, count) = words.split_once(' ').unwrap_or((words, ""));
-        for line in lines_of(name).lines() {
-            let line = counted(alloc, line, count)?;
-            add_line(alloc, &mut self.bytes, line.as_str())?;
-        }
-        Ok(())
     }
 }
 
-/// A line with a count in the place of `$`.
-fn counted(alloc: Global, line: &str, count: &str) -> Result<String, AllocError> {
-    let mut text = String::new(alloc);
-    for letter in line.chars() {
-        if letter == '$' {
-            text.push_str(count)?;
-        } else {
-            text.push(letter)?;
-        }
-    }
-    Ok(text)
+/// Adds the lines of an input that several tables have, with a count in the place of `$`.
+fn add_named(rt: &impl Abort, alloc: Global, bytes: &mut Vec<u8>, words: &str) {
+    let (name, count) = words.split_once(' ').unwrap_or((words, ""));
+    let lines = must(rt, lines_of(name).replace(alloc, '$', count));
+    add_text(rt, alloc, bytes, &lines);
 }
 
 /// Adds a line of an input: with a newline, unless it ends with `␄`.
-fn add_line(alloc: Global, bytes: &mut Vec<u8>, line: &str) -> Result<(), Fail> {
-    if let Some((text, _behind)) = line.split_once('␄') {
-        return add_text(alloc, bytes, text);
+fn add_line(rt: &impl Abort, alloc: Global, bytes: &mut Vec<u8>, line: &str) {
+    match line.split_once('␄') {
+        Some((text, _behind)) => add_text(rt, alloc, bytes, text),
+        None => {
+            add_text(rt, alloc, bytes, line);
+            must(rt, bytes.push(b'\n'));
+        }
     }
-    add_text(alloc, bytes, line)?;
-    bytes.push(b'\n')?;
-    Ok(())
 }
 
 /// Adds a text of a table: letters, and in turns what is between two `¦`.
-pub(crate) fn add_text(alloc: Global, bytes: &mut Vec<u8>, shown: &str) -> Result<(), Fail> {
+pub(crate) fn add_text(rt: &impl Abort, alloc: Global, bytes: &mut Vec<u8>, shown: &str) {
     let mut is_between = false;
     for piece in shown.split('¦') {
         if is_between {
-            add_run(alloc, bytes, piece)?;
+            add_run(rt, alloc, bytes, piece);
         } else {
-            bytes.extend_from_slice(plain_text(alloc, piece)?.as_bytes())?;
+            let text = plain_text(rt, alloc, piece);
+            must(rt, bytes.extend_from_slice(text.as_bytes()));
         }
         is_between = !is_between;
     }
-    Ok(())
 }
 
-/// Adds what is between two `¦`: one byte repeated, or bytes.
-fn add_run(alloc: Global, bytes: &mut Vec<u8>, run: &str) -> Result<(), Fail> {
-    let Some((count, byte)) = run.split_once('*') else {
-        bytes.extend_from_slice(hex::decode(alloc, run)?.as_slice())?;
-        return Ok(());
-    };
-    let byte = u8::from_str_radix(byte, 16)?;
-    let count = bytes.len().checked_add(count.parse::<usize>()?);
-    bytes.resize(count.ok_or("too many bytes")?, byte)?;
-    Ok(())
+/// Adds what is between two `¦`: bytes, or bytes that are repeated.
+fn add_run(rt: &impl Abort, alloc: Global, bytes: &mut Vec<u8>, run: &str) {
+    let (count, run) = run.split_once('*').unwrap_or(("1", run));
+    let digits = must(rt, run.repeat(alloc, must(rt, count.parse::<usize>())));
+    let run = must(rt, hex::decode(alloc, &digits));
+    must(rt, bytes.extend_from_slice(&run));
 }
 
 /// A text of a table, with the letters that its pictures stand for.
-pub(crate) fn plain_text(alloc: Global, shown: &str) -> Result<String, AllocError> {
+fn plain_text(rt: &impl Abort, alloc: Global, shown: &str) -> String {
     let mut text = String::new(alloc);
     for letter in shown.chars() {
-        text.push(plain(letter))?;
+        must(rt, text.push(plain(letter)));
     }
-    Ok(text)
+    text
 }
 
 /// The letter that a picture stands for, and any other letter as it is.

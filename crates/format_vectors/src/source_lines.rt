@@ -1,7 +1,11 @@
 //! Lines of sources that give little at a time, and of one that fails.
 
+ghost use Rattle.std.specs.Prelude.{◌≤◌};
+
+use crate::shown::{compare, holds, must};
 use std::alloc::Global;
-use std::test::Fail;
+use std::fmt::Write;
+use std::process::Abort;
 use sval_io::FaultySource;
 use sval_lines::{LineError, Lines};
 
@@ -17,52 +21,49 @@ const ROWS: [(&'static str, &'static str); 7] = [
 ];
 
 /// Reads the next line, if there is one, and puts it and its number behind what was given.
-fn give_line(
-    alloc: Global,
-    lines: &mut Lines<FaultySource<'_>>,
-    given: &mut String,
-) -> Result<(), Fail> {
-    if lines.next_line()? {
-        let line = str::from_utf8(lines.line())?;
+fn give_line(rt: &impl Abort, lines: &mut Lines<FaultySource<'_>>, given: &mut String) {
+    if must(rt, lines.next_line()) {
         let number = lines.number();
-        given.push_str(format!(in alloc; "{number} {line};")?.as_str())?;
+        let line = must(rt, str::from_utf8(lines.line()));
+        must(rt, write!(given, "{number} {line};"));
     }
-    Ok(())
 }
 
 /// The first three lines of an input that aren't empty, with their numbers. A read gives `chunk` bytes at most.
-fn lines_given(alloc: Global, input: &str, chunk: usize) -> Result<String, Fail> {
-    let mut lines = Lines::new(
-        alloc,
-        FaultySource::new(input.as_bytes(), chunk.max(1), &[]),
-    )?;
+fn lines_given(rt: &impl Abort, alloc: Global, input: &str, chunk: usize) -> String
+    requires { 1 ≤ chunk }
+{
+    let source = FaultySource::new(input.as_bytes(), chunk, &[]);
+    let mut lines = must(rt, Lines::new(alloc, source));
     let mut given = String::new(alloc);
-    give_line(alloc, &mut lines, &mut given)?;
-    give_line(alloc, &mut lines, &mut given)?;
-    give_line(alloc, &mut lines, &mut given)?;
-    Ok(given)
+    give_line(rt, &mut lines, &mut given);
+    give_line(rt, &mut lines, &mut given);
+    give_line(rt, &mut lines, &mut given);
+    given
 }
 
 #[test]
-fn gives_the_lines_of_its_rows(rt: HostRuntime) -> Result<(), Fail> {
+fn gives_the_lines_of_its_rows(rt: HostRuntime) {
     for (input, due) in ROWS {
-        let one = lines_given(rt.alloc(), input, 1)?;
-        assert_eq!(rt; one.as_str(), due, "of {input}");
-        let three = lines_given(rt.alloc(), input, 3)?;
-        assert_eq!(rt; three.as_str(), due, "of {input}");
+        compare(&rt, &lines_given(&rt, rt.alloc(), input, 1), due, input);
+        compare(&rt, &lines_given(&rt, rt.alloc(), input, 3), due, input);
     }
-    Ok(())
 }
 
 #[test]
-fn keeps_what_was_read_before_a_fault(rt: HostRuntime) -> Result<(), Fail> {
-    let mut lines = Lines::new(
-        rt.alloc(),
-        FaultySource::new(b"a\nbc\n".as_slice(), 3, &[2]),
-    )?;
-    assert_eq!(rt; lines.next_line(), Ok(true));
-    assert_eq!(rt; lines.next_line(), Err(LineError::ReadFault));
-    assert_eq!(rt; lines.line(), b"b".as_slice());
-    assert_eq!(rt; lines.number(), 1);
-    Ok(())
+fn keeps_what_was_read_before_a_fault(rt: HostRuntime) {
+    let source = FaultySource::new(b"a\nbc\n".as_slice(), 3, &[2]);
+    let mut lines = must(&rt, Lines::new(rt.alloc(), source));
+    holds(&rt, lines.next_line() == Ok(true), "the first line");
+    holds(
+        &rt,
+        lines.next_line() == Err(LineError::ReadFault),
+        "the fault",
+    );
+    holds(
+        &rt,
+        lines.line() == b"b".as_slice(),
+        "what was read before it",
+    );
+    holds(&rt, lines.number() == 1, "the number");
 }

@@ -1,24 +1,30 @@
 //! Bytes, and what is written of them as JSON or why they aren't read.
 
 use crate::cases::{Case, try_cases};
+use crate::shown::must;
 use std::alloc::Global;
-use std::test::Fail;
+use std::process::Abort;
 use sval_cbor_read::CborDoc;
 use sval_check::TokenBuf;
 use sval_json::stream_to_string;
 use sval_ref::stream_ref;
 
+/// The bytes that a line has in hex.
+pub(crate) fn bytes_of(rt: &impl Abort, alloc: Global, line: &str) -> Vec<u8> {
+    must(rt, hex::decode(alloc, line.trim_end()))
+}
+
 /// Bytes in hex, and behind `json` what is written of them, or behind `error` why they aren't read.
 pub(crate) struct Read;
 
 impl Case for Read {
-    fn seen(alloc: Global, input: &str, _due: &str) -> Result<String, Fail> {
-        let bytes = hex::decode(alloc, input.trim_end())?;
-        let read = CborDoc::read(alloc, bytes.as_slice());
-        match read {
-            Ok(doc) => Ok(format!(in alloc; "json {}", stream_to_string(alloc, &doc)?)?),
-            Err(error) => Ok(format!(in alloc; "error {error:?}")?),
-        }
+    fn seen(rt: &impl Abort, alloc: Global, input: &str, _due: &str) -> String {
+        let bytes = bytes_of(rt, alloc, input);
+        let seen = match CborDoc::read(alloc, &bytes) {
+            Ok(doc) => format!(in alloc; "json {}", must(rt, stream_to_string(alloc, &doc))),
+            Err(error) => format!(in alloc; "error {error:?}"),
+        };
+        must(rt, seen)
     }
 }
 
@@ -27,14 +33,15 @@ impl Case for Read {
 pub(crate) struct Front;
 
 impl Case for Front {
-    fn seen(alloc: Global, input: &str, _due: &str) -> Result<String, Fail> {
-        let bytes = hex::decode(alloc, input.trim_end())?;
-        match CborDoc::read_front(alloc, bytes.as_slice()) {
+    fn seen(rt: &impl Abort, alloc: Global, input: &str, _due: &str) -> String {
+        let bytes = bytes_of(rt, alloc, input);
+        let seen = match CborDoc::read_front(alloc, &bytes) {
             Ok((doc, used)) => {
-                Ok(format!(in alloc; "front {used} {}", stream_to_string(alloc, &doc)?)?)
+                format!(in alloc; "front {used} {}", must(rt, stream_to_string(alloc, &doc)))
             },
-            Err(error) => Ok(format!(in alloc; "error {error}")?),
-        }
+            Err(error) => format!(in alloc; "error {error}"),
+        };
+        must(rt, seen)
     }
 }
 
@@ -42,21 +49,20 @@ impl Case for Front {
 struct Calls;
 
 impl Case for Calls {
-    fn seen(alloc: Global, input: &str, _due: &str) -> Result<String, Fail> {
-        let bytes = hex::decode(alloc, input.trim_end())?;
-        let calls = kept(alloc, bytes.as_slice())?;
+    fn seen(rt: &impl Abort, alloc: Global, input: &str, _due: &str) -> String {
+        let bytes = bytes_of(rt, alloc, input);
+        let calls = kept(rt, alloc, &bytes);
         let tokens = calls.as_tokens();
-        let seen = format!(in alloc; "calls {tokens:?}")?;
-        Ok(seen)
+        must(rt, format!(in alloc; "calls {tokens:?}"))
     }
 }
 
 /// The calls of a document, which keep its texts for longer than it is there.
-fn kept(alloc: Global, bytes: &[u8]) -> Result<TokenBuf<'_>, Fail> {
+fn kept<'a>(rt: &impl Abort, alloc: Global, bytes: &'a [u8]) -> TokenBuf<'a> {
     let mut calls = TokenBuf::new(alloc);
-    let doc = CborDoc::read(alloc, bytes)?;
-    stream_ref(&mut calls, &doc)?;
-    Ok(calls)
+    let doc = must(rt, CborDoc::read(alloc, bytes));
+    must(rt, stream_ref(&mut calls, &doc));
+    calls
 }
 
 /// The whole numbers and simple values of RFC 8949, appendix A.
@@ -296,10 +302,12 @@ bf9ffff6ff
 "#;
 
 #[test]
-fn items_and_their_calls(rt: HostRuntime) -> Result<(), Fail> {
-    for table in [NUMBERS, STRINGS, CONTAINERS, OTHERS, BAD] {
-        try_cases::<Read>(&rt, rt.alloc(), table)?;
-    }
-    try_cases::<Front>(&rt, rt.alloc(), FRONTS)?;
-    try_cases::<Calls>(&rt, rt.alloc(), CALLS)
+fn items_and_their_calls(rt: HostRuntime) {
+    try_cases::<Read>(&rt, rt.alloc(), NUMBERS);
+    try_cases::<Read>(&rt, rt.alloc(), STRINGS);
+    try_cases::<Read>(&rt, rt.alloc(), CONTAINERS);
+    try_cases::<Read>(&rt, rt.alloc(), OTHERS);
+    try_cases::<Read>(&rt, rt.alloc(), BAD);
+    try_cases::<Front>(&rt, rt.alloc(), FRONTS);
+    try_cases::<Calls>(&rt, rt.alloc(), CALLS);
 }

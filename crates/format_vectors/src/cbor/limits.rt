@@ -1,9 +1,11 @@
 //! Items that are read within limits.
 
 use crate::cases::{Case, try_cases};
+use crate::cbor::items::bytes_of;
 use crate::json::limits::limits_of;
-use std::alloc::Global;
-use std::test::Fail;
+use crate::shown::{holds, must};
+use std::alloc::{AllocError, Global};
+use std::process::Abort;
 use sval_cbor_read::{CborDoc, CborLimitedError, Limits};
 
 /// Bytes in hex, and behind `limits` how many levels and nodes they may have, and whether they are `within` these, or the
@@ -11,26 +13,24 @@ use sval_cbor_read::{CborDoc, CborLimitedError, Limits};
 struct Limited;
 
 impl Case for Limited {
-    fn seen(alloc: Global, input: &str, due: &str) -> Result<String, Fail> {
-        let limits = limits_of(due)?;
-        let bytes = hex::decode(alloc, input.trim_end())?;
-        let error = CborDoc::read_with(alloc, bytes.as_slice(), limits).err();
-        if !fronts_agree(alloc, bytes.as_slice(), limits, error) {
-            return Ok(String::from_str(alloc, "a front tells another error")?);
-        }
+    fn seen(rt: &impl Abort, alloc: Global, input: &str, due: &str) -> String {
+        let limits = limits_of(rt, due);
+        let bytes = bytes_of(rt, alloc, input);
+        let error = CborDoc::read_with(alloc, &bytes, limits).err();
+        holds(rt, fronts_agree(alloc, &bytes, limits, error), input);
+        let told = must(rt, told(alloc, error));
         let (depth, nodes) = (limits.depth, limits.nodes);
-        match error {
-            None => Ok(format!(in alloc; "limits {depth} {nodes}: within")?),
-            Some(CborLimitedError::TooDeep { at }) => Ok(format!(in alloc;
-                "limits {depth} {nodes}: deep {at}"
-            )?),
-            Some(CborLimitedError::TooMany { at }) => Ok(format!(in alloc;
-                "limits {depth} {nodes}: many {at}"
-            )?),
-            Some(CborLimitedError::Read(error)) => Ok(format!(in alloc;
-                "limits {depth} {nodes}: {error:?}"
-            )?),
-        }
+        must(rt, format!(in alloc; "limits {depth} {nodes}: {told}"))
+    }
+}
+
+/// What an error tells.
+fn told(alloc: Global, error: Option<CborLimitedError>) -> Result<String, AllocError> {
+    match error {
+        None => String::from_str(alloc, "within"),
+        Some(CborLimitedError::TooDeep { at }) => format!(in alloc; "deep {at}"),
+        Some(CborLimitedError::TooMany { at }) => format!(in alloc; "many {at}"),
+        Some(CborLimitedError::Read(error)) => format!(in alloc; "{error:?}"),
     }
 }
 
@@ -173,34 +173,24 @@ c25f4101
 "#;
 
 #[test]
-fn limits(rt: HostRuntime) -> Result<(), Fail> {
-    try_cases::<Limited>(&rt, rt.alloc(), LIMITED)
+fn limits(rt: HostRuntime) {
+    try_cases::<Limited>(&rt, rt.alloc(), LIMITED);
+    try_cases::<Limited>(&rt, rt.alloc(), TAGGED);
+    try_cases::<Limited>(&rt, rt.alloc(), IN_CHUNKS);
+    try_cases::<Limited>(&rt, rt.alloc(), BAD);
 }
 
 #[test]
-fn limits_of_tags(rt: HostRuntime) -> Result<(), Fail> {
-    try_cases::<Limited>(&rt, rt.alloc(), TAGGED)
-}
-
-#[test]
-fn limits_of_chunks(rt: HostRuntime) -> Result<(), Fail> {
-    try_cases::<Limited>(&rt, rt.alloc(), IN_CHUNKS)
-}
-
-#[test]
-fn limits_of_bad_bytes(rt: HostRuntime) -> Result<(), Fail> {
-    try_cases::<Limited>(&rt, rt.alloc(), BAD)
-}
-
-#[test]
-fn open_arrays_of_a_stranger(rt: HostRuntime) -> Result<(), Fail> {
-    let mut bytes = Vec::new(rt.alloc());
-    bytes.resize(1_000_000, 0x81)?;
+fn open_arrays_of_a_stranger(rt: HostRuntime) {
+    let bytes = must(&rt, b"\x81".as_slice().repeat(rt.alloc(), 1_000_000));
     let limits = Limits {
         depth: 128,
         nodes: 1000,
     };
-    let seen = CborDoc::read_with(rt.alloc(), bytes.as_slice(), limits).err();
-    assert_eq!(rt; seen, Some(CborLimitedError::TooDeep { at: 128 }));
-    Ok(())
+    let seen = CborDoc::read_with(rt.alloc(), &bytes, limits).err();
+    holds(
+        &rt,
+        seen == Some(CborLimitedError::TooDeep { at: 128 }),
+        "many levels",
+    );
 }

@@ -1,8 +1,11 @@
 //! What is looked up in items of CBOR.
 
 use crate::cases::{Case, try_cases};
+use crate::cbor::items::bytes_of;
+use crate::shown::{holds, must, push};
 use std::alloc::Global;
-use std::test::Fail;
+use std::fmt::Write;
+use std::process::Abort;
 use sval_buffer::ValueBuf;
 use sval_cbor_read::{CborDoc, CborRef};
 use sval_json::stream_to_string;
@@ -11,12 +14,10 @@ use sval_json::stream_to_string;
 struct ItemParts;
 
 impl Case for ItemParts {
-    fn seen(alloc: Global, input: &str, _due: &str) -> Result<String, Fail> {
-        let bytes = hex::decode(alloc, input.trim_end())?;
-        let doc = CborDoc::read(alloc, bytes.as_slice())?;
-        let mut seen = String::from_str(alloc, "parts ")?;
-        push_parts(alloc, &doc.root(), &mut seen)?;
-        Ok(seen)
+    fn seen(rt: &impl Abort, alloc: Global, input: &str, _due: &str) -> String {
+        let bytes = bytes_of(rt, alloc, input);
+        let doc = must(rt, CborDoc::read(alloc, &bytes));
+        seen_of(rt, alloc, "parts ", Some(doc.root()))
     }
 }
 
@@ -24,15 +25,10 @@ impl Case for ItemParts {
 struct Named;
 
 impl Case for Named {
-    fn seen(alloc: Global, input: &str, _due: &str) -> Result<String, Fail> {
-        let bytes = hex::decode(alloc, input.trim_end())?;
-        let doc = CborDoc::read(alloc, bytes.as_slice())?;
-        let mut seen = String::from_str(alloc, "get ")?;
-        match doc.root().get("a") {
-            Some(value) => push_parts(alloc, &value, &mut seen)?,
-            None => seen.push_str("nothing")?,
-        }
-        Ok(seen)
+    fn seen(rt: &impl Abort, alloc: Global, input: &str, _due: &str) -> String {
+        let bytes = bytes_of(rt, alloc, input);
+        let doc = must(rt, CborDoc::read(alloc, &bytes));
+        seen_of(rt, alloc, "get ", doc.root().get("a"))
     }
 }
 
@@ -40,15 +36,10 @@ impl Case for Named {
 struct Second;
 
 impl Case for Second {
-    fn seen(alloc: Global, input: &str, _due: &str) -> Result<String, Fail> {
-        let bytes = hex::decode(alloc, input.trim_end())?;
-        let doc = CborDoc::read(alloc, bytes.as_slice())?;
-        let mut seen = String::from_str(alloc, "item ")?;
-        match doc.root().item(1) {
-            Some(value) => push_parts(alloc, &value, &mut seen)?,
-            None => seen.push_str("nothing")?,
-        }
-        Ok(seen)
+    fn seen(rt: &impl Abort, alloc: Global, input: &str, _due: &str) -> String {
+        let bytes = bytes_of(rt, alloc, input);
+        let doc = must(rt, CborDoc::read(alloc, &bytes));
+        seen_of(rt, alloc, "item ", doc.root().item(1))
     }
 }
 
@@ -56,18 +47,23 @@ impl Case for Second {
 struct Pointed;
 
 impl Case for Pointed {
-    fn seen(alloc: Global, input: &str, _due: &str) -> Result<String, Fail> {
+    fn seen(rt: &impl Abort, alloc: Global, input: &str, _due: &str) -> String {
         let line = input.trim_end();
         let (digits, pointer) = line.split_once(' ').unwrap_or((line, ""));
-        let bytes = hex::decode(alloc, digits)?;
-        let doc = CborDoc::read(alloc, bytes.as_slice())?;
-        let mut seen = String::from_str(alloc, "at ")?;
-        match doc.root().pointer(pointer) {
-            Some(value) => push_parts(alloc, &value, &mut seen)?,
-            None => seen.push_str("nothing")?,
-        }
-        Ok(seen)
+        let bytes = bytes_of(rt, alloc, digits);
+        let doc = must(rt, CborDoc::read(alloc, &bytes));
+        seen_of(rt, alloc, "at ", doc.root().pointer(pointer))
     }
+}
+
+/// A word, and what a value is taken for, if there is one.
+fn seen_of(rt: &impl Abort, alloc: Global, word: &str, value: Option<CborRef<'_>>) -> String {
+    let mut seen = must(rt, String::from_str(alloc, word));
+    match value {
+        Some(value) => push_parts(rt, alloc, &value, &mut seen),
+        None => push(rt, &mut seen, "nothing"),
+    }
+    seen
 }
 
 /// Bytes in hex, a pointer (RFC 6901) behind a space, and behind `json` what is written of the item by itself that the
@@ -75,96 +71,97 @@ impl Case for Pointed {
 struct Written;
 
 impl Case for Written {
-    fn seen(alloc: Global, input: &str, _due: &str) -> Result<String, Fail> {
+    fn seen(rt: &impl Abort, alloc: Global, input: &str, _due: &str) -> String {
         let line = input.trim_end();
         let (digits, pointer) = line.split_once(' ').unwrap_or((line, ""));
-        let bytes = hex::decode(alloc, digits)?;
-        let doc = CborDoc::read(alloc, bytes.as_slice())?;
+        let bytes = bytes_of(rt, alloc, digits);
+        let doc = must(rt, CborDoc::read(alloc, &bytes));
         match doc.root().pointer(pointer) {
-            Some(item) => {
-                let part = item.part();
-                let captured: ValueBuf<'_> = ValueBuf::collect(alloc, &part)?;
-                let written = stream_to_string(alloc, &part)?;
-                let replayed = stream_to_string(alloc, &captured)?;
-                Ok(format!(in alloc; "json {written} {replayed}")?)
-            },
-            None => Ok(String::from_str(alloc, "nothing")?),
+            Some(item) => written_of(rt, alloc, &item),
+            None => must(rt, String::from_str(alloc, "nothing")),
         }
     }
 }
 
+/// What is written of an item by itself, and of what is captured of it.
+fn written_of(rt: &impl Abort, alloc: Global, item: &CborRef<'_>) -> String {
+    let part = item.part();
+    let captured: ValueBuf<'_> = must(rt, ValueBuf::collect(alloc, &part));
+    let written = must(rt, stream_to_string(alloc, &part));
+    let replayed = must(rt, stream_to_string(alloc, &captured));
+    must(rt, format!(in alloc; "json {written} {replayed}"))
+}
+
 /// What an integer is as each of the four types.
-fn push_number(alloc: Global, value: &CborRef<'_>, seen: &mut String) -> Result<(), Fail> {
+fn push_number(rt: &impl Abort, value: &CborRef<'_>, seen: &mut String) {
     let short = value.as_i64();
     let natural = value.as_u64();
     let long = value.as_i128();
     let large = value.as_u128();
-    let text = format!(in alloc; " {short:?} {natural:?} {long:?} {large:?}")?;
-    Ok(seen.push_str(text.as_str())?)
+    must(
+        rt,
+        write!(seen, " {short:?} {natural:?} {long:?} {large:?}"),
+    );
 }
 
 /// What an item is taken for: its kind, and what else is of that kind.
-fn push_one(alloc: Global, value: &CborRef<'_>, seen: &mut String) -> Result<(), Fail> {
-    let kind = value.kind();
-    seen.push_str(format!(in alloc; "{kind:?}")?.as_str())?;
+fn push_one(rt: &impl Abort, alloc: Global, value: &CborRef<'_>, seen: &mut String) {
+    must(rt, write!(seen, "{:?}", value.kind()));
     if value.is_null() {
-        seen.push_str(" null")?;
+        push(rt, seen, " null");
     }
     if let Some(truth) = value.as_bool() {
-        seen.push_str(format!(in alloc; " {truth:?}")?.as_str())?;
+        must(rt, write!(seen, " {truth:?}"));
     }
     if value.as_i128().is_some() || value.as_u128().is_some() {
-        push_number(alloc, value, seen)?;
+        push_number(rt, value, seen);
     }
     if let Some(len) = value.len() {
-        seen.push_str(format!(in alloc; " {len}")?.as_str())?;
+        must(rt, write!(seen, " {len}"));
     }
-    push_strings(alloc, value, seen)
+    push_strings(rt, alloc, value, seen);
 }
 
 /// A text and a byte string: what one chunk of it holds, and its chunks.
-fn push_strings(alloc: Global, value: &CborRef<'_>, seen: &mut String) -> Result<(), Fail> {
+fn push_strings(rt: &impl Abort, alloc: Global, value: &CborRef<'_>, seen: &mut String) {
     if let Some(text) = value.text() {
         let lent = value.as_str();
-        let copied = text.to_text(alloc)?;
-        let is_copied = text.is(copied.as_str());
-        seen.push_str(format!(in alloc; " {lent:?} {copied:?} {is_copied:?}")?.as_str())?;
+        let copied = must(rt, text.to_text(alloc));
+        let is_copied = text.is(&copied);
+        must(rt, write!(seen, " {lent:?} {copied:?} {is_copied:?}"));
         let mut left = text;
         while let Some(chunk) = left.next() {
-            seen.push_str(format!(in alloc; " {chunk:?}")?.as_str())?;
+            must(rt, write!(seen, " {chunk:?}"));
         }
     }
     if let Some(content) = value.bytes() {
-        let lent = value.as_bytes();
-        seen.push_str(format!(in alloc; " {lent:?}")?.as_str())?;
+        must(rt, write!(seen, " {:?}", value.as_bytes()));
         let mut left = content;
         while let Some(slice) = left.next() {
-            seen.push_str(format!(in alloc; " {slice:?}")?.as_str())?;
+            must(rt, write!(seen, " {slice:?}"));
         }
     }
-    Ok(())
 }
 
 /// What an item, and each item directly in it, is taken for.
-fn push_parts(alloc: Global, value: &CborRef<'_>, seen: &mut String) -> Result<(), Fail> {
-    push_one(alloc, value, seen)?;
+fn push_parts(rt: &impl Abort, alloc: Global, value: &CborRef<'_>, seen: &mut String) {
+    push_one(rt, alloc, value, seen);
     if let Some(items) = value.items() {
         let mut left = items;
         while let Some(item) = left.next() {
-            seen.push_str("; ")?;
-            push_one(alloc, &item, seen)?;
+            push(rt, seen, "; ");
+            push_one(rt, alloc, &item, seen);
         }
     }
     if let Some(entries) = value.entries() {
         let mut left = entries;
         while let Some(entry) = left.next() {
-            seen.push_str("; ")?;
-            push_one(alloc, &entry.key, seen)?;
-            seen.push_str(": ")?;
-            push_one(alloc, &entry.value, seen)?;
+            push(rt, seen, "; ");
+            push_one(rt, alloc, &entry.key, seen);
+            push(rt, seen, ": ");
+            push_one(rt, alloc, &entry.value, seen);
         }
     }
-    Ok(())
 }
 
 /// Items of each kind. Integers are those of RFC 8949, appendix A, and at the ends of the types.
@@ -412,45 +409,50 @@ c1a16161c1820102 /a
 "#;
 
 #[test]
-fn what_an_item_holds(rt: HostRuntime) -> Result<(), Fail> {
-    try_cases::<ItemParts>(&rt, rt.alloc(), PARTS)
+fn what_an_item_holds(rt: HostRuntime) {
+    try_cases::<ItemParts>(&rt, rt.alloc(), PARTS);
 }
 
 #[test]
-fn values_by_name(rt: HostRuntime) -> Result<(), Fail> {
-    try_cases::<Named>(&rt, rt.alloc(), NAMED)
+fn what_is_looked_up(rt: HostRuntime) {
+    try_cases::<Named>(&rt, rt.alloc(), NAMED);
+    try_cases::<Second>(&rt, rt.alloc(), SECOND);
+    try_cases::<Pointed>(&rt, rt.alloc(), POINTED);
 }
 
 #[test]
-fn items_at_1(rt: HostRuntime) -> Result<(), Fail> {
-    try_cases::<Second>(&rt, rt.alloc(), SECOND)
+fn what_is_written_of_an_item(rt: HostRuntime) {
+    try_cases::<Written>(&rt, rt.alloc(), WRITTEN);
 }
 
-#[test]
-fn items_at_pointers(rt: HostRuntime) -> Result<(), Fail> {
-    try_cases::<Pointed>(&rt, rt.alloc(), POINTED)
-}
-
-#[test]
-fn what_is_written_of_an_item(rt: HostRuntime) -> Result<(), Fail> {
-    try_cases::<Written>(&rt, rt.alloc(), WRITTEN)
-}
-
-/// 100,000 items, each an array of one byte string, and the last of them.
-#[test]
-fn many_items(rt: HostRuntime) -> Result<(), Fail> {
-    let alloc = rt.alloc();
-    let mut bytes = Vec::from_slice(alloc, b"\x9a\x00\x01\x86\xa0".as_slice())?;
+/// An array of 100,000 items, each an array of one byte string.
+fn many_bytes(rt: &impl Abort, alloc: Global) -> Vec<u8> {
+    let mut bytes = must(
+        rt,
+        Vec::from_slice(alloc, b"\x9a\x00\x01\x86\xa0".as_slice()),
+    );
     for index in 0..100_000u32 {
-        bytes.extend_from_slice(b"\x81\x41".as_slice())?;
-        bytes.push((index % 251) as u8)?;
+        must(
+            rt,
+            bytes.extend_from_slice(&[0x81, 0x41, (index % 251) as u8]),
+        );
     }
-    let doc = CborDoc::read(alloc, bytes.as_slice())?;
+    bytes
+}
+
+/// 100,000 items, and the last of them.
+#[test]
+fn many_items(rt: HostRuntime) {
+    let bytes = many_bytes(&rt, rt.alloc());
+    let doc = must(&rt, CborDoc::read(rt.alloc(), &bytes));
     let root = doc.root();
-    assert_eq!(rt; root.len(), Some(100_000));
-    assert!(rt; root.item(100_000).is_none());
-    assert_eq!(rt; inner_length(&root, 99_999), Some(1));
-    Ok(())
+    holds(&rt, root.len() == Some(100_000), "the length");
+    holds(
+        &rt,
+        root.item(100_000).is_none(),
+        "the item behind the last",
+    );
+    holds(&rt, inner_length(&root, 99_999) == Some(1), "the last item");
 }
 
 /// How many bytes the first item of an item of an array has, if that is a byte string in one chunk.

@@ -1,8 +1,9 @@
 //! Scripts, and the CBOR that is written of them.
 
 use crate::cases::{Case, try_cases};
+use crate::shown::{compare, must};
 use std::alloc::Global;
-use std::test::Fail;
+use std::process::Abort;
 use sval_cbor::{Lengths, Style, stream_to_cbor, stream_to_cbor_with};
 use sval_io::VecSink;
 use sval_script::Script;
@@ -29,19 +30,20 @@ fn style_of(due: &str) -> (Style, &'static str) {
 }
 
 impl Case for Written {
-    fn seen(alloc: Global, input: &str, due: &str) -> Result<String, Fail> {
-        let script = Script::read(alloc, input.as_bytes())?;
+    fn seen(rt: &impl Abort, alloc: Global, input: &str, due: &str) -> String {
+        let script = must(rt, Script::read(alloc, input.as_bytes()));
         let mut sink = VecSink::new(alloc);
         let (style, word) = style_of(due);
         let answer = match word {
             "" => stream_to_cbor(alloc, &mut sink, &script),
             _ => stream_to_cbor_with(alloc, &mut sink, &script, style),
         };
-        let bytes = hex::encode(alloc, sink.as_slice())?;
-        match answer {
-            Ok(()) => Ok(format!(in alloc; "{word}cbor {bytes}")?),
-            Err(error) => Ok(format!(in alloc; "{word}error {bytes}{error:?}")?),
-        }
+        let bytes = must(rt, hex::encode(alloc, sink.as_slice()));
+        let seen = match answer {
+            Ok(()) => format!(in alloc; "{word}cbor {bytes}"),
+            Err(error) => format!(in alloc; "{word}error {bytes}{error:?}"),
+        };
+        must(rt, seen)
     }
 }
 
@@ -573,14 +575,13 @@ map_end
 "#;
 
 #[test]
-fn scripts_that_are_written(rt: HostRuntime) -> Result<(), Fail> {
+fn scripts_that_are_written(rt: HostRuntime) {
     for table in [
         EXAMPLES, MAPS, WIDE, BINARIES, DEFINITE, NUMBERS, TEXTS, VARIANTS, NOT_WHOLE, RAW,
         NO_VALUE,
     ] {
-        try_cases::<Written>(&rt, rt.alloc(), table)?;
+        try_cases::<Written>(&rt, rt.alloc(), table);
     }
-    Ok(())
 }
 
 /// The lines of a container whose entries are all alike.
@@ -609,40 +610,29 @@ const ENTRIES: Alike = Alike {
     bytes: "6131f6",
 };
 
-/// A text, this many times another, and a third text.
-fn repeated(
-    alloc: Global,
-    first: &str,
-    middle: &str,
-    count: u16,
-    last: &str,
-) -> Result<String, Fail> {
-    let mut text = String::from_str(alloc, first)?;
-    for _ in 0..count {
-        text.push_str(middle)?;
-    }
-    text.push_str(last)?;
-    Ok(text)
+/// Each number of entries, and the heads of an array and of a map that have as many.
+const HEADS: [(usize, &'static str, &'static str); 6] = [
+    (0, "80", "a0"),
+    (1, "81", "a1"),
+    (23, "97", "b7"),
+    (24, "9818", "b818"),
+    (255, "98ff", "b8ff"),
+    (256, "990100", "b90100"),
+];
+
+/// Writes a container of this many entries, and compares its bytes with its head and theirs.
+fn try_alike(rt: &impl Abort, alloc: Global, alike: Alike, count: usize, head: &str) {
+    let entries = must(rt, alike.entry.repeat(alloc, count));
+    let script = must(rt, [alike.begin, &entries, alike.end].concat(alloc));
+    let bytes = must(rt, alike.bytes.repeat(alloc, count));
+    let due = must(rt, ["definite cbor ", head, &bytes].concat(alloc));
+    compare(rt, &Written::seen(rt, alloc, &script, &due), &due, head);
 }
 
 #[test]
-fn counts_in_heads(rt: HostRuntime) -> Result<(), Fail> {
-    let alloc = rt.alloc();
-    for (count, array, map) in [
-        (0, "80", "a0"),
-        (1, "81", "a1"),
-        (23, "97", "b7"),
-        (24, "9818", "b818"),
-        (255, "98ff", "b8ff"),
-        (256, "990100", "b90100"),
-    ] {
-        for (alike, head) in [(NULLS, array), (ENTRIES, map)] {
-            let script = repeated(alloc, alike.begin, alike.entry, count, alike.end)?;
-            let start = format!(in alloc; "definite cbor {head}")?;
-            let due = repeated(alloc, start.as_str(), alike.bytes, count, "")?;
-            let seen = Written::seen(alloc, script.as_str(), due.as_str())?;
-            assert_eq!(rt; seen.as_str(), due.as_str());
-        }
+fn counts_in_heads(rt: HostRuntime) {
+    for (count, array, map) in HEADS {
+        try_alike(&rt, rt.alloc(), NULLS, count, array);
+        try_alike(&rt, rt.alloc(), ENTRIES, count, map);
     }
-    Ok(())
 }

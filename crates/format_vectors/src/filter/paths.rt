@@ -1,22 +1,26 @@
 //! Paths that are made label by label, and by words.
 
 use crate::cases::{Case, try_cases};
+use crate::shown::must;
 use std::alloc::Global;
-use std::test::Fail;
+use std::process::Abort;
 use sval_filter::{PathError, Paths};
 
 /// Calls of paths, one a line, and behind `paths` what they answer and leave.
 struct Made;
 
 impl Case for Made {
-    fn seen(alloc: Global, input: &str, _due: &str) -> Result<String, Fail> {
+    fn seen(rt: &impl Abort, alloc: Global, input: &str, _due: &str) -> String {
         let mut paths = Paths::new(alloc);
         let mut answers = Vec::new(alloc);
         for call in input.lines() {
             let (name, label) = call.split_once(' ').unwrap_or((call, ""));
-            answers.push(answer(&mut paths, name, label))?;
+            must(rt, answers.push(answer(&mut paths, name, label)));
         }
-        Ok(format!(in alloc; "paths {answers:?} {:?}", paths.as_slice())?)
+        must(
+            rt,
+            format!(in alloc; "paths {answers:?} {:?}", paths.as_slice()),
+        )
     }
 }
 
@@ -56,6 +60,6 @@ push a..b
 "#;
 
 #[test]
-fn paths_by_labels_and_words(rt: HostRuntime) -> Result<(), Fail> {
-    try_cases::<Made>(&rt, rt.alloc(), MADE)
+fn paths_by_labels_and_words(rt: HostRuntime) {
+    try_cases::<Made>(&rt, rt.alloc(), MADE);
 }

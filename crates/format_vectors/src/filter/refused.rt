@@ -1,22 +1,26 @@
 //! A call that a filter refuses.
 
-use std::test::Fail;
+use crate::shown::{holds, must};
 use sval_core::Stream;
 use sval_filter::{Filter, Paths, Rule, Why};
 use sval_io::VecSink;
 use sval_script::Printer;
 
 #[test]
-fn tells_why_it_refuses(rt: HostRuntime) -> Result<(), Fail> {
+fn tells_why_it_refuses(rt: HostRuntime) {
     let paths = Paths::new(rt.alloc());
     let printer = Printer::new(VecSink::new(rt.alloc()));
     let mut filter = Filter::new(rt.alloc(), Rule::Drop, &paths, printer);
-    filter.seq_begin(Some(0))?;
-    assert!(rt; filter.map_end().is_err());
-    assert!(rt; filter.why() == Some(Why::NotViable) && !filter.is_whole());
-    filter.seq_end()?;
-    assert!(rt; filter.is_whole());
+    must(&rt, filter.seq_begin(Some(0)));
+    holds(&rt, filter.map_end().is_err(), "map_end");
+    holds(&rt, filter.why() == Some(Why::NotViable), "why");
+    holds(&rt, !filter.is_whole(), "before seq_end");
+    must(&rt, filter.seq_end());
+    holds(&rt, filter.is_whole(), "behind seq_end");
     let printed = filter.into_inner().into_inner();
-    assert!(rt; printed.as_slice() == b"seq_begin 0\nseq_end\n".as_slice());
-    Ok(())
+    holds(
+        &rt,
+        printed.as_slice() == b"seq_begin 0\nseq_end\n".as_slice(),
+        "what is printed",
+    );
 }

@@ -1,8 +1,9 @@
 //! Values that are pruned.
 
 use crate::cases::{Case, try_cases};
+use crate::shown::must;
 use std::alloc::Global;
-use std::test::Fail;
+use std::process::Abort;
 use sval_filter::{Paths, PruneError, Rule, prune};
 use sval_json::stream_to_string;
 use sval_script::Script;
@@ -92,42 +93,51 @@ seq_end
 "#;
 
 /// What words leave of the value of a script.
-fn left(alloc: Global, lines: &str, words: &str) -> Result<String, Fail> {
-    let script = Script::read(alloc, lines.as_bytes())?;
-    let (rule, paths) = rule_and_paths(alloc, words)?;
-    let pruned: Result<sval_buffer::Value<'_>, PruneError> = prune(alloc, &script, rule, &paths);
+fn left(rt: &impl Abort, alloc: Global, lines: &str, words: &str) -> String {
+    let script = must(rt, Script::read(alloc, lines.as_bytes()));
+    let paths = paths_of(rt, alloc, words);
+    let pruned: Result<sval_buffer::Value<'_>, PruneError> = prune(
+        alloc,
+        &script,
+        rule_of(words),
+        &paths,
+    );
     match pruned {
-        Ok(value) => Ok(stream_to_string(alloc, &value)?),
-        Err(error) => Ok(format!(in alloc; "{error:?}")?),
+        Ok(value) => must(rt, stream_to_string(alloc, &value)),
+        Err(error) => must(rt, format!(in alloc; "{error:?}")),
     }
 }
 
-/// The rule and the paths of these words.
-fn rule_and_paths(alloc: Global, words: &str) -> Result<(Rule, Paths), Fail> {
-    let mut paths = Paths::new(alloc);
-    let mut words = words.split(' ');
-    let rule = match words.next() {
-        Some("drop") => Rule::Drop,
-        _ => Rule::Keep,
-    };
-    for word in words {
-        paths.push_word(word)?;
+/// The rule that the first of these words asks for.
+fn rule_of(words: &str) -> Rule {
+    if words.starts_with("drop") {
+        Rule::Drop
+    } else {
+        Rule::Keep
     }
-    Ok((rule, paths))
+}
+
+/// The paths of these words behind the first.
+fn paths_of(rt: &impl Abort, alloc: Global, words: &str) -> Paths {
+    let mut paths = Paths::new(alloc);
+    for word in words.split(' ').skip(1) {
+        must(rt, paths.push_word(word));
+    }
+    paths
 }
 
 /// A script, and behind words and a colon what they leave of its value.
 struct Pruned;
 
 impl Case for Pruned {
-    fn seen(alloc: Global, input: &str, due: &str) -> Result<String, Fail> {
-        let (words, _json) = due.split_once(": ").ok_or("a row without a colon")?;
-        let left = left(alloc, input, words)?;
-        Ok(format!(in alloc; "{words}: {left}")?)
+    fn seen(rt: &impl Abort, alloc: Global, input: &str, due: &str) -> String {
+        let (words, _json) = due.split_once(": ").unwrap_or((due, ""));
+        let left = left(rt, alloc, input, words);
+        must(rt, format!(in alloc; "{words}: {left}"))
     }
 }
 
 #[test]
-fn values_that_are_pruned(rt: HostRuntime) -> Result<(), Fail> {
-    try_cases::<Pruned>(&rt, rt.alloc(), LEFT)
+fn values_that_are_pruned(rt: HostRuntime) {
+    try_cases::<Pruned>(&rt, rt.alloc(), LEFT);
 }

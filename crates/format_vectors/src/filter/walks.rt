@@ -1,42 +1,47 @@
 //! Walks over values, part by part.
 
 use crate::cases::{Case, try_cases};
+use crate::shown::{must, push};
 use std::alloc::Global;
-use std::test::Fail;
-use sval_core::NoMemory;
+use std::process::Abort;
 use sval_filter::{Paths, Rule, Walk};
 
 /// Parts that a walk takes, one a line, and behind `drop` or `keep` whether each stays. The paths are `a.b` and `c`.
 struct Walked;
 
 impl Case for Walked {
-    fn seen(alloc: Global, input: &str, due: &str) -> Result<String, Fail> {
+    fn seen(rt: &impl Abort, alloc: Global, input: &str, due: &str) -> String {
         let mut paths = Paths::new(alloc);
-        paths.push_word("a.b")?;
-        paths.push_word("c")?;
-        let (name, rule) = if due.starts_with("keep") {
-            ("keep", Rule::Keep)
-        } else {
-            ("drop", Rule::Drop)
-        };
+        must(rt, paths.push_word("a.b"));
+        must(rt, paths.push_word("c"));
+        let (name, rule) = rule_of(due);
         let mut walk = Walk::new(alloc, rule, &paths);
-        let mut seen = String::from_str(alloc, name)?;
+        let mut seen = must(rt, String::from_str(alloc, name));
         for part in input.lines() {
-            let stays = take_part(&mut walk, part)?;
-            seen.push_str(if stays { " yes" } else { " no" })?;
+            push(rt, &mut seen, take_part(rt, &mut walk, part));
         }
-        Ok(seen)
+        seen
+    }
+}
+
+/// The rule that is named first, and its name.
+fn rule_of(due: &str) -> (&'static str, Rule) {
+    if due.starts_with("keep") {
+        ("keep", Rule::Keep)
+    } else {
+        ("drop", Rule::Drop)
     }
 }
 
 /// Whether a part stays.
-fn take_part(walk: &mut Walk<'_>, part: &str) -> Result<bool, NoMemory> {
-    match part {
-        "begin" => walk.begin(),
-        "end" => Ok(walk.end()),
-        "value" => Ok(walk.value()),
-        name => walk.name(name),
-    }
+fn take_part(rt: &impl Abort, walk: &mut Walk<'_>, part: &str) -> &'static str {
+    let stays = match part {
+        "begin" => must(rt, walk.begin()),
+        "end" => walk.end(),
+        "value" => walk.value(),
+        name => must(rt, walk.name(name)),
+    };
+    if stays { " yes" } else { " no" }
 }
 
 /// Begins, ends, values and names.
@@ -103,6 +108,6 @@ end
 "#;
 
 #[test]
-fn parts_that_stay(rt: HostRuntime) -> Result<(), Fail> {
-    try_cases::<Walked>(&rt, rt.alloc(), WALKED)
+fn parts_that_stay(rt: HostRuntime) {
+    try_cases::<Walked>(&rt, rt.alloc(), WALKED);
 }

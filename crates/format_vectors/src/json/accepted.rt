@@ -2,8 +2,10 @@
 //! written as, one by one, is what the whole is written as.
 
 use crate::cases::{Case, try_cases};
+use crate::shown::{compare, must, push};
 use std::alloc::Global;
-use std::test::Fail;
+use std::fmt::Write;
+use std::process::Abort;
 use sval_json::stream_to_string;
 use sval_json_read::{JsonDoc, JsonItems, JsonMembers, JsonRef};
 
@@ -11,64 +13,67 @@ use sval_json_read::{JsonDoc, JsonItems, JsonMembers, JsonRef};
 struct Parted;
 
 impl Case for Parted {
-    fn seen(alloc: Global, input: &str, _due: &str) -> Result<String, Fail> {
-        let doc = JsonDoc::read_str(alloc, input)?;
-        let whole = stream_to_string(alloc, &doc)?;
-        let joined = joined(alloc, doc.root())?;
-        let again = joined_again(alloc, joined.as_str())?;
-        if joined.as_str() == whole.as_str() && again.as_str() == whole.as_str() {
-            return Ok(String::from_str(alloc, "same")?);
-        }
-        Ok(format!(in alloc; "{joined}, and {again}, of {whole}")?)
+    fn seen(rt: &impl Abort, alloc: Global, input: &str, _due: &str) -> String {
+        let doc = must(rt, JsonDoc::read_str(alloc, input));
+        let whole = must(rt, stream_to_string(alloc, &doc));
+        let joined = joined(rt, alloc, doc.root());
+        compare(rt, &joined, &whole, input);
+        compare(rt, &joined_again(rt, alloc, &joined), &whole, input);
+        must(rt, String::from_str(alloc, "same"))
     }
 }
 
 /// What is written of a text by its parts.
-fn joined_again(alloc: Global, text: &str) -> Result<String, Fail> {
-    let doc = JsonDoc::read_str(alloc, text)?;
-    joined(alloc, doc.root())
+fn joined_again(rt: &impl Abort, alloc: Global, text: &str) -> String {
+    let doc = must(rt, JsonDoc::read_str(alloc, text));
+    joined(rt, alloc, doc.root())
 }
 
 /// What is written of a value by its parts.
-fn joined(alloc: Global, value: JsonRef<'_>) -> Result<String, Fail> {
+fn joined(rt: &impl Abort, alloc: Global, value: JsonRef<'_>) -> String {
     if let Some(items) = value.items() {
-        return joined_items(alloc, items);
+        return joined_items(rt, alloc, items);
     }
     if let Some(members) = value.members() {
-        return joined_members(alloc, members);
+        return joined_members(rt, alloc, members);
     }
-    Ok(stream_to_string(alloc, &value.part())?)
+    must(rt, stream_to_string(alloc, &value.part()))
 }
 
 /// The items of an array, between brackets and with a comma before each but the first.
-fn joined_items(alloc: Global, items: JsonItems<'_>) -> Result<String, Fail> {
-    let mut text = String::from_str(alloc, "[")?;
+fn joined_items(rt: &impl Abort, alloc: Global, items: JsonItems<'_>) -> String {
+    let mut text = String::new(alloc);
     let mut left = items;
     while let Some(item) = left.next() {
-        if text.len() > 1 {
-            text.push_str(",")?;
-        }
-        text.push_str(stream_to_string(alloc, &item.part())?.as_str())?;
+        push_comma(rt, &mut text);
+        push(
+            rt,
+            &mut text,
+            &must(rt, stream_to_string(alloc, &item.part())),
+        );
     }
-    text.push_str("]")?;
-    Ok(text)
+    must(rt, format!(in alloc; "[{text}]"))
+}
+
+/// Adds a comma to a text that isn't empty.
+fn push_comma(rt: &impl Abort, text: &mut String) {
+    if !text.is_empty() {
+        push(rt, text, ",");
+    }
 }
 
 /// The members of an object, with their names, between braces and with a comma before each but the first.
-fn joined_members(alloc: Global, members: JsonMembers<'_>) -> Result<String, Fail> {
-    let mut text = String::from_str(alloc, "{")?;
+fn joined_members(rt: &impl Abort, alloc: Global, members: JsonMembers<'_>) -> String {
+    let mut text = String::new(alloc);
     let mut left = members;
     while let Some(member) = left.next() {
-        let name = member.name.to_text(alloc)?;
-        if text.len() > 1 {
-            text.push_str(",")?;
-        }
-        text.push_str(stream_to_string(alloc, &name.as_str())?.as_str())?;
-        text.push_str(":")?;
-        text.push_str(stream_to_string(alloc, &member.value.part())?.as_str())?;
+        let name = must(rt, member.name.to_text(alloc));
+        let name = must(rt, stream_to_string(alloc, &name.as_str()));
+        let value = must(rt, stream_to_string(alloc, &member.value.part()));
+        push_comma(rt, &mut text);
+        must(rt, write!(&mut text, "{name}:{value}"));
     }
-    text.push_str("}")?;
-    Ok(text)
+    must(rt, format!(in alloc; "{{{text}}}"))
 }
 
 const ACCEPTED: &'static str = r#"
@@ -267,6 +272,6 @@ true␄
 "#;
 
 #[test]
-fn parts_make_the_whole(rt: HostRuntime) -> Result<(), Fail> {
-    try_cases::<Parted>(&rt, rt.alloc(), ACCEPTED)
+fn parts_make_the_whole(rt: HostRuntime) {
+    try_cases::<Parted>(&rt, rt.alloc(), ACCEPTED);
 }

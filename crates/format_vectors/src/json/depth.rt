@@ -1,21 +1,26 @@
 //! Documents of many levels.
 
 use crate::levels::nested;
+use crate::shown::{holds, must};
 use std::alloc::Global;
 use std::process::Abort;
-use std::test::Fail;
 use sval_buffer::ValueBuf;
 use sval_check::check;
 use sval_json::stream_to_string;
 use sval_json_read::{JsonDoc, ReadError};
 
-/// Whether a document is read as one value, which is written as it is, also once it was captured.
-fn is_written_again(alloc: Global, text: &str) -> Result<bool, Fail> {
-    let doc = JsonDoc::read(alloc, text.as_bytes())?;
-    let captured: ValueBuf<'_> = ValueBuf::collect(alloc, &doc)?;
-    let written = stream_to_string(alloc, &doc)?;
-    let replayed = stream_to_string(alloc, &captured)?;
-    Ok(check(alloc, &doc).is_ok() && written.as_str() == text && replayed.as_str() == text)
+/// A document is read as one value, which is written as it is, also once it was captured.
+fn try_written_again(rt: &impl Abort, alloc: Global, text: &str, levels: &str) {
+    let doc = must(rt, JsonDoc::read(alloc, text.as_bytes()));
+    holds(rt, check(alloc, &doc).is_ok(), levels);
+    let captured: ValueBuf<'_> = must(rt, ValueBuf::collect(alloc, &doc));
+    let written = must(rt, stream_to_string(alloc, &doc));
+    let replayed = must(rt, stream_to_string(alloc, &captured));
+    holds(
+        rt,
+        written.as_str() == text && replayed.as_str() == text,
+        levels,
+    );
 }
 
 /// Whether a document fails at its end where its last byte is missing.
@@ -28,24 +33,23 @@ fn misses_its_last_end(alloc: Global, text: &str) -> bool {
 }
 
 /// Tries a document of levels as [`nested`] has them.
-fn try_levels(rt: &impl Abort, alloc: Global, levels: &str) -> Result<(), Fail> {
-    let text = nested(alloc, levels)?;
-    assert!(rt; is_written_again(alloc, text.as_str())?);
-    assert!(rt; misses_its_last_end(alloc, text.as_str()));
-    Ok(())
+fn try_levels(rt: &impl Abort, alloc: Global, levels: &str) {
+    let text = nested(rt, alloc, levels);
+    try_written_again(rt, alloc, &text, levels);
+    holds(rt, misses_its_last_end(alloc, &text), levels);
 }
 
 #[test]
-fn arrays(rt: HostRuntime) -> Result<(), Fail> {
-    try_levels(&rt, rt.alloc(), "[|[]|]")
+fn arrays(rt: HostRuntime) {
+    try_levels(&rt, rt.alloc(), "[|[]|]");
 }
 
 #[test]
-fn objects(rt: HostRuntime) -> Result<(), Fail> {
-    try_levels(&rt, rt.alloc(), r#"{"a":|1|}"#)
+fn objects(rt: HostRuntime) {
+    try_levels(&rt, rt.alloc(), r#"{"a":|1|}"#);
 }
 
 #[test]
-fn objects_in_arrays(rt: HostRuntime) -> Result<(), Fail> {
-    try_levels(&rt, rt.alloc(), r#"[null,{"":|""|},2]"#)
+fn objects_in_arrays(rt: HostRuntime) {
+    try_levels(&rt, rt.alloc(), r#"[null,{"":|""|},2]"#);
 }

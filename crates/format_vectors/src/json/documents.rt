@@ -2,8 +2,9 @@
 
 use crate::cases::{Case, try_cases};
 use crate::rows::rows_of;
+use crate::shown::{compare, holds, must};
 use std::alloc::Global;
-use std::test::Fail;
+use std::process::Abort;
 use sval_check::TokenBuf;
 use sval_io::VecSink;
 use sval_json::stream_to_string;
@@ -14,45 +15,45 @@ use sval_ref::stream_ref;
 struct Written;
 
 impl Case for Written {
-    fn seen(alloc: Global, input: &str, _due: &str) -> Result<String, Fail> {
-        json_of(alloc, input.as_bytes())
+    fn seen(rt: &impl Abort, alloc: Global, input: &str, _due: &str) -> String {
+        json_of(rt, alloc, input.as_bytes())
     }
 }
 
-/// What is written of bytes, or why they aren't read. Of its calls the same has to be written as by the document itself.
-fn json_of(alloc: Global, bytes: &[u8]) -> Result<String, Fail> {
+/// What is written of bytes, or why they aren't read.
+fn json_of(rt: &impl Abort, alloc: Global, bytes: &[u8]) -> String {
     match JsonDoc::read(alloc, bytes) {
-        Ok(doc) => {
-            let written = stream_to_string(alloc, &doc)?;
-            let mut out = VecSink::new(alloc);
-            doc.write_json(&mut out)?;
-            if out.as_slice() != written.as_bytes() {
-                return Ok(String::from_str(alloc, "another text by its calls")?);
-            }
-            Ok(format!(in alloc; "json {written}")?)
-        },
-        Err(error) => Ok(format!(in alloc; "error {error:?}")?),
+        Ok(doc) => must(rt, format!(in alloc; "json {}", text_of(rt, alloc, &doc))),
+        Err(error) => must(rt, format!(in alloc; "error {error:?}")),
     }
+}
+
+/// What is written of a document. Of its calls the same has to be written as by the document itself.
+fn text_of(rt: &impl Abort, alloc: Global, doc: &JsonDoc<'_>) -> String {
+    let written = must(rt, stream_to_string(alloc, doc));
+    let mut out = VecSink::new(alloc);
+    must(rt, doc.write_json(&mut out));
+    holds(rt, out.as_slice() == written.as_bytes(), &written);
+    written
 }
 
 /// A text, and behind `calls` its calls.
 struct Calls;
 
 impl Case for Calls {
-    fn seen(alloc: Global, input: &str, _due: &str) -> Result<String, Fail> {
-        let calls = kept(alloc, input.as_bytes())?;
+    fn seen(rt: &impl Abort, alloc: Global, input: &str, _due: &str) -> String {
+        let calls = kept(rt, alloc, input.as_bytes());
         let tokens = calls.as_tokens();
-        let seen = format!(in alloc; "calls {tokens:?}")?;
-        Ok(seen)
+        must(rt, format!(in alloc; "calls {tokens:?}"))
     }
 }
 
 /// The calls of a document, which keep its texts for longer than it is there.
-fn kept(alloc: Global, bytes: &[u8]) -> Result<TokenBuf<'_>, Fail> {
+fn kept<'a>(rt: &impl Abort, alloc: Global, bytes: &'a [u8]) -> TokenBuf<'a> {
     let mut calls = TokenBuf::new(alloc);
-    let doc = JsonDoc::read(alloc, bytes)?;
-    stream_ref(&mut calls, &doc)?;
-    Ok(calls)
+    let doc = must(rt, JsonDoc::read(alloc, bytes));
+    must(rt, stream_ref(&mut calls, &doc));
+    calls
 }
 
 /// Texts, the first of no bytes. The longest two are the examples of RFC 8259, section 13.
@@ -171,16 +172,19 @@ const CALLS: &'static str = r#"
 "#;
 
 #[test]
-fn texts_and_their_calls(rt: HostRuntime) -> Result<(), Fail> {
-    try_cases::<Written>(&rt, rt.alloc(), WRITTEN)?;
-    try_cases::<Calls>(&rt, rt.alloc(), CALLS)
+fn texts_and_their_calls(rt: HostRuntime) {
+    try_cases::<Written>(&rt, rt.alloc(), WRITTEN);
+    try_cases::<Calls>(&rt, rt.alloc(), CALLS);
 }
 
 #[test]
-fn bytes_that_are_no_utf8(rt: HostRuntime) -> Result<(), Fail> {
-    for row in &rows_of(rt.alloc(), NOT_UTF8)? {
-        let seen = json_of(rt.alloc(), row.input.as_slice())?;
-        assert_eq!(rt; seen.as_str(), row.due.as_str());
+fn bytes_that_are_no_utf8(rt: HostRuntime) {
+    for row in &rows_of(&rt, rt.alloc(), NOT_UTF8) {
+        compare(
+            &rt,
+            &json_of(&rt, rt.alloc(), &row.input),
+            &row.due,
+            NOT_UTF8,
+        );
     }
-    Ok(())
 }

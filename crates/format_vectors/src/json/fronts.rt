@@ -2,21 +2,20 @@
 
 use crate::cases::{Case, try_cases};
 use crate::levels::nested;
+use crate::shown::{holds, must, push};
 use std::alloc::Global;
-use std::test::Fail;
+use std::process::Abort;
 use sval_json::stream_to_string;
-use sval_json_read::{JsonDoc, ReadError, expected, goes_on};
+use sval_json_read::{JsonDoc, NextCharacters, ReadError, expected, goes_on};
 
 /// A text, and behind `front` how many bytes the first value takes and what is written of it, or behind `error` why
 /// there is none. The bytes are read with one behind them that is no UTF-8.
 struct Front;
 
 impl Case for Front {
-    fn seen(alloc: Global, input: &str, _due: &str) -> Result<String, Fail> {
-        let mut bytes = Vec::new(alloc);
-        bytes.extend_from_slice(input.as_bytes())?;
-        bytes.push(0xff)?;
-        front_of(alloc, bytes.as_slice())
+    fn seen(rt: &impl Abort, alloc: Global, input: &str, _due: &str) -> String {
+        let bytes = must(rt, [input.as_bytes(), b"\xff".as_slice()].concat(alloc));
+        front_of(rt, alloc, &bytes)
     }
 }
 
@@ -24,18 +23,19 @@ impl Case for Front {
 struct Last;
 
 impl Case for Last {
-    fn seen(alloc: Global, input: &str, _due: &str) -> Result<String, Fail> {
-        front_of(alloc, input.as_bytes())
+    fn seen(rt: &impl Abort, alloc: Global, input: &str, _due: &str) -> String {
+        front_of(rt, alloc, input.as_bytes())
     }
 }
 
 /// What the first value of some bytes is, or why there is none.
-fn front_of(alloc: Global, bytes: &[u8]) -> Result<String, Fail> {
+fn front_of(rt: &impl Abort, alloc: Global, bytes: &[u8]) -> String {
     match JsonDoc::read_front(alloc, bytes) {
         Ok((doc, used)) => {
-            Ok(format!(in alloc; "front {used} {}", stream_to_string(alloc, &doc)?)?)
+            let written = must(rt, stream_to_string(alloc, &doc));
+            must(rt, format!(in alloc; "front {used} {written}"))
         },
-        Err(error) => Ok(format!(in alloc; "error {error:?}")?),
+        Err(error) => must(rt, format!(in alloc; "error {error:?}")),
     }
 }
 
@@ -44,61 +44,58 @@ fn front_of(alloc: Global, bytes: &[u8]) -> Result<String, Fail> {
 struct Following;
 
 impl Case for Following {
-    fn seen(alloc: Global, input: &str, _due: &str) -> Result<String, Fail> {
-        let next = expected(alloc, input)?;
+    fn seen(rt: &impl Abort, alloc: Global, input: &str, _due: &str) -> String {
+        let next = must(rt, expected(alloc, input));
         let mut on = String::new(alloc);
         for byte in 0..128u8 {
             let character = byte as char;
-            let comes = next.contains(character);
-            if comes {
-                on.push(character)?;
-            }
-            let goes = goes_on(alloc, input, character)?;
-            if comes != goes || comes != reads_on(alloc, input, character)? {
-                return Ok(format!(in alloc; "{character:?} comes and doesn't")?);
+            if comes(rt, alloc, input, next, character) {
+                must(rt, on.push(character));
             }
         }
-        let others = if next.contains('\u{e9}') {
-            " others"
-        } else {
-            ""
-        };
-        let end = if next.may_end() { " end" } else { "" };
-        Ok(format!(in alloc; "on {on:?}{others}{end}")?)
+        let mut seen = must(rt, format!(in alloc; "on {on:?}"));
+        push(rt, &mut seen, ending(next));
+        seen
+    }
+}
+
+/// Whether a front goes on with a character. Reading the front with it has to tell the same.
+fn comes(
+    rt: &impl Abort,
+    alloc: Global,
+    front: &str,
+    next: NextCharacters,
+    character: char,
+) -> bool {
+    let comes = next.contains(character);
+    holds(
+        rt,
+        comes == must(rt, goes_on(alloc, front, character)),
+        front,
+    );
+    holds(rt, comes == reads_on(rt, alloc, front, character), front);
+    comes
+}
+
+/// Whether the other characters may come, and the end.
+fn ending(next: NextCharacters) -> &'static str {
+    match (next.contains('\u{e9}'), next.may_end()) {
+        (true, true) => " others end",
+        (true, false) => " others",
+        (false, true) => " end",
+        (false, false) => "",
     }
 }
 
 /// Whether a front is read to its end, and then this character.
-fn reads_on(alloc: Global, front: &str, character: char) -> Result<bool, Fail> {
-    let mut text = String::from_str(alloc, front)?;
-    text.push(character)?;
-    match JsonDoc::read_str(alloc, text.as_str()) {
-        Ok(_) => Ok(true),
-        Err(ReadError::BadJson { at }) => Ok(at == text.len() as u64),
-        Err(error) => Err(error)?,
-    }
-}
-
-/// A text that denotes no value, and behind `bad` the place that reading it tells, where that is the length of its
-/// longest front that a text begins with, as it is found character by character.
-struct BadText;
-
-impl Case for BadText {
-    fn seen(alloc: Global, input: &str, _due: &str) -> Result<String, Fail> {
-        let mut front = String::new(alloc);
-        for character in input.chars() {
-            if !expected(alloc, front.as_str())?.contains(character) {
-                break;
-            }
-            front.push(character)?;
-        }
-        let found = front.len();
-        match JsonDoc::read_str(alloc, input) {
-            Err(ReadError::BadJson { at }) if at == found as u64 => Ok(format!(in alloc;
-                "bad {at}"
-            )?),
-            answer => Ok(format!(in alloc; "{found}, and {:?}", answer.err())?),
-        }
+fn reads_on(rt: &impl Abort, alloc: Global, front: &str, character: char) -> bool {
+    let text = must(rt, format!(in alloc; "{front}{character}"));
+    match JsonDoc::read_str(alloc, &text) {
+        Ok(_) => true,
+        Err(error) => error
+            == ReadError::BadJson {
+                at: text.len() as u64,
+            },
     }
 }
 
@@ -203,188 +200,21 @@ nul]␄
 = on ""
 "##;
 
-const BAD_TEXTS: &'static str = r#"
-␄
-= bad 0
-  ␄
-= bad 2
-x␄
-= bad 0
-nul␄
-= bad 3
-nulx␄
-= bad 3
-nULL␄
-= bad 1
-True␄
-= bad 0
-tru␄
-= bad 3
-falsy␄
-= bad 4
-nullx␄
-= bad 4
-+1␄
-= bad 0
--␄
-= bad 1
--x␄
-= bad 1
-01␄
-= bad 1
--01␄
-= bad 2
-00␄
-= bad 1
-1.␄
-= bad 2
-1.x␄
-= bad 2
-.5␄
-= bad 0
-1e␄
-= bad 2
-1e+␄
-= bad 3
-1E-x␄
-= bad 3
-0x1␄
-= bad 1
-1_0␄
-= bad 1
-1,␄
-= bad 1
-1 2␄
-= bad 2
---1␄
-= bad 1
-Infinity␄
-= bad 0
-NaN␄
-= bad 0
--Infinity␄
-= bad 1
-0e␄
-= bad 2
-1.5.2␄
-= bad 3
-1e5.␄
-= bad 3
-"␄
-= bad 1
-"a␄
-= bad 2
-"\␄
-= bad 2
-"\x␄
-= bad 2
-"\u␄
-= bad 3
-"\u12␄
-= bad 5
-"\u12g4␄
-= bad 5
-"\ud800␄
-= bad 7
-"\ud800"␄
-= bad 7
-"\ud800\n"␄
-= bad 8
-"\ud800\u0041"␄
-= bad 9
-"\ud800\ud800"␄
-= bad 10
-"\udc00"␄
-= bad 4
-"a␉b"␄
-= bad 2
-"a"b␄
-= bad 3
-"é␄
-= bad 3
-"é"x␄
-= bad 4
-[␄
-= bad 1
-[1␄
-= bad 2
-[1,␄
-= bad 3
-[1,]␄
-= bad 3
-[,␄
-= bad 1
-[1 2]␄
-= bad 3
-[1}␄
-= bad 2
-]␄
-= bad 0
-[[]␄
-= bad 3
-[1]]␄
-= bad 3
-[1],␄
-= bad 3
-{␄
-= bad 1
-{a␄
-= bad 1
-{1␄
-= bad 1
-{"a"␄
-= bad 4
-{"a"}␄
-= bad 4
-{"a":␄
-= bad 5
-{"a":}␄
-= bad 5
-{"a":1␄
-= bad 6
-{"a":1,␄
-= bad 7
-{"a":1,}␄
-= bad 7
-{"a" 1␄
-= bad 5
-{,␄
-= bad 1
-{"a":1]␄
-= bad 6
-}␄
-= bad 0
-{"a":1 "b"␄
-= bad 7
-//␄
-= bad 0
-[1]//␄
-= bad 3
-'a'␄
-= bad 0
-é␄
-= bad 0
-[é␄
-= bad 1
-"#;
-
 #[test]
-fn first_values_and_what_follows(rt: HostRuntime) -> Result<(), Fail> {
-    try_cases::<Front>(&rt, rt.alloc(), FRONTS)?;
-    try_cases::<Last>(&rt, rt.alloc(), LAST)?;
-    try_cases::<Following>(&rt, rt.alloc(), FOLLOWING)?;
-    try_cases::<BadText>(&rt, rt.alloc(), BAD_TEXTS)
+fn first_values_and_what_follows(rt: HostRuntime) {
+    try_cases::<Front>(&rt, rt.alloc(), FRONTS);
+    try_cases::<Last>(&rt, rt.alloc(), LAST);
+    try_cases::<Following>(&rt, rt.alloc(), FOLLOWING);
 }
 
 #[test]
-fn a_first_value_of_many_levels(rt: HostRuntime) -> Result<(), Fail> {
-    let alloc = rt.alloc();
-    let text = nested(alloc, "[|[]|]")?;
-    let length = text.len();
-    let mut two = String::from_str(alloc, text.as_str())?;
-    two.push_str("]")?;
-    let (doc, used) = JsonDoc::read_front(alloc, two.as_bytes())?;
-    assert_eq!(rt; used, length);
-    assert_eq!(rt; doc.root().len(), Some(1));
-    Ok(())
+fn a_first_value_of_many_levels(rt: HostRuntime) {
+    let text = nested(&rt, rt.alloc(), "[|[]|]");
+    let two = must(&rt, [text.as_str(), "]"].concat(rt.alloc()));
+    let (doc, used) = must(&rt, JsonDoc::read_front(rt.alloc(), two.as_bytes()));
+    holds(
+        &rt,
+        used == text.len() && doc.root().len() == Some(1),
+        "the first value",
+    );
 }

@@ -1,8 +1,9 @@
 //! Texts that are read within limits.
 
 use crate::cases::{Case, try_cases};
-use std::alloc::Global;
-use std::test::Fail;
+use crate::shown::{holds, must};
+use std::alloc::{AllocError, Global};
+use std::process::Abort;
 use sval_json_read::{JsonDoc, LimitedError, Limits};
 
 /// A text, and behind `limits` how many levels and nodes it may have, and whether it is `within` these, or the place of
@@ -11,37 +12,38 @@ use sval_json_read::{JsonDoc, LimitedError, Limits};
 struct Limited;
 
 impl Case for Limited {
-    fn seen(alloc: Global, input: &str, due: &str) -> Result<String, Fail> {
-        let limits = limits_of(due)?;
+    fn seen(rt: &impl Abort, alloc: Global, input: &str, due: &str) -> String {
+        let limits = limits_of(rt, due);
         let error = JsonDoc::read_with(alloc, input.as_bytes(), limits).err();
-        if !fronts_agree(alloc, input.as_bytes(), limits, error) {
-            return Ok(String::from_str(alloc, "a front tells another error")?);
-        }
+        holds(
+            rt,
+            fronts_agree(alloc, input.as_bytes(), limits, error),
+            input,
+        );
+        let told = must(rt, told(alloc, error));
         let (depth, nodes) = (limits.depth, limits.nodes);
-        match error {
-            None => Ok(format!(in alloc; "limits {depth} {nodes}: within")?),
-            Some(LimitedError::TooDeep { at }) => Ok(format!(in alloc;
-                "limits {depth} {nodes}: deep {at}"
-            )?),
-            Some(LimitedError::TooMany { at }) => Ok(format!(in alloc;
-                "limits {depth} {nodes}: many {at}"
-            )?),
-            Some(LimitedError::Read(error)) => Ok(format!(in alloc;
-                "limits {depth} {nodes}: {error:?}"
-            )?),
-        }
+        must(rt, format!(in alloc; "limits {depth} {nodes}: {told}"))
     }
 }
 
 /// How many levels and nodes a row allows.
-pub(crate) fn limits_of(due: &str) -> Result<Limits, Fail> {
-    let (allowed, _told) = due.split_once(": ").ok_or("a row without a colon")?;
-    let (_word, numbers) = allowed.split_once(' ').ok_or("a row without a word")?;
-    let (depth, nodes) = numbers.split_once(' ').ok_or("a row without two numbers")?;
-    Ok(Limits {
-        depth: depth.parse::<usize>()?,
-        nodes: nodes.parse::<usize>()?,
-    })
+pub(crate) fn limits_of(rt: &impl Abort, due: &str) -> Limits {
+    let (allowed, _told) = due.split_once(": ").unwrap_or((due, ""));
+    let mut words = allowed.split(' ').skip(1);
+    Limits {
+        depth: must(rt, words.next().unwrap_or("").parse::<usize>()),
+        nodes: must(rt, words.next().unwrap_or("").parse::<usize>()),
+    }
+}
+
+/// What an error tells.
+fn told(alloc: Global, error: Option<LimitedError>) -> Result<String, AllocError> {
+    match error {
+        None => String::from_str(alloc, "within"),
+        Some(LimitedError::TooDeep { at }) => format!(in alloc; "deep {at}"),
+        Some(LimitedError::TooMany { at }) => format!(in alloc; "many {at}"),
+        Some(LimitedError::Read(error)) => format!(in alloc; "{error:?}"),
+    }
 }
 
 /// The place that an error names, or the greatest number.
@@ -112,19 +114,21 @@ const LIMITED: &'static str = r#"
 "#;
 
 #[test]
-fn limits(rt: HostRuntime) -> Result<(), Fail> {
-    try_cases::<Limited>(&rt, rt.alloc(), LIMITED)
+fn limits(rt: HostRuntime) {
+    try_cases::<Limited>(&rt, rt.alloc(), LIMITED);
 }
 
 #[test]
-fn open_levels_of_a_stranger(rt: HostRuntime) -> Result<(), Fail> {
-    let mut bytes = Vec::new(rt.alloc());
-    bytes.resize(1_000_000, b'[')?;
+fn open_levels_of_a_stranger(rt: HostRuntime) {
+    let bytes = must(&rt, b"[".as_slice().repeat(rt.alloc(), 1_000_000));
     let limits = Limits {
         depth: 128,
         nodes: 1000,
     };
-    let seen = JsonDoc::read_with(rt.alloc(), bytes.as_slice(), limits).err();
-    assert_eq!(rt; seen, Some(LimitedError::TooDeep { at: 128 }));
-    Ok(())
+    let seen = JsonDoc::read_with(rt.alloc(), &bytes, limits).err();
+    holds(
+        &rt,
+        seen == Some(LimitedError::TooDeep { at: 128 }),
+        "many levels",
+    );
 }

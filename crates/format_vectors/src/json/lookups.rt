@@ -1,19 +1,21 @@
 //! What is looked up in documents.
 
 use crate::cases::{Case, try_cases};
+use crate::shown::{must, push};
 use std::alloc::Global;
-use std::test::Fail;
-use sval_json_read::{JsonDoc, JsonRef};
+use std::fmt::Write;
+use std::process::Abort;
+use sval_json_read::{JsonDoc, JsonRef, JsonText};
 
 /// A text, and behind `parts` what its value is taken for, item by item and member by member.
 struct Parts;
 
 impl Case for Parts {
-    fn seen(alloc: Global, input: &str, _due: &str) -> Result<String, Fail> {
-        let mut seen = String::from_str(alloc, "parts ")?;
-        let doc = JsonDoc::read(alloc, input.as_bytes())?;
-        push_parts(alloc, &doc.root(), &mut seen)?;
-        Ok(seen)
+    fn seen(rt: &impl Abort, alloc: Global, input: &str, _due: &str) -> String {
+        let doc = must(rt, JsonDoc::read(alloc, input.as_bytes()));
+        let mut seen = must(rt, String::from_str(alloc, "parts "));
+        push_parts(rt, alloc, &doc.root(), &mut seen);
+        seen
     }
 }
 
@@ -21,13 +23,13 @@ impl Case for Parts {
 struct Member;
 
 impl Case for Member {
-    fn seen(alloc: Global, input: &str, _due: &str) -> Result<String, Fail> {
-        let doc = JsonDoc::read(alloc, input.as_bytes())?;
+    fn seen(rt: &impl Abort, alloc: Global, input: &str, _due: &str) -> String {
+        let doc = must(rt, JsonDoc::read(alloc, input.as_bytes()));
         let number = match doc.root().get("a\n") {
             Some(value) => value.as_i64(),
             None => None,
         };
-        Ok(format!(in alloc; "member {number:?}")?)
+        must(rt, format!(in alloc; "member {number:?}"))
     }
 }
 
@@ -35,12 +37,12 @@ impl Case for Member {
 struct Wide;
 
 impl Case for Wide {
-    fn seen(alloc: Global, input: &str, _due: &str) -> Result<String, Fail> {
-        let doc = JsonDoc::read_str(alloc, input)?;
+    fn seen(rt: &impl Abort, alloc: Global, input: &str, _due: &str) -> String {
+        let doc = must(rt, JsonDoc::read_str(alloc, input));
         let value = doc.root();
         let signed = value.as_i128();
         let unsigned = value.as_u128();
-        Ok(format!(in alloc; "wide {signed:?} {unsigned:?}")?)
+        must(rt, format!(in alloc; "wide {signed:?} {unsigned:?}"))
     }
 }
 
@@ -49,28 +51,32 @@ impl Case for Wide {
 struct Size;
 
 impl Case for Size {
-    fn seen(alloc: Global, input: &str, _due: &str) -> Result<String, Fail> {
-        let doc = JsonDoc::read_str(alloc, input)?;
+    fn seen(rt: &impl Abort, alloc: Global, input: &str, _due: &str) -> String {
+        let doc = must(rt, JsonDoc::read_str(alloc, input));
         let value = doc.root();
         let size = value.len();
-        match value.item(1) {
-            Some(item) => {
-                let is_null = item.is_null();
-                let items = item.len();
-                let number = item.as_i64();
-                Ok(format!(in alloc; "size {size:?} {is_null:?} {items:?} {number:?}")?)
-            },
-            None => Ok(format!(in alloc; "size {size:?}")?),
+        let mut seen = must(rt, format!(in alloc; "size {size:?}"));
+        if let Some(item) = value.item(1) {
+            push_size(rt, &item, &mut seen);
         }
+        seen
     }
+}
+
+/// Whether an item is `null`, how many it has, and what it is as an `i64`.
+fn push_size(rt: &impl Abort, item: &JsonRef<'_>, seen: &mut String) {
+    let is_null = item.is_null();
+    let items = item.len();
+    let number = item.as_i64();
+    must(rt, write!(seen, " {is_null:?} {items:?} {number:?}"));
 }
 
 /// A pointer, and behind `at` what it references in the example of RFC 6901, section 5.
 struct Example;
 
 impl Case for Example {
-    fn seen(alloc: Global, input: &str, _due: &str) -> Result<String, Fail> {
-        referenced(alloc, EXAMPLE, input)
+    fn seen(rt: &impl Abort, alloc: Global, input: &str, _due: &str) -> String {
+        referenced(rt, alloc, EXAMPLE, input)
     }
 }
 
@@ -78,61 +84,68 @@ impl Case for Example {
 struct Pointed;
 
 impl Case for Pointed {
-    fn seen(alloc: Global, input: &str, _due: &str) -> Result<String, Fail> {
+    fn seen(rt: &impl Abort, alloc: Global, input: &str, _due: &str) -> String {
         let (pointer, document) = input.split_once('\n').unwrap_or((input, "null"));
-        referenced(alloc, document, pointer)
+        referenced(rt, alloc, document, pointer)
     }
 }
 
 /// What a pointer references in a document.
-fn referenced(alloc: Global, document: &str, pointer: &str) -> Result<String, Fail> {
-    let mut seen = String::from_str(alloc, "at ")?;
-    let doc = JsonDoc::read_str(alloc, document)?;
+fn referenced(rt: &impl Abort, alloc: Global, document: &str, pointer: &str) -> String {
+    let doc = must(rt, JsonDoc::read_str(alloc, document));
+    let mut seen = must(rt, String::from_str(alloc, "at "));
     match doc.root().pointer(pointer) {
-        Some(value) => push_parts(alloc, &value, &mut seen)?,
-        None => seen.push_str("nothing")?,
+        Some(value) => push_parts(rt, alloc, &value, &mut seen),
+        None => push(rt, &mut seen, "nothing"),
     }
-    Ok(seen)
+    seen
 }
 
 /// What a value is taken for.
-fn push_one(alloc: Global, value: &JsonRef<'_>, seen: &mut String) -> Result<(), Fail> {
+fn push_one(rt: &impl Abort, alloc: Global, value: &JsonRef<'_>, seen: &mut String) {
     let kind = value.kind();
     let truth = value.as_bool();
     let signed = value.as_i64();
     let unsigned = value.as_u64();
     let number = value.as_number();
-    seen.push_str(format!(in alloc;
-        "{kind:?} {truth:?} {signed:?} {unsigned:?} {number:?}"
-    )?.as_str())?;
+    must(
+        rt,
+        write!(
+            seen,
+            "{kind:?} {truth:?} {signed:?} {unsigned:?} {number:?}"
+        ),
+    );
     if let Some(text) = value.as_text() {
-        let lent = text.as_lent();
-        let copied = text.to_text(alloc)?;
-        let is_copied = text.is(copied.as_str());
-        seen.push_str(format!(in alloc; " {lent:?} {copied:?} {is_copied:?}")?.as_str())?;
+        push_text(rt, alloc, &text, seen);
     }
-    Ok(())
+}
+
+/// What a text is lent as and copied as, and whether it is what was copied.
+fn push_text(rt: &impl Abort, alloc: Global, text: &JsonText<'_>, seen: &mut String) {
+    let lent = text.as_lent();
+    let copied = must(rt, text.to_text(alloc));
+    let is_copied = text.is(&copied);
+    must(rt, write!(seen, " {lent:?} {copied:?} {is_copied:?}"));
 }
 
 /// What a value, and each value directly in it, is taken for.
-fn push_parts(alloc: Global, value: &JsonRef<'_>, seen: &mut String) -> Result<(), Fail> {
-    push_one(alloc, value, seen)?;
+fn push_parts(rt: &impl Abort, alloc: Global, value: &JsonRef<'_>, seen: &mut String) {
+    push_one(rt, alloc, value, seen);
     if let Some(items) = value.items() {
         let mut left = items;
         while let Some(item) = left.next() {
-            seen.push_str("; ")?;
-            push_one(alloc, &item, seen)?;
+            push(rt, seen, "; ");
+            push_one(rt, alloc, &item, seen);
         }
     }
     if let Some(members) = value.members() {
         let mut left = members;
         while let Some(member) = left.next() {
-            let name = member.name.to_text(alloc)?;
-            seen.push_str(format!(in alloc; "; {name:?} ")?.as_str())?;
-            push_one(alloc, &member.value, seen)?;
+            let name = must(rt, member.name.to_text(alloc));
+            must(rt, write!(seen, "; {name:?} "));
+            push_one(rt, alloc, &member.value, seen);
         }
     }
-    Ok(())
 }
 
 const PARTS: &'static str = r#"
@@ -339,11 +352,11 @@ const POINTERS: &'static str = r#"
 "#;
 
 #[test]
-fn values_members_numbers_sizes_and_pointers(rt: HostRuntime) -> Result<(), Fail> {
-    try_cases::<Parts>(&rt, rt.alloc(), PARTS)?;
-    try_cases::<Member>(&rt, rt.alloc(), MEMBERS)?;
-    try_cases::<Wide>(&rt, rt.alloc(), WIDE)?;
-    try_cases::<Size>(&rt, rt.alloc(), SIZES)?;
-    try_cases::<Example>(&rt, rt.alloc(), EXAMPLES)?;
-    try_cases::<Pointed>(&rt, rt.alloc(), POINTERS)
+fn values_members_numbers_sizes_and_pointers(rt: HostRuntime) {
+    try_cases::<Parts>(&rt, rt.alloc(), PARTS);
+    try_cases::<Member>(&rt, rt.alloc(), MEMBERS);
+    try_cases::<Wide>(&rt, rt.alloc(), WIDE);
+    try_cases::<Size>(&rt, rt.alloc(), SIZES);
+    try_cases::<Example>(&rt, rt.alloc(), EXAMPLES);
+    try_cases::<Pointed>(&rt, rt.alloc(), POINTERS);
 }

@@ -1,8 +1,9 @@
 //! Values of a document, taken by themselves: what is written of one.
 
 use crate::cases::{Case, try_cases};
+use crate::shown::must;
 use std::alloc::Global;
-use std::test::Fail;
+use std::process::Abort;
 use sval_json::stream_to_string;
 use sval_json_read::JsonDoc;
 
@@ -11,16 +12,17 @@ use sval_json_read::JsonDoc;
 struct Written;
 
 impl Case for Written {
-    fn seen(alloc: Global, input: &str, _due: &str) -> Result<String, Fail> {
+    fn seen(rt: &impl Abort, alloc: Global, input: &str, _due: &str) -> String {
         let (document, pointer) = input.split_once('\n').unwrap_or((input, ""));
-        let doc = JsonDoc::read_str(alloc, document)?;
-        match doc.root().pointer(pointer) {
-            Some(value) => Ok(format!(in alloc;
+        let doc = must(rt, JsonDoc::read_str(alloc, document));
+        let seen = match doc.root().pointer(pointer) {
+            Some(value) => format!(in alloc;
                 "json {}",
-                stream_to_string(alloc, &value.part())?
-            )?),
-            None => Ok(String::from_str(alloc, "nothing")?),
-        }
+                must(rt, stream_to_string(alloc, &value.part()))
+            ),
+            None => String::from_str(alloc, "nothing"),
+        };
+        must(rt, seen)
     }
 }
 
@@ -110,6 +112,6 @@ const WRITTEN: &'static str = r#"
 "#;
 
 #[test]
-fn what_is_written_of_a_part(rt: HostRuntime) -> Result<(), Fail> {
-    try_cases::<Written>(&rt, rt.alloc(), WRITTEN)
+fn what_is_written_of_a_part(rt: HostRuntime) {
+    try_cases::<Written>(&rt, rt.alloc(), WRITTEN);
 }

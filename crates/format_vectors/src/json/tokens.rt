@@ -1,35 +1,38 @@
 //! The tokens of documents.
 
 use crate::cases::{Case, try_cases};
+use crate::shown::{must, push};
 use std::alloc::Global;
-use std::test::Fail;
-use sval_json_read::{JsonDoc, TokenKind};
+use std::fmt::Write;
+use std::process::Abort;
+use sval_json_read::{JsonDoc, JsonToken, TokenKind};
 
 /// A text, and behind `tokens` its tokens: brackets for begins and ends, a name with a colon, and a dot for another one.
 struct Tokens;
 
 impl Case for Tokens {
-    fn seen(alloc: Global, input: &str, _due: &str) -> Result<String, Fail> {
-        let mut seen = String::from_str(alloc, "tokens")?;
-        let doc = JsonDoc::read_str(alloc, input)?;
-        push_tokens(alloc, &doc, &mut seen)?;
-        Ok(seen)
+    fn seen(rt: &impl Abort, alloc: Global, input: &str, _due: &str) -> String {
+        let doc = must(rt, JsonDoc::read_str(alloc, input));
+        let mut seen = must(rt, String::from_str(alloc, "tokens"));
+        push_tokens(rt, alloc, &doc, &mut seen);
+        seen
     }
 }
 
 /// The tokens of a document.
-fn push_tokens(alloc: Global, doc: &JsonDoc<'_>, seen: &mut String) -> Result<(), Fail> {
+fn push_tokens(rt: &impl Abort, alloc: Global, doc: &JsonDoc<'_>, seen: &mut String) {
     let mut left = doc.tokens();
     while let Some(token) = left.next() {
-        match token.name() {
-            Some(name) => {
-                let text = name.to_text(alloc)?;
-                seen.push_str(format!(in alloc; " {text}:")?.as_str())?;
-            }
-            None => seen.push_str(mark(token.kind()))?,
-        }
+        push_token(rt, alloc, &token, seen);
     }
-    Ok(())
+}
+
+/// A token.
+fn push_token(rt: &impl Abort, alloc: Global, token: &JsonToken<'_>, seen: &mut String) {
+    match token.name() {
+        Some(name) => must(rt, write!(seen, " {}:", must(rt, name.to_text(alloc)))),
+        None => push(rt, seen, mark(token.kind())),
+    }
 }
 
 /// How a token of this kind is printed.
@@ -54,6 +57,6 @@ const TOKENS: &'static str = r#"
 "#;
 
 #[test]
-fn tokens_of_texts(rt: HostRuntime) -> Result<(), Fail> {
-    try_cases::<Tokens>(&rt, rt.alloc(), TOKENS)
+fn tokens_of_texts(rt: HostRuntime) {
+    try_cases::<Tokens>(&rt, rt.alloc(), TOKENS);
 }

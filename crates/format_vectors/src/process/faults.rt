@@ -4,10 +4,10 @@ ghost use Rattle.std.specs.Prelude.{◌≤◌};
 
 use crate::process::devices::Failing;
 use crate::process::row::ProgramRow;
+use crate::shown::{holds, must};
 use std::alloc::Global;
 use std::process::Abort;
 use std::str::from_utf8;
-use std::test::Fail;
 use sval_io::{FaultySource, MemSource, RealSink, Source};
 use sval_program::{Job, job};
 
@@ -29,7 +29,7 @@ const ASKED: usize = 65_536;
 #[derive(Drop)]
 struct Trial<'a> {
     alloc: Global,
-    row: &'a ProgramRow,
+    row: &'a ProgramRow<'a>,
     words: &'a [String],
     part: usize,
 }
@@ -61,18 +61,16 @@ fn run<J: Job, I: Source>(
     Ran { status, out, diag }
 }
 
-/// Compares what a trial came to, with a fault at this call, with a status, an output and a line.
-fn compare(rt: &impl Abort, trial: &Trial<'_>, at: usize, ran: &Ran, due: (u8, &[u8], &[u8])) {
-    let (status, written, line) = due;
-    assert!(rt;
-        ran.status == status
-            && ran.out.taken.as_slice() == written
-            && ran.diag.taken.as_slice() == line,
-        "{:?} by {} at {at}: {}",
-        trial.words,
-        trial.part,
-        ran.status
-    );
+impl Ran {
+    /// The status, and what the writers took.
+    fn answer(&self) -> (u8, &[u8], &[u8]) {
+        (self.status, &self.out.taken, &self.diag.taken)
+    }
+}
+
+/// Compares what a trial came to with a status, an output and a line.
+fn compare(rt: &impl Abort, trial: &Trial<'_>, ran: &Ran, due: (u8, &[u8], &[u8])) {
+    holds(rt, ran.answer() == due, trial.row.name);
 }
 
 /// The first bytes of these.
@@ -86,12 +84,20 @@ fn front(bytes: &[u8], count: usize) -> &[u8] {
 fn try_writes<J: Job>(rt: &impl Abort, trial: &Trial<'_>, marks: &[usize]) {
     let row = trial.row;
     let flushes = usize::from(row.status == 0);
-    assert!(rt; trial.part > 1 || marks.len() == row.written.as_slice().len() + flushes);
+    holds(
+        rt,
+        trial.part > 1 || marks.len() == row.written.len() + flushes,
+        row.name,
+    );
     for (at, mark) in marks.iter().enumerate() {
-        let mut input = MemSource::new(row.input.as_slice());
+        let mut input = MemSource::new(row.input);
         let ran = run::<J, _>(trial, &mut input, Some(at), None);
-        let taken = front(row.written.as_slice(), *mark);
-        compare(rt, trial, at, &ran, (8, taken, WRITE_FAULT));
+        compare(
+            rt,
+            trial,
+            &ran,
+            (8, front(&row.written, *mark), WRITE_FAULT),
+        );
     }
 }
 
@@ -100,17 +106,15 @@ fn try_writes<J: Job>(rt: &impl Abort, trial: &Trial<'_>, marks: &[usize]) {
 fn try_reports<J: Job>(rt: &impl Abort, trial: &Trial<'_>, marks: &[usize]) {
     let row = trial.row;
     let told = marks.last().copied().unwrap_or(0);
-    assert!(rt; told == row.line.as_slice().len());
+    holds(rt, told == row.line.len(), row.name);
     for (at, mark) in marks.iter().enumerate() {
-        let mut input = MemSource::new(row.input.as_slice());
+        let mut input = MemSource::new(row.input);
         let ran = run::<J, _>(trial, &mut input, None, Some(at));
-        let taken = front(row.line.as_slice(), *mark);
         compare(
             rt,
             trial,
-            at,
             &ran,
-            (row.status, row.written.as_slice(), taken),
+            (row.status, &row.written, front(&row.line, *mark)),
         );
     }
 }
@@ -118,104 +122,86 @@ fn try_reports<J: Job>(rt: &impl Abort, trial: &Trial<'_>, marks: &[usize]) {
 /// A fault at each call of a source that gives 7 bytes a call, that which sees the end too, before an output that would
 /// fail: nothing is written, and the status is 9. One behind that isn't met; where the words are no form, none is.
 fn try_reads<J: Job>(rt: &impl Abort, trial: &Trial<'_>) {
-    let row = trial.row;
-    let parts = row.input.as_slice().len().div_ceil(PART);
-    let calls = if row.status == 2 { 0 } else { parts + 1 };
-    for at in 0..parts + 2 {
-        let failing = [at as u64 + 1];
-        let mut input = FaultySource::new(row.input.as_slice(), PART, &failing);
-        let out = if at < calls { Some(0) } else { None };
-        let ran = run::<J, _>(trial, &mut input, out, None);
-        let due = if at < calls {
-            (9, b"".as_slice(), READ_FAULT)
-        } else {
-            (row.status, row.written.as_slice(), row.line.as_slice())
-        };
-        compare(rt, trial, at, &ran, due);
+    let parts = trial.row.input.len().div_ceil(PART);
+    let calls = if trial.row.status == 2 { 0 } else { parts + 1 };
+    for at in 0..calls {
+        let ran = read_at::<J>(trial, at as u64 + 1, Some(0));
+        compare(rt, trial, &ran, (9, b"", READ_FAULT));
     }
+    for at in calls..parts + 2 {
+        let ran = read_at::<J>(trial, at as u64 + 1, None);
+        compare(rt, trial, &ran, trial.row.answer());
+    }
+}
+
+/// The row over a source that gives 7 bytes a call and fails at this one, counted from 1, and an output that
+/// may fail at one, counted from 0.
+fn read_at<J: Job>(trial: &Trial<'_>, call: u64, out: Option<usize>) -> Ran {
+    let failing = [call];
+    let mut input = FaultySource::new(trial.row.input, PART, &failing);
+    run::<J, _>(trial, &mut input, out, None)
 }
 
 /// The row over devices that don't fail, and then with a fault at each call of each writer.
 fn try_trial<J: Job>(rt: &impl Abort, trial: &Trial<'_>)
     requires { 1 ≤ trial.now.part }
 {
-    let row = trial.row;
-    let mut input = FaultySource::new(row.input.as_slice(), trial.part, &[]);
+    let mut input = FaultySource::new(trial.row.input, trial.part, &[]);
     let plain = run::<J, _>(trial, &mut input, None, None);
-    let due = (row.status, row.written.as_slice(), row.line.as_slice());
-    compare(rt, trial, 0, &plain, due);
-    try_writes::<J>(rt, trial, plain.out.marks.as_slice());
-    try_reports::<J>(rt, trial, plain.diag.marks.as_slice());
+    compare(rt, trial, &plain, trial.row.answer());
+    try_writes::<J>(rt, trial, &plain.out.marks);
+    try_reports::<J>(rt, trial, &plain.diag.marks);
 }
 
 /// The words behind the program's name.
-fn words_of(alloc: Global, row: &ProgramRow) -> Result<Vec<String>, Fail> {
+fn words_of(rt: &impl Abort, alloc: Global, row: &ProgramRow<'_>) -> Vec<String> {
     let mut words = Vec::new(alloc);
     for word in row.words.iter().skip(1) {
-        words.push(String::from_str(alloc, from_utf8(word.as_slice())?)?)?;
+        let word = must(rt, from_utf8(word));
+        must(rt, words.push(must(rt, String::from_str(alloc, word))));
     }
-    Ok(words)
+    words
 }
 
 /// A fault at each call of each writer, where devices give and take 1 byte, 7 and 1000 bytes a call at most, and at
 /// each call of a source that gives 7.
-pub(crate) fn try_faults<J: Job>(
-    rt: &impl Abort,
-    alloc: Global,
-    row: &ProgramRow,
-) -> Result<(), Fail> {
-    let owned = words_of(alloc, row)?;
-    let words = owned.as_slice();
-    let bytes = Trial {
+pub(crate) fn try_faults<J: Job>(rt: &impl Abort, alloc: Global, row: &ProgramRow<'_>) {
+    let words = words_of(rt, alloc, row);
+    let mut trial = Trial {
         alloc,
         row,
-        words,
+        words: &words,
         part: 1,
     };
-    try_trial::<J>(rt, &bytes);
-    let pieces = Trial {
-        alloc,
-        row,
-        words,
-        part: PART,
-    };
-    try_trial::<J>(rt, &pieces);
-    try_reads::<J>(rt, &pieces);
-    let wide = Trial {
-        alloc,
-        row,
-        words,
-        part: 1000,
-    };
-    try_trial::<J>(rt, &wide);
-    Ok(())
+    try_trial::<J>(rt, &trial);
+    trial.part = PART;
+    try_trial::<J>(rt, &trial);
+    try_reads::<J>(rt, &trial);
+    trial.part = 1000;
+    try_trial::<J>(rt, &trial);
 }
 
 /// The row's words over an input of one byte more than is read, from a source that fails at the call that sees that
 /// there is more, or behind it: the output, which would fail, isn't written.
-pub(crate) fn try_long<J: Job>(
-    rt: &impl Abort,
-    alloc: Global,
-    row: &ProgramRow,
-) -> Result<(), Fail> {
-    let bytes = vec![in alloc; b' '; LIMIT + 1]?;
-    let words = words_of(alloc, row)?;
+pub(crate) fn try_long<J: Job>(rt: &impl Abort, alloc: Global, row: &ProgramRow<'_>) {
+    let words = words_of(rt, alloc, row);
     let trial = Trial {
         alloc,
         row,
-        words: words.as_slice(),
+        words: &words,
         part: PART,
     };
     let asked = (LIMIT / ASKED) as u64;
-    for (call, status, line) in [
-        (asked + 1, 9, READ_FAULT),
-        (asked + 2, row.status, row.line.as_slice()),
-    ] {
-        let failing = [call];
-        let mut input = FaultySource::new(bytes.as_slice(), ASKED, &failing);
-        let ran = run::<J, _>(&trial, &mut input, Some(0), None);
-        assert!(rt; ran.out.marks.is_empty());
-        compare(rt, &trial, 0, &ran, (status, b"".as_slice(), line));
-    }
-    Ok(())
+    try_call::<J>(rt, &trial, asked + 1, (9, b"", READ_FAULT));
+    try_call::<J>(rt, &trial, asked + 2, (row.status, b"", &row.line));
+}
+
+/// The row's words over an input of one byte more than is read, from a source that fails at this call.
+fn try_call<J: Job>(rt: &impl Abort, trial: &Trial<'_>, call: u64, due: (u8, &[u8], &[u8])) {
+    let bytes = must(rt, vec![in trial.alloc; b' '; LIMIT + 1]);
+    let failing = [call];
+    let mut input = FaultySource::new(&bytes, ASKED, &failing);
+    let ran = run::<J, _>(trial, &mut input, Some(0), None);
+    holds(rt, ran.out.marks.is_empty(), trial.row.name);
+    compare(rt, trial, &ran, due);
 }

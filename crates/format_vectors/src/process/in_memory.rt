@@ -1,6 +1,7 @@
 //! A process whose words and streams are in memory.
 
 use crate::process::row::ProgramRow;
+use crate::shown::holds;
 use std::alloc::Global;
 use std::env::FillError;
 use std::process::{Abort, ExitCode};
@@ -36,17 +37,12 @@ impl<'a> Env for Process<'a> {
 }
 
 /// Runs a program in a process, and compares what comes of it with the row.
-pub(crate) fn try_process<J: Job>(rt: &impl Abort, alloc: Global, row: &ProgramRow) {
+pub(crate) fn try_process<J: Job>(rt: &impl Abort, alloc: Global, row: &ProgramRow<'_>) {
     let mut stdout = Vec::new(alloc);
     let mut stderr = Vec::new(alloc);
-    let words = row.words.as_slice();
-    let input = row.input.as_slice();
-    let env = (Process { words }, alloc);
-    let status = run_process::<J, _, _, _, _>(&env, input, &mut stdout, &mut stderr);
-    assert!(rt;
-        status == ExitCode::from(row.status)
-            && stdout.as_slice() == row.written.as_slice()
-            && stderr.as_slice() == row.line.as_slice(),
-        "{words:?}: {status:?} {stdout:?} {stderr:?}"
-    );
+    let env = (Process { words: &row.words }, alloc);
+    let status = run_process::<J, _, _, _, _>(&env, row.input, &mut stdout, &mut stderr);
+    holds(rt, status == ExitCode::from(row.status), row.name);
+    holds(rt, stdout == row.written, row.name);
+    holds(rt, stderr == row.line, row.name);
 }

@@ -1,17 +1,17 @@
 //! The status where a process has no words.
 
+use crate::shown::holds;
 use std::io;
 use sval_program::status_without_words;
 
+/// Whether an error of this kind gives this status.
+fn gives(error: io::ErrorKind, status: u8) -> bool {
+    status_without_words(&io::Error::from(error)) == status
+}
+
 #[test]
 fn errors_of_the_system(rt: HostRuntime) {
-    let table = [
-        (io::ErrorKind::OutOfMemory, 10),
-        (io::ErrorKind::InvalidData, 17),
-        (io::ErrorKind::Other, 17),
-    ];
-    for (error, wanted) in table {
-        let status = status_without_words(&io::Error::from(error));
-        assert_eq!(rt; status, wanted, "at {error:?}");
-    }
+    holds(&rt, gives(io::ErrorKind::OutOfMemory, 10), "OutOfMemory");
+    holds(&rt, gives(io::ErrorKind::InvalidData, 17), "InvalidData");
+    holds(&rt, gives(io::ErrorKind::Other, 17), "Other");
 }

@@ -3,13 +3,13 @@ use Rattle.std.specs.Prelude.{⊤}
 use Rattle.format_vectors.proofs.cbor.parts.push_strings.Given as goal
 
 abbrev pub invariant-loop-chunk : goal.invariant-loop-chunk
-invariant-loop-chunk l = ⊤
+invariant-loop-chunk g l = ⊤
 
 abbrev pub decreases-loop-chunk : goal.decreases-loop-chunk
-decreases-loop-chunk l = length l.left
+decreases-loop-chunk g l = length l.left
 
 abbrev pub invariant-loop-slice : goal.invariant-loop-slice
-invariant-loop-slice l = ⊤
+invariant-loop-slice g l = ⊤
 
 abbrev pub decreases-loop-slice : goal.decreases-loop-slice
-decreases-loop-slice l = length l.left
+decreases-loop-slice g l = length l.left

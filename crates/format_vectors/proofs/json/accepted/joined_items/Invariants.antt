@@ -3,7 +3,7 @@ use Rattle.std.specs.Prelude.{⊤}
 use Rattle.format_vectors.proofs.json.accepted.joined_items.Given as goal
 
 abbrev pub invariant-loop-item : goal.invariant-loop-item
-invariant-loop-item l = ⊤
+invariant-loop-item g l = ⊤
 
 abbrev pub decreases-loop-item : goal.decreases-loop-item
-decreases-loop-item l = length l.left
+decreases-loop-item g l = length l.left

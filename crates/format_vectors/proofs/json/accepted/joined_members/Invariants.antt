@@ -3,7 +3,7 @@ use Rattle.std.specs.Prelude.{⊤}
 use Rattle.format_vectors.proofs.json.accepted.joined_members.Given as goal
 
 abbrev pub invariant-loop-member : goal.invariant-loop-member
-invariant-loop-member l = ⊤
+invariant-loop-member g l = ⊤
 
 abbrev pub decreases-loop-member : goal.decreases-loop-member
-decreases-loop-member l = length l.left
+decreases-loop-member g l = length l.left
