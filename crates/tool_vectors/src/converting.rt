@@ -1,8 +1,9 @@
 //! One input, as it is converted.
 
+use crate::shown::{holds, must};
 use std::alloc::Global;
 use std::collections::VecDeque;
-use std::test::Fail;
+use std::process::Abort;
 use sval_filter::{Paths, Rule};
 use sval_io::{Sink, Source};
 use sval_tool::{Conversion, ConvertError, Shape, Target, convert_all};
@@ -17,14 +18,15 @@ pub(crate) struct Way {
 
 /// Converts one input.
 pub(crate) fn convert<I: Source + Drop, K: Sink>(
+    rt: &impl Abort,
     alloc: Global,
     way: Way,
     source: I,
     out: &mut K,
-) -> Result<Result<(), ConvertError>, Fail> {
+) -> Result<(), ConvertError> {
     let mut paths = Paths::new(alloc);
     if !way.path.is_empty() {
-        paths.push_word(way.path)?;
+        must(rt, paths.push_word(way.path));
     }
     let conversion = Conversion {
         rule: Rule::Drop,
@@ -32,9 +34,11 @@ pub(crate) fn convert<I: Source + Drop, K: Sink>(
         target: way.target,
     };
     let mut sources = VecDeque::new(alloc);
-    if sources.push_back(source).is_err() {
-        return Err(Fail::new("out of memory"));
-    }
+    holds(
+        rt,
+        sources.push_back(source).is_ok(),
+        "the room of a source",
+    );
     let mut bad = Vec::new(alloc);
-    Ok(convert_all(alloc, &conversion, way.form, &mut sources, &mut bad, out))
+    convert_all(alloc, &conversion, way.form, &mut sources, &mut bad, out)
 }

@@ -1,9 +1,9 @@
 //! Devices that fail at one call, each in turn.
 
 use crate::converting::{Way, convert};
+use crate::shown::holds;
 use std::alloc::Global;
 use std::process::Abort;
-use std::test::Fail;
 use sval_io::{FaultySink, FaultySource, MemSource, VecSink};
 use sval_lines::LineError;
 use sval_tool::{ConvertError, Shape, Target};
@@ -31,65 +31,88 @@ const WAYS: [Way; 3] = [
 ];
 
 /// What is written where nothing fails.
-fn whole(alloc: Global, way: Way) -> Result<Vec<u8>, Fail> {
+fn whole(rt: &impl Abort, alloc: Global, way: Way) -> Vec<u8> {
     let mut out = VecSink::new(alloc);
-    let _ = convert(alloc, way, MemSource::new(INPUT), &mut out)?;
-    Ok(out.into_vec())
+    let _ = convert(rt, alloc, way, MemSource::new(INPUT), &mut out);
+    out.into_vec()
+}
+
+/// Something is written with this answer: a first part of what is due, and all of it where nothing failed.
+fn try_part(
+    rt: &impl Abort,
+    alloc: Global,
+    way: Way,
+    written: &[u8],
+    done: Result<(), ConvertError>,
+) {
+    let due = whole(rt, alloc, way);
+    holds(rt, due.starts_with(written), way.path);
+    holds(rt, done.is_err() || written == due.as_slice(), way.path);
 }
 
 /// The sink, which takes 3 bytes a call, fails at this call. It has a first part of what is due, and the error says so.
 /// Gives whether it failed.
-fn fails_to_write(rt: &impl Abort, alloc: Global, way: Way, at: u64) -> Result<bool, Fail> {
+fn fails_to_write(rt: &impl Abort, alloc: Global, way: Way, at: u64) -> bool {
     let failing = [at];
-    let due = whole(alloc, way)?;
     let mut out = FaultySink::new(alloc, 3, &failing);
-    let done = convert(alloc, way, MemSource::new(INPUT), &mut out)?;
-    assert!(rt; due.as_slice().starts_with(out.as_slice()), "at {at}");
-    match done {
-        Ok(()) => assert!(rt; out.as_slice() == due.as_slice(), "at {at}"),
-        Err(why) => assert!(rt; matches!(why, ConvertError::Line { .. }), "at {at}: {why}"),
+    let done = convert(rt, alloc, way, MemSource::new(INPUT), &mut out);
+    try_part(rt, alloc, way, out.as_slice(), done);
+    holds(
+        rt,
+        matches!(done, Ok(()) | Err(ConvertError::Line { .. })),
+        way.path,
+    );
+    done.is_err()
+}
+
+/// How many of the first calls fail, of which one is each in turn.
+fn failed_writes(rt: &impl Abort, alloc: Global, way: Way) -> usize {
+    let mut failed = 0_usize;
+    for at in 1..60 {
+        failed = failed.saturating_add(usize::from(fails_to_write(rt, alloc, way, at)));
     }
-    Ok(done.is_err())
+    failed
 }
 
 #[test]
-fn keeps_a_first_part_at_each_fault_of_the_sink(rt: HostRuntime) -> Result<(), Fail> {
+fn keeps_a_first_part_at_each_fault_of_the_sink(rt: HostRuntime) {
     for way in WAYS {
-        let mut failed = 0_u64;
-        for at in 1..60 {
-            failed = failed.saturating_add(u64::from(fails_to_write(&rt, rt.alloc(), way, at)?));
-        }
-        assert!(rt; failed > 3 && failed < 59, "{failed}");
+        let failed = failed_writes(&rt, rt.alloc(), way);
+        holds(&rt, failed > 3 && failed < 59, way.path);
     }
-    Ok(())
 }
 
 /// The source, which gives 5 bytes a call, fails at this call. What is due of the lines before is written. Gives whether
 /// it failed.
-fn fails_to_read(rt: &impl Abort, alloc: Global, way: Way, at: u64) -> Result<bool, Fail> {
+fn fails_to_read(rt: &impl Abort, alloc: Global, way: Way, at: u64) -> bool {
     let failing = [at];
-    let due = whole(alloc, way)?;
     let mut out = VecSink::new(alloc);
-    let done = convert(alloc, way, FaultySource::new(INPUT, 5, &failing), &mut out)?;
-    assert!(rt; due.as_slice().starts_with(out.as_slice()), "at {at}");
-    match done {
-        Ok(()) => assert!(rt; out.as_slice() == due.as_slice(), "at {at}"),
-        Err(why) => assert!(rt;
-            why == ConvertError::Unread(LineError::ReadFault),
-            "at {at}: {why}"
-        ),
+    let done = convert(
+        rt,
+        alloc,
+        way,
+        FaultySource::new(INPUT, 5, &failing),
+        &mut out,
+    );
+    try_part(rt, alloc, way, out.as_slice(), done);
+    let fault = Err(ConvertError::Unread(LineError::ReadFault));
+    holds(rt, done == Ok(()) || done == fault, way.path);
+    done.is_err()
+}
+
+/// How many of the first reads fail, of which one is each in turn.
+fn failed_reads(rt: &impl Abort, alloc: Global, way: Way) -> usize {
+    let mut failed = 0_usize;
+    for at in 1..20 {
+        failed = failed.saturating_add(usize::from(fails_to_read(rt, alloc, way, at)));
     }
-    Ok(done.is_err())
+    failed
 }
 
 #[test]
-fn writes_what_is_due_of_the_lines_before_a_read_fault(rt: HostRuntime) -> Result<(), Fail> {
+fn writes_what_is_due_of_the_lines_before_a_read_fault(rt: HostRuntime) {
     for way in WAYS {
-        let mut failed = 0_u64;
-        for at in 1..20 {
-            failed = failed.saturating_add(u64::from(fails_to_read(&rt, rt.alloc(), way, at)?));
-        }
-        assert!(rt; failed > 3 && failed < 19, "{failed}");
+        let failed = failed_reads(&rt, rt.alloc(), way);
+        holds(&rt, failed > 3 && failed < 19, way.path);
     }
-    Ok(())
 }

@@ -10,3 +10,5 @@ mod faults;
 mod members;
 #[cfg(test)]
 mod rows;
+#[cfg(test)]
+mod shown;

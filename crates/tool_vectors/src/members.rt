@@ -1,61 +1,51 @@
 //! An object of many members: none is lost, and the last is found.
 
 use crate::converting::{Way, convert};
+use crate::shown::{holds, must};
 use std::alloc::Global;
-use std::test::Fail;
+use std::fmt::Write;
+use std::process::Abort;
 use sval_io::{MemSource, VecSink};
 use sval_tool::{Shape, Target};
 
 /// How many members there are.
 const COUNT: usize = 100_000;
 
-/// A member of the object, with a comma in front.
-fn member(alloc: Global, number: usize) -> Result<String, Fail> {
-    Ok(format!(in alloc; ",\"{number}\":{number}")?)
-}
-
-/// The members of the numbers below this, behind a first one.
-fn members(alloc: Global, count: usize) -> Result<String, Fail> {
-    let mut text = String::from_str(alloc, "{\"a\":0")?;
+/// An object of a first member and this many behind it, and a line feed.
+fn object_of(rt: &impl Abort, alloc: Global, count: usize) -> String {
+    let mut text = must(rt, String::from_str(alloc, "{\"a\":0"));
     for number in 0..count {
-        text.push_str(member(alloc, number)?.as_str())?;
+        must(rt, write!(&mut text, ",\"{number}\":{number}"));
     }
-    Ok(text)
+    must(rt, text.push_str("}\n"));
+    text
 }
 
-/// The object, and what is written of it without the member of this name.
-fn written_without(alloc: Global, path: &'static str) -> Result<(String, Vec<u8>), Fail> {
-    let mut text = members(alloc, COUNT)?;
-    text.push_str("}\n")?;
+/// What is written of an object of all members without the member of this name.
+fn written_without(rt: &impl Abort, alloc: Global, path: &'static str) -> Vec<u8> {
+    let text = object_of(rt, alloc, COUNT);
     let way = Way {
         form: Shape::Lines,
         target: Target::Json,
         path,
     };
     let mut out = VecSink::new(alloc);
-    convert(alloc, way, MemSource::new(text.as_bytes()), &mut out)??;
-    let written = out.into_vec();
-    Ok((text, written))
+    must(
+        rt,
+        convert(rt, alloc, way, MemSource::new(text.as_bytes()), &mut out),
+    );
+    out.into_vec()
 }
 
-/// Whether all members are written.
-fn all_stay(alloc: Global) -> Result<bool, Fail> {
-    let (text, written) = written_without(alloc, "")?;
-    Ok(text.as_bytes() == written.as_slice())
-}
-
-/// Whether all members but the last are written where that is left out.
-fn all_but_the_last_stay(alloc: Global) -> Result<bool, Fail> {
-    let (_text, written) = written_without(alloc, "99999")?;
-    let mut due = members(alloc, COUNT - 1)?;
-    due.push_str("}\n")?;
-    Ok(due.as_bytes() == written.as_slice())
+/// Compares what is written without a member of this name with an object of this many members.
+fn try_without(rt: &impl Abort, alloc: Global, path: &'static str, count: usize) {
+    let due = object_of(rt, alloc, count);
+    let written = written_without(rt, alloc, path);
+    holds(rt, written.as_slice() == due.as_bytes(), path);
 }
 
 #[test]
-fn none_of_many_members_is_lost(rt: HostRuntime) -> Result<(), Fail> {
-    let alloc = rt.alloc();
-    assert!(rt; all_stay(alloc)?);
-    assert!(rt; all_but_the_last_stay(alloc)?);
-    Ok(())
+fn none_of_many_members_is_lost(rt: HostRuntime) {
+    try_without(&rt, rt.alloc(), "", COUNT);
+    try_without(&rt, rt.alloc(), "99999", COUNT - 1);
 }

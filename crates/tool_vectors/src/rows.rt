@@ -1,8 +1,9 @@
 //! Inputs, and what is written of them.
 
 use crate::converting::{Way, convert};
+use crate::shown::{holds, must};
 use std::alloc::Global;
-use std::test::Fail;
+use std::process::Abort;
 use sval_io::{MemSource, VecSink};
 use sval_tool::{ConvertError, DocumentError, Shape, Target};
 
@@ -74,15 +75,24 @@ const ROWS: [(Way, &'static str, &'static [u8]); 13] = [
     ),
 ];
 
+/// Converts an input, and compares what is answered and written with what is due.
+fn try_row(
+    rt: &impl Abort,
+    alloc: Global,
+    way: Way,
+    input: &str,
+    due: (Result<(), ConvertError>, &[u8]),
+) {
+    let mut out = VecSink::new(alloc);
+    let done = convert(rt, alloc, way, MemSource::new(input.as_bytes()), &mut out);
+    holds(rt, done == due.0 && out.as_slice() == due.1, input);
+}
+
 #[test]
-fn converts_its_rows(rt: HostRuntime) -> Result<(), Fail> {
+fn converts_its_rows(rt: HostRuntime) {
     for (way, input, due) in ROWS {
-        let mut out = VecSink::new(rt.alloc());
-        let done = convert(rt.alloc(), way, MemSource::new(input.as_bytes()), &mut out)?;
-        assert_eq!(rt; done, Ok(()), "of {input}");
-        assert_eq!(rt; out.as_slice(), due, "of {input}");
+        try_row(&rt, rt.alloc(), way, input, (Ok(()), due));
     }
-    Ok(())
 }
 
 /// The second line isn't converted: a way, an input, and why. Of the first `1` is written.
@@ -94,59 +104,43 @@ const BAD: [(Way, &'static str, DocumentError); 4] = [
 ];
 
 #[test]
-fn stops_at_a_bad_line(rt: HostRuntime) -> Result<(), Fail> {
+fn stops_at_a_bad_line(rt: HostRuntime) {
     for (way, input, why) in BAD {
-        let mut out = VecSink::new(rt.alloc());
-        let done = convert(rt.alloc(), way, MemSource::new(input.as_bytes()), &mut out)?;
-        assert_eq!(rt;
-            done,
-            Err(ConvertError::Line { number: 2, why }),
-            "of {input}"
-        );
-        assert_eq!(rt; out.as_slice(), b"1\n".as_slice(), "of {input}");
+        let error = ConvertError::Line { number: 2, why };
+        try_row(&rt, rt.alloc(), way, input, (Err(error), b"1\n"));
     }
-    Ok(())
 }
 
 #[test]
-fn tells_a_number_without_cbor(rt: HostRuntime) -> Result<(), Fail> {
-    let mut out = VecSink::new(rt.alloc());
-    let input = b"1\n{\"user\":{\"password\":1.5}}\n[1.5]\n".as_slice();
-    let done = convert(rt.alloc(), CBOR, MemSource::new(input), &mut out)?;
+fn tells_a_number_without_cbor(rt: HostRuntime) {
+    let input = "1\n{\"user\":{\"password\":1.5}}\n[1.5]\n";
     let why = DocumentError::NotInteger;
-    assert_eq!(rt; done, Err(ConvertError::Line { number: 3, why }));
-    assert_eq!(rt; out.as_slice(), b"\x01\xbf\x64user\xbf\xff\xff".as_slice());
-    Ok(())
+    let error = ConvertError::Line { number: 3, why };
+    try_row(
+        &rt,
+        rt.alloc(),
+        CBOR,
+        input,
+        (Err(error), b"\x01\xbf\x64user\xbf\xff\xff"),
+    );
 }
 
-/// A text that is repeated, with another before it and a third behind.
-fn repeated(
-    alloc: Global,
-    before: &str,
-    text: &str,
-    count: usize,
-    behind: &str,
-) -> Result<String, Fail> {
-    let mut long = String::from_str(alloc, before)?;
-    for _ in 0..count {
-        long.push_str(text)?;
-    }
-    long.push_str(behind)?;
-    Ok(long)
+/// Two lines, and between them an array of many ones and a two. The ones have this text each.
+fn many(rt: &impl Abort, alloc: Global, one: &str) -> String {
+    let ones = must(rt, one.repeat(alloc, 350_000));
+    must(rt, ["0\n[", &ones, "2]\n3\n"].concat(alloc))
 }
 
 #[test]
-fn converts_a_line_of_a_megabyte(rt: HostRuntime) -> Result<(), Fail> {
-    let input = repeated(rt.alloc(), "0\n[", "1, ", 350_000, "2]\n3\n")?;
-    let due = repeated(rt.alloc(), "0\n[", "1,", 350_000, "2]\n3\n")?;
+fn converts_a_line_of_a_megabyte(rt: HostRuntime) {
+    let input = many(&rt, rt.alloc(), "1, ");
+    let due = many(&rt, rt.alloc(), "1,");
     let mut out = VecSink::new(rt.alloc());
-    let done = convert(
-        rt.alloc(),
-        LINES,
-        MemSource::new(input.as_bytes()),
-        &mut out,
-    )?;
-    assert_eq!(rt; done, Ok(()));
-    assert_eq!(rt; out.as_slice() == due.as_bytes(), true);
-    Ok(())
+    let source = MemSource::new(input.as_bytes());
+    must(&rt, convert(&rt, rt.alloc(), LINES, source, &mut out));
+    holds(
+        &rt,
+        out.as_slice() == due.as_bytes(),
+        "a line of a megabyte",
+    );
 }
