@@ -4,7 +4,7 @@ ghost use Rattle.sval_core.specs.Law.{emits};
 ghost use Rattle.sval_label.specs.Calls as call;
 
 use crate::fakes::Record;
-use crate::shown::{agrees, compare};
+use crate::shown::{agrees, compare, holds};
 use std::alloc::Global;
 use std::fmt::Write;
 use std::test::Fail;
@@ -126,83 +126,101 @@ impl<'v> Value<'v, Lent<'v>> for Nothing {
 }
 
 /// The calls of a null, a truth value and numbers without a sign.
-fn make_unsigned<L: Lending, S: Stream<L>>(stream: &mut S) -> Result {
-    stream.null()?;
-    stream.bool(true)?;
-    stream.u8(8)?;
-    stream.u16(16)?;
-    stream.u32(32)?;
-    stream.u64(64)?;
-    stream.u128(128)
+fn make_unsigned<L: Lending, S: Stream<L>>(stream: &mut S) -> [Result; 7] {
+    [
+        stream.null(),
+        stream.bool(true),
+        stream.u8(8),
+        stream.u16(16),
+        stream.u32(32),
+        stream.u64(64),
+        stream.u128(128),
+    ]
 }
 
 /// The calls of numbers with a sign.
-fn make_signed<L: Lending, S: Stream<L>>(stream: &mut S) -> Result {
-    stream.i8(-8)?;
-    stream.i16(-16)?;
-    stream.i32(-32)?;
-    stream.i64(-64)?;
-    stream.i128(-128)
+fn make_signed<L: Lending, S: Stream<L>>(stream: &mut S) -> [Result; 5] {
+    [
+        stream.i8(-8),
+        stream.i16(-16),
+        stream.i32(-32),
+        stream.i64(-64),
+        stream.i128(-128),
+    ]
 }
 
 /// The calls of a text.
-fn make_text<'v, S: Stream<Lent<'v>>>(stream: &mut S) -> Result {
-    stream.text_begin(Some(2))?;
-    stream.text_fragment("a")?;
-    stream.text_fragment_computed("b")?;
-    stream.text_end()
+fn make_text<'v, S: Stream<Lent<'v>>>(stream: &mut S) -> [Result; 4] {
+    [
+        stream.text_begin(Some(2)),
+        stream.text_fragment("a"),
+        stream.text_fragment_computed("b"),
+        stream.text_end(),
+    ]
 }
 
 /// The calls of a binary.
-fn make_binary<'v, S: Stream<Lent<'v>>>(stream: &mut S) -> Result {
-    stream.binary_begin(Some(2))?;
-    stream.binary_fragment(b"a")?;
-    stream.binary_fragment_computed(b"b")?;
-    stream.binary_end()
+fn make_binary<'v, S: Stream<Lent<'v>>>(stream: &mut S) -> [Result; 4] {
+    [
+        stream.binary_begin(Some(2)),
+        stream.binary_fragment(b"a"),
+        stream.binary_fragment_computed(b"b"),
+        stream.binary_end(),
+    ]
 }
 
 /// The calls of a map.
-fn make_map<L: Lending, S: Stream<L>>(stream: &mut S) -> Result {
-    stream.map_begin(Some(1))?;
-    stream.map_key_begin()?;
-    stream.map_key_end()?;
-    stream.map_value_begin()?;
-    stream.map_value_end()?;
-    stream.map_end()
+fn make_map<L: Lending, S: Stream<L>>(stream: &mut S) -> [Result; 6] {
+    [
+        stream.map_begin(Some(1)),
+        stream.map_key_begin(),
+        stream.map_key_end(),
+        stream.map_value_begin(),
+        stream.map_value_end(),
+        stream.map_end(),
+    ]
 }
 
 /// The calls of a sequence.
-fn make_seq<L: Lending, S: Stream<L>>(stream: &mut S) -> Result {
-    stream.seq_begin(Some(1))?;
-    stream.seq_value_begin()?;
-    stream.seq_value_end()?;
-    stream.seq_end()
+fn make_seq<L: Lending, S: Stream<L>>(stream: &mut S) -> [Result; 4] {
+    [
+        stream.seq_begin(Some(1)),
+        stream.seq_value_begin(),
+        stream.seq_value_end(),
+        stream.seq_end(),
+    ]
 }
 
 /// The calls of enums, tags and tagged values.
-fn make_named<L: Lending, S: Stream<L>>(stream: &mut S, tag: &Tag) -> Result {
-    stream.enum_begin(Some(tag), None, None)?;
-    stream.enum_end(None, None, None)?;
-    stream.tagged_begin(None, None, None)?;
-    stream.tagged_end(None, None, None)?;
-    stream.tag(Some(tag), None, None)?;
-    stream.tag_hint(tag)
+fn make_named<L: Lending, S: Stream<L>>(stream: &mut S, tag: &Tag) -> [Result; 6] {
+    [
+        stream.enum_begin(Some(tag), None, None),
+        stream.enum_end(None, None, None),
+        stream.tagged_begin(None, None, None),
+        stream.tagged_end(None, None, None),
+        stream.tag(Some(tag), None, None),
+        stream.tag_hint(tag),
+    ]
 }
 
 /// The calls of a record.
-fn make_record<L: Lending, S: Stream<L>>(stream: &mut S, label: &Label) -> Result {
-    stream.record_begin(None, Some(label), None, Some(1))?;
-    stream.record_value_begin(None, label)?;
-    stream.record_value_end(None, label)?;
-    stream.record_end(None, None, None)
+fn make_record<L: Lending, S: Stream<L>>(stream: &mut S, label: &Label) -> [Result; 4] {
+    [
+        stream.record_begin(None, Some(label), None, Some(1)),
+        stream.record_value_begin(None, label),
+        stream.record_value_end(None, label),
+        stream.record_end(None, None, None),
+    ]
 }
 
 /// The calls of a tuple.
-fn make_tuple<L: Lending, S: Stream<L>>(stream: &mut S, index: &Index) -> Result {
-    stream.tuple_begin(None, None, Some(index), Some(1))?;
-    stream.tuple_value_begin(None, index)?;
-    stream.tuple_value_end(None, index)?;
-    stream.tuple_end(None, None, None)
+fn make_tuple<L: Lending, S: Stream<L>>(stream: &mut S, index: &Index) -> [Result; 4] {
+    [
+        stream.tuple_begin(None, None, Some(index), Some(1)),
+        stream.tuple_value_begin(None, index),
+        stream.tuple_value_end(None, index),
+        stream.tuple_end(None, None, None),
+    ]
 }
 
 /// The calls of a record tuple.
@@ -210,11 +228,13 @@ fn make_record_tuple<L: Lending, S: Stream<L>>(
     stream: &mut S,
     label: &Label,
     index: &Index,
-) -> Result {
-    stream.record_tuple_begin(None, None, None, None)?;
-    stream.record_tuple_value_begin(None, label, index)?;
-    stream.record_tuple_value_end(None, label, index)?;
-    stream.record_tuple_end(None, None, None)
+) -> [Result; 4] {
+    [
+        stream.record_tuple_begin(None, None, None, None),
+        stream.record_tuple_value_begin(None, label, index),
+        stream.record_tuple_value_end(None, label, index),
+        stream.record_tuple_end(None, None, None),
+    ]
 }
 
 /// What is written down of the calls that are made.
@@ -270,28 +290,40 @@ Null
 Null
 "#;
 
-/// The calls of records and tuples.
-fn make_all_fields<L: Lending, S: Stream<L>>(stream: &mut S) -> Result {
+/// Whether each call was taken.
+fn all_taken(answers: &[Result]) -> bool {
+    answers.iter().all(|answer| answer.is_ok())
+}
+
+/// Whether a stream takes the calls of leaves.
+fn takes_leaves<'v, S: Stream<Lent<'v>>>(stream: &mut S) -> bool {
+    all_taken(&make_unsigned(stream))
+        && all_taken(&make_signed(stream))
+        && all_taken(&make_text(stream))
+        && all_taken(&make_binary(stream))
+}
+
+/// Whether a stream takes the calls of containers, and those with names.
+fn takes_containers<L: Lending, S: Stream<L>>(stream: &mut S) -> bool {
     let label = Label::new("a");
     let index = Index::new(0);
-    make_record(stream, &label)?;
-    make_tuple(stream, &index)?;
-    make_record_tuple(stream, &label, &index)
+    all_taken(&make_map(stream))
+        && all_taken(&make_seq(stream))
+        && all_taken(&make_named(stream, &tags::NUMBER))
+        && all_taken(&make_record(stream, &label))
+        && all_taken(&make_tuple(stream, &index))
+        && all_taken(&make_record_tuple(stream, &label, &index))
 }
 
 #[test]
-fn passes_each_call_on(rt: HostRuntime) -> std::result::Result<(), Fail> {
+fn passes_each_call_on(rt: HostRuntime) {
     let mut record = Record::new(rt.alloc());
-    make_unsigned(&mut record)?;
-    make_signed(&mut record)?;
-    make_text(&mut record)?;
-    make_binary(&mut record)?;
-    make_map(&mut record)?;
-    make_seq(&mut record)?;
-    make_named(&mut record, &tags::NUMBER)?;
-    make_all_fields(&mut record)?;
-    record.value(&Nothing {})?;
-    record.value_computed(&Nothing {})?;
+    holds(&rt, takes_leaves(&mut record), "leaves");
+    holds(&rt, takes_containers(&mut record), "containers");
+    let answers = [
+        record.value(&Nothing {}),
+        record.value_computed(&Nothing {}),
+    ];
+    holds(&rt, all_taken(&answers), "values");
     compare(&rt, &record.text, CALLS, "each call");
-    Ok(())
 }

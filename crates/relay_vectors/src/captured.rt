@@ -1,8 +1,6 @@
 //! Calls that no value goes on with, captured: which are refused, and what is made again of the others.
 
-use crate::shown::compare;
 use std::alloc::{AllocError, Global};
-use std::process::Abort;
 use std::test::Fail;
 use sval_buffer::ValueBuf;
 use sval_core::Value;
@@ -40,7 +38,7 @@ fn state_of(alloc: Global, buffer: ValueBuf<'_>) -> Result<String, AllocError> {
 
 /// Whether what is captured of a script's calls is complete, why a call was refused, if one was, and the calls that are
 /// made again, as lines.
-fn captured_of(alloc: Global, script: &str) -> Result<String, Fail> {
+pub(crate) fn captured_of(alloc: Global, script: &str) -> Result<String, Fail> {
     let read = Script::read(alloc, script.as_bytes())?;
     let buffer = buffer_of(alloc, &read);
     let lines = lines_of(alloc, &buffer)?;
@@ -48,34 +46,11 @@ fn captured_of(alloc: Global, script: &str) -> Result<String, Fail> {
     Ok(format!(in alloc; "{state}: {lines}")?)
 }
 
-/// Captures a script's calls, and compares whether what was captured is complete, why a call was refused, if one was,
-/// and the calls that are made again, as lines.
-pub(crate) fn try_captured(
-    rt: &impl Abort,
-    alloc: Global,
-    script: &str,
-    due: &str,
-) -> Result<(), Fail> {
-    compare(rt, &captured_of(alloc, script)?, due, script);
-    Ok(())
-}
-
 /// The JSON of what is captured of a script's calls.
-fn captured_json_of(alloc: Global, script: &str) -> Result<String, Fail> {
+pub(crate) fn captured_json_of(alloc: Global, script: &str) -> Result<String, Fail> {
     let read = Script::read(alloc, script.as_bytes())?;
     let buffer = buffer_of(alloc, &read);
     let mut out = VecSink::new(alloc);
     stream_to_io_write(&mut out, &buffer)?;
     Ok(String::from_utf8(out.into_vec())?)
-}
-
-/// Captures a script's calls, and compares the JSON of what was captured.
-pub(crate) fn try_captured_json(
-    rt: &impl Abort,
-    alloc: Global,
-    script: &str,
-    due: &str,
-) -> Result<(), Fail> {
-    compare(rt, &captured_json_of(alloc, script)?, due, script);
-    Ok(())
 }

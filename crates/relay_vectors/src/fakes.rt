@@ -5,6 +5,7 @@ ghost use Rattle.sval_core.specs.Law.{Answers};
 ghost use Rattle.sval_core.specs.Lenient.{lenient, with_wants};
 ghost use Rattle.sval_label.specs.Made.{lent_call};
 
+use crate::forms::Taking;
 use std::alloc::Global;
 use std::fmt::Write;
 use sval_core::{Call, Lent, Stream, refusal};
@@ -126,6 +127,12 @@ impl Sink for Balky {
     }
 }
 
+impl Taking for Balky {
+    fn taken(&self) -> &[u8] {
+        self.taken.as_slice()
+    }
+}
+
 /// Holds back all that it takes until it is flushed.
 #[derive(Drop)]
 pub(crate) struct HoldingSink {
@@ -175,5 +182,11 @@ impl Sink for HoldingSink {
                 Err(SinkError::NoMemory)
             }
         }
+    }
+}
+
+impl Taking for HoldingSink {
+    fn taken(&self) -> &[u8] {
+        &self.passed
     }
 }

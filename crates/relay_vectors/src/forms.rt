@@ -1,8 +1,10 @@
 //! The forms of the program's words, and a run of one over any devices.
 
+use crate::shown::answer_text;
 use std::alloc::{AllocError, Global};
 use std::io::{Read, Write};
-use sval_io::Sink;
+use std::test::Fail;
+use sval_io::{FaultySink, Sink, VecSink};
 use sval_relay::{Source, relay_streams, run};
 
 /// Each form that reads a script, its words with a space between two.
@@ -108,4 +110,34 @@ pub(crate) fn run_over<I: Source, K: Sink, D: Sink>(
 ) -> Result<u8, AllocError> {
     let words = words_of(alloc, form)?;
     Ok(run_words(alloc, &words, input, out, diag))
+}
+
+/// A sink that shows what it has taken.
+pub(crate) trait Taking: Sink {
+    /// What it has taken.
+    fn taken(&self) -> &[u8];
+}
+
+impl Taking for VecSink {
+    fn taken(&self) -> &[u8] {
+        self.as_slice()
+    }
+}
+
+impl Taking for FaultySink<'_> {
+    fn taken(&self) -> &[u8] {
+        self.as_slice()
+    }
+}
+
+/// Runs a form over these devices: the status, what was written, and behind a bar what was told.
+pub(crate) fn answer_over<I: Source, K: Taking, D: Taking>(
+    alloc: Global,
+    form: &str,
+    input: &mut I,
+    out: &mut K,
+    diag: &mut D,
+) -> Result<String, Fail> {
+    let status = run_over(alloc, form, input, out, diag)?;
+    answer_text(alloc, status, out.taken(), diag.taken())
 }

@@ -141,10 +141,10 @@ fn told_of_flushing(alloc: Global, mut writer: Late) -> Result<String, Fail> {
 /// Interrupted calls are made again, up to 1,000 times, and others aren't.
 #[test]
 fn late_writers(rt: HostRuntime) -> Result<(), Fail> {
-    for (delay, kind, writing, flushing) in LATE {
-        let seen = told_of_writing(rt.alloc(), Late::new(rt.alloc(), delay, kind));
+    for (delay, kind, writing, flushing) in &LATE {
+        let seen = told_of_writing(rt.alloc(), Late::new(rt.alloc(), *delay, *kind));
         agrees(&rt, seen, writing)?;
-        let seen = told_of_flushing(rt.alloc(), Late::new(rt.alloc(), delay, kind));
+        let seen = told_of_flushing(rt.alloc(), Late::new(rt.alloc(), *delay, *kind));
         agrees(&rt, seen, flushing)?;
     }
     Ok(())

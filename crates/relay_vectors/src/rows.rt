@@ -14,7 +14,7 @@
 //! = unfinished         its calls are not one whole value
 //! = lines              each of its lines is a call, whatever they spell
 //! = canon LINES        its calls are printed canonically as these lines
-//! = captured COMPLETE, ERROR: LINES    what is captured of its calls, one by one ([`try_captured`])
+//! = captured COMPLETE, ERROR: LINES    what is captured of its calls, one by one ([`captured_of`])
 //! = captured-json TEXT the JSON of what is captured of its calls, one by one
 //! = run WORDS: STATUS TEXT|LINE    what a run in these words answers, writes and tells
 //! ```
@@ -22,10 +22,10 @@
 //! A blank line says nothing, and neither does one that begins with `# `. A script's line that ends with `␄` has no
 //! newline, and `␀`, `␉`, `␊`, `␍`, `␠` and `␡` are pictures of the letters that they stand for.
 
-use crate::captured::{try_captured, try_captured_json};
-use crate::forms::{EACH_WAY, LISTS, run_over, run_over_std};
+use crate::captured::{captured_json_of, captured_of};
+use crate::forms::{EACH_WAY, LISTS, answer_over, run_over, run_over_std};
 use crate::pictures::{add_line, plain_text};
-use crate::shown::{answer_text, compare, holds};
+use crate::shown::{agrees_at, answer_text, compare, holds};
 use std::alloc::{AllocError, Global};
 use std::process::Abort;
 use std::test::Fail;
@@ -62,9 +62,9 @@ fn try_row(rt: &impl Abort, alloc: Global, script: &str, due: &str) -> Result<()
     let (kind, rest) = due.split_once(' ').unwrap_or((due, ""));
     match kind {
         "run" => try_run(rt, alloc, script, rest),
-        "canon" => try_canon(rt, alloc, script, rest),
-        "captured" => try_captured(rt, alloc, script, rest),
-        "captured-json" => try_captured_json(rt, alloc, script, rest),
+        "canon" => agrees_at(rt, canon_of(alloc, script), rest, script),
+        "captured" => agrees_at(rt, captured_of(alloc, script), rest, script),
+        "captured-json" => agrees_at(rt, captured_json_of(alloc, script), rest, script),
         "lines" => try_reading(rt, alloc, script, kind, rest),
         _ => {
             try_reading(rt, alloc, script, kind, rest)?;
@@ -86,12 +86,6 @@ fn canon_of(alloc: Global, script: &str) -> Result<String, Fail> {
     let mut sink = VecSink::new(alloc);
     print_canon(&read.as_slice(), &mut sink)?;
     Ok(String::from_utf8(sink.into_vec())?)
-}
-
-/// Prints a script's calls canonically.
-fn try_canon(rt: &impl Abort, alloc: Global, script: &str, due: &str) -> Result<(), Fail> {
-    compare(rt, &canon_of(alloc, script)?, due, script);
-    Ok(())
 }
 
 /// How many lines a script has, or which of them is no call.
@@ -153,7 +147,7 @@ fn try_checking(
         return Ok(());
     }
     let due = checking_due(alloc, kind, rest)?;
-    compare(rt, &checking_of(alloc, script)?, &due, script);
+    agrees_at(rt, checking_of(alloc, script), &due, script)?;
     if due.starts_with("Err(BadCall") {
         try_refused(rt, alloc, script, rest)?;
     }
@@ -162,10 +156,8 @@ fn try_checking(
 
 /// Streams a script's calls into a `Checked`, which refuses the one of this line.
 fn try_refused(rt: &impl Abort, alloc: Global, script: &str, line: &str) -> Result<(), Fail> {
-    let seen = checked_calls(alloc, script)?;
     let due = format!(in alloc; "Some(NotViable) at line {line}")?;
-    compare(rt, &seen, &due, script);
-    Ok(())
+    agrees_at(rt, checked_calls(alloc, script), &due, script)
 }
 
 /// Why a `Checked` refused a call of a script, and the line behind those of the calls that it took.
@@ -191,8 +183,7 @@ pub(crate) fn run_in(alloc: Global, form: &str, script: &str) -> Result<String, 
     let mut input = MemSource::new(script.as_bytes());
     let mut out = VecSink::new(alloc);
     let mut diag = VecSink::new(alloc);
-    let status = run_over(alloc, form, &mut input, &mut out, &mut diag)?;
-    answer_text(alloc, status, out.as_slice(), diag.as_slice())
+    answer_over(alloc, form, &mut input, &mut out, &mut diag)
 }
 
 /// The status, the output and the line of a form on a script, over std's readers and writers.
@@ -228,9 +219,8 @@ fn tells_of(kind: &str, way: &str) -> bool {
 
 /// Runs a way on a script, over memory and over std's readers and writers.
 fn try_way(rt: &impl Abort, alloc: Global, way: &str, script: &str, due: &str) -> Result<(), Fail> {
-    compare(rt, &run_in(alloc, way, script)?, due, script);
-    compare(rt, &run_over_streams(alloc, way, script)?, due, script);
-    Ok(())
+    agrees_at(rt, run_in(alloc, way, script), due, script)?;
+    agrees_at(rt, run_over_streams(alloc, way, script), due, script)
 }
 
 /// Runs each way on a script, and prints the script's calls.
@@ -279,8 +269,7 @@ fn try_in_memory(
     script: &str,
     due: &str,
 ) -> Result<(), Fail> {
-    compare(rt, &run_in(alloc, form, script)?, due, script);
-    Ok(())
+    agrees_at(rt, run_in(alloc, form, script), due, script)
 }
 
 /// The status of a run on a script, and a space, where the third device fails at this call.

@@ -11,15 +11,25 @@ pub(crate) fn compare(rt: &impl Abort, seen: &str, due: &str, place: &str) {
 
 /// Compares a text with what is due, or hands on why there is none.
 pub(crate) fn agrees(rt: &impl Abort, seen: Result<String, Fail>, due: &str) -> Result<(), Fail> {
-    assert_eq!(rt; seen?.as_str(), due);
+    agrees_at(rt, seen, due, due)
+}
+
+/// Compares a text with what is due, or hands on why there is none. A failure names `place`.
+pub(crate) fn agrees_at(
+    rt: &impl Abort,
+    seen: Result<String, Fail>,
+    due: &str,
+    place: &str,
+) -> Result<(), Fail> {
+    compare(rt, &seen?, due, place);
     Ok(())
 }
 
 /// Compares a text that was made with what is due.
 pub(crate) fn shows<E: Drop>(rt: &impl Abort, seen: Result<String, E>, due: &str) {
     match seen {
-        Ok(text) => assert_eq!(rt; text.as_str(), due),
-        Err(_) => assert!(rt; false, "no text, but {due:?} is due"),
+        Ok(text) => compare(rt, &text, due, due),
+        Err(_) => holds(rt, false, due),
     }
 }
 

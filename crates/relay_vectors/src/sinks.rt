@@ -4,7 +4,7 @@ ghost use Rattle.std.specs.Prelude.{◌∷◌, [], true};
 ghost use Rattle.sval_label.specs.Calls as call;
 
 use crate::fakes::{Balky, HoldingSink};
-use crate::forms::{INSIDE, run_over};
+use crate::forms::{INSIDE, answer_over};
 use crate::shown::{agrees, answer_text, holds, shows};
 use std::alloc::{AllocError, Global};
 use std::test::Fail;
@@ -145,8 +145,7 @@ fn run_unflushed(alloc: Global, way: &str) -> Result<String, Fail> {
     let mut input = MemSource::new(SCRIPT.as_bytes());
     let mut out = Balky::trickling(alloc, Some((0, SinkError::Failed)));
     let mut diag = VecSink::new(alloc);
-    let status = run_over(alloc, way, &mut input, &mut out, &mut diag)?;
-    answer_text(alloc, status, out.taken.as_slice(), diag.as_slice())
+    answer_over(alloc, way, &mut input, &mut out, &mut diag)
 }
 
 /// What a run answers, passes on and tells over an output that holds back all until it is flushed.
@@ -154,8 +153,7 @@ fn run_held_back(alloc: Global, way: &str) -> Result<String, Fail> {
     let mut input = MemSource::new(SCRIPT.as_bytes());
     let mut out = HoldingSink::new(alloc);
     let mut diag = VecSink::new(alloc);
-    let status = run_over(alloc, way, &mut input, &mut out, &mut diag)?;
-    answer_text(alloc, status, &out.passed, diag.as_slice())
+    answer_over(alloc, way, &mut input, &mut out, &mut diag)
 }
 
 #[test]

@@ -48,9 +48,9 @@ fn slice_due(alloc: Global, from: u64, to: u64, lines: Option<&str>) -> Result<S
 #[test]
 fn has_the_lines_of_its_place(rt: HostRuntime) -> Result<(), Fail> {
     let script = Script::read(rt.alloc(), VALUES.as_bytes())?;
-    for (from, to, lines) in SLICES {
-        let seen = slice_of(rt.alloc(), &script, from, to)?;
-        let due = slice_due(rt.alloc(), from, to, lines)?;
+    for (from, to, lines) in &SLICES {
+        let seen = slice_of(rt.alloc(), &script, *from, *to)?;
+        let due = slice_due(rt.alloc(), *from, *to, *lines)?;
         compare(&rt, &seen, &due, "a slice");
     }
     Ok(())

@@ -1,6 +1,6 @@
 //! Values of many levels, for which the machine's stack has no room, and a long text.
 
-use crate::shown::holds;
+use crate::shown::{agrees, holds};
 use std::alloc::{AllocError, Global};
 use std::test::Fail;
 use sval_buffer::ValueBuf;
@@ -23,9 +23,6 @@ fn sequences(alloc: Global) -> Result<Vec<u8>, AllocError> {
     Ok(script)
 }
 
-/// How long the JSON of these sequences is.
-const JSON_LENGTH: u64 = 1_000_004;
-
 /// How long the JSON of a value is.
 fn json_length<'v, V: Value<'v, Lent<'v>>>(value: &'v V) -> Result<u64, Fail> {
     let mut count = CountSink::new();
@@ -33,50 +30,36 @@ fn json_length<'v, V: Value<'v, Lent<'v>>>(value: &'v V) -> Result<u64, Fail> {
     Ok(count.count())
 }
 
-#[test]
-fn checks_and_writes(rt: HostRuntime) -> Result<(), Fail> {
-    let bytes = sequences(rt.alloc())?;
-    let script = Script::read(rt.alloc(), &bytes)?;
-    check(rt.alloc(), &script)?;
-    holds(&rt, script.line_count() == 2_000_001, "the lines");
-    holds(&rt, json_length(&script)? == JSON_LENGTH, "the JSON");
-    Ok(())
+/// How many lines a whole script has, and how long its JSON is.
+fn written_of(alloc: Global, script: &Script) -> Result<String, Fail> {
+    check(alloc, script)?;
+    let length = json_length(script)?;
+    Ok(format!(in alloc; "{} lines, {length} bytes", script.line_count())?)
 }
 
-/// Whether the calls of a script are whole, and what is printed of them, as they are checked.
-fn checked_of(alloc: Global, bytes: &[u8]) -> Result<(bool, Vec<u8>), Fail> {
-    let script = Script::read(alloc, bytes)?;
+/// Whether the calls of a script are whole, and whether these lines are printed of them, as they are checked.
+fn checked_of(alloc: Global, script: &Script, lines: &[u8]) -> Result<String, Fail> {
     let mut checked = Checked::new(alloc, Printer::new(VecSink::new(alloc)));
     script.stream(&mut checked)?;
     let is_whole = checked.is_whole();
-    Ok((is_whole, checked.into_inner().into_inner().into_vec()))
+    let printed = checked.into_inner().into_inner();
+    let is_same = printed.as_slice() == lines;
+    Ok(format!(in alloc; "whole: {is_whole}, the same: {is_same}")?)
 }
 
-#[test]
-fn prints(rt: HostRuntime) -> Result<(), Fail> {
-    let bytes = sequences(rt.alloc())?;
-    let (is_whole, printed) = checked_of(rt.alloc(), &bytes)?;
-    holds(&rt, is_whole, "the end");
-    holds(&rt, printed.as_slice() == bytes.as_slice(), "the lines");
-    Ok(())
+/// What is told of what is captured of a script.
+fn captured_of(alloc: Global, script: &Script, lines: &[u8]) -> Result<String, Fail> {
+    let captured: ValueBuf<'_> = ValueBuf::collect(alloc, script)?;
+    told_of(alloc, &captured, lines)
 }
 
-#[test]
-fn captures(rt: HostRuntime) -> Result<(), Fail> {
-    let bytes = sequences(rt.alloc())?;
-    let script = Script::read(rt.alloc(), &bytes)?;
-    let captured: ValueBuf<'_> = ValueBuf::collect(rt.alloc(), &script)?;
-    check(rt.alloc(), &captured)?;
-    holds(&rt, captured.is_complete(), "the end");
-    holds(&rt, json_length(&captured)? == JSON_LENGTH, "the JSON");
-    Ok(())
-}
-
-/// The calls that are made again of what is captured of a script, canonically.
-fn captured_of(alloc: Global, bytes: &[u8]) -> Result<Vec<u8>, Fail> {
-    let script = Script::read(alloc, bytes)?;
-    let captured: ValueBuf<'_> = ValueBuf::collect(alloc, &script)?;
-    canon_of(alloc, &captured)
+/// Whether what was captured is complete, how long its JSON is, and whether its canonical calls are these lines.
+fn told_of(alloc: Global, captured: &ValueBuf<'_>, lines: &[u8]) -> Result<String, Fail> {
+    check(alloc, captured)?;
+    let is_complete = captured.is_complete();
+    let length = json_length(captured)?;
+    let is_same = canon_of(alloc, captured)?.as_slice() == lines;
+    Ok(format!(in alloc; "complete: {is_complete}, {length} bytes, the same: {is_same}")?)
 }
 
 /// The calls of what is captured, canonically.
@@ -86,18 +69,9 @@ fn canon_of(alloc: Global, captured: &ValueBuf<'_>) -> Result<Vec<u8>, Fail> {
     Ok(calls.into_vec())
 }
 
-#[test]
-fn makes_again(rt: HostRuntime) -> Result<(), Fail> {
-    let bytes = sequences(rt.alloc())?;
-    let calls = captured_of(rt.alloc(), &bytes)?;
-    holds(&rt, calls.as_slice() == bytes.as_slice(), "the lines");
-    Ok(())
-}
-
 /// How long the JSON of an owned copy of what is captured of a script is.
-fn copy_length(alloc: Global, bytes: &[u8]) -> Result<u64, Fail> {
-    let script = Script::read(alloc, bytes)?;
-    let owned: ValueBuf<'_> = ValueBuf::collect_owned(alloc, &script)?;
+fn copy_length(alloc: Global, script: &Script) -> Result<u64, Fail> {
+    let owned: ValueBuf<'_> = ValueBuf::collect_owned(alloc, script)?;
     let value = owned.to_value()?;
     let copy = value.try_clone()?;
     match copy.into_owned() {
@@ -107,13 +81,18 @@ fn copy_length(alloc: Global, bytes: &[u8]) -> Result<u64, Fail> {
 }
 
 #[test]
-fn copies(rt: HostRuntime) -> Result<(), Fail> {
-    let bytes = sequences(rt.alloc())?;
-    holds(
-        &rt,
-        copy_length(rt.alloc(), &bytes)? == JSON_LENGTH,
-        "the JSON",
-    );
+fn many_levels(rt: HostRuntime) -> Result<(), Fail> {
+    let lines = sequences(rt.alloc())?;
+    let script = Script::read(rt.alloc(), &lines)?;
+    let written = written_of(rt.alloc(), &script);
+    agrees(&rt, written, "2000001 lines, 1000004 bytes")?;
+    let checked = checked_of(rt.alloc(), &script, &lines);
+    agrees(&rt, checked, "whole: true, the same: true")?;
+    let captured = captured_of(rt.alloc(), &script, &lines);
+    let due = "complete: true, 1000004 bytes, the same: true";
+    agrees(&rt, captured, due)?;
+    let length = copy_length(rt.alloc(), &script)?;
+    holds(&rt, length == 1_000_004, "an owned copy");
     Ok(())
 }
 

@@ -4,13 +4,13 @@
 ghost use Rattle.std.specs.Prelude.{◌≤◌};
 
 use super::cases::{Answer, Case, compare, each_case};
-use crate::forms::{EACH_WAY, run_over};
+use crate::forms::{EACH_WAY, Taking, answer_over, run_over};
 use crate::shown::{agrees, answer_text, holds};
 use std::alloc::{AllocError, Global};
 use std::process::Abort;
 use std::test::Fail;
 use sval_io::{FaultySink, VecSink};
-use sval_relay::{FaultySource, MemSource};
+use sval_relay::{FaultySource, MemSource, Source};
 
 /// What is told of an output that fails.
 const WRITE_FAULT: &'static [u8] = b"write fault\n";
@@ -38,6 +38,18 @@ impl Ran {
         })
     }
 
+    /// What a case comes to over these devices.
+    fn over<I: Source, K: Taking, D: Taking>(
+        alloc: Global,
+        case: &Case,
+        input: &mut I,
+        out: &mut K,
+        diag: &mut D,
+    ) -> Result<Ran, AllocError> {
+        let status = run_over(alloc, case.form, input, out, diag)?;
+        Ran::new(alloc, status, out.taken(), diag.taken())
+    }
+
     fn answer(&self) -> Answer<'_> {
         (self.status, &self.out, &self.diag)
     }
@@ -51,8 +63,7 @@ fn write_at(alloc: Global, case: &Case, chunk: usize, call: u64) -> Result<Ran, 
     let mut input = MemSource::new(case.script.as_bytes());
     let mut out = FaultySink::new(alloc, chunk, &failing);
     let mut diag = VecSink::new(alloc);
-    let status = run_over(alloc, case.form, &mut input, &mut out, &mut diag)?;
-    Ran::new(alloc, status, out.as_slice(), diag.as_slice())
+    Ran::over(alloc, case, &mut input, &mut out, &mut diag)
 }
 
 /// Runs a form over an output that takes at most `chunk` bytes a call, and fails at each of its calls in turn, until a
@@ -81,8 +92,7 @@ fn read_at(alloc: Global, case: &Case, call: u64) -> Result<Ran, AllocError> {
     let mut input = FaultySource::new(case.script.as_bytes(), 7, &failing);
     let mut out = VecSink::new(alloc);
     let mut diag = VecSink::new(alloc);
-    let status = run_over(alloc, case.form, &mut input, &mut out, &mut diag)?;
-    Ran::new(alloc, status, out.as_slice(), diag.as_slice())
+    Ran::over(alloc, case, &mut input, &mut out, &mut diag)
 }
 
 /// Runs a form over an input that gives seven bytes a call, and fails at each in turn, the one that sees the end too:
@@ -107,8 +117,7 @@ fn report_at(alloc: Global, case: &Case, call: u64) -> Result<Ran, AllocError> {
     let mut input = MemSource::new(case.script.as_bytes());
     let mut out = VecSink::new(alloc);
     let mut diag = FaultySink::new(alloc, 1, &failing);
-    let status = run_over(alloc, case.form, &mut input, &mut out, &mut diag)?;
-    Ran::new(alloc, status, out.as_slice(), diag.as_slice())
+    Ran::over(alloc, case, &mut input, &mut out, &mut diag)
 }
 
 /// Runs a form over a third device that takes one byte a call, and fails at each in turn until it meets no failure: it
@@ -136,8 +145,7 @@ fn run_in_parts(alloc: Global, case: &Case, given: usize, taken: usize) -> Resul
     let mut input = FaultySource::new(case.script.as_bytes(), given, &[]);
     let mut out = FaultySink::new(alloc, taken, &[]);
     let mut diag = FaultySink::new(alloc, given, &[]);
-    let status = run_over(alloc, case.form, &mut input, &mut out, &mut diag)?;
-    Ran::new(alloc, status, out.as_slice(), diag.as_slice())
+    Ran::over(alloc, case, &mut input, &mut out, &mut diag)
 }
 
 /// Runs a form over devices that give and take from 1 to 70 bytes a call at most.
@@ -169,8 +177,7 @@ fn made_at(alloc: Global, form: &str, call: u64) -> Result<String, Fail> {
     let mut input = FaultySource::new(b"nil\n", 1, &[1]);
     let mut out = FaultySink::new(alloc, 1, &failing);
     let mut diag = FaultySink::new(alloc, 1, &failing);
-    let status = run_over(alloc, form, &mut input, &mut out, &mut diag)?;
-    answer_text(alloc, status, out.as_slice(), diag.as_slice())
+    answer_over(alloc, form, &mut input, &mut out, &mut diag)
 }
 
 /// The line of a made script over an output that fails at a call, and a third device that fails at the same one.
@@ -203,8 +210,7 @@ fn run_failing(alloc: Global, form: &str, reads: &[u64], writes: &[u64]) -> Resu
     let mut input = FaultySource::new(b"bool true\n", 4, reads);
     let mut out = FaultySink::new(alloc, 1, writes);
     let mut diag = FaultySink::new(alloc, 1, &[4]);
-    let status = run_over(alloc, form, &mut input, &mut out, &mut diag)?;
-    answer_text(alloc, status, out.as_slice(), diag.as_slice())
+    answer_over(alloc, form, &mut input, &mut out, &mut diag)
 }
 
 /// Where two or all devices fail, the input's failure is the answer, and then the output's.

@@ -222,6 +222,14 @@ impl Kind {
         }
     }
 
+    /// Adds lines of the script, JSON in both forms, and lines of the canonical script.
+    fn push_text(&mut self, script: &str, json: &str, canonical: &str) -> Result<(), AllocError> {
+        self.script.push_str(script)?;
+        self.inside.push_str(json)?;
+        self.beside.push_str(json)?;
+        self.canonical.push_str(canonical)
+    }
+
     /// Adds another value of a sequence, behind this comma.
     fn push(&mut self, kind: &Kind, comma: &str) -> Result<(), AllocError> {
         let (begin, end) = ("seq_value_begin\n", "seq_value_end\n");
@@ -264,18 +272,11 @@ fn kind_of(alloc: Global, rows: &str) -> Result<Kind, AllocError> {
 
 /// A sequence of the 13 values of all kinds.
 pub(crate) fn together(alloc: Global, kinds: &[Kind]) -> Result<Kind, AllocError> {
-    let mut all = Kind {
-        script: String::from_str(alloc, "seq_begin 13\n")?,
-        inside: String::from_str(alloc, "[")?,
-        beside: String::from_str(alloc, "[")?,
-        canonical: String::from_str(alloc, "seq_begin -\n")?,
-    };
+    let mut all = Kind::new(alloc);
+    all.push_text("seq_begin 13\n", "[", "seq_begin -\n")?;
     for (place, kind) in kinds.iter().enumerate() {
         all.push(kind, if place == 0 { "" } else { "," })?;
     }
-    all.script.push_str("seq_end\n")?;
-    all.inside.push_str("]")?;
-    all.beside.push_str("]")?;
-    all.canonical.push_str("seq_end\n")?;
+    all.push_text("seq_end\n", "]", "seq_end\n")?;
     Ok(all)
 }

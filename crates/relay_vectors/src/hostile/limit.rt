@@ -1,6 +1,6 @@
 //! Inputs at the limit of what is read, and a script in memory that is longer.
 
-use crate::forms::run_over;
+use crate::forms::{answer_over, run_over};
 use crate::shown::{agrees, answer_text, holds};
 use std::alloc::{AllocError, Global};
 use std::test::Fail;
@@ -53,8 +53,7 @@ fn reads_up_to_the_limit(rt: HostRuntime) -> Result<(), Fail> {
 fn run_direct<I: Source>(alloc: Global, input: &mut I) -> Result<String, Fail> {
     let mut out = VecSink::new(alloc);
     let mut diag = VecSink::new(alloc);
-    let status = run_over(alloc, "direct", input, &mut out, &mut diag)?;
-    answer_text(alloc, status, out.as_slice(), diag.as_slice())
+    answer_over(alloc, "direct", input, &mut out, &mut diag)
 }
 
 /// How many hex digits a script of 16,777,216 bytes or of one more has, the call of the source that fails, and the

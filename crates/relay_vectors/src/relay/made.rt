@@ -32,18 +32,17 @@ const LINES: [(u32, &'static str); 4] = [
     (50_000, "calls 650002 json 1427781\n"),
 ];
 
+/// The JSON of a script.
+fn json_of(alloc: Global, script: &str) -> Result<String, Fail> {
+    let mut out = VecSink::new(alloc);
+    relay(alloc, script.as_bytes(), Way::Buffered, &mut out)?;
+    Ok(String::from_utf8(out.into_vec())?)
+}
+
 #[test]
 fn serves_one_record(rt: HostRuntime) -> Result<(), Fail> {
-    let mut out = VecSink::new(rt.alloc());
-    relay(rt.alloc(), ONE_RECORD.as_bytes(), Way::Buffered, &mut out)?;
     let json = "[{\"id\":0,\"name\":\"n0\"}]";
-    compare(
-        &rt,
-        std::str::from_utf8(out.as_slice())?,
-        json,
-        "one record",
-    );
-    Ok(())
+    agrees(&rt, json_of(rt.alloc(), ONE_RECORD), json)
 }
 
 /// What is told of a script of made records.
@@ -55,8 +54,8 @@ fn line_of(alloc: Global, count: u32) -> Result<String, Fail> {
 
 #[test]
 fn tells_of_scripts(rt: HostRuntime) -> Result<(), Fail> {
-    for (count, line) in LINES {
-        agrees(&rt, line_of(rt.alloc(), count), line)?;
+    for (count, line) in &LINES {
+        agrees(&rt, line_of(rt.alloc(), *count), line)?;
     }
     Ok(())
 }

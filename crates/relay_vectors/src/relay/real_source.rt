@@ -74,9 +74,12 @@ fn reads_of_failing(alloc: Global, mut reader: Failing, count: u64) -> Result<St
 
 #[test]
 fn errors_of_readers(rt: HostRuntime) -> Result<(), Fail> {
-    for (error, times, count, due) in READERS {
-        let reader = Failing { error, times };
-        agrees(&rt, reads_of_failing(rt.alloc(), reader, count), due)?;
+    for (error, times, count, due) in &READERS {
+        let reader = Failing {
+            error: *error,
+            times: *times,
+        };
+        agrees(&rt, reads_of_failing(rt.alloc(), reader, *count), due)?;
     }
     Ok(())
 }

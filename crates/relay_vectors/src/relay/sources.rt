@@ -1,7 +1,7 @@
 //! Reading memory, and a source that fails where it is told to.
 
-use crate::forms::{INSIDE, run_over};
-use crate::shown::{agrees, answer_text};
+use crate::forms::{INSIDE, answer_over};
+use crate::shown::agrees;
 use std::alloc::Global;
 use std::fmt::Write;
 use std::test::Fail;
@@ -70,8 +70,7 @@ fn run_at(alloc: Global, way: &str, call: u64) -> Result<String, Fail> {
     let mut input = FaultySource::new(b"null\n", 3, &failing);
     let mut out = VecSink::new(alloc);
     let mut diag = VecSink::new(alloc);
-    let status = run_over(alloc, way, &mut input, &mut out, &mut diag)?;
-    answer_text(alloc, status, out.as_slice(), diag.as_slice())
+    answer_over(alloc, way, &mut input, &mut out, &mut diag)
 }
 
 /// A run stops at a call that fails. The second call gives the last bytes, and the third sees the end.

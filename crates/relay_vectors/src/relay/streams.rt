@@ -1,10 +1,9 @@
 //! What the program answers and writes over std's readers and writers that fail.
 
 use crate::forms::run_over_std;
-use crate::shown::{answer_text, compare};
+use crate::shown::{agrees, answer_text};
 use std::alloc::Global;
 use std::io;
-use std::process::Abort;
 use std::test::Fail;
 
 /// A writer that takes `room` bytes, and then gives an error.
@@ -51,21 +50,16 @@ impl io::Read for Broken {
     }
 }
 
-/// Runs a form over a reader, an output and a third device, and compares the status, what was written and what was
-/// told.
-fn try_streams<R: io::Read + Drop>(
-    rt: &impl Abort,
+/// Runs a form over a reader, an output and a third device: the status, what was written and what was told.
+fn run_limited<R: io::Read + Drop>(
     alloc: Global,
     form: &str,
     input: R,
-    devices: (Limited, Limited),
-    due: &str,
-) -> Result<(), Fail> {
-    let (mut stdout, mut stderr) = devices;
+    mut stdout: Limited,
+    mut stderr: Limited,
+) -> Result<String, Fail> {
     let status = run_over_std(alloc, form, input, &mut stdout, &mut stderr)?;
-    let seen = answer_text(alloc, status, &stdout.taken, &stderr.taken)?;
-    compare(rt, &seen, due, form);
-    Ok(())
+    answer_text(alloc, status, &stdout.taken, &stderr.taken)
 }
 
 /// The room of the output and how it fails, the room of the third device, and what is answered, written and told.
@@ -85,12 +79,14 @@ const SCRIPT: &'static [u8] = b"seq_begin 1\nseq_value_begin\nbool true\nseq_val
 #[test]
 fn outputs_that_fail(rt: HostRuntime) -> Result<(), Fail> {
     let alloc = rt.alloc();
-    for (room, error, told, due) in OUTPUTS {
-        let devices = (
-            Limited::new(alloc, room, error),
-            Limited::new(alloc, told, io::ErrorKind::BrokenPipe),
-        );
-        try_streams(&rt, alloc, "direct", SCRIPT, devices, due)?;
+    for (room, error, told, due) in &OUTPUTS {
+        let stdout = Limited::new(alloc, *room, *error);
+        let stderr = Limited::new(alloc, *told, io::ErrorKind::BrokenPipe);
+        agrees(
+            &rt,
+            run_limited(alloc, "direct", SCRIPT, stdout, stderr),
+            due,
+        )?;
     }
     Ok(())
 }
@@ -98,9 +94,8 @@ fn outputs_that_fail(rt: HostRuntime) -> Result<(), Fail> {
 #[test]
 fn an_input_that_fails(rt: HostRuntime) -> Result<(), Fail> {
     let alloc = rt.alloc();
-    let devices = (
-        Limited::new(alloc, 100, io::ErrorKind::StorageFull),
-        Limited::new(alloc, 100, io::ErrorKind::StorageFull),
-    );
-    try_streams(&rt, alloc, "buffered", Broken, devices, "9 |read fault\n")
+    let stdout = Limited::new(alloc, 100, io::ErrorKind::StorageFull);
+    let stderr = Limited::new(alloc, 100, io::ErrorKind::StorageFull);
+    let seen = run_limited(alloc, "buffered", Broken, stdout, stderr);
+    agrees(&rt, seen, "9 |read fault\n")
 }
