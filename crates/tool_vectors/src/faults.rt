@@ -65,7 +65,7 @@ fn fails_to_write(rt: &impl Abort, alloc: Global, way: Way, at: u64) -> bool {
     done.is_err()
 }
 
-/// How many of the first calls fail, of which one is each in turn.
+/// How many of the first calls fail, where each is tried in turn.
 fn failed_writes(rt: &impl Abort, alloc: Global, way: Way) -> usize {
     let mut failed = 0_usize;
     for at in 1..60 {
@@ -100,7 +100,7 @@ fn fails_to_read(rt: &impl Abort, alloc: Global, way: Way, at: u64) -> bool {
     done.is_err()
 }
 
-/// How many of the first reads fail, of which one is each in turn.
+/// How many of the first reads fail, where each is tried in turn.
 fn failed_reads(rt: &impl Abort, alloc: Global, way: Way) -> usize {
     let mut failed = 0_usize;
     for at in 1..20 {

@@ -28,10 +28,7 @@ impl Machine {
     /// - [`Refusal::NotViable`] comes exactly where no value goes on with the call.
     /// - [`Refusal::NoMemory`] comes only where one does, and memory was wanting for what the call begins.
     #[inline(always)]
-    pub fn step<L: Lending>(
-        &mut self,
-        call: AnyCall<'_, L::Text, L::Bytes>,
-    ) -> Result<(), Refusal>
+    pub fn step<L: Lending>(&mut self, call: AnyCall<'_, L::Text, L::Bytes>) -> Result<(), Refusal>
         ensures { let call = call_of L.text L.bytes call.entry in
             StepsTo (has_own_end call) (next self.old call) self.new result }
     {
