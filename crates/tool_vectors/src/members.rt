@@ -29,7 +29,7 @@ fn written_without(rt: &impl Abort, alloc: Global, path: &'static str) -> Vec<u8
         target: Target::Json,
         path,
     };
-    let mut out = VecSink::new(alloc);
+    let mut out = must(rt, VecSink::with_capacity(alloc, text.len()));
     must(
         rt,
         convert(rt, alloc, way, MemSource::new(text.as_bytes()), &mut out),
