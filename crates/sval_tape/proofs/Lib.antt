@@ -9,3 +9,6 @@ pub mod TapeStreams
 pub mod Streamed
 pub mod Forms
 pub mod TextsRead
+pub mod JsonFront
+pub mod JsonTexts
+pub mod Fractions

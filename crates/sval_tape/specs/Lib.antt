@@ -6,3 +6,4 @@ pub mod Taping
 pub mod Streaming
 pub mod ErrorTexts
 pub mod Laws
+pub mod JsonAtFront

@@ -53,6 +53,7 @@
 
 mod calls;
 mod ints;
+mod json;
 pub mod laws;
 mod numbers;
 mod operands;
@@ -64,6 +65,7 @@ mod tape;
 mod text;
 mod writer;
 
+pub use json::json_at_once;
 pub use streaming::stream_tape;
 pub use tape::{Tape, TapeError};
 pub use writer::TapeWriter;
