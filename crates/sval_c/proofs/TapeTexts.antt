@@ -14,6 +14,8 @@ use Rattle.sval_json.specs.Given.{GivesJson}
 use Rattle.sval_json.specs.Json.{compact}
 use Rattle.sval_json.specs.Number.{Refusal, InvalidKey, InvalidNumber}
 use Rattle.sval_pretty.specs.Layout.{pretty}
+use Rattle.sval_json.proofs.Meaning.{text_means}
+use Rattle.sval_tape.specs.JsonAtFront.{IsJsonOf}
 use Rattle.sval_tape.specs.Taped.{IsTape, IsBadAt}
 use Rattle.sval_tape.specs.declared.tape.TapeError.{TapeError}
 use Rattle.sval_tape.specs.declared.tape.TapeError.TheVariants as reading
@@ -87,6 +89,17 @@ at_once tape old new empty w =
       denotes = λ keeps.
           let t = w.streams.denotes tree spells keeps in
           record { json = t.json; shape = t.shape; value = t.value; is = t.is; text = taken_whole old new (compact t.json) empty t.appends };
+    })
+
+-- ---- as it is read
+
+pub json_due : (tape text : List ℕ) → IsJsonOf tape text → CompactOfTape tape None text
+json_due tape text j =
+    has_json j.tree (record { calls = j.calls; is = j.is; spells = j.spells }) (record {
+      is_text = record { json = j.json; shape = j.shape_is; text = j.text_is };
+      denotes = λ keeps.
+          let meant = text_means Inside j.tree j.json j.real keeps j.shape_is in
+          record { json = j.json; shape = j.shape_is; value = meant.0; is = meant.1; text = j.text_is };
     })
 
 -- ---- laid out

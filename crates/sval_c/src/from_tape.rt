@@ -20,7 +20,7 @@ use sval_check::check;
 use sval_core::{Lent, Stream};
 use sval_io::{Sink, VecSink};
 use sval_json::{JsonWriter, Variants, stream_to_vec};
-use sval_tape::{Tape, stream_tape};
+use sval_tape::{Tape, json_at_once, stream_tape};
 
 /// A stream after a tape was streamed to it through a check.
 #[derive(Drop)]
@@ -110,13 +110,24 @@ fn in_three_passes(alloc: Global, tape: &[u8]) -> Result<Vec<u8>, Lack>
     }
 }
 
-/// The JSON of a tape, without white space. A second try finds why the first one gave none.
-fn compact(alloc: Global, tape: &[u8]) -> Result<Vec<u8>, Lack>
+/// The JSON of a tape, or its first fault. A second try finds why the first one gave none.
+#[inline(never)]
+fn by_calls(alloc: Global, tape: &[u8]) -> Result<Vec<u8>, Lack>
     ensures { GivesOrLacks (CompactOfTape tape.now) result (λ json. json.items) }
 {
     match in_one_pass(alloc, tape) {
         Some(json) => Ok(json),
         None => in_three_passes(alloc, tape),
+    }
+}
+
+/// The JSON of a tape, without white space. Where its calls aren't of the commonest kinds, they are made.
+fn compact(alloc: Global, tape: &[u8]) -> Result<Vec<u8>, Lack>
+    ensures { GivesOrLacks (CompactOfTape tape.now) result (λ json. json.items) }
+{
+    match json_at_once(alloc, tape) {
+        Some(json) => Ok(json),
+        None => by_calls(alloc, tape),
     }
 }
 

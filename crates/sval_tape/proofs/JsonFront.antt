@@ -25,13 +25,13 @@ use Rattle.sval_core.proofs.RealTrees.{real_calls-real_tree}
 use Rattle.sval_json.specs.declared.style.Variants.TheVariants.{Inside}
 use Rattle.sval_json.specs.Escape.{escaped, in_quotes}
 use Rattle.sval_json.specs.Json as json
-use Rattle.sval_json.specs.Json.{Json, Pairs, compact, compact_pairs, comma, key_text}
+use Rattle.sval_json.specs.Json.{Json, Pairs, compact, compact_items, compact_pairs, comma, key_text}
 use Rattle.sval_json.specs.Number.{normal}
-use Rattle.sval_json.specs.Shape.{field_key, map_ok, on_ok, pairs, own, tagged_json, shape, label_or_index, handle_of, is_none_tag}
-use Rattle.sval_tape.specs.Tapes.{type_number, tape_of, call_bytes}
+use Rattle.sval_json.specs.Shape.{field_key, items, map_ok, on_ok, pairs, own, tagged_json, shape, label_or_index, handle_of, is_none_tag}
+use Rattle.sval_tape.specs.Tapes.{leb128, type_number, tape_of, call_bytes}
 use Rattle.sval_tape.specs.Taped.{IsTapedCall, IsTapedName, IsTapedLabel, IsTapedIndex, IsTape}
 use Rattle.sval_tape.specs.Reading.{ReadsAtFront, call_at_front, operands_at, tape_forms, truth_at, size_at, text_at, int_form, name_at_front, name_and_size_at, field_at, field_place_at}
-use Rattle.sval_tape.specs.JsonAtFront.{IsJsonOf, IsNoBinary, StandAtFront, OperandAt, SpelledAt, ValueAt, kind_for, head_for, begin_number, end_number, part_begin_number, part_end_number, SlotAt, FieldsAt, FieldAt, fragment_calls, fragments_text, FragmentsAt, NumberAt}
+use Rattle.sval_tape.specs.JsonAtFront.{IsJsonOf, IsNoBinary, StandAtFront, OperandAt, SpelledAt, ValueAt, kind_for, head_for, begin_number, end_number, part_begin_number, part_end_number, SlotAt, FieldsAt, FieldAt, ItemsAt, ItemAt, fragment_calls, fragments_text, FragmentsAt, NumberAt, number_name, number_name_bytes}
 use Rattle.sval_tape.specs.declared.json.FieldKind.{FieldKind}
 use Rattle.sval_tape.specs.declared.json.FieldKind.TheVariants as fields
 use Rattle.sval_tape.proofs.OperandReads.{IsBytes, IsOperand}
@@ -212,24 +212,28 @@ tagged_at name bytes inner rest behind fits e kind v ends =
       written = v.written;
     }
 
-pub number_at : (name : Name) (bytes inner rest behind : List ℕ) {old new : List ℕ} → IsBytes bytes → Some (name, inner) ≡ name_at_front bytes → text_kind name.tag ≡ Number
-    → NumberAt inner rest old new → rest ≡ 25 ∷ take (length bytes - length inner) bytes ++ behind → ValueAt (24 ∷ bytes) behind old new
+number_name_taped : IsTapedName number_name
+unfolding leb128
+number_name_taped = record { tag = (omega arith, refl); label = tt; index = tt }
+
+number_name_again : (more : List ℕ) → name_at_front (number_name_bytes ++ more) ≡ Some (number_name, more)
+number_name_again more = name_operand.again number_name more number_name_taped
+
+pub number_at : (bytes rest behind : List ℕ) {old new : List ℕ} → NumberAt bytes rest old new → rest ≡ 25 ∷ number_name_bytes ++ behind → ValueAt (24 ∷ number_name_bytes ++ bytes) behind old new
 unfolding emits then_emits
-number_at name bytes inner rest behind fits e kind v ends =
-    let n = named name inner 25 fits e ends in
-    let may = subst (λ k. tree.MayHold k (tree.Text v.text)) (sym kind) tt in
-    let told = tagged_tells name (makes v.spelled.calls) (tree.Text v.text) may (record { willing = refl; spells = v.spelled.spells }) in
+number_at bytes rest behind v ends =
+    let told = tagged_tells number_name (makes v.spelled.calls) (tree.Text v.text) tt (record { willing = refl; spells = v.spelled.spells }) in
+    let begun : OperandAt name_at_front number_name (number_name_bytes ++ bytes) bytes = record { operand = number_name_bytes; parts = refl; again = number_name_again } in
+    let n : IsNamed number_name (number_name_bytes ++ bytes) bytes rest behind 25 = record { begun = begun; ended = ends } in
     record {
-      tree = tree.Tagged (plain_name name) (tree.Text v.text);
+      tree = tree.Tagged (plain_name number_name) (tree.Text v.text);
       spelled = record {
-        calls = call.TaggedBegin name ∷ (v.spelled.calls ++ call.TaggedEnd name ∷ []);
-        stand = tagged_stands name bytes inner rest behind v.spelled.calls e n v.spelled.stand;
+        calls = call.TaggedBegin number_name ∷ (v.spelled.calls ++ call.TaggedEnd number_name ∷ []);
+        stand = tagged_stands number_name (number_name_bytes ++ bytes) bytes rest behind v.spelled.calls (sym (number_name_again bytes)) n v.spelled.stand;
         spells = told.spells;
       };
       json = json.raw v.text;
-      shape_is =
-          ap (λ k. map_ok (λ (j : Json). j) (tagged_json k (tree.Text v.text) (Ok (json.text v.text)))) kind
-          ∙ ap (λ r. map_ok (λ (j : Json). j) (map_ok json.raw r)) v.is_normal;
+      shape_is = ap (λ r. map_ok (λ (j : Json). j) (map_ok json.raw r)) v.is_normal;
       written = v.written;
     }
 
@@ -416,3 +420,78 @@ module _ (name : Name) (size : Option ℕ) (bytes with_size inner rest behind : 
         shape_is = ap (map_ok (λ fields. json.object fields)) all.shape_is;
         written = closed ∙ ap (λ x. x ++ codes "}") (all.written ∙ ap (λ x. x ++ compact_pairs true all.shaped) opened) ∙ in_braces old (compact_pairs true all.shaped);
       }
+
+-- ---- sequences
+
+pub no_items : (first : Bool) (bytes out : List ℕ) → ItemsAt first bytes bytes out out 0
+no_items first bytes out = record {
+  parts = none;
+  calls = [];
+  stand = refl;
+  tells = record { willing = refl; good = tt; say = λ rest. refl };
+  in_order = tt;
+  counted = refl;
+  shaped = json.no_item;
+  shape_is = refl;
+  written = sym (append-nil out);
+}
+
+-- an item behind what was written
+behind_comma : (old first value items : List ℕ) → ((old ++ first) ++ value) ++ items ≡ old ++ ((first ++ value) ++ items)
+behind_comma old first value items = ap (λ x. x ++ items) (append_assoc old first value) ∙ append_assoc old (first ++ value) items
+
+item_stands : (bytes rest behind : List ℕ) (calls : List Call) → StandAtFront calls bytes rest → rest ≡ 42 ∷ behind → StandAtFront (call.PartBegin call.Item ∷ (calls ++ call.PartEnd call.Item ∷ [])) (36 ∷ bytes) behind
+unfolding operands_at tape_forms
+item_stands bytes rest behind calls stand ends = (bytes, refl, tt, stand_then calls (call.PartEnd call.Item ∷ []) bytes rest behind stand (behind, ap call_at_front ends, tt, refl))
+
+pub item_at_front : (first : Bool) (bytes rest behind : List ℕ) {old mid new : List ℕ} → mid ≡ old ++ comma first → ValueAt bytes rest mid new → rest ≡ 42 ∷ behind → ItemAt first (36 ∷ bytes) behind old new
+unfolding emits then_emits
+item_at_front first bytes rest behind {old = old} commas v ends last final count m = record {
+  parts = part call.Item v.tree m.parts;
+  calls = (call.PartBegin call.Item ∷ (v.spelled.calls ++ call.PartEnd call.Item ∷ [])) ++ m.calls;
+  stand = stand_then (call.PartBegin call.Item ∷ (v.spelled.calls ++ call.PartEnd call.Item ∷ [])) m.calls (36 ∷ bytes) behind last (item_stands bytes rest behind v.spelled.calls v.spelled.stand ends) m.stand;
+  tells = part_tells call.Item (makes v.spelled.calls) (makes m.calls) v.tree m.parts (record { willing = refl; spells = v.spelled.spells }) m.tells;
+  in_order = (refl, m.in_order);
+  counted = let more = m.counted in omega (arith, more);
+  shaped = json.item v.json m.shaped;
+  shape_is = ap (λ r. on_ok r (λ j. map_ok (json.item j) (items Inside m.parts))) v.shape_is ∙ ap (map_ok (json.item v.json)) m.shape_is;
+  written =
+      m.written ∙ ap (λ x. x ++ compact_items false m.shaped) (v.written ∙ ap (λ x. x ++ compact v.json) commas) ∙ behind_comma old (comma first) (compact v.json) (compact_items false m.shaped);
+}
+
+module _ (bytes rest old now : List ℕ) (n : ℕ) (all : (last new : List ℕ) (more : ℕ) → ItemsAt (n == 0) rest last now new more → ItemsAt true bytes last old new (n + more)) where
+  pub all_items : ItemsAt true bytes rest old now n
+  all_items =
+      let none_more : n + 0 ≡ n = omega arith in
+      subst (λ m. ItemsAt true bytes rest old now m) none_more (all rest now 0 (no_items (n == 0) rest now))
+
+  pub one_more_item : (operand behind then : List ℕ) → rest ≡ 36 ∷ operand → ItemAt (n == 0) (36 ∷ operand) behind now then
+      → (last new : List ℕ) (more : ℕ) → ItemsAt (n + 1 == 0) behind last then new more → ItemsAt true bytes last old new (n + 1 + more)
+  one_more_item operand behind then is one last new more others =
+      let later = subst (λ b. ItemsAt b behind last then new more) (not_first n) others in
+      let here = subst (λ x. ItemsAt (n == 0) x last now new (more + 1)) (sym is) (one last new more later) in
+      let same : n + (more + 1) ≡ n + 1 + more = omega arith in
+      subst (λ m. ItemsAt true bytes last old new m) same (all last new (more + 1) here)
+
+in_brackets : (old items : List ℕ) → ((old ++ codes "[") ++ items) ++ codes "]" ≡ old ++ (codes "[" ++ (items ++ codes "]"))
+in_brackets old items = append_assoc (old ++ codes "[") items (codes "]") ∙ append_assoc old (codes "[") (items ++ codes "]")
+
+pub sequence_at : (size : Option ℕ) (bytes inner rest behind : List ℕ) {old mid after new : List ℕ} {count : ℕ} → Some (size, inner) ≡ size_at bytes → mid ≡ old ++ codes "[" → ItemsAt true inner rest mid after count
+    → IsSize size count → new ≡ after ++ codes "]" → rest ≡ 31 ∷ behind → ValueAt (26 ∷ bytes) behind old new
+unfolding operands_at tape_forms
+sequence_at size bytes inner rest behind {old = old} e opened all given closed ends = record {
+  tree = tree.Container call.Seq all.parts;
+  spelled = record {
+    calls = call.Begin call.Seq size ∷ (all.calls ++ call.End call.Seq ∷ []);
+    stand = (
+      inner,
+      ap (option_map (λ (x : Option ℕ × List ℕ). (call.Begin call.Seq x.0, x.1))) (sym e),
+      tt,
+      stand_then all.calls (call.End call.Seq ∷ []) inner rest behind all.stand (behind, ap call_at_front ends, tt, refl),
+    );
+    spells = container_spells call.Seq size all.calls all.parts all.tells all.in_order (sized size all.counted given);
+  };
+  json = json.array all.shaped;
+  shape_is = ap (map_ok json.array) all.shape_is;
+  written = closed ∙ ap (λ x. x ++ codes "]") (all.written ∙ ap (λ x. x ++ compact_items true all.shaped) opened) ∙ in_brackets old (compact_items true all.shaped);
+}

@@ -1,19 +1,20 @@
 -- The JSON of values at the front of a tape.
-use Rattle.std.specs.Prelude.{◌≡◌, ℕ, ◌+◌, Bool, true, false, ⊤, List, [], ◌∷◌, ◌++◌, length, Some, Ok}
+use Rattle.std.specs.Prelude.{◌≡◌, ℕ, ◌+◌, Bool, true, false, ⊤, List, [], ◌∷◌, ◌++◌, length, codes, None, Some, Ok}
 use Rattle.std.specs.Char.{is_ascii_digit}
 use Rattle.sval_label.specs.Calls as call
 use Rattle.sval_label.specs.Calls.{Call, Label, Slot, Head, Name}
-use Rattle.sval_core.specs.Trees.{Tree, Text, Parts, part, Kind, Field, FieldPlace, kind_of, plain_slot, AreInOrder}
+use Rattle.sval_core.specs.Trees.{Tree, Text, Parts, part, Kind, Item, Field, FieldPlace, kind_of, plain_slot, AreInOrder}
 use Rattle.sval_core.specs.Spells.{Spells, entries, new_entries}
 use Rattle.sval_core.specs.Values.{makes}
 use Rattle.sval_core.specs.ValueTrees.{TellsParts}
 use Rattle.sval_core.specs.Real.{IsReal}
 use Rattle.sval_json.specs.declared.style.Variants.TheVariants.{Inside}
 use Rattle.sval_json.specs.Escape.{escaped}
-use Rattle.sval_json.specs.Json.{Json, Pairs, pair, compact, compact_pairs}
+use Rattle.sval_json.specs.Json.{Json, Items, Pairs, pair, compact, compact_items, compact_pairs}
 use Rattle.sval_json.specs.Digits.{after_digits}
 use Rattle.sval_json.specs.Number.{normal}
-use Rattle.sval_json.specs.Shape.{field_key, json_of, map_ok, on_ok, pairs, shape}
+use Rattle.sval_json.specs.Shape.{field_key, items, json_of, map_ok, on_ok, pairs, shape}
+use Rattle.sval_tape.specs.Tapes.{name_bytes}
 use Rattle.sval_tape.specs.Reading.{ReadsAtFront, call_at_front}
 use Rattle.sval_tape.specs.Taped.{IsTape}
 use Rattle.sval_tape.specs.declared.json.FieldKind.{FieldKind}
@@ -123,6 +124,25 @@ abbrev pub FieldAt : FieldKind → Bool → List ℕ → List ℕ → List ℕ �
 FieldAt kind first bytes behind old mid =
     (rest new : List ℕ) (count : ℕ) → FieldsAt kind false behind rest mid new count → FieldsAt kind first bytes rest old new (count + 1)
 
+-- ---- items
+
+-- so many items stand at the front of bytes, and were appended; the flag says that the first is the array's first
+pub record ItemsAt (first : Bool) (bytes rest old new : List ℕ) (count : ℕ) : Type 0 where
+  pub parts : Parts
+  pub calls : List Call
+  pub stand : StandAtFront calls bytes rest
+  pub tells : TellsParts (makes calls) parts
+  pub in_order : AreInOrder Item parts
+  pub counted : entries parts ≡ count
+  pub shaped : Items
+  pub shape_is : items Inside parts ≡ Ok shaped
+  pub written : new ≡ old ++ compact_items first shaped
+
+-- one item stands at the front of bytes: with the items behind it there is one more
+abbrev pub ItemAt : Bool → List ℕ → List ℕ → List ℕ → List ℕ → Type 0
+ItemAt first bytes behind old mid =
+    (rest new : List ℕ) (count : ℕ) → ItemsAt false behind rest mid new count → ItemsAt first bytes rest old new (count + 1)
+
 -- ---- texts
 
 -- fragments of a text, each borrowed or not
@@ -147,6 +167,13 @@ pub record FragmentsAt (bytes rest old new : List ℕ) (size : ℕ) : Type 0 whe
   pub written : new ≡ old ++ escaped (fragments_text fragments)
 
 -- ---- numbers
+
+-- the name that is the tag of numbers alone, and its bytes
+abbrev pub number_name : Name
+number_name = record { tag = Some (codes "NUMBER"); label = None; index = None }
+
+abbrev pub number_name_bytes : List ℕ
+number_name_bytes = name_bytes number_name
 
 -- digits without a zero in front of others, a point, and digits
 pub record IsFraction (text : List ℕ) : Type 0 where

@@ -6,17 +6,17 @@
 ghost use Rattle.std.specs.Prelude.{◌≡◌, ◌++◌, ◌∷◌, ◌==◌, ◌+◌, ◌-◌, true, false, length, take, IfSome, option_map};
 ghost use Rattle.sval_label.specs.Texts.{truth_text};
 ghost use Rattle.sval_core.specs.Spells.{IsSize};
-ghost use Rattle.sval_core.specs.Trees.{Number, Ordinary, text_kind};
+ghost use Rattle.sval_core.specs.Trees.{Ordinary, text_kind};
 ghost use Rattle.sval_tape.specs.ReadCalls.{label_read, name_read, tag_read, tape_int_type};
 ghost use Rattle.sval_tape.specs.Tapes.{type_number};
-ghost use Rattle.sval_tape.specs.JsonAtFront.{IsJsonOf, ValueAt, FieldsAt, FieldAt, SlotAt};
-ghost use Rattle.sval_tape.specs.JsonAtFront.{begin_number, end_number, part_begin_number, part_end_number};
+ghost use Rattle.sval_tape.specs.JsonAtFront.{IsJsonOf, ValueAt, FieldsAt, FieldAt, ItemsAt, ItemAt, SlotAt};
+ghost use Rattle.sval_tape.specs.JsonAtFront.{begin_number, end_number, number_name_bytes, part_begin_number, part_end_number};
 
 mod out;
 mod text;
 
 use crate::ints::{IntType, read_int};
-use crate::json::out::{put, put_key, put_own};
+use crate::json::out::{put, put_comma, put_key, put_own};
 use crate::json::text::{number, text};
 use crate::read_call::{LabelRead, NameRead, TagRead};
 use crate::reading::{read_field, read_field_place, read_name, read_size, read_truth};
@@ -199,12 +199,24 @@ fn is_ordinary(tag: Option<TagRead>) -> bool
     }
 }
 
-/// Whether text under this tag is a number.
+/// The bytes of a name that is the tag of numbers alone.
+const NUMBER_NAME: &[u8] = b"\x01\x06NUMBER\0\0";
+
+/// What follows that name, where bytes begin with it.
 #[inline(always)]
-fn is_number(tag: Option<TagRead>) -> bool
-    ensures { result ≡ true → text_kind (option_map tag_read tag) ≡ Number }
+fn behind_number_name<'t>(bytes: &'t [u8]) -> Option<&'t [u8]>
+    ensures { IfSome result (λ rest. bytes.now ≡ number_name_bytes ++ rest.now) }
 {
-    matches!(tag, Some(TagRead::Number))
+    bytes.strip_prefix(NUMBER_NAME)
+}
+
+/// A number under its tag alone. `bytes` follow that name.
+fn tagged_number<'t>(bytes: &'t [u8], out: &mut VecSink) -> Option<&'t [u8]>
+    ensures { IfSome result (λ rest. ValueAt (24 ∷ number_name_bytes ++ bytes.now) rest.now
+        out.old.bytes out.new.bytes) }
+{
+    let rest = number(bytes, out)?;
+    behind_number_name(behind(25, rest)?)
 }
 
 /// A value under a name.
@@ -212,11 +224,10 @@ fn is_number(tag: Option<TagRead>) -> bool
 fn tagged<'t>(bytes: &'t [u8], depth: usize, out: &mut VecSink) -> Option<&'t [u8]>
     ensures { IfSome result (λ rest. ValueAt (24 ∷ bytes.now) rest.now out.old.bytes out.new.bytes) }
 {
-    let (name, inner) = read_name(bytes)?;
-    if is_number(name.tag) {
-        let rest = number(inner, out)?;
-        return behind_end(25, bytes, inner, rest);
+    if let Some(inner) = behind_number_name(bytes) {
+        return tagged_number(inner, out);
     }
+    let (name, inner) = read_name(bytes)?;
     if depth == 0 || !is_ordinary(name.tag) {
         return None;
     }
@@ -286,6 +297,49 @@ fn container<'t>(
     behind_end(kind.end(), bytes, sized, rest)
 }
 
+/// An item of a sequence: its value and its end. `bytes` follow the number of its begin.
+#[cycle(values)]
+fn item<'t>(first: bool, bytes: &'t [u8], depth: usize, out: &mut VecSink) -> Option<&'t [u8]>
+    ensures { IfSome result (λ rest. ItemAt first (36 ∷ bytes.now) rest.now out.old.bytes out.new.bytes) }
+{
+    if depth == 0 {
+        return None;
+    }
+    put_comma(first, out)?;
+    let rest = value(bytes, depth - 1, out)?;
+    behind(42, rest)
+}
+
+/// The items of a sequence, as many as there are, and their number.
+#[cycle(values)]
+fn items<'t>(bytes: &'t [u8], depth: usize, out: &mut VecSink) -> Option<(&'t [u8], usize)>
+    ensures { IfSome result (λ x. ItemsAt true bytes.now x.0.now out.old.bytes out.new.bytes x.1) }
+{
+    let mut rest = bytes;
+    for count in 0..bytes.len() {
+        let Some(inner) = behind(36, rest) else {
+            return Some((rest, count));
+        };
+        rest = item(count == 0, inner, depth, out)?;
+    }
+    None
+}
+
+/// A sequence. `bytes` follow the number of its begin.
+#[cycle(values)]
+fn sequence<'t>(bytes: &'t [u8], depth: usize, out: &mut VecSink) -> Option<&'t [u8]>
+    ensures { IfSome result (λ rest. ValueAt (26 ∷ bytes.now) rest.now out.old.bytes out.new.bytes) }
+{
+    let (size, inner) = read_size(bytes)?;
+    put(out, b"[")?;
+    let (rest, count) = items(inner, depth, out)?;
+    if !is_size(size, count) {
+        return None;
+    }
+    put(out, b"]")?;
+    behind(31, rest)
+}
+
 /// The value at the front of bytes.
 #[cycle(values)]
 fn value<'t>(bytes: &'t [u8], depth: usize, out: &mut VecSink) -> Option<&'t [u8]>
@@ -307,6 +361,7 @@ fn value<'t>(bytes: &'t [u8], depth: usize, out: &mut VecSink) -> Option<&'t [u8
         20 => alone(operand, out),
         22 => variant(operand, out),
         24 => tagged(operand, depth, out),
+        26 => sequence(operand, depth, out),
         28 => container(FieldKind::Labels, operand, depth, out),
         30 => container(FieldKind::LabelsAndIndexes, operand, depth, out),
         _ => None,

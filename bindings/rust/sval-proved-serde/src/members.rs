@@ -88,11 +88,9 @@ impl<'a> Fields<'a> {
         if let Owner::Number = self.owner {
             return value.serialize(Serializer::new(self.tape));
         }
-        let label = Label::new(name);
-        self.tape.record_value_begin(None, &label);
-        value.serialize(Serializer::new(self.tape))?;
-        self.tape.record_value_end(None, &label);
-        Ok(())
+        self.tape.record_value(None, &Label::new(name), |tape| {
+            value.serialize(Serializer::new(tape))
+        })
     }
 
     fn finish(self) {

@@ -45,22 +45,6 @@ impl Write for Fragments<'_> {
     }
 }
 
-/// The digits of a float, of which there are at most 24.
-struct Digits {
-    bytes: [u8; 32],
-    length: usize,
-}
-
-impl Write for Digits {
-    fn write_str(&mut self, text: &str) -> fmt::Result {
-        let end = self.length + text.len();
-        let room = self.bytes.get_mut(self.length..end).ok_or(fmt::Error)?;
-        room.copy_from_slice(text.as_bytes());
-        self.length = end;
-        Ok(())
-    }
-}
-
 /// Takes serde's calls for one value, and writes them on a tape.
 pub struct Serializer<'a> {
     tape: &'a mut TapeWriter,
@@ -72,18 +56,12 @@ impl<'a> Serializer<'a> {
     }
 
     /// A float by the shortest digits that read back as the same float; null where it is no number.
-    fn float(self, is_finite: bool, float: impl fmt::Debug) -> Result<(), Error> {
-        if !is_finite {
+    fn float(self, is_finite: bool, float: impl ryu::Float) -> Result<(), Error> {
+        if is_finite {
+            self.tape.number(ryu::Buffer::new().format_finite(float));
+        } else {
             self.tape.null();
-            return Ok(());
         }
-        let mut digits = Digits {
-            bytes: [0; 32],
-            length: 0,
-        };
-        write!(digits, "{float:?}").expect("a float has at most 24 digits");
-        let digits = std::str::from_utf8(&digits.bytes[..digits.length]);
-        self.tape.number(digits.expect("digits are ASCII"));
         Ok(())
     }
 }

@@ -134,7 +134,9 @@ fn in_vec(
     input: &[u8],
     expected: usize,
 ) -> Result<Vec<u8>, Error> {
-    let mut out = vec![0; expected];
+    // `vec![0; expected]` takes glibc's `calloc`, which finds no room that was let go just before.
+    let mut out = Vec::with_capacity(expected);
+    out.resize(expected, 0);
     loop {
         match call(input, &mut out) {
             Ok(written) => {

@@ -4,6 +4,9 @@ use crate::names::{Index, Label, Tag};
 use crate::operands;
 use crate::tape::Tape;
 
+/// The number of the call that ends a field of a record.
+const RECORD_VALUE_END: u8 = 45;
+
 /// Writes calls as a tape.
 ///
 /// There are 48 calls, under the names that they have in sval. A value is a list of calls, whose rules
@@ -340,6 +343,40 @@ impl TapeWriter {
         self.bytes.extend_from_slice(b"\x18\x01\x06NUMBER\0\0");
         self.text(digits);
         self.bytes.extend_from_slice(b"\x19\x01\x06NUMBER\0\0");
+    }
+
+    /// A field of a record: its begin, what `value` writes, and its end.
+    ///
+    /// ```
+    /// use sval_proved::{Label, TapeWriter};
+    ///
+    /// let mut tape = TapeWriter::new();
+    /// tape.record_begin(None, None, None, Some(1));
+    /// tape.record_value(None, &Label::new("user"), |tape| Ok(tape.u64(42)))?;
+    /// tape.record_end(None, None, None);
+    /// assert_eq!(tape.tape().to_json()?, br#"{"user":42}"#);
+    /// # Ok::<(), sval_proved::Error>(())
+    /// ```
+    ///
+    /// # Errors
+    ///
+    /// Those of `value`. The field then has no end.
+    #[inline]
+    pub fn record_value<E>(
+        &mut self,
+        tag: Option<&Tag>,
+        label: &Label,
+        value: impl FnOnce(&mut Self) -> Result<(), E>,
+    ) -> Result<(), E> {
+        let begin = self.bytes.len();
+        self.record_value_begin(tag, label);
+        let end = self.bytes.len();
+        value(self)?;
+        // The end says what the begin does.
+        let at = self.bytes.len();
+        self.bytes.extend_from_within(begin..end);
+        self.bytes[at] = RECORD_VALUE_END;
+        Ok(())
     }
 
     /// The bytes so far.

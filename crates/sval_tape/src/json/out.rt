@@ -8,7 +8,7 @@ ghost use Rattle.sval_tape.specs.ReadCalls.{label_read, name_read, tag_read};
 
 use crate::read_call::{LabelRead, NameRead, TagRead};
 use sval_io::{VecSink, write_in_place};
-use sval_json::escape::write_escaped;
+use sval_json::escape::{first_escape, write_escaped};
 
 /// Appends bytes, if there is memory.
 #[inline(always)]
@@ -23,6 +23,9 @@ pub(super) fn put(out: &mut VecSink, bytes: &[u8]) -> Option<()>
 pub(super) fn put_escaped(out: &mut VecSink, text: &[u8]) -> Option<()>
     ensures { IfSome result (λ done. out.new.bytes ≡ out.old.bytes ++ escaped text.now) }
 {
+    if first_escape(text) == text.len() {
+        return put(out, text);
+    }
     write_escaped(out, text).ok()
 }
 
@@ -42,13 +45,25 @@ fn is_none(tag: Option<TagRead>) -> bool
     matches!(tag, Some(TagRead::RustOptionNone))
 }
 
+/// Appends a comma before each item but the first.
+#[inline(always)]
+pub(super) fn put_comma(first: bool, out: &mut VecSink) -> Option<()>
+    ensures { IfSome result (λ done. out.new.bytes ≡ out.old.bytes ++ comma first) }
+{
+    if first { Some(()) } else { put(out, b",") }
+}
+
 /// Appends a field's key, with a comma before each but the first.
 #[inline(always)]
 pub(super) fn put_key(first: bool, label: LabelRead<'_>, out: &mut VecSink) -> Option<()>
     ensures { IfSome result (λ done. out.new.bytes
         ≡ out.old.bytes ++ comma first ++ key_text (field_key (label_read label.entry)) ++ codes ":") }
 {
-    put(out, if first { b"\"" } else { b",\"" })?;
+    if first {
+        put(out, b"\"")?;
+    } else {
+        put(out, b",\"")?;
+    }
     if is_ident(label.tag) {
         put(out, label.text.as_bytes())?;
     } else {

@@ -1,7 +1,8 @@
 use Rattle.std.specs.Prelude.{refl}
-use Rattle.std.proofs.Common.{ap, sym, arith, ◌∙◌, ◌++◌, ◌∷◌, ◌-◌, length, take}
+use Rattle.std.proofs.Common.{ap, sym, subst, arith, ◌∙◌, ◌++◌, ◌∷◌, ◌-◌, length, take}
 use Rattle.sval_tape.specs.ReadCalls.{label_read, name_read}
-use Rattle.sval_tape.proofs.JsonFront.{if_there, tagged_at, number_at, field_at_front, all_fields, one_more_field, container_at}
+use Rattle.sval_tape.specs.JsonAtFront.{ValueAt}
+use Rattle.sval_tape.proofs.JsonFront.{if_there, tagged_at, field_at_front, all_fields, one_more_field, container_at, item_at_front, all_items, one_more_item, sequence_at}
 use Rattle.sval_tape.proofs.json.+values.Goals as goal
 
 pub container-returns : goal.container-returns
@@ -28,16 +29,34 @@ fields-loop-count-preserved t c =
     one_more_field c.args.kind c.args.bytes.now c.loop-count.rest.now c.args.out.now.bytes c.loop-count.out.bytes c.loop-count.count c.loop-count.invariant
     c.part_begin.result c.in-Some.operand.now c.in_ok-rest.rest.now c.field.new.out.bytes c.in-Some.ensures c.part_begin.ensures c.in_ok-rest.ensures
 
-pub tagged-returns-then-is_number : goal.tagged-returns-then-is_number
-tagged-returns-then-is_number t c =
-    if_there c.behind_end.result
-    (λ behind ends. number_at (name_read c.in_ok-name.name) c.args.bytes.now c.in_ok-name.inner.now c.in_ok-rest.rest.now behind.now (λ i. omega (arith, c.type_inv.bytes i)) c.in_ok-name.ensures
-    (c.if-is_number.ensures refl) c.in_ok-rest.ensures ends)
-    c.behind_end.ensures
+pub tagged-returns-in-Some : goal.tagged-returns-in-Some
+tagged-returns-in-Some t c =
+    if_there c.tagged_number.result
+    (λ rest number. subst (λ x. ValueAt (24 ∷ x) rest.now c.args.out.now.bytes c.tagged_number.new.out.bytes) (sym c.in-Some.ensures) number)
+    c.tagged_number.ensures
 
 pub tagged-returns : goal.tagged-returns
 tagged-returns t c =
-    if_there c.behind_end-2.result
-    (λ behind ends. tagged_at (name_read c.in_ok-name.name) c.args.bytes.now c.in_ok-name.inner.now c.in_ok-rest-2.rest.now behind.now (λ i. omega (arith, c.type_inv.bytes i)) c.in_ok-name.ensures
-    (c.if-not-is_ordinary.ensures refl) c.in_ok-rest-2.ensures ends)
-    c.behind_end-2.ensures
+    if_there c.behind_end.result
+    (λ behind ends. tagged_at (name_read c.in_ok-name.name) c.args.bytes.now c.in_ok-name.inner.now c.in_ok-rest.rest.now behind.now (λ i. omega (arith, c.type_inv.bytes i)) c.in_ok-name.ensures
+    (c.if-not-is_ordinary.ensures refl) c.in_ok-rest.ensures ends)
+    c.behind_end.ensures
+
+pub item-returns : goal.item-returns
+item-returns t c =
+    if_there c.behind.result (λ behind ends. item_at_front c.args.first c.args.bytes.now c.in_ok-rest.rest.now behind.now c.in_ok-put_comma.ensures c.in_ok-rest.ensures ends) c.behind.ensures
+
+pub items-returns-in_default : goal.items-returns-in_default
+items-returns-in_default t c = all_items c.args.bytes.now c.loop-count.rest.now c.args.out.now.bytes c.loop-count.out.bytes c.loop-count.count c.loop-count.invariant
+
+pub items-loop-count-preserved : goal.items-loop-count-preserved
+items-loop-count-preserved t c =
+    one_more_item c.args.bytes.now c.loop-count.rest.now c.args.out.now.bytes c.loop-count.out.bytes c.loop-count.count c.loop-count.invariant
+    c.in-Some.inner.now c.in_ok-rest.rest.now c.item.new.out.bytes c.in-Some.ensures c.in_ok-rest.ensures
+
+pub sequence-returns : goal.sequence-returns
+sequence-returns t c =
+    if_there c.behind.result
+    (λ behind ends. sequence_at c.in_ok-size.size c.args.bytes.now c.in_ok-size.inner.now c.in_ok-rest.rest.now behind.now c.in_ok-size.ensures c.in_ok-put.ensures c.in_ok-rest.ensures
+    (c.if-not-is_size.ensures refl) c.in_ok-put-2.ensures ends)
+    c.behind.ensures
