@@ -4,7 +4,7 @@ use Rattle.std.proofs.Common.{sym, ap, subst, ◌∙◌, arith, get_or, add-one}
 use Rattle.sval_tool.specs.Words.{Asked, GivesOrStops, IsStop, asked_by_words, asked_by_options}
 use Rattle.sval_tool.specs.WordReading.{Reading, if_read, at_last, before_words, reading_in, reads_from, reads_word}
 use Rattle.sval_tool.specs.declared.words.Options.{Options}
-use Rattle.sval_tool.specs.declared.words.WordReader.{WordReader}
+use Rattle.sval_tool.specs.declared.words.reader.WordReader.{WordReader}
 use Rattle.sval_tool.specs.declared.words.Stop.{Stop}
 use Rattle.sval_tool.specs.declared.words.Stop.TheVariants as stop
 use Rattle.sval_tool.proofs.WordsAsked.{words_asked}

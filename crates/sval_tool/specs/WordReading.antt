@@ -11,7 +11,7 @@ use Rattle.sval_tool.specs.declared.words.Command.TheVariants as command
 use Rattle.sval_tool.specs.declared.words.Complaint.TheVariants as complaint
 use Rattle.sval_tool.specs.declared.words.Stop.{Stop}
 use Rattle.sval_tool.specs.declared.words.Stop.TheVariants as stop
-use Rattle.sval_tool.specs.declared.words.WordReader.{WordReader}
+use Rattle.sval_tool.specs.declared.words.reader.WordReader.{WordReader}
 
 -- what was asked for so far, the option whose argument comes next, and whether only files follow
 pub record Reading : Type 0 where

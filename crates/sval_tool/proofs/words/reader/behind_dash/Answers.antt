@@ -1,7 +1,7 @@
 use Rattle.std.proofs.Common.{lit<}
 use Rattle.std.proofs.lemmas.Str.Pattern.{strip_prefix_char}
 use Rattle.sval_tool.proofs.Dashes.{dash_stripped}
-use Rattle.sval_tool.proofs.words.behind_dash.Goals as goal
+use Rattle.sval_tool.proofs.words.reader.behind_dash.Goals as goal
 
 pub returns : goal.returns
 returns c =
