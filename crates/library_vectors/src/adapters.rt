@@ -1,7 +1,6 @@
 //! What adapters make, as the lines of a script.
 
-use crate::shown::{has_printed, makes, new_printer};
-use std::test::Fail;
+use crate::shown::{has_printed, makes, must, new_printer};
 use sval::{
     BinaryArray, BinarySlice, Display, MapSlice, StdDisplay, Stream, stream_display,
     stream_display_fragments, stream_number,
@@ -11,13 +10,14 @@ use sval::{
 const PRINTED: &str = "text_begin -\ntext_fragment_computed =3432\ntext_end\n";
 
 #[test]
-fn makes_printed_texts(rt: HostRuntime) -> Result<(), Fail> {
+fn makes_printed_texts(rt: HostRuntime) {
     let alloc = rt.alloc();
-    makes(&rt, alloc, &Display::new(alloc, 42u8)?, PRINTED);
-    makes(&rt, alloc, &Display::new_borrowed(alloc, &42u8)?, PRINTED);
-    let by_std = Display::new(alloc, StdDisplay { value: 42u8 })?;
+    let number = must(&rt, Display::new(alloc, 42u8));
+    makes(&rt, alloc, &number, PRINTED);
+    let lent = must(&rt, Display::new_borrowed(alloc, &42u8));
+    makes(&rt, alloc, &lent, PRINTED);
+    let by_std = must(&rt, Display::new(alloc, StdDisplay { value: 42u8 }));
     makes(&rt, alloc, &by_std, PRINTED);
-    Ok(())
 }
 
 #[test]
@@ -56,14 +56,13 @@ const STREAMED: &str = "text_begin -\ntext_fragment_computed =3432\ntext_end\n\
     tagged_end NUMBER - -\n";
 
 #[test]
-fn streams_what_is_printed(rt: HostRuntime) -> Result<(), Fail> {
+fn streams_what_is_printed(rt: HostRuntime) {
     let alloc = rt.alloc();
     let mut printer = new_printer(alloc);
-    stream_display(alloc, &mut printer, &42u8)?;
-    stream_display_fragments(alloc, &mut printer, &42u8)?;
-    stream_number(alloc, &mut printer, &42u8)?;
+    must(&rt, stream_display(alloc, &mut printer, &42u8));
+    must(&rt, stream_display_fragments(alloc, &mut printer, &42u8));
+    must(&rt, stream_number(alloc, &mut printer, &42u8));
     has_printed(&rt, printer, STREAMED);
-    Ok(())
 }
 
 /// A whole text, and one that is a key.
@@ -71,10 +70,9 @@ const WHOLE: &str = "text_begin 2\ntext_fragment =6869\ntext_end\n\
     map_key_begin\ntext_begin -\ntext_fragment =6869\ntext_end\nmap_key_end\n";
 
 #[test]
-fn streams_whole_texts(rt: HostRuntime) -> Result<(), Fail> {
+fn streams_whole_texts(rt: HostRuntime) {
     let mut printer = new_printer(rt.alloc());
-    printer.whole_text("hi", Some(2))?;
-    printer.whole_text_key("hi", None)?;
+    must(&rt, printer.whole_text("hi", Some(2)));
+    must(&rt, printer.whole_text_key("hi", None));
     has_printed(&rt, printer, WHOLE);
-    Ok(())
 }

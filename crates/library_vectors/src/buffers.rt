@@ -1,10 +1,9 @@
 //! Texts and binaries that are collected of values, and what printed values add to a text.
 
 use crate::rendered::Unprintable;
-use crate::shown::{compare, holds, shows};
+use crate::shown::{compare, holds, must, shows};
 use std::alloc::{AllocError, Global};
-use std::test::Fail;
-use sval::{BinarySlice, StdDisplay};
+use sval::{BinarySlice, Render, StdDisplay};
 use sval_buffer::{BinaryBuf, TextBuf};
 use sval_core::{Lent, Value};
 
@@ -62,27 +61,30 @@ fn collects_binaries(rt: HostRuntime) {
     );
 }
 
-#[test]
-fn collects_what_is_printed(rt: HostRuntime) -> Result<(), Fail> {
-    let alloc = rt.alloc();
-    let printed = TextBuf::collect_display(alloc, &true)?;
-    compare(&rt, printed.as_str(), "true");
-    let unprintable = StdDisplay { value: Unprintable };
-    let refused = TextBuf::collect_display(alloc, &unprintable).err();
-    let refused = refused.ok_or("printed what can't be printed")?;
-    let message = format!(in alloc; "{refused}");
-    shows(&rt, message, "the value is invalid: formatting failed");
-    Ok(())
+/// The text that is collected of what a value prints, or why there is none.
+fn printed_of<V: Render>(alloc: Global, value: &V) -> Result<String, AllocError> {
+    match TextBuf::collect_display(alloc, value) {
+        Ok(text) => String::from_str(alloc, text.as_str()),
+        Err(error) => format!(in alloc; "{error}"),
+    }
 }
 
 #[test]
-fn adds_what_is_printed(rt: HostRuntime) -> Result<(), Fail> {
+fn collects_what_is_printed(rt: HostRuntime) {
+    let alloc = rt.alloc();
+    shows(&rt, printed_of(alloc, &true), "true");
+    let unprintable = StdDisplay { value: Unprintable };
+    let refused = printed_of(alloc, &unprintable);
+    shows(&rt, refused, "the value is invalid: formatting failed");
+}
+
+#[test]
+fn adds_what_is_printed(rt: HostRuntime) {
     let mut text = TextBuf::new(rt.alloc());
-    text.push_display(&true)?;
-    text.push_display(&false)?;
+    must(&rt, text.push_display(&true));
+    must(&rt, text.push_display(&false));
     compare(&rt, text.as_str(), "truefalse");
     holds(&rt, text.as_borrowed_str().is_none(), "a copy is kept");
-    Ok(())
 }
 
 #[test]

@@ -1,9 +1,8 @@
 //! What captured values make again, as the lines of a script.
 
-use crate::shown::{has_printed, holds, makes, new_printer, writes};
+use crate::shown::{has_printed, holds, makes, must, new_printer, writes};
 use std::alloc::Global;
 use std::process::Abort;
-use std::test::Fail;
 use sval::{BinarySlice, MapSlice, Stream};
 use sval_buffer::{Value, ValueBuf, stream_to_value};
 use sval_check::check;
@@ -88,46 +87,49 @@ fn makes_truths_and_numbers_again(rt: HostRuntime) {
 }
 
 #[test]
-fn captures_what_was_captured(rt: HostRuntime) -> Result<(), Fail> {
+fn captures_what_was_captured(rt: HostRuntime) {
     let alloc = rt.alloc();
     let some = Some(42i32);
     holds(&rt, check(alloc, &some).is_ok(), "the value is whole");
-    let buffer: ValueBuf<'_> = ValueBuf::collect(alloc, &some)?;
+    let buffer: ValueBuf<'_> = must(&rt, ValueBuf::collect(alloc, &some));
     makes_again(&rt, alloc, &buffer, SOME);
-    let value: Value<'_> = buffer.to_value()?;
+    let value: Value<'_> = must(&rt, buffer.to_value());
     captures(&rt, alloc, &value, SOME);
-    Ok(())
 }
 
 /// Three sequences of sequences of numbers. The first is empty.
 const NUMBERS: &str = "[[],[[1,2,3],[4]],[[5,6],[7,8,9]]]";
 
-#[test]
-fn captures_sequences_in_sequences(rt: HostRuntime) -> Result<(), Fail> {
-    let alloc = rt.alloc();
-    let second = vec![in alloc; vec![in alloc; 1i32, 2, 3]?, vec![in alloc; 4]?]?;
-    let third = vec![in alloc; vec![in alloc; 5i32, 6]?, vec![in alloc; 7, 8, 9]?]?;
-    let numbers = vec![in alloc; Vec::new(alloc), second, third]?;
-    let buffer: ValueBuf<'_> = ValueBuf::collect(alloc, &numbers)?;
-    writes(&rt, alloc, &buffer, NUMBERS);
-    let again: ValueBuf<'_> = ValueBuf::collect(alloc, &buffer)?;
-    writes(&rt, alloc, &again, NUMBERS);
-    Ok(())
+/// A row of numbers.
+fn row(rt: &impl Abort, alloc: Global, numbers: &[i32]) -> Vec<i32> {
+    must(rt, Vec::from_slice(alloc, numbers))
 }
 
 #[test]
-fn hands_out_values(rt: HostRuntime) -> Result<(), Fail> {
+fn captures_sequences_in_sequences(rt: HostRuntime) {
+    let alloc = rt.alloc();
+    let second = vec![in alloc; row(&rt, alloc, &[1, 2, 3]), row(&rt, alloc, &[4])];
+    let third = vec![in alloc; row(&rt, alloc, &[5, 6]), row(&rt, alloc, &[7, 8, 9])];
+    let numbers = vec![in alloc; Vec::new(alloc), must(&rt, second), must(&rt, third)];
+    let numbers = must(&rt, numbers);
+    let buffer: ValueBuf<'_> = must(&rt, ValueBuf::collect(alloc, &numbers));
+    writes(&rt, alloc, &buffer, NUMBERS);
+    let again: ValueBuf<'_> = must(&rt, ValueBuf::collect(alloc, &buffer));
+    writes(&rt, alloc, &again, NUMBERS);
+}
+
+#[test]
+fn hands_out_values(rt: HostRuntime) {
     let alloc = rt.alloc();
     let mut buffer: ValueBuf<'_> = ValueBuf::new(alloc);
-    buffer.i32(42)?;
-    let number: Value<'_> = buffer.to_value()?;
+    must(&rt, buffer.i32(42));
+    let number: Value<'_> = must(&rt, buffer.to_value());
     makes(&rt, alloc, &number, "i32 42\n");
     buffer.clear();
-    buffer.bool(true)?;
-    let truth: Value<'_> = buffer.to_value()?;
+    must(&rt, buffer.bool(true));
+    let truth: Value<'_> = must(&rt, buffer.to_value());
     makes(&rt, alloc, &truth, "bool true\n");
     buffer.clear();
     let nothing: Value<'_> = buffer.into_value();
     makes(&rt, alloc, &nothing, "null\n");
-    Ok(())
 }

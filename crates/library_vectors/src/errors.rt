@@ -37,7 +37,7 @@ const ANSWERS: [(&str, &str); 4] = [
 #[test]
 fn errors_are_passed_up(rt: HostRuntime) {
     let alloc = rt.alloc();
-    for (lines, want) in ANSWERS {
+    for (lines, want) in &ANSWERS {
         shows(&rt, answer_of(alloc, lines), want);
     }
 }

@@ -1,7 +1,6 @@
 //! Functions that stream one value each, here into a stream in a box, as the lines of a script.
 
-use crate::shown::{has_printed, new_printer};
-use std::test::Fail;
+use crate::shown::{has_printed, must, new_printer};
 use sval::{
     Call, Stream, fields, stream, stream_binary, stream_computed, stream_map, stream_record,
     stream_seq, stream_str,
@@ -14,14 +13,13 @@ const LEAVES: &str = "text_begin 1\ntext_fragment =61\ntext_end\n\
     u8 7\n";
 
 #[test]
-fn streams_leaves(rt: HostRuntime) -> Result<(), Fail> {
-    let mut boxed = Box::new(rt.alloc(), new_printer(rt.alloc()))?;
-    stream_str(&mut boxed, "a")?;
-    stream_computed(&mut boxed, &"a")?;
-    stream_binary(&mut boxed, b"a")?;
-    stream(&mut boxed, &7u8)?;
+fn streams_leaves(rt: HostRuntime) {
+    let mut boxed = must(&rt, Box::new(rt.alloc(), new_printer(rt.alloc())));
+    must(&rt, stream_str(&mut boxed, "a"));
+    must(&rt, stream_computed(&mut boxed, &"a"));
+    must(&rt, stream_binary(&mut boxed, b"a"));
+    must(&rt, stream(&mut boxed, &7u8));
     has_printed(&rt, Box::into_inner(boxed), LEAVES);
-    Ok(())
 }
 
 /// A sequence, a map, and a record without a name, whose second field has a name that is no identifier.
@@ -36,22 +34,23 @@ const PARTS: &str = "seq_begin 1\nseq_value_begin\nu8 1\nseq_value_end\nseq_end\
     record_end - - -\n";
 
 #[test]
-fn streams_parts(rt: HostRuntime) -> Result<(), Fail> {
-    let mut boxed = Box::new(rt.alloc(), new_printer(rt.alloc()))?;
-    stream_seq(&mut boxed, &[1u8])?;
-    stream_map(&mut boxed, &[(1u8, true)])?;
-    stream_record(&mut boxed, fields!("a" => 1u8, "b " => false))?;
+fn streams_parts(rt: HostRuntime) {
+    let mut boxed = must(&rt, Box::new(rt.alloc(), new_printer(rt.alloc())));
+    must(&rt, stream_seq(&mut boxed, &[1u8]));
+    must(&rt, stream_map(&mut boxed, &[(1u8, true)]));
+    must(
+        &rt,
+        stream_record(&mut boxed, fields!("a" => 1u8, "b " => false)),
+    );
     has_printed(&rt, Box::into_inner(boxed), PARTS);
-    Ok(())
 }
 
 #[test]
-fn calls_are_copied(rt: HostRuntime) -> Result<(), Fail> {
+fn calls_are_copied(rt: HostRuntime) {
     let mut printer = new_printer(rt.alloc());
     let call = Call::Bool(true);
     let copy = call;
-    printer.take(copy)?;
-    printer.take(call.clone()?)?;
+    must(&rt, printer.take(copy));
+    must(&rt, printer.take(must(&rt, call.clone())));
     has_printed(&rt, printer, "bool true\nbool true\n");
-    Ok(())
 }

@@ -1,9 +1,8 @@
 //! What a refusal says, and what labels and indexes keep.
 
-use crate::shown::{holds, shows};
+use crate::shown::{copy_of, holds, must, shows};
 use std::alloc::Global;
 use std::process::Abort;
-use std::test::Fail;
 use sval_core::{Error, Index, Label, Tag, refusal, tags};
 
 #[test]
@@ -24,25 +23,23 @@ fn label_says(rt: &impl Abort, alloc: Global, label: &Label<'_>, want: &str) {
 }
 
 #[test]
-fn labels_keep_text_tag_and_staticness(rt: HostRuntime) -> Result<(), Fail> {
+fn labels_keep_text_tag_and_staticness(rt: HostRuntime) {
     let alloc = rt.alloc();
     let computed = Label::new_computed("a").with_tag(&tags::VALUE_IDENT);
     let want = "a Some(Tag { text: \"VALUE_IDENT\" }) None";
-    label_says(&rt, alloc, &computed.to_owned(alloc)?, want);
-    label_says(&rt, alloc, &computed.try_to_owned(alloc)?, want);
-    label_says(&rt, alloc, &computed.try_clone(alloc)?, want);
-    Ok(())
+    label_says(&rt, alloc, &must(&rt, computed.to_owned(alloc)), want);
+    label_says(&rt, alloc, &must(&rt, computed.try_to_owned(alloc)), want);
+    label_says(&rt, alloc, &must(&rt, computed.try_clone(alloc)), want);
 }
 
 #[test]
-fn labels_are_equal_by_their_texts(rt: HostRuntime) -> Result<(), Fail> {
+fn labels_are_equal_by_their_texts(rt: HostRuntime) {
     let fixed = Label::new("a");
     label_says(&rt, rt.alloc(), &fixed, "a None Some(\"a\")");
     let computed = Label::new_computed("a").with_tag(&tags::VALUE_IDENT);
     holds(&rt, fixed == computed, "the texts are equal");
-    let owned = Label::new_owned(String::from_str(rt.alloc(), "b")?);
-    holds(&rt, owned != fixed, "the texts differ");
-    Ok(())
+    let other = Label::new_owned(copy_of(&rt, rt.alloc(), "b"));
+    holds(&rt, other != fixed, "the texts differ");
 }
 
 /// Asserts what an index says: its number, the same in each type that holds it, and its tag.

@@ -4,12 +4,10 @@ ghost use Rattle.std.specs.Prelude.{[], ◌∷◌};
 ghost use Rattle.sval_label.specs.Calls as call;
 ghost use Rattle.sval_core.specs.Values.{fails_after};
 
-use crate::shown::shows;
+use crate::shown::{script_of, shows};
 use std::alloc::{AllocError, Global};
-use std::test::Fail;
 use sval_check::check_all;
 use sval_core::{Lent, Stream, Value, refusal};
-use sval_script::Script;
 
 /// Where the values of a list end, twice, how many they are, whether there is none, and where the second ends; or why
 /// it is no list of values.
@@ -40,13 +38,11 @@ const LISTS: [(&str, &str); 6] = [
 ];
 
 #[test]
-fn tells_where_values_end(rt: HostRuntime) -> Result<(), Fail> {
+fn tells_where_values_end(rt: HostRuntime) {
     let alloc = rt.alloc();
-    for (lines, ends) in LISTS {
-        let script = Script::read(alloc, lines.as_bytes())?;
-        shows(&rt, told(alloc, &script), ends);
+    for (lines, ends) in &LISTS {
+        shows(&rt, told(alloc, &script_of(&rt, alloc, lines)), ends);
     }
-    Ok(())
 }
 
 /// A value, and then a refusal.

@@ -1,9 +1,8 @@
 //! Values that print themselves, and that can't.
 
-use crate::shown::{compare, holds, shows};
+use crate::shown::{compare, copy_of, holds, must, shows};
 use std::fmt;
 use std::process::Abort;
-use std::test::Fail;
 use sval::{BinaryArray, BinarySlice, Display, MapSlice, Render, StdDisplay};
 
 /// A value that can't be printed.
@@ -22,20 +21,19 @@ fn append<V: Render>(rt: &impl Abort, text: &mut String, value: &V) {
 }
 
 #[test]
-fn appends_what_values_print(rt: HostRuntime) -> Result<(), Fail> {
+fn appends_what_values_print(rt: HostRuntime) {
     let alloc = rt.alloc();
-    let mut text = String::from_str(alloc, ":")?;
+    let mut text = copy_of(&rt, alloc, ":");
     append(&rt, &mut text, &true);
     append(&rt, &mut text, &'é');
     append(&rt, &mut text, &0u8);
     append(&rt, &mut text, &i128::MIN);
     append(&rt, &mut text, &"a b");
-    append(&rt, &mut text, &String::from_str(alloc, "c")?);
+    append(&rt, &mut text, &copy_of(&rt, alloc, "c"));
     append(&rt, &mut text, &&&7u64);
     append(&rt, &mut text, &StdDisplay { value: 42u16 });
     let want = ":trueé0-170141183460469231731687303715884105728a bc742";
     compare(&rt, text.as_str(), want);
-    Ok(())
 }
 
 #[test]
@@ -56,28 +54,26 @@ fn appends_each_type_of_numbers(rt: HostRuntime) {
 }
 
 #[test]
-fn tells_what_cannot_be_printed(rt: HostRuntime) -> Result<(), Fail> {
+fn tells_what_cannot_be_printed(rt: HostRuntime) {
     let alloc = rt.alloc();
     let unprintable = StdDisplay { value: Unprintable };
-    let mut text = String::from_str(alloc, "a")?;
+    let mut text = copy_of(&rt, alloc, "a");
     let answer = unprintable.render(&mut text);
     shows(&rt, format!(in alloc; "{answer:?} {text}"), "Err(Format) a");
     let error = Display::new(alloc, unprintable).err();
     shows(&rt, format!(in alloc; "{error:?}"), "Some(Format)");
-    Ok(())
 }
 
 #[test]
-fn holds_what_it_was_given(rt: HostRuntime) -> Result<(), Fail> {
+fn holds_what_it_was_given(rt: HostRuntime) {
     let alloc = rt.alloc();
     let held = format!(in alloc;
         "{} {} {:?} {:?} {}",
-        Display::new(alloc, 42u8)?.into_inner(),
-        Display::new_borrowed(alloc, &42u8)?.inner(),
+        must(&rt, Display::new(alloc, 42u8)).into_inner(),
+        must(&rt, Display::new_borrowed(alloc, &42u8)).inner(),
         BinarySlice::new(b"ab").as_slice(),
         BinaryArray::new(&[1, 2]).as_slice(),
         MapSlice::new(&[(1u8, true)]).as_slice().len()
     );
     shows(&rt, held, "42 42 [97, 98] [1, 2] 1");
-    Ok(())
 }

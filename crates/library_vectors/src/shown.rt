@@ -1,11 +1,28 @@
-//! What is seen of values: texts, the lines of their calls, and their JSON.
+//! What tests take for sure, what compares what they saw with what is due, and what is seen of values: texts, the lines
+//! of their calls, and their JSON.
 
 use std::alloc::Global;
+use std::fmt::Debug;
 use std::process::Abort;
 use sval_core::{Lent, Value};
 use sval_io::VecSink;
 use sval_json::stream_to_string;
-use sval_script::Printer;
+use sval_script::{Printer, Script};
+
+/// What is found. The test ends where that is an error.
+pub(crate) fn must<T, E: Debug>(rt: &impl Abort, found: Result<T, E>) -> T {
+    found.expect(rt, "a call failed")
+}
+
+/// A copy of a text.
+pub(crate) fn copy_of(rt: &impl Abort, alloc: Global, text: &str) -> String {
+    must(rt, String::from_str(alloc, text))
+}
+
+/// The script of these lines.
+pub(crate) fn script_of(rt: &impl Abort, alloc: Global, lines: &str) -> Script {
+    must(rt, Script::read(alloc, lines.as_bytes()))
+}
 
 /// Asserts that a text was made, and that it is this one.
 pub(crate) fn shows<E: Drop>(rt: &impl Abort, seen: Result<String, E>, want: &str) {

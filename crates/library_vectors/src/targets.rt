@@ -1,9 +1,8 @@
 //! The JSON of one struct in each of the targets.
 
-use crate::shown::{compare, holds, shows};
+use crate::shown::{compare, holds, must, shows};
 use records::MyRecord;
 use std::alloc::{AllocError, Global};
-use std::test::Fail;
 use sval_io::{FixedSink, VecSink};
 use sval_json::{
     Error, stream_to_fmt_write, stream_to_io_write, stream_to_json_str, stream_to_string,
@@ -19,16 +18,16 @@ const VALUE: MyRecord<'static> = MyRecord {
 const JSON: &str = "{\"field_0\":1,\"field_1\":true,\"field_2\":\"some text\"}";
 
 #[test]
-fn writes_the_same_to_each_target(rt: HostRuntime) -> Result<(), Fail> {
+fn writes_the_same_to_each_target(rt: HostRuntime) {
     let alloc = rt.alloc();
-    shows(&rt, String::from_utf8(stream_to_vec(alloc, &VALUE)?), JSON);
-    let json = stream_to_json_str(alloc, &VALUE)?;
+    let bytes = must(&rt, stream_to_vec(alloc, &VALUE));
+    shows(&rt, String::from_utf8(bytes), JSON);
+    let json = must(&rt, stream_to_json_str(alloc, &VALUE));
     compare(&rt, json.as_json_str().as_str(), JSON);
     let mut sink = VecSink::new(alloc);
-    stream_to_fmt_write(&mut sink, &VALUE)?;
+    must(&rt, stream_to_fmt_write(&mut sink, &VALUE));
     shows(&rt, String::from_utf8(sink.into_vec()), JSON);
     shows(&rt, stream_to_string(alloc, &VALUE), JSON);
-    Ok(())
 }
 
 /// What is told of a target with too little room.

@@ -1,9 +1,8 @@
 //! Calls as tokens.
 
-use crate::shown::{holds, shows};
+use crate::shown::{copy_of, holds, must, script_of, shows};
 use std::alloc::{AllocError, Global};
 use std::process::Abort;
-use std::test::Fail;
 use sval_check::{Token, TokenBuf, TokenBytes, TokenText};
 use sval_core::Value;
 use sval_script::Script;
@@ -58,14 +57,13 @@ const PRINTED: [(&str, &str); 3] = [
 ];
 
 #[test]
-fn keeps_calls(rt: HostRuntime) -> Result<(), Fail> {
+fn keeps_calls(rt: HostRuntime) {
     let alloc = rt.alloc();
-    for (lines, want) in PRINTED {
-        let script = Script::read(alloc, lines.as_bytes())?;
+    for (lines, want) in &PRINTED {
+        let script = script_of(&rt, alloc, lines);
         let tokens = tokens_of(&rt, alloc, &script);
         shows(&rt, printed(alloc, tokens.as_tokens()), want);
     }
-    Ok(())
 }
 
 /// A sequence of one number.
@@ -107,27 +105,26 @@ const MATCHES: [(&str, &str, bool); 7] = [
 ];
 
 #[test]
-fn compares_contents(rt: HostRuntime) -> Result<(), Fail> {
+fn compares_contents(rt: HostRuntime) {
     let alloc = rt.alloc();
-    for (taken, expected, same) in MATCHES {
-        let taken = Script::read(alloc, taken.as_bytes())?;
-        let expected = Script::read(alloc, expected.as_bytes())?;
+    for (taken, expected, same) in &MATCHES {
+        let taken = script_of(&rt, alloc, taken);
+        let expected = script_of(&rt, alloc, expected);
         let tokens = tokens_of(&rt, alloc, &expected);
         let matches = tokens_of(&rt, alloc, &taken).matches(tokens.as_tokens());
-        holds(&rt, matches == same, "the tokens match or not");
+        holds(&rt, matches == *same, "the tokens match or not");
     }
-    Ok(())
 }
 
 /// A part of a text and one of a binary, both computed.
 const COMPUTED: &str = "text_fragment_computed =6364\nbinary_fragment_computed =03\n";
 
 #[test]
-fn takes_tokens_that_are_written(rt: HostRuntime) -> Result<(), Fail> {
+fn takes_tokens_that_are_written(rt: HostRuntime) {
     let alloc = rt.alloc();
-    let script = Script::read(alloc, COMPUTED.as_bytes())?;
-    let text = TokenText::new(String::from_str(alloc, "cd")?);
-    let bytes = TokenBytes::new(Vec::from_slice(alloc, &[3])?);
+    let script = script_of(&rt, alloc, COMPUTED);
+    let text = TokenText::new(copy_of(&rt, alloc, "cd"));
+    let bytes = TokenBytes::new(must(&rt, Vec::from_slice(alloc, &[3])));
     let written = [
         Token::TextFragmentComputed(text),
         Token::BinaryFragmentComputed(bytes),
@@ -137,5 +134,4 @@ fn takes_tokens_that_are_written(rt: HostRuntime) -> Result<(), Fail> {
     holds(&rt, !tokens.lacked_memory(), "memory is there");
     tokens.clear();
     holds(&rt, tokens.as_tokens().is_empty(), "none is left");
-    Ok(())
 }

@@ -1,16 +1,14 @@
 //! What is written and captured of values whose calls are checked first.
 
 use crate::captured::makes_again;
-use crate::shown::{holds, shows};
+use crate::shown::{holds, must, script_of, shows};
 use records::{Metres, MyRecord, Shape};
 use std::alloc::{AllocError, Global};
-use std::test::Fail;
 use sval_buffer::ValueBuf;
 use sval_check::CheckError;
 use sval_core::{Lent, Value};
 use sval_io::{FixedSink, VecSink};
 use sval_json::Variants;
-use sval_script::Script;
 use sval_whole::{
     WriteError, collect_whole, to_json_string, to_json_string_with, to_json_vec, to_json_vec_with,
     write_json, write_json_with,
@@ -66,13 +64,11 @@ const ROWS: [(&str, &str); 9] = [
 ];
 
 #[test]
-fn writes_whole_values_alone(rt: HostRuntime) -> Result<(), Fail> {
+fn writes_whole_values_alone(rt: HostRuntime) {
     let alloc = rt.alloc();
-    for (lines, want) in ROWS {
-        let script = Script::read(alloc, lines.as_bytes())?;
-        shows(&rt, json_of(alloc, &script), want);
+    for (lines, want) in &ROWS {
+        shows(&rt, json_of(alloc, &script_of(&rt, alloc, lines)), want);
     }
-    Ok(())
 }
 
 const RECORD: MyRecord<'static> = MyRecord {
@@ -84,21 +80,21 @@ const RECORD: MyRecord<'static> = MyRecord {
 const JSON: &str = "{\"field_0\":1,\"field_1\":true,\"field_2\":\"some text\"}";
 
 #[test]
-fn writes_a_struct_to_each_target(rt: HostRuntime) -> Result<(), Fail> {
+fn writes_a_struct_to_each_target(rt: HostRuntime) {
     let alloc = rt.alloc();
     shows(&rt, json_of(alloc, &RECORD), JSON);
-    shows(&rt, String::from_utf8(to_json_vec(alloc, &RECORD)?), JSON);
+    let bytes = must(&rt, to_json_vec(alloc, &RECORD));
+    shows(&rt, String::from_utf8(bytes), JSON);
     let mut sink = VecSink::new(alloc);
-    write_json(alloc, &mut sink, &RECORD)?;
+    must(&rt, write_json(alloc, &mut sink, &RECORD));
     shows(&rt, String::from_utf8(sink.into_vec()), JSON);
-    Ok(())
 }
 
 /// A variant beside its name.
 const BESIDE: &str = "{\"variant\":\"Circle\",\"value\":3}";
 
 #[test]
-fn writes_variants_beside_their_names(rt: HostRuntime) -> Result<(), Fail> {
+fn writes_variants_beside_their_names(rt: HostRuntime) {
     let alloc = rt.alloc();
     let circle = Shape::Circle(Metres(3));
     shows(
@@ -106,20 +102,22 @@ fn writes_variants_beside_their_names(rt: HostRuntime) -> Result<(), Fail> {
         to_json_string_with(alloc, &circle, Variants::Beside),
         BESIDE,
     );
-    let bytes = to_json_vec_with(alloc, &circle, Variants::Beside)?;
+    let bytes = must(&rt, to_json_vec_with(alloc, &circle, Variants::Beside));
     shows(&rt, String::from_utf8(bytes), BESIDE);
     let mut sink = VecSink::new(alloc);
-    write_json_with(alloc, &mut sink, &circle, Variants::Beside)?;
+    must(
+        &rt,
+        write_json_with(alloc, &mut sink, &circle, Variants::Beside),
+    );
     shows(&rt, String::from_utf8(sink.into_vec()), BESIDE);
-    Ok(())
 }
 
 #[test]
-fn leaves_a_sink_as_it_was(rt: HostRuntime) -> Result<(), Fail> {
+fn leaves_a_sink_as_it_was(rt: HostRuntime) {
     let alloc = rt.alloc();
     let mut sink = VecSink::new(alloc);
-    write_json(alloc, &mut sink, &true)?;
-    let script = Script::read(alloc, b"seq_begin -\n")?;
+    must(&rt, write_json(alloc, &mut sink, &true));
+    let script = script_of(&rt, alloc, "seq_begin -\n");
     let answer = write_json(alloc, &mut sink, &script);
     holds(
         &rt,
@@ -127,7 +125,6 @@ fn leaves_a_sink_as_it_was(rt: HostRuntime) -> Result<(), Fail> {
         "it is cut short",
     );
     shows(&rt, String::from_utf8(sink.into_vec()), "true");
-    Ok(())
 }
 
 #[test]
@@ -144,22 +141,20 @@ fn writes_up_to_the_room(rt: HostRuntime) {
 const TEXT: &str = "text_begin 4\ntext_fragment_computed =61626364\ntext_end\n";
 
 #[test]
-fn captures_whole_values(rt: HostRuntime) -> Result<(), Fail> {
+fn captures_whole_values(rt: HostRuntime) {
     let alloc = rt.alloc();
     let halves = "text_begin 4\ntext_fragment =6162\ntext_fragment =6364\ntext_end\n";
-    let script = Script::read(alloc, halves.as_bytes())?;
+    let script = script_of(&rt, alloc, halves);
     let slice = script.as_slice();
-    let captured: ValueBuf<'_> = collect_whole(alloc, &slice)?;
+    let captured: ValueBuf<'_> = must(&rt, collect_whole(alloc, &slice));
     makes_again(&rt, alloc, &captured, TEXT);
-    Ok(())
 }
 
 #[test]
-fn captures_nothing_else(rt: HostRuntime) -> Result<(), Fail> {
-    let script = Script::read(rt.alloc(), b"seq_begin -\nseq_end\nseq_end\n")?;
+fn captures_nothing_else(rt: HostRuntime) {
+    let script = script_of(&rt, rt.alloc(), "seq_begin -\nseq_end\nseq_end\n");
     let slice = script.as_slice();
     let refused: Result<ValueBuf<'_>, CheckError> = collect_whole(rt.alloc(), &slice);
     let is_due = refused.err() == Some(CheckError::BadCall { at: 3 });
     holds(&rt, is_due, "the third call is refused");
-    Ok(())
 }

@@ -1,8 +1,7 @@
 //! The JSON of values of std and of adapters.
 
-use crate::shown::writes;
+use crate::shown::{must, writes};
 use std::collections::{BTreeMap, BTreeSet, LinkedList, VecDeque};
-use std::test::Fail;
 use sval::{BinarySlice, Null};
 
 #[test]
@@ -37,37 +36,36 @@ const TEXTS: [(&str, &str); 5] = [
 
 #[test]
 fn writes_texts_of_any_length(rt: HostRuntime) {
-    for (text, want) in TEXTS {
-        writes(&rt, rt.alloc(), &text, want);
+    for (text, want) in &TEXTS {
+        writes(&rt, rt.alloc(), text, want);
     }
 }
 
 #[test]
-fn writes_maps_in_the_order_of_their_keys(rt: HostRuntime) -> Result<(), Fail> {
+fn writes_maps_in_the_order_of_their_keys(rt: HostRuntime) {
     let mut map = BTreeMap::new(rt.alloc());
-    map.insert(2i32, false)?;
-    map.insert(-1, true)?;
+    must(&rt, map.insert(2i32, false));
+    must(&rt, map.insert(-1, true));
     writes(&rt, rt.alloc(), &map, "{\"-1\":true,\"2\":false}");
-    Ok(())
 }
 
 #[test]
-fn writes_collections_of_std(rt: HostRuntime) -> Result<(), Fail> {
+fn writes_collections_of_std(rt: HostRuntime) {
     let alloc = rt.alloc();
     let mut queue = VecDeque::new(alloc);
-    queue.push_back(2u8)?;
-    queue.push_front(1u8)?;
+    must(&rt, queue.push_back(2u8));
+    must(&rt, queue.push_front(1u8));
     writes(&rt, alloc, &queue, "[1,2]");
     let mut list = LinkedList::new(alloc);
-    list.push_back("a")?;
-    list.push_back("b")?;
+    must(&rt, list.push_back("a"));
+    must(&rt, list.push_back("b"));
     writes(&rt, alloc, &list, "[\"a\",\"b\"]");
     let mut set = BTreeSet::new(alloc);
-    set.insert(2i16)?;
-    set.insert(-1)?;
+    must(&rt, set.insert(2i16));
+    must(&rt, set.insert(-1));
     writes(&rt, alloc, &set, "[-1,2]");
-    writes(&rt, alloc, &Box::new(alloc, 'c')?, "\"c\"");
-    Ok(())
+    let boxed = must(&rt, Box::new(alloc, 'c'));
+    writes(&rt, alloc, &boxed, "\"c\"");
 }
 
 #[test]

@@ -1,45 +1,42 @@
 //! Events that are recorded and written.
 
 use super::structs::{EVENT, disk_is_full};
-use crate::shown::{holds, shows};
+use crate::shown::{holds, must, shows};
 use event_log::EventLog;
-use std::alloc::{AllocError, Global};
+use std::alloc::Global;
 use std::collections::BTreeMap;
 use std::io::Write;
 use std::process::Abort;
-use std::test::Fail;
 use sval_io::{RealSink, Sink, VecSink};
 
 /// An event: a level and a message.
 fn event<'a>(
+    rt: &impl Abort,
     alloc: Global,
     level: &'a str,
     message: &'a str,
-) -> Result<BTreeMap<&'a str, &'a str>, AllocError> {
+) -> BTreeMap<&'a str, &'a str> {
     let mut event = BTreeMap::new(alloc);
-    event.insert("level", level)?;
-    event.insert("message", message)?;
-    Ok(event)
+    must(rt, event.insert("level", level));
+    must(rt, event.insert("message", message));
+    event
 }
 
 /// Records an event.
 fn record(rt: &impl Abort, alloc: Global, log: &mut EventLog<'_>, level: &str, message: &str) {
-    match event(alloc, level, message) {
-        Ok(event) => holds(rt, log.record(&event).is_ok(), "it is recorded"),
-        Err(_) => holds(rt, false, "an event is made"),
-    }
+    must(rt, log.record(&event(rt, alloc, level, message)));
 }
 
 #[test]
-fn keeps_the_two_newest(rt: HostRuntime) -> Result<(), Fail> {
+fn keeps_the_two_newest(rt: HostRuntime) {
     let alloc = rt.alloc();
-    let mut log = EventLog::new(alloc, 2)?;
+    let mut log = must(&rt, EventLog::new(alloc, 2));
     record(&rt, alloc, &mut log, "info", "started");
     record(&rt, alloc, &mut log, "warning", "disk \"a\" is full");
     record(&rt, alloc, &mut log, "error", "stopped");
     holds(&rt, log.len() == 2, "the log holds two");
     let mut sink = VecSink::new(alloc);
-    log.write_lines(&mut sink)?;
+    must(&rt, log.write_lines(&mut sink));
     shows(
         &rt,
         String::from_utf8(sink.into_vec()),
@@ -47,7 +44,6 @@ fn keeps_the_two_newest(rt: HostRuntime) -> Result<(), Fail> {
     );
     log.clear();
     holds(&rt, log.is_empty(), "the log is empty");
-    Ok(())
 }
 
 /// Writes a log out, as a program does that passes `rt.stdout()`.
@@ -58,9 +54,9 @@ fn write_out<W: Write + Drop>(rt: &impl Abort, log: &EventLog<'_>, writer: W) {
 }
 
 #[test]
-fn writes_to_a_writer(rt: HostRuntime) -> Result<(), Fail> {
+fn writes_to_a_writer(rt: HostRuntime) {
     let alloc = rt.alloc();
-    let mut log = EventLog::new(alloc, 8)?;
+    let mut log = must(&rt, EventLog::new(alloc, 8));
     record(&rt, alloc, &mut log, "info", "started");
     let mut written = Vec::new(alloc);
     write_out(&rt, &log, &mut written);
@@ -69,18 +65,15 @@ fn writes_to_a_writer(rt: HostRuntime) -> Result<(), Fail> {
         String::from_utf8(written),
         "{\"level\":\"info\",\"message\":\"started\"}\n",
     );
-    Ok(())
 }
 
 #[test]
-fn keeps_a_struct(rt: HostRuntime) -> Result<(), Fail> {
+fn keeps_a_struct(rt: HostRuntime) {
     let alloc = rt.alloc();
-    let mut log = EventLog::new(alloc, 1)?;
-    let event = disk_is_full(alloc)?;
-    log.record(&event)?;
+    let mut log = must(&rt, EventLog::new(alloc, 1));
+    must(&rt, log.record(&disk_is_full(&rt, alloc)));
     let mut sink = VecSink::new(alloc);
-    log.write_lines(&mut sink)?;
-    let line = format!(in alloc; "{EVENT}\n")?;
+    must(&rt, log.write_lines(&mut sink));
+    let line = must(&rt, format!(in alloc; "{EVENT}\n"));
     shows(&rt, String::from_utf8(sink.into_vec()), line.as_str());
-    Ok(())
 }

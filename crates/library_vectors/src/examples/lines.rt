@@ -1,11 +1,9 @@
 //! Lines of records.
 
-use crate::shown::shows;
+use crate::shown::{script_of, shows};
 use assert_tokens::Point;
 use logfmt::to_logfmt;
 use records::MyRecord;
-use std::test::Fail;
-use sval_script::Script;
 
 /// The calls of a record of a text in two parts, a number and a truth value.
 const REQUEST: &str = "\
@@ -25,14 +23,13 @@ const REQUEST: &str = "\
     record_end - - -\n";
 
 #[test]
-fn writes_each_call(rt: HostRuntime) -> Result<(), Fail> {
-    let request = Script::read(rt.alloc(), REQUEST.as_bytes())?;
+fn writes_each_call(rt: HostRuntime) {
+    let request = script_of(&rt, rt.alloc(), REQUEST);
     shows(
         &rt,
         to_logfmt(rt.alloc(), &request),
         "said=\"a \\\"b\\\"\\n\\u0001c\\\\\" status=200 ok=true",
     );
-    Ok(())
 }
 
 #[test]

@@ -1,10 +1,10 @@
 //! Structs and enums of a user's own: the JSON of each, and what is made of one in other ways.
 
 use super::forms::has_form;
-use crate::shown::{holds, makes, shows};
+use crate::shown::{copy_of, holds, makes, must, shows};
 use records::{Body, Event, Headers, Item, Level, MyRecord, Order, Payment, Request, Site};
-use std::alloc::{AllocError, Global};
-use std::test::Fail;
+use std::alloc::Global;
+use std::process::Abort;
 use sval_check::check;
 use sval_json::stream_to_string;
 
@@ -45,31 +45,28 @@ pub(super) const EVENT: &'static str =
     r#"{"ts":"2026-11-29","level":"Error","msg":"disk \"a\" is full","status":507,"user":null,"tags":["a","b\""],"site":{"file":"disk.rs","line":7}}"#;
 
 /// That event.
-pub(super) fn disk_is_full(alloc: Global) -> Result<Event, AllocError> {
-    let mut tags = Vec::new(alloc);
-    tags.push(String::from_str(alloc, "a")?)?;
-    tags.push(String::from_str(alloc, "b\"")?)?;
-    Ok(Event {
-        ts: String::from_str(alloc, "2026-11-29")?,
+pub(super) fn disk_is_full(rt: &impl Abort, alloc: Global) -> Event {
+    let tags = vec![in alloc; copy_of(rt, alloc, "a"), copy_of(rt, alloc, "b\"")];
+    Event {
+        ts: copy_of(rt, alloc, "2026-11-29"),
         level: Level::Error,
-        msg: String::from_str(alloc, "disk \"a\" is full")?,
+        msg: copy_of(rt, alloc, "disk \"a\" is full"),
         status: 507,
         user: None,
-        tags,
+        tags: must(rt, tags),
         site: Site {
-            file: String::from_str(alloc, "disk.rs")?,
+            file: copy_of(rt, alloc, "disk.rs"),
             line: 7,
         },
-    })
+    }
 }
 
 #[test]
-fn fields_may_be_rows_and_none(rt: HostRuntime) -> Result<(), Fail> {
+fn fields_may_be_rows_and_none(rt: HostRuntime) {
     let alloc = rt.alloc();
-    let event = disk_is_full(alloc)?;
+    let event = disk_is_full(&rt, alloc);
     holds(&rt, check(alloc, &event).is_ok(), "the event is whole");
     shows(&rt, stream_to_string(alloc, &event), EVENT);
-    Ok(())
 }
 
 /// The JSON of an order with a struct, a row of structs and an enum.
@@ -77,23 +74,22 @@ const ORDER: &'static str =
     r#"{"id":7,"sent":false,"customer":"C","remark":5,"first":{"name":"bolt","count":3},"others":[{"name":"nut","count":-2}],"payment":{"Card":{"digits":1234,"charged":true}}}"#;
 
 #[test]
-fn fields_may_be_structs(rt: HostRuntime) -> Result<(), Fail> {
+fn fields_may_be_structs(rt: HostRuntime) {
     let alloc = rt.alloc();
-    let mut others = Vec::new(alloc);
-    others.push(Item {
+    let nut = Item {
         name: "nut",
         count: -2,
-    })?;
+    };
     let order = Order {
         id: 7,
         sent: false,
-        customer: String::from_str(alloc, "C")?,
+        customer: copy_of(&rt, alloc, "C"),
         remark: Some(5),
         first: Item {
             name: "bolt",
             count: 3,
         },
-        others,
+        others: must(&rt, vec![in alloc; nut]),
         payment: Payment::Card {
             digits: 1234,
             charged: true,
@@ -101,14 +97,13 @@ fn fields_may_be_structs(rt: HostRuntime) -> Result<(), Fail> {
     };
     holds(&rt, check(alloc, &order).is_ok(), "the order is whole");
     shows(&rt, stream_to_string(alloc, &order), ORDER);
-    Ok(())
 }
 
 #[test]
-fn variants_are_their_names(rt: HostRuntime) -> Result<(), Fail> {
+fn variants_are_their_names(rt: HostRuntime) {
     let alloc = rt.alloc();
     shows(&rt, stream_to_string(alloc, &Payment::Open), "\"Open\"");
-    let transfer = Payment::Transfer(String::from_str(alloc, "r1")?);
+    let transfer = Payment::Transfer(copy_of(&rt, alloc, "r1"));
     holds(&rt, check(alloc, &transfer).is_ok(), "it is whole");
     shows(
         &rt,
@@ -116,7 +111,6 @@ fn variants_are_their_names(rt: HostRuntime) -> Result<(), Fail> {
         "{\"Transfer\":\"r1\"}",
     );
     shows(&rt, stream_to_string(alloc, &Level::Debug), "\"Debug\"");
-    Ok(())
 }
 
 /// The JSON, twice, and the calls of a struct whose fields lend a map and bytes: no fragment is computed.
@@ -152,21 +146,13 @@ const REQUEST: (&str, &str, &str) = (
 );
 
 #[test]
-fn fields_lend_maps_and_bytes(rt: HostRuntime) -> Result<(), Fail> {
+fn fields_lend_maps_and_bytes(rt: HostRuntime) {
     let alloc = rt.alloc();
-    let mut pairs = Vec::new(alloc);
-    pairs.push((
-        String::from_str(alloc, "Host")?,
-        String::from_str(alloc, "a.b")?,
-    ))?;
-    let mut bytes = Vec::new(alloc);
-    bytes.push(0)?;
-    bytes.push(255)?;
+    let host = (copy_of(&rt, alloc, "Host"), copy_of(&rt, alloc, "a.b"));
     let request = Request {
-        path: String::from_str(alloc, "/x")?,
-        headers: Headers(pairs),
-        body: Body(bytes),
+        path: copy_of(&rt, alloc, "/x"),
+        headers: Headers(must(&rt, vec![in alloc; host])),
+        body: Body(must(&rt, vec![in alloc; 0, 255])),
     };
     has_form(&rt, alloc, &request, REQUEST);
-    Ok(())
 }
