@@ -2,9 +2,9 @@
 
 use crate::replayed::captured;
 use crate::{checked, collected, replayed, written};
-use std::alloc::{AllocError, Global};
+use std::alloc::Global;
+use std::fmt::Debug;
 use std::process::Abort;
-use std::test::Fail;
 use sval_json::Variants;
 use sval_script::Script;
 
@@ -28,15 +28,15 @@ pub(crate) enum Look {
 }
 
 /// Looks at the calls of a script.
-fn look_at(alloc: Global, look: Look, script: &Script) -> Result<String, Fail> {
+fn look_at(rt: &impl Abort, alloc: Global, look: Look, script: &Script) -> String {
     match look {
-        Look::Check => checked::spelled(alloc, script),
-        Look::Passed => checked::passed(alloc, script),
-        Look::Answers(room) => checked::answers(alloc, script, room),
-        Look::Captured => replayed::replayed(alloc, script),
-        Look::Text => collected::text_of(alloc, &captured(alloc, script)),
-        Look::Binary => collected::binary_of(alloc, &captured(alloc, script)),
-        Look::Json(variants) => written::written(alloc, &captured(alloc, script), variants),
+        Look::Check => checked::spelled(rt, alloc, script),
+        Look::Passed => checked::passed(rt, alloc, script),
+        Look::Answers(room) => checked::answers(rt, alloc, script, room),
+        Look::Captured => replayed::replayed(rt, alloc, script),
+        Look::Text => collected::text_of(rt, alloc, &captured(alloc, script)),
+        Look::Binary => collected::binary_of(rt, alloc, &captured(alloc, script)),
+        Look::Json(variants) => written::written(rt, alloc, &captured(alloc, script), variants),
     }
 }
 
@@ -45,7 +45,7 @@ fn look_at(alloc: Global, look: Look, script: &Script) -> Result<String, Fail> {
 /// A case is the lines of a script and, behind `= `, what is to be seen of its calls. The next line begins another
 /// script. A blank line says nothing. A line that ends with `␄` has no newline, and `␊` stands for one in what is to be
 /// seen.
-fn agree(rt: &impl Abort, alloc: Global, look: Look, table: &'static str) -> Result<(), Fail> {
+fn agree(rt: &impl Abort, alloc: Global, look: Look, table: &'static str) {
     let mut lines = String::new(alloc);
     let mut is_whole = false;
     for line in table.lines() {
@@ -53,64 +53,59 @@ fn agree(rt: &impl Abort, alloc: Global, look: Look, table: &'static str) -> Res
             continue;
         }
         if let Some(want) = line.strip_prefix("= ") {
-            try_case(rt, alloc, look, &lines, want)?;
+            try_case(rt, alloc, look, &lines, want);
             is_whole = true;
         } else {
             if is_whole {
                 lines.clear();
                 is_whole = false;
             }
-            add_line(&mut lines, line)?;
+            add_line(rt, &mut lines, line);
         }
     }
     holds(rt, is_whole, lines.as_str());
-    Ok(())
 }
 
 /// Compares what is seen of a script with what is to be seen.
-fn try_case(
-    rt: &impl Abort,
-    alloc: Global,
-    look: Look,
-    lines: &str,
-    want: &str,
-) -> Result<(), Fail> {
-    let script = Script::read(alloc, lines.as_bytes())?;
-    let seen = look_at(alloc, look, &script)?;
-    compare(rt, &seen, &plain_text(alloc, want)?, lines);
-    Ok(())
+fn try_case(rt: &impl Abort, alloc: Global, look: Look, lines: &str, want: &str) {
+    let script = must(rt, Script::read(alloc, lines.as_bytes()));
+    let seen = look_at(rt, alloc, look, &script);
+    compare(rt, &seen, &plain_text(rt, alloc, want), lines);
 }
 
 /// Adds a line of a table to a script: with a newline, unless it ends with `␄`.
-fn add_line(lines: &mut String, line: &str) -> Result<(), AllocError> {
-    if let Some((text, _behind)) = line.split_once('␄') {
-        return lines.push_str(text);
-    }
-    lines.push_str(line)?;
-    lines.push('\n')
+fn add_line(rt: &impl Abort, lines: &mut String, line: &str) {
+    let (text, end) = match line.split_once('␄') {
+        Some((text, _behind)) => (text, ""),
+        None => (line, "\n"),
+    };
+    push(rt, lines, text);
+    push(rt, lines, end);
 }
 
 /// A text of a table, with newlines in the places of their pictures.
-fn plain_text(alloc: Global, shown: &str) -> Result<String, AllocError> {
-    let mut text = String::new(alloc);
-    for letter in shown.chars() {
-        text.push(if letter == '␊' { '\n' } else { letter })?;
-    }
-    Ok(text)
+fn plain_text(rt: &impl Abort, alloc: Global, shown: &str) -> String {
+    must(rt, shown.replace(alloc, '␊', "\n"))
 }
 
-/// Compares a text with what is to be seen, or hands on why there is none.
-pub(crate) fn agrees(rt: &impl Abort, seen: Result<String, Fail>, want: &str) -> Result<(), Fail> {
-    assert_eq!(rt; seen?.as_str(), want);
-    Ok(())
+/// What is found. The test ends where that is an error.
+pub(crate) fn must<T, E: Debug>(rt: &impl Abort, found: Result<T, E>) -> T {
+    found.expect(rt, "a call failed")
+}
+
+/// Adds a text to another.
+pub(crate) fn push(rt: &impl Abort, text: &mut String, more: &str) {
+    must(rt, text.push_str(more));
 }
 
 /// Asserts that a text was made, and that it is what is to be seen.
-pub(crate) fn shows<E: Drop>(rt: &impl Abort, seen: Result<String, E>, want: &str) {
-    match seen {
-        Ok(text) => assert_eq!(rt; text.as_str(), want),
-        Err(_) => assert!(rt; false, "no text, but {want:?}"),
-    }
+pub(crate) fn shows<E: Debug>(rt: &impl Abort, seen: Result<String, E>, want: &str) {
+    agrees(rt, &must(rt, seen), want);
+}
+
+/// Compares a text with what is to be seen.
+pub(crate) fn agrees(rt: &impl Abort, seen: &str, want: &str) {
+    compare(rt, seen, want, want);
 }
 
 /// Compares what is seen with what is to be seen. A failure names `place`.
@@ -138,9 +133,8 @@ const TABLES: [(Look, &'static str); 10] = [
 ];
 
 #[test]
-fn calls_of_scripts_show_what_is_due(rt: HostRuntime) -> Result<(), Fail> {
-    for (look, table) in TABLES {
-        agree(&rt, rt.alloc(), look, table)?;
+fn calls_of_scripts_show_what_is_due(rt: HostRuntime) {
+    for (look, table) in &TABLES {
+        agree(&rt, rt.alloc(), *look, table);
     }
-    Ok(())
 }

@@ -4,8 +4,9 @@ ghost use Rattle.sval_label.specs.Made.{lent_call};
 ghost use Rattle.sval_core.specs.Law.{Answers};
 ghost use Rattle.sval_core.specs.Lenient.{lenient, with_wants};
 
-use std::alloc::{AllocError, Global};
-use std::test::Fail;
+use crate::cases::{must, push};
+use std::alloc::Global;
+use std::process::Abort;
 use sval_check::{Checked, check};
 use sval_core::{Call, Lent, Result as Answer, Stream, Value, refusal};
 use sval_ref::ValueRef;
@@ -52,50 +53,52 @@ fn checked_with(alloc: Global, room: usize) -> Checked<Counted> {
 }
 
 /// What checking says of these calls.
-pub(crate) fn spelled(alloc: Global, script: &Script) -> Result<String, Fail> {
+pub(crate) fn spelled(rt: &impl Abort, alloc: Global, script: &Script) -> String {
     let answer = check(alloc, script);
-    Ok(format!(in alloc; "{answer:?}")?)
+    must(rt, format!(in alloc; "{answer:?}"))
 }
 
 /// Whether what was passed on is one value, and how many calls that was.
-fn told(alloc: Global, checked: Checked<Counted>) -> Result<String, Fail> {
+fn told(rt: &impl Abort, alloc: Global, checked: Checked<Counted>) -> String {
     let whole = checked.is_whole();
     let taken = checked.into_inner().taken;
-    Ok(format!(in alloc; "whole: {whole}, passed on: {taken}")?)
+    must(rt, format!(in alloc; "whole: {whole}, passed on: {taken}"))
 }
 
 /// What is passed on of these calls, before one is refused.
-pub(crate) fn passed(alloc: Global, script: &Script) -> Result<String, Fail> {
+pub(crate) fn passed(rt: &impl Abort, alloc: Global, script: &Script) -> String {
     let mut checked = checked_with(alloc, usize::MAX);
     let _answer = script.stream(&mut checked);
-    told(alloc, checked)
+    told(rt, alloc, checked)
 }
 
 /// Whether the call of a line is taken, and then why the last that wasn't was refused and whether the calls so far are
 /// one value.
 fn answer(
+    rt: &impl Abort,
     alloc: Global,
     line: &ScriptSlice<'_>,
     checked: &mut Checked<Counted>,
-) -> Result<String, AllocError> {
+) -> String {
     let taken = line.stream_ref(checked).is_ok();
     let why = checked.why();
     let whole = checked.is_whole();
-    format!(in alloc; "taken: {taken}, why: {why:?}, whole: {whole}\n")
+    let answer = format!(in alloc; "taken: {taken}, why: {why:?}, whole: {whole}\n");
+    must(rt, answer)
 }
 
 /// What is answered to each call, and what is told in the end.
-pub(crate) fn answers(alloc: Global, script: &Script, room: usize) -> Result<String, Fail> {
+pub(crate) fn answers(rt: &impl Abort, alloc: Global, script: &Script, room: usize) -> String {
     let mut checked = checked_with(alloc, room);
     let mut seen = String::new(alloc);
     for at in 0..script.line_count() {
         let Some(line) = script.slice(at, at + 1) else {
             break;
         };
-        seen.push_str(&answer(alloc, &line, &mut checked)?)?;
+        push(rt, &mut seen, &answer(rt, alloc, &line, &mut checked));
     }
-    seen.push_str(&told(alloc, checked)?)?;
-    Ok(seen)
+    push(rt, &mut seen, &told(rt, alloc, checked));
+    seen
 }
 
 /// Texts of two bytes, and a sequence without an end.

@@ -1,25 +1,27 @@
 //! What is collected of values as texts and as binaries.
 
-use crate::cases::agrees;
+use crate::cases::{agrees, must};
 use std::alloc::Global;
-use std::test::Fail;
+use std::process::Abort;
 use sval_buffer::{BinaryBuf, TextBuf, ValueBuf};
 use sval_core::{Call, Label, Name, Stream, tags};
 
 /// What is collected of captured calls as a text, and whether it is borrowed, or why nothing is.
-pub(crate) fn text_of(alloc: Global, value: &ValueBuf<'_>) -> Result<String, Fail> {
-    match TextBuf::collect(alloc, value) {
-        Ok(text) => Ok(format!(in alloc; "{text:?} {}", text.as_borrowed_str().is_some())?),
-        Err(error) => Ok(format!(in alloc; "{error}")?),
-    }
+pub(crate) fn text_of(rt: &impl Abort, alloc: Global, value: &ValueBuf<'_>) -> String {
+    let seen = match TextBuf::collect(alloc, value) {
+        Ok(text) => format!(in alloc; "{text:?} {}", text.as_borrowed_str().is_some()),
+        Err(error) => format!(in alloc; "{error}"),
+    };
+    must(rt, seen)
 }
 
 /// What is collected of captured calls as a binary, and whether it is borrowed, or why nothing is.
-pub(crate) fn binary_of(alloc: Global, value: &ValueBuf<'_>) -> Result<String, Fail> {
-    match BinaryBuf::collect(alloc, value) {
-        Ok(bytes) => Ok(format!(in alloc; "{bytes:?} {}", bytes.as_borrowed_slice().is_some())?),
-        Err(error) => Ok(format!(in alloc; "{error}")?),
-    }
+pub(crate) fn binary_of(rt: &impl Abort, alloc: Global, value: &ValueBuf<'_>) -> String {
+    let seen = match BinaryBuf::collect(alloc, value) {
+        Ok(bytes) => format!(in alloc; "{bytes:?} {}", bytes.as_borrowed_slice().is_some()),
+        Err(error) => format!(in alloc; "{error}"),
+    };
+    must(rt, seen)
 }
 
 /// Texts, integers that no `i64` is, labels, and what no text is collected of.
@@ -69,27 +71,31 @@ tag - =7769647468 -
 = "width" false
 "#;
 
+/// What is collected as a text of a tag of this name.
+fn text_of_a_tag(rt: &impl Abort, alloc: Global, name: Name<'_>) -> String {
+    let mut value: ValueBuf<'_> = ValueBuf::new(alloc);
+    must(rt, value.take(Call::Tag(name)));
+    text_of(rt, alloc, &value)
+}
+
 /// Scripts have no static labels, which a text borrows.
 #[test]
-fn collects_static_labels(rt: HostRuntime) -> Result<(), Fail> {
-    let kind = Label::new("kind");
-    let rows = [
-        (None, "\"kind\" true"),
-        (
-            Some(&tags::RUST_OPTION_NONE),
-            "unexpected null, expected text",
-        ),
-    ];
-    for (tag, want) in rows {
-        let mut value: ValueBuf<'_> = ValueBuf::new(rt.alloc());
-        value.take(Call::Tag(Name {
-            tag,
-            label: Some(&kind),
-            index: None,
-        }))?;
-        agrees(&rt, text_of(rt.alloc(), &value), want)?;
-    }
-    Ok(())
+fn collects_static_labels(rt: HostRuntime) {
+    let label = Label::new("kind");
+    let kind = Name {
+        tag: None,
+        label: Some(&label),
+        index: None,
+    };
+    let text = text_of_a_tag(&rt, rt.alloc(), kind);
+    agrees(&rt, &text, "\"kind\" true");
+    let none = Name {
+        tag: Some(&tags::RUST_OPTION_NONE),
+        label: Some(&label),
+        index: None,
+    };
+    let text = text_of_a_tag(&rt, rt.alloc(), none);
+    agrees(&rt, &text, "unexpected null, expected text");
 }
 
 /// Binaries, bytes alone and in a sequence, and what no binary is collected of.

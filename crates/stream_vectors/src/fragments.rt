@@ -1,10 +1,10 @@
 //! What buffers for texts and binaries hold, and what they make of it.
 
-use crate::cases::{agrees, shows};
+use crate::cases::{agrees, must, shows};
 use crate::replayed::{lent_script_of, script_of};
 use std::alloc::{AllocError, Global};
-use std::test::Fail;
-use sval_buffer::{BinaryBuf, Error, TextBuf};
+use std::process::Abort;
+use sval_buffer::{BinaryBuf, TextBuf};
 
 /// What is done to a text and a binary, with a fragment.
 #[derive(Clone, Copy)]
@@ -25,37 +25,37 @@ enum Step {
 
 /// Does a step to a text.
 fn step_text(
+    rt: &impl Abort,
     alloc: Global,
     text: &mut TextBuf<'static>,
     step: Step,
     fragment: &'static str,
-) -> Result<(), Error> {
+) {
     match step {
         Step::Make => *text = TextBuf::from_text(alloc, fragment),
-        Step::Push => text.push_fragment(fragment)?,
-        Step::PushComputed => text.push_fragment_computed(fragment)?,
-        Step::Write => text.write_str(fragment)?,
+        Step::Push => must(rt, text.push_fragment(fragment)),
+        Step::PushComputed => must(rt, text.push_fragment_computed(fragment)),
+        Step::Write => must(rt, text.write_str(fragment)),
         Step::Clear => text.clear(),
-        Step::Clone => *text = text.try_clone()?,
+        Step::Clone => *text = must(rt, text.try_clone()),
     }
-    Ok(())
 }
 
 /// Does a step to a binary.
 fn step_binary(
+    rt: &impl Abort,
     alloc: Global,
     binary: &mut BinaryBuf<'static>,
     step: Step,
     fragment: &'static [u8],
-) -> Result<(), Error> {
+) {
     match step {
         Step::Make => *binary = BinaryBuf::from_bytes(alloc, fragment),
-        Step::Push => binary.push_fragment(fragment)?,
-        Step::PushComputed | Step::Write => binary.push_fragment_computed(fragment)?,
+        Step::Push => must(rt, binary.push_fragment(fragment)),
+        Step::PushComputed | Step::Write => must(rt, binary.push_fragment_computed(fragment)),
         Step::Clear => binary.clear(),
-        Step::Clone => *binary = binary.try_clone()?,
+        Step::Clone => *binary = must(rt, binary.try_clone()),
     }
-    Ok(())
 }
 
 /// What a text holds and borrows, and whether it equals `abc`.
@@ -154,38 +154,38 @@ const STEPS: [(Step, &'static str, &'static str, &'static str); 16] = [
 ];
 
 #[test]
-fn holds_fragments(rt: HostRuntime) -> Result<(), Fail> {
+fn holds_fragments(rt: HostRuntime) {
     let mut text = TextBuf::new(rt.alloc());
     let mut binary = BinaryBuf::new(rt.alloc());
-    for (step, fragment, want_text, want_binary) in STEPS {
-        step_text(rt.alloc(), &mut text, step, fragment)?;
-        step_binary(rt.alloc(), &mut binary, step, fragment.as_bytes())?;
+    for (step, fragment, want_text, want_binary) in &STEPS {
+        let bytes = fragment.as_bytes();
+        step_text(&rt, rt.alloc(), &mut text, *step, fragment);
+        step_binary(&rt, rt.alloc(), &mut binary, *step, bytes);
         shows(&rt, text_seen(rt.alloc(), &text), want_text);
         shows(&rt, binary_seen(rt.alloc(), &binary), want_binary);
     }
-    Ok(())
 }
 
 /// A text that is joined is borrowed from the buffer, but lent as a computed one for longer.
 #[test]
-fn lends_what_it_joins(rt: HostRuntime) -> Result<(), Fail> {
+fn lends_what_it_joins(rt: HostRuntime) {
     let mut text = TextBuf::from_text(rt.alloc(), "abc");
-    text.push_fragment("def")?;
+    must(&rt, text.push_fragment("def"));
     let want = "text_begin 6\ntext_fragment =616263646566\ntext_end\n";
-    agrees(&rt, script_of(rt.alloc(), &text), want)?;
+    agrees(&rt, &script_of(&rt, rt.alloc(), &text), want);
     let want = "text_begin 6\ntext_fragment_computed =616263646566\ntext_end\n";
-    agrees(&rt, lent_script_of(rt.alloc(), &text), want)
+    agrees(&rt, &lent_script_of(&rt, rt.alloc(), &text), want);
 }
 
 /// A binary that is joined is borrowed from the buffer, but lent as a computed one for longer.
 #[test]
-fn lends_bytes_that_it_joins(rt: HostRuntime) -> Result<(), Fail> {
+fn lends_bytes_that_it_joins(rt: HostRuntime) {
     let mut binary = BinaryBuf::from_bytes(rt.alloc(), b"abc");
-    binary.push_fragment_computed(b"def")?;
+    must(&rt, binary.push_fragment_computed(b"def"));
     let want = "binary_begin 6\nbinary_fragment =616263646566\nbinary_end\n";
-    agrees(&rt, script_of(rt.alloc(), &binary), want)?;
+    agrees(&rt, &script_of(&rt, rt.alloc(), &binary), want);
     let want = "binary_begin 6\nbinary_fragment_computed =616263646566\nbinary_end\n";
-    agrees(&rt, lent_script_of(rt.alloc(), &binary), want)
+    agrees(&rt, &lent_script_of(&rt, rt.alloc(), &binary), want);
 }
 
 /// Fragments that are pushed, with spaces between them, and the calls that a text of them makes and lends.
@@ -208,30 +208,29 @@ const PUSHED: [(&'static str, &'static str, &'static str); 3] = [
 ];
 
 /// A text of these fragments.
-fn joined(alloc: Global, fragments: &'static str) -> Result<TextBuf<'static>, Error> {
+fn joined(rt: &impl Abort, alloc: Global, fragments: &'static str) -> TextBuf<'static> {
     let mut text = TextBuf::new(alloc);
     for fragment in fragments.split(' ') {
-        text.push_fragment(fragment)?;
+        must(rt, text.push_fragment(fragment));
     }
-    Ok(text)
+    text
 }
 
 /// A fragment alone is lent as it came; one behind a text makes it a copy.
 #[test]
-fn lends_what_it_borrows(rt: HostRuntime) -> Result<(), Fail> {
+fn lends_what_it_borrows(rt: HostRuntime) {
     let alloc = rt.alloc();
-    for (fragments, own, lent) in PUSHED {
-        let text = joined(alloc, fragments)?;
-        agrees(&rt, script_of(alloc, &text), own)?;
-        agrees(&rt, lent_script_of(alloc, &text), lent)?;
+    for (fragments, own, lent) in &PUSHED {
+        let text = joined(&rt, alloc, fragments);
+        agrees(&rt, &script_of(&rt, alloc, &text), own);
+        agrees(&rt, &lent_script_of(&rt, alloc, &text), lent);
     }
-    Ok(())
 }
 
 #[test]
-fn lends_bytes_that_it_borrows(rt: HostRuntime) -> Result<(), Fail> {
+fn lends_bytes_that_it_borrows(rt: HostRuntime) {
     let mut binary = BinaryBuf::new(rt.alloc());
-    binary.push_fragment(b"abc")?;
+    must(&rt, binary.push_fragment(b"abc"));
     let want = "binary_begin 3\nbinary_fragment =616263\nbinary_end\n";
-    agrees(&rt, lent_script_of(rt.alloc(), &binary), want)
+    agrees(&rt, &lent_script_of(&rt, rt.alloc(), &binary), want);
 }

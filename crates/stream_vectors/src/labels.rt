@@ -1,10 +1,9 @@
 //! Calls with static labels, which scripts don't have, and which a buffer keeps by reference.
 
-use crate::cases::shows;
-use std::alloc::{AllocError, Global};
+use crate::cases::{must, push, shows};
+use std::alloc::Global;
 use std::fmt::Write;
 use std::process::Abort;
-use std::test::Fail;
 use sval_buffer::ValueBuf;
 use sval_core::{Call, Index, Label, Name, Stream, Tag};
 
@@ -120,24 +119,18 @@ fn label_of(text: Option<&'static str>) -> Option<Label<'static>> {
 }
 
 /// The index of a field.
-fn index_of(text: Option<&'static str>) -> Result<Option<Index>, Fail> {
+fn index_of(rt: &impl Abort, text: Option<&'static str>) -> Option<Index> {
     let (text, tag) = field(text);
-    let Some(text) = text else {
-        return Ok(None);
-    };
-    let index = Index::new_i64(text.parse::<i64>()?);
+    let index = Index::new_i64(must(rt, text?.parse::<i64>()));
     match tag {
-        Some(tag) => Ok(Some(index.with_tag(&tag))),
-        None => Ok(Some(index)),
+        Some(tag) => Some(index.with_tag(&tag)),
+        None => Some(index),
     }
 }
 
 /// The size of a field.
-fn size_of(text: Option<&'static str>) -> Result<Option<usize>, Fail> {
-    match text {
-        Some(text) => Ok(Some(text.parse::<usize>()?)),
-        None => Ok(None),
-    }
+fn size_of(rt: &impl Abort, text: Option<&'static str>) -> Option<usize> {
+    Some(must(rt, text?.parse::<usize>()))
 }
 
 /// The call of a word.
@@ -145,8 +138,6 @@ fn call_of<'c>(word: &str, name: Name<'c>, size: Option<usize>) -> Option<Call<'
     let call = match word {
         "true" => Call::Bool(true),
         "false" => Call::Bool(false),
-        "u128" => Call::U128(size? as u128),
-        "tag_hint" => Call::TagHint(name.tag?),
         "tag" => Call::Tag(name),
         "seq_begin" => Call::SeqBegin(size),
         "seq_value_begin" => Call::SeqValueBegin,
@@ -165,19 +156,32 @@ fn call_of<'c>(word: &str, name: Name<'c>, size: Option<usize>) -> Option<Call<'
 fn part_of<'c>(word: &str, name: Name<'c>, size: Option<usize>) -> Option<Call<'static, 'c>> {
     let call = match word {
         "record_begin" => Call::RecordBegin(name, size),
-        "record_value_begin" => Call::RecordValueBegin(name.tag, name.label?),
-        "record_value_end" => Call::RecordValueEnd(name.tag, name.label?),
         "record_end" => Call::RecordEnd(name),
         "tuple_begin" => Call::TupleBegin(name, size),
-        "tuple_value_begin" => Call::TupleValueBegin(name.tag, name.index?),
-        "tuple_value_end" => Call::TupleValueEnd(name.tag, name.index?),
         "tuple_end" => Call::TupleEnd(name),
         "record_tuple_begin" => Call::RecordTupleBegin(name, size),
-        "record_tuple_value_begin" => {
-            Call::RecordTupleValueBegin(name.tag, name.label?, name.index?)
-        }
-        "record_tuple_value_end" => Call::RecordTupleValueEnd(name.tag, name.label?, name.index?),
         "record_tuple_end" => Call::RecordTupleEnd(name),
+        "tag_hint" => Call::TagHint(name.tag?),
+        "u128" => Call::U128(size? as u128),
+        _ => return field_of(word, name),
+    };
+    Some(call)
+}
+
+/// The call of a word of the fields of records and tuples, where its label and its index are there.
+fn field_of<'c>(word: &str, name: Name<'c>) -> Option<Call<'static, 'c>> {
+    let tag = name.tag;
+    let call = match (word, name.label, name.index) {
+        ("record_value_begin", Some(label), _) => Call::RecordValueBegin(tag, label),
+        ("record_value_end", Some(label), _) => Call::RecordValueEnd(tag, label),
+        ("tuple_value_begin", _, Some(index)) => Call::TupleValueBegin(tag, index),
+        ("tuple_value_end", _, Some(index)) => Call::TupleValueEnd(tag, index),
+        ("record_tuple_value_begin", Some(label), Some(index)) => {
+            Call::RecordTupleValueBegin(tag, label, index)
+        }
+        ("record_tuple_value_end", Some(label), Some(index)) => {
+            Call::RecordTupleValueEnd(tag, label, index)
+        }
         _ => return None,
     };
     Some(call)
@@ -185,65 +189,58 @@ fn part_of<'c>(word: &str, name: Name<'c>, size: Option<usize>) -> Option<Call<'
 
 /// Captures the call of a line, and adds it to those that were captured, as `Debug` lists them.
 fn capture(
+    rt: &impl Abort,
     buffer: &mut ValueBuf<'static>,
     listed: &mut String,
     line: &'static str,
-) -> Result<(), Fail> {
+) {
     let mut fields = line.split(' ');
     let word = fields.next().unwrap_or("");
     let tag = tag_of(fields.next());
     let label = label_of(fields.next());
-    let index = index_of(fields.next())?;
-    let size = size_of(fields.next())?;
+    let index = index_of(rt, fields.next());
+    let size = size_of(rt, fields.next());
     let name = Name {
         tag: tag.as_ref(),
         label: label.as_ref(),
         index: index.as_ref(),
     };
-    let call = call_of(word, name, size).ok_or(line)?;
-    list(listed, call)?;
-    buffer.take(call)?;
-    Ok(())
+    let call = must(rt, call_of(word, name, size).ok_or(line));
+    list(rt, listed, call);
+    must(rt, buffer.take(call));
 }
 
 /// Adds a call to those that are listed, as `Debug` lists them.
-fn list(listed: &mut String, call: Call<'_, '_>) -> Result<(), AllocError> {
-    let before = if listed.is_empty() { "[" } else { ", " };
-    write!(listed, "{before}{call:?}")
+fn list(rt: &impl Abort, listed: &mut String, call: Call<'_, '_>) {
+    push(rt, listed, if listed.is_empty() { "[" } else { ", " });
+    must(rt, write!(listed, "{call:?}"));
 }
 
 /// Compares the calls that a buffer makes again with those that it captured, as `Debug` lists both.
-fn makes_again(
-    rt: &impl Abort,
-    alloc: Global,
-    buffer: &ValueBuf<'static>,
-    listed: &str,
-) -> Result<(), Fail> {
-    let due = format!(in alloc; "{listed}]")?;
-    shows(rt, format!(in alloc; "{buffer:?}"), due.as_str());
-    Ok(())
+fn makes_again(rt: &impl Abort, alloc: Global, buffer: &ValueBuf<'static>, listed: &str) {
+    let due = must(rt, [listed, "]"].concat(alloc));
+    shows(rt, format!(in alloc; "{buffer:?}"), &due);
 }
 
 /// Captures calls in a buffer, and compares what it makes again where it is cleared, and of the last.
-fn try_calls(rt: &impl Abort, alloc: Global, calls: &'static str) -> Result<(), Fail> {
+fn try_calls(rt: &impl Abort, alloc: Global, calls: &'static str) {
     let mut buffer: ValueBuf<'static> = ValueBuf::new(alloc);
     let mut listed = String::new(alloc);
     for line in calls.lines() {
         if line == "clear" {
-            makes_again(rt, alloc, &buffer, listed.as_str())?;
+            makes_again(rt, alloc, &buffer, &listed);
             buffer.clear();
             listed.clear();
         } else if !line.is_empty() && !line.starts_with('#') {
-            capture(&mut buffer, &mut listed, line)?;
+            capture(rt, &mut buffer, &mut listed, line);
         }
     }
-    makes_again(rt, alloc, &buffer, listed.as_str())
+    makes_again(rt, alloc, &buffer, &listed);
 }
 
 #[test]
-fn makes_static_labels_and_own_tags_again(rt: HostRuntime) -> Result<(), Fail> {
+fn makes_static_labels_and_own_tags_again(rt: HostRuntime) {
     for calls in CALLS.split("\n\n") {
-        try_calls(&rt, rt.alloc(), calls)?;
+        try_calls(&rt, rt.alloc(), calls);
     }
-    Ok(())
 }

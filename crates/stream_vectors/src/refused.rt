@@ -2,10 +2,9 @@
 
 ghost use Rattle.std.specs.Prelude.{[], true};
 
-use crate::cases::{holds, shows};
+use crate::cases::{holds, must, shows};
 use std::alloc::{AllocError, Global};
 use std::process::Abort;
-use std::test::Fail;
 use sval_buffer::{BinaryBuf, TextBuf, Value as Captured, ValueBuf};
 use sval_check::{CheckError, check};
 use sval_core::{Lent, Stream, Value};
@@ -52,13 +51,12 @@ const SEQ_AS_KEY: &'static [u8] = b"map_begin -\nmap_key_begin\nseq_begin -\nseq
     map_value_begin\nnull\nmap_value_end\nmap_end\n";
 
 #[test]
-fn tells_why_there_is_no_json(rt: HostRuntime) -> Result<(), Fail> {
+fn tells_why_there_is_no_json(rt: HostRuntime) {
     let want = "Generic: an error occurred serializing a value to JSON";
     is_unwritten(&rt, rt.alloc(), &Refusing {}, want);
-    let seq_as_key = Script::read(rt.alloc(), SEQ_AS_KEY)?;
+    let seq_as_key = must(&rt, Script::read(rt.alloc(), SEQ_AS_KEY));
     let want = "InvalidKey: attempt to serialize a non-string key";
     is_unwritten(&rt, rt.alloc(), &seq_as_key, want);
-    Ok(())
 }
 
 /// Why nothing was collected.

@@ -1,9 +1,9 @@
 //! What a buffer captures of calls, refused ones among them, and what it makes again.
 
-use crate::cases::{agrees, holds};
+use crate::cases::{agrees, holds, must};
 use std::alloc::Global;
 use std::fmt::Write;
-use std::test::Fail;
+use std::process::Abort;
 use sval_buffer::ValueBuf;
 use sval_core::{Lent, Value};
 use sval_io::VecSink;
@@ -26,47 +26,50 @@ pub(crate) fn captured<'s>(alloc: Global, script: &'s Script) -> ValueBuf<'s> {
 
 /// The calls of a value, as a script.
 pub(crate) fn script_of<'v, V: Value<'v, Lent<'v>>>(
+    rt: &impl Abort,
     alloc: Global,
     value: &'v V,
-) -> Result<String, Fail> {
+) -> String {
     let mut printer = Printer::new(VecSink::new(alloc));
-    value.stream(&mut printer)?;
-    Ok(String::from_utf8(printer.into_inner().into_vec())?)
+    must(rt, value.stream(&mut printer));
+    must(rt, String::from_utf8(printer.into_inner().into_vec()))
 }
 
 /// The calls of a value by `stream_ref`, as a script.
 pub(crate) fn lent_script_of<'sval, V: ValueRef<Lent<'sval>>>(
+    rt: &impl Abort,
     alloc: Global,
     value: &V,
-) -> Result<String, Fail> {
+) -> String {
     let mut printer = Printer::new(VecSink::new(alloc));
-    stream_ref(&mut printer, value)?;
-    Ok(String::from_utf8(printer.into_inner().into_vec())?)
+    must(rt, stream_ref(&mut printer, value));
+    must(rt, String::from_utf8(printer.into_inner().into_vec()))
 }
 
 /// What a buffer makes again of the calls of a script, whether that is a whole value, and why the last refused call was
 /// refused.
-pub(crate) fn replayed(alloc: Global, script: &Script) -> Result<String, Fail> {
+pub(crate) fn replayed(rt: &impl Abort, alloc: Global, script: &Script) -> String {
     let buffer = captured(alloc, script);
-    let mut seen = made_again(alloc, &buffer, script)?;
+    let mut seen = made_again(rt, alloc, &buffer, script);
     if let Some(error) = buffer.into_err() {
-        write!(seen, "\n{:?}: {error}", error.kind())?;
+        must(rt, write!(seen, "\n{:?}: {error}", error.kind()));
     }
-    Ok(seen)
+    seen
 }
 
 /// What a buffer makes again of the calls of a script, and whether that is a whole value.
-fn made_again(alloc: Global, buffer: &ValueBuf<'_>, script: &Script) -> Result<String, Fail> {
-    let again = script_of(alloc, buffer)?;
-    let alike = lent_script_of(alloc, buffer)? == again;
-    let is_same = script_of(alloc, script)? == again;
+fn made_again(rt: &impl Abort, alloc: Global, buffer: &ValueBuf<'_>, script: &Script) -> String {
+    let again = script_of(rt, alloc, buffer);
+    let alike = lent_script_of(rt, alloc, buffer) == again;
+    let is_same = script_of(rt, alloc, script) == again;
     let calls = if is_same {
         "the same\n"
     } else {
         again.as_str()
     };
     let complete = buffer.is_complete();
-    Ok(format!(in alloc; "{calls}complete: {complete}, lent alike: {alike}")?)
+    let seen = format!(in alloc; "{calls}complete: {complete}, lent alike: {alike}");
+    must(rt, seen)
 }
 
 /// Calls that are no value's, or not whole: what can be is made again with its ends, and without what was refused.
@@ -273,22 +276,26 @@ const VALUES: [&'static str; 5] = [
     "enum_begin - =45 -\ntag - =41 0\nenum_end - =45 -\n",
 ];
 
-#[test]
-fn collects_values(rt: HostRuntime) -> Result<(), Fail> {
-    for lines in VALUES {
-        let script = Script::read(rt.alloc(), lines.as_bytes())?;
-        let buffer = captured(rt.alloc(), &script);
-        let again: ValueBuf<'_> = ValueBuf::collect(rt.alloc(), &buffer)?;
-        holds(&rt, again.is_complete(), lines);
-        agrees(&rt, script_of(rt.alloc(), &again), lines)?;
-    }
-    Ok(())
+/// Captures the value of these lines a second time, from its capture, and compares its calls with the lines.
+fn try_again(rt: &impl Abort, alloc: Global, lines: &str) {
+    let script = must(rt, Script::read(alloc, lines.as_bytes()));
+    let buffer = captured(alloc, &script);
+    let again: ValueBuf<'_> = must(rt, ValueBuf::collect(alloc, &buffer));
+    holds(rt, again.is_complete(), lines);
+    agrees(rt, &script_of(rt, alloc, &again), lines);
 }
 
 #[test]
-fn forgets_calls(rt: HostRuntime) -> Result<(), Fail> {
-    let script = Script::read(rt.alloc(), b"seq_begin -\ntext_end\n")?;
+fn collects_values(rt: HostRuntime) {
+    for lines in &VALUES {
+        try_again(&rt, rt.alloc(), lines);
+    }
+}
+
+#[test]
+fn forgets_calls(rt: HostRuntime) {
+    let script = must(&rt, Script::read(rt.alloc(), b"seq_begin -\ntext_end\n"));
     let mut buffer = captured(rt.alloc(), &script);
     buffer.clear();
-    agrees(&rt, script_of(rt.alloc(), &buffer), "null\n")
+    agrees(&rt, &script_of(&rt, rt.alloc(), &buffer), "null\n");
 }

@@ -1,9 +1,9 @@
 //! JSON that is written as it is, and what takes JSON.
 
-use crate::cases::{agrees, compare, holds, shows};
+use crate::cases::{agrees, holds, must, shows};
 use crate::written::told;
 use std::alloc::Global;
-use std::test::Fail;
+use std::process::Abort;
 use sval_io::{CountSink, FaultySink, FixedSink, TrickleSink, VecSink};
 use sval_json::escape::first_escape;
 use sval_json::{
@@ -12,79 +12,82 @@ use sval_json::{
 };
 
 #[test]
-fn writes_json_as_it_is(rt: HostRuntime) -> Result<(), Fail> {
-    let json = JsonString::boxed(String::from_str(rt.alloc(), "[1, 2]")?);
+fn writes_json_as_it_is(rt: HostRuntime) {
+    let json = JsonString::boxed(must(&rt, String::from_str(rt.alloc(), "[1, 2]")));
     let text = json.as_json_str();
     holds(&rt, text.is_text("[1, 2]"), "its text");
     holds(&rt, text == JsonStr::from("[1, 2]"), "an equal one");
     shows(&rt, format!(in rt.alloc(); "{text}"), "[1, 2]");
     let mut sink = VecSink::new(rt.alloc());
     let answer = stream_to_io_write(&mut sink, &text);
-    agrees(&rt, told(rt.alloc(), sink.as_slice(), answer), "[1, 2]")
+    agrees(
+        &rt,
+        &told(&rt, rt.alloc(), sink.as_slice(), answer),
+        "[1, 2]",
+    );
 }
 
 /// A JSON of 13 bytes.
 const FIELD: &'static str = "{\"field_0\":1}";
 
 #[test]
-fn takes_one_byte_a_call_and_counts(rt: HostRuntime) -> Result<(), Fail> {
+fn takes_one_byte_a_call_and_counts(rt: HostRuntime) {
     let value = JsonStr::new(FIELD);
     let mut sink = TrickleSink::new(rt.alloc());
     let answer = stream_to_io_write(&mut sink, &value);
-    agrees(&rt, told(rt.alloc(), sink.as_slice(), answer), FIELD)?;
+    agrees(&rt, &told(&rt, rt.alloc(), sink.as_slice(), answer), FIELD);
     let mut count = CountSink::new();
-    stream_to_io_write(&mut count, &value)?;
+    must(&rt, stream_to_io_write(&mut count, &value));
     holds(&rt, count.count() == 13, "the count");
-    Ok(())
 }
 
 /// What a sink over a buffer takes of the JSON, why not all, and what room is left.
-fn fitted(alloc: Global, buffer: &mut [u8]) -> Result<String, Fail> {
+fn fitted(rt: &impl Abort, alloc: Global, buffer: &mut [u8]) -> String {
     let mut sink = FixedSink::new(buffer);
     let answer = stream_to_io_write(&mut sink, &JsonStr::new(FIELD));
     let room = sink.room();
-    let seen = told(alloc, sink.into_slice(), answer)?;
-    Ok(format!(in alloc; "{seen} {room}")?)
+    let seen = told(rt, alloc, sink.into_slice(), answer);
+    must(rt, format!(in alloc; "{seen} {room}"))
 }
 
 #[test]
-fn takes_what_fits(rt: HostRuntime) -> Result<(), Fail> {
+fn takes_what_fits(rt: HostRuntime) {
     let want = "IO: failed to write JSON, after `{\"field_0\"` 0";
-    agrees(&rt, fitted(rt.alloc(), &mut [0; 10]), want)?;
-    agrees(&rt, fitted(rt.alloc(), &mut [0; 13]), "{\"field_0\":1} 0")
+    agrees(&rt, &fitted(&rt, rt.alloc(), &mut [0; 10]), want);
+    let want = "{\"field_0\":1} 0";
+    agrees(&rt, &fitted(&rt, rt.alloc(), &mut [0; 13]), want);
 }
 
 #[test]
-fn fails_where_it_is_told_to(rt: HostRuntime) -> Result<(), Fail> {
+fn fails_where_it_is_told_to(rt: HostRuntime) {
     let mut sink = FaultySink::new(rt.alloc(), 1, &[3]);
     let answer = stream_to_io_write(&mut sink, &JsonStr::new(FIELD));
-    let seen = told(rt.alloc(), sink.as_slice(), answer);
-    agrees(&rt, seen, "IO: failed to write JSON, after `{\"`")
+    let seen = told(&rt, rt.alloc(), sink.as_slice(), answer);
+    agrees(&rt, &seen, "IO: failed to write JSON, after `{\"`");
 }
 
 #[test]
-fn writes_the_same_to_all_targets(rt: HostRuntime) -> Result<(), Fail> {
+fn writes_the_same_to_all_targets(rt: HostRuntime) {
     let value = JsonStr::new(FIELD);
-    let bytes = stream_to_vec(rt.alloc(), &value)?;
+    let bytes = must(&rt, stream_to_vec(rt.alloc(), &value));
     shows(&rt, String::from_utf8(bytes), FIELD);
     shows(&rt, stream_to_string(rt.alloc(), &value), FIELD);
-    let json = stream_to_json_str(rt.alloc(), &value)?;
-    compare(&rt, json.as_json_str().as_str(), FIELD, "a text of JSON");
-    Ok(())
+    let json = must(&rt, stream_to_json_str(rt.alloc(), &value));
+    agrees(&rt, json.as_json_str().as_str(), FIELD);
 }
 
 #[test]
-fn writes_the_same_to_sinks(rt: HostRuntime) -> Result<(), Fail> {
+fn writes_the_same_to_sinks(rt: HostRuntime) {
     let value = JsonStr::new(FIELD);
     let mut sink = TrickleSink::new(rt.alloc());
     let answer = stream_to_fmt_write(&mut sink, &value);
-    agrees(&rt, told(rt.alloc(), sink.as_slice(), answer), FIELD)?;
+    agrees(&rt, &told(&rt, rt.alloc(), sink.as_slice(), answer), FIELD);
     let mut buffer = [0; 10];
     let mut short = FixedSink::new(&mut buffer);
     let answer = stream_to_fmt_write(&mut short, &value);
-    let seen = told(rt.alloc(), short.as_slice(), answer);
+    let seen = told(&rt, rt.alloc(), short.as_slice(), answer);
     let want = "Generic: an error occurred serializing a value to JSON, after `{\"field_0\"`";
-    agrees(&rt, seen, want)
+    agrees(&rt, &seen, want);
 }
 
 /// Texts, and the place of the first byte of each that is escaped, or the length where none is. The lengths are those
@@ -107,14 +110,18 @@ const ESCAPES: &'static str = r#"0:
 64:abcdefghijklmnopqrstuvwxyzabcdefabcdefghijklmnopqrstuvwxyzabcdef
 66:abcdefghijklmnopqrstuvwxyzabcdefabcdefghijklmnopqrstuvwxyzabcdefgh""#;
 
+/// Compares the place that is found in a text with that of its row.
+fn try_escape(rt: &impl Abort, row: &str) {
+    let (place, text) = row.split_once(':').unwrap_or((row, ""));
+    let place = must(rt, place.parse::<usize>());
+    holds(rt, first_escape(text.as_bytes()) == place, text);
+}
+
 #[test]
-fn finds_the_first_byte_to_escape(rt: HostRuntime) -> Result<(), Fail> {
+fn finds_the_first_byte_to_escape(rt: HostRuntime) {
     for row in ESCAPES.lines() {
-        let (place, text) = row.split_once(':').ok_or("a row has no colon")?;
-        let place = place.parse::<usize>()?;
-        holds(&rt, first_escape(text.as_bytes()) == place, text);
+        try_escape(&rt, row);
     }
-    Ok(())
 }
 
 #[test]

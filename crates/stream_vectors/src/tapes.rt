@@ -1,9 +1,8 @@
 //! Tapes of all calls: written by hand, read and written again, cut short and spoiled.
 
-use crate::cases::holds;
-use std::alloc::{AllocError, Global};
+use crate::cases::{holds, must};
+use std::alloc::Global;
 use std::process::Abort;
-use std::test::Fail;
 use sval_core::{Index, Label, Stream, Tag, Value};
 use sval_io::{FixedSink, VecSink};
 use sval_tape::{Tape, TapeError, TapeWriter, stream_tape};
@@ -111,27 +110,23 @@ const SPOILED: [&'static [u8]; 22] = [
 ];
 
 /// The tape of all calls.
-fn tape_of_all(alloc: Global) -> Result<Vec<u8>, AllocError> {
-    let mut bytes = Vec::new(alloc);
-    for call in CALLS {
-        bytes.extend_from_slice(call)?;
-    }
-    Ok(bytes)
+fn tape_of_all(rt: &impl Abort, alloc: Global) -> Vec<u8> {
+    must(rt, CALLS.concat(alloc))
 }
 
 /// Compares the bytes of a tape.
 fn has_written(rt: &impl Abort, writer: TapeWriter<VecSink>, due: &[u8]) {
-    assert_eq!(rt; writer.into_inner().as_slice(), due);
+    let written = writer.into_inner();
+    holds(rt, written.as_slice() == due, "what is written");
 }
 
 #[test]
-fn all_calls_are_read_and_written_again(rt: HostRuntime) -> Result<(), Fail> {
-    let bytes = tape_of_all(rt.alloc())?;
-    let tape = Tape::read(bytes.as_slice())?;
+fn all_calls_are_read_and_written_again(rt: HostRuntime) {
+    let bytes = tape_of_all(&rt, rt.alloc());
+    let tape = must(&rt, Tape::read(&bytes));
     let mut writer = TapeWriter::new(VecSink::new(rt.alloc()));
-    tape.stream(&mut writer)?;
+    must(&rt, tape.stream(&mut writer));
     has_written(&rt, writer, &bytes);
-    Ok(())
 }
 
 /// Where a tape is bad, if it is.
@@ -151,53 +146,57 @@ fn bad_place_due(begin: usize, length: usize, call: &[u8]) -> Option<usize> {
     }
 }
 
-#[test]
-fn bytes_cut_within_a_call_are_bad_where_it_begins(rt: HostRuntime) -> Result<(), Fail> {
-    let mut bytes = Vec::new(rt.alloc());
-    for call in CALLS {
-        let begin = bytes.len();
-        for byte in call {
-            bytes.push(*byte)?;
-            let due = bad_place_due(begin, bytes.len(), call);
-            holds(&rt, bad_place(&bytes) == due, "a cut call");
-        }
+/// Adds a call to a tape byte by byte, and compares where the tape is bad behind each byte.
+fn try_cuts(rt: &impl Abort, tape: &mut Vec<u8>, call: &[u8]) {
+    let begin = tape.len();
+    for byte in call {
+        must(rt, tape.push(*byte));
+        let due = bad_place_due(begin, tape.len(), call);
+        holds(rt, bad_place(tape) == due, "a cut call");
     }
-    Ok(())
 }
 
 #[test]
-fn spoiled_calls_are_bad_where_they_begin(rt: HostRuntime) -> Result<(), Fail> {
-    for call in SPOILED {
-        let mut bytes = Vec::from_slice(rt.alloc(), &[0, 15])?;
-        bytes.extend_from_slice(call)?;
+fn bytes_cut_within_a_call_are_bad_where_it_begins(rt: HostRuntime) {
+    let mut tape = Vec::new(rt.alloc());
+    for call in &CALLS {
+        try_cuts(&rt, &mut tape, call);
+    }
+}
+
+#[test]
+fn spoiled_calls_are_bad_where_they_begin(rt: HostRuntime) {
+    for call in &SPOILED {
+        let bytes = must(&rt, [&[0, 15], *call].concat(rt.alloc()));
         holds(&rt, bad_place(&bytes) == Some(2), "a spoiled call");
     }
-    Ok(())
 }
 
 #[test]
-fn writes_the_bytes_of_a_record(rt: HostRuntime) -> Result<(), Fail> {
+fn writes_the_bytes_of_a_record(rt: HostRuntime) {
     let mut writer = TapeWriter::new(VecSink::new(rt.alloc()));
     let label = Label::new("id");
     let index = Index::new_i32(-3);
     let own = Tag::new("own");
-    writer.record_tuple_begin(Some(&own), None, None, Some(300))?;
-    writer.record_tuple_value_begin(None, &label, &index)?;
-    writer.i32(-300)?;
+    let answers = [
+        writer.record_tuple_begin(Some(&own), None, None, Some(300)),
+        writer.record_tuple_value_begin(None, &label, &index),
+        writer.i32(-300),
+    ];
+    let taken = answers.iter().all(|answer| answer.is_ok());
+    holds(&rt, taken, "the answers");
     let due = [
         30, 1, 3, 111, 119, 110, 0, 0, 1, 172, 2, 41, 0, 2, 105, 100, 0, 5, 0, 9, 215, 4,
     ];
     has_written(&rt, writer, &due);
-    Ok(())
 }
 
 #[test]
-fn all_calls_are_streamed_as_they_are_read(rt: HostRuntime) -> Result<(), Fail> {
-    let bytes = tape_of_all(rt.alloc())?;
+fn all_calls_are_streamed_as_they_are_read(rt: HostRuntime) {
+    let bytes = tape_of_all(&rt, rt.alloc());
     let mut writer = TapeWriter::new(VecSink::new(rt.alloc()));
-    stream_tape(bytes.as_slice(), &mut writer)??;
+    must(&rt, must(&rt, stream_tape(&bytes, &mut writer)));
     has_written(&rt, writer, &bytes);
-    Ok(())
 }
 
 /// A null, a text's end, and a byte that begins no call.
@@ -213,12 +212,11 @@ fn streaming_ends_at_a_bad_call(rt: HostRuntime) {
 }
 
 #[test]
-fn streaming_ends_at_a_refused_call(rt: HostRuntime) -> Result<(), Fail> {
+fn streaming_ends_at_a_refused_call(rt: HostRuntime) {
     let mut room = [0; 1];
     let mut writer = TapeWriter::new(FixedSink::new(&mut room));
-    let streamed = stream_tape(&BAD, &mut writer)?;
+    let streamed = must(&rt, stream_tape(&BAD, &mut writer));
     holds(&rt, streamed.is_err(), "the answer");
     let written = writer.into_inner();
     holds(&rt, written.as_slice() == &BAD[..1], "the bytes");
-    Ok(())
 }

@@ -1,29 +1,37 @@
 //! The JSON that is written for calls.
 
+use crate::cases::must;
 use std::alloc::Global;
-use std::test::Fail;
+use std::process::Abort;
 use sval_buffer::ValueBuf;
 use sval_io::VecSink;
 use sval_json::{Error, Variants, stream_to_io_write_with};
 
 /// What a sink took, and why not all.
-pub(crate) fn told(alloc: Global, taken: &[u8], answer: Result<(), Error>) -> Result<String, Fail> {
-    let json = str::from_utf8(taken)?;
-    match answer {
-        Ok(()) => Ok(String::from_str(alloc, json)?),
-        Err(error) => Ok(format!(in alloc; "{:?}: {error}, after `{json}`", error.kind())?),
-    }
+pub(crate) fn told(
+    rt: &impl Abort,
+    alloc: Global,
+    taken: &[u8],
+    answer: Result<(), Error>,
+) -> String {
+    let json = must(rt, str::from_utf8(taken));
+    let told = match answer {
+        Ok(()) => String::from_str(alloc, json),
+        Err(error) => format!(in alloc; "{:?}: {error}, after `{json}`", error.kind()),
+    };
+    must(rt, told)
 }
 
 /// What is written for captured calls in a style of variants, and why not all.
 pub(crate) fn written(
+    rt: &impl Abort,
     alloc: Global,
     value: &ValueBuf<'_>,
     variants: Variants,
-) -> Result<String, Fail> {
+) -> String {
     let mut sink = VecSink::new(alloc);
     let answer = stream_to_io_write_with(&mut sink, value, variants);
-    told(alloc, sink.as_slice(), answer)
+    told(rt, alloc, sink.as_slice(), answer)
 }
 
 /// A binary, fields, a variant, empty enums, texts by their tags, and what is refused: numbers that are none and a
