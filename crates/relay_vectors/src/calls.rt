@@ -4,10 +4,10 @@ ghost use Rattle.sval_core.specs.Law.{emits};
 ghost use Rattle.sval_label.specs.Calls as call;
 
 use crate::fakes::Record;
-use crate::shown::{agrees, compare, holds};
+use crate::shown::{agrees, compare, holds, must};
 use std::alloc::Global;
 use std::fmt::Write;
-use std::test::Fail;
+use std::process::Abort;
 use sval_core::{Index, Label, Lending, Lent, Result, Stream, Tag, Value, tags};
 use sval_script::Script;
 
@@ -87,30 +87,29 @@ record_tuple_end - - - -> End(RecordTuple(Name { tag: None, label: None, index: 
 "#;
 
 /// Adds a row's line to a script, and its call to those that are due.
-fn add_row(row: &str, script: &mut String, calls: &mut String) -> std::result::Result<(), Fail> {
+fn add_row(rt: &impl Abort, row: &str, script: &mut String, calls: &mut String) {
     if let Some((line, call)) = row.split_once(" -> ") {
-        write!(script, "{line}\n")?;
-        write!(calls, "{call}\n")?;
+        must(rt, write!(script, "{line}\n"));
+        must(rt, write!(calls, "{call}\n"));
     }
-    Ok(())
 }
 
 /// What is written down of a script's calls.
-fn calls_of(alloc: Global, script: &str) -> std::result::Result<String, Fail> {
+fn calls_of(rt: &impl Abort, alloc: Global, script: &str) -> String {
     let mut record = Record::new(alloc);
-    let script = Script::read(alloc, script.as_bytes())?;
-    script.stream(&mut record)?;
-    Ok(record.text)
+    let script = must(rt, Script::read(alloc, script.as_bytes()));
+    must(rt, script.stream(&mut record));
+    record.text
 }
 
 #[test]
-fn makes_the_calls_of_its_lines(rt: HostRuntime) -> std::result::Result<(), Fail> {
+fn makes_the_calls_of_its_lines(rt: HostRuntime) {
     let mut script = String::new(rt.alloc());
     let mut calls = String::new(rt.alloc());
     for row in LINES.lines() {
-        add_row(row, &mut script, &mut calls)?;
+        add_row(&rt, row, &mut script, &mut calls);
     }
-    agrees(&rt, calls_of(rt.alloc(), &script), &calls)
+    agrees(&rt, &calls_of(&rt, rt.alloc(), &script), &calls);
 }
 
 /// A value that says that there is none.

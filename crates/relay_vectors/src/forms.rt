@@ -1,9 +1,9 @@
 //! The forms of the program's words, and a run of one over any devices.
 
-use crate::shown::answer_text;
-use std::alloc::{AllocError, Global};
+use crate::shown::{answer_text, must};
+use std::alloc::Global;
 use std::io::{Read, Write};
-use std::test::Fail;
+use std::process::Abort;
 use sval_io::{FaultySink, Sink, VecSink};
 use sval_relay::{Source, relay_streams, run};
 
@@ -69,12 +69,12 @@ pub(crate) fn takes_many(form: &str) -> bool {
 }
 
 /// The words of a form.
-fn words_of(alloc: Global, form: &str) -> Result<Vec<String>, AllocError> {
+fn words_of(rt: &impl Abort, alloc: Global, form: &str) -> Vec<String> {
     let mut words = Vec::new(alloc);
     for word in form.split(' ') {
-        words.push(String::from_str(alloc, word)?)?;
+        must(rt, words.push(must(rt, String::from_str(alloc, word))));
     }
-    Ok(words)
+    words
 }
 
 /// Runs words over these devices, and answers the status. It promises nothing, so that tests have little to prove.
@@ -90,26 +90,28 @@ pub(crate) fn run_words<I: Source, K: Sink, D: Sink>(
 
 /// Runs a form over std's readers and writers, and answers the status.
 pub(crate) fn run_over_std<R: Read + Drop, W: Write + Drop>(
+    rt: &impl Abort,
     alloc: Global,
     form: &str,
     input: R,
     out: &mut W,
     diag: &mut W,
-) -> Result<u8, AllocError> {
-    let words = words_of(alloc, form)?;
-    Ok(relay_streams(alloc, &words, input, out, diag))
+) -> u8 {
+    let words = words_of(rt, alloc, form);
+    relay_streams(alloc, &words, input, out, diag)
 }
 
 /// Runs a form over these devices, and answers the status.
 pub(crate) fn run_over<I: Source, K: Sink, D: Sink>(
+    rt: &impl Abort,
     alloc: Global,
     form: &str,
     input: &mut I,
     out: &mut K,
     diag: &mut D,
-) -> Result<u8, AllocError> {
-    let words = words_of(alloc, form)?;
-    Ok(run_words(alloc, &words, input, out, diag))
+) -> u8 {
+    let words = words_of(rt, alloc, form);
+    run_words(alloc, &words, input, out, diag)
 }
 
 /// A sink that shows what it has taken.
@@ -132,12 +134,13 @@ impl Taking for FaultySink<'_> {
 
 /// Runs a form over these devices: the status, what was written, and behind a bar what was told.
 pub(crate) fn answer_over<I: Source, K: Taking, D: Taking>(
+    rt: &impl Abort,
     alloc: Global,
     form: &str,
     input: &mut I,
     out: &mut K,
     diag: &mut D,
-) -> Result<String, Fail> {
-    let status = run_over(alloc, form, input, out, diag)?;
-    answer_text(alloc, status, out.taken(), diag.taken())
+) -> String {
+    let status = run_over(rt, alloc, form, input, out, diag);
+    answer_text(rt, alloc, status, out.taken(), diag.taken())
 }

@@ -1,6 +1,8 @@
 //! Letters that a table can't show, as pictures of them.
 
-use std::alloc::{AllocError, Global};
+use crate::shown::{must, push};
+use std::alloc::Global;
+use std::process::Abort;
 
 /// The letter that a picture stands for, and any other letter as it is.
 fn plain(letter: char) -> char {
@@ -16,26 +18,25 @@ fn plain(letter: char) -> char {
 }
 
 /// A text of a table, with the letters that its pictures stand for.
-pub(crate) fn plain_text(alloc: Global, shown: &str) -> Result<String, AllocError> {
+pub(crate) fn plain_text(rt: &impl Abort, alloc: Global, shown: &str) -> String {
     let mut text = String::new(alloc);
     for letter in shown.chars() {
-        text.push(plain(letter))?;
+        must(rt, text.push(plain(letter)));
     }
-    Ok(text)
+    text
 }
 
 /// Adds a line of a table to a script: with a newline, unless it ends with `␄`.
-pub(crate) fn add_line(script: &mut String, shown: &str) -> Result<(), AllocError> {
+pub(crate) fn add_line(rt: &impl Abort, script: &mut String, shown: &str) {
     let mut newline = true;
     for letter in shown.chars() {
         if letter == '␄' {
             newline = false;
         } else {
-            script.push(plain(letter))?;
+            must(rt, script.push(plain(letter)));
         }
     }
     if newline {
-        script.push('\n')?;
+        push(rt, script, "\n");
     }
-    Ok(())
 }

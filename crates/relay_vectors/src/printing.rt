@@ -5,10 +5,9 @@ ghost use Rattle.sval_label.specs.SeenTags.{seen_tag};
 ghost use Rattle.sval_label.specs.Calls.{TagHint, Null, Standalone};
 ghost use Rattle.sval_core.specs.Values.{makes};
 
-use crate::shown::{holds, shows};
+use crate::shown::{holds, must, shows};
 use std::io::Cursor;
 use std::process::Abort;
-use std::test::Fail;
 use sval_core::{Index, Label, Lending, Stream, Tag, Value, tags};
 use sval_io::{RealSink, VecSink};
 use sval_ref::ValueRef;
@@ -67,12 +66,11 @@ record_tuple_end - =62 -
 "#;
 
 #[test]
-fn prints_what_is_read(rt: HostRuntime) -> Result<(), Fail> {
-    let script = Script::read(rt.alloc(), EACH_CALL.as_bytes())?;
+fn prints_what_is_read(rt: HostRuntime) {
+    let script = must(&rt, Script::read(rt.alloc(), EACH_CALL.as_bytes()));
     let mut printer = Printer::new(VecSink::new(rt.alloc()));
-    script.stream(&mut printer)?;
+    must(&rt, script.stream(&mut printer));
     has_printed(&rt, printer, EACH_CALL);
-    Ok(())
 }
 
 /// Asserts that these lines were printed.
@@ -86,48 +84,48 @@ fn has_printed(rt: &impl Abort, printer: Printer<VecSink>, lines: &str) {
 
 /// Labels and tags of the program.
 #[test]
-fn prints_known_names(rt: HostRuntime) -> Result<(), Fail> {
+fn prints_known_names(rt: HostRuntime) {
     let mut printer = Printer::new(VecSink::new(rt.alloc()));
     let label = Label::new("id").with_tag(&tags::VALUE_IDENT);
-    printer.record_value_begin(None, &label)?;
-    printer.tuple_value_end(Some(&tags::NUMBER), &Index::new(3))?;
+    must(&rt, printer.record_value_begin(None, &label));
+    must(
+        &rt,
+        printer.tuple_value_end(Some(&tags::NUMBER), &Index::new(3)),
+    );
     holds(&rt, printer.why().is_none(), "known tags");
     let lines = "record_value_begin - =6964:VALUE_IDENT\ntuple_value_end NUMBER 3\n";
     has_printed(&rt, printer, lines);
-    Ok(())
 }
 
 /// Unknown tags. Each is refused for good.
 #[test]
-fn refuses_unknown_tags(rt: HostRuntime) -> Result<(), Fail> {
+fn refuses_unknown_tags(rt: HostRuntime) {
     let mut printer = Printer::new(VecSink::new(rt.alloc()));
     let own = Tag::new("OWN");
-    printer.tag(Some(&tags::NUMBER), None, None)?;
+    must(&rt, printer.tag(Some(&tags::NUMBER), None, None));
     holds(&rt, printer.tag_hint(&own).is_err(), "a hint");
     holds(&rt, printer.why() == Some(PrintError::UnknownTag), "a hint");
     let label = Label::new("id").with_tag(&own);
     let end = printer.record_value_end(Some(&tags::RUST_UNIT), &label);
     holds(&rt, end.is_err(), "a field's end");
-    printer.null()?;
+    must(&rt, printer.null());
     holds(
         &rt,
         printer.why() == Some(PrintError::UnknownTag),
         "the end",
     );
     has_printed(&rt, printer, "tag NUMBER - -\nnull\n");
-    Ok(())
 }
 
 #[test]
-fn prints_up_to_the_room(rt: HostRuntime) -> Result<(), Fail> {
+fn prints_up_to_the_room(rt: HostRuntime) {
     let mut room = Cursor::new([b'-'; 10]);
     let mut printer = Printer::new(RealSink::new(&mut room));
-    printer.null()?;
+    must(&rt, printer.null());
     holds(&rt, printer.bool(true).is_err(), "the answer");
     holds(&rt, printer.why() == Some(PrintError::Write), "the error");
     drop(printer);
     holds(&rt, room.into_inner() == *b"null\nbool ", "the bytes");
-    Ok(())
 }
 
 /// A hint, a null and a name, with one tag.

@@ -1,11 +1,11 @@
 //! Std's writers, and writers that work late or never.
 
-use crate::shown::{agrees, holds, shows};
+use crate::shown::{agrees, holds, must, shows};
 use crate::sinks::answer_of;
 use std::alloc::Global;
 use std::io;
 use std::io::{Cursor, Write};
-use std::test::Fail;
+use std::process::Abort;
 use sval_core::Null;
 use sval_io::{RealSink, Sink, SinkError};
 
@@ -120,34 +120,39 @@ const LATE: [(u32, Option<io::ErrorKind>, &'static str, &'static str); 10] = [
 ];
 
 /// What is told of writing a null over a late writer.
-fn told_of_writing(alloc: Global, mut writer: Late) -> Result<String, Fail> {
+fn told_of_writing(rt: &impl Abort, alloc: Global, mut writer: Late) -> String {
     let mut sink = RealSink::new(&mut writer);
-    let answer = answer_of(alloc, &mut sink, &Null)?;
+    let answer = answer_of(rt, alloc, &mut sink, &Null);
     let error = sink.last_error();
     drop(sink);
-    let taken = std::str::from_utf8(&writer.taken)?;
-    Ok(format!(in alloc; "{answer}, {error:?}, {} left: {taken}", writer.delay)?)
+    let taken = must(rt, std::str::from_utf8(&writer.taken));
+    must(
+        rt,
+        format!(in alloc; "{answer}, {error:?}, {} left: {taken}", writer.delay),
+    )
 }
 
 /// What is told of flushing a late writer.
-fn told_of_flushing(alloc: Global, mut writer: Late) -> Result<String, Fail> {
+fn told_of_flushing(rt: &impl Abort, alloc: Global, mut writer: Late) -> String {
     let mut sink = RealSink::new(&mut writer);
     let answer = sink.flush();
     let error = sink.last_error();
     drop(sink);
-    Ok(format!(in alloc; "{answer:?}, {error:?}, {} left", writer.delay)?)
+    must(
+        rt,
+        format!(in alloc; "{answer:?}, {error:?}, {} left", writer.delay),
+    )
 }
 
 /// Interrupted calls are made again, up to 1,000 times, and others aren't.
 #[test]
-fn late_writers(rt: HostRuntime) -> Result<(), Fail> {
+fn late_writers(rt: HostRuntime) {
     for (delay, kind, writing, flushing) in &LATE {
-        let seen = told_of_writing(rt.alloc(), Late::new(rt.alloc(), *delay, *kind));
-        agrees(&rt, seen, writing)?;
-        let seen = told_of_flushing(rt.alloc(), Late::new(rt.alloc(), *delay, *kind));
-        agrees(&rt, seen, flushing)?;
+        let seen = told_of_writing(&rt, rt.alloc(), Late::new(rt.alloc(), *delay, *kind));
+        agrees(&rt, &seen, writing);
+        let seen = told_of_flushing(&rt, rt.alloc(), Late::new(rt.alloc(), *delay, *kind));
+        agrees(&rt, &seen, flushing);
     }
-    Ok(())
 }
 
 #[test]
@@ -171,8 +176,8 @@ fn flushes_after_a_fault(rt: HostRuntime) {
 
 /// A piece is passed to the writer whole, by one call.
 #[test]
-fn passes_a_piece_whole(rt: HostRuntime) -> Result<(), Fail> {
-    let piece = vec![in rt.alloc(); b'a'; 100_000]?;
+fn passes_a_piece_whole(rt: HostRuntime) {
+    let piece = must(&rt, vec![in rt.alloc(); b'a'; 100_000]);
     let mut writer = Late::new(rt.alloc(), 0, None);
     let taken = RealSink::new(&mut writer).write(piece.as_slice());
     holds(
@@ -180,7 +185,6 @@ fn passes_a_piece_whole(rt: HostRuntime) -> Result<(), Fail> {
         taken == Ok(100_000) && writer.pieces == 1,
         "a long piece",
     );
-    Ok(())
 }
 
 #[test]
@@ -193,8 +197,8 @@ fn passes_no_empty_piece(rt: HostRuntime) {
 #[test]
 fn writes_to_memory(rt: HostRuntime) {
     let mut bytes: Vec<u8> = Vec::new(rt.alloc());
-    let answer = answer_of(rt.alloc(), &mut RealSink::new(&mut bytes), &-7i64);
-    shows(&rt, answer, "Ok");
+    let answer = answer_of(&rt, rt.alloc(), &mut RealSink::new(&mut bytes), &-7i64);
+    agrees(&rt, &answer, "Ok");
     shows(&rt, String::from_utf8(bytes), "-7");
 }
 
@@ -202,7 +206,7 @@ fn writes_to_memory(rt: HostRuntime) {
 fn writes_up_to_the_room(rt: HostRuntime) {
     let mut full = Cursor::new([0u8; 4]);
     let mut sink = RealSink::new(&mut full);
-    shows(&rt, answer_of(rt.alloc(), &mut sink, &false), "IO");
+    agrees(&rt, &answer_of(&rt, rt.alloc(), &mut sink, &false), "IO");
     let error = sink.last_error();
     holds(&rt, error == Some(io::ErrorKind::WriteZero), "the error");
     drop(sink);

@@ -25,10 +25,9 @@
 use crate::captured::{captured_json_of, captured_of};
 use crate::forms::{EACH_WAY, LISTS, answer_over, run_over, run_over_std};
 use crate::pictures::{add_line, plain_text};
-use crate::shown::{agrees_at, answer_text, compare, holds};
-use std::alloc::{AllocError, Global};
+use crate::shown::{answer_text, compare, holds, must};
+use std::alloc::Global;
 use std::process::Abort;
-use std::test::Fail;
 use sval_check::{Checked, check};
 use sval_core::Value;
 use sval_io::{FaultySink, VecSink};
@@ -36,7 +35,7 @@ use sval_relay::MemSource;
 use sval_script::{Printer, Script, print_canon};
 
 /// Tries each row.
-pub(crate) fn try_rows(rt: &impl Abort, alloc: Global, rows: &str) -> Result<(), Fail> {
+pub(crate) fn try_rows(rt: &impl Abort, alloc: Global, rows: &str) {
     let mut script = String::new(alloc);
     let mut is_whole = false;
     for line in rows.lines() {
@@ -44,133 +43,124 @@ pub(crate) fn try_rows(rt: &impl Abort, alloc: Global, rows: &str) -> Result<(),
             continue;
         }
         if let Some(due) = line.strip_prefix("= ") {
-            try_row(rt, alloc, &script, &plain_text(alloc, due)?)?;
+            try_row(rt, alloc, &script, &plain_text(rt, alloc, due));
             is_whole = true;
         } else {
             if is_whole {
                 script.clear();
                 is_whole = false;
             }
-            add_line(&mut script, line)?;
+            add_line(rt, &mut script, line);
         }
     }
-    Ok(())
 }
 
 /// Tries a script at what is due of it.
-fn try_row(rt: &impl Abort, alloc: Global, script: &str, due: &str) -> Result<(), Fail> {
+fn try_row(rt: &impl Abort, alloc: Global, script: &str, due: &str) {
     let (kind, rest) = due.split_once(' ').unwrap_or((due, ""));
     match kind {
         "run" => try_run(rt, alloc, script, rest),
-        "canon" => agrees_at(rt, canon_of(alloc, script), rest, script),
-        "captured" => agrees_at(rt, captured_of(alloc, script), rest, script),
-        "captured-json" => agrees_at(rt, captured_json_of(alloc, script), rest, script),
+        "canon" => compare(rt, &canon_of(rt, alloc, script), rest, script),
+        "captured" => compare(rt, &captured_of(rt, alloc, script), rest, script),
+        "captured-json" => compare(rt, &captured_json_of(rt, alloc, script), rest, script),
         "lines" => try_reading(rt, alloc, script, kind, rest),
         _ => {
-            try_reading(rt, alloc, script, kind, rest)?;
-            try_checking(rt, alloc, script, kind, rest)?;
+            try_reading(rt, alloc, script, kind, rest);
+            try_checking(rt, alloc, script, kind, rest);
             try_ways(rt, alloc, script, kind, rest)
         }
     }
 }
 
 /// Runs a form on a script. `row` has the form, and what is due.
-fn try_run(rt: &impl Abort, alloc: Global, script: &str, row: &str) -> Result<(), Fail> {
+fn try_run(rt: &impl Abort, alloc: Global, script: &str, row: &str) {
     let (form, due) = row.split_once(": ").unwrap_or((row, ""));
     try_way(rt, alloc, form, script, due)
 }
 
 /// A script's calls, printed canonically.
-fn canon_of(alloc: Global, script: &str) -> Result<String, Fail> {
-    let read = Script::read(alloc, script.as_bytes())?;
+fn canon_of(rt: &impl Abort, alloc: Global, script: &str) -> String {
+    let read = must(rt, Script::read(alloc, script.as_bytes()));
     let mut sink = VecSink::new(alloc);
-    print_canon(&read.as_slice(), &mut sink)?;
-    Ok(String::from_utf8(sink.into_vec())?)
+    must(rt, print_canon(&read.as_slice(), &mut sink));
+    must(rt, String::from_utf8(sink.into_vec()))
 }
 
 /// How many lines a script has, or which of them is no call.
-fn reading_of(alloc: Global, script: &str) -> Result<String, AllocError> {
-    match Script::read(alloc, script.as_bytes()) {
+fn reading_of(rt: &impl Abort, alloc: Global, script: &str) -> String {
+    let seen = match Script::read(alloc, script.as_bytes()) {
         Ok(read) => format!(in alloc; "{} lines", read.line_count()),
         Err(error) => format!(in alloc; "{error:?}"),
-    }
+    };
+    must(rt, seen)
 }
 
 /// What is due of reading a script.
-fn reading_due(alloc: Global, script: &str, kind: &str, rest: &str) -> Result<String, AllocError> {
-    if kind == "bad-line" {
+fn reading_due(rt: &impl Abort, alloc: Global, script: &str, kind: &str, rest: &str) -> String {
+    let due = if kind == "bad-line" {
         format!(in alloc; "BadLine {{ line: {rest} }}")
     } else {
         format!(in alloc; "{} lines", script.lines().count())
-    }
+    };
+    must(rt, due)
 }
 
 /// Reads a script: how many lines it has, or which of them is no call.
-fn try_reading(
-    rt: &impl Abort,
-    alloc: Global,
-    script: &str,
-    kind: &str,
-    rest: &str,
-) -> Result<(), Fail> {
-    let seen = reading_of(alloc, script)?;
-    let due = reading_due(alloc, script, kind, rest)?;
+fn try_reading(rt: &impl Abort, alloc: Global, script: &str, kind: &str, rest: &str) {
+    let seen = reading_of(rt, alloc, script);
+    let due = reading_due(rt, alloc, script, kind, rest);
     compare(rt, &seen, &due, script);
-    Ok(())
 }
 
 /// What checking says of a script's calls.
-fn checking_of(alloc: Global, script: &str) -> Result<String, Fail> {
-    let read = Script::read(alloc, script.as_bytes())?;
+fn checking_of(rt: &impl Abort, alloc: Global, script: &str) -> String {
+    let read = must(rt, Script::read(alloc, script.as_bytes()));
     let answer = check(alloc, &read);
-    Ok(format!(in alloc; "{answer:?}")?)
+    must(rt, format!(in alloc; "{answer:?}"))
 }
 
 /// What is due of checking a script.
-fn checking_due(alloc: Global, kind: &str, rest: &str) -> Result<String, AllocError> {
-    match kind {
+fn checking_due(rt: &impl Abort, alloc: Global, kind: &str, rest: &str) -> String {
+    let due = match kind {
         "bad-call" | "second" => format!(in alloc; "Err(BadCall {{ at: {rest} }})"),
         "unfinished" => String::from_str(alloc, "Err(Unfinished)"),
         _ => String::from_str(alloc, "Ok(())"),
-    }
+    };
+    must(rt, due)
 }
 
 /// Checks a script whose lines are calls.
-fn try_checking(
-    rt: &impl Abort,
-    alloc: Global,
-    script: &str,
-    kind: &str,
-    rest: &str,
-) -> Result<(), Fail> {
+fn try_checking(rt: &impl Abort, alloc: Global, script: &str, kind: &str, rest: &str) {
     if kind == "bad-line" {
-        return Ok(());
+        return;
     }
-    let due = checking_due(alloc, kind, rest)?;
-    agrees_at(rt, checking_of(alloc, script), &due, script)?;
+    let due = checking_due(rt, alloc, kind, rest);
+    compare(rt, &checking_of(rt, alloc, script), &due, script);
     if due.starts_with("Err(BadCall") {
-        try_refused(rt, alloc, script, rest)?;
+        try_refused(rt, alloc, script, rest);
     }
-    Ok(())
 }
 
 /// Streams a script's calls into a `Checked`, which refuses the one of this line.
-fn try_refused(rt: &impl Abort, alloc: Global, script: &str, line: &str) -> Result<(), Fail> {
-    let due = format!(in alloc; "Some(NotViable) at line {line}")?;
-    agrees_at(rt, checked_calls(alloc, script), &due, script)
+fn try_refused(rt: &impl Abort, alloc: Global, script: &str, line: &str) {
+    let due = must(rt, format!(in alloc; "Some(NotViable) at line {line}"));
+    compare(rt, &checked_calls(rt, alloc, script), &due, script);
 }
 
 /// Why a `Checked` refused a call of a script, and the line behind those of the calls that it took.
-fn checked_calls(alloc: Global, text: &str) -> Result<String, Fail> {
-    let script = Script::read(alloc, text.as_bytes())?;
+fn checked_calls(rt: &impl Abort, alloc: Global, text: &str) -> String {
+    let script = must(rt, Script::read(alloc, text.as_bytes()));
     let mut checked = Checked::new(alloc, Printer::new(VecSink::new(alloc)));
     let _answer = script.stream(&mut checked);
     let why = checked.why();
     let taken = checked.into_inner().into_inner().into_vec();
     if !text.as_bytes().starts_with(&taken) {
-        return Ok(String::from_str(alloc, "other calls")?);
+        return must(rt, String::from_str(alloc, "other calls"));
     }
-    Ok(format!(in alloc; "{why:?} at line {}", newlines(&taken).saturating_add(1))?)
+    must(
+        rt,
+        format!(in alloc; "{why:?} at line {}", newlines(&taken).saturating_add(1)),
+    )
 }
 
 /// How many newlines there are.
@@ -179,24 +169,24 @@ fn newlines(bytes: &[u8]) -> usize {
 }
 
 /// The status of a run on a script in memory, what it wrote, and behind a bar what it told.
-pub(crate) fn run_in(alloc: Global, form: &str, script: &str) -> Result<String, Fail> {
+pub(crate) fn run_in(rt: &impl Abort, alloc: Global, form: &str, script: &str) -> String {
     let mut input = MemSource::new(script.as_bytes());
     let mut out = VecSink::new(alloc);
     let mut diag = VecSink::new(alloc);
-    answer_over(alloc, form, &mut input, &mut out, &mut diag)
+    answer_over(rt, alloc, form, &mut input, &mut out, &mut diag)
 }
 
 /// The status, the output and the line of a form on a script, over std's readers and writers.
-pub(crate) fn run_over_streams(alloc: Global, form: &str, script: &str) -> Result<String, Fail> {
+pub(crate) fn run_over_streams(rt: &impl Abort, alloc: Global, form: &str, script: &str) -> String {
     let mut out = Vec::new(alloc);
     let mut diag = Vec::new(alloc);
-    let status = run_over_std(alloc, form, script.as_bytes(), &mut out, &mut diag)?;
-    answer_text(alloc, status, &out, &diag)
+    let status = run_over_std(rt, alloc, form, script.as_bytes(), &mut out, &mut diag);
+    answer_text(rt, alloc, status, &out, &diag)
 }
 
 /// What is due of a run that writes JSON.
-fn json_due(alloc: Global, kind: &str, rest: &str) -> Result<String, AllocError> {
-    match kind {
+fn json_due(rt: &impl Abort, alloc: Global, kind: &str, rest: &str) -> String {
+    let due = match kind {
         "bad-line" => format!(in alloc; "3 |line {rest}: not a call\n"),
         "bad-call" | "second" => {
             format!(in alloc; "4 |line {rest}: no value goes on with this call\n")
@@ -205,7 +195,8 @@ fn json_due(alloc: Global, kind: &str, rest: &str) -> Result<String, AllocError>
         "bad-key" => format!(in alloc; "6 {rest}|attempt to serialize a non-string key\n"),
         "bad-number" => format!(in alloc; "7 {rest}|attempt to serialize an invalid number\n"),
         _ => format!(in alloc; "0 {rest}|"),
-    }
+    };
+    must(rt, due)
 }
 
 /// Whether a row of a kind tells of the JSON that a way writes.
@@ -218,43 +209,30 @@ fn tells_of(kind: &str, way: &str) -> bool {
 }
 
 /// Runs a way on a script, over memory and over std's readers and writers.
-fn try_way(rt: &impl Abort, alloc: Global, way: &str, script: &str, due: &str) -> Result<(), Fail> {
-    agrees_at(rt, run_in(alloc, way, script), due, script)?;
-    agrees_at(rt, run_over_streams(alloc, way, script), due, script)
+fn try_way(rt: &impl Abort, alloc: Global, way: &str, script: &str, due: &str) {
+    compare(rt, &run_in(rt, alloc, way, script), due, script);
+    compare(rt, &run_over_streams(rt, alloc, way, script), due, script);
 }
 
 /// Runs each way on a script, and prints the script's calls.
-fn try_ways(
-    rt: &impl Abort,
-    alloc: Global,
-    script: &str,
-    kind: &str,
-    rest: &str,
-) -> Result<(), Fail> {
-    let due = json_due(alloc, kind, rest)?;
-    for way in EACH_WAY {
+fn try_ways(rt: &impl Abort, alloc: Global, script: &str, kind: &str, rest: &str) {
+    let due = json_due(rt, alloc, kind, rest);
+    for way in &EACH_WAY {
         if tells_of(kind, way) {
-            try_way(rt, alloc, way, script, &due)?;
+            try_way(rt, alloc, way, script, &due);
         }
     }
-    try_reports(rt, alloc, script, &due)?;
+    try_reports(rt, alloc, script, &due);
     try_calls(rt, alloc, script, kind, rest, &due)
 }
 
 /// Prints a script's calls, where what is due tells of them.
-fn try_calls(
-    rt: &impl Abort,
-    alloc: Global,
-    script: &str,
-    kind: &str,
-    rest: &str,
-    due: &str,
-) -> Result<(), Fail> {
+fn try_calls(rt: &impl Abort, alloc: Global, script: &str, kind: &str, rest: &str, due: &str) {
     match kind {
-        "beside" => Ok(()),
+        "beside" => (),
         "bad-line" | "second" | "unfinished" => try_in_memory(rt, alloc, "calls", script, due),
         "bad-call" => {
-            try_in_memory(rt, alloc, "calls", script, due)?;
+            try_in_memory(rt, alloc, "calls", script, due);
             try_behind_a_value(rt, alloc, script, rest)
         }
         _ => try_canonical(rt, alloc, script, due),
@@ -262,58 +240,48 @@ fn try_calls(
 }
 
 /// Runs a form on a script over memory.
-fn try_in_memory(
-    rt: &impl Abort,
-    alloc: Global,
-    form: &str,
-    script: &str,
-    due: &str,
-) -> Result<(), Fail> {
-    agrees_at(rt, run_in(alloc, form, script), due, script)
+fn try_in_memory(rt: &impl Abort, alloc: Global, form: &str, script: &str, due: &str) {
+    compare(rt, &run_in(rt, alloc, form, script), due, script);
 }
 
 /// The status of a run on a script, and a space, where the third device fails at this call.
-fn status_at(alloc: Global, script: &str, failing: u64) -> Result<String, AllocError> {
+fn status_at(rt: &impl Abort, alloc: Global, script: &str, failing: u64) -> String {
     let failing = [failing];
     let mut input = MemSource::new(script.as_bytes());
     let mut out = VecSink::new(alloc);
     let mut diag = FaultySink::new(alloc, 1, &failing);
-    let status = run_over(alloc, "direct", &mut input, &mut out, &mut diag)?;
-    format!(in alloc; "{status} ")
+    let status = run_over(rt, alloc, "direct", &mut input, &mut out, &mut diag);
+    must(rt, format!(in alloc; "{status} "))
 }
 
 /// A line that isn't taken changes no status.
-fn try_reports(rt: &impl Abort, alloc: Global, script: &str, due: &str) -> Result<(), Fail> {
+fn try_reports(rt: &impl Abort, alloc: Global, script: &str, due: &str) {
     for failing in 1..4 {
-        let status = status_at(alloc, script, failing)?;
+        let status = status_at(rt, alloc, script, failing);
         holds(rt, due.starts_with(status.as_str()), script);
     }
-    Ok(())
 }
 
 /// Runs each form that takes many values on a script behind a value.
-fn try_behind_a_value(
-    rt: &impl Abort,
-    alloc: Global,
-    script: &str,
-    line: &str,
-) -> Result<(), Fail> {
-    let behind = format!(in alloc; "null\n{script}")?;
-    let line = line.parse::<u64>()?.saturating_add(1);
-    let due = format!(in alloc; "4 |line {line}: no value goes on with this call\n")?;
-    for form in LISTS {
-        try_in_memory(rt, alloc, form, &behind, &due)?;
+fn try_behind_a_value(rt: &impl Abort, alloc: Global, script: &str, line: &str) {
+    let behind = must(rt, format!(in alloc; "null\n{script}"));
+    let line = must(rt, line.parse::<u64>()).saturating_add(1);
+    let due = must(
+        rt,
+        format!(in alloc; "4 |line {line}: no value goes on with this call\n"),
+    );
+    for form in &LISTS {
+        try_in_memory(rt, alloc, form, &behind, &due);
     }
-    Ok(())
 }
 
 /// Prints a script's canonical one, which gives the same JSON, or the same refusal of it, and prints as itself.
-fn try_canonical(rt: &impl Abort, alloc: Global, script: &str, due: &str) -> Result<(), Fail> {
-    let printed = run_in(alloc, "calls", script)?;
+fn try_canonical(rt: &impl Abort, alloc: Global, script: &str, due: &str) {
+    let printed = run_in(rt, alloc, "calls", script);
     let (status, rest) = printed.split_once(' ').unwrap_or(("", ""));
     let (lines, told) = rest.split_once('|').unwrap_or((rest, "no bar"));
     compare(rt, status, "0", script);
     compare(rt, told, "", script);
-    try_in_memory(rt, alloc, "direct", lines, due)?;
+    try_in_memory(rt, alloc, "direct", lines, due);
     try_in_memory(rt, alloc, "calls", lines, &printed)
 }

@@ -17,11 +17,10 @@ mod values;
 mod variants;
 
 use crate::rows::try_rows;
-use std::test::Fail;
 
 /// Rows of values.
 #[test]
-fn values_of_each_kind(rt: HostRuntime) -> Result<(), Fail> {
+fn values_of_each_kind(rt: HostRuntime) {
     for rows in [
         containers::ROWS,
         keys::ROWS,
@@ -30,28 +29,26 @@ fn values_of_each_kind(rt: HostRuntime) -> Result<(), Fail> {
         values::ROWS,
         variants::ROWS,
     ] {
-        try_rows(&rt, rt.alloc(), rows)?;
+        try_rows(&rt, rt.alloc(), rows);
     }
-    Ok(())
 }
 
 /// Rows of numbers, and of the fields of lines.
 #[test]
-fn numbers_and_fields(rt: HostRuntime) -> Result<(), Fail> {
+fn numbers_and_fields(rt: HostRuntime) {
     for rows in [
         fields::ROWS,
         number_texts::ROWS,
         numbers::ROWS,
         reading::ROWS,
     ] {
-        try_rows(&rt, rt.alloc(), rows)?;
+        try_rows(&rt, rt.alloc(), rows);
     }
-    Ok(())
 }
 
 /// Rows of calls that are no value, and of the forms of the words.
 #[test]
-fn calls_and_forms(rt: HostRuntime) -> Result<(), Fail> {
+fn calls_and_forms(rt: HostRuntime) {
     for rows in [
         captured::ROWS,
         forms::ROWS,
@@ -59,7 +56,6 @@ fn calls_and_forms(rt: HostRuntime) -> Result<(), Fail> {
         malformed::ROWS,
         sizes::ROWS,
     ] {
-        try_rows(&rt, rt.alloc(), rows)?;
+        try_rows(&rt, rt.alloc(), rows);
     }
-    Ok(())
 }

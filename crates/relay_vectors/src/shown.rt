@@ -1,36 +1,33 @@
-//! What is seen of runs and of answers, as texts, and what compares it with what is due.
+//! What tests take for sure, what is seen of runs and of answers, as texts, and what compares it with what is due. Each
+//! ends the test where it isn't so, so that a test has nothing left to prove of an error.
 
 use std::alloc::Global;
+use std::fmt::Debug;
 use std::process::Abort;
-use std::test::Fail;
+
+/// What is found. The test ends where that is an error.
+pub(crate) fn must<T, E: Debug>(rt: &impl Abort, found: Result<T, E>) -> T {
+    found.expect(rt, "a call failed")
+}
+
+/// Adds a text to another.
+pub(crate) fn push(rt: &impl Abort, text: &mut String, more: &str) {
+    must(rt, text.push_str(more));
+}
 
 /// Compares what is seen with what is due. A failure names `place`.
 pub(crate) fn compare(rt: &impl Abort, seen: &str, due: &str, place: &str) {
     assert_eq!(rt; seen, due, "at {place:?}");
 }
 
-/// Compares a text with what is due, or hands on why there is none.
-pub(crate) fn agrees(rt: &impl Abort, seen: Result<String, Fail>, due: &str) -> Result<(), Fail> {
-    agrees_at(rt, seen, due, due)
-}
-
-/// Compares a text with what is due, or hands on why there is none. A failure names `place`.
-pub(crate) fn agrees_at(
-    rt: &impl Abort,
-    seen: Result<String, Fail>,
-    due: &str,
-    place: &str,
-) -> Result<(), Fail> {
-    compare(rt, &seen?, due, place);
-    Ok(())
+/// Compares what is seen with what is due.
+pub(crate) fn agrees(rt: &impl Abort, seen: &str, due: &str) {
+    compare(rt, seen, due, due);
 }
 
 /// Compares a text that was made with what is due.
-pub(crate) fn shows<E: Drop>(rt: &impl Abort, seen: Result<String, E>, due: &str) {
-    match seen {
-        Ok(text) => compare(rt, &text, due, due),
-        Err(_) => holds(rt, false, due),
-    }
+pub(crate) fn shows<E: Debug>(rt: &impl Abort, seen: Result<String, E>, due: &str) {
+    agrees(rt, &must(rt, seen), due);
 }
 
 /// Asserts what is so. A failure names `place`.
@@ -40,12 +37,13 @@ pub(crate) fn holds(rt: &impl Abort, is_so: bool, place: &str) {
 
 /// A status, what was written, and behind a bar what was told.
 pub(crate) fn answer_text(
+    rt: &impl Abort,
     alloc: Global,
     status: u8,
     out: &[u8],
     diag: &[u8],
-) -> Result<String, Fail> {
-    let out = std::str::from_utf8(out)?;
-    let diag = std::str::from_utf8(diag)?;
-    Ok(format!(in alloc; "{status} {out}|{diag}")?)
+) -> String {
+    let out = must(rt, std::str::from_utf8(out));
+    let diag = must(rt, std::str::from_utf8(diag));
+    must(rt, format!(in alloc; "{status} {out}|{diag}"))
 }

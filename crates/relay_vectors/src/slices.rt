@@ -1,8 +1,8 @@
 //! Which slices a script has, and the lines of each.
 
-use crate::shown::compare;
-use std::alloc::{AllocError, Global};
-use std::test::Fail;
+use crate::shown::{compare, must};
+use std::alloc::Global;
+use std::process::Abort;
 use sval_core::Value;
 use sval_io::VecSink;
 use sval_script::{Printer, Script};
@@ -27,31 +27,34 @@ const SLICES: [(u64, u64, Option<&'static str>); 9] = [
 ];
 
 /// How many lines the slice from `from` to `to` has, and these lines, or that there is no slice.
-fn slice_of(alloc: Global, script: &Script, from: u64, to: u64) -> Result<String, Fail> {
+fn slice_of(rt: &impl Abort, alloc: Global, script: &Script, from: u64, to: u64) -> String {
     let Some(slice) = script.slice(from, to) else {
-        return Ok(String::from_str(alloc, "no slice")?);
+        return must(rt, String::from_str(alloc, "no slice"));
     };
     let mut printer = Printer::new(VecSink::new(alloc));
-    slice.stream(&mut printer)?;
-    let lines = String::from_utf8(printer.into_inner().into_vec())?;
-    Ok(format!(in alloc; "{} lines: {lines}", slice.line_count())?)
+    must(rt, slice.stream(&mut printer));
+    let lines = must(rt, String::from_utf8(printer.into_inner().into_vec()));
+    must(
+        rt,
+        format!(in alloc; "{} lines: {lines}", slice.line_count()),
+    )
 }
 
 /// What is due of these lines from one place to another.
-fn slice_due(alloc: Global, from: u64, to: u64, lines: Option<&str>) -> Result<String, AllocError> {
-    match lines {
+fn slice_due(rt: &impl Abort, alloc: Global, from: u64, to: u64, lines: Option<&str>) -> String {
+    let due = match lines {
         Some(lines) => format!(in alloc; "{} lines: {lines}", to.saturating_sub(from)),
         None => String::from_str(alloc, "no slice"),
-    }
+    };
+    must(rt, due)
 }
 
 #[test]
-fn has_the_lines_of_its_place(rt: HostRuntime) -> Result<(), Fail> {
-    let script = Script::read(rt.alloc(), VALUES.as_bytes())?;
+fn has_the_lines_of_its_place(rt: HostRuntime) {
+    let script = must(&rt, Script::read(rt.alloc(), VALUES.as_bytes()));
     for (from, to, lines) in &SLICES {
-        let seen = slice_of(rt.alloc(), &script, *from, *to)?;
-        let due = slice_due(rt.alloc(), *from, *to, *lines)?;
+        let seen = slice_of(&rt, rt.alloc(), &script, *from, *to);
+        let due = slice_due(&rt, rt.alloc(), *from, *to, *lines);
         compare(&rt, &seen, &due, "a slice");
     }
-    Ok(())
 }

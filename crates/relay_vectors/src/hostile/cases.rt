@@ -2,7 +2,8 @@
 
 use super::kinds::{Kind, each_kind, together};
 use crate::forms::{FORMS, Text, takes_many, text_of};
-use std::alloc::{AllocError, Global};
+use crate::shown::{must, push};
+use std::alloc::Global;
 use std::process::Abort;
 
 /// How a script is spoiled.
@@ -68,15 +69,18 @@ impl Flaw {
     }
 
     /// A script, spoiled.
-    fn spoil(self, alloc: Global, script: &str) -> Result<String, AllocError> {
-        format!(in alloc; "{}{script}{}", self.before, self.behind)
+    fn spoil(self, rt: &impl Abort, alloc: Global, script: &str) -> String {
+        must(
+            rt,
+            format!(in alloc; "{}{script}{}", self.before, self.behind),
+        )
     }
 
     /// What is written of a spoiled script whose value has this JSON, where many values are taken behind one that
     /// isn't.
-    fn json(self, alloc: Global, json: &str, many: bool) -> Result<String, AllocError> {
+    fn json(self, rt: &impl Abort, alloc: Global, json: &str, many: bool) -> String {
         let (before, behind) = self.around;
-        if self.is_silent() {
+        let written = if self.is_silent() {
             Ok(String::new(alloc))
         } else if !many {
             format!(in alloc; "{before}{json}{behind}")
@@ -84,16 +88,20 @@ impl Flaw {
             format!(in alloc; "{json}\n{json}\n")
         } else {
             format!(in alloc; "{json}\n{before}{json}{behind}")
-        }
+        };
+        must(rt, written)
     }
 
     /// What is written of a spoiled script that has this canonical one. Any key is printed, and any number.
-    fn calls(self, alloc: Global, calls: &str, many: bool) -> Result<String, AllocError> {
+    fn calls(self, rt: &impl Abort, alloc: Global, calls: &str, many: bool) -> String {
         if self.is_silent() {
-            return Ok(String::new(alloc));
+            return String::new(alloc);
         }
         let first = if many { calls } else { "" };
-        format!(in alloc; "{first}{}{calls}{}", self.before, self.behind)
+        must(
+            rt,
+            format!(in alloc; "{first}{}{calls}{}", self.before, self.behind),
+        )
     }
 
     /// The status of a form that writes this.
@@ -106,8 +114,8 @@ impl Flaw {
 }
 
 /// What is told of a status, for a script of `lines` lines.
-fn told(alloc: Global, status: u8, many: bool, lines: usize) -> Result<String, AllocError> {
-    match status {
+fn told(rt: &impl Abort, alloc: Global, status: u8, many: bool, lines: usize) -> String {
+    let told = match status {
         3 => format!(in alloc; "line {lines}: not a call\n"),
         4 => format!(in alloc; "line {lines}: no value goes on with this call\n"),
         5 if many => String::from_str(alloc, "the calls are not whole values\n"),
@@ -115,7 +123,8 @@ fn told(alloc: Global, status: u8, many: bool, lines: usize) -> Result<String, A
         6 => String::from_str(alloc, "attempt to serialize a non-string key\n"),
         7 => String::from_str(alloc, "attempt to serialize an invalid number\n"),
         _ => Ok(String::new(alloc)),
-    }
+    };
+    must(rt, told)
 }
 
 /// A script, and what a form gives for it over devices that don't fail.
@@ -138,55 +147,55 @@ impl Case {
     }
 
     /// The script of a kind, spoiled; behind one that isn't where the form takes many values.
-    fn new(alloc: Global, kind: &Kind, flaw: Flaw, form: &'static str) -> Result<Case, AllocError> {
+    fn new(rt: &impl Abort, alloc: Global, kind: &Kind, flaw: Flaw, form: &'static str) -> Case {
         let many = takes_many(form);
         let mut script = String::new(alloc);
         if many {
-            script.push_str(&kind.script)?;
+            push(rt, &mut script, &kind.script);
         }
-        script.push_str(&flaw.spoil(alloc, &kind.script)?)?;
+        push(rt, &mut script, &flaw.spoil(rt, alloc, &kind.script));
         let text = text_of(form);
         let out = match text {
-            Text::Inside => flaw.json(alloc, &kind.inside, many)?,
-            Text::Beside => flaw.json(alloc, &kind.beside, many)?,
-            Text::Calls => flaw.calls(alloc, &kind.canonical, many)?,
+            Text::Inside => flaw.json(rt, alloc, &kind.inside, many),
+            Text::Beside => flaw.json(rt, alloc, &kind.beside, many),
+            Text::Calls => flaw.calls(rt, alloc, &kind.canonical, many),
         };
         let status = flaw.status(text);
-        let diag = told(alloc, status, many, script.lines().count())?;
-        Ok(Case {
+        let diag = told(rt, alloc, status, many, script.lines().count());
+        Case {
             form,
             script,
             out,
             status,
             diag,
-        })
+        }
     }
 }
 
 /// The script of a kind with this flaw, in each form.
-fn add_cases(
-    alloc: Global,
-    kind: &Kind,
-    flaw: Flaw,
-    cases: &mut Vec<Case>,
-) -> Result<(), AllocError> {
-    for form in FORMS {
-        cases.push(Case::new(alloc, kind, flaw, form)?)?;
+fn add_cases(rt: &impl Abort, alloc: Global, kind: &Kind, flaw: Flaw, cases: &mut Vec<Case>) {
+    for form in &FORMS {
+        must(rt, cases.push(Case::new(rt, alloc, kind, flaw, *form)));
     }
-    Ok(())
 }
 
 /// The script of each kind with each flaw, and one of the values of all kinds, in each form.
-pub(crate) fn each_case(alloc: Global) -> Result<Vec<Case>, AllocError> {
+pub(crate) fn each_case(rt: &impl Abort, alloc: Global) -> Vec<Case> {
     let mut cases = Vec::new(alloc);
-    let kinds = each_kind(alloc)?;
+    let kinds = each_kind(rt, alloc);
     for kind in &kinds {
-        for flaw in FLAWS {
-            add_cases(alloc, kind, flaw, &mut cases)?;
+        for flaw in &FLAWS {
+            add_cases(rt, alloc, kind, *flaw, &mut cases);
         }
     }
-    add_cases(alloc, &together(alloc, &kinds)?, FLAWS[0], &mut cases)?;
-    Ok(cases)
+    add_cases(
+        rt,
+        alloc,
+        &together(rt, alloc, &kinds),
+        FLAWS[0],
+        &mut cases,
+    );
+    cases
 }
 
 /// Compares what a case came to over a device, which was of this size or failed at this call, with what is due.

@@ -1,7 +1,9 @@
 //! A script of each kind of value, with what is written of it.
 
 use crate::pictures::{add_line, plain_text};
-use std::alloc::{AllocError, Global};
+use crate::shown::{must, push};
+use std::alloc::Global;
+use std::process::Abort;
 
 /// The kinds, with a blank line between two, as rows that [`try_rows`](crate::rows::try_rows) could read: the lines of
 /// a script, its JSON, and its canonical script.
@@ -198,85 +200,80 @@ impl Kind {
     }
 
     /// Adds a line of the table.
-    fn add(&mut self, alloc: Global, line: &str) -> Result<(), AllocError> {
+    fn add(&mut self, rt: &impl Abort, alloc: Global, line: &str) {
         if line.is_empty() || line.starts_with("# ") {
-            return Ok(());
+            return;
         }
         match line.strip_prefix("= ") {
-            Some(due) => self.add_due(&plain_text(alloc, due)?),
-            None => add_line(&mut self.script, line),
+            Some(due) => self.add_due(rt, &plain_text(rt, alloc, due)),
+            None => add_line(rt, &mut self.script, line),
         }
     }
 
     /// Adds what is due.
-    fn add_due(&mut self, due: &str) -> Result<(), AllocError> {
+    fn add_due(&mut self, rt: &impl Abort, due: &str) {
         let (kind, text) = due.split_once(' ').unwrap_or((due, ""));
         match kind {
-            "canon" => self.canonical.push_str(text),
-            "inside" => self.inside.push_str(text),
-            "beside" => self.beside.push_str(text),
+            "canon" => push(rt, &mut self.canonical, text),
+            "inside" => push(rt, &mut self.inside, text),
+            "beside" => push(rt, &mut self.beside, text),
             _ => {
-                self.inside.push_str(text)?;
-                self.beside.push_str(text)
+                push(rt, &mut self.inside, text);
+                push(rt, &mut self.beside, text);
             }
         }
     }
 
     /// Adds lines of the script, JSON in both forms, and lines of the canonical script.
-    fn push_text(&mut self, script: &str, json: &str, canonical: &str) -> Result<(), AllocError> {
-        self.script.push_str(script)?;
-        self.inside.push_str(json)?;
-        self.beside.push_str(json)?;
-        self.canonical.push_str(canonical)
+    fn push_text(&mut self, rt: &impl Abort, script: &str, json: &str, canonical: &str) {
+        push(rt, &mut self.script, script);
+        push(rt, &mut self.inside, json);
+        push(rt, &mut self.beside, json);
+        push(rt, &mut self.canonical, canonical);
     }
 
     /// Adds another value of a sequence, behind this comma.
-    fn push(&mut self, kind: &Kind, comma: &str) -> Result<(), AllocError> {
+    fn push(&mut self, rt: &impl Abort, kind: &Kind, comma: &str) {
         let (begin, end) = ("seq_value_begin\n", "seq_value_end\n");
-        push_between(&mut self.script, begin, &kind.script, end)?;
-        push_between(&mut self.inside, comma, &kind.inside, "")?;
-        push_between(&mut self.beside, comma, &kind.beside, "")?;
-        push_between(&mut self.canonical, begin, &kind.canonical, end)
+        push_between(rt, &mut self.script, begin, &kind.script, end);
+        push_between(rt, &mut self.inside, comma, &kind.inside, "");
+        push_between(rt, &mut self.beside, comma, &kind.beside, "");
+        push_between(rt, &mut self.canonical, begin, &kind.canonical, end);
     }
 }
 
 /// Adds `part` to `text`, with `before` in front of it and `behind` after it.
-fn push_between(
-    text: &mut String,
-    before: &str,
-    part: &str,
-    behind: &str,
-) -> Result<(), AllocError> {
-    text.push_str(before)?;
-    text.push_str(part)?;
-    text.push_str(behind)
+fn push_between(rt: &impl Abort, text: &mut String, before: &str, part: &str, behind: &str) {
+    push(rt, text, before);
+    push(rt, text, part);
+    push(rt, text, behind);
 }
 
 /// Each kind.
-pub(crate) fn each_kind(alloc: Global) -> Result<Vec<Kind>, AllocError> {
+pub(crate) fn each_kind(rt: &impl Abort, alloc: Global) -> Vec<Kind> {
     let mut kinds = Vec::new(alloc);
     for rows in KINDS.split("\n\n") {
-        kinds.push(kind_of(alloc, rows)?)?;
+        must(rt, kinds.push(kind_of(rt, alloc, rows)));
     }
-    Ok(kinds)
+    kinds
 }
 
 /// The kind of some rows.
-fn kind_of(alloc: Global, rows: &str) -> Result<Kind, AllocError> {
+fn kind_of(rt: &impl Abort, alloc: Global, rows: &str) -> Kind {
     let mut kind = Kind::new(alloc);
     for line in rows.lines() {
-        kind.add(alloc, line)?;
+        kind.add(rt, alloc, line);
     }
-    Ok(kind)
+    kind
 }
 
 /// A sequence of the 13 values of all kinds.
-pub(crate) fn together(alloc: Global, kinds: &[Kind]) -> Result<Kind, AllocError> {
+pub(crate) fn together(rt: &impl Abort, alloc: Global, kinds: &[Kind]) -> Kind {
     let mut all = Kind::new(alloc);
-    all.push_text("seq_begin 13\n", "[", "seq_begin -\n")?;
+    all.push_text(rt, "seq_begin 13\n", "[", "seq_begin -\n");
     for (place, kind) in kinds.iter().enumerate() {
-        all.push(kind, if place == 0 { "" } else { "," })?;
+        all.push(rt, kind, if place == 0 { "" } else { "," });
     }
-    all.push_text("seq_end\n", "]", "seq_end\n")?;
-    Ok(all)
+    all.push_text(rt, "seq_end\n", "]", "seq_end\n");
+    all
 }

@@ -1,18 +1,21 @@
 //! Inputs at the limit of what is read, and a script in memory that is longer.
 
 use crate::forms::{answer_over, run_over};
-use crate::shown::{agrees, answer_text, holds};
-use std::alloc::{AllocError, Global};
-use std::test::Fail;
+use crate::shown::{agrees, answer_text, holds, must};
+use std::alloc::Global;
+use std::process::Abort;
 use sval_io::VecSink;
 use sval_relay::{FaultySource, MemSource, Source, Way, relay};
 
 /// `count` letters 3 between `before` and `behind`.
-fn threes(alloc: Global, before: &str, count: usize, behind: &str) -> Result<Vec<u8>, AllocError> {
-    let mut text = Vec::from_slice(alloc, before.as_bytes())?;
-    text.extend_from_slice(&vec![in alloc; b'3'; count]?)?;
-    text.extend_from_slice(behind.as_bytes())?;
-    Ok(text)
+fn threes(rt: &impl Abort, alloc: Global, before: &str, count: usize, behind: &str) -> Vec<u8> {
+    let mut text = must(rt, Vec::from_slice(alloc, before.as_bytes()));
+    must(
+        rt,
+        text.extend_from_slice(&must(rt, vec![in alloc; b'3'; count])),
+    );
+    must(rt, text.extend_from_slice(behind.as_bytes()));
+    text
 }
 
 /// How many newlines are given, how many bytes are left of them, and the status and, behind a bar, the line.
@@ -37,23 +40,22 @@ const NEWLINES: [(usize, usize, &'static str); 4] = [
 
 /// The longest input that is read, and longer inputs. Of a longer one, one byte more is read.
 #[test]
-fn reads_up_to_the_limit(rt: HostRuntime) -> Result<(), Fail> {
+fn reads_up_to_the_limit(rt: HostRuntime) {
     let alloc = rt.alloc();
-    for (count, left, due) in NEWLINES {
-        let feeds = vec![in alloc; b'\n'; count]?;
+    for (count, left, due) in &NEWLINES {
+        let feeds = must(&rt, vec![in alloc; b'\n'; *count]);
         let mut input = MemSource::new(&feeds);
-        agrees(&rt, run_direct(alloc, &mut input), due)?;
-        let read = input.read(&mut vec![in alloc; 0; count]?);
-        holds(&rt, read == Ok(left), due);
+        agrees(&rt, &run_direct(&rt, alloc, &mut input), due);
+        let read = input.read(&mut must(&rt, vec![in alloc; 0; *count]));
+        holds(&rt, read == Ok(*left), due);
     }
-    Ok(())
 }
 
 /// What a run over an input answers, writes and tells.
-fn run_direct<I: Source>(alloc: Global, input: &mut I) -> Result<String, Fail> {
+fn run_direct<I: Source>(rt: &impl Abort, alloc: Global, input: &mut I) -> String {
     let mut out = VecSink::new(alloc);
     let mut diag = VecSink::new(alloc);
-    answer_over(alloc, "direct", input, &mut out, &mut diag)
+    answer_over(rt, alloc, "direct", input, &mut out, &mut diag)
 }
 
 /// How many hex digits a script of 16,777,216 bytes or of one more has, the call of the source that fails, and the
@@ -75,57 +77,55 @@ const FAULTS: [(&'static str, usize, u64, &'static str); 6] = [
 
 /// What a run over a source of a script answers and tells, and whether it writes nothing, where this call of the source
 /// fails.
-fn run_failing(alloc: Global, script: &[u8], failing: u64) -> Result<String, Fail> {
+fn run_failing(rt: &impl Abort, alloc: Global, script: &[u8], failing: u64) -> String {
     let failing = [failing];
     let mut input = FaultySource::new(script, 65_536, &failing);
     let mut out = VecSink::new(alloc);
     let mut diag = VecSink::new(alloc);
-    let status = run_over(alloc, "direct", &mut input, &mut out, &mut diag)?;
+    let status = run_over(rt, alloc, "direct", &mut input, &mut out, &mut diag);
     let written = if out.as_slice().is_empty() {
         ""
     } else {
         "JSON"
     };
-    answer_text(alloc, status, written.as_bytes(), diag.as_slice())
+    answer_text(rt, alloc, status, written.as_bytes(), diag.as_slice())
 }
 
 #[test]
-fn faults_at_the_limit(rt: HostRuntime) -> Result<(), Fail> {
+fn faults_at_the_limit(rt: HostRuntime) {
     let alloc = rt.alloc();
-    for (fragment, digits, failing, due) in FAULTS {
-        let before = format!(in alloc; "text_begin -\n{fragment} =")?;
-        let script = threes(alloc, &before, digits, "\ntext_end\n")?;
-        agrees(&rt, run_failing(alloc, &script, failing), due)?;
+    for (fragment, digits, failing, due) in &FAULTS {
+        let before = must(&rt, format!(in alloc; "text_begin -\n{fragment} ="));
+        let script = threes(&rt, alloc, &before, *digits, "\ntext_end\n");
+        agrees(&rt, &run_failing(&rt, alloc, &script, *failing), due);
     }
-    Ok(())
 }
 
 /// A script in memory that is longer than what the program reads: two fragments of 5,000,000 bytes each.
 #[test]
-fn two_long_fragments(rt: HostRuntime) -> Result<(), Fail> {
+fn two_long_fragments(rt: HostRuntime) {
     let alloc = rt.alloc();
-    let script = long_script(alloc)?;
-    let json = threes(alloc, "\"", 10_000_000, "\"")?;
+    let script = long_script(&rt, alloc);
+    let json = threes(&rt, alloc, "\"", 10_000_000, "\"");
     for way in [Way::Direct, Way::Buffered, Way::BufferedBeside] {
-        let written = json_of(alloc, &script, way)?;
+        let written = json_of(&rt, alloc, &script, way);
         holds(&rt, written.as_slice() == json.as_slice(), "a way");
     }
-    Ok(())
 }
 
 /// The script of a text of two fragments with 10,000,000 digits each.
-fn long_script(alloc: Global) -> Result<Vec<u8>, AllocError> {
+fn long_script(rt: &impl Abort, alloc: Global) -> Vec<u8> {
     let begin = "text_begin 10000000\ntext_fragment =";
-    let mut script = threes(alloc, begin, 10_000_000, "\n")?;
+    let mut script = threes(rt, alloc, begin, 10_000_000, "\n");
     let begin = "text_fragment_computed =";
-    let second = threes(alloc, begin, 10_000_000, "\ntext_end\n")?;
-    script.extend_from_slice(&second)?;
-    Ok(script)
+    let second = threes(rt, alloc, begin, 10_000_000, "\ntext_end\n");
+    must(rt, script.extend_from_slice(&second));
+    script
 }
 
 /// The JSON of a script in a way.
-fn json_of(alloc: Global, script: &[u8], way: Way) -> Result<Vec<u8>, Fail> {
+fn json_of(rt: &impl Abort, alloc: Global, script: &[u8], way: Way) -> Vec<u8> {
     let mut out = VecSink::new(alloc);
-    relay(alloc, script, way, &mut out)?;
-    Ok(out.into_vec())
+    must(rt, relay(alloc, script, way, &mut out));
+    out.into_vec()
 }

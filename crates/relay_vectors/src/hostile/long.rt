@@ -2,10 +2,9 @@
 
 use crate::pictures::plain_text;
 use crate::rows::{run_in, run_over_streams};
-use crate::shown::holds;
+use crate::shown::{holds, must, push};
 use std::alloc::Global;
 use std::process::Abort;
-use std::test::Fail;
 
 /// Scripts, with a blank line between two: its lines, then forms behind `= `, and what a run in each of these answers,
 /// writes, and tells behind a bar; then further forms.
@@ -277,74 +276,61 @@ text_begin -␊text_fragment_computed =
 "#;
 
 /// Adds a line of the table to a text, with a part in the place of `$`.
-fn add_pieces(alloc: Global, text: &mut String, line: &str, part: &str) -> Result<(), Fail> {
+fn add_pieces(rt: &impl Abort, alloc: Global, text: &mut String, line: &str, part: &str) {
     let (times, shown) = line.split_once(" * ").unwrap_or(("1", line));
     let mut piece = String::new(alloc);
-    for letter in plain_text(alloc, shown)?.chars() {
+    for letter in plain_text(rt, alloc, shown).chars() {
         if letter == '$' {
-            piece.push_str(part)?;
+            push(rt, &mut piece, part);
         } else {
-            piece.push(letter)?;
+            must(rt, piece.push(letter));
         }
     }
-    for _ in 0..times.parse::<u64>()? {
-        text.push_str(&piece)?;
+    for _ in 0..must(rt, times.parse::<u64>()) {
+        push(rt, text, &piece);
     }
-    Ok(())
 }
 
-/// Runs these forms on a script, over memory and over std's readers and writers.
-fn try_forms(
-    rt: &impl Abort,
-    alloc: Global,
-    forms: &str,
-    script: &str,
-    due: &str,
-) -> Result<(), Fail> {
+/// Runs these forms on a script, over memory and over std's readers and writers. A failure doesn't show what is due,
+/// since it may be long.
+fn try_forms(rt: &impl Abort, alloc: Global, forms: &str, script: &str, due: &str) {
     for form in forms.split(", ") {
-        holds(rt, is_due(run_in(alloc, form, script), due)?, form);
-        let streamed = run_over_streams(alloc, form, script);
-        holds(rt, is_due(streamed, due)?, form);
+        holds(rt, run_in(rt, alloc, form, script).as_str() == due, form);
+        let streamed = run_over_streams(rt, alloc, form, script);
+        holds(rt, streamed.as_str() == due, form);
     }
-    Ok(())
-}
-
-/// Whether a text is what is due. A failure doesn't show it, since it may be long.
-fn is_due(seen: Result<String, Fail>, due: &str) -> Result<bool, Fail> {
-    Ok(seen?.as_str() == due)
 }
 
 /// Tries the script of some rows.
-fn try_script(rt: &impl Abort, alloc: Global, rows: &str) -> Result<(), Fail> {
+fn try_script(rt: &impl Abort, alloc: Global, rows: &str) {
     let mut part = String::new(alloc);
     let mut script = String::new(alloc);
     let mut due = String::new(alloc);
     let mut forms = String::new(alloc);
     for line in rows.lines() {
         if let Some(pieces) = line.strip_prefix("$ ") {
-            add_pieces(alloc, &mut part, pieces, "")?;
+            add_pieces(rt, alloc, &mut part, pieces, "");
         } else if let Some(next) = line.strip_prefix("= ") {
             if !forms.is_empty() {
-                try_forms(rt, alloc, &forms, &script, &due)?;
+                try_forms(rt, alloc, &forms, &script, &due);
                 forms.clear();
             }
             due.clear();
-            forms.push_str(next)?;
+            push(rt, &mut forms, next);
         } else if forms.is_empty() {
             if !line.starts_with("# ") {
-                add_pieces(alloc, &mut script, line, &part)?;
+                add_pieces(rt, alloc, &mut script, line, &part);
             }
         } else {
-            add_pieces(alloc, &mut due, line, &part)?;
+            add_pieces(rt, alloc, &mut due, line, &part);
         }
     }
     try_forms(rt, alloc, &forms, &script, &due)
 }
 
 #[test]
-fn long_scripts(rt: HostRuntime) -> Result<(), Fail> {
+fn long_scripts(rt: HostRuntime) {
     for rows in ROWS.split("\n\n") {
-        try_script(&rt, rt.alloc(), rows)?;
+        try_script(&rt, rt.alloc(), rows);
     }
-    Ok(())
 }

@@ -1,8 +1,8 @@
 //! What is told of scripts that are made.
 
-use crate::shown::{agrees, compare, holds};
+use crate::shown::{agrees, compare, holds, must};
 use std::alloc::Global;
-use std::test::Fail;
+use std::process::Abort;
 use sval_io::{FaultySink, VecSink};
 use sval_relay::{MadeError, Way, relay, relay_made};
 
@@ -33,43 +33,41 @@ const LINES: [(u32, &'static str); 4] = [
 ];
 
 /// The JSON of a script.
-fn json_of(alloc: Global, script: &str) -> Result<String, Fail> {
+fn json_of(rt: &impl Abort, alloc: Global, script: &str) -> String {
     let mut out = VecSink::new(alloc);
-    relay(alloc, script.as_bytes(), Way::Buffered, &mut out)?;
-    Ok(String::from_utf8(out.into_vec())?)
+    must(rt, relay(alloc, script.as_bytes(), Way::Buffered, &mut out));
+    must(rt, String::from_utf8(out.into_vec()))
 }
 
 #[test]
-fn serves_one_record(rt: HostRuntime) -> Result<(), Fail> {
+fn serves_one_record(rt: HostRuntime) {
     let json = "[{\"id\":0,\"name\":\"n0\"}]";
-    agrees(&rt, json_of(rt.alloc(), ONE_RECORD), json)
+    agrees(&rt, &json_of(&rt, rt.alloc(), ONE_RECORD), json);
 }
 
 /// What is told of a script of made records.
-fn line_of(alloc: Global, count: u32) -> Result<String, Fail> {
+fn line_of(rt: &impl Abort, alloc: Global, count: u32) -> String {
     let mut out = VecSink::new(alloc);
-    relay_made(alloc, count, &mut out)?;
-    Ok(String::from_utf8(out.into_vec())?)
+    must(rt, relay_made(alloc, count, &mut out));
+    must(rt, String::from_utf8(out.into_vec()))
 }
 
 #[test]
-fn tells_of_scripts(rt: HostRuntime) -> Result<(), Fail> {
+fn tells_of_scripts(rt: HostRuntime) {
     for (count, line) in &LINES {
-        agrees(&rt, line_of(rt.alloc(), *count), line)?;
+        agrees(&rt, &line_of(&rt, rt.alloc(), *count), line);
     }
-    Ok(())
 }
 
 #[test]
-fn tells_in_part_where_the_output_fails(rt: HostRuntime) -> Result<(), Fail> {
+fn tells_in_part_where_the_output_fails(rt: HostRuntime) {
     let mut out = FaultySink::new(rt.alloc(), 1, &[10]);
     let answer = relay_made(rt.alloc(), 2, &mut out);
     holds(&rt, answer == Err(MadeError::Write), "the answer");
     compare(
         &rt,
-        std::str::from_utf8(out.as_slice())?,
+        must(&rt, std::str::from_utf8(out.as_slice())),
         "calls 28 ",
         "the line",
     );
-    Ok(())
 }

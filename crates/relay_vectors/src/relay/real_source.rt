@@ -1,10 +1,10 @@
 //! Readers that are interrupted, or fail.
 
 use super::sources::reads_of;
-use crate::shown::agrees;
+use crate::shown::{agrees, must};
 use std::alloc::Global;
 use std::io;
-use std::test::Fail;
+use std::process::Abort;
 use sval_relay::RealSource;
 
 /// Fails with this error the first times, and then gives one byte a call.
@@ -65,30 +65,29 @@ const READERS: [(io::ErrorKind, u32, u64, &'static str); 11] = [
 ];
 
 /// What is told of reads of a reader, and the number of failures that it has left.
-fn reads_of_failing(alloc: Global, mut reader: Failing, count: u64) -> Result<String, Fail> {
+fn reads_of_failing(rt: &impl Abort, alloc: Global, mut reader: Failing, count: u64) -> String {
     let mut source = RealSource::new(&mut reader);
-    let told = reads_of(alloc, &mut source, &mut [b'-'; 4], count)?;
+    let told = reads_of(rt, alloc, &mut source, &mut [b'-'; 4], count);
     drop(source);
-    Ok(format!(in alloc; "{told}{}", reader.times)?)
+    must(rt, format!(in alloc; "{told}{}", reader.times))
 }
 
 #[test]
-fn errors_of_readers(rt: HostRuntime) -> Result<(), Fail> {
+fn errors_of_readers(rt: HostRuntime) {
     for (error, times, count, due) in &READERS {
         let reader = Failing {
             error: *error,
             times: *times,
         };
-        agrees(&rt, reads_of_failing(rt.alloc(), reader, *count), due)?;
+        agrees(&rt, &reads_of_failing(&rt, rt.alloc(), reader, *count), due);
     }
-    Ok(())
 }
 
 /// A read asks the reader for all that has room.
 #[test]
-fn fills_the_buffer(rt: HostRuntime) -> Result<(), Fail> {
+fn fills_the_buffer(rt: HostRuntime) {
     let mut bytes: &[u8] = &[b'a'; 10_000];
     let mut source = RealSource::new(&mut bytes);
-    let seen = reads_of(rt.alloc(), &mut source, &mut [0; 9_000], 3);
-    agrees(&rt, seen, "Ok(9000) aaaa\nOk(1000) aaaa\nOk(0) aaaa\n")
+    let seen = reads_of(&rt, rt.alloc(), &mut source, &mut [0; 9_000], 3);
+    agrees(&rt, &seen, "Ok(9000) aaaa\nOk(1000) aaaa\nOk(0) aaaa\n");
 }

@@ -1,9 +1,9 @@
 //! What serving a script of one value or of many answers and writes.
 
-use crate::shown::{agrees, agrees_at};
+use crate::shown::{agrees, compare, must, push};
 use std::alloc::Global;
 use std::fmt::Write;
-use std::test::Fail;
+use std::process::Abort;
 use sval_io::{FaultySink, VecSink};
 use sval_relay::{Way, relay, relay_lines};
 
@@ -50,39 +50,37 @@ const LISTS: [(&'static str, &'static str); 9] = [
 ];
 
 /// The answer for a script of many values in a way, and what is written.
-fn list_of(alloc: Global, way: Way, script: &str) -> Result<String, Fail> {
+fn list_of(rt: &impl Abort, alloc: Global, way: Way, script: &str) -> String {
     let mut out = VecSink::new(alloc);
     let answer = relay_lines(alloc, script.as_bytes(), way, &mut out);
-    let text = std::str::from_utf8(out.as_slice())?;
-    Ok(format!(in alloc; "{answer:?}: {text}")?)
+    let text = must(rt, std::str::from_utf8(out.as_slice()));
+    must(rt, format!(in alloc; "{answer:?}: {text}"))
 }
 
 #[test]
-fn answers_for_lists(rt: HostRuntime) -> Result<(), Fail> {
+fn answers_for_lists(rt: HostRuntime) {
     for (script, due) in &LISTS {
-        for way in WAYS {
-            agrees_at(&rt, list_of(rt.alloc(), way, script), due, script)?;
+        for way in &WAYS {
+            compare(&rt, &list_of(&rt, rt.alloc(), *way, script), due, script);
         }
     }
-    Ok(())
 }
 
 /// The answer for a script of one value in a way, and what is written.
-fn value_of(alloc: Global, way: Way, script: &str) -> Result<String, Fail> {
+fn value_of(rt: &impl Abort, alloc: Global, way: Way, script: &str) -> String {
     let mut out = VecSink::new(alloc);
     let answer = relay(alloc, script.as_bytes(), way, &mut out);
-    let text = std::str::from_utf8(out.as_slice())?;
-    Ok(format!(in alloc; "{answer:?}: {text}")?)
+    let text = must(rt, std::str::from_utf8(out.as_slice()));
+    must(rt, format!(in alloc; "{answer:?}: {text}"))
 }
 
 #[test]
-fn answers(rt: HostRuntime) -> Result<(), Fail> {
+fn answers(rt: HostRuntime) {
     for (script, due) in &ROWS {
-        for way in WAYS {
-            agrees_at(&rt, value_of(rt.alloc(), way, script), due, script)?;
+        for way in &WAYS {
+            compare(&rt, &value_of(&rt, rt.alloc(), *way, script), due, script);
         }
     }
-    Ok(())
 }
 
 /// Scripts that are served one after another, and the way of each.
@@ -93,19 +91,19 @@ const APPENDED: [(&'static str, Way); 3] = [
 ];
 
 /// The answers for these scripts, and what is written of them, up to a write that fails.
-fn appended_of(alloc: Global) -> Result<String, Fail> {
+fn appended_of(rt: &impl Abort, alloc: Global) -> String {
     let mut out = FaultySink::new(alloc, 1, &[9]);
     let mut seen = String::new(alloc);
     for (script, way) in &APPENDED {
         let answer = relay(alloc, script.as_bytes(), *way, &mut out);
-        write!(seen, "{answer:?}, ")?;
+        must(rt, write!(seen, "{answer:?}, "));
     }
-    seen.push_str(std::str::from_utf8(out.as_slice())?)?;
-    Ok(seen)
+    push(rt, &mut seen, must(rt, std::str::from_utf8(out.as_slice())));
+    seen
 }
 
 #[test]
-fn appends(rt: HostRuntime) -> Result<(), Fail> {
+fn appends(rt: HostRuntime) {
     let due = "Ok(()), Ok(()), Err(Write), true-9tr";
-    agrees(&rt, appended_of(rt.alloc()), due)
+    agrees(&rt, &appended_of(&rt, rt.alloc()), due);
 }

@@ -2,10 +2,9 @@
 
 use crate::forms::run_words;
 use crate::pictures::plain_text;
-use crate::shown::holds;
-use std::alloc::{AllocError, Global};
+use crate::shown::{holds, must};
+use std::alloc::Global;
 use std::process::Abort;
-use std::test::Fail;
 use sval_io::{FaultySink, VecSink};
 use sval_relay::{MemSource, Source};
 
@@ -53,17 +52,17 @@ const USAGE: &'static [u8] =
     b"usage: sval_relay direct [beside] [lines]|buffered [beside] [lines]|calls [lines]|made N\n";
 
 /// The words of a row.
-fn words_of(alloc: Global, row: &str) -> Result<Vec<String>, AllocError> {
+fn words_of(rt: &impl Abort, alloc: Global, row: &str) -> Vec<String> {
     let mut words = Vec::new(alloc);
     for word in row.split('|').skip(1) {
-        words.push(plain_text(alloc, word)?)?;
+        must(rt, words.push(plain_text(rt, alloc, word)));
     }
-    Ok(words)
+    words
 }
 
 /// Nothing is read and nothing is written, and the third device is told the usage. It fails after `taken` bytes.
-fn try_words(rt: &impl Abort, alloc: Global, row: &str, taken: usize) -> Result<(), Fail> {
-    let words = words_of(alloc, row)?;
+fn try_words(rt: &impl Abort, alloc: Global, row: &str, taken: usize) {
+    let words = words_of(rt, alloc, row);
     let failing = [(taken as u64).saturating_add(1)];
     let mut input = MemSource::new(b"null\n");
     let mut out = VecSink::new(alloc);
@@ -72,7 +71,6 @@ fn try_words(rt: &impl Abort, alloc: Global, row: &str, taken: usize) -> Result<
     holds(rt, status == 2 && out.as_slice().is_empty(), row);
     holds(rt, input.read(&mut [0; 8]) == Ok(5), row);
     holds(rt, begins_usage(diag.as_slice(), taken), row);
-    Ok(())
 }
 
 /// Whether `told` is the first `taken` bytes of the usage.
@@ -81,13 +79,12 @@ fn begins_usage(told: &[u8], taken: usize) -> bool {
 }
 
 #[test]
-fn no_form(rt: HostRuntime) -> Result<(), Fail> {
+fn no_form(rt: HostRuntime) {
     for row in ROWS.lines() {
         if !row.is_empty() {
             for taken in [USAGE.len(), 0, 1, 2] {
-                try_words(&rt, rt.alloc(), row, taken)?;
+                try_words(&rt, rt.alloc(), row, taken);
             }
         }
     }
-    Ok(())
 }
