@@ -5,7 +5,8 @@ use std::alloc::Global;
 use std::process::Abort;
 use sval_core::{Index, Label, Stream, Tag, Value};
 use sval_io::{FixedSink, VecSink};
-use sval_tape::{Tape, TapeError, TapeWriter, stream_tape};
+use sval_json::stream_to_vec;
+use sval_tape::{Tape, TapeError, TapeWriter, json_at_once, stream_tape};
 
 /// Each call at least once, in the order of the numbers.
 const CALLS: [&'static [u8]; 55] = [
@@ -219,4 +220,133 @@ fn streaming_ends_at_a_refused_call(rt: HostRuntime) {
     holds(&rt, streamed.is_err(), "the answer");
     let written = writer.into_inner();
     holds(&rt, written.as_slice() == &BAD[..1], "the bytes");
+}
+
+/// Tapes of the commonest calls, and their JSON.
+const COMMON: [(&'static [u8], &'static str); 16] = [
+    (b"\x00", "null"),
+    (b"\x01\x01", "true"),
+    (b"\x05\xff\x01", "255"),
+    (b"\x09\xff\x01", "-128"),
+    (b"\x0c\x01\x02\x0d\x01h\x0e\x01\"\x0f", "\"h\\\"\""),
+    (b"\x0c\x00\x0f", "\"\""),
+    (b"\x1a\x00\x1f", "[]"),
+    (
+        b"\x1a\x01\x02\x24\x01\x00\x2a\x24\x00\x2a\x1f",
+        "[false,null]",
+    ),
+    (b"\x1c\x00\x00\x00\x00\x21\x00\x00\x00", "{}"),
+    (
+        b"\x1c\x00\x01\x01R\x00\x00\x01\x02\x27\x00\x02id\x00\x02\x07\x2d\x00\x02id\x00\x27\x00\x02\"b\x00\x00\x2d\x00\x02\"b\x00\x21\x00\x01\x01R\x00\x00",
+        "{\"id\":7,\"\\\"b\":null}",
+    ),
+    (
+        b"\x1e\x00\x00\x00\x00\x29\x00\x01a\x01\x0bVALUE_IDENT\x02\x01\x0cVALUE_OFFSET\x00\x2f\x00\x01a\x01\x0bVALUE_IDENT\x02\x01\x0cVALUE_OFFSET\x23\x00\x00\x00",
+        "{\"a\":null}",
+    ),
+    (
+        b"\x16\x00\x00\x00\x14\x00\x01\x04Info\x00\x00\x17\x00\x00\x00",
+        "\"Info\"",
+    ),
+    (b"\x14\x01\x10RUST_OPTION_NONE\x01\x04None\x00\x00", "null"),
+    (
+        b"\x18\x01\x10RUST_OPTION_SOME\x00\x00\x02\x05\x19\x01\x10RUST_OPTION_SOME\x00\x00",
+        "5",
+    ),
+    (
+        b"\x18\x01\x06NUMBER\x00\x00\x0c\x00\x0d\x06-17.25\x0f\x19\x01\x06NUMBER\x00\x00",
+        "-17.25",
+    ),
+    (
+        b"\x18\x01\x06NUMBER\x00\x00\x0c\x01\x03\x0d\x030.5\x0f\x19\x01\x06NUMBER\x00\x00",
+        "0.5",
+    ),
+];
+
+/// Tapes that aren't written at once: their calls aren't one whole value, or aren't of the commonest kinds.
+const OTHERS: [&'static [u8]; 12] = [
+    b"",
+    b"\x00\x00",
+    b"\x0c\x01\x03\x0d\x02hi\x0f",
+    b"\x0c\x00\x0d\x02hi",
+    b"\x1a\x01\x01\x1f",
+    b"\x1a\x00\x24\x00\x1f",
+    b"\x1c\x00\x00\x00\x00\x27\x00\x01a\x00\x00\x2d\x00\x01b\x00\x21\x00\x00\x00",
+    b"\x1c\x00\x01\x01R\x00\x00\x00\x21\x00\x00\x00",
+    b"\x16\x00\x00\x00\x00\x17\x00\x00\x00",
+    b"\x18\x01\x06NUMBER\x00\x00\x0c\x00\x0d\x0501.25\x0f\x19\x01\x06NUMBER\x00\x00",
+    b"\x18\x01\x06NUMBER\x00\x00\x0c\x00\x0d\x03x.5\x0f\x19\x01\x06NUMBER\x00\x00",
+    b"\x10\x00\x13",
+];
+
+/// Compares the JSON of a tape, as it is written at once and by its calls.
+fn has_json(rt: &impl Abort, alloc: Global, tape: &[u8], due: &str) {
+    match json_at_once(alloc, tape) {
+        Some(json) => holds(rt, json.as_slice() == due.as_bytes(), "JSON at once"),
+        None => holds(rt, false, "no JSON at once"),
+    }
+    let calls = must(rt, Tape::read(tape));
+    let json = must(rt, stream_to_vec(alloc, &calls));
+    holds(rt, json.as_slice() == due.as_bytes(), "JSON of the calls");
+}
+
+#[test]
+fn common_calls_are_written_at_once(rt: HostRuntime) {
+    for (tape, due) in &COMMON {
+        has_json(&rt, rt.alloc(), tape, due);
+    }
+}
+
+#[test]
+fn other_calls_are_not_written_at_once(rt: HostRuntime) {
+    for tape in &OTHERS {
+        holds(
+            &rt,
+            json_at_once(rt.alloc(), tape).is_none(),
+            "another tape",
+        );
+    }
+}
+
+/// The tape of sequences in one another, so many, and nothing in the innermost.
+fn nested(rt: &impl Abort, alloc: Global, depth: usize) -> Vec<u8> {
+    let mut tape = Vec::new(alloc);
+    for _ in 1..depth {
+        must(rt, tape.extend_from_slice(b"\x1a\x00\x24"));
+    }
+    must(rt, tape.extend_from_slice(b"\x1a\x00\x1f"));
+    for _ in 1..depth {
+        must(rt, tape.extend_from_slice(b"\x2a\x1f"));
+    }
+    tape
+}
+
+#[test]
+fn depth_is_bounded_at_once(rt: HostRuntime) {
+    let shallow = nested(&rt, rt.alloc(), 64);
+    holds(
+        &rt,
+        json_at_once(rt.alloc(), &shallow).is_some(),
+        "64 levels",
+    );
+    let deep = nested(&rt, rt.alloc(), 1000);
+    holds(
+        &rt,
+        json_at_once(rt.alloc(), &deep).is_none(),
+        "1,000 levels",
+    );
+}
+
+#[test]
+fn many_items_are_written_at_once(rt: HostRuntime) {
+    let mut tape = Vec::new(rt.alloc());
+    must(&rt, tape.extend_from_slice(b"\x1a\x00"));
+    for _ in 0..100_000 {
+        must(&rt, tape.extend_from_slice(b"\x24\x00\x2a"));
+    }
+    must(&rt, tape.push(31));
+    match json_at_once(rt.alloc(), &tape) {
+        Some(json) => holds(&rt, json.len() == 500_001, "100,000 items"),
+        None => holds(&rt, false, "no JSON of 100,000 items"),
+    }
 }
