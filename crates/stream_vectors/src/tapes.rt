@@ -308,7 +308,7 @@ fn other_calls_are_not_written_at_once(rt: HostRuntime) {
     }
 }
 
-/// The tape of sequences in one another, so many, and nothing in the innermost.
+/// The tape of `depth` sequences, one in another.
 fn nested(rt: &impl Abort, alloc: Global, depth: usize) -> Vec<u8> {
     let mut tape = Vec::new(alloc);
     for _ in 1..depth {

@@ -2,8 +2,8 @@
 //!
 //! A tape is the bytes of calls, one after another. A [`TapeWriter`] is a stream that writes each call, and
 //! [`Tape::read`] reads them: a [`Tape`] is a value, which makes the calls again and lends their texts from the bytes.
-//! [`stream_tape`] reads and makes the calls in one pass. Each list of calls has one tape. [`laws`] has what holds of
-//! tapes.
+//! [`stream_tape`] reads and makes the calls in one pass, and [`json_at_once`] writes the JSON of the commonest calls as
+//! it reads them. Each list of calls has one tape. [`laws`] has what holds of tapes.
 //!
 //! # Format
 //!
