@@ -374,7 +374,7 @@ fn value<'t>(bytes: &'t [u8], depth: usize, out: &mut VecSink) -> Option<&'t [u8
 /// through a check. It takes memory for the JSON alone: as many bytes as the tape has, and more where the JSON is longer.
 ///
 /// The commonest kinds are `null`, truth values, whole numbers of 64 bits, texts, numbers under their tag with a
-/// fraction and no exponent, sequences, records, records that are tuples too, tags with a label, enums of such a tag,
+/// fraction and no exponent, sequences, records, records that are tuples too, tags with a label, enums that hold a tag alone,
 /// and values under a name whose tag doesn't say how text is meant. At most 64 may be nested. `None` says nothing of the
 /// tape: its calls may be of another kind or no whole value, or memory may be wanting.
 ///
