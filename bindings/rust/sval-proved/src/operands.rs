@@ -82,16 +82,44 @@ pub fn index(out: &mut Vec<u8>, index: &Index) {
 /// A call with a tag, where one is given, and a label.
 #[inline]
 pub fn field(out: &mut Vec<u8>, call: u8, before: Option<&Tag>, label: &Label) {
-    let text = label.text.as_bytes();
+    match (before, label.tag()) {
+        (None, None) if label.text.len() < SHORT => plain_field(out, call, label.text.as_bytes()),
+        (before, tag) => tagged_field(out, call, before, label.text.as_bytes(), tag),
+    }
+}
+
+/// How many bytes the label of a field has at most that is written as one piece.
+const SHORT: usize = 28;
+
+/// A call with a short label and no tag, as one piece.
+#[inline]
+fn plain_field(out: &mut Vec<u8>, call: u8, label: &[u8]) {
+    let mut bytes = [0; SHORT + 4];
+    bytes[0] = call;
+    bytes[2] = label.len() as u8;
+    for (byte, at) in label.iter().zip(&mut bytes[3..]) {
+        *at = *byte;
+    }
+    out.extend_from_slice(&bytes[..label.len() + 4]);
+}
+
+/// A call with a label and perhaps tags.
+fn tagged_field(
+    out: &mut Vec<u8>,
+    call: u8,
+    before: Option<&Tag>,
+    label: &[u8],
+    behind: Option<&Tag>,
+) {
     match before {
         Some(_) => {
             out.push(call);
             tag(out, before);
-            block_behind(out, [0], text);
+            block_behind(out, [0], label);
         }
-        None => block_behind(out, [call, 0, 0], text),
+        None => block_behind(out, [call, 0, 0], label),
     }
-    tag(out, label.tag());
+    tag(out, behind);
 }
 
 /// A call with a name: a tag, a label and an index, each where it is given.
