@@ -1,11 +1,11 @@
 -- A number with a fraction is its own normal form.
-use Rattle.std.specs.Prelude.{◌≡◌, ℕ, ◌+◌, ◌==◌, Bool, true, false, cond, if◌then◌else◌, List, [], ◌∷◌, ◌++◌, length, Ok, Result, refl}
+use Rattle.std.specs.Prelude.{◌≡◌, ℕ, ◌+◌, ◌==◌, Bool, true, false, if◌then◌else◌, List, [], ◌∷◌, ◌++◌, length, Ok, refl}
 use Rattle.std.specs.Char.{is_ascii_digit}
-use Rattle.std.proofs.Common.{sym, ap, subst, ◌∙◌, arith, ◌≢◌}
+use Rattle.std.proofs.Common.{sym, ap, ◌∙◌, arith}
 use Rattle.std.proofs.lemmas.Bool.Decides.{nat_tests}
 use Rattle.std.proofs.lemmas.List.{length-append, nil_from_length}
-use Rattle.sval_json.specs.Digits.{minus, point, zero_digit, is_sign, digits_of, after_digits, has_digit, without_sign, is_tail}
-use Rattle.sval_json.specs.Number.{Refusal, is_number, is_negative, without_zeros, with_sign, normal, normal_after}
+use Rattle.sval_json.specs.Digits.{minus, point, zero_digit, is_sign, digits_of, after_digits, without_sign, is_tail}
+use Rattle.sval_json.specs.Number.{is_number, without_zeros, with_sign, normal, normal_after}
 use Rattle.sval_json.proofs.NumberGrammar.{front_and_rest}
 use Rattle.sval_tape.specs.JsonAtFront.{IsFraction}
 

@@ -1,13 +1,15 @@
 -- Values at the front of a tape, built of their parts, and their JSON.
-use Rattle.std.specs.Prelude.{◌≡◌, ℕ, suc, ◌+◌, ◌-◌, ◌==◌, Bool, true, false, List, [], ◌∷◌, ◌++◌, length, take, map, codes, Option, Some, None, option_map, Result, Ok, IfSome, IsUtf8, refl}
-use Rattle.std.specs.List.{AllByRecursion, concat}
-use Rattle.core.specs.Option.{MatchOption}
+use Rattle.std.specs.Prelude.{◌≡◌, ℕ, ◌+◌, ◌-◌, ◌==◌, nat_lt, Bool, true, false, List, [], ◌∷◌, ◌++◌, length, take, codes, Option, Some, None, option_map, IfSome, refl}
+use Rattle.std.specs.Option.{MatchOption}
 use Rattle.std.specs.Fmt.{signed_decimal}
 use Rattle.std.proofs.Common.{sym, ap, subst, ◌∙◌, append_assoc, append-nil, arith}
 use Rattle.std.proofs.lemmas.Bool.Decides.{nat_tests}
 use Rattle.std.proofs.lemmas.List.{length-append, take_at}
 use Rattle.std.proofs.lemmas.List.Elements.{filter_map-append}
-use Rattle.std.proofs.lemmas.Str.{IsUtf8-from_is_utf8}
+use Rattle.std.specs.List.{list_all}
+use Rattle.std.specs.Str.{is_utf8}
+use Rattle.std.proofs.lemmas.Str.{is_utf8-from_IsUtf8}
+use Rattle.sval_json.proofs.NumberTexts.{ascii_utf8}
 use Rattle.sval_label.specs.Calls as call
 use Rattle.sval_label.specs.Calls.{Call, Label, Index, Slot, Head, Name, IntType, U8, U16, U32, U64, U128, I8, I16, I32, I64, I128, Tag}
 use Rattle.sval_label.specs.declared.grouped.Int.{Int}
@@ -17,27 +19,21 @@ use Rattle.sval_core.specs.Law.{emits, then_emits}
 use Rattle.sval_core.specs.Trees as tree
 use Rattle.sval_core.specs.Trees.{Tree, Parts, none, part, plain_name, plain_head, plain_slot, plain_label, AreInOrder, first_kind, next_kind, text_kind, TextKind, Ordinary, Number}
 use Rattle.sval_core.specs.Spells.{Spells, SayParts, IsSize, plain, plain_call, bare_head, entries}
-use Rattle.sval_core.specs.Real.{IsRealCall, IsRealName, IsReal}
-use Rattle.sval_core.specs.Values.{makes, enum_emission, tagged_emission, part_emission}
+use Rattle.sval_core.specs.Values.{makes}
 use Rattle.sval_core.specs.ValueTrees.{Tells, TellsParts}
 use Rattle.sval_core.proofs.ToldTrees.{plain_name_twice, plain_head_twice, bare_plain_head, enum_tells, tagged_tells, part_tells}
-use Rattle.sval_core.proofs.RealTrees.{real_calls-real_tree}
 use Rattle.sval_json.specs.declared.style.Variants.TheVariants.{Inside}
-use Rattle.sval_json.specs.Escape.{escaped, in_quotes}
 use Rattle.sval_json.specs.Json as json
 use Rattle.sval_json.specs.Json.{Json, Pairs, compact, compact_items, compact_pairs, comma, key_text}
-use Rattle.sval_json.specs.Number.{normal}
-use Rattle.sval_json.specs.Shape.{field_key, items, map_ok, on_ok, pairs, own, tagged_json, shape, label_or_index, handle_of, is_none_tag}
-use Rattle.sval_tape.specs.Tapes.{leb128, type_number, tape_of, call_bytes}
-use Rattle.sval_tape.specs.Taped.{IsTapedCall, IsTapedName, IsTapedLabel, IsTapedIndex, IsTape}
-use Rattle.sval_tape.specs.Reading.{ReadsAtFront, call_at_front, operands_at, tape_forms, truth_at, size_at, text_at, int_form, name_at_front, name_and_size_at, field_at, field_place_at}
-use Rattle.sval_tape.specs.JsonAtFront.{IsJsonOf, IsNoBinary, StandAtFront, OperandAt, SpelledAt, ValueAt, kind_for, head_for, begin_number, end_number, part_begin_number, part_end_number, SlotAt, FieldsAt, FieldAt, ItemsAt, ItemAt, fragment_calls, fragments_text, FragmentsAt, NumberAt, number_name, number_name_bytes}
+use Rattle.sval_json.specs.Shape.{field_key, items, map_ok, on_ok, pairs, own, tagged_json, shape}
+use Rattle.sval_tape.specs.Tapes.{name_bytes, type_number}
+use Rattle.sval_tape.specs.Taped.{IsTapedName}
+use Rattle.sval_tape.specs.Reading.{ReadsAtFront, call_at_front, operands_at, tape_forms, truth_at, size_at, int_form, name_at_front, name_and_size_at, field_at, field_place_at}
+use Rattle.sval_tape.specs.JsonAtFront.{StandAtFront, OperandAt, ValueAt, kind_for, head_for, begin_number, end_number, part_begin_number, part_end_number, SlotAt, FieldsAt, FieldAt, ItemsAt, ItemAt, NumberAt, number_name, some_taped, none_taped}
 use Rattle.sval_tape.specs.declared.json.FieldKind.{FieldKind}
 use Rattle.sval_tape.specs.declared.json.FieldKind.TheVariants as fields
 use Rattle.sval_tape.proofs.OperandReads.{IsBytes, IsOperand}
 use Rattle.sval_tape.proofs.Names.{name_operand, field_operand, field_place_operand}
-use Rattle.sval_tape.proofs.Tapes.{tape-cons, tape-nil}
-use Rattle.sval_tape.proofs.CallsRead.{call_takes}
 
 -- what is said of a thing that may be missing
 pub if_there : {A : Type 0} {P Q : A → Type 0} (o : Option A) → ((x : A) → P x → Q x) → IfSome o P → IfSome o Q
@@ -193,11 +189,11 @@ tagged_stands name bytes inner rest behind calls e n s = (
   stand_then calls (call.TaggedEnd name ∷ []) inner rest behind s (behind, ap call_at_front n.ended ∙ ap (option_map (λ (x : Name × List ℕ). (call.TaggedEnd x.0, x.1))) (n.begun.again behind), tt, refl),
 )
 
-pub tagged_at : (name : Name) (bytes inner rest behind : List ℕ) {old new : List ℕ} → IsBytes bytes → Some (name, inner) ≡ name_at_front bytes → text_kind name.tag ≡ Ordinary
-    → ValueAt inner rest old new → rest ≡ 25 ∷ take (length bytes - length inner) bytes ++ behind → ValueAt (24 ∷ bytes) behind old new
+-- a value under a name whose tag doesn't say how text is meant
+tagged_named : (name : Name) (bytes inner rest behind : List ℕ) {old new : List ℕ} → Some (name, inner) ≡ name_at_front bytes → IsNamed name bytes inner rest behind 25 → text_kind name.tag ≡ Ordinary
+    → ValueAt inner rest old new → ValueAt (24 ∷ bytes) behind old new
 unfolding emits then_emits
-tagged_at name bytes inner rest behind fits e kind v ends =
-    let n = named name inner 25 fits e ends in
+tagged_named name bytes inner rest behind e n kind v =
     let may = subst (λ k. tree.MayHold k v.tree) (sym kind) tt in
     let told = tagged_tells name (makes v.spelled.calls) v.tree may (record { willing = refl; spells = v.spelled.spells }) in
     record {
@@ -212,24 +208,57 @@ tagged_at name bytes inner rest behind fits e kind v ends =
       written = v.written;
     }
 
-number_name_taped : IsTapedName number_name
-unfolding leb128
-number_name_taped = record { tag = (omega arith, refl); label = tt; index = tt }
+pub tagged_at : (name : Name) (bytes inner rest behind : List ℕ) {old new : List ℕ} → IsBytes bytes → Some (name, inner) ≡ name_at_front bytes → text_kind name.tag ≡ Ordinary
+    → ValueAt inner rest old new → rest ≡ 25 ∷ take (length bytes - length inner) bytes ++ behind → ValueAt (24 ∷ bytes) behind old new
+tagged_at name bytes inner rest behind fits e kind v ends = tagged_named name bytes inner rest behind e (named name inner 25 fits e ends) kind v
 
-number_name_again : (more : List ℕ) → name_at_front (number_name_bytes ++ more) ≡ Some (number_name, more)
-number_name_again more = name_operand.again number_name more number_name_taped
+-- names that are known by their bytes
+known_again : (name : Name) → IsTapedName name → (more : List ℕ) → name_at_front (name_bytes name ++ more) ≡ Some (name, more)
+known_again name taped more = name_operand.again name more taped
 
-pub number_at : (bytes rest behind : List ℕ) {old new : List ℕ} → NumberAt bytes rest old new → rest ≡ 25 ∷ number_name_bytes ++ behind → ValueAt (24 ∷ number_name_bytes ++ bytes) behind old new
+known_named : (name : Name) (bytes rest behind : List ℕ) → IsTapedName name → rest ≡ 25 ∷ name_bytes name ++ behind → IsNamed name (name_bytes name ++ bytes) bytes rest behind 25
+known_named name bytes rest behind taped ends = record { begun = record { operand = name_bytes name; parts = refl; again = known_again name taped }; ended = ends }
+
+number_taped : IsTapedName number_name
+number_taped = record { tag = (omega arith, refl); label = tt; index = tt }
+
+known_utf8 : (text : List ℕ) → list_all (λ b. nat_lt b 128) text ≡ true → is_utf8 text ≡ true
+known_utf8 text ascii = is_utf8-from_IsUtf8 text (ascii_utf8 text ascii)
+
+some_is_taped : IsTapedName some_taped
+some_is_taped = record {
+  tag = (omega arith, refl);
+  label = record { text = (omega arith, known_utf8 (codes "Some") refl); tag = (omega arith, refl); not_static = refl };
+  index = record { number = refl; tag = (omega arith, refl) };
+}
+
+none_is_taped : IsTapedName none_taped
+none_is_taped = record {
+  tag = (omega arith, refl);
+  label = record { text = (omega arith, known_utf8 (codes "None") refl); tag = (omega arith, refl); not_static = refl };
+  index = record { number = refl; tag = (omega arith, refl) };
+}
+
+pub some_at : (bytes inner rest last behind : List ℕ) {old new : List ℕ} → bytes ≡ name_bytes some_taped ++ inner → ValueAt inner rest old new → rest ≡ 25 ∷ last → last ≡ name_bytes some_taped ++ behind
+    → ValueAt (24 ∷ bytes) behind old new
+some_at bytes inner rest last behind {old = old} {new = new} is v ends name =
+    let n = known_named some_taped inner rest behind some_is_taped (ends ∙ ap (λ x. 25 ∷ x) name) in
+    let at = tagged_named some_taped (name_bytes some_taped ++ inner) inner rest behind (sym (known_again some_taped some_is_taped inner)) n refl v in
+    subst (λ x. ValueAt (24 ∷ x) behind old new) (sym is) at
+
+pub none_at : (bytes rest : List ℕ) {old new : List ℕ} → bytes ≡ name_bytes none_taped ++ rest → new ≡ old ++ codes "null" → ValueAt (20 ∷ bytes) rest old new
+none_at bytes rest is w = alone_at none_taped bytes rest (sym (ap name_at_front is ∙ known_again none_taped none_is_taped rest)) w
+
+pub number_at : (bytes rest behind : List ℕ) {old new : List ℕ} → NumberAt bytes rest old new → rest ≡ 25 ∷ name_bytes number_name ++ behind → ValueAt (24 ∷ name_bytes number_name ++ bytes) behind old new
 unfolding emits then_emits
 number_at bytes rest behind v ends =
     let told = tagged_tells number_name (makes v.spelled.calls) (tree.Text v.text) tt (record { willing = refl; spells = v.spelled.spells }) in
-    let begun : OperandAt name_at_front number_name (number_name_bytes ++ bytes) bytes = record { operand = number_name_bytes; parts = refl; again = number_name_again } in
-    let n : IsNamed number_name (number_name_bytes ++ bytes) bytes rest behind 25 = record { begun = begun; ended = ends } in
+    let n = known_named number_name bytes rest behind number_taped ends in
     record {
       tree = tree.Tagged (plain_name number_name) (tree.Text v.text);
       spelled = record {
         calls = call.TaggedBegin number_name ∷ (v.spelled.calls ++ call.TaggedEnd number_name ∷ []);
-        stand = tagged_stands number_name (number_name_bytes ++ bytes) bytes rest behind v.spelled.calls (sym (number_name_again bytes)) n v.spelled.stand;
+        stand = tagged_stands number_name (name_bytes number_name ++ bytes) bytes rest behind v.spelled.calls (sym (known_again number_name number_taped bytes)) n v.spelled.stand;
         spells = told.spells;
       };
       json = json.raw v.text;

@@ -1,8 +1,8 @@
 -- Texts at the front of a tape, and a whole tape.
-use Rattle.std.specs.Prelude.{◌≡◌, ℕ, ◌+◌, ◌-◌, Bool, true, false, List, [], ◌∷◌, ◌++◌, length, map, codes, Option, Some, None, option_map, Ok, IfSome, IsUtf8, refl}
+use Rattle.std.specs.Prelude.{◌≡◌, ℕ, ◌+◌, Bool, true, false, List, [], ◌∷◌, ◌++◌, length, map, codes, Option, Some, None, option_map, Ok, IfSome, refl}
 use Rattle.std.specs.List.{AllByRecursion, concat}
-use Rattle.std.proofs.Common.{sym, ap, subst, ◌∙◌, append_assoc, append-nil, arith}
-use Rattle.std.proofs.lemmas.List.{length-append, nil_from_length}
+use Rattle.std.proofs.Common.{sym, ap, subst, ◌∙◌, append_assoc, append-nil}
+use Rattle.std.proofs.lemmas.List.{length-append}
 use Rattle.std.proofs.lemmas.Str.{IsUtf8-from_is_utf8}
 use Rattle.sval_label.specs.Calls as call
 use Rattle.sval_label.specs.Calls.{Call, Label, Index, Slot, Head, Name}
@@ -15,7 +15,7 @@ use Rattle.sval_json.specs.Json as json
 use Rattle.sval_json.specs.Number.{normal}
 use Rattle.sval_json.proofs.Texts.{escaped-append}
 use Rattle.sval_tape.specs.Tapes.{tape_of, call_bytes}
-use Rattle.sval_tape.specs.Taped.{IsTapedCall, IsTapedName, IsTapedLabel, IsTapedIndex, IsTape}
+use Rattle.sval_tape.specs.Taped.{IsTapedCall, IsTapedName, IsTapedLabel, IsTapedIndex}
 use Rattle.sval_tape.specs.Reading.{call_at_front, operands_at, tape_forms, size_at, text_at}
 use Rattle.sval_tape.specs.JsonAtFront.{IsJsonOf, IsNoBinary, StandAtFront, ValueAt, fragment_calls, fragments_text, FragmentAt, FragmentsAt, NumberAt}
 use Rattle.sval_tape.proofs.OperandReads.{IsBytes}

@@ -1,5 +1,5 @@
 -- The JSON of values at the front of a tape.
-use Rattle.std.specs.Prelude.{◌≡◌, ℕ, ◌+◌, Bool, true, false, ⊤, List, [], ◌∷◌, ◌++◌, length, codes, None, Some, Ok}
+use Rattle.std.specs.Prelude.{◌≡◌, ℕ, pos, ◌+◌, Bool, true, false, ⊤, List, [], ◌∷◌, ◌++◌, length, codes, None, Some, Ok}
 use Rattle.std.specs.Char.{is_ascii_digit}
 use Rattle.sval_label.specs.Calls as call
 use Rattle.sval_label.specs.Calls.{Call, Label, Slot, Head, Name}
@@ -14,7 +14,6 @@ use Rattle.sval_json.specs.Json.{Json, Items, Pairs, pair, compact, compact_item
 use Rattle.sval_json.specs.Digits.{after_digits}
 use Rattle.sval_json.specs.Number.{normal}
 use Rattle.sval_json.specs.Shape.{field_key, items, json_of, map_ok, on_ok, pairs, shape}
-use Rattle.sval_tape.specs.Tapes.{name_bytes}
 use Rattle.sval_tape.specs.Reading.{ReadsAtFront, call_at_front}
 use Rattle.sval_tape.specs.Taped.{IsTape}
 use Rattle.sval_tape.specs.declared.json.FieldKind.{FieldKind}
@@ -168,12 +167,24 @@ pub record FragmentsAt (bytes rest old new : List ℕ) (size : ℕ) : Type 0 whe
 
 -- ---- numbers
 
--- the name that is the tag of numbers alone, and its bytes
+-- the name of numbers: their tag alone
 abbrev pub number_name : Name
 number_name = record { tag = Some (codes "NUMBER"); label = None; index = None }
 
-abbrev pub number_name_bytes : List ℕ
-number_name_bytes = name_bytes number_name
+-- a name whose label is an identifier and whose index is a place
+abbrev pub place_name : List ℕ → List ℕ → ℕ → Name
+place_name tag label place = record {
+  tag = Some tag;
+  label = Some (record { text = label; tag = Some (codes "VALUE_IDENT"); is_static = false });
+  index = Some (record { number = pos place; tag = Some (codes "VALUE_OFFSET") });
+}
+
+-- the names of an option with and without a value
+abbrev pub some_taped : Name
+some_taped = place_name (codes "RUST_OPTION_SOME") (codes "Some") 1
+
+abbrev pub none_taped : Name
+none_taped = place_name (codes "RUST_OPTION_NONE") (codes "None") 0
 
 -- digits without a zero in front of others, a point, and digits
 pub record IsFraction (text : List ℕ) : Type 0 where

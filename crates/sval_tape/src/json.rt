@@ -3,19 +3,21 @@
 //! It goes by the commonest calls, and gives up at any other. It makes no calls, so nothing has to check them: each kind
 //! of value is read whole, and the end of a part or of a container is compared with its begin byte by byte.
 
-ghost use Rattle.std.specs.Prelude.{◌≡◌, ◌++◌, ◌∷◌, ◌==◌, ◌+◌, ◌-◌, true, false, length, take, IfSome, option_map};
+ghost use Rattle.std.specs.Prelude.{◌≡◌, ◌++◌, ◌∷◌, ◌==◌, ◌+◌, true, false, IfSome, option_map};
 ghost use Rattle.sval_label.specs.Texts.{truth_text};
 ghost use Rattle.sval_core.specs.Spells.{IsSize};
 ghost use Rattle.sval_core.specs.Trees.{Ordinary, text_kind};
 ghost use Rattle.sval_tape.specs.ReadCalls.{label_read, name_read, tag_read, tape_int_type};
-ghost use Rattle.sval_tape.specs.Tapes.{type_number};
+ghost use Rattle.sval_tape.specs.Tapes.{name_bytes, type_number};
 ghost use Rattle.sval_tape.specs.JsonAtFront.{IsJsonOf, ValueAt, FieldsAt, FieldAt, ItemsAt, ItemAt, SlotAt};
-ghost use Rattle.sval_tape.specs.JsonAtFront.{begin_number, end_number, number_name_bytes, part_begin_number, part_end_number};
+ghost use Rattle.sval_tape.specs.JsonAtFront.{begin_number, end_number, number_name, part_begin_number, part_end_number};
 
+mod names;
 mod out;
 mod text;
 
 use crate::ints::{IntType, read_int};
+use crate::json::names::{behind, behind_end, behind_none, behind_number, behind_some};
 use crate::json::out::{put, put_comma, put_key, put_own};
 use crate::json::text::{number, text};
 use crate::read_call::{LabelRead, NameRead, TagRead};
@@ -71,38 +73,6 @@ impl FieldKind {
     }
 }
 
-/// What follows a call's number, where bytes begin with that.
-#[inline(always)]
-fn behind<'t>(number: u8, bytes: &'t [u8]) -> Option<&'t [u8]>
-    ensures { IfSome result (λ rest. bytes.now ≡ number ∷ rest.now) }
-{
-    match bytes.split_first() {
-        Some((first, rest)) if *first == number => Some(rest),
-        _ => None,
-    }
-}
-
-/// What follows the operand at the front of `whole`, which `rest` follows, where `bytes` begin with it too.
-#[inline(always)]
-fn behind_same<'t>(whole: &[u8], rest: &[u8], bytes: &'t [u8]) -> Option<&'t [u8]>
-    ensures { IfSome result (λ behind. bytes.now ≡ take (length whole.now - length rest.now) whole.now ++ behind.now) }
-{
-    if rest.len() > whole.len() {
-        return None;
-    }
-    bytes.strip_prefix(&whole[..whole.len() - rest.len()])
-}
-
-/// What follows a call of this number that says the operand at the front of `whole`, which `rest` follows.
-#[inline(always)]
-fn behind_end<'t>(number: u8, whole: &[u8], rest: &[u8], bytes: &'t [u8]) -> Option<&'t [u8]>
-    ensures { IfSome result (λ behind. bytes.now
-        ≡ number ∷ take (length whole.now - length rest.now) whole.now ++ behind.now) }
-{
-    let operand = behind(number, bytes)?;
-    behind_same(whole, rest, operand)
-}
-
 /// Whether a size that is given is this one.
 #[inline(always)]
 fn is_size(size: Option<usize>, count: usize) -> bool
@@ -154,6 +124,10 @@ fn null<'t>(bytes: &'t [u8], out: &mut VecSink) -> Option<&'t [u8]>
 fn alone<'t>(bytes: &'t [u8], out: &mut VecSink) -> Option<&'t [u8]>
     ensures { IfSome result (λ rest. ValueAt (20 ∷ bytes.now) rest.now out.old.bytes out.new.bytes) }
 {
+    if let Some(rest) = behind_none(bytes) {
+        put(out, b"null")?;
+        return Some(rest);
+    }
     let (name, rest) = read_name(bytes)?;
     put_own(name, out)?;
     Some(rest)
@@ -199,24 +173,13 @@ fn is_ordinary(tag: Option<TagRead>) -> bool
     }
 }
 
-/// The bytes of a name that is the tag of numbers alone.
-const NUMBER_NAME: &[u8] = b"\x01\x06NUMBER\0\0";
-
-/// What follows that name, where bytes begin with it.
-#[inline(always)]
-fn behind_number_name<'t>(bytes: &'t [u8]) -> Option<&'t [u8]>
-    ensures { IfSome result (λ rest. bytes.now ≡ number_name_bytes ++ rest.now) }
-{
-    bytes.strip_prefix(NUMBER_NAME)
-}
-
 /// A number under its tag alone. `bytes` follow that name.
 fn tagged_number<'t>(bytes: &'t [u8], out: &mut VecSink) -> Option<&'t [u8]>
-    ensures { IfSome result (λ rest. ValueAt (24 ∷ number_name_bytes ++ bytes.now) rest.now
+    ensures { IfSome result (λ rest. ValueAt (24 ∷ name_bytes number_name ++ bytes.now) rest.now
         out.old.bytes out.new.bytes) }
 {
     let rest = number(bytes, out)?;
-    behind_number_name(behind(25, rest)?)
+    behind_number(behind(25, rest)?)
 }
 
 /// A value under a name.
@@ -224,11 +187,18 @@ fn tagged_number<'t>(bytes: &'t [u8], out: &mut VecSink) -> Option<&'t [u8]>
 fn tagged<'t>(bytes: &'t [u8], depth: usize, out: &mut VecSink) -> Option<&'t [u8]>
     ensures { IfSome result (λ rest. ValueAt (24 ∷ bytes.now) rest.now out.old.bytes out.new.bytes) }
 {
-    if let Some(inner) = behind_number_name(bytes) {
+    if let Some(inner) = behind_number(bytes) {
         return tagged_number(inner, out);
     }
+    if depth == 0 {
+        return None;
+    }
+    if let Some(inner) = behind_some(bytes) {
+        let rest = value(inner, depth - 1, out)?;
+        return behind_some(behind(25, rest)?);
+    }
     let (name, inner) = read_name(bytes)?;
-    if depth == 0 || !is_ordinary(name.tag) {
+    if !is_ordinary(name.tag) {
         return None;
     }
     let rest = value(inner, depth - 1, out)?;

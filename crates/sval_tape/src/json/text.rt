@@ -6,8 +6,9 @@ ghost use Rattle.sval_json.specs.Digits.{after_digits};
 ghost use Rattle.sval_json.specs.Number.{normal};
 ghost use Rattle.sval_tape.specs.JsonAtFront.{FragmentAt, FragmentsAt, IsFraction, NumberAt, ValueAt};
 
+use crate::json::is_size;
+use crate::json::names::behind;
 use crate::json::out::{put, put_escaped};
-use crate::json::{behind, is_size};
 use crate::reading::{read_size, read_text};
 use sval_io::VecSink;
 

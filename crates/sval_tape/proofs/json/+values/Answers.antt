@@ -2,7 +2,7 @@ use Rattle.std.specs.Prelude.{refl}
 use Rattle.std.proofs.Common.{ap, sym, subst, arith, ◌∙◌, ◌++◌, ◌∷◌, ◌-◌, length, take}
 use Rattle.sval_tape.specs.ReadCalls.{label_read, name_read}
 use Rattle.sval_tape.specs.JsonAtFront.{ValueAt}
-use Rattle.sval_tape.proofs.JsonFront.{if_there, tagged_at, field_at_front, all_fields, one_more_field, container_at, item_at_front, all_items, one_more_item, sequence_at}
+use Rattle.sval_tape.proofs.JsonFront.{if_there, some_at, tagged_at, field_at_front, all_fields, one_more_field, container_at, item_at_front, all_items, one_more_item, sequence_at}
 use Rattle.sval_tape.proofs.json.+values.Goals as goal
 
 pub container-returns : goal.container-returns
@@ -35,11 +35,17 @@ tagged-returns-in-Some t c =
     (λ rest number. subst (λ x. ValueAt (24 ∷ x) rest.now c.args.out.now.bytes c.tagged_number.new.out.bytes) (sym c.in-Some.ensures) number)
     c.tagged_number.ensures
 
+pub tagged-returns-in-Some-behind_some : goal.tagged-returns-in-Some-behind_some
+tagged-returns-in-Some-behind_some t c =
+    if_there c.behind_some-in-Some-behind_some.result
+    (λ behind name. some_at c.args.bytes.now c.in-Some-behind_some.inner.now c.in_ok-rest.rest.now c.in_ok-behind.field-0.now behind.now c.in-Some-behind_some.ensures c.in_ok-rest.ensures c.in_ok-behind.ensures name)
+    c.behind_some-in-Some-behind_some.ensures
+
 pub tagged-returns : goal.tagged-returns
 tagged-returns t c =
     if_there c.behind_end.result
-    (λ behind ends. tagged_at (name_read c.in_ok-name.name) c.args.bytes.now c.in_ok-name.inner.now c.in_ok-rest.rest.now behind.now (λ i. omega (arith, c.type_inv.bytes i)) c.in_ok-name.ensures
-    (c.if-not-is_ordinary.ensures refl) c.in_ok-rest.ensures ends)
+    (λ behind ends. tagged_at (name_read c.in_ok-name.name) c.args.bytes.now c.in_ok-name.inner.now c.in_ok-rest-2.rest.now behind.now (λ i. omega (arith, c.type_inv.bytes i)) c.in_ok-name.ensures
+    (c.if-not-is_ordinary.ensures refl) c.in_ok-rest-2.ensures ends)
     c.behind_end.ensures
 
 pub item-returns : goal.item-returns

@@ -1,4 +1,4 @@
-use Rattle.std.proofs.Common.{◌≡◌, ℕ, ◌+◌, ◌*◌, ◌==◌, List}
+use Rattle.std.proofs.Common.{ℕ, ◌+◌, ◌*◌, ◌==◌, List}
 use Rattle.sval_tape.specs.JsonAtFront.{FieldsAt, ItemsAt}
 use Rattle.sval_tape.proofs.json.+values.Given as goal
 

@@ -1,5 +1,4 @@
 use Rattle.sval_tape.proofs.JsonFront.{null_at}
-use Rattle.sval_tape.proofs.JsonTexts.{json_of_tape}
 use Rattle.sval_tape.proofs.json.null.Goals as goal
 
 pub returns : goal.returns

@@ -1,5 +1,5 @@
 use Rattle.std.specs.Prelude.{Ok, refl}
-use Rattle.std.proofs.Common.{ap, sym, subst, ◌≡◌, ◌∙◌, ◌++◌, ◌∷◌}
+use Rattle.std.proofs.Common.{ap, sym, subst, ◌≡◌, ◌∙◌, ◌++◌}
 use Rattle.sval_json.specs.Number.{normal}
 use Rattle.sval_tape.specs.JsonAtFront.{NumberAt}
 use Rattle.sval_tape.proofs.JsonTexts.{number_at_front}
