@@ -59,6 +59,7 @@ pub struct Fields<'a> {
 
 impl<'a> Fields<'a> {
     // A field may be left out (`skip_field`), so the number of fields is not told.
+    #[inline]
     pub fn new(tape: &'a mut TapeWriter, name: &'static str) -> Self {
         if name == NUMBER {
             tape.tagged_begin(Some(&tags::NUMBER), None, None);
@@ -93,6 +94,7 @@ impl<'a> Fields<'a> {
         })
     }
 
+    #[inline]
     fn finish(self) {
         match self.owner {
             Owner::Number => self.tape.tagged_end(Some(&tags::NUMBER), None, None),
@@ -113,10 +115,12 @@ macro_rules! takes_fields {
             type Ok = ();
             type Error = Error;
 
+            #[inline]
             fn serialize_field<T: Serialize + ?Sized>(&mut self, name: &'static str, value: &T) -> Result<(), Error> {
                 self.field(name, value)
             }
 
+            #[inline]
             fn end(self) -> Result<(), Error> {
                 self.finish();
                 Ok(())

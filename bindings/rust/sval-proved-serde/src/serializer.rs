@@ -69,7 +69,8 @@ impl<'a> Serializer<'a> {
 /// Methods for values that have a call of their type.
 macro_rules! calls {
     ($($method:ident: $type:ty => $call:ident),*) => {
-        $(fn $method(self, value: $type) -> Result<(), Error> {
+        $(#[inline]
+        fn $method(self, value: $type) -> Result<(), Error> {
             self.tape.$call(value);
             Ok(())
         })*
