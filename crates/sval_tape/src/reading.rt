@@ -112,6 +112,7 @@ fn known_tag(text: &[u8]) -> Option<TagRead>
 
 /// A tag of the ten.
 #[tactic(auto, unfolding(crate::specs::Reading::tag_at))]
+#[inline(always)]
 pub(crate) fn read_tag(bytes: &[u8]) -> Option<(TagRead, &[u8])>
     ensures { option_map (λ x. (tag_read x.0, x.1.now)) result ≡ tape.tag_at bytes.now }
 {
