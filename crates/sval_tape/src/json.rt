@@ -13,12 +13,12 @@ ghost use Rattle.sval_tape.specs.JsonAtFront.{IsJsonOf, ValueAt, FieldsAt, Field
 ghost use Rattle.sval_tape.specs.JsonAtFront.{begin_number, end_number, number_name, part_begin_number, part_end_number};
 
 mod names;
-mod out;
+mod pieces;
 mod text;
 
 use crate::ints::{IntType, read_int};
 use crate::json::names::{behind, behind_end, behind_none, behind_number, behind_some};
-use crate::json::out::{put, put_comma, put_key, put_own};
+use crate::json::pieces::{put, put_comma, put_key, put_own};
 use crate::json::text::{number, text};
 use crate::read_call::{LabelRead, NameRead, TagRead};
 use crate::reading::{read_field, read_field_place, read_name, read_size, read_truth};

@@ -8,7 +8,7 @@ ghost use Rattle.sval_tape.specs.JsonAtFront.{FragmentAt, FragmentsAt, IsFractio
 
 use crate::json::is_size;
 use crate::json::names::behind;
-use crate::json::out::{put, put_escaped};
+use crate::json::pieces::{put, put_escaped};
 use crate::reading::{read_size, read_text};
 use sval_io::VecSink;
 
