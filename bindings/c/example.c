@@ -45,7 +45,7 @@ int main(void)
 {
     size_t length;
     uint8_t *input = read_all(&length);
-    /* JSON without white space is hardly ever longer; where it is, `written` says how long. */
+    /* JSON without white space is never longer. Of other calls `written` says how long it is, as here. */
     size_t room = length + 1;
     uint8_t *out = calloc(room, 1);
     if (input == NULL || out == NULL) {

@@ -129,11 +129,13 @@ def filter(document, drop=None, keep=None):
     """JSON without the members that the paths of `drop` name, or with no others than those of `keep`, and without white space.
 
     A path is a text of labels with dots between them: "user.password" names the member "password" of the member "user", also
-    within arrays. Either `drop` or `keep` is given, as an iterable of paths.
+    within arrays. Either `drop` or `keep` is given, as an iterable of paths; a single text is refused.
     """
     if (drop is None) == (keep is None):
         raise TypeError("filter takes either drop or keep")
     rule, paths = (DROP, drop) if keep is None else (KEEP, keep)
+    if isinstance(paths, (str, bytes)):
+        raise TypeError("the paths of filter are an iterable of texts: [\"user.password\"]")
     text = b"".join(path_line(path) for path in paths)
     return call(LIBRARY.sval_json_filter, document, len(document), rule, text, len(text))
 

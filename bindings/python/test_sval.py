@@ -250,6 +250,15 @@ def names_in(value):
     return {name for name in value if name} | {name for it in value.values() for name in names_in(it)}
 
 
+def test_single_path():
+    """A text isn't taken for the paths that are its letters."""
+    try:
+        sval.filter(b"{}", drop="password")
+    except TypeError:
+        return
+    raise AssertionError("filter takes a text for its paths")
+
+
 def test_filter(rng, value, data):
     """Random paths leave what they leave of what Python read."""
     names = sorted(names_in(value) | {"none"})
@@ -298,6 +307,7 @@ def main():
     print(f"python: {number} random inputs, seed {seed}, {'cbor2' if cbor2 else 'no cbor2'}")
     rng = random.Random(seed)
     test_rows()
+    test_single_path()
     for _ in range(number):
         value = random_value(rng, 3, False)
         data = spelled(rng, value, True).encode()

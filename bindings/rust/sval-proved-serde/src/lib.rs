@@ -43,7 +43,7 @@ use sval_proved::TapeWriter;
 /// # Errors
 ///
 /// [`Error::Value`] with what the value's `Serialize` says, and [`Error::Library`] where the library gives no bytes: so for a key
-/// that can't be one, and for an array or a map with another number of elements than it tells.
+/// that can't be one, as a sequence, bytes, or a variant with content, and for an array or a map with another number of elements than it tells.
 pub fn to_json<T: Serialize + ?Sized>(value: &T) -> Result<Vec<u8>, Error> {
     Ok(to_tape(value)?.tape().to_json()?)
 }
@@ -61,7 +61,7 @@ pub fn to_json_pretty<T: Serialize + ?Sized>(value: &T) -> Result<Vec<u8>, Error
 ///
 /// # Errors
 ///
-/// Those of [`to_json`]; and [`sval_proved::Error::NotInteger`] for a number with a fraction or an exponent.
+/// Those of [`to_json`]; and [`sval_proved::Error::NotInteger`] for each float that is a number, `1.0` too.
 pub fn to_cbor<T: Serialize + ?Sized>(value: &T) -> Result<Vec<u8>, Error> {
     Ok(to_tape(value)?.tape().to_cbor()?)
 }

@@ -338,7 +338,8 @@ impl TapeWriter {
         self.binary_end();
     }
 
-    /// A number by its digits: an optional sign, digits, and perhaps a fraction and an exponent. The library checks them.
+    /// A number by its digits: an optional sign, digits, and perhaps a fraction and an exponent. `NaN` and `inf` become
+    /// `null`. The library checks the digits.
     pub fn number(&mut self, digits: &str) {
         self.bytes.extend_from_slice(b"\x18\x01\x06NUMBER\0\0");
         self.text(digits);
@@ -348,14 +349,14 @@ impl TapeWriter {
     /// A field of a record: its begin, what `value` writes, and its end.
     ///
     /// ```
-    /// use sval_proved::{Label, TapeWriter};
+    /// use sval_proved::{Error, Label, TapeWriter};
     ///
     /// let mut tape = TapeWriter::new();
     /// tape.record_begin(None, None, None, Some(1));
-    /// tape.record_value(None, &Label::new("user"), |tape| Ok(tape.u64(42)))?;
+    /// tape.record_value(None, &Label::new("user"), |tape| Ok::<_, Error>(tape.u64(42)))?;
     /// tape.record_end(None, None, None);
     /// assert_eq!(tape.tape().to_json()?, br#"{"user":42}"#);
-    /// # Ok::<(), sval_proved::Error>(())
+    /// # Ok::<(), Error>(())
     /// ```
     ///
     /// # Errors
