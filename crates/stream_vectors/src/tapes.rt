@@ -223,11 +223,29 @@ fn streaming_ends_at_a_refused_call(rt: HostRuntime) {
 }
 
 /// Tapes of the commonest calls, and their JSON.
-const COMMON: [(&'static [u8], &'static str); 16] = [
+const COMMON: [(&'static [u8], &'static str); 25] = [
     (b"\x00", "null"),
     (b"\x01\x01", "true"),
     (b"\x05\xff\x01", "255"),
+    (b"\x03\x07", "7"),
+    (b"\x04\x07", "7"),
+    (b"\x02\x07", "7"),
+    (b"\x07\x01", "-1"),
+    (b"\x08\x01", "-1"),
     (b"\x09\xff\x01", "-128"),
+    (b"\x0a\x01", "-1"),
+    (
+        b"\x18\x00\x01\x01W\x00\x00\x00\x19\x00\x01\x01W\x00\x00",
+        "null",
+    ),
+    (
+        b"\x14\x01\x10RUST_OPTION_NONE\x01\x04None\x01\x0bVALUE_IDENT\x01\x00\x01\x0cVALUE_OFFSET",
+        "null",
+    ),
+    (
+        b"\x18\x01\x10RUST_OPTION_SOME\x01\x04Some\x01\x0bVALUE_IDENT\x01\x02\x01\x0cVALUE_OFFSET\x02\x05\x19\x01\x10RUST_OPTION_SOME\x01\x04Some\x01\x0bVALUE_IDENT\x01\x02\x01\x0cVALUE_OFFSET",
+        "5",
+    ),
     (b"\x0c\x01\x02\x0d\x01h\x0e\x01\"\x0f", "\"h\\\"\""),
     (b"\x0c\x00\x0f", "\"\""),
     (b"\x1a\x00\x1f", "[]"),
@@ -323,17 +341,17 @@ fn nested(rt: &impl Abort, alloc: Global, depth: usize) -> Vec<u8> {
 
 #[test]
 fn depth_is_bounded_at_once(rt: HostRuntime) {
-    let shallow = nested(&rt, rt.alloc(), 64);
+    let shallow = nested(&rt, rt.alloc(), 65);
     holds(
         &rt,
         json_at_once(rt.alloc(), &shallow).is_some(),
-        "64 levels",
+        "64 levels around a value",
     );
-    let deep = nested(&rt, rt.alloc(), 1000);
+    let deep = nested(&rt, rt.alloc(), 66);
     holds(
         &rt,
         json_at_once(rt.alloc(), &deep).is_none(),
-        "1,000 levels",
+        "65 levels around a value",
     );
 }
 

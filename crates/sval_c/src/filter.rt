@@ -84,8 +84,8 @@ fn by_number(alloc: Global, input: &[u8], rule: u32, paths: &[u8]) -> Result<Vec
 /// of the member `user`, also within arrays. A line ends with a line feed, with or without a carriage return before it;
 /// the last line may lack it.
 ///
-/// It answers status 0, 8, 10, 12, 13, 19 or 20. Status 19 comes exactly for another `rule`. The paths are read before the
-/// input.
+/// It answers status 0, 8, 10, 12, 13, 19 or 20. Status 19 comes only for another `rule`, and with
+/// that number no other comes but 10. The paths are read before the input.
 #[unsafe(no_mangle)]
 pub extern "C" fn sval_json_filter(
     alloc: Global,

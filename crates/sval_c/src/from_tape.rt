@@ -177,7 +177,8 @@ fn to_cbor(alloc: Global, tape: &[u8]) -> Result<Vec<u8>, Lack>
 /// Writes the JSON of the one value that the calls of a tape (`sval_tape`) spell. `style` is 0 for JSON without white
 /// space, and 1 for JSON that is laid out as `sval_json_pretty` does.
 ///
-/// It answers status 0, 4, 5, 6, 7, 8, 10, 18 or 19. Status 19 comes exactly for another `style`.
+/// It answers status 0, 4, 5, 6, 7, 8, 10, 18 or 19. Status 19 comes only for another
+/// `style`, and with that number no other comes but 10.
 #[unsafe(no_mangle)]
 pub extern "C" fn sval_tape_to_json(
     alloc: Global,

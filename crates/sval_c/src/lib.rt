@@ -16,4 +16,4 @@ pub mod from_tape;
 mod guarded;
 mod lack;
 pub mod report;
-mod status;
+pub mod status;
