@@ -1,9 +1,10 @@
 -- The JSON of values at the front of a tape.
-use Rattle.std.specs.Prelude.{◌≡◌, ℕ, pos, ◌+◌, Bool, true, false, ⊤, List, [], ◌∷◌, ◌++◌, length, codes, None, Some, Ok}
+use Rattle.std.specs.Prelude.{◌≡◌, ℕ, ◌+◌, Bool, true, false, ⊤, List, [], ◌∷◌, ◌++◌, length, codes, None, Some, Ok}
 use Rattle.std.specs.Char.{is_ascii_digit}
 use Rattle.sval_label.specs.Calls as call
 use Rattle.sval_label.specs.Calls.{Call, Label, Slot, Head, Name}
-use Rattle.sval_core.specs.Trees.{Tree, Text, Parts, part, Kind, Item, Field, FieldPlace, kind_of, plain_slot, AreInOrder}
+use Rattle.sval_core.specs.Trees.{Tree, Text, Parts, part, Kind, Item, Field, FieldPlace, kind_of, plain_name, plain_slot, AreInOrder}
+use Rattle.sval_core.specs.Names.{some_name, none_name}
 use Rattle.sval_core.specs.Spells.{Spells, entries, new_entries}
 use Rattle.sval_core.specs.Values.{makes}
 use Rattle.sval_core.specs.ValueTrees.{TellsParts}
@@ -171,20 +172,12 @@ pub record FragmentsAt (bytes rest old new : List ℕ) (size : ℕ) : Type 0 whe
 abbrev pub number_name : Name
 number_name = record { tag = Some (codes "NUMBER"); label = None; index = None }
 
--- a name whose label is an identifier and whose index is a place
-abbrev pub place_name : List ℕ → List ℕ → ℕ → Name
-place_name tag label place = record {
-  tag = Some tag;
-  label = Some (record { text = label; tag = Some (codes "VALUE_IDENT"); is_static = false });
-  index = Some (record { number = pos place; tag = Some (codes "VALUE_OFFSET") });
-}
-
--- the names of an option with and without a value
+-- the names of an option with and without a value, as a tape gives them back
 abbrev pub some_taped : Name
-some_taped = place_name (codes "RUST_OPTION_SOME") (codes "Some") 1
+some_taped = plain_name some_name
 
 abbrev pub none_taped : Name
-none_taped = place_name (codes "RUST_OPTION_NONE") (codes "None") 0
+none_taped = plain_name none_name
 
 -- digits without a zero in front of others, a point, and digits
 pub record IsFraction (text : List ℕ) : Type 0 where

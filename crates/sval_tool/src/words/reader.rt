@@ -156,7 +156,8 @@ impl WordReader {
         ensures { let old = reading_in self.old in
             let wrong = spec.stop_at_path at setting rule old.asked.rule word.now in
             let stop = spec.stop_beside at old.asked.pointer wrong in
-            ReadsOrStops (reads_unless stop old (asked_with_path rule old.asked word.now)) result (reading_in self.new) }
+            let asked = asked_with_path rule old.asked word.now in
+            ReadsOrStops (reads_unless stop old asked) result (reading_in self.new) }
     {
         if self.options.pointer.is_some() {
             return Err(Stop::Usage(at, Complaint::PointerAndPath));
