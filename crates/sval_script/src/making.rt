@@ -295,7 +295,6 @@ fn make_field_place<L: Lending, S: Stream<L>>(
 impl Line {
     /// Makes the call of this line, and takes the bytes and numbers of the line from the front of what is left.
     #[inline(always)]
-    #[inline(always)]
     pub(crate) fn make<'v, S: Stream<Lent<'v>>>(self, left: &mut Left<'v>, stream: &mut S) -> Result
         requires { HoldsNext left.old.bytes.now left.old.numbers.now self }
         ensures call { Answers S.law result (S.standing stream.old)

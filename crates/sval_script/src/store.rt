@@ -104,7 +104,6 @@ impl Store {
     }
 
     /// The line of a whole number. What doesn't fit the line goes behind the other numbers.
-    #[tactic(auto, using(crate::proofs::LinesMade::says_all, crate::proofs::LinesMade::says_number))]
     pub(crate) fn put_number(&mut self, number: Int) -> Result<Line, LineError>
         ensures made { IfOk result (λ line. StoresCall (int_call number) (stored self.old) (stored self.new) line) }
         ensures no_memory { ¬ (result ≡ Err LineError.Bad) }
