@@ -1,6 +1,8 @@
 //! A stream that may keep nothing.
 
 ghost use Rattle.std.specs.Prelude.{◌≡◌, ℕ, List};
+ghost use Rattle.std.specs.Borrow.{Bor};
+ghost use Rattle.sval_label.specs.declared.call.AnyCall.TheVariants as made;
 ghost use Rattle.sval_label.specs.Made.{call_of, lent_call};
 ghost use Rattle.sval_core.specs.Law.{Answers, Through, through, law_of_computed, computed};
 
@@ -41,12 +43,18 @@ impl<'a, 'b, L: Lending, S: Stream<L>> Stream<Lent<'b>> for Computed<'a, L, S> {
             (through (S.standing self.old.stream.now) self.old.stream.ghost_name) (lent_call call.entry)
             (through (S.standing self.new.stream.now) self.new.stream.ghost_name) }
     {
-        self.stream.take(with_computed(call))
+        match call {
+            AnyCall::TextFragment(fragment) => self.stream.text_fragment_computed(fragment),
+            AnyCall::BinaryFragment(fragment) => self.stream.binary_fragment_computed(fragment),
+            call => self.stream.take(as_it_is(call)),
+        }
     }
 }
 
-/// The call with a computed fragment in place of a borrowed one.
-fn with_computed<'c, T, B>(call: AnyCall<'c, &'c str, &'c [u8]>) -> AnyCall<'c, T, B>
+/// A call that isn't a borrowed fragment, for any type of borrowed texts and bytes.
+fn as_it_is<'b, 'c, T, B>(call: Call<'b, 'c>) -> AnyCall<'c, T, B>
+    requires no_text { (fragment : Bor (List ℕ)) → ¬ (call ≡ made.TextFragment fragment) }
+    requires no_bytes { (fragment : Bor (List ℕ)) → ¬ (call ≡ made.BinaryFragment fragment) }
     ensures { (text : T → List ℕ) (bytes : B → List ℕ)
         → call_of text bytes result ≡ computed (lent_call call.entry) }
 {
@@ -64,11 +72,11 @@ fn with_computed<'c, T, B>(call: AnyCall<'c, &'c str, &'c [u8]>) -> AnyCall<'c, 
         AnyCall::I64(value) => AnyCall::I64(value),
         AnyCall::I128(value) => AnyCall::I128(value),
         AnyCall::TextBegin(size) => AnyCall::TextBegin(size),
-        AnyCall::TextFragment(fragment) => AnyCall::TextFragmentComputed(fragment),
+        AnyCall::TextFragment(_) => unreachable!("a borrowed text is told as computed"),
         AnyCall::TextFragmentComputed(fragment) => AnyCall::TextFragmentComputed(fragment),
         AnyCall::TextEnd => AnyCall::TextEnd,
         AnyCall::BinaryBegin(size) => AnyCall::BinaryBegin(size),
-        AnyCall::BinaryFragment(fragment) => AnyCall::BinaryFragmentComputed(fragment),
+        AnyCall::BinaryFragment(_) => unreachable!("borrowed bytes are told as computed"),
         AnyCall::BinaryFragmentComputed(fragment) => AnyCall::BinaryFragmentComputed(fragment),
         AnyCall::BinaryEnd => AnyCall::BinaryEnd,
         AnyCall::MapBegin(size) => AnyCall::MapBegin(size),
