@@ -91,7 +91,7 @@ take_take (suc i) (suc j) [] h = refl
 take_take (suc i) (suc j) (x ∷ xs) h = ap (λ r. x ∷ r) (take_take i j xs (omega arith))
 
 -- of a vector whose last bytes were lent to be filled, the first ones
-pub filled_on : (xs d b post rest : List ℕ) (s n len : ℕ) → take s d ≡ xs → length xs ≡ s → n ≤ length b → s + n ≤ len
+filled_on : (xs d b post rest : List ℕ) (s n len : ℕ) → take s d ≡ xs → length xs ≡ s → n ≤ length b → s + n ≤ len
     → take (s + n) (take len ((take s d ++ (b ++ post)) ++ rest)) ≡ xs ++ take n b
 filled_on xs d b post rest s n len e size h room =
     take_take (s + n) len _ room
