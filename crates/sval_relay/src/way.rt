@@ -19,7 +19,7 @@ pub enum Way {
 }
 
 /// What is asked for of a script.
-#[derive(Clone, Copy, Debug, PartialEq, Eq)]
+#[derive(Clone, Copy)]
 pub(crate) struct Task {
     /// How each value is served.
     pub(crate) way: Way,
@@ -28,7 +28,7 @@ pub(crate) struct Task {
 }
 
 /// What the program's words ask for.
-#[derive(Clone, Copy, Debug, PartialEq, Eq)]
+#[derive(Clone, Copy)]
 pub(crate) enum Form {
     /// The input, served as a script.
     Serve(Task),
