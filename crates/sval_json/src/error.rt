@@ -23,7 +23,7 @@ pub enum ErrorKind {
 }
 
 /// Why a step of the writer refuses a call.
-#[derive(Clone, Copy, Debug, PartialEq, Eq)]
+#[derive(Clone, Copy)]
 pub(crate) enum Refusal {
     /// A key that can't be one: a container, a binary, a text under `JSON_VALUE`, or a variant with its name.
     InvalidKey,
@@ -32,7 +32,7 @@ pub(crate) enum Refusal {
 }
 
 /// What stopped the writer.
-#[derive(Clone, Copy, Debug, PartialEq, Eq)]
+#[derive(Clone, Copy)]
 pub(crate) enum Stop {
     /// Its own step.
     Step(Refusal),
