@@ -1,102 +1,210 @@
--- What is asked of the innermost frame, where it is named.
-use Rattle.std.specs.Prelude.{◌≡◌, ℕ, ◌-◌, true, false, ◌&&◌, if◌then◌else◌, List, [], ◌∷◌, ◌++◌, length, reverse, slice_set, Option, Some, None, is_none, option_map, refl}
+-- The innermost frame, and what becomes of it.
+use Rattle.std.specs.Prelude.{◌≡◌, ℕ, ◌-◌, true, false, Bool, ◌&&◌, if◌then◌else◌, List, [], ◌∷◌, ◌++◌, length, reverse, take, slice_set, Option, Some, None, refl}
 use Rattle.std.proofs.Common.{get_or, nat_lt, sym, ap, ◌∙◌, arith, length-append}
-use Rattle.std.proofs.Math.Seq.{set-append_seam, get_or-append_seam}
+use Rattle.std.proofs.Math.Seq.{set-append_seam, get_or-append_seam, take-append_seam}
 use Rattle.std.proofs.lemmas.List.{reverse-append, reverse-reverse}
-use Rattle.sval_label.specs.Calls.{Head, Slot}
-use Rattle.sval_core.specs.Checker as machine
-use Rattle.sval_core.specs.CheckerSteps.{take_off, is_used_up}
+use Rattle.sval_label.specs.Calls.{Tag, Label, Index, Name}
 use Rattle.sval_core.specs.Stacks.{top_of}
 use Rattle.sval_check.specs.declared.frame.Frame.{Frame}
 use Rattle.sval_check.specs.declared.frame.Frame.TheVariants as frame
+use Rattle.sval_check.specs.declared.kept.NamedValue.{NamedValue}
 use Rattle.sval_check.specs.declared.kept.NamedValue.TheVariants as value
-use Rattle.sval_check.specs.declared.kept.Named.{Named}
-use Rattle.sval_check.specs.declared.kept.Named.TheVariants as named
-use Rattle.sval_check.specs.Kept.{named_frame}
-use Rattle.sval_check.specs.Frames.{frames_of, are_named}
-use Rattle.sval_check.specs.Tops.{is_head, is_slot, may_end_with, has_parts, part_rest, on_top}
+use Rattle.sval_check.specs.declared.names.Names.{Names}
+use Rattle.sval_check.specs.Kept.{parts_of, name_of_parts, with_name, without_name, is_container_value, value_frame}
+use Rattle.sval_check.specs.Stacked.{below_if}
+use Rattle.sval_check.specs.Frames.{frame_in, frames_of, has_left, names_around, is_there, are_counted, innermost_left}
+use Rattle.sval_check.specs.Tops.{on_top, under_top, advanced, lefts_after, lefts_after_around, after_part}
 
--- the frame of the innermost begin with a name, if there is one
-abbrev pub frame_at : List ℕ → Option ℕ → List Named → Option machine.Frame
-frame_at texts left ns = option_map (λ n. named_frame texts n left) (top_of ns)
+-- the innermost frame of the machine is that of the checker
+pub top_is : (fs : List Frame) (lefts : List (Option ℕ)) (names : Names) (f : Frame) → top_of fs ≡ Some f → Some (frame_in f (innermost_left lefts) names) ≡ top_of (frames_of fs lefts names)
+top_is [] lefts names f e = absurd (cc e)
+top_is (g ∷ fs) lefts names f e = let same : f ≡ g = cc e in ap (λ f. Some (frame_in f (innermost_left lefts) names)) same
 
-top_named : (fs : List Frame) (ns : List Named) (texts : List ℕ) (left : Option ℕ) → top_of fs ≡ Some (frame.Named left) → top_of (frames_of fs ns texts) ≡ frame_at texts left ns
-top_named [] ns texts left e = absurd (cc e)
-top_named (frame.Named l ∷ fs) [] texts left e = refl
-top_named (frame.Named l ∷ fs) (n ∷ ns) texts left e = let same : l ≡ left = cc e in ap (λ l. Some (named_frame texts n l)) same
-top_named (f ∷ fs) ns texts left e = absurd (cc e)
+-- ---- a frame is opened
 
-top_is : {now items : List Frame} {left : Option ℕ} (ns : List Named) (texts : List ℕ) → now ≡ items → top_of (reverse now) ≡ Some (frame.Named left) → top_of (frames_of (reverse items) ns texts) ≡ frame_at texts left ns
-top_is {now} {items} {left} ns texts same e = top_named (reverse items) ns texts left (ap (λ fs. top_of (reverse fs)) (sym same) ∙ e)
+name_kept : (t : Option Tag) (l : Option Label) (i : Option Index) (names : Names) → let name : Name = record { tag = t; label = l; index = i } in name_of_parts (parts_of name) (with_name name names) ≡ name
+name_kept None None None names = refl
+name_kept None None (Some i) names = refl
+name_kept None (Some l) None names = refl
+name_kept None (Some l) (Some i) names = refl
+name_kept (Some t) None None names = refl
+name_kept (Some t) None (Some i) names = refl
+name_kept (Some t) (Some l) None names = refl
+name_kept (Some t) (Some l) (Some i) names = refl
 
-slot_at : (texts : List ℕ) (left : Option ℕ) (ns : List Named) (slot : Slot) → is_slot (frame_at texts None ns) slot ≡ is_slot (frame_at texts left ns) slot
-slot_at texts left [] slot = refl
-slot_at texts left (named.Value value.Tagged name ∷ ns) slot = refl
-slot_at texts left (named.Value value.Enum name ∷ ns) slot = refl
-slot_at texts left (named.Value value.Record name ∷ ns) slot = refl
-slot_at texts left (named.Value value.Tuple name ∷ ns) slot = refl
-slot_at texts left (named.Value value.RecordTuple name ∷ ns) slot = refl
-slot_at texts left (named.Field tag label ∷ ns) slot = refl
-slot_at texts left (named.Place tag index ∷ ns) slot = refl
-slot_at texts left (named.FieldPlace tag label index ∷ ns) slot = refl
+name_around : (t : Option Tag) (l : Option Label) (i : Option Index) (names : Names) → let name : Name = record { tag = t; label = l; index = i } in without_name (parts_of name) (with_name name names) ≡ names
+name_around None None None names = refl
+name_around None None (Some i) names = refl
+name_around None (Some l) None names = refl
+name_around None (Some l) (Some i) names = refl
+name_around (Some t) None None names = refl
+name_around (Some t) None (Some i) names = refl
+name_around (Some t) (Some l) None names = refl
+name_around (Some t) (Some l) (Some i) names = refl
 
-pub slot_is : {now items : List Frame} {left : Option ℕ} (ns : List Named) (texts : List ℕ) (slot : Slot) → now ≡ items → top_of (reverse now) ≡ Some (frame.Named left)
-    → is_slot (frame_at texts None ns) slot ≡ is_slot (top_of (frames_of (reverse items) ns texts)) slot
-slot_is {now} {items} {left} ns texts slot same e = slot_at texts left ns slot ∙ ap (λ top. is_slot top slot) (sym (top_is ns texts same e))
+kept_is : (name : Name) (names : Names) → name_of_parts (parts_of name) (with_name name names) ≡ name
+kept_is name names = name_kept name.tag name.label name.index names
 
-head_at : (texts : List ℕ) (left : Option ℕ) (ns : List Named) (head : Head) → (is_head (frame_at texts None ns) head && is_used_up left) ≡ may_end_with (frame_at texts left ns) head
-head_at texts left [] head = refl
-head_at texts left (named.Value value.Tagged name ∷ ns) head = refl
-head_at texts left (named.Value value.Enum name ∷ ns) head = refl
-head_at texts left (named.Value value.Record name ∷ ns) head = refl
-head_at texts left (named.Value value.Tuple name ∷ ns) head = refl
-head_at texts left (named.Value value.RecordTuple name ∷ ns) head = refl
-head_at texts left (named.Field tag label ∷ ns) head = refl
-head_at texts left (named.Place tag index ∷ ns) head = refl
-head_at texts left (named.FieldPlace tag label index ∷ ns) head = refl
+around_is : (name : Name) (names : Names) → without_name (parts_of name) (with_name name names) ≡ names
+around_is name names = name_around name.tag name.label name.index names
 
-pub head_is : {now items : List Frame} {left : Option ℕ} (ns : List Named) (texts : List ℕ) (head : Head) → now ≡ items → top_of (reverse now) ≡ Some (frame.Named left)
-    → (is_head (frame_at texts None ns) head && is_used_up left) ≡ may_end_with (top_of (frames_of (reverse items) ns texts)) head
-head_is {now} {items} {left} ns texts head same e = head_at texts left ns head ∙ ap (λ top. may_end_with top head) (sym (top_is ns texts same e))
+single : (v : NamedValue) (name : Name) (l left : Option ℕ) (fs : List Frame) (lefts : List (Option ℕ)) (names : Names) → is_container_value v ≡ false
+    → value_frame v name l ∷ frames_of fs (below_if (is_container_value v) lefts) names ≡ value_frame v name left ∷ frames_of fs lefts names
+single value.Tagged name l left fs lefts names e = refl
+single value.Enum name l left fs lefts names e = refl
+single value.Record name l left fs lefts names e = absurd (cc e)
+single value.Tuple name l left fs lefts names e = absurd (cc e)
+single value.RecordTuple name l left fs lefts names e = absurd (cc e)
 
--- the parts of a container with a name are entries of it
-one_entry : (slot : Slot) (texts : List ℕ) (left : Option ℕ) (ns : List Named) → (if has_parts (frame_at texts None ns) slot then take_off left 1 else None) ≡ part_rest slot (frame_at texts left ns)
-one_entry slot texts left [] = refl
-one_entry slot texts left (named.Value value.Tagged name ∷ ns) = refl
-one_entry slot texts left (named.Value value.Enum name ∷ ns) = refl
-one_entry Slot.Item texts left (named.Value value.Record name ∷ ns) = refl
-one_entry Slot.Key texts left (named.Value value.Record name ∷ ns) = refl
-one_entry Slot.Value texts left (named.Value value.Record name ∷ ns) = refl
-one_entry (Slot.Field t l) texts left (named.Value value.Record name ∷ ns) = refl
-one_entry (Slot.Place t i) texts left (named.Value value.Record name ∷ ns) = refl
-one_entry (Slot.FieldPlace t l i) texts left (named.Value value.Record name ∷ ns) = refl
-one_entry Slot.Item texts left (named.Value value.Tuple name ∷ ns) = refl
-one_entry Slot.Key texts left (named.Value value.Tuple name ∷ ns) = refl
-one_entry Slot.Value texts left (named.Value value.Tuple name ∷ ns) = refl
-one_entry (Slot.Field t l) texts left (named.Value value.Tuple name ∷ ns) = refl
-one_entry (Slot.Place t i) texts left (named.Value value.Tuple name ∷ ns) = refl
-one_entry (Slot.FieldPlace t l i) texts left (named.Value value.Tuple name ∷ ns) = refl
-one_entry Slot.Item texts left (named.Value value.RecordTuple name ∷ ns) = refl
-one_entry Slot.Key texts left (named.Value value.RecordTuple name ∷ ns) = refl
-one_entry Slot.Value texts left (named.Value value.RecordTuple name ∷ ns) = refl
-one_entry (Slot.Field t l) texts left (named.Value value.RecordTuple name ∷ ns) = refl
-one_entry (Slot.Place t i) texts left (named.Value value.RecordTuple name ∷ ns) = refl
-one_entry (Slot.FieldPlace t l i) texts left (named.Value value.RecordTuple name ∷ ns) = refl
-one_entry slot texts left (named.Field tag label ∷ ns) = refl
-one_entry slot texts left (named.Place tag index ∷ ns) = refl
-one_entry slot texts left (named.FieldPlace tag label index ∷ ns) = refl
+container : (v : NamedValue) (name : Name) (left : Option ℕ) (fs : List Frame) (lefts : List (Option ℕ)) (names : Names) → is_container_value v ≡ true
+    → value_frame v name left ∷ frames_of fs (below_if (is_container_value v) (left ∷ lefts)) names ≡ value_frame v name left ∷ frames_of fs lefts names
+container v name left fs lefts names e = ap (λ b. value_frame v name left ∷ frames_of fs (below_if b (left ∷ lefts)) names) e
 
-pub rest_is : {now items : List Frame} {left : Option ℕ} (ns : List Named) (texts : List ℕ) (slot : Slot) → now ≡ items → top_of (reverse now) ≡ Some (frame.Named left)
-    → (if has_parts (frame_at texts None ns) slot then take_off left 1 else None) ≡ part_rest slot (top_of (frames_of (reverse items) ns texts))
-rest_is {now} {items} {left} ns texts slot same e = one_entry slot texts left ns ∙ ap (λ top. part_rest slot top) (sym (top_is ns texts same e))
+opened : (v : NamedValue) (name : Name) (fs : List Frame) (lefts : List (Option ℕ)) (names : Names)
+    → frames_of (frame.Named v (parts_of name) ∷ fs) lefts (with_name name names)
+    ≡ value_frame v name (innermost_left lefts) ∷ frames_of fs (below_if (is_container_value v) lefts) names
+opened v name fs lefts names =
+    ap (λ n. value_frame v n (innermost_left lefts) ∷ frames_of fs (below_if (is_container_value v) lefts) (without_name (parts_of name) (with_name name names))) (kept_is name names)
+    ∙ ap (λ ns. value_frame v name (innermost_left lefts) ∷ frames_of fs (below_if (is_container_value v) lefts) ns) (around_is name names)
 
--- ---- whether anything is open
+-- the frames of the machine where a frame with a name is the last of these
+put_last : (v : NamedValue) (name : Name) (items items' : List Frame) (lefts : List (Option ℕ)) (names names' : Names)
+    → items' ≡ items ++ (frame.Named v (parts_of name) ∷ []) → names' ≡ with_name name names
+    → frames_of (reverse items') lefts names' ≡ value_frame v name (innermost_left lefts) ∷ frames_of (reverse items) (below_if (is_container_value v) lefts) names
+put_last v name items items' lefts names names' e e' =
+    ap (λ xs. frames_of (reverse xs) lefts names') e ∙ ap (λ xs. frames_of xs lefts names') (reverse-append items (frame.Named v (parts_of name) ∷ []))
+    ∙ ap (λ ns. frames_of (frame.Named v (parts_of name) ∷ reverse items) lefts ns) e' ∙ opened v name (reverse items) lefts names
 
-pub none_open : (fs : List Frame) (ns : List Named) (texts : List ℕ) → are_named fs ns ≡ true → is_none (top_of fs) ≡ is_none (top_of (frames_of fs ns texts))
-none_open [] ns texts e = refl
-none_open (frame.Named l ∷ fs) [] texts e = absurd (cc e)
-none_open (frame.Named l ∷ fs) (n ∷ ns) texts e = refl
-none_open (f ∷ fs) ns texts e = refl
+-- a value with a name that is no container is opened
+pub single_opened : (v : NamedValue) (name : Name) (left : Option ℕ) (items items' : List Frame) (lefts : List (Option ℕ)) (names names' : Names)
+    → items' ≡ items ++ (frame.Named v (parts_of name) ∷ []) → names' ≡ with_name name names → is_container_value v ≡ false
+    → frames_of (reverse items') lefts names' ≡ value_frame v name left ∷ frames_of (reverse items) lefts names
+single_opened v name left items items' lefts names names' e e' is =
+    put_last v name items items' lefts names names' e e' ∙ single v name (innermost_left lefts) left (reverse items) lefts names is
+
+-- a container with a name is opened
+pub container_opened : (v : NamedValue) (name : Name) (left : Option ℕ) (items items' : List Frame) (lefts lefts' : List (Option ℕ)) (names names' : Names)
+    → items' ≡ items ++ (frame.Named v (parts_of name) ∷ []) → lefts' ≡ lefts ++ (left ∷ []) → names' ≡ with_name name names → is_container_value v ≡ true
+    → frames_of (reverse items') (reverse lefts') names' ≡ value_frame v name left ∷ frames_of (reverse items) (reverse lefts) names
+container_opened v name left items items' lefts lefts' names names' e l e' is =
+    ap (λ ls. frames_of (reverse items') ls names') (ap (λ ls. reverse ls) l ∙ reverse-append lefts (left ∷ []))
+    ∙ put_last v name items items' (left ∷ reverse lefts) names names' e e' ∙ container v name left (reverse items) (reverse lefts) names is
+
+-- ---- a part is counted
+
+-- a vector's items where all of them are put anew
+pub refilled : {A : Type 0} (n : ℕ) (items rest : List A) → length items ≡ n → take n (items ++ rest) ≡ items
+refilled n items rest e = ap (λ n. take n (items ++ rest)) (sym e) ∙ take-append_seam items rest
+
+-- what the frames of the machine are advanced by
+pub advanced_is : (left : Option ℕ) (fs : List Frame) (lefts : List (Option ℕ)) (names : Names) → are_counted fs lefts ≡ true
+    → frames_of (on_top advanced fs) (lefts_after left fs lefts) names ≡ after_part left (frames_of fs lefts names)
+advanced_is left [] lefts names e = refl
+advanced_is left (frame.Text ∷ fs) lefts names e = refl
+advanced_is left (frame.Binary ∷ fs) lefts names e = refl
+advanced_is left (frame.Seq ∷ fs) [] names e = absurd (cc e)
+advanced_is left (frame.Seq ∷ fs) (l ∷ lefts) names e = refl
+advanced_is left (frame.Map ∷ fs) [] names e = absurd (cc e)
+advanced_is left (frame.Map ∷ fs) (l ∷ lefts) names e = refl
+advanced_is left (frame.Entry ∷ fs) [] names e = absurd (cc e)
+advanced_is left (frame.Entry ∷ fs) (l ∷ lefts) names e = refl
+advanced_is left (frame.Item ∷ fs) lefts names e = refl
+advanced_is left (frame.Key ∷ fs) lefts names e = refl
+advanced_is left (frame.Value ∷ fs) lefts names e = refl
+advanced_is left (frame.Named value.Tagged parts ∷ fs) lefts names e = refl
+advanced_is left (frame.Named value.Enum parts ∷ fs) lefts names e = refl
+advanced_is left (frame.Named value.Record parts ∷ fs) [] names e = absurd (cc e)
+advanced_is left (frame.Named value.Record parts ∷ fs) (l ∷ lefts) names e = refl
+advanced_is left (frame.Named value.Tuple parts ∷ fs) [] names e = absurd (cc e)
+advanced_is left (frame.Named value.Tuple parts ∷ fs) (l ∷ lefts) names e = refl
+advanced_is left (frame.Named value.RecordTuple parts ∷ fs) [] names e = absurd (cc e)
+advanced_is left (frame.Named value.RecordTuple parts ∷ fs) (l ∷ lefts) names e = refl
+advanced_is left (frame.Field tag ∷ fs) lefts names e = refl
+advanced_is left (frame.Place tag ∷ fs) lefts names e = refl
+advanced_is left (frame.FieldPlace tag ∷ fs) lefts names e = refl
+
+-- what is still to come of a frame that keeps none doesn't change it
+no_left : (f : Frame) (l left : Option ℕ) (names : Names) → has_left f ≡ false → frame_in f l names ≡ frame_in f left names
+no_left frame.Text l left names e = absurd (cc e)
+no_left frame.Binary l left names e = absurd (cc e)
+no_left frame.Seq l left names e = absurd (cc e)
+no_left frame.Map l left names e = absurd (cc e)
+no_left frame.Entry l left names e = absurd (cc e)
+no_left frame.Item l left names e = refl
+no_left frame.Key l left names e = refl
+no_left frame.Value l left names e = refl
+no_left (frame.Named value.Tagged parts) l left names e = refl
+no_left (frame.Named value.Enum parts) l left names e = refl
+no_left (frame.Named value.Record parts) l left names e = absurd (cc e)
+no_left (frame.Named value.Tuple parts) l left names e = absurd (cc e)
+no_left (frame.Named value.RecordTuple parts) l left names e = absurd (cc e)
+no_left (frame.Field tag) l left names e = refl
+no_left (frame.Place tag) l left names e = refl
+no_left (frame.FieldPlace tag) l left names e = refl
+
+-- each frame keeps what it kept
+counted : (left : Option ℕ) (fs : List Frame) (lefts : List (Option ℕ)) → are_counted fs lefts ≡ true → are_counted (on_top advanced fs) (lefts_after left fs lefts) ≡ true
+counted left [] lefts e = refl
+counted left (frame.Text ∷ fs) lefts e = e
+counted left (frame.Binary ∷ fs) lefts e = e
+counted left (frame.Seq ∷ fs) [] e = absurd (cc e)
+counted left (frame.Seq ∷ fs) (l ∷ lefts) e = e
+counted left (frame.Map ∷ fs) [] e = absurd (cc e)
+counted left (frame.Map ∷ fs) (l ∷ lefts) e = e
+counted left (frame.Entry ∷ fs) [] e = absurd (cc e)
+counted left (frame.Entry ∷ fs) (l ∷ lefts) e = e
+counted left (frame.Item ∷ fs) lefts e = e
+counted left (frame.Key ∷ fs) lefts e = e
+counted left (frame.Value ∷ fs) lefts e = e
+counted left (frame.Named value.Tagged parts ∷ fs) lefts e = e
+counted left (frame.Named value.Enum parts ∷ fs) lefts e = e
+counted left (frame.Named value.Record parts ∷ fs) [] e = absurd (cc e)
+counted left (frame.Named value.Record parts ∷ fs) (l ∷ lefts) e = e
+counted left (frame.Named value.Tuple parts ∷ fs) [] e = absurd (cc e)
+counted left (frame.Named value.Tuple parts ∷ fs) (l ∷ lefts) e = e
+counted left (frame.Named value.RecordTuple parts ∷ fs) [] e = absurd (cc e)
+counted left (frame.Named value.RecordTuple parts ∷ fs) (l ∷ lefts) e = e
+counted left (frame.Field tag ∷ fs) lefts e = e
+counted left (frame.Place tag ∷ fs) lefts e = e
+counted left (frame.FieldPlace tag ∷ fs) lefts e = e
+
+-- the same of the frame around the innermost
+counted_under : (left : Option ℕ) (fs : List Frame) (lefts : List (Option ℕ)) → are_counted fs lefts ≡ true
+    → are_counted (under_top (on_top advanced) fs) (lefts_after_around left fs lefts) ≡ true
+counted_under left [] lefts e = refl
+counted_under left (f ∷ fs) lefts e = by_left (has_left f) lefts e
+  where
+    by_left : (b : Bool) (lefts : List (Option ℕ)) → (is_there b lefts && are_counted fs (below_if b lefts)) ≡ true
+        → (is_there b (if b then under_top (lefts_after left fs) lefts else lefts_after left fs lefts)
+        && are_counted (on_top advanced fs) (below_if b (if b then under_top (lefts_after left fs) lefts else lefts_after left fs lefts))) ≡ true
+    by_left false lefts e = counted left fs lefts e
+    by_left true [] e = absurd (cc e)
+    by_left true (l ∷ lefts) e = counted left fs lefts e
+
+pub counted_around : (left : Option ℕ) (fs fs' : List Frame) (lefts lefts' : List (Option ℕ)) → fs' ≡ under_top (on_top advanced) fs → lefts' ≡ lefts_after_around left fs lefts
+    → are_counted fs lefts ≡ true → are_counted fs' lefts' ≡ true
+counted_around left fs fs' lefts lefts' e l is = ap (λ fs. are_counted fs lefts') e ∙ ap (λ lefts. are_counted (under_top (on_top advanced) fs) lefts) l ∙ counted_under left fs lefts is
+
+advanced_under : (left : Option ℕ) (fs : List Frame) (lefts : List (Option ℕ)) (names : Names) → are_counted fs lefts ≡ true
+    → frames_of (under_top (on_top advanced) fs) (lefts_after_around left fs lefts) names ≡ under_top (after_part left) (frames_of fs lefts names)
+advanced_under left [] lefts names e = refl
+advanced_under left (f ∷ fs) lefts names e = by_left (has_left f) refl lefts e
+  where
+    by_left : (b : Bool) → has_left f ≡ b → (lefts : List (Option ℕ)) → (is_there b lefts && are_counted fs (below_if b lefts)) ≡ true
+        → frame_in f (innermost_left (if b then under_top (lefts_after left fs) lefts else lefts_after left fs lefts)) names
+        ∷ frames_of (on_top advanced fs) (below_if b (if b then under_top (lefts_after left fs) lefts else lefts_after left fs lefts)) (names_around f names)
+        ≡ frame_in f (innermost_left lefts) names ∷ after_part left (frames_of fs (below_if b lefts) (names_around f names))
+    by_left false is lefts e =
+        ap (λ top. top ∷ frames_of (on_top advanced fs) (lefts_after left fs lefts) (names_around f names)) (no_left f (innermost_left (lefts_after left fs lefts)) (innermost_left lefts) names is)
+        ∙ ap (λ rest. frame_in f (innermost_left lefts) names ∷ rest) (advanced_is left fs lefts (names_around f names) e)
+    by_left true is [] e = absurd (cc e)
+    by_left true is (l ∷ lefts) e = ap (λ rest. frame_in f l names ∷ rest) (advanced_is left fs lefts (names_around f names) e)
+
+-- the frames of the machine where a part is counted in the frame around the innermost
+pub advanced_around : (left : Option ℕ) (fs fs' : List Frame) (lefts lefts' : List (Option ℕ)) (names : Names) → fs' ≡ under_top (on_top advanced) fs → lefts' ≡ lefts_after_around left fs lefts
+    → are_counted fs lefts ≡ true → frames_of fs' lefts' names ≡ under_top (after_part left) (frames_of fs lefts names)
+advanced_around left fs fs' lefts lefts' names e l is =
+    ap (λ fs. frames_of fs lefts' names) e ∙ ap (λ lefts. frames_of (under_top (on_top advanced) fs) lefts names) l ∙ advanced_under left fs lefts names is
 
 -- ---- the innermost is the last of the items
 

@@ -1,21 +1,20 @@
 -- The frames of the checker as those of the machine.
-use Rattle.std.specs.Prelude.{◌≡◌, ℕ, Bool, true, false, List, [], ◌∷◌, reverse, Option, option_map, Result, Ok, Err}
-use Rattle.sval_label.specs.declared.error.NoMemory.{NoMemory}
+use Rattle.std.specs.Prelude.{ℕ, Bool, true, false, ◌&&◌, List, [], ◌∷◌, Option, None}
 use Rattle.sval_label.specs.Calls as call
 use Rattle.sval_core.specs.Trees as kind
 use Rattle.sval_core.specs.Checker as machine
 use Rattle.sval_core.specs.Checker.{InText, InBinary, InContainer, InPart}
 use Rattle.sval_core.specs.CheckerSteps as steps
-use Rattle.sval_core.specs.Stacks.{top_of}
+use Rattle.sval_core.specs.Stacks.{below}
 use Rattle.sval_check.specs.declared.frame.Frame.{Frame}
 use Rattle.sval_check.specs.declared.frame.Frame.TheVariants as frame
 use Rattle.sval_check.specs.declared.frame.Begin.{Begin}
 use Rattle.sval_check.specs.declared.frame.Begin.TheVariants as begin
 use Rattle.sval_check.specs.declared.frame.Form.{Form}
 use Rattle.sval_check.specs.declared.frame.Form.TheVariants as form
-use Rattle.sval_check.specs.declared.kept.Named.{Named}
 use Rattle.sval_check.specs.declared.names.Names.{Names}
-use Rattle.sval_check.specs.Kept.{named_frame, texts_around}
+use Rattle.sval_check.specs.Stacked.{top_if, below_if, label_in, index_in}
+use Rattle.sval_check.specs.Kept.{name_of_parts, without_name, is_container_value, value_frame}
 
 -- what a begin without a name opens
 abbrev pub begun_frame : Begin → machine.Frame
@@ -29,55 +28,60 @@ abbrev pub begun_form : Begin → steps.Form
 begun_form (begin.Text size) = steps.OneText
 begun_form begun = steps.Other
 
--- all that is open, with the innermost first: the frames, the begins with a name, and the texts of their labels
-abbrev pub frames_of : List Frame → List Named → List ℕ → List machine.Frame
-frames_of [] named texts = []
-frames_of (frame.Text left ∷ frames) named texts = InText left ∷ frames_of frames named texts
-frames_of (frame.Binary left ∷ frames) named texts = InBinary left ∷ frames_of frames named texts
-frames_of (frame.Seq left ∷ frames) named texts = InContainer call.Seq kind.Item left ∷ frames_of frames named texts
-frames_of (frame.Map left ∷ frames) named texts = InContainer call.Map kind.Key left ∷ frames_of frames named texts
-frames_of (frame.Entry left ∷ frames) named texts = InContainer call.Map kind.Value left ∷ frames_of frames named texts
-frames_of (frame.Item ∷ frames) named texts = InPart call.Item ∷ frames_of frames named texts
-frames_of (frame.Key ∷ frames) named texts = InPart call.Key ∷ frames_of frames named texts
-frames_of (frame.Value ∷ frames) named texts = InPart call.Value ∷ frames_of frames named texts
-frames_of (frame.Named left ∷ frames) [] texts = []
-frames_of (frame.Named left ∷ frames) (named ∷ around) texts =
-    named_frame texts named left ∷ frames_of frames around (texts_around named texts)
+-- the innermost frame, by what is still to come of it and the names
+abbrev pub frame_in : Frame → Option ℕ → Names → machine.Frame
+frame_in frame.Text left names = InText left
+frame_in frame.Binary left names = InBinary left
+frame_in frame.Seq left names = InContainer call.Seq kind.Item left
+frame_in frame.Map left names = InContainer call.Map kind.Key left
+frame_in frame.Entry left names = InContainer call.Map kind.Value left
+frame_in frame.Item left names = InPart call.Item
+frame_in frame.Key left names = InPart call.Key
+frame_in frame.Value left names = InPart call.Value
+frame_in (frame.Named value parts) left names = value_frame value (name_of_parts parts names) left
+frame_in (frame.Field tag) left names = InPart (call.Field (top_if tag names.tags) (label_in names.labels))
+frame_in (frame.Place tag) left names = InPart (call.Place (top_if tag names.tags) (index_in names.indexes))
+frame_in (frame.FieldPlace tag) left names = InPart (call.FieldPlace (top_if tag names.tags) (label_in names.labels) (index_in names.indexes))
 
--- each frame that is named has its name
-abbrev pub are_named : List Frame → List Named → Bool
-are_named [] named = true
-are_named (frame.Named left ∷ frames) [] = false
-are_named (frame.Named left ∷ frames) (named ∷ around) = are_named frames around
-are_named (other ∷ frames) named = are_named frames named
+-- it is kept what is still to come of the frame, if a size was given
+abbrev pub has_left : Frame → Bool
+has_left frame.Text = true
+has_left frame.Binary = true
+has_left frame.Seq = true
+has_left frame.Map = true
+has_left frame.Entry = true
+has_left (frame.Named value parts) = is_container_value value
+has_left other = false
 
--- all that is open where the frames are these
-abbrev pub frames_over : List Frame → Names → List machine.Frame
-frames_over frames names = frames_of frames (reverse names.begun.items) names.texts.items
+-- the names of the frames around this one
+abbrev pub names_around : Frame → Names → Names
+names_around (frame.Named value parts) names = without_name parts names
+names_around (frame.Field tag) names = record { tags = below_if tag names.tags; labels = below names.labels; indexes = names.indexes }
+names_around (frame.Place tag) names = record { tags = below_if tag names.tags; labels = names.labels; indexes = below names.indexes }
+names_around (frame.FieldPlace tag) names = record { tags = below_if tag names.tags; labels = below names.labels; indexes = below names.indexes }
+names_around other names = names
 
--- the innermost of what began with a name
-abbrev pub named_top : Names → Option ℕ → Option machine.Frame
-named_top names left = option_map (λ named. named_frame names.texts.items named left) (top_of (reverse names.begun.items))
+-- what is still to come of the innermost frame that keeps that
+abbrev pub innermost_left : List (Option ℕ) → Option ℕ
+innermost_left [] = None
+innermost_left (left ∷ lefts) = left
 
--- a begin is kept with its frame in front of any others
-pub record OpensFrame (old new : Names) (opened : machine.Frame) (kept : Frame) : Type 0 where
-  pub frames : (frames : List Frame) → frames_over (kept ∷ frames) new ≡ opened ∷ frames_over frames old
-  pub named : (frames : List Frame) → are_named (kept ∷ frames) (reverse new.begun.items) ≡ are_named frames (reverse old.begun.items)
+-- all that is open, with the innermost first: the frames, what is still to come of them, and their names
+abbrev pub frames_of : List Frame → List (Option ℕ) → Names → List machine.Frame
+frames_of [] lefts names = []
+frames_of (frame ∷ frames) lefts names =
+    frame_in frame (innermost_left lefts) names ∷ frames_of frames (below_if (has_left frame) lefts) (names_around frame names)
 
--- a frame without a name is this one of the machine, in front of any others
-pub record IsSeenAs (kept : Frame) (opened : machine.Frame) : Type 0 where
-  pub frames : (frames : List Frame) (names : Names) → frames_over (kept ∷ frames) names ≡ opened ∷ frames_over frames names
-  pub named : (frames : List Frame) (named : List Named) → are_named (kept ∷ frames) named ≡ are_named frames named
+-- where one is meant, there is one
+abbrev pub is_there : Bool → List (Option ℕ) → Bool
+is_there false lefts = true
+is_there true [] = false
+is_there true (left ∷ lefts) = true
 
--- the names are as they were
-pub record NamesStay (old new : Names) : Type 0 where
-  pub begun : new.begun.items ≡ old.begun.items
-  pub texts : new.texts.items ≡ old.texts.items
-
--- a begin is kept, or memory was wanting and nothing changed
-abbrev pub KeepsBegin : Names → Names → machine.Frame → Result Frame NoMemory → Type 0
-KeepsBegin old new opened (Ok kept) = OpensFrame old new opened kept
-KeepsBegin old new opened (Err error) = NamesStay old new
+-- each frame that keeps what is still to come of it has it
+abbrev pub are_counted : List Frame → List (Option ℕ) → Bool
+are_counted [] lefts = true
+are_counted (frame ∷ frames) lefts = is_there (has_left frame) lefts && are_counted frames (below_if (has_left frame) lefts)
 
 -- what is told apart of a value that begins
 abbrev pub seen_form : Form → steps.Form

@@ -1,3 +1,4 @@
+pub mod Stacked
 pub mod Kept
 pub mod Frames
 pub mod Tops

@@ -1,5 +1,5 @@
 -- What is asked of the innermost frame, and what becomes of it.
-use Rattle.std.specs.Prelude.{ℕ, if◌then◌else◌, ◌&&◌, Bool, false, List, [], ◌∷◌, Option, Some, None}
+use Rattle.std.specs.Prelude.{ℕ, if◌then◌else◌, ◌&&◌, Bool, true, false, List, [], ◌∷◌, Option, Some, None}
 use Rattle.sval_label.specs.Calls.{Name, Head, Slot}
 use Rattle.sval_core.specs.Trees.{next_kind, kind_of}
 use Rattle.sval_core.specs.SameNames.{same_name, same_head, same_slot}
@@ -10,8 +10,12 @@ use Rattle.sval_core.specs.CheckerSteps as steps
 use Rattle.sval_core.specs.CheckerSteps.{take_off, is_used_up, same_kind, may_end}
 use Rattle.sval_check.specs.declared.frame.Frame.{Frame}
 use Rattle.sval_check.specs.declared.frame.Frame.TheVariants as frame
+use Rattle.sval_check.specs.declared.frame.Begin.{Begin}
+use Rattle.sval_check.specs.declared.frame.Begin.TheVariants as begin
 use Rattle.sval_check.specs.declared.frame.Content.{Content}
 use Rattle.sval_check.specs.declared.frame.Content.TheVariants as content
+use Rattle.sval_check.specs.Kept.{is_container_value}
+use Rattle.sval_check.specs.Frames.{has_left}
 
 -- the innermost is a tagged value, and an end's name is that of its begin
 abbrev pub is_tagged : Option machine.Frame → Name → Bool
@@ -23,20 +27,10 @@ abbrev pub is_enum : Option machine.Frame → Name → Bool
 is_enum (Some (InEnum name)) ended = same_name ended name
 is_enum top ended = false
 
--- the innermost is a container, and an end says what its begin said
-abbrev pub is_head : Option machine.Frame → Head → Bool
-is_head (Some (InContainer head kind left)) ended = same_head ended head
-is_head top ended = false
-
 -- the innermost is a part, and an end says what its begin said
 abbrev pub is_slot : Option machine.Frame → Slot → Bool
 is_slot (Some (InPart slot)) ended = same_slot ended slot
 is_slot top ended = false
-
--- a container has parts at such places
-abbrev pub has_parts : Option machine.Frame → Slot → Bool
-has_parts (Some (InContainer head kind left)) slot = same_kind (kind_of slot) kind
-has_parts top slot = false
 
 -- a container may end with this head
 abbrev pub may_end_with : Option machine.Frame → Head → Bool
@@ -71,19 +65,38 @@ abbrev pub after_part : Option ℕ → List machine.Frame → List machine.Frame
 after_part left (InContainer head kind _ ∷ around) = InContainer head (next_kind kind) left ∷ around
 after_part left frames = frames
 
--- the checker's own frame of a container, of which so much is still to come after its next part
-abbrev pub with_next : Option ℕ → Frame → Frame
-with_next left (frame.Seq _) = frame.Seq left
-with_next left (frame.Map _) = frame.Entry left
-with_next left (frame.Entry _) = frame.Map left
-with_next left (frame.Named _) = frame.Named left
-with_next left kept = kept
+-- the checker's own frame of what begins without a name
+abbrev pub opens : Begin → Frame
+opens (begin.Text size) = frame.Text
+opens (begin.Binary size) = frame.Binary
+opens (begin.Seq size) = frame.Seq
+opens (begin.Map size) = frame.Map
 
--- the checker's own frame of a text or binary, of which so much is still to come
-abbrev pub with_text_left : Content → Option ℕ → Frame → Frame
-with_text_left content.Text left (frame.Text _) = frame.Text left
-with_text_left content.Binary left (frame.Binary _) = frame.Binary left
-with_text_left content left kept = kept
+-- the size that a begin without a name gives
+abbrev pub begun_size : Begin → Option ℕ
+begun_size (begin.Text size) = size
+begun_size (begin.Binary size) = size
+begun_size (begin.Seq size) = size
+begun_size (begin.Map size) = size
+
+-- the checker's own frame is a container
+abbrev pub is_container : Frame → Bool
+is_container frame.Seq = true
+is_container frame.Map = true
+is_container frame.Entry = true
+is_container (frame.Named value parts) = is_container_value value
+is_container other = false
+
+-- the innermost of the checker's own frames is a container
+abbrev pub is_container_top : List Frame → Bool
+is_container_top [] = false
+is_container_top (top ∷ around) = is_container top
+
+-- the checker's own frame of a container after its next part: in a map keys and values take turns
+abbrev pub advanced : Frame → Frame
+advanced frame.Map = frame.Entry
+advanced frame.Entry = frame.Map
+advanced kept = kept
 
 -- a stack with its innermost changed
 abbrev pub on_top : {A : Type 0} → (A → A) → List A → List A
@@ -94,6 +107,16 @@ on_top f (top ∷ around) = f top ∷ around
 abbrev pub under_top : {A : Type 0} → (List A → List A) → List A → List A
 under_top f [] = []
 under_top f (top ∷ around) = top ∷ f around
+
+-- what is still to come of each frame, where that of the innermost, if it is a container, becomes so much
+abbrev pub lefts_after : Option ℕ → List Frame → List (Option ℕ) → List (Option ℕ)
+lefts_after left frames lefts = if is_container_top frames then on_top (λ _. left) lefts else lefts
+
+-- the same of the frame around the innermost
+abbrev pub lefts_after_around : Option ℕ → List Frame → List (Option ℕ) → List (Option ℕ)
+lefts_after_around left [] lefts = lefts
+lefts_after_around left (top ∷ around) lefts =
+    if has_left top then under_top (lefts_after left around) lefts else lefts_after left around lefts
 
 -- the machine's step of a fragment of a text, or of a binary, with so many bytes
 abbrev pub content_fragment : Content → ℕ → steps.Step

@@ -1,56 +1,76 @@
 //! What has begun and has no end yet, in short.
 
 ghost use Rattle.std.specs.Prelude.{◌≡◌};
-ghost use Rattle.sval_check.specs.Frames.{begun_form, begun_frame, seen_form, IsSeenAs};
-ghost use Rattle.sval_check.specs.Tops.{with_next, with_text_left};
+ghost use Rattle.sval_check.specs.Frames.{begun_form, begun_frame, seen_form, has_left};
+ghost use Rattle.sval_check.specs.Tops.{advanced, is_container, opens, begun_size};
 
-/// What has begun and has no end yet; of a size that was given, what is still to come.
+use crate::kept::{NameParts, NamedValue};
+
+/// What has begun and has no end yet.
 ///
-/// It is small, since there may be very many. The names are kept in [`crate::names::Names`].
+/// It is small, since there may be very many. What is still to come of it, if it is a text, a binary or a container, is
+/// kept in [`crate::stack::Stack`], and its name in [`crate::names::Names`].
 #[derive(Clone, Copy)]
 pub(crate) enum Frame {
-    /// In a text: its bytes that are still to come.
-    Text(Option<usize>),
-    /// In a binary: its bytes that are still to come.
-    Binary(Option<usize>),
-    /// In a sequence: its items that are still to come.
-    Seq(Option<usize>),
-    /// In a map where a key comes next: its entries that are still to come.
-    Map(Option<usize>),
-    /// In a map where the value of a key comes next: its entries that are still to come.
-    Entry(Option<usize>),
+    /// In a text.
+    Text,
+    /// In a binary.
+    Binary,
+    /// In a sequence.
+    Seq,
+    /// In a map where a key comes next.
+    Map,
+    /// In a map where the value of a key comes next.
+    Entry,
     /// In an item of a sequence.
     Item,
     /// In a key of a map.
     Key,
     /// In a value of a map.
     Value,
-    /// In what says a name: of a container its entries that are still to come.
-    Named(Option<usize>),
+    /// In a value with a name, which has these parts.
+    Named(NamedValue, NameParts),
+    /// In a field of a record, which has a tag or not.
+    Field(bool),
+    /// In a field of a tuple, which has a tag or not.
+    Place(bool),
+    /// In a field of a record that is a tuple too, which has a tag or not.
+    FieldPlace(bool),
 }
 
 impl Frame {
-    /// This frame with one more part, where it is a container. `left` is the number of its entries that are still to
-    /// come after the part.
-    pub(crate) fn advanced(self, left: Option<usize>) -> Frame
-        ensures { result ≡ with_next left self }
+    /// Whether it is kept what is still to come of it, if a size was given.
+    #[inline(always)]
+    pub(crate) fn has_left(self) -> bool
+        ensures { result ≡ has_left self }
     {
         match self {
-            Frame::Seq(_) => Frame::Seq(left),
-            Frame::Map(_) => Frame::Entry(left),
-            Frame::Entry(_) => Frame::Map(left),
-            Frame::Named(_) => Frame::Named(left),
-            _ => self,
+            Frame::Text | Frame::Binary | Frame::Seq | Frame::Map | Frame::Entry => true,
+            Frame::Named(value, _) => value.is_container(),
+            _ => false,
         }
     }
 
-    /// This frame with `left` as the bytes that are still to come, where it is in a text or binary as `content` says.
-    pub(crate) fn with_left(self, content: Content, left: Option<usize>) -> Frame
-        ensures { result ≡ with_text_left content left self }
+    /// Whether it is a container.
+    #[inline(always)]
+    pub(crate) fn is_container(self) -> bool
+        ensures { result ≡ is_container self }
     {
-        match (self, content) {
-            (Frame::Text(_), Content::Text) => Frame::Text(left),
-            (Frame::Binary(_), Content::Binary) => Frame::Binary(left),
+        match self {
+            Frame::Seq | Frame::Map | Frame::Entry => true,
+            Frame::Named(value, _) => value.is_container(),
+            _ => false,
+        }
+    }
+
+    /// This frame with one more part, where it is a container.
+    #[inline(always)]
+    pub(crate) fn advanced(self) -> Frame
+        ensures { result ≡ advanced self }
+    {
+        match self {
+            Frame::Map => Frame::Entry,
+            Frame::Entry => Frame::Map,
             _ => self,
         }
     }
@@ -82,13 +102,22 @@ impl Begin {
 
     /// The frame that it opens.
     pub(crate) fn frame(self) -> Frame
-        ensures { IsSeenAs result (begun_frame self) }
+        ensures { result ≡ opens self }
     {
         match self {
-            Begin::Text(size) => Frame::Text(size),
-            Begin::Binary(size) => Frame::Binary(size),
-            Begin::Seq(size) => Frame::Seq(size),
-            Begin::Map(size) => Frame::Map(size),
+            Begin::Text(_) => Frame::Text,
+            Begin::Binary(_) => Frame::Binary,
+            Begin::Seq(_) => Frame::Seq,
+            Begin::Map(_) => Frame::Map,
+        }
+    }
+
+    /// The size, if one is given.
+    pub(crate) fn size(self) -> Option<usize>
+        ensures { result ≡ begun_size self }
+    {
+        match self {
+            Begin::Text(size) | Begin::Binary(size) | Begin::Seq(size) | Begin::Map(size) => size,
         }
     }
 }

@@ -1,29 +1,34 @@
 //! What has begun and has no end yet.
 
-ghost use Rattle.std.specs.Prelude.{◌≡◌, [], ◌∷◌, reverse, is_ok, is_none, if◌then◌else◌};
-ghost use Rattle.sval_label.specs.SeenName.{seen_name};
+ghost use Rattle.std.specs.Prelude.{◌≡◌, ◌&&◌, [], ◌∷◌, ◌++◌, reverse, is_ok, is_none, if◌then◌else◌};
+ghost use Rattle.sval_label.specs.SeenName.{seen_name, name_of};
 ghost use Rattle.sval_label.specs.Grouped.{seen_head, seen_slot};
 ghost use Rattle.sval_core.specs.Trees.{plain_name, plain_slot};
 ghost use Rattle.sval_core.specs.Checker.{InPart};
-ghost use Rattle.sval_core.specs.CheckerSteps.{admits};
+ghost use Rattle.sval_core.specs.CheckerSteps.{admits, is_used_up};
+ghost use Rattle.sval_core.specs.SameNames.{same_name};
 ghost use Rattle.sval_core.specs.Stacks.{top_of, below};
-ghost use Rattle.sval_check.specs.Kept.{value_frame};
-ghost use Rattle.sval_check.specs.Frames.{begun_frame, seen_form};
+ghost use Rattle.sval_check.specs.Stacked.{below_if};
+ghost use Rattle.sval_check.specs.Kept.{value_frame, name_of_parts, with_name};
+ghost use Rattle.sval_check.specs.Frames.{begun_frame, innermost_left, seen_form};
 ghost use Rattle.sval_check.specs.Tops.{is_tagged, is_enum, is_slot, may_end_with, content_ends, content_rest, part_rest};
-ghost use Rattle.sval_check.specs.Tops.{with_left, with_text_left, with_next, after_part, on_top, under_top};
+ghost use Rattle.sval_check.specs.Tops.{with_left, advanced, is_container_top, lefts_after, lefts_after_around};
+ghost use Rattle.sval_check.specs.Tops.{after_part, on_top, under_top};
 
 use crate::frame::{Begin, Content, Form, Frame};
-use crate::kept::NamedValue;
+use crate::kept::{NameParts, NamedValue, may_hold, same_tag};
 use crate::left::{is_used_up, take_off};
 use crate::names::Names;
 use std::alloc::Global;
 use std::marker::Model;
-use sval_core::{Head, Name, NoMemory, Slot};
+use sval_core::{Head, Index, Label, Name, NoMemory, Slot, Tag};
 
 /// All that is open, seen as the machine's frames, the innermost first.
 #[derive(Drop)]
 pub(crate) struct Stack {
     frames: Vec<Frame>,
+    /// What is still to come of each text, binary and container among them, if its size was given.
+    lefts: Vec<Option<usize>>,
     /// What those frames that are named began with.
     names: Names,
 }
@@ -31,13 +36,13 @@ pub(crate) struct Stack {
 impl Model for Stack {
     ghost use Rattle.std.specs.Prelude.{◌≡◌, List, reverse, true};
     ghost use Rattle.sval_core.specs.Checker.{Frame};
-    ghost use Rattle.sval_check.specs.Frames.{frames_over, are_named};
+    ghost use Rattle.sval_check.specs.Frames.{frames_of, are_counted};
 
     ghost Value = { List Frame };
 
-    ghost view = { λ stack. frames_over (reverse stack.frames.items) stack.names };
+    ghost view = { λ stack. frames_of (reverse stack.frames.items) (reverse stack.lefts.items) stack.names };
 
-    ghost invariant = { λ stack. are_named (reverse stack.frames.items) (reverse stack.names.begun.items) ≡ true };
+    ghost invariant = { λ stack. are_counted (reverse stack.frames.items) (reverse stack.lefts.items) ≡ true };
 }
 
 /// The innermost frame.
@@ -48,34 +53,119 @@ fn innermost(frames: &[Frame]) -> Option<Frame>
     frames.last().copied()
 }
 
-/// Puts a part into the innermost frame, a container. `left` is the number of its entries that are still to come after
-/// the part.
+/// What is still to come of the innermost text, binary or container, if its size was given.
 #[inline(always)]
-fn advance(frames: &mut [Frame], left: Option<usize>)
-    ensures { reverse frames.new ≡ on_top (with_next left) (reverse frames.old) }
+fn innermost_left(lefts: &[Option<usize>]) -> Option<usize>
+    ensures { result ≡ innermost_left (reverse lefts.now) }
 {
-    if let Some(top) = frames.last_mut() {
-        *top = top.advanced(left);
+    match lefts.last() {
+        Some(left) => *left,
+        None => None,
     }
 }
 
-/// Puts a part into the frame around the innermost one, a container. `left` is the number of its entries that are still
-/// to come after the part.
-fn advance_around(frames: &mut [Frame], left: Option<usize>)
-    ensures { reverse frames.new ≡ under_top (on_top (with_next left)) (reverse frames.old) }
+/// The innermost frame is a container with a name, which has these parts, and may end with this name.
+#[inline(always)]
+fn named_ends(names: &Names, lefts: &[Option<usize>], parts: NameParts, name: Name<'_>) -> bool
+    ensures { result ≡ (same_name (seen_name name.entry) (name_of_parts parts names.now)
+        && is_used_up (innermost_left (reverse lefts.now))) }
 {
-    if let Some((_top, around)) = frames.split_last_mut() {
-        advance(around, left);
+    names.is_name(parts, name) && is_used_up(innermost_left(lefts))
+}
+
+/// Puts what is still to come of the innermost text, binary or container.
+#[inline(always)]
+fn put_left(lefts: &mut [Option<usize>], left: Option<usize>)
+    ensures { reverse lefts.new ≡ on_top (λ _. left) (reverse lefts.old) }
+{
+    if let Some(innermost) = lefts.last_mut() {
+        *innermost = left;
     }
 }
 
-/// Puts what is still to come of a text or binary into the innermost frame, if it is in one.
+/// Puts a part into the innermost frame, where it is a container, and says whether it is.
 #[inline(always)]
-fn set_left(frames: &mut [Frame], content: Content, left: Option<usize>)
-    ensures { reverse frames.new ≡ on_top (with_text_left content left) (reverse frames.old) }
+fn advance_frame(frames: &mut [Frame]) -> bool
+    ensures frames { reverse frames.new ≡ on_top advanced (reverse frames.old) }
+    ensures is_container { result ≡ is_container_top (reverse frames.old) }
 {
-    if let Some(top) = frames.last_mut() {
-        *top = top.with_left(content, left);
+    match frames.last_mut() {
+        None => false,
+        Some(top) => {
+            let is_container = top.is_container();
+            *top = top.advanced();
+            is_container
+        }
+    }
+}
+
+/// Puts a part into the innermost frame, where it is a container. `left` is the number of its entries that are still to
+/// come after the part.
+#[inline(always)]
+fn advance(frames: &mut [Frame], lefts: &mut [Option<usize>], left: Option<usize>)
+    ensures frames { reverse frames.new ≡ on_top advanced (reverse frames.old) }
+    ensures lefts { reverse lefts.new ≡ lefts_after left (reverse frames.old) (reverse lefts.old) }
+{
+    if advance_frame(frames) {
+        put_left(lefts, left);
+    }
+}
+
+/// Puts a part into the frame around the innermost one, where it is a container. `left` is the number of its entries
+/// that are still to come after the part.
+fn advance_around(frames: &mut [Frame], lefts: &mut [Option<usize>], left: Option<usize>)
+    ensures frames { reverse frames.new ≡ under_top (on_top advanced) (reverse frames.old) }
+    ensures lefts { reverse lefts.new ≡ lefts_after_around left (reverse frames.old) (reverse lefts.old) }
+{
+    if let Some((top, around)) = frames.split_last_mut() {
+        if top.has_left() {
+            advance_under(around, lefts, left);
+        } else {
+            advance(around, lefts, left);
+        }
+    }
+}
+
+/// Puts a part into the innermost of these frames, where it is a container, around another whose rest is the innermost.
+fn advance_under(frames: &mut [Frame], lefts: &mut [Option<usize>], left: Option<usize>)
+    ensures frames { reverse frames.new ≡ on_top advanced (reverse frames.old) }
+    ensures lefts { reverse lefts.new ≡ under_top (lefts_after left (reverse frames.old)) (reverse lefts.old) }
+{
+    match lefts.split_last_mut() {
+        None => {
+            let _ = advance_frame(frames);
+        }
+        Some((_innermost, around)) => advance(frames, around, left),
+    }
+}
+
+/// Puts a frame on the others, with its name, which has these parts.
+#[inline(always)]
+fn push_frame(
+    frames: &mut Vec<Frame>,
+    names: &mut Names,
+    frame: Frame,
+    tag: Option<&Tag>,
+    label: Option<&Label<'_>>,
+    index: Option<&Index>,
+) -> Result<(), NoMemory>
+    ensures frames { frames.new.items ≡ (if is_ok result then frames.old.items ++ (frame ∷ []) else frames.old.items) }
+    ensures names { let name = plain_name (name_of tag.entry label.entry index.entry) in
+        names.new ≡ (if is_ok result then with_name name names.old else names.old) }
+{
+    frames.reserve(1)?;
+    names.keep(tag, label, index)?;
+    frames.push_reserved(frame);
+    Ok(())
+}
+
+/// Takes off what is still to come of the innermost frame, where that is kept.
+#[inline(always)]
+fn take_left(lefts: &mut Vec<Option<usize>>, has_left: bool)
+    ensures { reverse lefts.new.items ≡ below_if has_left (reverse lefts.old.items) }
+{
+    if has_left {
+        let _ = lefts.pop();
     }
 }
 
@@ -86,12 +176,12 @@ impl Stack {
     {
         Stack {
             frames: Vec::new(alloc),
+            lefts: Vec::new(alloc),
             names: Names::new(alloc),
         }
     }
 
     /// Nothing is open.
-    #[tactic(auto, using(crate::proofs::Tops::none_open))]
     pub(crate) fn is_empty(&self) -> bool
         ensures { result ≡ is_none (top_of self.now) }
     {
@@ -104,8 +194,19 @@ impl Stack {
         ensures { result ≡ admits (top_of self.now) (seen_form form) }
     {
         match innermost(&self.frames) {
-            None | Some(Frame::Item | Frame::Key | Frame::Value) => true,
-            Some(Frame::Named(_)) => self.names.admit(form),
+            None
+            | Some(
+                Frame::Item
+                | Frame::Key
+                | Frame::Value
+                | Frame::Field(_)
+                | Frame::Place(_)
+                | Frame::FieldPlace(_),
+            ) => true,
+            Some(Frame::Named(NamedValue::Tagged, parts)) => {
+                may_hold(self.names.tags.top(parts.tag), form)
+            }
+            Some(Frame::Named(NamedValue::Enum, _)) => matches!(form, Form::Variant),
             _ => false,
         }
     }
@@ -116,8 +217,9 @@ impl Stack {
         ensures { result ≡ content_rest content size (top_of self.now) }
     {
         match (innermost(&self.frames), content) {
-            (Some(Frame::Text(left)), Content::Text)
-            | (Some(Frame::Binary(left)), Content::Binary) => take_off(left, size),
+            (Some(Frame::Text), Content::Text) | (Some(Frame::Binary), Content::Binary) => {
+                take_off(innermost_left(&self.lefts), size)
+            }
             _ => None,
         }
     }
@@ -128,8 +230,9 @@ impl Stack {
         ensures { result ≡ content_ends content (top_of self.now) }
     {
         match (innermost(&self.frames), content) {
-            (Some(Frame::Text(left)), Content::Text)
-            | (Some(Frame::Binary(left)), Content::Binary) => is_used_up(left),
+            (Some(Frame::Text), Content::Text) | (Some(Frame::Binary), Content::Binary) => {
+                is_used_up(innermost_left(&self.lefts))
+            }
             _ => false,
         }
     }
@@ -140,7 +243,7 @@ impl Stack {
         ensures { result ≡ is_tagged (top_of self.now) (seen_name name.entry) }
     {
         match innermost(&self.frames) {
-            Some(Frame::Named(_)) => self.names.is_tagged(name),
+            Some(Frame::Named(NamedValue::Tagged, parts)) => self.names.is_name(parts, name),
             _ => false,
         }
     }
@@ -151,7 +254,7 @@ impl Stack {
         ensures { result ≡ is_enum (top_of self.now) (seen_name name.entry) }
     {
         match innermost(&self.frames) {
-            Some(Frame::Named(_)) => self.names.is_enum(name),
+            Some(Frame::Named(NamedValue::Enum, parts)) => self.names.is_name(parts, name),
             _ => false,
         }
     }
@@ -161,10 +264,19 @@ impl Stack {
     pub(crate) fn ends(&self, head: Head<'_>) -> bool
         ensures { result ≡ may_end_with (top_of self.now) (seen_head head.entry) }
     {
-        match innermost(&self.frames) {
-            Some(Frame::Seq(left)) => matches!(head, Head::Seq) && is_used_up(left),
-            Some(Frame::Map(left)) => matches!(head, Head::Map) && is_used_up(left),
-            Some(Frame::Named(left)) => self.names.is_head(head) && is_used_up(left),
+        match (innermost(&self.frames), head) {
+            (Some(Frame::Seq), Head::Seq) | (Some(Frame::Map), Head::Map) => {
+                is_used_up(innermost_left(&self.lefts))
+            }
+            (Some(Frame::Named(NamedValue::Record, parts)), Head::Record(name)) => {
+                named_ends(&self.names, &self.lefts, parts, name)
+            }
+            (Some(Frame::Named(NamedValue::Tuple, parts)), Head::Tuple(name)) => {
+                named_ends(&self.names, &self.lefts, parts, name)
+            }
+            (Some(Frame::Named(NamedValue::RecordTuple, parts)), Head::RecordTuple(name)) => {
+                named_ends(&self.names, &self.lefts, parts, name)
+            }
             _ => false,
         }
     }
@@ -174,11 +286,16 @@ impl Stack {
     pub(crate) fn part_rest(&self, slot: Slot<'_>) -> Option<Option<usize>>
         ensures { result ≡ part_rest (seen_slot slot.entry) (top_of self.now) }
     {
-        match innermost(&self.frames) {
-            Some(Frame::Seq(left)) if matches!(slot, Slot::Item) => take_off(left, 1),
-            Some(Frame::Map(left)) if matches!(slot, Slot::Key) => take_off(left, 1),
-            Some(Frame::Entry(left)) if matches!(slot, Slot::Value) => Some(left),
-            Some(Frame::Named(left)) if self.names.has_parts(slot) => take_off(left, 1),
+        match (innermost(&self.frames), slot) {
+            (Some(Frame::Seq), Slot::Item) | (Some(Frame::Map), Slot::Key) => {
+                take_off(innermost_left(&self.lefts), 1)
+            }
+            (Some(Frame::Named(NamedValue::Record, _)), Slot::Field(_, _))
+            | (Some(Frame::Named(NamedValue::Tuple, _)), Slot::Place(_, _))
+            | (Some(Frame::Named(NamedValue::RecordTuple, _)), Slot::FieldPlace(_, _, _)) => {
+                take_off(innermost_left(&self.lefts), 1)
+            }
+            (Some(Frame::Entry), Slot::Value) => Some(innermost_left(&self.lefts)),
             _ => None,
         }
     }
@@ -188,11 +305,22 @@ impl Stack {
     pub(crate) fn is_slot(&self, slot: Slot<'_>) -> bool
         ensures { result ≡ is_slot (top_of self.now) (seen_slot slot.entry) }
     {
-        match innermost(&self.frames) {
-            Some(Frame::Item) => matches!(slot, Slot::Item),
-            Some(Frame::Key) => matches!(slot, Slot::Key),
-            Some(Frame::Value) => matches!(slot, Slot::Value),
-            Some(Frame::Named(_)) => self.names.is_slot(slot),
+        let names = &self.names;
+        match (innermost(&self.frames), slot) {
+            (Some(Frame::Item), Slot::Item)
+            | (Some(Frame::Key), Slot::Key)
+            | (Some(Frame::Value), Slot::Value) => true,
+            (Some(Frame::Field(has_tag)), Slot::Field(tag, label)) => {
+                same_tag(tag, names.tags.top(has_tag)) && names.labels.is(label)
+            }
+            (Some(Frame::Place(has_tag)), Slot::Place(tag, index)) => {
+                same_tag(tag, names.tags.top(has_tag)) && names.indexes.is(index)
+            }
+            (Some(Frame::FieldPlace(has_tag)), Slot::FieldPlace(tag, label, index)) => {
+                same_tag(tag, names.tags.top(has_tag))
+                    && names.labels.is(label)
+                    && names.indexes.is(index)
+            }
             _ => false,
         }
     }
@@ -203,6 +331,7 @@ impl Stack {
         ensures { self.new ≡ (if is_ok result then begun_frame begin ∷ self.old else self.old) }
     {
         self.frames.reserve(1)?;
+        self.lefts.push(begin.size())?;
         self.frames.push_reserved(begin.frame());
         Ok(())
     }
@@ -218,9 +347,15 @@ impl Stack {
         ensures { let opened = value_frame value (plain_name (seen_name name.entry)) left in
             self.new ≡ (if is_ok result then opened ∷ self.old else self.old) }
     {
-        self.frames.reserve(1)?;
-        let frame = self.names.keep_value(value, name, left)?;
-        self.frames.push_reserved(frame);
+        let frame = Frame::Named(value, NameParts::of(name));
+        let (tag, label, index) = (name.tag, name.label, name.index);
+        if !value.is_container() {
+            push_frame(&mut self.frames, &mut self.names, frame, tag, label, index)?;
+            return Ok(());
+        }
+        self.lefts.reserve(1)?;
+        push_frame(&mut self.frames, &mut self.names, frame, tag, label, index)?;
+        self.lefts.push_reserved(left);
         Ok(())
     }
 
@@ -230,10 +365,24 @@ impl Stack {
         ensures { let part = InPart (plain_slot (seen_slot slot.entry)) in
             self.new ≡ (if is_ok result then part ∷ self.old else self.old) }
     {
-        self.frames.reserve(1)?;
-        let part = self.names.keep_slot(slot)?;
-        self.frames.push_reserved(part);
-        Ok(())
+        let (frames, names) = (&mut self.frames, &mut self.names);
+        match slot {
+            Slot::Item => push_frame(frames, names, Frame::Item, None, None, None),
+            Slot::Key => push_frame(frames, names, Frame::Key, None, None, None),
+            Slot::Value => push_frame(frames, names, Frame::Value, None, None, None),
+            Slot::Field(tag, label) => {
+                let frame = Frame::Field(tag.is_some());
+                push_frame(frames, names, frame, tag, Some(label), None)
+            }
+            Slot::Place(tag, index) => {
+                let frame = Frame::Place(tag.is_some());
+                push_frame(frames, names, frame, tag, None, Some(index))
+            }
+            Slot::FieldPlace(tag, label, index) => {
+                let frame = Frame::FieldPlace(tag.is_some());
+                push_frame(frames, names, frame, tag, Some(label), Some(index))
+            }
+        }
     }
 
     /// Counts a part in the innermost frame, a container. `left` is the number of its entries that are still to come
@@ -242,7 +391,7 @@ impl Stack {
     pub(crate) fn advance(&mut self, left: Option<usize>)
         ensures { self.new ≡ after_part left self.old }
     {
-        advance(&mut self.frames, left);
+        advance(&mut self.frames, &mut self.lefts, left);
     }
 
     /// Counts the innermost frame, a part, in the container around it. `left` is the number of entries that are still
@@ -250,7 +399,7 @@ impl Stack {
     pub(crate) fn advance_around(&mut self, left: Option<usize>)
         ensures { self.new ≡ under_top (after_part left) self.old }
     {
-        advance_around(&mut self.frames, left);
+        advance_around(&mut self.frames, &mut self.lefts, left);
     }
 
     /// Closes the innermost frame, if there is one.
@@ -258,8 +407,9 @@ impl Stack {
     pub(crate) fn pop(&mut self)
         ensures { self.new ≡ below self.old }
     {
-        if let Some(Frame::Named(_)) = self.frames.pop() {
-            self.names.pop();
+        if let Some(frame) = self.frames.pop() {
+            take_left(&mut self.lefts, frame.has_left());
+            self.names.let_go(frame);
         }
     }
 
@@ -268,6 +418,11 @@ impl Stack {
     pub(crate) fn set_left(&mut self, content: Content, left: Option<usize>)
         ensures { self.new ≡ with_left content left self.old }
     {
-        set_left(&mut self.frames, content, left);
+        match (innermost(&self.frames), content) {
+            (Some(Frame::Text), Content::Text) | (Some(Frame::Binary), Content::Binary) => {
+                put_left(&mut self.lefts, left)
+            }
+            _ => {}
+        }
     }
 }

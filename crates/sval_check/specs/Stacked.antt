@@ -1,0 +1,48 @@
+-- Stacks of the parts of names, each with the innermost first.
+use Rattle.std.specs.Prelude.{ℕ, ℤ, pos, ◌-◌, List, [], ◌∷◌, length, take, drop, Option, Some, None, Bool, true, false}
+use Rattle.sval_label.specs.Calls.{Tag, Label, Index}
+use Rattle.sval_core.specs.Stacks.{top_of, below}
+
+-- a stack with one more, if there is one
+abbrev pub pushed : {A : Type 0} → Option A → List A → List A
+pushed None xs = xs
+pushed (Some x) xs = x ∷ xs
+
+-- the innermost of a stack, where one is meant
+abbrev pub top_if : {A : Type 0} → Bool → List A → Option A
+top_if true xs = top_of xs
+top_if false xs = None
+
+-- a stack without its innermost, where one is meant
+abbrev pub below_if : {A : Type 0} → Bool → List A → List A
+below_if true xs = below xs
+below_if false xs = xs
+
+-- the innermost is true
+abbrev pub is_top : List Bool → Bool
+is_top [] = false
+is_top (b ∷ bs) = b
+
+-- the innermost label, or an empty one where there is none
+abbrev pub label_in : List Label → Label
+label_in [] = record { text = []; tag = None; is_static = false }
+label_in (label ∷ labels) = label
+
+-- the innermost index, or 0 where there is none
+abbrev pub index_in : List Index → Index
+index_in [] = record { number = pos 0; tag = None }
+index_in (index ∷ indexes) = index
+
+-- the labels with these sizes, which say of each whether it has a tag, the tags of those that do, and all texts, of which the last are the innermost's
+abbrev pub kept_labels : List ℕ → List Bool → List Tag → List ℕ → List Label
+kept_labels [] tagged tags texts = []
+kept_labels (size ∷ sizes) tagged tags texts =
+    record { text = drop (length texts - size) texts; tag = top_if (is_top tagged) tags; is_static = false }
+    ∷ kept_labels sizes (below tagged) (below_if (is_top tagged) tags) (take (length texts - size) texts)
+
+-- the indexes with these numbers, which say of each whether it has a tag, and the tags of those that do
+abbrev pub kept_indexes : List ℤ → List Bool → List Tag → List Index
+kept_indexes [] tagged tags = []
+kept_indexes (number ∷ numbers) tagged tags =
+    record { number = number; tag = top_if (is_top tagged) tags }
+    ∷ kept_indexes numbers (below tagged) (below_if (is_top tagged) tags)
