@@ -1,7 +1,8 @@
 -- Stacks of the parts of names, each with the innermost first.
-use Rattle.std.specs.Prelude.{ℕ, ℤ, pos, ◌-◌, List, [], ◌∷◌, length, take, drop, Option, Some, None, Bool, true, false}
+use Rattle.std.specs.Prelude.{ℕ, ℤ, pos, negsuc, ◌-◌, List, [], ◌∷◌, length, take, drop, Option, Some, None, Bool, true, false}
 use Rattle.sval_label.specs.Calls.{Tag, Label, Index}
 use Rattle.sval_core.specs.Stacks.{top_of, below}
+use Rattle.sval_check.specs.declared.indexes.Mark.{Mark}
 
 -- a stack with one more, if there is one
 abbrev pub pushed : {A : Type 0} → Option A → List A → List A
@@ -40,9 +41,29 @@ kept_labels (size ∷ sizes) tagged tags texts =
     record { text = drop (length texts - size) texts; tag = top_if (is_top tagged) tags; is_static = false }
     ∷ kept_labels sizes (below tagged) (below_if (is_top tagged) tags) (take (length texts - size) texts)
 
--- the indexes with these numbers, which say of each whether it has a tag, and the tags of those that do
-abbrev pub kept_indexes : List ℤ → List Bool → List Tag → List Index
-kept_indexes [] tagged tags = []
-kept_indexes (number ∷ numbers) tagged tags =
-    record { number = number; tag = top_if (is_top tagged) tags }
-    ∷ kept_indexes numbers (below tagged) (below_if (is_top tagged) tags)
+-- a number is below 0
+abbrev pub is_below_0 : ℤ → Bool
+is_below_0 (pos n) = false
+is_below_0 (negsuc n) = true
+
+-- a number that is so far below -1, or else this number
+abbrev pub signed : Bool → ℕ → ℤ
+signed false n = pos n
+signed true n = negsuc n
+
+-- what is kept of the innermost index beside its number and tag, or nothing where there is none
+abbrev pub mark_in : List Mark → Mark
+mark_in [] = record { is_negative = false; is_tagged = false }
+mark_in (mark ∷ marks) = mark
+
+-- the innermost number, or 0 where there is none
+abbrev pub innermost_number : List ℕ → List Mark → ℤ
+innermost_number [] marks = pos 0
+innermost_number (number ∷ numbers) marks = signed (mark_in marks).is_negative number
+
+-- the indexes with these numbers, which say of each whether it is negative and has a tag, and the tags of those that do
+abbrev pub kept_indexes : List ℕ → List Mark → List Tag → List Index
+kept_indexes [] marks tags = []
+kept_indexes (number ∷ numbers) marks tags =
+    record { number = signed (mark_in marks).is_negative number; tag = top_if (mark_in marks).is_tagged tags }
+    ∷ kept_indexes numbers (below marks) (below_if (mark_in marks).is_tagged tags)
