@@ -4,6 +4,7 @@ use Rattle.std.proofs.Common.{get_or, nat_lt, sym, ap, ◌∙◌, arith, length-
 use Rattle.std.proofs.Math.Seq.{set-append_seam, get_or-append_seam, take-append_seam}
 use Rattle.std.proofs.lemmas.List.{reverse-append, reverse-reverse}
 use Rattle.sval_label.specs.Calls.{Tag, Label, Index, Name}
+use Rattle.sval_core.specs.Checker as machine
 use Rattle.sval_core.specs.Stacks.{top_of}
 use Rattle.sval_check.specs.declared.frame.Frame.{Frame}
 use Rattle.sval_check.specs.declared.frame.Frame.TheVariants as frame
@@ -13,7 +14,7 @@ use Rattle.sval_check.specs.declared.names.Names.{Names}
 use Rattle.sval_check.specs.Kept.{parts_of, name_of_parts, with_name, without_name, is_container_value, value_frame}
 use Rattle.sval_check.specs.Stacked.{below_if}
 use Rattle.sval_check.specs.Frames.{frame_in, frames_of, has_left, names_around, is_there, are_counted, innermost_left}
-use Rattle.sval_check.specs.Tops.{on_top, under_top, advanced, lefts_after, lefts_after_around, after_part}
+use Rattle.sval_check.specs.Tops.{on_top, under_top, named, advanced, lefts_after, lefts_after_around, after_part}
 
 -- the innermost frame of the machine is that of the checker
 pub top_is : (fs : List Frame) (lefts : List (Option ℕ)) (names : Names) (f : Frame) → top_of fs ≡ Some f → Some (frame_in f (innermost_left lefts) names) ≡ top_of (frames_of fs lefts names)
@@ -60,31 +61,40 @@ container : (v : NamedValue) (name : Name) (left : Option ℕ) (fs : List Frame)
     → value_frame v name left ∷ frames_of fs (below_if (is_container_value v) (left ∷ lefts)) names ≡ value_frame v name left ∷ frames_of fs lefts names
 container v name left fs lefts names e = ap (λ b. value_frame v name left ∷ frames_of fs (below_if b (left ∷ lefts)) names) e
 
+opened_as : (f : Name → machine.Frame) (b : Bool) (name : Name) (fs : List Frame) (lefts : List (Option ℕ)) (names : Names)
+    → f (name_of_parts (parts_of name) (with_name name names)) ∷ frames_of fs (below_if b lefts) (without_name (parts_of name) (with_name name names))
+    ≡ f name ∷ frames_of fs (below_if b lefts) names
+opened_as f b name fs lefts names =
+    ap (λ n. f n ∷ frames_of fs (below_if b lefts) (without_name (parts_of name) (with_name name names))) (kept_is name names)
+    ∙ ap (λ ns. f name ∷ frames_of fs (below_if b lefts) ns) (around_is name names)
+
 opened : (v : NamedValue) (name : Name) (fs : List Frame) (lefts : List (Option ℕ)) (names : Names)
-    → frames_of (frame.Named v (parts_of name) ∷ fs) lefts (with_name name names)
+    → frames_of (named v (parts_of name) ∷ fs) lefts (with_name name names)
     ≡ value_frame v name (innermost_left lefts) ∷ frames_of fs (below_if (is_container_value v) lefts) names
-opened v name fs lefts names =
-    ap (λ n. value_frame v n (innermost_left lefts) ∷ frames_of fs (below_if (is_container_value v) lefts) (without_name (parts_of name) (with_name name names))) (kept_is name names)
-    ∙ ap (λ ns. value_frame v name (innermost_left lefts) ∷ frames_of fs (below_if (is_container_value v) lefts) ns) (around_is name names)
+opened value.Tagged name fs lefts names = opened_as (λ n. value_frame value.Tagged n (innermost_left lefts)) false name fs lefts names
+opened value.Enum name fs lefts names = opened_as (λ n. value_frame value.Enum n (innermost_left lefts)) false name fs lefts names
+opened value.Record name fs lefts names = opened_as (λ n. value_frame value.Record n (innermost_left lefts)) true name fs lefts names
+opened value.Tuple name fs lefts names = opened_as (λ n. value_frame value.Tuple n (innermost_left lefts)) true name fs lefts names
+opened value.RecordTuple name fs lefts names = opened_as (λ n. value_frame value.RecordTuple n (innermost_left lefts)) true name fs lefts names
 
 -- the frames of the machine where a frame with a name is the last of these
 put_last : (v : NamedValue) (name : Name) (items items' : List Frame) (lefts : List (Option ℕ)) (names names' : Names)
-    → items' ≡ items ++ (frame.Named v (parts_of name) ∷ []) → names' ≡ with_name name names
+    → items' ≡ items ++ (named v (parts_of name) ∷ []) → names' ≡ with_name name names
     → frames_of (reverse items') lefts names' ≡ value_frame v name (innermost_left lefts) ∷ frames_of (reverse items) (below_if (is_container_value v) lefts) names
 put_last v name items items' lefts names names' e e' =
-    ap (λ xs. frames_of (reverse xs) lefts names') e ∙ ap (λ xs. frames_of xs lefts names') (reverse-append items (frame.Named v (parts_of name) ∷ []))
-    ∙ ap (λ ns. frames_of (frame.Named v (parts_of name) ∷ reverse items) lefts ns) e' ∙ opened v name (reverse items) lefts names
+    ap (λ xs. frames_of (reverse xs) lefts names') e ∙ ap (λ xs. frames_of xs lefts names') (reverse-append items (named v (parts_of name) ∷ []))
+    ∙ ap (λ ns. frames_of (named v (parts_of name) ∷ reverse items) lefts ns) e' ∙ opened v name (reverse items) lefts names
 
 -- a value with a name that is no container is opened
 pub single_opened : (v : NamedValue) (name : Name) (left : Option ℕ) (items items' : List Frame) (lefts : List (Option ℕ)) (names names' : Names)
-    → items' ≡ items ++ (frame.Named v (parts_of name) ∷ []) → names' ≡ with_name name names → is_container_value v ≡ false
+    → items' ≡ items ++ (named v (parts_of name) ∷ []) → names' ≡ with_name name names → is_container_value v ≡ false
     → frames_of (reverse items') lefts names' ≡ value_frame v name left ∷ frames_of (reverse items) lefts names
 single_opened v name left items items' lefts names names' e e' is =
     put_last v name items items' lefts names names' e e' ∙ single v name (innermost_left lefts) left (reverse items) lefts names is
 
 -- a container with a name is opened
 pub container_opened : (v : NamedValue) (name : Name) (left : Option ℕ) (items items' : List Frame) (lefts lefts' : List (Option ℕ)) (names names' : Names)
-    → items' ≡ items ++ (frame.Named v (parts_of name) ∷ []) → lefts' ≡ lefts ++ (left ∷ []) → names' ≡ with_name name names → is_container_value v ≡ true
+    → items' ≡ items ++ (named v (parts_of name) ∷ []) → lefts' ≡ lefts ++ (left ∷ []) → names' ≡ with_name name names → is_container_value v ≡ true
     → frames_of (reverse items') (reverse lefts') names' ≡ value_frame v name left ∷ frames_of (reverse items) (reverse lefts) names
 container_opened v name left items items' lefts lefts' names names' e l e' is =
     ap (λ ls. frames_of (reverse items') ls names') (ap (λ ls. reverse ls) l ∙ reverse-append lefts (left ∷ []))
@@ -111,14 +121,14 @@ advanced_is left (frame.Entry ∷ fs) (l ∷ lefts) names e = refl
 advanced_is left (frame.Item ∷ fs) lefts names e = refl
 advanced_is left (frame.Key ∷ fs) lefts names e = refl
 advanced_is left (frame.Value ∷ fs) lefts names e = refl
-advanced_is left (frame.Named value.Tagged parts ∷ fs) lefts names e = refl
-advanced_is left (frame.Named value.Enum parts ∷ fs) lefts names e = refl
-advanced_is left (frame.Named value.Record parts ∷ fs) [] names e = absurd (cc e)
-advanced_is left (frame.Named value.Record parts ∷ fs) (l ∷ lefts) names e = refl
-advanced_is left (frame.Named value.Tuple parts ∷ fs) [] names e = absurd (cc e)
-advanced_is left (frame.Named value.Tuple parts ∷ fs) (l ∷ lefts) names e = refl
-advanced_is left (frame.Named value.RecordTuple parts ∷ fs) [] names e = absurd (cc e)
-advanced_is left (frame.Named value.RecordTuple parts ∷ fs) (l ∷ lefts) names e = refl
+advanced_is left (frame.Tagged parts ∷ fs) lefts names e = refl
+advanced_is left (frame.Enum parts ∷ fs) lefts names e = refl
+advanced_is left (frame.Record parts ∷ fs) [] names e = absurd (cc e)
+advanced_is left (frame.Record parts ∷ fs) (l ∷ lefts) names e = refl
+advanced_is left (frame.Tuple parts ∷ fs) [] names e = absurd (cc e)
+advanced_is left (frame.Tuple parts ∷ fs) (l ∷ lefts) names e = refl
+advanced_is left (frame.RecordTuple parts ∷ fs) [] names e = absurd (cc e)
+advanced_is left (frame.RecordTuple parts ∷ fs) (l ∷ lefts) names e = refl
 advanced_is left (frame.Field tag ∷ fs) lefts names e = refl
 advanced_is left (frame.Place tag ∷ fs) lefts names e = refl
 advanced_is left (frame.FieldPlace tag ∷ fs) lefts names e = refl
@@ -133,11 +143,11 @@ no_left frame.Entry l left names e = absurd (cc e)
 no_left frame.Item l left names e = refl
 no_left frame.Key l left names e = refl
 no_left frame.Value l left names e = refl
-no_left (frame.Named value.Tagged parts) l left names e = refl
-no_left (frame.Named value.Enum parts) l left names e = refl
-no_left (frame.Named value.Record parts) l left names e = absurd (cc e)
-no_left (frame.Named value.Tuple parts) l left names e = absurd (cc e)
-no_left (frame.Named value.RecordTuple parts) l left names e = absurd (cc e)
+no_left (frame.Tagged parts) l left names e = refl
+no_left (frame.Enum parts) l left names e = refl
+no_left (frame.Record parts) l left names e = absurd (cc e)
+no_left (frame.Tuple parts) l left names e = absurd (cc e)
+no_left (frame.RecordTuple parts) l left names e = absurd (cc e)
 no_left (frame.Field tag) l left names e = refl
 no_left (frame.Place tag) l left names e = refl
 no_left (frame.FieldPlace tag) l left names e = refl
@@ -156,14 +166,14 @@ counted left (frame.Entry ∷ fs) (l ∷ lefts) e = e
 counted left (frame.Item ∷ fs) lefts e = e
 counted left (frame.Key ∷ fs) lefts e = e
 counted left (frame.Value ∷ fs) lefts e = e
-counted left (frame.Named value.Tagged parts ∷ fs) lefts e = e
-counted left (frame.Named value.Enum parts ∷ fs) lefts e = e
-counted left (frame.Named value.Record parts ∷ fs) [] e = absurd (cc e)
-counted left (frame.Named value.Record parts ∷ fs) (l ∷ lefts) e = e
-counted left (frame.Named value.Tuple parts ∷ fs) [] e = absurd (cc e)
-counted left (frame.Named value.Tuple parts ∷ fs) (l ∷ lefts) e = e
-counted left (frame.Named value.RecordTuple parts ∷ fs) [] e = absurd (cc e)
-counted left (frame.Named value.RecordTuple parts ∷ fs) (l ∷ lefts) e = e
+counted left (frame.Tagged parts ∷ fs) lefts e = e
+counted left (frame.Enum parts ∷ fs) lefts e = e
+counted left (frame.Record parts ∷ fs) [] e = absurd (cc e)
+counted left (frame.Record parts ∷ fs) (l ∷ lefts) e = e
+counted left (frame.Tuple parts ∷ fs) [] e = absurd (cc e)
+counted left (frame.Tuple parts ∷ fs) (l ∷ lefts) e = e
+counted left (frame.RecordTuple parts ∷ fs) [] e = absurd (cc e)
+counted left (frame.RecordTuple parts ∷ fs) (l ∷ lefts) e = e
 counted left (frame.Field tag ∷ fs) lefts e = e
 counted left (frame.Place tag ∷ fs) lefts e = e
 counted left (frame.FieldPlace tag ∷ fs) lefts e = e

@@ -3,7 +3,7 @@ use Rattle.std.specs.Prelude.{ℕ, Bool, true, false, ◌&&◌, List, [], ◌∷
 use Rattle.sval_label.specs.Calls as call
 use Rattle.sval_core.specs.Trees as kind
 use Rattle.sval_core.specs.Checker as machine
-use Rattle.sval_core.specs.Checker.{InText, InBinary, InContainer, InPart}
+use Rattle.sval_core.specs.Checker.{InText, InBinary, InTagged, InEnum, InContainer, InPart}
 use Rattle.sval_core.specs.CheckerSteps as steps
 use Rattle.sval_core.specs.Stacks.{below}
 use Rattle.sval_check.specs.declared.frame.Frame.{Frame}
@@ -14,7 +14,7 @@ use Rattle.sval_check.specs.declared.frame.Form.{Form}
 use Rattle.sval_check.specs.declared.frame.Form.TheVariants as form
 use Rattle.sval_check.specs.declared.names.Names.{Names}
 use Rattle.sval_check.specs.Stacked.{top_if, below_if, label_in, index_in}
-use Rattle.sval_check.specs.Kept.{name_of_parts, without_name, is_container_value, value_frame}
+use Rattle.sval_check.specs.Kept.{name_of_parts, without_name}
 
 -- what a begin without a name opens
 abbrev pub begun_frame : Begin → machine.Frame
@@ -38,7 +38,11 @@ frame_in frame.Entry left names = InContainer call.Map kind.Value left
 frame_in frame.Item left names = InPart call.Item
 frame_in frame.Key left names = InPart call.Key
 frame_in frame.Value left names = InPart call.Value
-frame_in (frame.Named value parts) left names = value_frame value (name_of_parts parts names) left
+frame_in (frame.Tagged parts) left names = InTagged (name_of_parts parts names)
+frame_in (frame.Enum parts) left names = InEnum (name_of_parts parts names)
+frame_in (frame.Record parts) left names = InContainer (call.Record (name_of_parts parts names)) kind.Field left
+frame_in (frame.Tuple parts) left names = InContainer (call.Tuple (name_of_parts parts names)) kind.Place left
+frame_in (frame.RecordTuple parts) left names = InContainer (call.RecordTuple (name_of_parts parts names)) kind.FieldPlace left
 frame_in (frame.Field tag) left names = InPart (call.Field (top_if tag names.tags) (label_in names.labels))
 frame_in (frame.Place tag) left names = InPart (call.Place (top_if tag names.tags) (index_in names.indexes))
 frame_in (frame.FieldPlace tag) left names = InPart (call.FieldPlace (top_if tag names.tags) (label_in names.labels) (index_in names.indexes))
@@ -50,12 +54,18 @@ has_left frame.Binary = true
 has_left frame.Seq = true
 has_left frame.Map = true
 has_left frame.Entry = true
-has_left (frame.Named value parts) = is_container_value value
+has_left (frame.Record parts) = true
+has_left (frame.Tuple parts) = true
+has_left (frame.RecordTuple parts) = true
 has_left other = false
 
 -- the names of the frames around this one
 abbrev pub names_around : Frame → Names → Names
-names_around (frame.Named value parts) names = without_name parts names
+names_around (frame.Tagged parts) names = without_name parts names
+names_around (frame.Enum parts) names = without_name parts names
+names_around (frame.Record parts) names = without_name parts names
+names_around (frame.Tuple parts) names = without_name parts names
+names_around (frame.RecordTuple parts) names = without_name parts names
 names_around (frame.Field tag) names = record { tags = below_if tag names.tags; labels = below names.labels; indexes = names.indexes }
 names_around (frame.Place tag) names = record { tags = below_if tag names.tags; labels = names.labels; indexes = below names.indexes }
 names_around (frame.FieldPlace tag) names = record { tags = below_if tag names.tags; labels = below names.labels; indexes = below names.indexes }

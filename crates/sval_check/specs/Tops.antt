@@ -14,7 +14,9 @@ use Rattle.sval_check.specs.declared.frame.Begin.{Begin}
 use Rattle.sval_check.specs.declared.frame.Begin.TheVariants as begin
 use Rattle.sval_check.specs.declared.frame.Content.{Content}
 use Rattle.sval_check.specs.declared.frame.Content.TheVariants as content
-use Rattle.sval_check.specs.Kept.{is_container_value}
+use Rattle.sval_check.specs.declared.kept.NameParts.{NameParts}
+use Rattle.sval_check.specs.declared.kept.NamedValue.{NamedValue}
+use Rattle.sval_check.specs.declared.kept.NamedValue.TheVariants as value
 use Rattle.sval_check.specs.Frames.{has_left}
 
 -- the innermost is a tagged value, and an end's name is that of its begin
@@ -72,6 +74,14 @@ opens (begin.Binary size) = frame.Binary
 opens (begin.Seq size) = frame.Seq
 opens (begin.Map size) = frame.Map
 
+-- the checker's own frame of a value with a name, which has these parts
+abbrev pub named : NamedValue → NameParts → Frame
+named value.Tagged parts = frame.Tagged parts
+named value.Enum parts = frame.Enum parts
+named value.Record parts = frame.Record parts
+named value.Tuple parts = frame.Tuple parts
+named value.RecordTuple parts = frame.RecordTuple parts
+
 -- the size that a begin without a name gives
 abbrev pub begun_size : Begin → Option ℕ
 begun_size (begin.Text size) = size
@@ -84,7 +94,9 @@ abbrev pub is_container : Frame → Bool
 is_container frame.Seq = true
 is_container frame.Map = true
 is_container frame.Entry = true
-is_container (frame.Named value parts) = is_container_value value
+is_container (frame.Record parts) = true
+is_container (frame.Tuple parts) = true
+is_container (frame.RecordTuple parts) = true
 is_container other = false
 
 -- the innermost of the checker's own frames is a container

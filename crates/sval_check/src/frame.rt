@@ -2,7 +2,7 @@
 
 ghost use Rattle.std.specs.Prelude.{◌≡◌};
 ghost use Rattle.sval_check.specs.Frames.{begun_form, begun_frame, seen_form, has_left};
-ghost use Rattle.sval_check.specs.Tops.{advanced, is_container, opens, begun_size};
+ghost use Rattle.sval_check.specs.Tops.{advanced, is_container, named, opens, begun_size};
 
 use crate::kept::{NameParts, NamedValue};
 
@@ -28,8 +28,16 @@ pub(crate) enum Frame {
     Key,
     /// In a value of a map.
     Value,
-    /// In a value with a name, which has these parts.
-    Named(NamedValue, NameParts),
+    /// In a value with a name of its own, which has these parts.
+    Tagged(NameParts),
+    /// In an enum, whose name has these parts.
+    Enum(NameParts),
+    /// In a record, whose name has these parts.
+    Record(NameParts),
+    /// In a tuple, whose name has these parts.
+    Tuple(NameParts),
+    /// In a record that is a tuple too, whose name has these parts.
+    RecordTuple(NameParts),
     /// In a field of a record, which has a tag or not.
     Field(bool),
     /// In a field of a tuple, which has a tag or not.
@@ -39,15 +47,28 @@ pub(crate) enum Frame {
 }
 
 impl Frame {
+    /// The frame of a value with a name, which has these parts.
+    #[inline(always)]
+    pub(crate) fn named(value: NamedValue, parts: NameParts) -> Frame
+        ensures { result ≡ named value parts }
+    {
+        match value {
+            NamedValue::Tagged => Frame::Tagged(parts),
+            NamedValue::Enum => Frame::Enum(parts),
+            NamedValue::Record => Frame::Record(parts),
+            NamedValue::Tuple => Frame::Tuple(parts),
+            NamedValue::RecordTuple => Frame::RecordTuple(parts),
+        }
+    }
+
     /// Whether it is kept what is still to come of it, if a size was given.
     #[inline(always)]
     pub(crate) fn has_left(self) -> bool
         ensures { result ≡ has_left self }
     {
         match self {
-            Frame::Text | Frame::Binary | Frame::Seq | Frame::Map | Frame::Entry => true,
-            Frame::Named(value, _) => value.is_container(),
-            _ => false,
+            Frame::Text | Frame::Binary => true,
+            _ => self.is_container(),
         }
     }
 
@@ -57,8 +78,12 @@ impl Frame {
         ensures { result ≡ is_container self }
     {
         match self {
-            Frame::Seq | Frame::Map | Frame::Entry => true,
-            Frame::Named(value, _) => value.is_container(),
+            Frame::Seq
+            | Frame::Map
+            | Frame::Entry
+            | Frame::Record(_)
+            | Frame::Tuple(_)
+            | Frame::RecordTuple(_) => true,
             _ => false,
         }
     }

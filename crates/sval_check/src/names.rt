@@ -81,7 +81,11 @@ impl Names {
         ensures { self.new ≡ names_around frame self.old }
     {
         match frame {
-            Frame::Named(_, parts) => {
+            Frame::Tagged(parts)
+            | Frame::Enum(parts)
+            | Frame::Record(parts)
+            | Frame::Tuple(parts)
+            | Frame::RecordTuple(parts) => {
                 self.tags.take(parts.tag);
                 self.labels.take(parts.label);
                 self.indexes.take(parts.index);

@@ -203,10 +203,8 @@ impl Stack {
                 | Frame::Place(_)
                 | Frame::FieldPlace(_),
             ) => true,
-            Some(Frame::Named(NamedValue::Tagged, parts)) => {
-                may_hold(self.names.tags.top(parts.tag), form)
-            }
-            Some(Frame::Named(NamedValue::Enum, _)) => matches!(form, Form::Variant),
+            Some(Frame::Tagged(parts)) => { may_hold(self.names.tags.top(parts.tag), form) }
+            Some(Frame::Enum(_)) => matches!(form, Form::Variant),
             _ => false,
         }
     }
@@ -243,7 +241,7 @@ impl Stack {
         ensures { result ≡ is_tagged (top_of self.now) (seen_name name.entry) }
     {
         match innermost(&self.frames) {
-            Some(Frame::Named(NamedValue::Tagged, parts)) => self.names.is_name(parts, name),
+            Some(Frame::Tagged(parts)) => self.names.is_name(parts, name),
             _ => false,
         }
     }
@@ -254,7 +252,7 @@ impl Stack {
         ensures { result ≡ is_enum (top_of self.now) (seen_name name.entry) }
     {
         match innermost(&self.frames) {
-            Some(Frame::Named(NamedValue::Enum, parts)) => self.names.is_name(parts, name),
+            Some(Frame::Enum(parts)) => self.names.is_name(parts, name),
             _ => false,
         }
     }
@@ -268,13 +266,13 @@ impl Stack {
             (Some(Frame::Seq), Head::Seq) | (Some(Frame::Map), Head::Map) => {
                 is_used_up(innermost_left(&self.lefts))
             }
-            (Some(Frame::Named(NamedValue::Record, parts)), Head::Record(name)) => {
+            (Some(Frame::Record(parts)), Head::Record(name)) => {
                 named_ends(&self.names, &self.lefts, parts, name)
             }
-            (Some(Frame::Named(NamedValue::Tuple, parts)), Head::Tuple(name)) => {
+            (Some(Frame::Tuple(parts)), Head::Tuple(name)) => {
                 named_ends(&self.names, &self.lefts, parts, name)
             }
-            (Some(Frame::Named(NamedValue::RecordTuple, parts)), Head::RecordTuple(name)) => {
+            (Some(Frame::RecordTuple(parts)), Head::RecordTuple(name)) => {
                 named_ends(&self.names, &self.lefts, parts, name)
             }
             _ => false,
@@ -290,9 +288,9 @@ impl Stack {
             (Some(Frame::Seq), Slot::Item) | (Some(Frame::Map), Slot::Key) => {
                 take_off(innermost_left(&self.lefts), 1)
             }
-            (Some(Frame::Named(NamedValue::Record, _)), Slot::Field(_, _))
-            | (Some(Frame::Named(NamedValue::Tuple, _)), Slot::Place(_, _))
-            | (Some(Frame::Named(NamedValue::RecordTuple, _)), Slot::FieldPlace(_, _, _)) => {
+            (Some(Frame::Record(_)), Slot::Field(_, _))
+            | (Some(Frame::Tuple(_)), Slot::Place(_, _))
+            | (Some(Frame::RecordTuple(_)), Slot::FieldPlace(_, _, _)) => {
                 take_off(innermost_left(&self.lefts), 1)
             }
             (Some(Frame::Entry), Slot::Value) => Some(innermost_left(&self.lefts)),
@@ -347,7 +345,7 @@ impl Stack {
         ensures { let opened = value_frame value (plain_name (seen_name name.entry)) left in
             self.new ≡ (if is_ok result then opened ∷ self.old else self.old) }
     {
-        let frame = Frame::Named(value, NameParts::of(name));
+        let frame = Frame::named(value, NameParts::of(name));
         let (tag, label, index) = (name.tag, name.label, name.index);
         if !value.is_container() {
             push_frame(&mut self.frames, &mut self.names, frame, tag, label, index)?;
