@@ -11,10 +11,10 @@ use Rattle.sval_check.specs.declared.frame.Frame.TheVariants as frame
 use Rattle.sval_check.specs.declared.kept.NamedValue.{NamedValue}
 use Rattle.sval_check.specs.declared.kept.NamedValue.TheVariants as value
 use Rattle.sval_check.specs.declared.names.Names.{Names}
-use Rattle.sval_check.specs.Kept.{parts_of, name_of_parts, with_name, without_name, is_container_value, value_frame}
+use Rattle.sval_check.specs.Kept.{parts_in, innermost_name, with_name, without_name, is_container_value, value_frame}
 use Rattle.sval_check.specs.Stacked.{below_if}
 use Rattle.sval_check.specs.Frames.{frame_in, frames_of, has_left, names_around, is_there, are_counted, innermost_left}
-use Rattle.sval_check.specs.Tops.{on_top, under_top, named, advanced, lefts_after, lefts_after_around, after_part}
+use Rattle.sval_check.specs.Tops.{on_top, under_top, named_frame, advanced, lefts_after, lefts_after_around, after_part}
 
 -- the innermost frame of the machine is that of the checker
 pub top_is : (fs : List Frame) (lefts : List (Option ℕ)) (names : Names) (f : Frame) → top_of fs ≡ Some f → Some (frame_in f (innermost_left lefts) names) ≡ top_of (frames_of fs lefts names)
@@ -23,7 +23,7 @@ top_is (g ∷ fs) lefts names f e = let same : f ≡ g = cc e in ap (λ f. Some 
 
 -- ---- a frame is opened
 
-name_kept : (t : Option Tag) (l : Option Label) (i : Option Index) (names : Names) → let name : Name = record { tag = t; label = l; index = i } in name_of_parts (parts_of name) (with_name name names) ≡ name
+name_kept : (t : Option Tag) (l : Option Label) (i : Option Index) (names : Names) → let name : Name = record { tag = t; label = l; index = i } in innermost_name (parts_in name) (with_name name names) ≡ name
 name_kept None None None names = refl
 name_kept None None (Some i) names = refl
 name_kept None (Some l) None names = refl
@@ -33,7 +33,7 @@ name_kept (Some t) None (Some i) names = refl
 name_kept (Some t) (Some l) None names = refl
 name_kept (Some t) (Some l) (Some i) names = refl
 
-name_around : (t : Option Tag) (l : Option Label) (i : Option Index) (names : Names) → let name : Name = record { tag = t; label = l; index = i } in without_name (parts_of name) (with_name name names) ≡ names
+name_around : (t : Option Tag) (l : Option Label) (i : Option Index) (names : Names) → let name : Name = record { tag = t; label = l; index = i } in without_name (parts_in name) (with_name name names) ≡ names
 name_around None None None names = refl
 name_around None None (Some i) names = refl
 name_around None (Some l) None names = refl
@@ -43,10 +43,10 @@ name_around (Some t) None (Some i) names = refl
 name_around (Some t) (Some l) None names = refl
 name_around (Some t) (Some l) (Some i) names = refl
 
-kept_is : (name : Name) (names : Names) → name_of_parts (parts_of name) (with_name name names) ≡ name
+kept_is : (name : Name) (names : Names) → innermost_name (parts_in name) (with_name name names) ≡ name
 kept_is name names = name_kept name.tag name.label name.index names
 
-around_is : (name : Name) (names : Names) → without_name (parts_of name) (with_name name names) ≡ names
+around_is : (name : Name) (names : Names) → without_name (parts_in name) (with_name name names) ≡ names
 around_is name names = name_around name.tag name.label name.index names
 
 single : (v : NamedValue) (name : Name) (l left : Option ℕ) (fs : List Frame) (lefts : List (Option ℕ)) (names : Names) → is_container_value v ≡ false
@@ -62,14 +62,14 @@ container : (v : NamedValue) (name : Name) (left : Option ℕ) (fs : List Frame)
 container v name left fs lefts names e = ap (λ b. value_frame v name left ∷ frames_of fs (below_if b (left ∷ lefts)) names) e
 
 opened_as : (f : Name → machine.Frame) (b : Bool) (name : Name) (fs : List Frame) (lefts : List (Option ℕ)) (names : Names)
-    → f (name_of_parts (parts_of name) (with_name name names)) ∷ frames_of fs (below_if b lefts) (without_name (parts_of name) (with_name name names))
+    → f (innermost_name (parts_in name) (with_name name names)) ∷ frames_of fs (below_if b lefts) (without_name (parts_in name) (with_name name names))
     ≡ f name ∷ frames_of fs (below_if b lefts) names
 opened_as f b name fs lefts names =
-    ap (λ n. f n ∷ frames_of fs (below_if b lefts) (without_name (parts_of name) (with_name name names))) (kept_is name names)
+    ap (λ n. f n ∷ frames_of fs (below_if b lefts) (without_name (parts_in name) (with_name name names))) (kept_is name names)
     ∙ ap (λ ns. f name ∷ frames_of fs (below_if b lefts) ns) (around_is name names)
 
 opened : (v : NamedValue) (name : Name) (fs : List Frame) (lefts : List (Option ℕ)) (names : Names)
-    → frames_of (named v (parts_of name) ∷ fs) lefts (with_name name names)
+    → frames_of (named_frame v (parts_in name) ∷ fs) lefts (with_name name names)
     ≡ value_frame v name (innermost_left lefts) ∷ frames_of fs (below_if (is_container_value v) lefts) names
 opened value.Tagged name fs lefts names = opened_as (λ n. value_frame value.Tagged n (innermost_left lefts)) false name fs lefts names
 opened value.Enum name fs lefts names = opened_as (λ n. value_frame value.Enum n (innermost_left lefts)) false name fs lefts names
@@ -79,22 +79,22 @@ opened value.RecordTuple name fs lefts names = opened_as (λ n. value_frame valu
 
 -- the frames of the machine where a frame with a name is the last of these
 put_last : (v : NamedValue) (name : Name) (items items' : List Frame) (lefts : List (Option ℕ)) (names names' : Names)
-    → items' ≡ items ++ (named v (parts_of name) ∷ []) → names' ≡ with_name name names
+    → items' ≡ items ++ (named_frame v (parts_in name) ∷ []) → names' ≡ with_name name names
     → frames_of (reverse items') lefts names' ≡ value_frame v name (innermost_left lefts) ∷ frames_of (reverse items) (below_if (is_container_value v) lefts) names
 put_last v name items items' lefts names names' e e' =
-    ap (λ xs. frames_of (reverse xs) lefts names') e ∙ ap (λ xs. frames_of xs lefts names') (reverse-append items (named v (parts_of name) ∷ []))
-    ∙ ap (λ ns. frames_of (named v (parts_of name) ∷ reverse items) lefts ns) e' ∙ opened v name (reverse items) lefts names
+    ap (λ xs. frames_of (reverse xs) lefts names') e ∙ ap (λ xs. frames_of xs lefts names') (reverse-append items (named_frame v (parts_in name) ∷ []))
+    ∙ ap (λ ns. frames_of (named_frame v (parts_in name) ∷ reverse items) lefts ns) e' ∙ opened v name (reverse items) lefts names
 
 -- a value with a name that is no container is opened
 pub single_opened : (v : NamedValue) (name : Name) (left : Option ℕ) (items items' : List Frame) (lefts : List (Option ℕ)) (names names' : Names)
-    → items' ≡ items ++ (named v (parts_of name) ∷ []) → names' ≡ with_name name names → is_container_value v ≡ false
+    → items' ≡ items ++ (named_frame v (parts_in name) ∷ []) → names' ≡ with_name name names → is_container_value v ≡ false
     → frames_of (reverse items') lefts names' ≡ value_frame v name left ∷ frames_of (reverse items) lefts names
 single_opened v name left items items' lefts names names' e e' is =
     put_last v name items items' lefts names names' e e' ∙ single v name (innermost_left lefts) left (reverse items) lefts names is
 
 -- a container with a name is opened
 pub container_opened : (v : NamedValue) (name : Name) (left : Option ℕ) (items items' : List Frame) (lefts lefts' : List (Option ℕ)) (names names' : Names)
-    → items' ≡ items ++ (named v (parts_of name) ∷ []) → lefts' ≡ lefts ++ (left ∷ []) → names' ≡ with_name name names → is_container_value v ≡ true
+    → items' ≡ items ++ (named_frame v (parts_in name) ∷ []) → lefts' ≡ lefts ++ (left ∷ []) → names' ≡ with_name name names → is_container_value v ≡ true
     → frames_of (reverse items') (reverse lefts') names' ≡ value_frame v name left ∷ frames_of (reverse items) (reverse lefts) names
 container_opened v name left items items' lefts lefts' names names' e l e' is =
     ap (λ ls. frames_of (reverse items') ls names') (ap (λ ls. reverse ls) l ∙ reverse-append lefts (left ∷ []))

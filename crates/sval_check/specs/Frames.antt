@@ -14,7 +14,7 @@ use Rattle.sval_check.specs.declared.frame.Form.{Form}
 use Rattle.sval_check.specs.declared.frame.Form.TheVariants as form
 use Rattle.sval_check.specs.declared.names.Names.{Names}
 use Rattle.sval_check.specs.Stacked.{top_if, below_if, label_in, index_in}
-use Rattle.sval_check.specs.Kept.{name_of_parts, without_name}
+use Rattle.sval_check.specs.Kept.{innermost_name, without_name}
 
 -- what a begin without a name opens
 abbrev pub begun_frame : Begin → machine.Frame
@@ -38,11 +38,11 @@ frame_in frame.Entry left names = InContainer call.Map kind.Value left
 frame_in frame.Item left names = InPart call.Item
 frame_in frame.Key left names = InPart call.Key
 frame_in frame.Value left names = InPart call.Value
-frame_in (frame.Tagged parts) left names = InTagged (name_of_parts parts names)
-frame_in (frame.Enum parts) left names = InEnum (name_of_parts parts names)
-frame_in (frame.Record parts) left names = InContainer (call.Record (name_of_parts parts names)) kind.Field left
-frame_in (frame.Tuple parts) left names = InContainer (call.Tuple (name_of_parts parts names)) kind.Place left
-frame_in (frame.RecordTuple parts) left names = InContainer (call.RecordTuple (name_of_parts parts names)) kind.FieldPlace left
+frame_in (frame.Tagged parts) left names = InTagged (innermost_name parts names)
+frame_in (frame.Enum parts) left names = InEnum (innermost_name parts names)
+frame_in (frame.Record parts) left names = InContainer (call.Record (innermost_name parts names)) kind.Field left
+frame_in (frame.Tuple parts) left names = InContainer (call.Tuple (innermost_name parts names)) kind.Place left
+frame_in (frame.RecordTuple parts) left names = InContainer (call.RecordTuple (innermost_name parts names)) kind.FieldPlace left
 frame_in (frame.Field tag) left names = InPart (call.Field (top_if tag names.tags) (label_in names.labels))
 frame_in (frame.Place tag) left names = InPart (call.Place (top_if tag names.tags) (index_in names.indexes))
 frame_in (frame.FieldPlace tag) left names = InPart (call.FieldPlace (top_if tag names.tags) (label_in names.labels) (index_in names.indexes))

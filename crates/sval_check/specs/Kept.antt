@@ -4,23 +4,23 @@ use Rattle.std.specs.Bool.{then_some}
 use Rattle.sval_label.specs.Calls.{Name, Record, Tuple, RecordTuple}
 use Rattle.sval_core.specs.Trees as kind
 use Rattle.sval_core.specs.Checker.{Frame, InTagged, InEnum, InContainer}
-use Rattle.sval_check.specs.Stacked.{pushed, top_if, below_if, label_in, index_in}
+use Rattle.sval_check.specs.Stacked.{stacked, top_if, below_if, label_in, index_in}
 use Rattle.sval_check.specs.declared.kept.NameParts.{NameParts}
 use Rattle.sval_check.specs.declared.kept.NamedValue.{NamedValue}
 use Rattle.sval_check.specs.declared.kept.NamedValue.TheVariants as value
 use Rattle.sval_check.specs.declared.names.Names.{Names}
 
 -- which parts a name has
-abbrev pub parts_of : Name → NameParts
-parts_of name = record { tag = is_some name.tag; label = is_some name.label; index = is_some name.index }
+abbrev pub parts_in : Name → NameParts
+parts_in name = record { tag = is_some name.tag; label = is_some name.label; index = is_some name.index }
 
 -- the innermost name, which has these parts
-abbrev pub name_of_parts : NameParts → Names → Name
-name_of_parts parts names = record { tag = top_if parts.tag names.tags; label = then_some parts.label (label_in names.labels); index = then_some parts.index (index_in names.indexes) }
+abbrev pub innermost_name : NameParts → Names → Name
+innermost_name parts names = record { tag = top_if parts.tag names.tags; label = then_some parts.label (label_in names.labels); index = then_some parts.index (index_in names.indexes) }
 
 -- the names with one more
 abbrev pub with_name : Name → Names → Names
-with_name name names = record { tags = pushed name.tag names.tags; labels = pushed name.label names.labels; indexes = pushed name.index names.indexes }
+with_name name names = record { tags = stacked name.tag names.tags; labels = stacked name.label names.labels; indexes = stacked name.index names.indexes }
 
 -- the names without the innermost, which has these parts
 abbrev pub without_name : NameParts → Names → Names

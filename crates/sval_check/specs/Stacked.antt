@@ -5,9 +5,9 @@ use Rattle.sval_core.specs.Stacks.{top_of, below}
 use Rattle.sval_check.specs.declared.indexes.Mark.{Mark}
 
 -- a stack with one more, if there is one
-abbrev pub pushed : {A : Type 0} → Option A → List A → List A
-pushed None xs = xs
-pushed (Some x) xs = x ∷ xs
+abbrev pub stacked : {A : Type 0} → Option A → List A → List A
+stacked None xs = xs
+stacked (Some x) xs = x ∷ xs
 
 -- the innermost of a stack, where one is meant
 abbrev pub top_if : {A : Type 0} → Bool → List A → Option A
@@ -47,9 +47,9 @@ is_below_0 (pos n) = false
 is_below_0 (negsuc n) = true
 
 -- a number that is so far below -1, or else this number
-abbrev pub signed : Bool → ℕ → ℤ
-signed false n = pos n
-signed true n = negsuc n
+abbrev pub signed_by : Bool → ℕ → ℤ
+signed_by false n = pos n
+signed_by true n = negsuc n
 
 -- what is kept of the innermost index beside its number and tag, or nothing where there is none
 abbrev pub mark_in : List Mark → Mark
@@ -59,11 +59,11 @@ mark_in (mark ∷ marks) = mark
 -- the innermost number, or 0 where there is none
 abbrev pub innermost_number : List ℕ → List Mark → ℤ
 innermost_number [] marks = pos 0
-innermost_number (number ∷ numbers) marks = signed (mark_in marks).is_negative number
+innermost_number (number ∷ numbers) marks = signed_by (mark_in marks).is_negative number
 
 -- the indexes with these numbers, which say of each whether it is negative and has a tag, and the tags of those that do
 abbrev pub kept_indexes : List ℕ → List Mark → List Tag → List Index
 kept_indexes [] marks tags = []
 kept_indexes (number ∷ numbers) marks tags =
-    record { number = signed (mark_in marks).is_negative number; tag = top_if (mark_in marks).is_tagged tags }
+    record { number = signed_by (mark_in marks).is_negative number; tag = top_if (mark_in marks).is_tagged tags }
     ∷ kept_indexes numbers (below marks) (below_if (mark_in marks).is_tagged tags)

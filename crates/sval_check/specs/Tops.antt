@@ -68,19 +68,19 @@ after_part left (InContainer head kind _ ∷ around) = InContainer head (next_ki
 after_part left frames = frames
 
 -- the checker's own frame of what begins without a name
-abbrev pub opens : Begin → Frame
-opens (begin.Text size) = frame.Text
-opens (begin.Binary size) = frame.Binary
-opens (begin.Seq size) = frame.Seq
-opens (begin.Map size) = frame.Map
+abbrev pub bare_frame : Begin → Frame
+bare_frame (begin.Text size) = frame.Text
+bare_frame (begin.Binary size) = frame.Binary
+bare_frame (begin.Seq size) = frame.Seq
+bare_frame (begin.Map size) = frame.Map
 
 -- the checker's own frame of a value with a name, which has these parts
-abbrev pub named : NamedValue → NameParts → Frame
-named value.Tagged parts = frame.Tagged parts
-named value.Enum parts = frame.Enum parts
-named value.Record parts = frame.Record parts
-named value.Tuple parts = frame.Tuple parts
-named value.RecordTuple parts = frame.RecordTuple parts
+abbrev pub named_frame : NamedValue → NameParts → Frame
+named_frame value.Tagged parts = frame.Tagged parts
+named_frame value.Enum parts = frame.Enum parts
+named_frame value.Record parts = frame.Record parts
+named_frame value.Tuple parts = frame.Tuple parts
+named_frame value.RecordTuple parts = frame.RecordTuple parts
 
 -- the size that a begin without a name gives
 abbrev pub begun_size : Begin → Option ℕ

@@ -2,7 +2,7 @@
 
 ghost use Rattle.std.specs.Prelude.{◌≡◌};
 ghost use Rattle.sval_check.specs.Frames.{begun_form, begun_frame, seen_form, has_left};
-ghost use Rattle.sval_check.specs.Tops.{advanced, is_container, named, opens, begun_size};
+ghost use Rattle.sval_check.specs.Tops.{advanced, is_container, named_frame, bare_frame, begun_size};
 
 use crate::kept::{NameParts, NamedValue};
 
@@ -50,7 +50,7 @@ impl Frame {
     /// The frame of a value with a name, which has these parts.
     #[inline(always)]
     pub(crate) fn named(value: NamedValue, parts: NameParts) -> Frame
-        ensures { result ≡ named value parts }
+        ensures { result ≡ named_frame value parts }
     {
         match value {
             NamedValue::Tagged => Frame::Tagged(parts),
@@ -127,7 +127,7 @@ impl Begin {
 
     /// The frame that it opens.
     pub(crate) fn frame(self) -> Frame
-        ensures { result ≡ opens self }
+        ensures { result ≡ bare_frame self }
     {
         match self {
             Begin::Text(_) => Frame::Text,

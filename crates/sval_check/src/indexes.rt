@@ -7,7 +7,7 @@ ghost use Rattle.sval_label.specs.Ranges.{is_index};
 ghost use Rattle.sval_label.specs.Equalities as equal;
 ghost use Rattle.sval_core.specs.SameNames as same;
 ghost use Rattle.sval_core.specs.Stacks.{below};
-ghost use Rattle.sval_check.specs.Stacked.{pushed, below_if, index_in, is_below_0, signed, innermost_number};
+ghost use Rattle.sval_check.specs.Stacked.{stacked, below_if, index_in, is_below_0, signed_by, innermost_number};
 
 use crate::tags::Tags;
 use std::alloc::Global;
@@ -63,7 +63,7 @@ fn is_negative(number: i128) -> bool
 /// How far a number is below -1, or else the number.
 fn in_short(number: i128) -> u64
     requires { is_index number ≡ true }
-    ensures { signed (is_below_0 number) result ≡ number }
+    ensures { signed_by (is_below_0 number) result ≡ number }
 {
     if number < 0 {
         (-1 - number) as u64
@@ -74,7 +74,7 @@ fn in_short(number: i128) -> u64
 
 /// The number that is kept so.
 fn in_long(is_negative: bool, number: u64) -> i128
-    ensures { result ≡ signed is_negative number }
+    ensures { result ≡ signed_by is_negative number }
 {
     if is_negative {
         -1 - i128::from(number)
@@ -110,7 +110,7 @@ impl Indexes {
     #[inline(always)]
     pub(crate) fn put(&mut self, index: Option<&Index>) -> Result<(), NoMemory>
         ensures { let index = option_map (λ index. seen_index index.now) index.entry in
-            self.new ≡ (if is_ok result then pushed index self.old else self.old) }
+            self.new ≡ (if is_ok result then stacked index self.old else self.old) }
     {
         match index {
             None => Ok(()),

@@ -7,7 +7,7 @@ ghost use Rattle.sval_label.specs.Equalities as equal;
 ghost use Rattle.sval_core.specs.Trees.{plain_name, text_kind};
 ghost use Rattle.sval_core.specs.SameNames as same;
 ghost use Rattle.sval_core.specs.CheckerSteps.{may_hold};
-ghost use Rattle.sval_check.specs.Kept.{parts_of, is_container_value, means_text};
+ghost use Rattle.sval_check.specs.Kept.{parts_in, is_container_value, means_text};
 ghost use Rattle.sval_check.specs.Frames.{seen_form};
 
 use crate::frame::Form;
@@ -40,7 +40,7 @@ impl NameParts {
     /// The parts that a name has.
     #[inline(always)]
     pub(crate) fn of(name: Name<'_>) -> NameParts
-        ensures { result ≡ parts_of (plain_name (seen_name name.entry)) }
+        ensures { result ≡ parts_in (plain_name (seen_name name.entry)) }
     {
         NameParts {
             tag: name.tag.is_some(),

@@ -6,7 +6,7 @@ ghost use Rattle.sval_label.specs.Equalities as equal;
 ghost use Rattle.sval_core.specs.SameNames as same;
 ghost use Rattle.sval_core.specs.Trees.{plain_label};
 ghost use Rattle.sval_core.specs.Stacks.{below};
-ghost use Rattle.sval_check.specs.Stacked.{pushed, below_if, label_in};
+ghost use Rattle.sval_check.specs.Stacked.{stacked, below_if, label_in};
 
 use crate::tags::Tags;
 use std::alloc::Global;
@@ -54,7 +54,7 @@ impl Labels {
     #[inline(always)]
     pub(crate) fn put(&mut self, label: Option<&Label<'_>>) -> Result<(), NoMemory>
         ensures { let label = option_map plain_label (option_map (λ label. label.now) label.entry) in
-            self.new ≡ (if is_ok result then pushed label self.old else self.old) }
+            self.new ≡ (if is_ok result then stacked label self.old else self.old) }
     {
         match label {
             None => Ok(()),

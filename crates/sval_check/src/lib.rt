@@ -24,6 +24,7 @@ mod kept;
 mod labels;
 pub mod laws;
 mod left;
+mod lefts;
 mod lister;
 mod machine;
 mod matching;

@@ -4,7 +4,7 @@ ghost use Rattle.std.specs.Prelude.{◌≡◌, [], is_ok, None, if◌then◌else
 ghost use Rattle.sval_label.specs.SeenName.{seen_name, name_of};
 ghost use Rattle.sval_core.specs.SameNames as same;
 ghost use Rattle.sval_core.specs.Trees.{plain_name};
-ghost use Rattle.sval_check.specs.Kept.{with_name, name_of_parts};
+ghost use Rattle.sval_check.specs.Kept.{with_name, innermost_name};
 ghost use Rattle.sval_check.specs.Frames.{names_around};
 
 use crate::frame::Frame;
@@ -110,7 +110,7 @@ impl Names {
     /// A name is the innermost one, which has these parts.
     #[inline(always)]
     pub(crate) fn is_name(&self, parts: NameParts, name: Name<'_>) -> bool
-        ensures { result ≡ same.same_name (seen_name name.entry) (name_of_parts parts self.now) }
+        ensures { result ≡ same.same_name (seen_name name.entry) (innermost_name parts self.now) }
     {
         same_tag(name.tag, self.tags.top(parts.tag))
             && self.labels.are(parts.label, name.label)

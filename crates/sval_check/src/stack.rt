@@ -8,16 +8,15 @@ ghost use Rattle.sval_core.specs.Checker.{InPart};
 ghost use Rattle.sval_core.specs.CheckerSteps.{admits, is_used_up};
 ghost use Rattle.sval_core.specs.SameNames.{same_name};
 ghost use Rattle.sval_core.specs.Stacks.{top_of, below};
-ghost use Rattle.sval_check.specs.Stacked.{below_if};
-ghost use Rattle.sval_check.specs.Kept.{value_frame, name_of_parts, with_name};
+ghost use Rattle.sval_check.specs.Kept.{value_frame, innermost_name, with_name};
 ghost use Rattle.sval_check.specs.Frames.{begun_frame, innermost_left, seen_form};
 ghost use Rattle.sval_check.specs.Tops.{is_tagged, is_enum, is_slot, may_end_with, content_ends, content_rest, part_rest};
-ghost use Rattle.sval_check.specs.Tops.{with_left, advanced, is_container_top, lefts_after, lefts_after_around};
-ghost use Rattle.sval_check.specs.Tops.{after_part, on_top, under_top};
+ghost use Rattle.sval_check.specs.Tops.{with_left, after_part, under_top};
 
 use crate::frame::{Begin, Content, Form, Frame};
 use crate::kept::{NameParts, NamedValue, may_hold, same_tag};
 use crate::left::{is_used_up, take_off};
+use crate::lefts::{advance, advance_around, innermost_left, put_left, take_left};
 use crate::names::Names;
 use std::alloc::Global;
 use std::marker::Model;
@@ -53,90 +52,13 @@ fn innermost(frames: &[Frame]) -> Option<Frame>
     frames.last().copied()
 }
 
-/// What is still to come of the innermost text, binary or container, if its size was given.
-#[inline(always)]
-fn innermost_left(lefts: &[Option<usize>]) -> Option<usize>
-    ensures { result ≡ innermost_left (reverse lefts.now) }
-{
-    match lefts.last() {
-        Some(left) => *left,
-        None => None,
-    }
-}
-
 /// The innermost frame is a container with a name, which has these parts, and may end with this name.
 #[inline(always)]
 fn named_ends(names: &Names, lefts: &[Option<usize>], parts: NameParts, name: Name<'_>) -> bool
-    ensures { result ≡ (same_name (seen_name name.entry) (name_of_parts parts names.now)
+    ensures { result ≡ (same_name (seen_name name.entry) (innermost_name parts names.now)
         && is_used_up (innermost_left (reverse lefts.now))) }
 {
     names.is_name(parts, name) && is_used_up(innermost_left(lefts))
-}
-
-/// Puts what is still to come of the innermost text, binary or container.
-#[inline(always)]
-fn put_left(lefts: &mut [Option<usize>], left: Option<usize>)
-    ensures { reverse lefts.new ≡ on_top (λ _. left) (reverse lefts.old) }
-{
-    if let Some(innermost) = lefts.last_mut() {
-        *innermost = left;
-    }
-}
-
-/// Puts a part into the innermost frame, where it is a container, and says whether it is.
-#[inline(always)]
-fn advance_frame(frames: &mut [Frame]) -> bool
-    ensures frames { reverse frames.new ≡ on_top advanced (reverse frames.old) }
-    ensures is_container { result ≡ is_container_top (reverse frames.old) }
-{
-    match frames.last_mut() {
-        None => false,
-        Some(top) => {
-            let is_container = top.is_container();
-            *top = top.advanced();
-            is_container
-        }
-    }
-}
-
-/// Puts a part into the innermost frame, where it is a container. `left` is the number of its entries that are still to
-/// come after the part.
-#[inline(always)]
-fn advance(frames: &mut [Frame], lefts: &mut [Option<usize>], left: Option<usize>)
-    ensures frames { reverse frames.new ≡ on_top advanced (reverse frames.old) }
-    ensures lefts { reverse lefts.new ≡ lefts_after left (reverse frames.old) (reverse lefts.old) }
-{
-    if advance_frame(frames) {
-        put_left(lefts, left);
-    }
-}
-
-/// Puts a part into the frame around the innermost one, where it is a container. `left` is the number of its entries
-/// that are still to come after the part.
-fn advance_around(frames: &mut [Frame], lefts: &mut [Option<usize>], left: Option<usize>)
-    ensures frames { reverse frames.new ≡ under_top (on_top advanced) (reverse frames.old) }
-    ensures lefts { reverse lefts.new ≡ lefts_after_around left (reverse frames.old) (reverse lefts.old) }
-{
-    if let Some((top, around)) = frames.split_last_mut() {
-        if top.has_left() {
-            advance_under(around, lefts, left);
-        } else {
-            advance(around, lefts, left);
-        }
-    }
-}
-
-/// Puts a part into the innermost of these frames, where it is a container, around another whose rest is the innermost.
-fn advance_under(frames: &mut [Frame], lefts: &mut [Option<usize>], left: Option<usize>)
-    ensures frames { reverse frames.new ≡ on_top advanced (reverse frames.old) }
-    ensures lefts { reverse lefts.new ≡ under_top (lefts_after left (reverse frames.old)) (reverse lefts.old) }
-{
-    match lefts.split_last_mut() {
-        None => {
-            let _ = advance_frame(frames);
-        }
-        Some((_innermost, around)) => advance(frames, around, left),
-    }
 }
 
 /// Puts a frame on the others, with its name, which has these parts.
@@ -157,16 +79,6 @@ fn push_frame(
     names.keep(tag, label, index)?;
     frames.push_reserved(frame);
     Ok(())
-}
-
-/// Takes off what is still to come of the innermost frame, where that is kept.
-#[inline(always)]
-fn take_left(lefts: &mut Vec<Option<usize>>, has_left: bool)
-    ensures { reverse lefts.new.items ≡ below_if has_left (reverse lefts.old.items) }
-{
-    if has_left {
-        let _ = lefts.pop();
-    }
 }
 
 impl Stack {

@@ -3,7 +3,7 @@
 ghost use Rattle.std.specs.Prelude.{◌≡◌, [], is_ok, if◌then◌else◌, option_map};
 ghost use Rattle.sval_label.specs.SeenTags.{seen_tag};
 ghost use Rattle.sval_label.specs.SeenName.{seen_option_tag};
-ghost use Rattle.sval_check.specs.Stacked.{pushed, top_if, below_if};
+ghost use Rattle.sval_check.specs.Stacked.{stacked, top_if, below_if};
 
 use std::alloc::Global;
 use std::marker::Model;
@@ -38,7 +38,7 @@ impl Tags {
     /// Puts a tag on the others, if there is one.
     #[inline(always)]
     pub(crate) fn put(&mut self, tag: Option<&Tag>) -> Result<(), NoMemory>
-        ensures { self.new ≡ (if is_ok result then pushed (seen_option_tag tag.entry) self.old else self.old) }
+        ensures { self.new ≡ (if is_ok result then stacked (seen_option_tag tag.entry) self.old else self.old) }
     {
         match tag {
             None => Ok(()),

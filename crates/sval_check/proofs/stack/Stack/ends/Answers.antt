@@ -5,7 +5,7 @@ use Rattle.sval_core.specs.CheckerSteps.{is_used_up}
 use Rattle.sval_core.specs.SameNames.{same_name}
 use Rattle.sval_core.specs.Stacks.{top_of}
 use Rattle.sval_check.specs.declared.frame.Frame.TheVariants as frame
-use Rattle.sval_check.specs.Kept.{name_of_parts}
+use Rattle.sval_check.specs.Kept.{innermost_name}
 use Rattle.sval_check.specs.Frames.{frame_in, innermost_left}
 use Rattle.sval_check.specs.Tops.{may_end_with}
 use Rattle.sval_check.proofs.Tops.{top_is}
@@ -18,7 +18,7 @@ returns-in-Some-Record-Record c =
     let left = innermost_left (reverse inside.lefts.items) in
     let top : top_of (reverse inside.frames.items) ≡ Some (frame.Record parts) = cc (c.in-Some-Record-Record.ensures) in
     c.named_ends.ensures
-    ∙ ap (λ lefts. same_name (seen_name c.in-Some-Record-Record.name) (name_of_parts parts inside.names) && is_used_up (innermost_left (reverse lefts))) c.deref-in-Some-Record-Record.ensures.value
+    ∙ ap (λ lefts. same_name (seen_name c.in-Some-Record-Record.name) (innermost_name parts inside.names) && is_used_up (innermost_left (reverse lefts))) c.deref-in-Some-Record-Record.ensures.value
     ∙ ap (λ head. may_end_with (Some (frame_in (frame.Record parts) left inside.names)) (seen_head head)) (sym c.in-Some-Record-Record.is-1)
     ∙ ap (λ top. may_end_with top (seen_head c.args.head)) (top_is (reverse inside.frames.items) (reverse inside.lefts.items) inside.names _ top ∙ ap (λ frames. top_of frames) c.self.view_is)
 
@@ -29,7 +29,7 @@ returns-in-Some-Tuple-Tuple c =
     let left = innermost_left (reverse inside.lefts.items) in
     let top : top_of (reverse inside.frames.items) ≡ Some (frame.Tuple parts) = cc (c.in-Some-Tuple-Tuple.ensures) in
     c.named_ends-in-Some-Tuple-Tuple.ensures
-    ∙ ap (λ lefts. same_name (seen_name c.in-Some-Tuple-Tuple.name) (name_of_parts parts inside.names) && is_used_up (innermost_left (reverse lefts))) c.deref-in-Some-Tuple-Tuple.ensures.value
+    ∙ ap (λ lefts. same_name (seen_name c.in-Some-Tuple-Tuple.name) (innermost_name parts inside.names) && is_used_up (innermost_left (reverse lefts))) c.deref-in-Some-Tuple-Tuple.ensures.value
     ∙ ap (λ head. may_end_with (Some (frame_in (frame.Tuple parts) left inside.names)) (seen_head head)) (sym c.in-Some-Tuple-Tuple.is-1)
     ∙ ap (λ top. may_end_with top (seen_head c.args.head)) (top_is (reverse inside.frames.items) (reverse inside.lefts.items) inside.names _ top ∙ ap (λ frames. top_of frames) c.self.view_is)
 
@@ -40,6 +40,6 @@ returns-in-Some-RecordTuple-RecordTuple c =
     let left = innermost_left (reverse inside.lefts.items) in
     let top : top_of (reverse inside.frames.items) ≡ Some (frame.RecordTuple parts) = cc (c.in-Some-RecordTuple-RecordTuple.ensures) in
     c.named_ends-in-Some-RecordTuple-RecordTuple.ensures
-    ∙ ap (λ lefts. same_name (seen_name c.in-Some-RecordTuple-RecordTuple.name) (name_of_parts parts inside.names) && is_used_up (innermost_left (reverse lefts))) c.deref-in-Some-RecordTuple-RecordTuple.ensures.value
+    ∙ ap (λ lefts. same_name (seen_name c.in-Some-RecordTuple-RecordTuple.name) (innermost_name parts inside.names) && is_used_up (innermost_left (reverse lefts))) c.deref-in-Some-RecordTuple-RecordTuple.ensures.value
     ∙ ap (λ head. may_end_with (Some (frame_in (frame.RecordTuple parts) left inside.names)) (seen_head head)) (sym c.in-Some-RecordTuple-RecordTuple.is-1)
     ∙ ap (λ top. may_end_with top (seen_head c.args.head)) (top_is (reverse inside.frames.items) (reverse inside.lefts.items) inside.names _ top ∙ ap (λ frames. top_of frames) c.self.view_is)
