@@ -26,6 +26,7 @@ use sval_io::{Sink, SinkError, write_all};
 /// # Errors
 ///
 /// Those of the sink, after a first part of the bytes.
+#[inline(always)]
 pub fn write_text_string<K: Sink>(out: &mut K, text: &str) -> Result<(), SinkError>
     ensures { WritesAll result (K.told out.old) (string 3 text.now) (K.told out.new) }
 {
@@ -37,6 +38,7 @@ pub fn write_text_string<K: Sink>(out: &mut K, text: &str) -> Result<(), SinkErr
 /// # Errors
 ///
 /// Those of the sink, after a first part of the bytes.
+#[inline(always)]
 pub fn write_i64<K: Sink>(out: &mut K, number: i64) -> Result<(), SinkError>
     ensures { WritesAll result (K.told out.old) (integer number) (K.told out.new) }
 {

@@ -7,7 +7,7 @@ ghost use Rattle.sval_cbor.specs.SeenWriter.{seen_integer};
 
 use crate::integer::Integer;
 use crate::style::Lengths;
-use sval_io::{Sink, SinkError, write_all};
+use sval_io::{Sink, SinkError, write_all, write_in_place};
 
 /// The major type of byte strings.
 const BYTE_STRING: u8 = 2;
@@ -18,16 +18,30 @@ const TEXT: u8 = 3;
 /// How many bytes a number of 128 bits takes with its tag and its head.
 const BIGNUM_ROOM: usize = 18;
 
-/// Writes a head: a major type and a number, in as few bytes as hold the number (RFC 8949, sections 3 and 4.2.1).
+/// Writes a head: a major type and a number, in as few bytes as hold the number (RFC 8949, sections 3 and 4.2.1). Most
+/// are one byte.
+#[inline(always)]
 #[tactic(auto, unfolding(crate::specs::Cbor::head_bytes))]
 pub(crate) fn write_head<K: Sink>(sink: &mut K, major: u8, number: u64) -> Result<(), SinkError>
     requires { major < 8 }
     ensures { WritesAll result (K.told sink.old) (head_bytes major number) (K.told sink.new) }
 {
-    let first = major * 32;
     if number < 24 {
-        write_all(sink, &[first + number as u8])
-    } else if number < 0x100 {
+        return write_in_place(sink, &[major * 32 + number as u8]);
+    }
+    write_wide_head(sink, major, number)
+}
+
+/// Writes a head of more than one byte.
+#[inline(never)]
+#[tactic(auto, unfolding(crate::specs::Cbor::head_bytes))]
+fn write_wide_head<K: Sink>(sink: &mut K, major: u8, number: u64) -> Result<(), SinkError>
+    requires small { major < 8 }
+    requires wide { 24 ≤ number }
+    ensures { WritesAll result (K.told sink.old) (head_bytes major number) (K.told sink.new) }
+{
+    let first = major * 32;
+    if number < 0x100 {
         write_all(sink, &[first + 24, number as u8])
     } else if number < 0x1_0000 {
         let b = (number as u16).to_be_bytes();
@@ -105,11 +119,12 @@ pub(crate) fn write_integer<K: Sink>(sink: &mut K, number: Integer) -> Result<()
 }
 
 /// Writes a text: its head, and its bytes as they are.
+#[inline(always)]
 pub(crate) fn write_text<K: Sink>(sink: &mut K, text: &[u8]) -> Result<(), SinkError>
     ensures { WritesAll result (K.told sink.old) (string 3 text.now) (K.told sink.new) }
 {
     write_head(sink, TEXT, text.len() as u64)?;
-    write_all(sink, text)
+    write_in_place(sink, text)
 }
 
 /// Writes a byte string: its head, and its bytes.

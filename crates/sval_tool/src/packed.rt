@@ -59,6 +59,7 @@ fn put_bytes(bytes: &[u8], out: &mut VecSink) -> Result<(), Unpacked>
 
 /// Puts an integer.
 #[tactic(auto, using(crate::proofs::TakenBytes::took))]
+#[inline(always)]
 fn put_i64(number: i64, out: &mut VecSink) -> Result<(), Unpacked>
     ensures { TakesDue result (Ok (integer number)) out.old out.new }
 {
@@ -83,6 +84,7 @@ fn put_number(text: &str, out: &mut VecSink) -> Result<(), Unpacked>
 
 /// Puts a text string.
 #[tactic(auto, using(crate::proofs::TakenBytes::took))]
+#[inline(always)]
 fn put_string(text: &str, out: &mut VecSink) -> Result<(), Unpacked>
     ensures { TakesDue result (Ok (string 3 text.now)) out.old out.new }
 {
@@ -93,6 +95,7 @@ fn put_string(text: &str, out: &mut VecSink) -> Result<(), Unpacked>
 }
 
 /// Puts a string. It copies one that has an escape.
+#[inline(always)]
 fn put_text(alloc: Global, text: &JsonText<'_>, out: &mut VecSink) -> Result<(), Unpacked>
     ensures { TakesDue result (Ok (string 3 text.now)) out.old out.new }
 {
@@ -107,6 +110,7 @@ fn put_text(alloc: Global, text: &JsonText<'_>, out: &mut VecSink) -> Result<(),
 
 /// Puts a token.
 #[tactic(auto, using(crate::proofs::TakenBytes::by_mark))]
+#[inline(always)]
 fn put_token(alloc: Global, token: &JsonToken<'_>, out: &mut VecSink) -> Result<(), Unpacked>
     ensures { TakesDue result (token_bytes token.now.token) out.old out.new }
 {
