@@ -84,7 +84,17 @@ impl Outer {
         self.frames.len()
     }
 
+    /// Whether this frame takes no more memory.
+    #[inline(always)]
+    pub(crate) fn has_room_for(&self, frame: Frame) -> bool {
+        let (Frame::Items(left) | Frame::Keys(left) | Frame::Values(left)) = frame;
+        let is_counted = left.unwrap_or(0) > 0;
+        self.frames.len() < self.frames.capacity()
+            && (!is_counted || self.counts.len() < self.counts.capacity())
+    }
+
     /// Lets all frames go.
+    #[inline(always)]
     pub(crate) fn clear(&mut self)
         ensures { self.new ≡ [] }
     {
@@ -94,6 +104,7 @@ impl Outer {
 
     /// Keeps a frame that has no count.
     #[tactic(auto, using(crate::proofs::KeptFrames::uncounted))]
+    #[inline(always)]
     fn keep(&mut self, kept: Kept) -> Result<(), NoMemory>
         requires { is_counted kept ≡ false }
         ensures { IfOk result (λ done. self.new ≡ kept_frame kept 0 ∷ self.old) }
@@ -104,6 +115,7 @@ impl Outer {
 
     /// Keeps a frame and its count.
     #[tactic(auto, using(crate::proofs::KeptFrames::counted))]
+    #[inline(always)]
     fn keep_counted(&mut self, kept: Kept, count: usize) -> Result<(), NoMemory>
         requires { is_counted kept ≡ true }
         ensures { IfOk result (λ done. self.new ≡ kept_frame kept count ∷ self.old) }
@@ -114,6 +126,7 @@ impl Outer {
     }
 
     /// Puts a frame within the others.
+    #[inline(always)]
     pub(crate) fn push(&mut self, frame: Frame) -> Result<(), NoMemory>
         ensures { IfOk result (λ done. self.new ≡ frame_of frame ∷ self.old) }
     {

@@ -31,7 +31,9 @@ pub(crate) struct Stack {
     alloc: Global,
 }
 
-/// These frames with another one behind them, or none where there is no other one.
+/// These frames with another one behind them, or none where there is no other one. They are taken by value, so that the
+/// reader stays in registers.
+#[cold]
 #[inline(never)]
 fn with_inner(mut outer: Outer, inner: Option<Frame>) -> Result<Outer, NoMemory>
     ensures { IfOk result (λ all. all ≡ open_frames inner outer) }
@@ -81,13 +83,18 @@ impl Stack {
         self.top.is_some() && self.outer.len() >= depth
     }
 
-    /// Opens an array or a map in the innermost one.
+    /// Opens an array or a map in the innermost one. Where there is room the frame around it is kept in place.
     #[inline(always)]
     pub(crate) fn push(&mut self, frame: Frame) -> Result<(), NoMemory>
         ensures { IfOk result (λ done. self.new ≡ frame_of frame ∷ self.old) }
     {
-        let outer = replace(&mut self.outer, Outer::new(self.alloc));
-        let _none = replace(&mut self.outer, with_inner(outer, self.top)?);
+        match self.top {
+            Some(inner) if self.outer.has_room_for(inner) => self.outer.push(inner)?,
+            top => {
+                let outer = replace(&mut self.outer, Outer::new(self.alloc));
+                let _none = replace(&mut self.outer, with_inner(outer, top)?);
+            },
+        }
         self.top = Some(frame);
         Ok(())
     }
