@@ -11,6 +11,8 @@ EVENTS = 70_000
 WHOLE = 900_000
 FRACTIONS = 700_000
 ESCAPES = 400_000
+MIXED = 60_000
+PARTS = ["a", "b", "c", "\\n", "\\t", "\\\"", "\\u00e9", "\\u0001"]
 BRACKETS = 4_000_000
 SMALL = 8_000_000
 
@@ -34,12 +36,14 @@ def documents():
     whole = ",".join(str(source.randrange(-(10**9), 10**12)) for _ in range(WHOLE))
     fractions = ",".join(f"{source.uniform(-1000, 1000):.9g}" for _ in range(FRACTIONS))
     escapes = json.dumps(["line\n\"quoted\" \\ tab\t" for _ in range(ESCAPES)], separators=(",", ":"))
+    mixed = ",".join('"' + "".join(source.choices(PARTS, k=40)) + '"' for _ in range(MIXED))
     yield "log.json", compact.encode()
     yield "lines.json", "".join(json.dumps(it, separators=(",", ":")) + "\n" for it in events).encode()
     yield "pretty.json", json.dumps(events, indent=2).encode()[:LIMIT]
     yield "whole.json", f"[{whole}]".encode()
     yield "fractions.json", f"[{fractions}]".encode()
     yield "escapes.json", escapes.encode()
+    yield "mixed.json", f"[{mixed}]".encode()
     yield "brackets.json", b"[" * BRACKETS + b"]" * BRACKETS
     yield "brackets.cbor", b"\x81" * SMALL + b"\x01"
     yield "small.cbor", b"\x9f" + bytes(number % 24 for number in range(SMALL)) + b"\xff"
