@@ -34,6 +34,7 @@ pub mod ReaderPlaces
 pub mod StringCuts
 pub mod PieceStreams
 pub mod NodeStreams
+pub mod JoinedParts
 pub mod KeptDocuments
 pub mod NumberStreams
 pub mod KeptTokens
@@ -44,8 +45,9 @@ pub mod Passed
 mod examples
 pub mod TokenTexts
 pub mod NodeTexts
+mod BackslashLanes
+pub mod DueEscapes
 pub mod TextParts
-pub mod PendingParts
 pub mod DueTexts
 pub mod OneDue
 mod SpanTokens

@@ -1,31 +1,23 @@
--- Pieces of a text that stand one directly behind the other, and parts without a backslash.
-use Rattle.std.specs.Prelude.{◌≡◌, ℕ, ◌+◌, ◌-◌, ◌<◌, ◌≤◌, Bool, true, false, not, ◌&&◌, ◌||◌, ◌==◌, nat_lt, if◌then◌else◌, List, [], ◌∷◌, ◌++◌, codes, length, drop, take, get_or, Option, Some, None, IfSome, refl}
+-- Pieces of a text that stand one directly behind the other, and parts whose escapes are written again as they are.
+use Rattle.std.specs.Prelude.{◌≡◌, ℕ, ◌+◌, ◌-◌, ◌<◌, ◌≤◌, true, false, ◌==◌, List, [], ◌∷◌, ◌++◌, codes, length, drop, take, get_or, Option, Some, None, IfSome, refl}
 use Rattle.std.specs.List.{between, list_all, starts_with}
-use Rattle.std.specs.Str.{bytes_eq}
-use Rattle.std.proofs.Common.{sym, ap, subst, ◌∙◌, arith, take-append-drop, length-take-le, length-drop, length-append}
-use Rattle.std.proofs.lemmas.Bool.{and_from, and_parts}
+use Rattle.std.proofs.Common.{sym, ap, subst, ◌∙◌, arith, inl, inr, take-append-drop, length-take-le, length-drop, length-append}
+use Rattle.std.proofs.lemmas.Bool.{cases_lt, eqb-true}
 use Rattle.std.proofs.lemmas.Bool.Decides.{Decides-eqb}
 use Rattle.std.proofs.lemmas.List.{take_at}
-use Rattle.std.proofs.lemmas.List.Edits.{between_more, between_none, length-between}
-use Rattle.std.proofs.lemmas.List.Folds.{list_all-append}
-use Rattle.std.proofs.lemmas.List.Sums.{AllPass-from_list_all}
+use Rattle.std.proofs.lemmas.List.Edits.{between_more, between_none, get_or-between, length-between}
 use Rattle.std.proofs.lemmas.Slice.{between_to_end}
 use Rattle.std.proofs.lemmas.Slice.Eq.{starts_is}
-use Rattle.memchr.specs.Find.{Nowhere, Passes, is_byte}
-use Rattle.sval_json.specs.Escape.{escaped, in_quotes, is_plain}
-use Rattle.sval_json.proofs.EscapedPieces.{escaped-plain}
-use Rattle.sval_json_read.specs.RawStrings.{IsRaw, plain, short, unit, pair, is_no_backslash}
+use Rattle.memchr.specs.Find.{is_byte}
+use Rattle.sval_json.specs.Escape.{escaped, in_quotes}
+use Rattle.sval_json_read.specs.DueEscapes.{HasDueEscapes, done}
+use Rattle.sval_json_read.specs.RawStrings.{IsRaw, is_no_backslash}
 use Rattle.sval_json_read.specs.SeenValues.{text_in}
-use Rattle.sval_json_read.specs.Trees.{settled_number}
-use Rattle.sval_json_read.specs.TextParts.{part_bytes, IsPlainPart, IsTextPiece}
+use Rattle.sval_json_read.specs.TextParts.{IsReadyPart, IsTextPiece}
 use Rattle.sval_json_read.specs.declared.text_part.TextPart.{TextPart}
+use Rattle.sval_json_read.proofs.DueEscapes.{due_joined, due_plain, due_behind_quote, due_front, due_string, IsDueFront}
 use Rattle.sval_json_read.proofs.ExtendedPieces.{cut_out}
-use Rattle.sval_json_read.proofs.NodeTexts.{one_run_text}
 use Rattle.sval_json_read.proofs.PlainRuns.{between_run}
-use Rattle.sval_json_read.proofs.StringCuts.{no_backslashes}
-
-pub no_piece : (text : List ℕ) (at : ℕ) → at ≤ length text → IsTextPiece text at at []
-no_piece text at w = record { order = omega arith; within = w; same = between_none text at }
 
 pub own_piece : (text : List ℕ) (from upto : ℕ) → from ≤ upto → upto ≤ length text → IsTextPiece text from upto (between from upto text)
 own_piece text from upto o w = record { order = o; within = w; same = refl }
@@ -58,6 +50,18 @@ pub quoted_if : {text : List ℕ} {at : ℕ} (from to : ℕ) (found : Option ℕ
     → IfSome found (λ upto. IsTextPiece text to upto (codes "\"")) → IfSome found (λ upto. IsTextPiece text at upto (in_quotes (between from to text)))
 quoted_if {text} from to found p o w q = joined_if (between from to text ++ codes "\"") found p (joined_if (codes "\"") found (own_piece text from to o w) q)
 
+-- a byte is where its piece ends
+piece_last : {text : List ℕ} {at upto byte : ℕ} → IsTextPiece text at upto (byte ∷ []) → get_or text (upto - 1) 0 ≡ byte
+piece_last {text} {at} {upto} {byte} p =
+    let o = p.order in
+    let size : 1 ≡ upto - at = ap length (sym p.same) ∙ length-between text at upto p.within in
+    let here : upto - 1 ≡ at + 0 = omega (arith, size) in
+    ap (λ k. get_or text k 0) here ∙ sym (get_or-between text at upto 0 0 (omega (arith, size))) ∙ ap (λ row. get_or row 0 0) p.same
+
+pub quote_if : {text : List ℕ} {at from : ℕ} (found : Option ℕ) → IsTextPiece text at from (codes "\"") → IfSome found (λ upto. get_or text (from - 1) 0 ≡ 34)
+quote_if None p = tt
+quote_if (Some upto) p = piece_last p
+
 -- where the code tests for a word
 pub piece_by_test : (text word : List ℕ) (at : ℕ) → at ≤ length text → true ≡ starts_with ◌==◌ (between at (length text) text) word → IsTextPiece text at (at + length word) word
 piece_by_test text word at w t =
@@ -72,73 +76,79 @@ piece_by_test text word at w t =
           (length-take-le at text w) (omega arith);
     }
 
--- a number that isn't `-0` is written as it stands
-pub number_piece : (text : List ℕ) (at from to : ℕ) → at ≡ from → from ≤ to → to ≤ length text → bytes_eq (between from to text) (codes "-0") ≡ false → IsTextPiece text at to (settled_number (between from to text))
-number_piece text at from to e o w n = record {
-  order = omega arith;
-  within = w;
-  same = ap (λ k. between k to text) e ∙ sym (ap (λ b. if b then codes "0" else between from to text) n);
-}
+-- ---- parts whose escapes are written again as they are
 
--- ---- without a backslash
+pub ready_nothing : (text : List ℕ) (at : ℕ) → at ≤ length text → IsReadyPart text (record { from = at; to = at })
+ready_nothing text at w = record { part_of = record { order = omega arith; within = w }; due = subst HasDueEscapes (sym (between_none text at)) done }
 
-pub plain_nothing : (text : List ℕ) → IsPlainPart text (record { from = 0; to = 0 })
-plain_nothing text = record { part_of = record { order = omega arith; within = omega arith }; plain = refl }
-
--- what stands in front of the first backslash that is found, or in all that was looked at
-pub plain_front : (text : List ℕ) (from to upto n : ℕ) → from + n ≡ to → to ≤ upto → upto ≤ length text → Nowhere (Passes (is_byte 92) (between from upto text)) 0 n
-    → IsPlainPart text (record { from = from; to = to })
-plain_front text from to upto n e o w h =
-    let front = between from to text in
-    let back = between to upto text in
-    let cut : between from upto text ≡ front ++ back = (pieces_joined (own_piece text from to (omega arith) (omega arith)) (own_piece text to upto o w)).same in
-    let size : length front ≡ n = length-between text from to (omega arith) ∙ (let m : to - from ≡ n = omega arith in m) in
+-- such a part, and a piece behind it
+pub ready_on : {text piece : List ℕ} {from at to : ℕ} → IsReadyPart text (record { from = from; to = at }) → IsTextPiece text at to piece → HasDueEscapes piece → IsReadyPart text (record { from = from; to = to })
+ready_on {text} {piece} {from} {at} {to} p q d =
+    let o = p.part_of.order in
+    let r = q.order in
     record {
-      part_of = record { order = omega arith; within = omega arith };
-      plain = subst (λ row. list_all is_no_backslash row ≡ true) (ap (take n) cut ∙ take_at front back n size) (no_backslashes (between from upto text) n h);
+      part_of = record { order = omega arith; within = q.within };
+      due = subst HasDueEscapes (sym (pieces_joined (own_piece text from at o (omega (arith, r, q.within))) q).same) (due_joined p.due d);
     }
 
-pub plain_all : (text : List ℕ) (from upto : ℕ) → from ≤ upto → upto ≤ length text → Nowhere (Passes (is_byte 92) (between from upto text)) 0 (length (between from upto text))
-    → IsPlainPart text (record { from = from; to = upto })
-plain_all text from upto o w h =
-    plain_front text from upto upto (upto - from) (omega arith) (omega arith) w (subst (Nowhere (Passes (is_byte 92) (between from upto text)) 0) (length-between text from upto w) h)
+-- such a part, and what stands behind it in front of the next backslash, or in all that was looked at
+pub ready_no_escape : {text : List ℕ} {from at : ℕ} (to upto n : ℕ) → IsReadyPart text (record { from = from; to = at }) → at + n ≡ to → to ≤ upto → upto ≤ length text → list_all is_no_backslash (take n (between at upto text)) ≡ true
+    → IsReadyPart text (record { from = from; to = to })
+ready_no_escape {text} {from} {at} to upto n p e o w h =
+    let front = between at to text in
+    let back = between to upto text in
+    let run : IsTextPiece text at to front = own_piece text at to (omega arith) (omega arith) in
+    let cut : between at upto text ≡ front ++ back = (pieces_joined run (own_piece text to upto o w)).same in
+    let size : length front ≡ n = length-between text at to (omega arith) ∙ (let m : to - at ≡ n = omega arith in m) in
+    ready_on p run (due_plain front (subst (λ row. list_all is_no_backslash row ≡ true) (ap (take n) cut ∙ take_at front back n size) h))
 
--- what stands in such a part
-pub plain_within : (text : List ℕ) (part : TextPart) (from to : ℕ) → IsPlainPart text part → part.from ≤ from → from ≤ to → to ≤ part.to → list_all is_no_backslash (between from to text) ≡ true
-plain_within text part from to p f o t =
-    let w = p.part_of.within in
-    let front = between part.from from text in
-    let mid = between from to text in
-    let back = between to part.to text in
-    let cut : part_bytes text part ≡ front ++ (mid ++ back) =
-    (pieces_joined (own_piece text part.from from f (omega arith)) (pieces_joined (own_piece text from to o (omega arith)) (own_piece text to part.to t w))).same in
-    let all : (list_all is_no_backslash front && list_all is_no_backslash (mid ++ back)) ≡ true = sym (list_all-append is_no_backslash front (mid ++ back)) ∙ sym (ap (list_all is_no_backslash) cut) ∙ p.plain in
-    let rest : (list_all is_no_backslash mid && list_all is_no_backslash back) ≡ true =
-    sym (list_all-append is_no_backslash mid back) ∙ (and_parts (list_all is_no_backslash front) (list_all is_no_backslash (mid ++ back)) all).1 in
-    (and_parts (list_all is_no_backslash mid) (list_all is_no_backslash back) rest).0
+-- a backslash that is found is the first byte of what is looked at next
+pub found_first : (text : List ℕ) (at upto n : ℕ) → (n < length (between at upto text) → is_byte 92 (get_or (between at upto text) n 0) ≡ true) → upto ≤ length text → at ≤ upto → at + n < upto → get_or text (at + n) 0 ≡ 92
+found_first text at upto n b w o near =
+    let size : length (between at upto text) ≡ upto - at = length-between text at upto w in
+    sym (get_or-between text at upto n 0 near) ∙ eqb-true (get_or (between at upto text) n 0) 92 (b (omega (arith, size)))
 
-plain_tests : (a b c : Bool) → (not a && not b && not c) ≡ true → not (a || b || c) ≡ true
-plain_tests true b c h = cc h
-plain_tests false true c h = cc h
-plain_tests false false true h = cc h
-plain_tests false false false h = refl
+pub found_next : (text : List ℕ) (at upto n : ℕ) → (n < length (between at upto text) → is_byte 92 (get_or (between at upto text) n 0) ≡ true) → upto ≤ length text → at ≤ upto → at + n < upto → get_or (between (at + n) upto text) 0 0 ≡ 92
+found_next text at upto n b w o near =
+    get_or-between text (at + n) upto 0 0 (omega arith) ∙ ap (λ k. get_or text k 0) (let e : at + n + 0 ≡ at + n = omega arith in e) ∙ found_first text at upto n b w o near
 
-all_plain : (raw : List ℕ) → IsRaw raw → list_all is_no_backslash raw ≡ true → list_all is_plain raw ≡ true
-all_plain [] r h = refl
-all_plain (byte ∷ bytes) (plain u r) h =
-    and_from (is_plain byte) (list_all is_plain bytes) (plain_tests (nat_lt byte 32) (byte == 34) (byte == 92) u)
-    (all_plain bytes r (and_parts (is_no_backslash byte) (list_all is_no_backslash bytes) h).1)
-all_plain (byte ∷ bytes) (short e r) h = cc h
-all_plain (byte ∷ bytes) (unit e f r) h = cc h
-all_plain (byte ∷ bytes) (pair e f g k r) h = cc h
+-- such a part, and an escape behind it
+pub ready_escape : {text : List ℕ} {from : ℕ} (at upto n : ℕ) → IsReadyPart text (record { from = from; to = at }) → upto ≤ length text → at + n ≤ upto → HasDueEscapes (take n (between at upto text)) → IsReadyPart text (record { from = from; to = at + n })
+ready_escape {text} at upto n p w o h =
+    let front = between at (at + n) text in
+    let back = between (at + n) upto text in
+    let run : IsTextPiece text at (at + n) front = own_piece text at (at + n) (omega arith) (omega arith) in
+    let cut : between at upto text ≡ front ++ back = (pieces_joined run (own_piece text (at + n) upto o w)).same in
+    let size : length front ≡ n = length-between text at (at + n) (omega arith) ∙ (let m : (at + n) - at ≡ n = omega arith in m) in
+    ready_on p run (subst HasDueEscapes (ap (take n) cut ∙ take_at front back n size) h)
 
--- a string without an escape is written as it stands
-pub plain_string : (raw : List ℕ) → IsRaw raw → list_all is_no_backslash raw ≡ true → raw ≡ escaped (text_in raw)
-plain_string raw r h = sym (ap escaped (one_run_text raw h) ∙ escaped-plain raw (AllPass-from_list_all is_plain raw (all_plain raw r h)))
+-- a string in such a part is written as it was read
+module _ {text : List ℕ} {part : TextPart} {from to : ℕ} (p : IsReadyPart text part) (o : from ≤ to) (w : to ≤ part.to) (r : IsRaw (between from to text)) where
+  abbrev due : Type 0
+  due = between from to text ≡ escaped (text_in (between from to text))
 
--- and so is its text between quotes, with what stands behind it
-pub plain_text_if : {text : List ℕ} (at : ℕ) (part : TextPart) (from to : ℕ) (behind : List ℕ) (found : Option ℕ) → IsPlainPart text part → part.from ≤ from → from ≤ to → to ≤ part.to
-    → IsRaw (between from to text) → IfSome found (λ upto. IsTextPiece text at upto (in_quotes (between from to text) ++ behind))
-    → IfSome found (λ upto. IsTextPiece text at upto (in_quotes (escaped (text_in (between from to text))) ++ behind))
-plain_text_if {text} at part from to behind found p f o t r q =
-    subst (λ row. IfSome found (λ upto. IsTextPiece text at upto (in_quotes row ++ behind))) (plain_string (between from to text) r (plain_within text part from to p f o t)) q
+  ends : IsTextPiece text from part.to (between from to text ++ between to part.to text)
+  ends = let within = p.part_of.within in pieces_joined (own_piece text from to o (omega (arith, w, within))) (own_piece text to part.to w within)
+
+  at_begin : part.from ≡ from → due
+  at_begin e = due_string (between to part.to text) r (subst HasDueEscapes (ap (λ k. between k part.to text) e ∙ ends.same) p.due)
+
+  behind_quote : part.from < from → get_or text (from - 1) 0 ≡ 34 → due
+  behind_quote l q =
+      let within = p.part_of.within in
+      let n : (from - 1) + 1 ≡ from = omega arith in
+      let quote : IsTextPiece text (from - 1) from (34 ∷ []) = subst (λ k. IsTextPiece text (from - 1) k (34 ∷ [])) n (piece_byte text (from - 1) 34 (omega (arith, o, w, within)) q) in
+      let front = own_piece text part.from (from - 1) (omega arith) (omega (arith, o, w, within)) in
+      due_string (between to part.to text) r
+      (due_behind_quote (between part.from (from - 1) text) (between from to text ++ between to part.to text) (subst HasDueEscapes (pieces_joined front (pieces_joined quote ends)).same p.due))
+
+  pub ready_string : part.from ≤ from → (part.from < from → get_or text (from - 1) 0 ≡ 34) → due
+  ready_string f q = elim (cases_lt part.from from) [ inl less ↦ behind_quote less (q less) | inr same ↦ at_begin (omega arith) ]
+
+-- a string that is cut behind such a part
+pub ready_front : (raw front rest : List ℕ) (part : TextPart) → IsReadyPart raw part → part.from ≡ 0 → IsRaw raw → front ≡ take part.to raw → rest ≡ drop part.to raw → IsDueFront front rest
+ready_front raw front rest part p b r f g =
+    let bytes : between part.from part.to raw ≡ take part.to raw = ap (λ k. between k part.to raw) b ∙ ap (λ k. take k raw) (let e : part.to - 0 ≡ part.to = omega arith in e) in
+    let due : HasDueEscapes (take part.to raw) = subst HasDueEscapes bytes p.due in
+    let whole = due_front (drop part.to raw) due (subst IsRaw (sym (take-append-drop part.to raw)) r) in
+    subst (λ row. IsDueFront row rest) (sym f) (subst (IsDueFront (take part.to raw)) (sym g) whole)

@@ -21,6 +21,7 @@ pub mod SeenLimits
 pub mod LimitedTexts
 pub mod ValueSizes
 pub mod FrontEnds
+pub mod Joining
 pub mod JsonFronts
 pub mod ErrorTexts
 pub mod SeenPieces
@@ -38,5 +39,6 @@ pub mod TokenKinds
 pub mod TokenMarks
 pub mod NextCharacters
 pub mod TokenTexts
+pub mod DueEscapes
 pub mod TextParts
 pub mod TokenScripts

@@ -14,6 +14,7 @@
 mod document;
 mod escape;
 mod following;
+mod joined;
 mod json_part;
 mod json_parts;
 mod json_ref;
@@ -27,7 +28,6 @@ mod node_script;
 mod node_text;
 mod number;
 mod number_calls;
-mod pending;
 mod piece;
 pub mod pointer;
 mod program;

@@ -1,6 +1,6 @@
 //! The JSON of nodes, from the text of the document.
 
-ghost use Rattle.std.specs.Prelude.{◌≡◌, ◌≤◌, ◌++◌, ℕ, List, [], IfSome, IsCharBoundary, codes, drop, if◌then◌else◌, length, map, true};
+ghost use Rattle.std.specs.Prelude.{◌≡◌, ◌<◌, ◌≤◌, ◌++◌, ℕ, List, [], IfSome, IsCharBoundary, codes, drop, get_or, if◌then◌else◌, length, map, true};
 ghost use Rattle.std.specs.List.{between};
 ghost use Rattle.sval_io.specs.Sinks.{WritesAll};
 ghost use Rattle.sval_json.specs.Escape.{escaped, in_quotes};
@@ -10,13 +10,14 @@ ghost use Rattle.sval_json_read.specs.RawStrings.{IsRaw};
 ghost use Rattle.sval_json_read.specs.SeenNodes.{node_place, seen_node, IsKeptOf, AreKeptOf};
 ghost use Rattle.sval_json_read.specs.SeenPieces.{seen_piece};
 ghost use Rattle.sval_json_read.specs.SeenValues.{text_in};
-ghost use Rattle.sval_json_read.specs.TextParts.{IsPlainPart};
+ghost use Rattle.sval_json_read.specs.TextParts.{IsReadyPart};
 ghost use Rattle.sval_json_read.specs.TokenTexts.{begins_container, comma_at, colon_behind, placed_text, tokens_text};
 ghost use Rattle.sval_json_read.specs.Trees.{settled_number};
 
+use crate::joined::Joined;
 use crate::node::{Node, Place};
-use crate::piece::{Piece, first_piece};
-use crate::text_part::TextPart;
+use crate::piece::{Piece, first_escape};
+use crate::text_part::{TextPart, ready_part};
 use sval_io::{Sink, SinkError, write_all, write_in_place};
 use sval_json::escape::write_escaped;
 
@@ -33,18 +34,35 @@ fn write_piece<K: Sink>(piece: Piece<'_>, out: &mut K) -> Result<(), SinkError>
     }
 }
 
-/// Writes the text of a string that has an escape, run by run.
+/// What is written as it was read of the text between a string's quotes, up to an escape that may be written in another
+/// way, and what follows it.
+fn split_ready(raw: &str) -> (&str, &str)
+    requires { IsRaw raw.now }
+    ensures text { escaped (text_in raw.now) ≡ result.0.now ++ escaped (text_in result.1.now) }
+    ensures is_raw { IsRaw result.1.now }
+    ensures escape { 0 < length result.1.now → get_or result.1.now 0 0 ≡ 92 }
+    ensures shorter { length result.1.now ≤ length raw.now }
+{
+    let ready = ready_part(raw.as_bytes(), 0, raw.len());
+    raw.split_at(ready.to)
+}
+
+/// Writes the text of a string: what is written as it was read in one piece, and each other escape by itself.
 fn write_pieces<K: Sink>(raw: &str, out: &mut K) -> Result<(), SinkError>
     requires { IsRaw raw.now }
     ensures { WritesAll result (K.told out.old) (escaped (text_in raw.now)) (K.told out.new) }
 {
     let mut rest = raw;
-    while !rest.is_empty() {
-        let (piece, behind) = first_piece(rest);
-        write_piece(piece, out)?;
+    loop {
+        let (ready, other) = split_ready(rest);
+        write_all(out, ready.as_bytes())?;
+        if other.is_empty() {
+            return Ok(());
+        }
+        let (escape, behind) = first_escape(other);
+        write_piece(escape, out)?;
         rest = behind;
     }
-    Ok(())
 }
 
 /// Writes a string that has an escape, between quotes.
@@ -209,7 +227,7 @@ impl Place {
         write_all(out, number.as_bytes())
     }
 
-    /// Writes a string that has an escape with all that is due around it.
+    /// Writes a string that is not written as it was read, with all that is due around it.
     #[inline(never)]
     fn write_text_with_escape<K: Sink>(
         self,
@@ -226,7 +244,7 @@ impl Place {
         self.write_colon(out)
     }
 
-    /// Writes a string that has no escape with all that is due around it.
+    /// Writes a string that is written as it was read, with all that is due around it.
     #[inline(always)]
     fn write_plain_text<K: Sink>(
         self,
@@ -251,14 +269,14 @@ impl Place {
         }
     }
 
-    /// Writes the string from `from` up to `to` with all that is due around it. A string in the plain part is one piece,
+    /// Writes the string from `from` up to `to` with all that is due around it. A string that the ready part has is one piece,
     /// as it was read, if the bytes around it are what is due.
     #[inline(always)]
     fn write_text<K: Sink>(
         self,
         is_first: bool,
         text: &str,
-        plain: TextPart,
+        ready: TextPart,
         from: usize,
         to: usize,
         out: &mut K,
@@ -267,12 +285,12 @@ impl Place {
         requires begin { IsCharBoundary text.now from }
         requires end { IsCharBoundary text.now to }
         requires raw { IsRaw (between from to text.now) }
-        requires plain { IsPlainPart text.now plain }
+        requires ready { IsReadyPart text.now ready }
         ensures { WritesAll result (K.told out.old) (comma_at is_first (node_place self)
             ++ (in_quotes (escaped (text_in (between from to text.now))) ++ colon_behind (node_place self)))
             (K.told out.new) }
     {
-        if from < plain.from || plain.to < to {
+        if !ready.has_string(text.as_bytes(), from, to) {
             return self.write_text_with_escape(is_first, &text[from..to], out);
         }
         self.write_plain_text(is_first, text.as_bytes(), from, to, out)
@@ -291,17 +309,17 @@ impl Node {
         }
     }
 
-    /// Writes it behind its comma, from the text of the document. No backslash is in the plain part of that.
+    /// Writes it behind its comma, from the text of the document. A string that the ready part has is written as it was read.
     #[inline(always)]
     pub(crate) fn write<K: Sink>(
         self,
         text: &str,
-        plain: TextPart,
+        ready: TextPart,
         is_first: bool,
         out: &mut K,
     ) -> Result<(), SinkError>
         requires kept { IsKeptOf text.now self }
-        requires plain { IsPlainPart text.now plain }
+        requires ready { IsReadyPart text.now ready }
         ensures { WritesAll result (K.told out.old) (placed_text is_first (placed_in text.now (seen_node self)))
             (K.told out.new) }
     {
@@ -313,7 +331,7 @@ impl Node {
                 place.write_number(is_first, text, from, from + length as usize, out)
             },
             Node::Text(place, length, from) => {
-                place.write_text(is_first, text, plain, from, from + length as usize, out)
+                place.write_text(is_first, text, ready, from, from + length as usize, out)
             },
             Node::BeginArray(place, _) => place.write_word(is_first, b",[", out),
             Node::EndArray(_) => write_in_place(out, b"]"),
@@ -323,20 +341,20 @@ impl Node {
     }
 }
 
-/// Writes nodes, one after another, from the text of the document. Those that follow each other in it just as they are
-/// written are one piece.
+/// Writes nodes, one after another, from the text of the document. Short ones are joined, so that the sink takes many of
+/// them at once.
 pub(crate) fn write_nodes<K: Sink>(text: &str, nodes: &[Node], out: &mut K) -> Result<(), SinkError>
     requires { AreKeptOf text.now nodes.now }
     ensures { WritesAll result (K.told out.old) (tokens_text true (tokens_in text.now (map seen_node nodes.now)))
         (K.told out.new) }
 {
-    let mut plain = TextPart { from: 0, to: 0 };
-    let mut pending = TextPart { from: 0, to: 0 };
+    let mut ready = TextPart { from: 0, to: 0 };
+    let mut joined = Joined::new();
     let mut is_first = true;
     for node in nodes {
-        plain = node.plain_around(text, plain);
-        pending = node.write_next(text, plain, is_first, pending, out)?;
+        ready = node.ready_around(text, ready);
+        node.write_next(text, ready, is_first, &mut joined, out)?;
         is_first = node.is_begin();
     }
-    write_all(out, &text.as_bytes()[pending.from..pending.to])
+    joined.pass_on(out)
 }

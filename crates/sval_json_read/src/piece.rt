@@ -34,7 +34,7 @@ pub(crate) fn first_piece(raw: &str) -> (Piece<'_>, &str)
 }
 
 /// The escape with which this begins, and what follows it.
-fn first_escape(raw: &str) -> (Piece<'_>, &str)
+pub(crate) fn first_escape(raw: &str) -> (Piece<'_>, &str)
     requires is_raw { IsRaw raw.now }
     requires some { 0 < length raw.now }
     requires backslash { get_or raw.now 0 0 ≡ 92 }
