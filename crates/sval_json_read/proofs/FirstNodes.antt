@@ -3,6 +3,8 @@ use Rattle.std.specs.Prelude.{◌≡◌, ℕ, ◌<◌, ℤ, Bool, true, false, O
 use Rattle.std.proofs.Common.{sym, ap, subst, arith}
 use Rattle.sval_json.specs.Grammar as json
 use Rattle.sval_json.specs.Grammar.{JsonValue, Values, Members, IsValue, null, truth, falsehood, number, string, empty_array, array, empty_object, object}
+use Rattle.sval_json_read.specs.declared.offset.Offset.{Offset}
+use Rattle.sval_json_read.specs.Offsets.{number_of}
 use Rattle.sval_json_read.specs.declared.node.Node.{Node}
 use Rattle.sval_json_read.specs.declared.node.Node.TheVariants as node
 use Rattle.sval_json_read.specs.declared.node.Place as made_place
@@ -81,22 +83,22 @@ module _ {bytes : List ℕ} {nodes : List Node} (a : AreOfValue bytes nodes) whe
       go : (first : Node) → get_or nodes 0 (node.Null place.Alone) ≡ first → json_truth_of (value_in (tokens_in bytes (map seen_node nodes))) ≡ None
       go (node.Null p) e = ap json_truth_of (begins a e)
       go (node.Bool p b) e = absurd (n p b e)
-      go (node.Number p size from) e = ap json_truth_of (begins a e)
-      go (node.Text p size from) e = ap json_truth_of (begins a e)
+      go (node.Number p from size) e = ap json_truth_of (begins a e)
+      go (node.Text p from size) e = ap json_truth_of (begins a e)
       go (node.BeginArray p held) e = ap json_truth_of (begins a e).1
       go (node.EndArray p) e = absurd (begins a e)
       go (node.BeginObject p held) e = ap json_truth_of (begins a e).1
       go (node.EndObject p) e = absurd (begins a e)
 
-  pub no_number : ((p : made_place.Place) (size from : ℕ) → get_or nodes 0 (node.Null place.Alone) ≡ node.Number p size from → ⊥)
+  pub no_number : ((p : made_place.Place) (from : Offset) (size : ℕ) → get_or nodes 0 (node.Null place.Alone) ≡ node.Number p from size → ⊥)
       → json_number_of (value_in (tokens_in bytes (map seen_node nodes))) ≡ None
   no_number n = go (get_or nodes 0 (node.Null place.Alone)) refl
     where
       go : (first : Node) → get_or nodes 0 (node.Null place.Alone) ≡ first → json_number_of (value_in (tokens_in bytes (map seen_node nodes))) ≡ None
       go (node.Null p) e = ap json_number_of (begins a e)
       go (node.Bool p b) e = ap json_number_of (begins a e)
-      go (node.Number p size from) e = absurd (n p size from e)
-      go (node.Text p size from) e = ap json_number_of (begins a e)
+      go (node.Number p from size) e = absurd (n p from size e)
+      go (node.Text p from size) e = ap json_number_of (begins a e)
       go (node.BeginArray p held) e = ap json_number_of (begins a e).1
       go (node.EndArray p) e = absurd (begins a e)
       go (node.BeginObject p held) e = ap json_number_of (begins a e).1
@@ -139,27 +141,27 @@ no_fit_i128 text f = rw f refl
 -- ---- arrays and objects
 
 module _ {bytes : List ℕ} {nodes : List Node} (a : AreOfValue bytes nodes) where
-  pub no_items : ((p : made_place.Place) (held : ℕ) → get_or nodes 0 (node.Null place.Alone) ≡ node.BeginArray p held → ⊥) → items_of (value_in (tokens_in bytes (map seen_node nodes))) ≡ None
+  pub no_items : ((p : made_place.Place) (held : Offset) → get_or nodes 0 (node.Null place.Alone) ≡ node.BeginArray p held → ⊥) → items_of (value_in (tokens_in bytes (map seen_node nodes))) ≡ None
   no_items n = go (get_or nodes 0 (node.Null place.Alone)) refl
     where
       go : (first : Node) → get_or nodes 0 (node.Null place.Alone) ≡ first → items_of (value_in (tokens_in bytes (map seen_node nodes))) ≡ None
       go (node.Null p) e = ap items_of (begins a e)
       go (node.Bool p b) e = ap items_of (begins a e)
-      go (node.Number p size from) e = ap items_of (begins a e)
-      go (node.Text p size from) e = ap items_of (begins a e)
+      go (node.Number p from size) e = ap items_of (begins a e)
+      go (node.Text p from size) e = ap items_of (begins a e)
       go (node.BeginArray p held) e = absurd (n p held e)
       go (node.EndArray p) e = absurd (begins a e)
       go (node.BeginObject p held) e = ap items_of (begins a e).1
       go (node.EndObject p) e = absurd (begins a e)
 
-  pub no_members : ((p : made_place.Place) (held : ℕ) → get_or nodes 0 (node.Null place.Alone) ≡ node.BeginObject p held → ⊥) → members_of (value_in (tokens_in bytes (map seen_node nodes))) ≡ None
+  pub no_members : ((p : made_place.Place) (held : Offset) → get_or nodes 0 (node.Null place.Alone) ≡ node.BeginObject p held → ⊥) → members_of (value_in (tokens_in bytes (map seen_node nodes))) ≡ None
   no_members n = go (get_or nodes 0 (node.Null place.Alone)) refl
     where
       go : (first : Node) → get_or nodes 0 (node.Null place.Alone) ≡ first → members_of (value_in (tokens_in bytes (map seen_node nodes))) ≡ None
       go (node.Null p) e = ap members_of (begins a e)
       go (node.Bool p b) e = ap members_of (begins a e)
-      go (node.Number p size from) e = ap members_of (begins a e)
-      go (node.Text p size from) e = ap members_of (begins a e)
+      go (node.Number p from size) e = ap members_of (begins a e)
+      go (node.Text p from size) e = ap members_of (begins a e)
       go (node.BeginArray p held) e = ap members_of (begins a e).1
       go (node.EndArray p) e = absurd (begins a e)
       go (node.BeginObject p held) e = absurd (n p held e)

@@ -3,6 +3,7 @@ use Rattle.std.specs.Prelude.{◌≡◌, ℕ, zero, suc, ◌-◌, ◌<◌, ◌�
 use Rattle.std.proofs.Common.{sym, ap, subst, ◌∙◌, arith, append-nil, length-append}
 use Rattle.sval_json.specs.Grammar as json
 use Rattle.sval_json.specs.Grammar.{JsonValue, Values, no_values, Members, no_members, IsValue, null, truth, falsehood, number, string, empty_array, array, empty_object, object, AreJsonValues, last_value, more_values, AreMembers, last_member, more_members}
+use Rattle.sval_json_read.specs.declared.offset.Offset.{Offset}
 use Rattle.sval_json_read.specs.declared.node.Node.{Node}
 use Rattle.sval_json_read.specs.declared.node.Node.TheVariants as node
 use Rattle.sval_json_read.specs.declared.node.Place as made_place
@@ -166,13 +167,13 @@ module _ (bytes : List ℕ) (nodes : List Node) (a : AreOfValue bytes nodes) whe
       let n = sym (tokens_length bytes nodes) ∙ ap (λ (tokens : List Placed). length tokens) e in
       omega (arith, l, n)
 
-  pub array_two : (p : made_place.Place) (held : ℕ) → get_or nodes 0 (node.Null place.Alone) ≡ node.BeginArray p held → 2 ≤ length nodes
+  pub array_two : (p : made_place.Place) (held : Offset) → get_or nodes 0 (node.Null place.Alone) ≡ node.BeginArray p held → 2 ≤ length nodes
   array_two p held e = let parts = array_of a.is_of (first_is begins_array token.BeginArray (node.BeginArray p held) e tt) in two_nodes _ _ parts.mid parts.same
 
-  pub object_two : (p : made_place.Place) (held : ℕ) → get_or nodes 0 (node.Null place.Alone) ≡ node.BeginObject p held → 2 ≤ length nodes
+  pub object_two : (p : made_place.Place) (held : Offset) → get_or nodes 0 (node.Null place.Alone) ≡ node.BeginObject p held → 2 ≤ length nodes
   object_two p held e = let parts = object_of a.is_of (first_is begins_object token.BeginObject (node.BeginObject p held) e tt) in two_nodes _ _ parts.mid parts.same
 
-  pub array_within : (p : made_place.Place) (held : ℕ) → get_or nodes 0 (node.Null place.Alone) ≡ node.BeginArray p held → Within bytes nodes inner
+  pub array_within : (p : made_place.Place) (held : Offset) → get_or nodes 0 (node.Null place.Alone) ≡ node.BeginArray p held → Within bytes nodes inner
   array_within p held e =
       let parts = array_of a.is_of (first_is begins_array token.BeginArray (node.BeginArray p held) e tt) in
       let t = inner_tokens _ _ parts.mid parts.same in
@@ -182,7 +183,7 @@ module _ (bytes : List ℕ) (nodes : List Node) (a : AreOfValue bytes nodes) whe
         is = value-seen a.is_of ∙ parts.is ∙ ap json.Array (sym (values-seen are_of));
       }
 
-  pub object_within : (p : made_place.Place) (held : ℕ) → get_or nodes 0 (node.Null place.Alone) ≡ node.BeginObject p held → WithinObject bytes nodes inner
+  pub object_within : (p : made_place.Place) (held : Offset) → get_or nodes 0 (node.Null place.Alone) ≡ node.BeginObject p held → WithinObject bytes nodes inner
   object_within p held e =
       let parts = object_of a.is_of (first_is begins_object token.BeginObject (node.BeginObject p held) e tt) in
       let t = inner_tokens _ _ parts.mid parts.same in
@@ -192,13 +193,13 @@ module _ (bytes : List ℕ) (nodes : List Node) (a : AreOfValue bytes nodes) whe
         is = value-seen a.is_of ∙ parts.is ∙ ap json.Object (sym (members-seen are_of));
       }
 
-  pub array_tokens : (p : made_place.Place) (held : ℕ) → get_or nodes 0 (node.Null place.Alone) ≡ node.BeginArray p held → StandsBetween bytes nodes inner token.BeginArray token.EndArray
+  pub array_tokens : (p : made_place.Place) (held : Offset) → get_or nodes 0 (node.Null place.Alone) ≡ node.BeginArray p held → StandsBetween bytes nodes inner token.BeginArray token.EndArray
   array_tokens p held e =
       let parts = array_of a.is_of (first_is begins_array token.BeginArray (node.BeginArray p held) e tt) in
       let t = inner_tokens _ _ parts.mid parts.same in
       record { place = parts.place; same = parts.same ∙ ap (λ mid. placed_at parts.place token.BeginArray ∷ (mid ++ (placed_at parts.place token.EndArray ∷ []))) (sym t) }
 
-  pub object_tokens : (p : made_place.Place) (held : ℕ) → get_or nodes 0 (node.Null place.Alone) ≡ node.BeginObject p held → StandsBetween bytes nodes inner token.BeginObject token.EndObject
+  pub object_tokens : (p : made_place.Place) (held : Offset) → get_or nodes 0 (node.Null place.Alone) ≡ node.BeginObject p held → StandsBetween bytes nodes inner token.BeginObject token.EndObject
   object_tokens p held e =
       let parts = object_of a.is_of (first_is begins_object token.BeginObject (node.BeginObject p held) e tt) in
       let t = inner_tokens _ _ parts.mid parts.same in

@@ -7,6 +7,7 @@ use Rattle.std.proofs.lemmas.List.{get_or-take}
 use Rattle.std.proofs.lemmas.Str.{IsCharBoundary-before_ascii, IsCharBoundary-after_ascii}
 use Rattle.sval_json.specs.Digits.{is_number_byte, is_json_number}
 use Rattle.sval_json.proofs.NumberGrammar.{number_bytes, tested_number}
+use Rattle.sval_json_read.specs.Offsets.{number_of}
 use Rattle.sval_json_read.specs.declared.node.Node.{Node}
 use Rattle.sval_json_read.specs.declared.node.Node.TheVariants as node
 use Rattle.sval_json_read.specs.Nodes.{token_in, tokens_in}
@@ -66,8 +67,8 @@ number_cut bytes from size u w n =
 cut_one : (bytes : List ℕ) (kept : Node) → IsUtf8 bytes → StandsIn bytes kept → IsProperToken (token_in bytes (seen_node kept).kept) → IsCutFrom bytes kept
 cut_one bytes (node.Null place) u s p = tt
 cut_one bytes (node.Bool place value) u s p = tt
-cut_one bytes (node.Number place size from) u s p = number_cut bytes from size u s p
-cut_one bytes (node.Text place size from) u s p = s
+cut_one bytes (node.Number place from size) u s p = number_cut bytes (number_of from) size u s p
+cut_one bytes (node.Text place from size) u s p = s
 cut_one bytes (node.BeginArray place held) u s p = tt
 cut_one bytes (node.EndArray place) u s p = tt
 cut_one bytes (node.BeginObject place held) u s p = tt

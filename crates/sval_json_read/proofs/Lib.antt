@@ -27,6 +27,7 @@ pub mod ParsedNumbers
 pub mod RawStrings
 pub mod KeptNodes
 pub mod NodeCounts
+pub mod Offsets
 pub mod EscapePlaces
 pub mod ExtendedPieces
 pub mod WritableTrees

@@ -4,6 +4,8 @@ use Rattle.std.specs.List.{between}
 use Rattle.std.proofs.Common.{sym, ap, subst, ◌∙◌, arith, length-append}
 use Rattle.sval_json.specs.Grammar as json
 use Rattle.sval_json.specs.Grammar.{JsonValue, Values, Members, IsString, IsValue}
+use Rattle.sval_json_read.specs.declared.offset.Offset.{Offset}
+use Rattle.sval_json_read.specs.Offsets.{number_of}
 use Rattle.sval_json_read.specs.declared.node.Node.{Node}
 use Rattle.sval_json_read.specs.declared.node.Node.TheVariants as node
 use Rattle.sval_json_read.specs.declared.node.Place as made_place
@@ -179,28 +181,28 @@ first_pair bytes nodes raw a s k =
 
 -- ---- by what the code found
 
-key_is : (bytes : List ℕ) (nodes : List Node) (p : made_place.Place) (size from : ℕ) → get_or nodes 0 (node.Null place.Alone) ≡ node.Text p size from → 0 < length nodes
-    → KeyIs bytes nodes (between from (from + size) bytes)
-key_is bytes [] p size from e s = absurd (omega (arith, s))
-key_is bytes (one ∷ nodes) p size from e s = ap (λ n. Some (token_in bytes (seen_node n).kept)) e
+key_is : (bytes : List ℕ) (nodes : List Node) (p : made_place.Place) (from : Offset) (size : ℕ) → get_or nodes 0 (node.Null place.Alone) ≡ node.Text p from size → 0 < length nodes
+    → KeyIs bytes nodes (between (number_of from) (number_of from + size) bytes)
+key_is bytes [] p from size e s = absurd (omega (arith, s))
+key_is bytes (one ∷ nodes) p from size e s = ap (λ n. Some (token_in bytes (seen_node n).kept)) e
 
-pub first_pair_by : (bytes : List ℕ) (nodes values : List Node) (n : ℕ) (p : made_place.Place) (size from : ℕ) → AreOfMembers bytes nodes → false ≡ (length nodes == 0)
-    → get_or nodes 0 (node.Null place.Alone) ≡ node.Text p size from → values ≡ drop 1 nodes → n ≡ span 0 (map seen_node values) → FirstPair bytes nodes n (between from (from + size) bytes)
-first_pair_by bytes nodes values n p size from a s e v c =
-    subst (λ n. FirstPair bytes nodes n (between from (from + size) bytes)) (sym (c ∙ ap (λ (row : List Node). span 0 (map seen_node row)) v))
-    (first_pair bytes nodes (between from (from + size) bytes) a (some_left nodes s) (key_is bytes nodes p size from e (some_left nodes s)))
+pub first_pair_by : (bytes : List ℕ) (nodes values : List Node) (n : ℕ) (p : made_place.Place) (from : Offset) (size : ℕ) → AreOfMembers bytes nodes → false ≡ (length nodes == 0)
+    → get_or nodes 0 (node.Null place.Alone) ≡ node.Text p from size → values ≡ drop 1 nodes → n ≡ span 0 (map seen_node values) → FirstPair bytes nodes n (between (number_of from) (number_of from + size) bytes)
+first_pair_by bytes nodes values n p from size a s e v c =
+    subst (λ n. FirstPair bytes nodes n (between (number_of from) (number_of from + size) bytes)) (sym (c ∙ ap (λ (row : List Node). span 0 (map seen_node row)) v))
+    (first_pair bytes nodes (between (number_of from) (number_of from + size) bytes) a (some_left nodes s) (key_is bytes nodes p from size e (some_left nodes s)))
 
 pub a_key_first : (bytes : List ℕ) (nodes : List Node) → AreOfMembers bytes nodes → false ≡ (length nodes == 0)
-    → ((p : made_place.Place) (size from : ℕ) → get_or nodes 0 (node.Null place.Alone) ≡ node.Text p size from → ⊥) → ⊥
+    → ((p : made_place.Place) (from : Offset) (size : ℕ) → get_or nodes 0 (node.Null place.Alone) ≡ node.Text p from size → ⊥) → ⊥
 a_key_first bytes nodes a s n = go nodes (pair_parts bytes nodes _ a.members refl a.are_of (some_left nodes s)).first_is n
   where
     go : {raw : List ℕ} (row : List Node) → first_token (tokens_in bytes (map seen_node row)) ≡ Some (token.Text raw)
-        → ((p : made_place.Place) (size from : ℕ) → get_or row 0 (node.Null place.Alone) ≡ node.Text p size from → ⊥) → ⊥
+        → ((p : made_place.Place) (from : Offset) (size : ℕ) → get_or row 0 (node.Null place.Alone) ≡ node.Text p from size → ⊥) → ⊥
     go [] e n = absurd (cc e)
     go (node.Null p ∷ row) e n = absurd (cc e)
     go (node.Bool p b ∷ row) e n = absurd (cc e)
-    go (node.Number p size from ∷ row) e n = absurd (cc e)
-    go (node.Text p size from ∷ row) e n = n p size from refl
+    go (node.Number p from size ∷ row) e n = absurd (cc e)
+    go (node.Text p from size ∷ row) e n = n p from size refl
     go (node.BeginArray p held ∷ row) e n = absurd (cc e)
     go (node.EndArray p ∷ row) e n = absurd (cc e)
     go (node.BeginObject p held ∷ row) e n = absurd (cc e)

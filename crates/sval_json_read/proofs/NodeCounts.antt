@@ -11,6 +11,8 @@ use Rattle.sval_json_read.specs.declared.stack.Opened.{Opened}
 use Rattle.sval_json_read.specs.declared.stack.Opened.TheVariants as opened
 use Rattle.sval_json_read.specs.NodeSpans.{depth_behind, while_open, span}
 use Rattle.sval_json_read.specs.SeenNodes.{seen_node, StandsIn}
+use Rattle.sval_json_read.specs.Offsets.{number_of}
+use Rattle.sval_json_read.proofs.Offsets.{number_back}
 use Rattle.sval_json_read.specs.NodeCounts.{begin_of, end_of, count_in, with_count, uncounted, IsLeaf, CountsSpan, AreCounted, AreSettled, AreWhole, IsChain, nothing_open, opened_in}
 
 -- ---- some of the nodes
@@ -39,11 +41,11 @@ begin_front count depth n nodes e =
 counts_front : (one : Node) (n : ℕ) (nodes : List Node) → CountsSpan one (one ∷ nodes) → CountsSpan one (one ∷ take n nodes)
 counts_front (node.Null p) n nodes c = tt
 counts_front (node.Bool p b) n nodes c = tt
-counts_front (node.Number p size from) n nodes c = tt
-counts_front (node.Text p size from) n nodes c = tt
-counts_front (node.BeginArray p count) n nodes c = begin_front count 0 (suc n) (node.BeginArray p count ∷ nodes) c
+counts_front (node.Number p from size) n nodes c = tt
+counts_front (node.Text p from size) n nodes c = tt
+counts_front (node.BeginArray p count) n nodes c = begin_front (number_of count) 0 (suc n) (node.BeginArray p count ∷ nodes) c
 counts_front (node.EndArray p) n nodes c = tt
-counts_front (node.BeginObject p count) n nodes c = begin_front count 0 (suc n) (node.BeginObject p count ∷ nodes) c
+counts_front (node.BeginObject p count) n nodes c = begin_front (number_of count) 0 (suc n) (node.BeginObject p count ∷ nodes) c
 counts_front (node.EndObject p) n nodes c = tt
 
 pub counted_front : (n : ℕ) (nodes : List Node) → AreCounted nodes → AreCounted (take n nodes)
@@ -61,8 +63,8 @@ counted_behind (suc n) (one ∷ nodes) c = counted_behind n nodes c.1
 seen_one : (count : ℕ) (one : Node) → seen_node (with_count count one) ≡ seen_node one
 seen_one count (node.Null p) = refl
 seen_one count (node.Bool p b) = refl
-seen_one count (node.Number p size from) = refl
-seen_one count (node.Text p size from) = refl
+seen_one count (node.Number p from size) = refl
+seen_one count (node.Text p from size) = refl
 seen_one count (node.BeginArray p held) = refl
 seen_one count (node.EndArray p) = refl
 seen_one count (node.BeginObject p held) = refl
@@ -75,8 +77,8 @@ seen_uncounted (one ∷ nodes) = ap (λ first. first ∷ map seen_node (map unco
 stands_one : (bytes : List ℕ) (one : Node) → StandsIn bytes (uncounted one) → StandsIn bytes one
 stands_one bytes (node.Null p) s = tt
 stands_one bytes (node.Bool p b) s = tt
-stands_one bytes (node.Number p size from) s = s
-stands_one bytes (node.Text p size from) s = s
+stands_one bytes (node.Number p from size) s = s
+stands_one bytes (node.Text p from size) s = s
 stands_one bytes (node.BeginArray p held) s = tt
 stands_one bytes (node.EndArray p) s = tt
 stands_one bytes (node.BeginObject p held) s = tt
@@ -93,8 +95,8 @@ uncounted_append (one ∷ nodes) others = ap (λ row. uncounted one ∷ row) (un
 uncounted_twice : (count : ℕ) (one : Node) → uncounted (with_count count one) ≡ uncounted one
 uncounted_twice count (node.Null p) = refl
 uncounted_twice count (node.Bool p b) = refl
-uncounted_twice count (node.Number p size from) = refl
-uncounted_twice count (node.Text p size from) = refl
+uncounted_twice count (node.Number p from size) = refl
+uncounted_twice count (node.Text p from size) = refl
 uncounted_twice count (node.BeginArray p held) = refl
 uncounted_twice count (node.EndArray p) = refl
 uncounted_twice count (node.BeginObject p held) = refl
@@ -103,8 +105,8 @@ uncounted_twice count (node.EndObject p) = refl
 leaf_stays : (one : Node) → IsLeaf one → uncounted one ≡ one
 leaf_stays (node.Null p) l = refl
 leaf_stays (node.Bool p b) l = refl
-leaf_stays (node.Number p size from) l = refl
-leaf_stays (node.Text p size from) l = refl
+leaf_stays (node.Number p from size) l = refl
+leaf_stays (node.Text p from size) l = refl
 leaf_stays (node.BeginArray p held) l = absurd l
 leaf_stays (node.EndArray p) l = absurd l
 leaf_stays (node.BeginObject p held) l = absurd l
@@ -147,8 +149,8 @@ nothing_whole = record { settled = λ behind c. c; passed = λ depth behind. non
 leaf_whole : (one : Node) → IsLeaf one → AreWhole (one ∷ [])
 leaf_whole (node.Null p) l = record { settled = λ behind c. (tt, c); passed = λ depth behind. one_more (span (suc depth) (map seen_node behind)) }
 leaf_whole (node.Bool p b) l = record { settled = λ behind c. (tt, c); passed = λ depth behind. one_more (span (suc depth) (map seen_node behind)) }
-leaf_whole (node.Number p size from) l = record { settled = λ behind c. (tt, c); passed = λ depth behind. one_more (span (suc depth) (map seen_node behind)) }
-leaf_whole (node.Text p size from) l = record { settled = λ behind c. (tt, c); passed = λ depth behind. one_more (span (suc depth) (map seen_node behind)) }
+leaf_whole (node.Number p from size) l = record { settled = λ behind c. (tt, c); passed = λ depth behind. one_more (span (suc depth) (map seen_node behind)) }
+leaf_whole (node.Text p from size) l = record { settled = λ behind c. (tt, c); passed = λ depth behind. one_more (span (suc depth) (map seen_node behind)) }
 leaf_whole (node.BeginArray p held) l = absurd l
 leaf_whole (node.EndArray p) l = absurd l
 leaf_whole (node.BeginObject p held) l = absurd l
@@ -161,8 +163,8 @@ end_settled opened.Object p behind c = (tt, c)
 -- ---- the begin of an array or object
 
 held_by : (container : Opened) (p : made_place.Place) (held : ℕ) → count_in (begin_of container p held) ≡ held
-held_by opened.Array p held = refl
-held_by opened.Object p held = refl
+held_by opened.Array p held = number_back held
+held_by opened.Object p held = number_back held
 
 recounted : (container : Opened) (p : made_place.Place) (held count : ℕ) → with_count count (begin_of container p held) ≡ begin_of container p count
 recounted opened.Array p held count = refl
@@ -174,8 +176,8 @@ span_begin opened.Object p held depth nodes = refl
 
 counts_begin : (container : Opened) (p : made_place.Place) (count : ℕ) (nodes : List Node) → min count (suc (length nodes)) ≡ suc (span 1 (map seen_node nodes))
     → CountsSpan (begin_of container p count) (begin_of container p count ∷ nodes)
-counts_begin opened.Array p count nodes e = e
-counts_begin opened.Object p count nodes e = e
+counts_begin opened.Array p count nodes e = ap (λ n. min n (suc (length nodes))) (number_back count) ∙ e
+counts_begin opened.Object p count nodes e = ap (λ n. min n (suc (length nodes))) (number_back count) ∙ e
 
 one_less : (n : ℕ) → suc n - 1 ≡ n
 one_less n = omega arith

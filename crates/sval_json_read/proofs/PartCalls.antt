@@ -8,6 +8,7 @@ use Rattle.sval_core.specs.Law.{Standing, Law, emits, then_emits, Takes, Refuses
 use Rattle.sval_core.specs.Values.{makes}
 use Rattle.sval_core.proofs.Emissions.{streams_one, stops_one, streams_then, stops_first, stops_later}
 use Rattle.sval_json.specs.Grammar.{JsonValue, IsValue, null, truth, falsehood, number, string, empty_array, array, empty_object, object}
+use Rattle.sval_json_read.specs.declared.offset.Offset.{Offset}
 use Rattle.sval_json_read.specs.declared.node.Node.{Node}
 use Rattle.sval_json_read.specs.declared.node.Node.TheVariants as node
 use Rattle.sval_json_read.specs.declared.node.Place as made_place
@@ -113,31 +114,31 @@ module _ {bytes : List ℕ} {nodes : List Node} (a : AreOfValue bytes nodes) (in
       ap (λ tokens. document_calls (by_itself tokens)) parts.same ∙ container-calls parts.place begin end (tokens_in bytes (map seen_node inner)) first last f g
       ∙ ap (λ calls. first ∷ (calls ++ (last ∷ []))) (sym (streamed-calls bytes (map seen_node inner)))
 
-  pub array-calls : (p : made_place.Place) (held : ℕ) → get_or nodes 0 (node.Null place.Alone) ≡ node.BeginArray p held
+  pub array-calls : (p : made_place.Place) (held : Offset) → get_or nodes 0 (node.Null place.Alone) ≡ node.BeginArray p held
       → document_calls (by_itself (tokens_in bytes (map seen_node nodes))) ≡ Call.Begin Head.Seq None ∷ (streamed bytes (map seen_node inner) ++ (Call.End Head.Seq ∷ []))
   array-calls p held e =
       let parts = subst (λ row. StandsBetween bytes nodes row token.BeginArray token.EndArray) (sym same) (array_tokens bytes nodes a p held e) in
       between-calls token.BeginArray token.EndArray (Call.Begin Head.Seq None) (Call.End Head.Seq) parts refl refl
 
-  pub object-calls : (p : made_place.Place) (held : ℕ) → get_or nodes 0 (node.Null place.Alone) ≡ node.BeginObject p held
+  pub object-calls : (p : made_place.Place) (held : Offset) → get_or nodes 0 (node.Null place.Alone) ≡ node.BeginObject p held
       → document_calls (by_itself (tokens_in bytes (map seen_node nodes))) ≡ Call.Begin Head.Map None ∷ (streamed bytes (map seen_node inner) ++ (Call.End Head.Map ∷ []))
   object-calls p held e =
       let parts = subst (λ row. StandsBetween bytes nodes row token.BeginObject token.EndObject) (sym same) (object_tokens bytes nodes a p held e) in
       between-calls token.BeginObject token.EndObject (Call.Begin Head.Map None) (Call.End Head.Map) parts refl refl
 
-not-begin : (bytes : List ℕ) (one : Node) → ((p : made_place.Place) (held : ℕ) → one ≡ node.BeginArray p held → ⊥) → ((p : made_place.Place) (held : ℕ) → one ≡ node.BeginObject p held → ⊥)
+not-begin : (bytes : List ℕ) (one : Node) → ((p : made_place.Place) (held : Offset) → one ≡ node.BeginArray p held → ⊥) → ((p : made_place.Place) (held : Offset) → one ≡ node.BeginObject p held → ⊥)
     → begins_nothing (token_in bytes (seen_node one).kept)
 not-begin bytes (node.Null p) n o = tt
 not-begin bytes (node.Bool p b) n o = tt
-not-begin bytes (node.Number p size from) n o = tt
-not-begin bytes (node.Text p size from) n o = tt
+not-begin bytes (node.Number p from size) n o = tt
+not-begin bytes (node.Text p from size) n o = tt
 not-begin bytes (node.BeginArray p held) n o = n p held refl
 not-begin bytes (node.EndArray p) n o = tt
 not-begin bytes (node.BeginObject p held) n o = o p held refl
 not-begin bytes (node.EndObject p) n o = tt
 
-pub single-calls : (bytes : List ℕ) (nodes : List Node) (d : Node) → AreOfValue bytes nodes → ((p : made_place.Place) (held : ℕ) → get_or nodes 0 d ≡ node.BeginArray p held → ⊥)
-    → ((p : made_place.Place) (held : ℕ) → get_or nodes 0 d ≡ node.BeginObject p held → ⊥)
+pub single-calls : (bytes : List ℕ) (nodes : List Node) (d : Node) → AreOfValue bytes nodes → ((p : made_place.Place) (held : Offset) → get_or nodes 0 d ≡ node.BeginArray p held → ⊥)
+    → ((p : made_place.Place) (held : Offset) → get_or nodes 0 d ≡ node.BeginObject p held → ⊥)
     → document_calls (by_itself (tokens_in bytes (map seen_node nodes))) ≡ token_own_calls (token_in bytes (seen_node (get_or nodes 0 d)).kept)
 single-calls bytes [] d a n o = let l = some_nodes bytes [] a in absurd (omega (arith, l))
 single-calls bytes (one ∷ nodes) d a n o =

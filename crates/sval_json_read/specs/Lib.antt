@@ -11,6 +11,7 @@ pub mod Laws
 pub mod SeenOpened
 pub mod Words
 pub mod SeenNodes
+pub mod Offsets
 pub mod NodeSpans
 pub mod NodeCounts
 pub mod SeenReader

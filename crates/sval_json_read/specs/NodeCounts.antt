@@ -1,5 +1,5 @@
 -- How many nodes an array or object has, as its begin counts them.
-use Rattle.std.specs.Prelude.{◌≡◌, ℕ, suc, ◌+◌, min, List, [], ◌∷◌, ◌++◌, map, length, ⊤}
+use Rattle.std.specs.Prelude.{◌≡◌, ◌<◌, ◌^◌, ℕ, suc, ◌+◌, min, List, [], ◌∷◌, ◌++◌, map, length, ⊤}
 use Rattle.sval_json_read.specs.declared.node.Place.{Place}
 use Rattle.sval_json_read.specs.declared.node.Node.{Node}
 use Rattle.sval_json_read.specs.declared.node.Node.TheVariants as node
@@ -7,11 +7,12 @@ use Rattle.sval_json_read.specs.declared.stack.Opened.{Opened}
 use Rattle.sval_json_read.specs.declared.stack.Opened.TheVariants as opened
 use Rattle.sval_json_read.specs.NodeSpans.{span}
 use Rattle.sval_json_read.specs.SeenNodes.{seen_node}
+use Rattle.sval_json_read.specs.Offsets.{number_of, offset_of}
 
 -- the begin of an array or object, with what it holds
 abbrev pub begin_of : Opened → Place → ℕ → Node
-begin_of opened.Array place held = node.BeginArray place held
-begin_of opened.Object place held = node.BeginObject place held
+begin_of opened.Array place held = node.BeginArray place (offset_of held)
+begin_of opened.Object place held = node.BeginObject place (offset_of held)
 
 -- its end
 abbrev pub end_of : Opened → Place → Node
@@ -20,19 +21,19 @@ end_of opened.Object place = node.EndObject place
 
 -- what a begin holds
 abbrev pub count_in : Node → ℕ
-count_in (node.BeginArray place held) = held
-count_in (node.BeginObject place held) = held
+count_in (node.BeginArray place held) = number_of held
+count_in (node.BeginObject place held) = number_of held
 count_in _ = 0
 
 -- a begin that holds this
 abbrev pub with_count : ℕ → Node → Node
 with_count count (node.Null place) = node.Null place
 with_count count (node.Bool place b) = node.Bool place b
-with_count count (node.Number place size from) = node.Number place size from
-with_count count (node.Text place size from) = node.Text place size from
-with_count count (node.BeginArray place held) = node.BeginArray place count
+with_count count (node.Number place from size) = node.Number place from size
+with_count count (node.Text place from size) = node.Text place from size
+with_count count (node.BeginArray place held) = node.BeginArray place (offset_of count)
 with_count count (node.EndArray place) = node.EndArray place
-with_count count (node.BeginObject place held) = node.BeginObject place count
+with_count count (node.BeginObject place held) = node.BeginObject place (offset_of count)
 with_count count (node.EndObject place) = node.EndObject place
 
 -- a node, without what it holds
@@ -49,8 +50,8 @@ IsLeaf _ = ⊤
 
 -- a begin counts the nodes of the value that these nodes begin with; it counts none that isn't there
 abbrev pub CountsSpan : Node → List Node → Type 0
-CountsSpan (node.BeginArray place count) nodes = min count (length nodes) ≡ span 0 (map seen_node nodes)
-CountsSpan (node.BeginObject place count) nodes = min count (length nodes) ≡ span 0 (map seen_node nodes)
+CountsSpan (node.BeginArray place count) nodes = min (number_of count) (length nodes) ≡ span 0 (map seen_node nodes)
+CountsSpan (node.BeginObject place count) nodes = min (number_of count) (length nodes) ≡ span 0 (map seen_node nodes)
 CountsSpan _ nodes = ⊤
 
 -- each begin counts its nodes
@@ -74,3 +75,7 @@ pub data IsChain : List Node → ℕ → Type 0 where
   nothing_open : {nodes : List Node} → AreSettled nodes → IsChain nodes 0
   opened_in : {around whole : List Node} {outer : ℕ} (container : Opened) (place : Place) → IsChain around outer → AreWhole whole
       → IsChain (around ++ (begin_of container place outer ∷ whole)) (suc (length around))
+
+-- such a chain of nodes that a begin can count
+abbrev pub IsFewChain : List Node → ℕ → Type 0
+IsFewChain nodes innermost = IsChain nodes innermost × (length nodes < 2 ^ 48)

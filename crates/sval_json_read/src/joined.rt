@@ -294,10 +294,12 @@ impl Node {
             joined.new }
     {
         match *self {
-            Node::Number(place, length, from) => {
+            Node::Number(place, from, length) => {
+                let from = from.get();
                 return place.join_number(is_first, text, from, from + length as usize, joined);
             },
-            Node::Text(place, length, from) => {
+            Node::Text(place, from, length) => {
+                let from = from.get();
                 let to = from + length as usize;
                 return place.join_text(is_first, text.as_bytes(), ready, from, to, joined);
             },
@@ -321,7 +323,8 @@ impl Node {
         ensures { IsReadyPart text.now result }
     {
         match *self {
-            Node::Text(_, length, from) => {
+            Node::Text(_, from, length) => {
+                let from = from.get();
                 let to = from + length as usize;
                 if known.from <= from && to <= known.to {
                     return known;

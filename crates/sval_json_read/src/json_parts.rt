@@ -144,7 +144,8 @@ impl<'d> JsonMembers<'d> {
             return None;
         }
         match self.nodes[0] {
-            Node::Text(_, length, from) => {
+            Node::Text(_, from, length) => {
+                let from = from.get();
                 let name = JsonText::new(&self.text[from..from + length as usize]);
                 let values = behind_first(self.nodes);
                 let (first, behind) = values.split_at(value_len(values));

@@ -132,7 +132,10 @@ impl<'d> JsonRef<'d> {
         ensures proper { IfSome result (λ text. is_json_number text.now ≡ true) }
     {
         match self.nodes[0] {
-            Node::Number(_, length, from) => Some(&self.text[from..from + length as usize]),
+            Node::Number(_, from, length) => {
+                let from = from.get();
+                Some(&self.text[from..from + length as usize])
+            },
             _ => None,
         }
     }
@@ -201,7 +204,8 @@ impl<'d> JsonRef<'d> {
         ensures { result ≡ json_text_of self.now }
     {
         match self.nodes[0] {
-            Node::Text(_, length, from) => {
+            Node::Text(_, from, length) => {
+                let from = from.get();
                 Some(JsonText::new(&self.text[from..from + length as usize]))
             },
             _ => None,

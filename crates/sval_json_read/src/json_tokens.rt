@@ -87,7 +87,8 @@ impl<'d> JsonToken<'d> {
         ensures { result ≡ member_name_in self.now }
     {
         match self.node {
-            Node::Text(Place::Key, length, from) => {
+            Node::Text(Place::Key, from, length) => {
+                let from = from.get();
                 Some(JsonText::new(&self.text[from..from + length as usize]))
             }
             _ => None,
@@ -108,10 +109,12 @@ impl<'d> JsonToken<'d> {
         match self.node {
             Node::Null(_) => JsonMark::Null,
             Node::Bool(_, value) => JsonMark::Bool(value),
-            Node::Number(_, length, from) => {
+            Node::Number(_, from, length) => {
+                let from = from.get();
                 mark_number(&self.text[from..from + length as usize])
             }
-            Node::Text(_, length, from) => {
+            Node::Text(_, from, length) => {
+                let from = from.get();
                 JsonMark::Text(JsonText::new(&self.text[from..from + length as usize]))
             }
             Node::BeginArray(..) => JsonMark::BeginArray,

@@ -28,6 +28,7 @@ mod node_script;
 mod node_text;
 mod number;
 mod number_calls;
+mod offset;
 mod piece;
 pub mod pointer;
 mod program;

@@ -1,5 +1,6 @@
 //! What is kept of a text.
 
+use crate::offset::Offset;
 use std::mem::size_of;
 
 /// The place of a value.
@@ -18,18 +19,18 @@ pub(crate) enum Place {
 /// A token of a text, in its place. A begin and an end have the place of their array or object.
 ///
 /// A number or a string, without its quotes, has a length and a place in the text where it begins. The begin of an array
-/// or object counts its nodes, from itself to its end. So a node takes 16 bytes.
+/// or object counts its nodes, from itself to its end. So a node takes 12 bytes.
 #[derive(Clone, Copy)]
 pub(crate) enum Node {
     Null(Place),
     Bool(Place, bool),
-    Number(Place, u32, usize),
-    Text(Place, u32, usize),
-    BeginArray(Place, usize),
+    Number(Place, Offset, u32),
+    Text(Place, Offset, u32),
+    BeginArray(Place, Offset),
     EndArray(Place),
-    BeginObject(Place, usize),
+    BeginObject(Place, Offset),
     EndObject(Place),
 }
 
 /// Each word, number and string, and each begin and end, is kept as a node.
-const _: () = prove!(size_of::<Node>() == 16);
+const _: () = prove!(size_of::<Node>() == 12);

@@ -68,10 +68,12 @@ impl Node {
         match self {
             Node::Null(_) => stream.null(),
             Node::Bool(_, value) => stream.bool(value),
-            Node::Number(_, length, from) => {
+            Node::Number(_, from, length) => {
+                let from = from.get();
                 stream_number(&text[from..from + length as usize], stream)
             },
-            Node::Text(_, length, from) => {
+            Node::Text(_, from, length) => {
+                let from = from.get();
                 stream_string(&text[from..from + length as usize], stream)
             },
             Node::BeginArray(..) => stream.seq_begin(None),
@@ -116,7 +118,8 @@ impl Node {
             (makes (placed_token_calls (placed_in text.now (seen_node self)))) (S.standing stream.new) }
     {
         match self {
-            Node::Text(Place::Key, length, from) => {
+            Node::Text(Place::Key, from, length) => {
+                let from = from.get();
                 stream_key(&text[from..from + length as usize], stream)
             },
             _ => self.stream_parts(text, stream),

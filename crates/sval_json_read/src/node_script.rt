@@ -240,10 +240,12 @@ impl Node {
             Node::Null(place) => place.print_word(b"null\n", out),
             Node::Bool(place, true) => place.print_word(b"bool true\n", out),
             Node::Bool(place, false) => place.print_word(b"bool false\n", out),
-            Node::Number(place, length, from) => {
+            Node::Number(place, from, length) => {
+                let from = from.get();
                 place.print_number(&text[from..from + length as usize], out)
             },
-            Node::Text(place, length, from) => {
+            Node::Text(place, from, length) => {
+                let from = from.get();
                 place.print_text(&text[from..from + length as usize], out)
             },
             Node::BeginArray(place, _) => place.print_begin(b"seq_begin -\n", out),

@@ -327,10 +327,12 @@ impl Node {
             Node::Null(place) => place.write_word(is_first, b",null", out),
             Node::Bool(place, true) => place.write_word(is_first, b",true", out),
             Node::Bool(place, false) => place.write_word(is_first, b",false", out),
-            Node::Number(place, length, from) => {
+            Node::Number(place, from, length) => {
+                let from = from.get();
                 place.write_number(is_first, text, from, from + length as usize, out)
             },
-            Node::Text(place, length, from) => {
+            Node::Text(place, from, length) => {
+                let from = from.get();
                 place.write_text(is_first, text, ready, from, from + length as usize, out)
             },
             Node::BeginArray(place, _) => place.write_word(is_first, b",[", out),

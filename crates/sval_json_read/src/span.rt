@@ -14,7 +14,9 @@ pub(crate) fn value_len(nodes: &[Node]) -> usize
 {
     match nodes.first().copied() {
         None => 0,
-        Some(Node::BeginArray(_, count) | Node::BeginObject(_, count)) => count.min(nodes.len()),
+        Some(Node::BeginArray(_, count) | Node::BeginObject(_, count)) => {
+            count.get().min(nodes.len())
+        },
         Some(_) => 1,
     }
 }

@@ -6,12 +6,14 @@ ghost use Rattle.sval_json.specs.Digits.{is_number_byte};
 ghost use Rattle.sval_json_read.specs.Reader as machine;
 ghost use Rattle.sval_json_read.specs.Nodes.{tokens_in};
 ghost use Rattle.sval_json_read.specs.SeenNodes.{seen_node};
+ghost use Rattle.sval_json_read.specs.Offsets.{number_of};
 ghost use Rattle.sval_json_read.specs.SeenReader.{seen_state, expected_of, GivesState, HasToken, EndsText, TakesByte, KeepsRead, WantsOnlyFor, IsReadTo};
 ghost use Rattle.sval_json_read.specs.declared.reader.Expected.TheVariants.{Letter, InNumber, InString};
 
 use super::{Expected, Reader};
 use crate::node::{Node, Place};
 use crate::number::{Phase, is_of_numbers, may_end, next_phase};
+use crate::offset::Offset;
 use crate::string::{Within, next_within};
 use crate::word::Word;
 use std::alloc::AllocError;
@@ -55,6 +57,17 @@ impl Reader {
         Ok(length as u32)
     }
 
+    /// Where the number or string begins. A node has no room for a place of 256 TiB or more, which is answered as want
+    /// of memory.
+    fn offset(&self) -> Result<Offset, NoMemory>
+        ensures { IfOk result (λ from. number_of from ≡ self.now.from) }
+    {
+        if self.from > Offset::MAX {
+            return Err(NoMemory::from(AllocError));
+        }
+        Ok(Offset::new(self.from))
+    }
+
     /// Reads one more byte of a number.
     #[tactic(auto, using(crate::proofs::KeptNodes::between_more, crate::proofs::ReaderPlaces::of_places))]
     fn digit(&mut self, phase: Phase, bytes: &[u8], at: usize) -> bool
@@ -86,8 +99,9 @@ impl Reader {
         ensures reads { KeepsRead bytes.now at result self.new }
     {
         let length = self.length(at)?;
+        let from = self.offset()?;
         let place = self.place();
-        self.add(Node::Number(place, length, self.from), Expected::Next)
+        self.add(Node::Number(place, from, length), Expected::Next)
     }
 
     /// Ends a number, and reads the byte behind it.
@@ -156,11 +170,12 @@ impl Reader {
         ensures reads { KeepsRead bytes.now (at + 1) result self.new }
     {
         let length = self.length(at)?;
+        let from = self.offset()?;
         if is_key {
-            return self.add(Node::Text(Place::Key, length, self.from), Expected::Colon);
+            return self.add(Node::Text(Place::Key, from, length), Expected::Colon);
         }
         let place = self.place();
-        self.add(Node::Text(place, length, self.from), Expected::Next)
+        self.add(Node::Text(place, from, length), Expected::Next)
     }
 
     /// Reads more of a string, or its end.

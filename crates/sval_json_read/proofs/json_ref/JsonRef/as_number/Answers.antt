@@ -1,4 +1,5 @@
-use Rattle.std.proofs.Common.{◌≡◌, true, sym, ap, subst, ◌∙◌}
+use Rattle.std.specs.List.{between}
+use Rattle.std.proofs.Common.{◌≡◌, ◌+◌, true, sym, ap, subst, ◌∙◌}
 use Rattle.sval_json.specs.Digits.{is_json_number}
 use Rattle.sval_json_read.specs.Lookups.{json_number_of}
 use Rattle.sval_json_read.proofs.FirstNodes.{some_nodes, kept, no_number}
@@ -11,4 +12,4 @@ pub returns-in_default-clause-number : goal.returns-in_default-clause-number
 returns-in_default-clause-number c = sym (no_number c.self.invariant c.in_default.not-Number) ∙ ap json_number_of c.self.view_is
 
 pub returns-in-Number-clause-proper : goal.returns-in-Number-clause-proper
-returns-in-Number-clause-proper c = subst (λ text. is_json_number text ≡ true) (sym c.range.ensures.value) (kept c.self.invariant c.in-Number.is).proper
+returns-in-Number-clause-proper c = subst (λ text. is_json_number text ≡ true) (sym (c.range.ensures.value ∙ ap (λ n. between n (n + c.in-Number.length) c.self.inside.text.now) c.get-from.ensures)) (kept c.self.invariant c.in-Number.is).proper

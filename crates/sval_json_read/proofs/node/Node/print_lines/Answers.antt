@@ -1,4 +1,5 @@
-use Rattle.std.proofs.Common.{◌++◌, sym, subst}
+use Rattle.std.specs.List.{between}
+use Rattle.std.proofs.Common.{◌++◌, ◌+◌, ◌∙◌, ap, sym, subst}
 use Rattle.sval_io.specs.Sinks.{WritesAll}
 use Rattle.sval_json_read.specs.Nodes.{placed_in}
 use Rattle.sval_json_read.specs.SeenNodes.{node_place, seen_node}
@@ -11,7 +12,7 @@ returns-in-Number g c =
     let old = g.K.Sink.told c.args.out.now in
     let new = g.K.Sink.told c.print_number.new.out in
     subst (λ node. WritesAll c.print_number.result old (placed_lines (placed_in c.args.text.now (seen_node node))) new) (sym c.in-Number.is)
-    (subst (λ number. WritesAll c.print_number.result old (line_before place ++ (number_lines number ++ line_behind place)) new) c.range.ensures.value c.print_number.ensures)
+    (subst (λ number. WritesAll c.print_number.result old (line_before place ++ (number_lines number ++ line_behind place)) new) (c.range.ensures.value ∙ ap (λ n. between n (n + c.in-Number.length) c.args.text.now) c.get-from.ensures) c.print_number.ensures)
 
 pub returns-in-BeginArray : goal.returns-in-BeginArray
 returns-in-BeginArray g c =

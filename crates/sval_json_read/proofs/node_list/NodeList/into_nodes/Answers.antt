@@ -1,4 +1,4 @@
-use Rattle.std.proofs.Common.{◌-◌, map, length, sym, ap, subst, ◌∙◌, arith}
+use Rattle.std.proofs.Common.{◌-◌, ◌<◌, ◌^◌, map, length, sym, ap, subst, ◌∙◌, arith}
 use Rattle.std.specs.List.{AllByRecursion}
 use Rattle.sval_json_read.specs.declared.node.Node.TheVariants.{Null}
 use Rattle.sval_json_read.specs.declared.node.Place.TheVariants.{Alone}
@@ -8,10 +8,10 @@ use Rattle.sval_json_read.proofs.NodeCounts.{settling_start, settling_end, settl
 use Rattle.sval_json_read.proofs.node_list.NodeList.into_nodes.Goals as goal
 
 pub loop-innermost-init : goal.loop-innermost-init
-loop-innermost-init c = (settling_start c.self.inside.nodes.items c.self.inside.innermost c.self.invariant, c.self.view_is)
+loop-innermost-init c = (settling_start c.self.inside.nodes.items c.self.inside.innermost c.self.invariant.0, (c.self.view_is, c.self.invariant.1))
 
-pub count_from-innermost-requires : goal.count_from-innermost-requires
-count_from-innermost-requires c =
+pub count_from-innermost-requires-clause-begin : goal.count_from-innermost-requires-clause-begin
+count_from-innermost-requires-clause-begin c =
     settles_within c.loop-innermost.nodes.items c.loop-innermost.innermost c.loop-innermost.invariant.0 (omega (arith, c.loop-innermost-test.true)) (Null Alone)
 
 pub loop-innermost-preserved : goal.loop-innermost-preserved
@@ -20,7 +20,10 @@ loop-innermost-preserved c =
     let innermost = c.loop-innermost.innermost in (
       (settles_on nodes innermost c.loop-innermost.invariant.0 (omega (arith, c.loop-innermost-test.true)) (Null Alone) c.count_from-innermost.new.nodes.items c.count_from-innermost.result
           c.count_from-innermost.ensures.counts c.count_from-innermost.ensures.held).0,
-      ap (map uncounted) c.count_from-innermost.ensures.counts ∙ same_uncounted (length nodes - (innermost - 1)) (innermost - 1) nodes (Null Alone) ∙ c.loop-innermost.invariant.1,
+      (
+        ap (map uncounted) c.count_from-innermost.ensures.counts ∙ same_uncounted (length nodes - (innermost - 1)) (innermost - 1) nodes (Null Alone) ∙ c.loop-innermost.invariant.1.0,
+        subst (λ n. n < 2 ^ 48) (sym c.count_from-innermost.ensures.as_many) c.loop-innermost.invariant.1.1,
+      ),
     )
 
 pub loop-innermost-smaller : goal.loop-innermost-smaller
@@ -29,11 +32,11 @@ loop-innermost-smaller c =
     c.count_from-innermost.ensures.counts c.count_from-innermost.ensures.held).1
 
 pub returns-clause-seen : goal.returns-clause-seen
-returns-clause-seen c = sym (seen_uncounted c.loop-innermost.nodes.items) ∙ ap (map seen_node) c.loop-innermost.invariant.1
+returns-clause-seen c = sym (seen_uncounted c.loop-innermost.nodes.items) ∙ ap (map seen_node) c.loop-innermost.invariant.1.0
 
 pub returns-clause-stand : goal.returns-clause-stand
 returns-clause-stand c bytes stand =
-    stand_uncounted bytes c.loop-innermost.nodes.items (subst (AllByRecursion (StandsIn bytes)) (sym c.loop-innermost.invariant.1) stand)
+    stand_uncounted bytes c.loop-innermost.nodes.items (subst (AllByRecursion (StandsIn bytes)) (sym c.loop-innermost.invariant.1.0) stand)
 
 pub returns-clause-counted : goal.returns-clause-counted
 returns-clause-counted c =
