@@ -4,15 +4,32 @@ use crate::rendered::Unprintable;
 use crate::shown::{compare, holds, must, shows};
 use std::alloc::{AllocError, Global};
 use sval::{BinarySlice, Render, StdDisplay};
-use sval_buffer::{BinaryBuf, TextBuf};
+use sval_buffer::{BinaryBuf, Error, TextBuf};
 use sval_core::{Lent, Value};
+
+/// Why nothing is collected.
+fn why(alloc: Global, error: &Error) -> Result<String, AllocError> {
+    format!(in alloc; "{error}")
+}
+
+/// A text, and whether it is borrowed.
+fn text_seen(alloc: Global, text: &TextBuf<'_>) -> Result<String, AllocError> {
+    let is_borrowed = text.as_borrowed_str().is_some();
+    format!(in alloc; "{} {is_borrowed}", text.as_str())
+}
 
 /// The text that is collected of a value, and whether it is borrowed, or why there is none.
 fn text_of<'v, V: Value<'v, Lent<'v>>>(alloc: Global, value: &'v V) -> Result<String, AllocError> {
     match TextBuf::collect(alloc, value) {
-        Ok(text) => format!(in alloc; "{} {}", text.as_str(), text.as_borrowed_str().is_some()),
-        Err(error) => format!(in alloc; "{error}"),
+        Ok(text) => text_seen(alloc, &text),
+        Err(error) => why(alloc, &error),
     }
+}
+
+/// A binary, and whether it is borrowed.
+fn binary_seen(alloc: Global, binary: &BinaryBuf<'_>) -> Result<String, AllocError> {
+    let is_borrowed = binary.as_borrowed_slice().is_some();
+    format!(in alloc; "{:?} {is_borrowed}", binary.as_slice())
 }
 
 /// The binary that is collected of a value, and whether it is borrowed, or why there is none.
@@ -21,12 +38,8 @@ fn binary_of<'v, V: Value<'v, Lent<'v>>>(
     value: &'v V,
 ) -> Result<String, AllocError> {
     match BinaryBuf::collect(alloc, value) {
-        Ok(binary) => format!(in alloc;
-            "{:?} {}",
-            binary.as_slice(),
-            binary.as_borrowed_slice().is_some()
-        ),
-        Err(error) => format!(in alloc; "{error}"),
+        Ok(binary) => binary_seen(alloc, &binary),
+        Err(error) => why(alloc, &error),
     }
 }
 
@@ -65,7 +78,7 @@ fn collects_binaries(rt: HostRuntime) {
 fn printed_of<V: Render>(alloc: Global, value: &V) -> Result<String, AllocError> {
     match TextBuf::collect_display(alloc, value) {
         Ok(text) => String::from_str(alloc, text.as_str()),
-        Err(error) => format!(in alloc; "{error}"),
+        Err(error) => why(alloc, &error),
     }
 }
 

@@ -93,8 +93,13 @@ fn captures_what_was_captured(rt: HostRuntime) {
     holds(&rt, check(alloc, &some).is_ok(), "the value is whole");
     let buffer: ValueBuf<'_> = must(&rt, ValueBuf::collect(alloc, &some));
     makes_again(&rt, alloc, &buffer, SOME);
-    let value: Value<'_> = must(&rt, buffer.to_value());
-    captures(&rt, alloc, &value, SOME);
+    captures_value_of(&rt, alloc, &buffer, SOME);
+}
+
+/// Captures the value that a buffer hands out, and asserts that the calls of these lines are made of it.
+fn captures_value_of(rt: &impl Abort, alloc: Global, buffer: &ValueBuf<'_>, lines: &str) {
+    let value: Value<'_> = must(rt, buffer.to_value());
+    captures(rt, alloc, &value, lines);
 }
 
 /// Three sequences of sequences of numbers. The first is empty.
@@ -105,31 +110,47 @@ fn row(rt: &impl Abort, alloc: Global, numbers: &[i32]) -> Vec<i32> {
     must(rt, Vec::from_slice(alloc, numbers))
 }
 
+/// Two rows of numbers.
+fn rows(rt: &impl Abort, alloc: Global, first: &[i32], second: &[i32]) -> Vec<Vec<i32>> {
+    let mut rows = Vec::new(alloc);
+    must(rt, rows.push(row(rt, alloc, first)));
+    must(rt, rows.push(row(rt, alloc, second)));
+    rows
+}
+
+/// These sequences.
+fn numbers(rt: &impl Abort, alloc: Global) -> Vec<Vec<Vec<i32>>> {
+    let mut numbers = Vec::new(alloc);
+    must(rt, numbers.push(Vec::new(alloc)));
+    must(rt, numbers.push(rows(rt, alloc, &[1, 2, 3], &[4])));
+    must(rt, numbers.push(rows(rt, alloc, &[5, 6], &[7, 8, 9])));
+    numbers
+}
+
 #[test]
 fn captures_sequences_in_sequences(rt: HostRuntime) {
     let alloc = rt.alloc();
-    let second = vec![in alloc; row(&rt, alloc, &[1, 2, 3]), row(&rt, alloc, &[4])];
-    let third = vec![in alloc; row(&rt, alloc, &[5, 6]), row(&rt, alloc, &[7, 8, 9])];
-    let numbers = vec![in alloc; Vec::new(alloc), must(&rt, second), must(&rt, third)];
-    let numbers = must(&rt, numbers);
+    let numbers = numbers(&rt, alloc);
     let buffer: ValueBuf<'_> = must(&rt, ValueBuf::collect(alloc, &numbers));
     writes(&rt, alloc, &buffer, NUMBERS);
     let again: ValueBuf<'_> = must(&rt, ValueBuf::collect(alloc, &buffer));
     writes(&rt, alloc, &again, NUMBERS);
 }
 
+/// Asserts that a buffer hands out a value that makes the calls of these lines, and clears the buffer.
+fn hands_out(rt: &impl Abort, alloc: Global, buffer: &mut ValueBuf<'static>, lines: &str) {
+    let value: Value<'static> = must(rt, buffer.to_value());
+    makes(rt, alloc, &value, lines);
+    buffer.clear();
+}
+
 #[test]
 fn hands_out_values(rt: HostRuntime) {
-    let alloc = rt.alloc();
-    let mut buffer: ValueBuf<'_> = ValueBuf::new(alloc);
+    let mut buffer: ValueBuf<'static> = ValueBuf::new(rt.alloc());
     must(&rt, buffer.i32(42));
-    let number: Value<'_> = must(&rt, buffer.to_value());
-    makes(&rt, alloc, &number, "i32 42\n");
-    buffer.clear();
+    hands_out(&rt, rt.alloc(), &mut buffer, "i32 42\n");
     must(&rt, buffer.bool(true));
-    let truth: Value<'_> = must(&rt, buffer.to_value());
-    makes(&rt, alloc, &truth, "bool true\n");
-    buffer.clear();
+    hands_out(&rt, rt.alloc(), &mut buffer, "bool true\n");
     let nothing: Value<'_> = buffer.into_value();
-    makes(&rt, alloc, &nothing, "null\n");
+    makes(&rt, rt.alloc(), &nothing, "null\n");
 }

@@ -1,7 +1,8 @@
 //! What a refusal says, and what labels and indexes keep.
 
-use crate::shown::{copy_of, holds, must, shows};
+use crate::shown::{compare, copy_of, holds, must, shows};
 use std::alloc::Global;
+use std::fmt::Debug;
 use std::process::Abort;
 use sval_core::{Error, Index, Label, Tag, refusal, tags};
 
@@ -27,9 +28,14 @@ fn labels_keep_text_tag_and_staticness(rt: HostRuntime) {
     let alloc = rt.alloc();
     let computed = Label::new_computed("a").with_tag(&tags::VALUE_IDENT);
     let want = "a Some(Tag { text: \"VALUE_IDENT\" }) None";
-    label_says(&rt, alloc, &must(&rt, computed.to_owned(alloc)), want);
-    label_says(&rt, alloc, &must(&rt, computed.try_to_owned(alloc)), want);
-    label_says(&rt, alloc, &must(&rt, computed.try_clone(alloc)), want);
+    copy_says(&rt, alloc, computed.to_owned(alloc), want);
+    copy_says(&rt, alloc, computed.try_to_owned(alloc), want);
+    copy_says(&rt, alloc, computed.try_clone(alloc), want);
+}
+
+/// Asserts that a label was copied, and what the copy says.
+fn copy_says<E: Debug>(rt: &impl Abort, alloc: Global, copy: Result<Label<'_>, E>, want: &str) {
+    label_says(rt, alloc, &must(rt, copy), want);
 }
 
 #[test]
@@ -105,21 +111,20 @@ fn indexes_are_equal_and_ordered_by_number(rt: HostRuntime) {
     holds(&rt, tag == tags::VALUE_OFFSET, "the tags are equal");
 }
 
+/// Each tag, and its name.
+const TAGS: [(Tag, &'static str); 7] = [
+    (tags::RUST_OPTION_SOME, "RUST_OPTION_SOME"),
+    (tags::RUST_OPTION_NONE, "RUST_OPTION_NONE"),
+    (tags::RUST_UNIT, "RUST_UNIT"),
+    (tags::NUMBER, "NUMBER"),
+    (tags::CONSTANT_SIZE, "CONSTANT_SIZE"),
+    (tags::VALUE_IDENT, "VALUE_IDENT"),
+    (tags::VALUE_OFFSET, "VALUE_OFFSET"),
+];
+
 #[test]
 fn the_text_of_each_tag_is_its_name(rt: HostRuntime) {
-    let names = format!(in rt.alloc();
-        "{} {} {} {} {} {} {}",
-        tags::RUST_OPTION_SOME.text,
-        tags::RUST_OPTION_NONE.text,
-        tags::RUST_UNIT.text,
-        tags::NUMBER.text,
-        tags::CONSTANT_SIZE.text,
-        tags::VALUE_IDENT.text,
-        tags::VALUE_OFFSET.text
-    );
-    shows(
-        &rt,
-        names,
-        "RUST_OPTION_SOME RUST_OPTION_NONE RUST_UNIT NUMBER CONSTANT_SIZE VALUE_IDENT VALUE_OFFSET",
-    );
+    for (tag, name) in &TAGS {
+        compare(&rt, tag.text, name);
+    }
 }

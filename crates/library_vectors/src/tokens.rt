@@ -23,6 +23,12 @@ fn printed(alloc: Global, tokens: &[Token<'_>]) -> Result<String, AllocError> {
     format!(in alloc; "{tokens:?}")
 }
 
+/// What is printed of the tokens of the calls of these lines.
+fn printed_of(rt: &impl Abort, alloc: Global, lines: &str) -> Result<String, AllocError> {
+    let script = script_of(rt, alloc, lines);
+    printed(alloc, tokens_of(rt, alloc, &script).as_tokens())
+}
+
 /// A script, and what is printed of the tokens of its calls.
 const PRINTED: [(&str, &str); 3] = [
     (
@@ -58,11 +64,8 @@ const PRINTED: [(&str, &str); 3] = [
 
 #[test]
 fn keeps_calls(rt: HostRuntime) {
-    let alloc = rt.alloc();
     for (lines, want) in &PRINTED {
-        let script = script_of(&rt, alloc, lines);
-        let tokens = tokens_of(&rt, alloc, &script);
-        shows(&rt, printed(alloc, tokens.as_tokens()), want);
+        shows(&rt, printed_of(&rt, rt.alloc(), lines), want);
     }
 }
 
@@ -104,32 +107,46 @@ const MATCHES: [(&str, &str, bool); 7] = [
     ),
 ];
 
+/// Whether the tokens of a script match these.
+fn match_those(rt: &impl Abort, alloc: Global, taken: &str, expected: &[Token<'_>]) -> bool {
+    let script = script_of(rt, alloc, taken);
+    tokens_of(rt, alloc, &script).matches(expected)
+}
+
+/// Whether the tokens of one script match those of the other.
+fn are_alike(rt: &impl Abort, alloc: Global, taken: &str, expected: &str) -> bool {
+    let script = script_of(rt, alloc, expected);
+    let tokens = tokens_of(rt, alloc, &script);
+    match_those(rt, alloc, taken, tokens.as_tokens())
+}
+
 #[test]
 fn compares_contents(rt: HostRuntime) {
-    let alloc = rt.alloc();
     for (taken, expected, same) in &MATCHES {
-        let taken = script_of(&rt, alloc, taken);
-        let expected = script_of(&rt, alloc, expected);
-        let tokens = tokens_of(&rt, alloc, &expected);
-        let matches = tokens_of(&rt, alloc, &taken).matches(tokens.as_tokens());
-        holds(&rt, matches == *same, "the tokens match or not");
+        let alike = are_alike(&rt, rt.alloc(), taken, expected);
+        holds(&rt, alike == *same, "the tokens match or not");
     }
 }
 
 /// A part of a text and one of a binary, both computed.
 const COMPUTED: &str = "text_fragment_computed =6364\nbinary_fragment_computed =03\n";
 
-#[test]
-fn takes_tokens_that_are_written(rt: HostRuntime) {
-    let alloc = rt.alloc();
-    let script = script_of(&rt, alloc, COMPUTED);
-    let text = TokenText::new(copy_of(&rt, alloc, "cd"));
-    let bytes = TokenBytes::new(must(&rt, Vec::from_slice(alloc, &[3])));
-    let written = [
+/// These tokens.
+fn computed_tokens(rt: &impl Abort, alloc: Global) -> Vec<Token<'static>> {
+    let text = TokenText::new(copy_of(rt, alloc, "cd"));
+    let bytes = TokenBytes::new(must(rt, Vec::from_slice(alloc, &[3])));
+    let tokens = vec![in alloc;
         Token::TextFragmentComputed(text),
         Token::BinaryFragmentComputed(bytes),
     ];
-    let mut tokens = tokens_of(&rt, alloc, &script);
+    must(rt, tokens)
+}
+
+#[test]
+fn takes_tokens_that_are_written(rt: HostRuntime) {
+    let script = script_of(&rt, rt.alloc(), COMPUTED);
+    let mut tokens = tokens_of(&rt, rt.alloc(), &script);
+    let written = computed_tokens(&rt, rt.alloc());
     holds(&rt, tokens.matches(&written), "they match");
     holds(&rt, !tokens.lacked_memory(), "memory is there");
     tokens.clear();

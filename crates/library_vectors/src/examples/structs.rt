@@ -113,37 +113,36 @@ fn variants_are_their_names(rt: HostRuntime) {
     shows(&rt, stream_to_string(alloc, &Level::Debug), "\"Debug\"");
 }
 
-/// The JSON, twice, and the calls of a struct whose fields lend a map and bytes: no fragment is computed.
-const REQUEST: (&str, &str, &str) = (
-    r#"{"path":"/x","headers":{"Host":"a.b"},"body":[0,255]}"#,
-    r#"{"path":"/x","headers":{"Host":"a.b"},"body":[0,255]}"#,
-    "record_tuple_begin - =52657175657374:VALUE_IDENT - 3\n\
-     record_tuple_value_begin - =70617468:VALUE_IDENT 0:VALUE_OFFSET\n\
-     text_begin 2\n\
-     text_fragment =2f78\n\
-     text_end\n\
-     record_tuple_value_end - =70617468:VALUE_IDENT 0:VALUE_OFFSET\n\
-     record_tuple_value_begin - =68656164657273:VALUE_IDENT 1:VALUE_OFFSET\n\
-     map_begin 1\n\
-     map_key_begin\n\
-     text_begin 4\n\
-     text_fragment =486f7374\n\
-     text_end\n\
-     map_key_end\n\
-     map_value_begin\n\
-     text_begin 3\n\
-     text_fragment =612e62\n\
-     text_end\n\
-     map_value_end\n\
-     map_end\n\
-     record_tuple_value_end - =68656164657273:VALUE_IDENT 1:VALUE_OFFSET\n\
-     record_tuple_value_begin - =626f6479:VALUE_IDENT 2:VALUE_OFFSET\n\
-     binary_begin 2\n\
-     binary_fragment =00ff\n\
-     binary_end\n\
-     record_tuple_value_end - =626f6479:VALUE_IDENT 2:VALUE_OFFSET\n\
-     record_tuple_end - =52657175657374:VALUE_IDENT -\n",
-);
+/// The form, as [`has_form`] has it, of a struct whose fields lend a map and bytes: no fragment is computed.
+const REQUEST: &'static str = r#"{"path":"/x","headers":{"Host":"a.b"},"body":[0,255]}
+{"path":"/x","headers":{"Host":"a.b"},"body":[0,255]}
+record_tuple_begin - =52657175657374:VALUE_IDENT - 3
+record_tuple_value_begin - =70617468:VALUE_IDENT 0:VALUE_OFFSET
+text_begin 2
+text_fragment =2f78
+text_end
+record_tuple_value_end - =70617468:VALUE_IDENT 0:VALUE_OFFSET
+record_tuple_value_begin - =68656164657273:VALUE_IDENT 1:VALUE_OFFSET
+map_begin 1
+map_key_begin
+text_begin 4
+text_fragment =486f7374
+text_end
+map_key_end
+map_value_begin
+text_begin 3
+text_fragment =612e62
+text_end
+map_value_end
+map_end
+record_tuple_value_end - =68656164657273:VALUE_IDENT 1:VALUE_OFFSET
+record_tuple_value_begin - =626f6479:VALUE_IDENT 2:VALUE_OFFSET
+binary_begin 2
+binary_fragment =00ff
+binary_end
+record_tuple_value_end - =626f6479:VALUE_IDENT 2:VALUE_OFFSET
+record_tuple_end - =52657175657374:VALUE_IDENT -
+"#;
 
 #[test]
 fn fields_lend_maps_and_bytes(rt: HostRuntime) {
