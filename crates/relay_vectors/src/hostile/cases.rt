@@ -19,15 +19,18 @@ struct Flaw {
     around: (&'static str, &'static str),
 }
 
+/// A script as it is.
+const NO_FLAW: Flaw = Flaw {
+    before: "",
+    behind: "",
+    status: 0,
+    around: ("", ""),
+};
+
 /// A script as it is; with a line behind it that is no call, or with which no value goes on; inside a sequence that
 /// doesn't end; and in a sequence before a map whose key is a sequence, or before a number with a letter.
 const FLAWS: [Flaw; 6] = [
-    Flaw {
-        before: "",
-        behind: "",
-        status: 0,
-        around: ("", ""),
-    },
+    NO_FLAW,
     Flaw {
         before: "",
         behind: "nil\n",
@@ -188,13 +191,8 @@ pub(crate) fn each_case(rt: &impl Abort, alloc: Global) -> Vec<Case> {
             add_cases(rt, alloc, kind, *flaw, &mut cases);
         }
     }
-    add_cases(
-        rt,
-        alloc,
-        &together(rt, alloc, &kinds),
-        FLAWS[0],
-        &mut cases,
-    );
+    let all = together(rt, alloc, &kinds);
+    add_cases(rt, alloc, &all, NO_FLAW, &mut cases);
     cases
 }
 

@@ -3,7 +3,7 @@
 use crate::shown::{agrees, holds, must};
 use std::alloc::Global;
 use std::process::Abort;
-use sval_buffer::ValueBuf;
+use sval_buffer::{Value as CapturedValue, ValueBuf};
 use sval_check::{Checked, check};
 use sval_core::{Lent, Value};
 use sval_io::{CountSink, VecSink};
@@ -83,13 +83,15 @@ fn canon_of(rt: &impl Abort, alloc: Global, captured: &ValueBuf<'_>) -> Vec<u8> 
 
 /// How long the JSON of an owned copy of what is captured of a script is.
 fn copy_length(rt: &impl Abort, alloc: Global, script: &Script) -> u64 {
-    let owned: ValueBuf<'_> = must(rt, ValueBuf::collect_owned(alloc, script));
-    let value = must(rt, owned.to_value());
+    let owned: ValueBuf<'static> = must(rt, ValueBuf::collect_owned(alloc, script));
+    let copy = copy_of(rt, &must(rt, owned.to_value()));
+    json_length(rt, &copy)
+}
+
+/// A copy of a value that borrows nothing. The test ends where memory for it is wanting.
+fn copy_of(rt: &impl Abort, value: &CapturedValue<'_>) -> CapturedValue<'static> {
     let copy = must(rt, value.try_clone());
-    match copy.into_owned() {
-        Ok(copy) => json_length(rt, &copy),
-        Err(_) => 0,
-    }
+    copy.into_owned().ok().expect(rt, "no owned copy")
 }
 
 #[test]
