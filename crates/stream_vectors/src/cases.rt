@@ -5,6 +5,7 @@ use crate::{checked, collected, replayed, written};
 use std::alloc::Global;
 use std::fmt::Debug;
 use std::process::Abort;
+use sval_buffer::ValueBuf;
 use sval_json::Variants;
 use sval_script::Script;
 
@@ -34,9 +35,16 @@ fn look_at(rt: &impl Abort, alloc: Global, look: Look, script: &Script) -> Strin
         Look::Passed => checked::passed(rt, alloc, script),
         Look::Answers(room) => checked::answers(rt, alloc, script, room),
         Look::Captured => replayed::replayed(rt, alloc, script),
-        Look::Text => collected::text_of(rt, alloc, &captured(alloc, script)),
-        Look::Binary => collected::binary_of(rt, alloc, &captured(alloc, script)),
-        Look::Json(variants) => written::written(rt, alloc, &captured(alloc, script), variants),
+        _ => look_at_captured(rt, alloc, look, &captured(alloc, script)),
+    }
+}
+
+/// Looks at what a buffer captured of the calls of a script.
+fn look_at_captured(rt: &impl Abort, alloc: Global, look: Look, value: &ValueBuf<'_>) -> String {
+    match look {
+        Look::Binary => collected::binary_of(rt, alloc, value),
+        Look::Json(variants) => written::written(rt, alloc, value, variants),
+        _ => collected::text_of(rt, alloc, value),
     }
 }
 
@@ -75,12 +83,13 @@ fn try_case(rt: &impl Abort, alloc: Global, look: Look, lines: &str, want: &str)
 
 /// Adds a line of a table to a script: with a newline, unless it ends with `␄`.
 fn add_line(rt: &impl Abort, lines: &mut String, line: &str) {
-    let (text, end) = match line.split_once('␄') {
-        Some((text, _behind)) => (text, ""),
-        None => (line, "\n"),
-    };
-    push(rt, lines, text);
-    push(rt, lines, end);
+    match line.strip_suffix("␄") {
+        Some(text) => push(rt, lines, text),
+        None => {
+            push(rt, lines, line);
+            push(rt, lines, "\n");
+        }
+    }
 }
 
 /// A text of a table, with newlines in the places of their pictures.

@@ -166,15 +166,20 @@ fn holds_fragments(rt: HostRuntime) {
     }
 }
 
+/// Compares the calls that a text makes, and those that it lends.
+fn lends(rt: &impl Abort, alloc: Global, text: &TextBuf<'_>, own: &str, lent: &str) {
+    agrees(rt, &script_of(rt, alloc, text), own);
+    agrees(rt, &lent_script_of(rt, alloc, text), lent);
+}
+
 /// A text that is joined is borrowed from the buffer, but lent as a computed one for longer.
 #[test]
 fn lends_what_it_joins(rt: HostRuntime) {
     let mut text = TextBuf::from_text(rt.alloc(), "abc");
     must(&rt, text.push_fragment("def"));
-    let want = "text_begin 6\ntext_fragment =616263646566\ntext_end\n";
-    agrees(&rt, &script_of(&rt, rt.alloc(), &text), want);
-    let want = "text_begin 6\ntext_fragment_computed =616263646566\ntext_end\n";
-    agrees(&rt, &lent_script_of(&rt, rt.alloc(), &text), want);
+    let own = "text_begin 6\ntext_fragment =616263646566\ntext_end\n";
+    let lent = "text_begin 6\ntext_fragment_computed =616263646566\ntext_end\n";
+    lends(&rt, rt.alloc(), &text, own, lent);
 }
 
 /// A binary that is joined is borrowed from the buffer, but lent as a computed one for longer.
@@ -219,11 +224,9 @@ fn joined(rt: &impl Abort, alloc: Global, fragments: &'static str) -> TextBuf<'s
 /// A fragment alone is lent as it came; one behind a text makes it a copy.
 #[test]
 fn lends_what_it_borrows(rt: HostRuntime) {
-    let alloc = rt.alloc();
     for (fragments, own, lent) in &PUSHED {
-        let text = joined(&rt, alloc, fragments);
-        agrees(&rt, &script_of(&rt, alloc, &text), own);
-        agrees(&rt, &lent_script_of(&rt, alloc, &text), lent);
+        let text = joined(&rt, rt.alloc(), fragments);
+        lends(&rt, rt.alloc(), &text, own, lent);
     }
 }
 

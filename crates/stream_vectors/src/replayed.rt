@@ -277,18 +277,22 @@ const VALUES: [&'static str; 5] = [
 ];
 
 /// Captures the value of these lines a second time, from its capture, and compares its calls with the lines.
-fn try_again(rt: &impl Abort, alloc: Global, lines: &str) {
-    let script = must(rt, Script::read(alloc, lines.as_bytes()));
-    let buffer = captured(alloc, &script);
-    let again: ValueBuf<'_> = must(rt, ValueBuf::collect(alloc, &buffer));
+fn try_again(rt: &impl Abort, alloc: Global, buffer: &ValueBuf<'_>, lines: &str) {
+    let again: ValueBuf<'_> = must(rt, ValueBuf::collect(alloc, buffer));
     holds(rt, again.is_complete(), lines);
     agrees(rt, &script_of(rt, alloc, &again), lines);
+}
+
+/// Captures the value of these lines, and then a second time.
+fn try_twice(rt: &impl Abort, alloc: Global, lines: &str) {
+    let script = must(rt, Script::read(alloc, lines.as_bytes()));
+    try_again(rt, alloc, &captured(alloc, &script), lines);
 }
 
 #[test]
 fn collects_values(rt: HostRuntime) {
     for lines in &VALUES {
-        try_again(&rt, rt.alloc(), lines);
+        try_twice(&rt, rt.alloc(), lines);
     }
 }
 
