@@ -76,8 +76,8 @@ fn failed_writes(rt: &impl Abort, alloc: Global, way: Way) -> usize {
 
 #[test]
 fn keeps_a_first_part_at_each_fault_of_the_sink(rt: HostRuntime) {
-    for way in WAYS {
-        let failed = failed_writes(&rt, rt.alloc(), way);
+    for way in &WAYS {
+        let failed = failed_writes(&rt, rt.alloc(), *way);
         holds(&rt, failed > 3 && failed < 59, way.path);
     }
 }
@@ -111,8 +111,8 @@ fn failed_reads(rt: &impl Abort, alloc: Global, way: Way) -> usize {
 
 #[test]
 fn writes_what_is_due_of_the_lines_before_a_read_fault(rt: HostRuntime) {
-    for way in WAYS {
-        let failed = failed_reads(&rt, rt.alloc(), way);
+    for way in &WAYS {
+        let failed = failed_reads(&rt, rt.alloc(), *way);
         holds(&rt, failed > 3 && failed < 19, way.path);
     }
 }

@@ -90,8 +90,8 @@ fn try_row(
 
 #[test]
 fn converts_its_rows(rt: HostRuntime) {
-    for (way, input, due) in ROWS {
-        try_row(&rt, rt.alloc(), way, input, (Ok(()), due));
+    for (way, input, due) in &ROWS {
+        try_row(&rt, rt.alloc(), *way, input, (Ok(()), due));
     }
 }
 
@@ -105,9 +105,12 @@ const BAD: [(Way, &'static str, DocumentError); 4] = [
 
 #[test]
 fn stops_at_a_bad_line(rt: HostRuntime) {
-    for (way, input, why) in BAD {
-        let error = ConvertError::Line { number: 2, why };
-        try_row(&rt, rt.alloc(), way, input, (Err(error), b"1\n"));
+    for (way, input, why) in &BAD {
+        let error = ConvertError::Line {
+            number: 2,
+            why: *why,
+        };
+        try_row(&rt, rt.alloc(), *way, input, (Err(error), b"1\n"));
     }
 }
 
