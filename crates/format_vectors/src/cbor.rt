@@ -3,6 +3,7 @@
 mod depth;
 mod items;
 mod limits;
+mod lookups;
 mod malformed;
 mod parts;
 mod places;

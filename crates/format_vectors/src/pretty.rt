@@ -26,7 +26,7 @@ const ROWS: [(&'static str, &'static str); 10] = [
 
 #[test]
 fn lays_out_its_rows(rt: HostRuntime) {
-    for (json, pretty) in ROWS {
+    for (json, pretty) in &ROWS {
         let out = must(&rt, pretty_to_vec(rt.alloc(), json.as_bytes()));
         holds(&rt, out.as_slice() == pretty.as_bytes(), json);
     }

@@ -44,7 +44,7 @@ fn lines_given(rt: &impl Abort, alloc: Global, input: &str, chunk: usize) -> Str
 
 #[test]
 fn gives_the_lines_of_its_rows(rt: HostRuntime) {
-    for (input, due) in ROWS {
+    for (input, due) in &ROWS {
         compare(&rt, &lines_given(&rt, rt.alloc(), input, 1), due, input);
         compare(&rt, &lines_given(&rt, rt.alloc(), input, 3), due, input);
     }

@@ -103,7 +103,7 @@ fn ends_with_breaks(rt: &impl Abort, alloc: Global, bytes: &[u8]) -> bool {
 /// Whether these bytes are an item, or with a zero and up to two breaks behind them.
 fn is_ended(rt: &impl Abort, alloc: Global, bytes: &[u8]) -> bool {
     let ends: [&[u8]; 4] = [b"", b"\0", b"\0\xff", b"\0\xff\xff"];
-    for end in ends {
+    for end in &ends {
         if CborDoc::read(alloc, &joined(rt, alloc, bytes, end)).is_ok() {
             return true;
         }

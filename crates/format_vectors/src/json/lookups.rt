@@ -5,7 +5,7 @@ use crate::shown::{must, push};
 use std::alloc::Global;
 use std::fmt::Write;
 use std::process::Abort;
-use sval_json_read::{JsonDoc, JsonRef, JsonText};
+use sval_json_read::{JsonDoc, JsonItems, JsonMembers, JsonRef, JsonText};
 
 /// A text, and behind `parts` what its value is taken for, item by item and member by member.
 struct Parts;
@@ -132,19 +132,29 @@ fn push_text(rt: &impl Abort, alloc: Global, text: &JsonText<'_>, seen: &mut Str
 fn push_parts(rt: &impl Abort, alloc: Global, value: &JsonRef<'_>, seen: &mut String) {
     push_one(rt, alloc, value, seen);
     if let Some(items) = value.items() {
-        let mut left = items;
-        while let Some(item) = left.next() {
-            push(rt, seen, "; ");
-            push_one(rt, alloc, &item, seen);
-        }
+        push_items(rt, alloc, items, seen);
     }
     if let Some(members) = value.members() {
-        let mut left = members;
-        while let Some(member) = left.next() {
-            let name = must(rt, member.name.to_text(alloc));
-            must(rt, write!(seen, "; {name:?} "));
-            push_one(rt, alloc, &member.value, seen);
-        }
+        push_members(rt, alloc, members, seen);
+    }
+}
+
+/// What each of these items is taken for.
+fn push_items(rt: &impl Abort, alloc: Global, items: JsonItems<'_>, seen: &mut String) {
+    let mut left = items;
+    while let Some(item) = left.next() {
+        push(rt, seen, "; ");
+        push_one(rt, alloc, &item, seen);
+    }
+}
+
+/// The name of each of these members, and what its value is taken for.
+fn push_members(rt: &impl Abort, alloc: Global, members: JsonMembers<'_>, seen: &mut String) {
+    let mut left = members;
+    while let Some(member) = left.next() {
+        let name = must(rt, member.name.to_text(alloc));
+        must(rt, write!(seen, "; {name:?} "));
+        push_one(rt, alloc, &member.value, seen);
     }
 }
 
