@@ -60,7 +60,8 @@ impl Reader {
     /// Where the number or string begins. A node has no room for a place of 256 TiB or more, which is answered as want
     /// of memory.
     fn offset(&self) -> Result<Offset, NoMemory>
-        ensures { IfOk result (λ from. number_of from ≡ self.now.from) }
+        ensures ok { IfOk result (λ from. number_of from ≡ self.now.from) }
+        ensures too_far { OnErr result (2 ^ 48 ≤ self.now.from) }
     {
         if self.from > Offset::MAX {
             return Err(NoMemory::from(AllocError));
