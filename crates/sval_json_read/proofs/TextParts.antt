@@ -1,7 +1,7 @@
 -- Pieces of a text that stand one directly behind the other, and parts whose escapes are written again as they are.
 use Rattle.std.specs.Prelude.{◌≡◌, ℕ, ◌+◌, ◌-◌, ◌<◌, ◌≤◌, true, false, ◌==◌, List, [], ◌∷◌, ◌++◌, codes, length, drop, take, get_or, Option, Some, None, IfSome, refl}
 use Rattle.std.specs.List.{between, list_all, starts_with}
-use Rattle.std.proofs.Common.{sym, ap, subst, ◌∙◌, arith, inl, inr, take-append-drop, length-take-le, length-drop, length-append}
+use Rattle.std.proofs.Common.{sym, ap, subst, ◌∙◌, append_assoc, arith, inl, inr, take-append-drop, length-take-le, length-drop, length-append}
 use Rattle.std.proofs.lemmas.Bool.{cases_lt, eqb-true}
 use Rattle.std.proofs.lemmas.Bool.Decides.{Decides-eqb}
 use Rattle.std.proofs.lemmas.List.{take_at}
@@ -49,6 +49,10 @@ joined_if ys (Some c) p q = pieces_joined p q
 pub quoted_if : {text : List ℕ} {at : ℕ} (from to : ℕ) (found : Option ℕ) → IsTextPiece text at from (codes "\"") → from ≤ to → to ≤ length text
     → IfSome found (λ upto. IsTextPiece text to upto (codes "\"")) → IfSome found (λ upto. IsTextPiece text at upto (in_quotes (between from to text)))
 quoted_if {text} from to found p o w q = joined_if (between from to text ++ codes "\"") found p (joined_if (codes "\"") found (own_piece text from to o w) q)
+
+-- a text between quotes, cut behind the first quote and before the last
+pub quoted_parts : (before text behind : List ℕ) → before ++ (in_quotes text ++ behind) ≡ (before ++ (34 ∷ [])) ++ (text ++ (34 ∷ behind))
+quoted_parts before text behind = ap (λ row. before ++ (34 ∷ row)) (append_assoc text (34 ∷ []) behind) ∙ sym (append_assoc before (34 ∷ []) (text ++ (34 ∷ behind)))
 
 -- a byte is where its piece ends
 piece_last : {text : List ℕ} {at upto byte : ℕ} → IsTextPiece text at upto (byte ∷ []) → get_or text (upto - 1) 0 ≡ byte

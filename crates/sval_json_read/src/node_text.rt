@@ -55,7 +55,7 @@ fn write_pieces<K: Sink>(raw: &str, out: &mut K) -> Result<(), SinkError>
     let mut rest = raw;
     loop {
         let (ready, other) = split_ready(rest);
-        write_all(out, ready.as_bytes())?;
+        write_in_place(out, ready.as_bytes())?;
         if other.is_empty() {
             return Ok(());
         }
@@ -63,16 +63,6 @@ fn write_pieces<K: Sink>(raw: &str, out: &mut K) -> Result<(), SinkError>
         write_piece(escape, out)?;
         rest = behind;
     }
-}
-
-/// Writes a string that has an escape, between quotes.
-fn write_string<K: Sink>(raw: &str, out: &mut K) -> Result<(), SinkError>
-    requires { IsRaw raw.now }
-    ensures { WritesAll result (K.told out.old) (in_quotes (escaped (text_in raw.now))) (K.told out.new) }
-{
-    write_in_place(out, b"\"")?;
-    write_pieces(raw, out)?;
-    write_in_place(out, b"\"")
 }
 
 /// The bytes from `from` up to `to` together with those around them, if these are `before` and `behind`.
@@ -167,28 +157,17 @@ impl Place {
         }
     }
 
-    /// Writes the comma that is due.
-    #[inline(always)]
-    fn write_comma<K: Sink>(self, is_first: bool, out: &mut K) -> Result<(), SinkError>
-        ensures { WritesAll result (K.told out.old) (comma_at is_first (node_place self)) (K.told out.new) }
-    {
-        if self.has_comma(is_first) {
-            return write_in_place(out, b",");
-        }
-        Ok(())
-    }
-
-    /// Writes the colon behind a name.
-    fn write_colon<K: Sink>(self, out: &mut K) -> Result<(), SinkError>
-        ensures { WritesAll result (K.told out.old) (colon_behind (node_place self)) (K.told out.new) }
+    /// Writes the quote behind a string, and the colon behind a name.
+    fn write_end<K: Sink>(self, out: &mut K) -> Result<(), SinkError>
+        ensures { WritesAll result (K.told out.old) (codes "\"" ++ colon_behind (node_place self)) (K.told out.new) }
     {
         match self {
-            Place::Key => write_in_place(out, b":"),
-            Place::Alone | Place::Item | Place::Value => Ok(()),
+            Place::Key => write_in_place(out, b"\":"),
+            Place::Alone | Place::Item | Place::Value => write_in_place(out, b"\""),
         }
     }
 
-    /// Writes a word or a bracket. `word` has the comma before it, which is left out where none is due.
+    /// Writes a word, a bracket or a quote. `word` has the comma before it, which is left out where none is due.
     #[inline(always)]
     fn write_word<K: Sink>(self, is_first: bool, word: &[u8], out: &mut K) -> Result<(), SinkError>
         requires { word.now ≡ codes "," ++ drop 1 word.now }
@@ -239,9 +218,9 @@ impl Place {
         ensures { WritesAll result (K.told out.old) (comma_at is_first (node_place self)
             ++ (in_quotes (escaped (text_in raw.now)) ++ colon_behind (node_place self))) (K.told out.new) }
     {
-        self.write_comma(is_first, out)?;
-        write_string(raw, out)?;
-        self.write_colon(out)
+        self.write_word(is_first, b",\"", out)?;
+        write_pieces(raw, out)?;
+        self.write_end(out)
     }
 
     /// Writes a string that is written as it was read, with all that is due around it.

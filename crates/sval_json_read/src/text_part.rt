@@ -98,7 +98,7 @@ fn is_due_unit(high: u8, low: u8) -> bool
 }
 
 /// Whether the first six bytes are a long escape that is written again as it is.
-#[inline(never)]
+#[inline(always)]
 fn has_due_unit(bytes: &[u8]) -> bool
     requires { get_or bytes.now 0 0 ≡ 92 }
     ensures within { result ≡ true → 6 ≤ length bytes.now }
