@@ -32,10 +32,10 @@ length_front zero nodes = sym (zero-min (length nodes))
 length_front (suc n) [] = sym (min-zero (suc n))
 length_front (suc n) (one ∷ nodes) = let e = length_front n nodes in omega (arith, e)
 
-begin_front : (count depth n : ℕ) (nodes : List Node) → min count (length nodes) ≡ span depth (map seen_node nodes) → min count (length (take n nodes)) ≡ span depth (map seen_node (take n nodes))
-begin_front count depth n nodes e =
+begin_front : (count n : ℕ) (nodes : List Node) → min count (length nodes) ≡ span 0 (map seen_node nodes) → min count (length (take n nodes)) ≡ span 0 (map seen_node (take n nodes))
+begin_front count n nodes e =
     let l = length_front n nodes in
-    let s = span_front depth n nodes in
+    let s = span_front 0 n nodes in
     omega (arith, l, s, e)
 
 counts_front : (one : Node) (n : ℕ) (nodes : List Node) → CountsSpan one (one ∷ nodes) → CountsSpan one (one ∷ take n nodes)
@@ -43,9 +43,9 @@ counts_front (node.Null p) n nodes c = tt
 counts_front (node.Bool p b) n nodes c = tt
 counts_front (node.Number p from size) n nodes c = tt
 counts_front (node.Text p from size) n nodes c = tt
-counts_front (node.BeginArray p count) n nodes c = begin_front (number_of count) 0 (suc n) (node.BeginArray p count ∷ nodes) c
+counts_front (node.BeginArray p count) n nodes c = begin_front (number_of count) (suc n) (node.BeginArray p count ∷ nodes) c
 counts_front (node.EndArray p) n nodes c = tt
-counts_front (node.BeginObject p count) n nodes c = begin_front (number_of count) 0 (suc n) (node.BeginObject p count ∷ nodes) c
+counts_front (node.BeginObject p count) n nodes c = begin_front (number_of count) (suc n) (node.BeginObject p count ∷ nodes) c
 counts_front (node.EndObject p) n nodes c = tt
 
 pub counted_front : (n : ℕ) (nodes : List Node) → AreCounted nodes → AreCounted (take n nodes)
@@ -259,7 +259,7 @@ pub record Innermost (nodes : List Node) (innermost : ℕ) : Type 0 where
   pub chain : IsChain around outer
   pub inner : AreWhole whole
 
-innermost_of : {nodes : List Node} {innermost : ℕ} → IsChain nodes innermost → 0 < innermost → Innermost nodes innermost
+pub innermost_of : {nodes : List Node} {innermost : ℕ} → IsChain nodes innermost → 0 < innermost → Innermost nodes innermost
 innermost_of (nothing_open s) l = absurd (omega (arith, l))
 innermost_of (opened_in {around = around} {whole = whole} {outer = outer} container p c inner) l =
     record { around = around; whole = whole; outer = outer; container = container; place = p; nodes_are = refl; innermost_is = refl; chain = c; inner = inner }
@@ -315,9 +315,6 @@ module _ {nodes : List Node} {innermost : ℕ} (i : Innermost nodes innermost) (
       ∙ ap (λ row. slice_set row (innermost - 1) (begin_of i.container i.place counted_count)) all_are
       ∙ ap (λ n. slice_set with_behind n (begin_of i.container i.place counted_count)) at_begin
       ∙ set-append_seam i.around (begin_of i.container i.place i.outer) (i.whole ++ behind) (begin_of i.container i.place counted_count)
-
-pub some_open : {nodes : List Node} {innermost : ℕ} → IsChain nodes innermost → 0 < innermost → Innermost nodes innermost
-some_open c l = innermost_of c l
 
 -- an end comes
 pub chain_end : {nodes : List Node} {innermost : ℕ} (other : Opened) (p : made_place.Place) (i : Innermost nodes innermost) (new : List Node) (outer : ℕ)

@@ -17,7 +17,6 @@ use sval_core::NoMemory;
 
 impl Reader {
     /// Reads a comma or the end of what is open.
-    #[tactic(auto, using(crate::proofs::ReaderPlaces::of_places, crate::proofs::KeptTokens::of_tokens))]
     #[inline(always)]
     fn goes_on(&mut self, bytes: &[u8], at: usize) -> Result<bool, NoMemory>
         requires at_in { at < length bytes.now }
@@ -39,7 +38,6 @@ impl Reader {
     }
 
     /// Reads one byte after a value.
-    #[tactic(auto, using(crate::proofs::ReaderPlaces::of_places, crate::proofs::KeptTokens::of_tokens))]
     #[inline(always)]
     pub(crate) fn follows(&mut self, bytes: &[u8], at: usize) -> Result<bool, NoMemory>
         requires at_in { at < length bytes.now }
@@ -106,7 +104,6 @@ impl Reader {
     }
 
     /// Reads the first byte of a value.
-    #[tactic(auto, using(crate::proofs::ReaderPlaces::of_places, crate::proofs::KeptTokens::of_tokens))]
     #[inline(always)]
     fn begins(&mut self, bytes: &[u8], at: usize) -> Result<bool, NoMemory>
         requires at_in { at < length bytes.now }
@@ -141,7 +138,6 @@ impl Reader {
     }
 
     /// Reads the first byte of a key.
-    #[tactic(auto, using(crate::proofs::ReaderPlaces::of_places, crate::proofs::KeptTokens::of_tokens))]
     fn begins_key(&mut self, bytes: &[u8], at: usize) -> bool
         requires at_in { at < length bytes.now }
         requires reads { IsReadTo bytes.now at self.old }
@@ -157,7 +153,6 @@ impl Reader {
     }
 
     /// Reads a byte where the next value is expected.
-    #[tactic(auto, using(crate::proofs::ReaderPlaces::of_places, crate::proofs::KeptTokens::of_tokens))]
     pub(crate) fn value(&mut self, bytes: &[u8], at: usize) -> Result<bool, NoMemory>
         requires at_in { at < length bytes.now }
         requires reads { IsReadTo bytes.now at self.old }
@@ -173,7 +168,6 @@ impl Reader {
     }
 
     /// Reads a byte where the first item of an array or its end is expected.
-    #[tactic(auto, using(crate::proofs::ReaderPlaces::of_places, crate::proofs::KeptTokens::of_tokens))]
     pub(crate) fn first_item(&mut self, bytes: &[u8], at: usize) -> Result<bool, NoMemory>
         requires at_in { at < length bytes.now }
         requires reads { IsReadTo bytes.now at self.old }
@@ -192,7 +186,6 @@ impl Reader {
     }
 
     /// Reads a byte where the first key of an object or its end is expected.
-    #[tactic(auto, using(crate::proofs::ReaderPlaces::of_places, crate::proofs::KeptTokens::of_tokens))]
     pub(crate) fn first_key(&mut self, bytes: &[u8], at: usize) -> Result<bool, NoMemory>
         requires at_in { at < length bytes.now }
         requires reads { IsReadTo bytes.now at self.old }
@@ -211,7 +204,6 @@ impl Reader {
     }
 
     /// Reads a byte where the next key of an object is expected.
-    #[tactic(auto, using(crate::proofs::ReaderPlaces::of_places, crate::proofs::KeptTokens::of_tokens))]
     pub(crate) fn next_key(&mut self, bytes: &[u8], at: usize) -> bool
         requires at_in { at < length bytes.now }
         requires reads { IsReadTo bytes.now at self.old }
@@ -224,7 +216,6 @@ impl Reader {
     }
 
     /// Reads a byte where a colon is expected.
-    #[tactic(auto, using(crate::proofs::ReaderPlaces::of_places, crate::proofs::KeptTokens::of_tokens))]
     pub(crate) fn colon(&mut self, bytes: &[u8], at: usize) -> bool
         requires at_in { at < length bytes.now }
         requires reads { IsReadTo bytes.now at self.old }

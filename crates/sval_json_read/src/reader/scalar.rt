@@ -21,7 +21,6 @@ use sval_core::NoMemory;
 
 impl Reader {
     /// Reads a letter of a word.
-    #[tactic(auto, using(crate::proofs::ReaderPlaces::of_places))]
     pub(crate) fn letter(&mut self, word: Word, bytes: &[u8], at: usize) -> bool
         requires at_in { at < length bytes.now }
         requires reads { IsReadTo bytes.now at self.old }
@@ -70,7 +69,7 @@ impl Reader {
     }
 
     /// Reads one more byte of a number.
-    #[tactic(auto, using(crate::proofs::KeptNodes::between_more, crate::proofs::ReaderPlaces::of_places))]
+    #[tactic(auto, using(crate::proofs::KeptNodes::between_more))]
     fn digit(&mut self, phase: Phase, bytes: &[u8], at: usize) -> bool
         requires at_in { at < length bytes.now }
         requires reads { IsReadTo bytes.now at self.old }
@@ -91,7 +90,6 @@ impl Reader {
     }
 
     /// Ends a number with the byte before.
-    #[tactic(auto, using(crate::proofs::ReaderPlaces::of_places))]
     pub(crate) fn end_number(&mut self, bytes: &[u8], at: usize) -> Result<(), NoMemory>
         requires at_in { at ≤ length bytes.now }
         requires reads { IsReadTo bytes.now at self.old }
@@ -106,7 +104,6 @@ impl Reader {
     }
 
     /// Ends a number, and reads the byte behind it.
-    #[tactic(auto, using(crate::proofs::KeptTokens::of_tokens))]
     fn after_number(&mut self, phase: Phase, bytes: &[u8], at: usize) -> Result<bool, NoMemory>
         requires at_in { at < length bytes.now }
         requires reads { IsReadTo bytes.now at self.old }
@@ -161,7 +158,6 @@ impl Reader {
     }
 
     /// Ends a string at its closing quote.
-    #[tactic(auto, using(crate::proofs::ReaderPlaces::of_places))]
     fn end_string(&mut self, is_key: bool, bytes: &[u8], at: usize) -> Result<(), NoMemory>
         requires at_in { at < length bytes.now }
         requires reads { IsReadTo bytes.now at self.old }
@@ -180,7 +176,7 @@ impl Reader {
     }
 
     /// Reads more of a string, or its end.
-    #[tactic(auto, using(crate::proofs::KeptNodes::between_more, crate::proofs::ReaderPlaces::of_places, crate::proofs::KeptTokens::of_tokens))]
+    #[tactic(auto, using(crate::proofs::KeptNodes::between_more))]
     pub(crate) fn string(
         &mut self,
         is_key: bool,

@@ -2,7 +2,7 @@ use Rattle.std.proofs.Common.{◌∷◌, [], ◌++◌, ◌-◌, ◌<◌, ◌^◌
 use Rattle.sval_json_read.specs.declared.node.Node.TheVariants.{Null}
 use Rattle.sval_json_read.specs.declared.node.Place.TheVariants.{Alone}
 use Rattle.sval_json_read.specs.NodeCounts.{IsChain, end_of, count_in, with_count, uncounted}
-use Rattle.sval_json_read.proofs.NodeCounts.{some_open, chain_end, chain_stray, set_is, outer_is, same_uncounted, seen_more, end_stays}
+use Rattle.sval_json_read.proofs.NodeCounts.{innermost_of, chain_end, chain_stray, set_is, outer_is, same_uncounted, seen_more, end_stays}
 use Rattle.sval_json_read.proofs.node_list.NodeList.end.Goals as goal
 
 pub invariant_of-self-then-self-gt0 : goal.invariant_of-self-then-self-gt0
@@ -10,7 +10,7 @@ invariant_of-self-then-self-gt0 c =
     let at = c.self.inside.innermost - 1 in
     let end = end_of c.args.container c.args.place in
     let items = c.in_ok-keep.ensures.kept ∙ ap (λ one. c.self.inside.nodes.items ++ (one ∷ [])) c.end_of.ensures in
-    let i = some_open c.self.invariant.0 (omega (arith, c.if-self-gt0.true)) in
+    let i = innermost_of c.self.invariant.0 (omega (arith, c.if-self-gt0.true)) in
     let chain = chain_end c.args.container c.args.place i c.count_from-self-inside.new.nodes.items c.count_from-self-inside.result
     (c.count_from-self-inside.ensures.counts ∙ ap (λ row. slice_set row at (with_count (length row - at) (get_or row at (Null Alone)))) items ∙ set_is i (end ∷ []) (Null Alone))
     (c.count_from-self-inside.ensures.held ∙ ap (λ row. count_in (get_or row at (Null Alone))) items ∙ outer_is i (end ∷ []) (Null Alone)) in
