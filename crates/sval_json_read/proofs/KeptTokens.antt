@@ -42,6 +42,3 @@ kept_end bytes state e h = record {
   reached = ap (after_bytes reader_start) (take_all (length bytes) bytes (omega arith)) ∙ e;
   keeps = h;
 }
-
--- for the functions of a reader
-pub ruleset of_tokens = (keeps_more, has_ended)

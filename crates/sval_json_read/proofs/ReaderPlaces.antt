@@ -41,6 +41,3 @@ cut_at_quote bytes at l q = IsCharBoundary-before_ascii bytes at l (omega arith)
 pub reads_start : (bytes : List ℕ) (from : ℕ) (nodes : List Node) → IsUtf8 bytes → from ≡ 0 → nodes ≡ [] → ReadsIn bytes 0 from nodes
 reads_start bytes from nodes u f n =
     subst (λ k. ReadsIn bytes 0 k nodes) (sym f) (subst (ReadsIn bytes 0 0) (sym n) (record { utf8 = u; before = omega arith; whole = IsCharBoundary-start bytes u; stand = tt }))
-
--- for the functions of a reader
-pub ruleset of_places = (reads_on, reads_node)
