@@ -1,4 +1,4 @@
-//! Scripts of which no CBOR is written, or only a first part, and why.
+//! Scripts that have no CBOR, or only a first part of it, and why.
 
 /// Rows, as [`super::Written`] says.
 pub(super) const ROWS: &'static str = r#"
