@@ -1,4 +1,4 @@
-//! Scripts that have no CBOR, or only a first part of it, and why.
+//! Scripts that CBOR has no place for, or not for all, and why.
 
 /// Rows, as [`super::Written`] says.
 pub(super) const ROWS: &'static str = r#"
