@@ -54,7 +54,7 @@ with_more : (byte : ℕ) (first : List ℕ) (line : LineLeft) → with_byte byte
 with_more byte first None = refl
 with_more byte first (Some (fields, behind)) = refl
 
-field_at : (s : List ℕ) (k : ℕ) → k < length s → ((j : ℕ) → j < k → is_byte2 32 10 (get_or s j 0) ≡ false) → is_byte2 32 10 (get_or s k 0) ≡ true
+pub field_at : (s : List ℕ) (k : ℕ) → k < length s → ((j : ℕ) → j < k → is_byte2 32 10 (get_or s j 0) ≡ false) → is_byte2 32 10 (get_or s k 0) ≡ true
     → line_ahead s ≡ with_field (take k s) (left_behind (get_or s k 0 == 10) (drop (suc k) s))
 field_at [] k h before here = absurd (omega arith)
 field_at (x ∷ xs) zero h before here = by_feed (x == 10) refl

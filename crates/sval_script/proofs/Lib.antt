@@ -23,6 +23,7 @@ pub mod NearPlaces
 pub mod SameRuns
 pub mod Decimals
 pub mod FieldTexts
+pub mod DigitFields
 pub mod RoomBytes
 pub mod ScriptLines
 pub mod ScriptPieces

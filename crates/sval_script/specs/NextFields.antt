@@ -6,7 +6,7 @@ use Rattle.sval_label.specs.Calls.{Call, Name}
 use Rattle.sval_script.specs.Lines as script
 use Rattle.sval_script.specs.Lines.{LineForm, field_then, complete, call_of_fields}
 use Rattle.sval_script.specs.Tags.{tag_of}
-use Rattle.sval_script.specs.FieldValues.{made_label, label_from, index_from, IsLabelText}
+use Rattle.sval_script.specs.FieldValues.{Decodes, made_label, label_from, index_from, IsLabelText}
 use Rattle.sval_script.specs.declared.field.LabelRead.{LabelRead}
 use Rattle.sval_script.specs.declared.field.LabelField.{LabelField}
 use Rattle.sval_script.specs.declared.fields.NameRead.{NameRead}
@@ -56,6 +56,17 @@ ReadsAs read seen line rest made = MatchOption made (NoNext read line) (λ x. Ne
 abbrev pub ReadsWord : LineLeft → LineLeft → Option Word → Type 0
 ReadsWord line rest made =
     MatchOption made (call_before call_of_fields line ≡ None) (λ word. call_before call_of_fields line ≡ call_before (form_of_word word) rest)
+
+-- the next field is `=` and digits, and the bytes that they spell were put behind those before them
+pub record DecodesNext (line rest : LineLeft) (old new : List ℕ) : Type 0 where
+  pub digits : List ℕ
+  pub first : line ≡ with_field (61 ∷ digits) rest
+  pub decodes : Decodes digits old new
+
+-- nothing was read, and nothing was put behind the bytes
+pub record LeavesNext (line rest : LineLeft) (old new : List ℕ) : Type 0 where
+  pub unread : rest ≡ line
+  pub unchanged : new ≡ old
 
 -- what the next field says is made of bytes that were put behind those before them
 pub record StoresNext {A : Type 0} (read : List ℕ → Option A) (make : List ℕ → A) (IsGood : List ℕ → Type 0) (line rest : LineLeft) (old new : List ℕ) (len : ℕ) : Type 0 where

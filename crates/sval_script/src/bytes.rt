@@ -1,6 +1,6 @@
 //! Bytes with room behind them.
 
-ghost use Rattle.std.specs.Prelude.{◌≡◌, ◌≤◌, None, OnOk, [], length};
+ghost use Rattle.std.specs.Prelude.{◌≡◌, ◌≤◌, None, OnErr, OnOk, [], length};
 ghost use Rattle.std.specs.Result.{result_ok};
 ghost use Rattle.hex.specs.Hex.{decode_of};
 ghost use Rattle.sval_script.specs.FieldValues.{Decodes};
@@ -21,6 +21,8 @@ pub(crate) struct Bytes {
     room: Vec<u8>,
     /// How many bytes there are.
     len: usize,
+    /// How many hex digits the next long field is expected to have.
+    expected_digits: usize,
 }
 
 impl Model for Bytes {
@@ -55,6 +57,7 @@ impl Bytes {
         Bytes {
             room: Vec::new(alloc),
             len: 0,
+            expected_digits: 0,
         }
     }
 
@@ -72,11 +75,26 @@ impl Bytes {
         &self.room[..self.len]
     }
 
+    /// How many hex digits the next long field is expected to have.
+    #[inline(always)]
+    pub(crate) fn expected_digits(&self) -> usize {
+        self.expected_digits
+    }
+
+    /// Expects `count` hex digits in the next long field.
+    #[inline(always)]
+    pub(crate) fn expect_digits(&mut self, count: usize)
+        ensures { self.new.items ≡ self.old.items }
+    {
+        self.expected_digits = count;
+    }
+
     /// Puts the bytes that hex digits spell behind the others.
     #[inline(always)]
     pub(crate) fn decode(&mut self, digits: &[u8]) -> Result<(), LineError>
         ensures decoded { OnOk result (Decodes digits.now self.old.items self.new.items) }
         ensures bad { result ≡ Err LineError.Bad → result_ok (decode_of digits.now) ≡ None }
+        ensures same { OnErr result (self.new.items ≡ self.old.items) }
     {
         let end = self.len + digits.len() / 2;
         lengthen(&mut self.room, end)?;

@@ -1,6 +1,6 @@
 //! What the fields of a line say.
 
-ghost use Rattle.std.specs.Prelude.{◌≡◌, ◌≤◌, ◌^◌, None, option_map, option_and_then, IfOk, length};
+ghost use Rattle.std.specs.Prelude.{◌≡◌, ◌≤◌, ◌-◌, ◌^◌, None, option_map, option_and_then, IfOk, drop, length};
 ghost use Rattle.std.specs.Bool.{MatchBool};
 ghost use Rattle.std.specs.Str.{IsUtf8};
 ghost use Rattle.sval_label.specs.Ranges.{is_index};
@@ -206,12 +206,27 @@ fn is_utf8(bytes: &[u8]) -> bool
 }
 
 /// The length as lines keep it, in 32 bits.
-fn kept_len(len: usize) -> Result<u32, LineError>
+pub(crate) fn kept_len(len: usize) -> Result<u32, LineError>
     ensures same { IfOk result (λ kept. kept ≡ len) }
     ensures no_memory { ¬ (result ≡ Err LineError.Bad) }
     ensures too_long { result ≡ Err LineError.NoMemory → 2 ^ 32 ≤ len }
 {
     u32::try_from(len).map_err(|_| LineError::NoMemory)
+}
+
+/// Answers how many bytes the store has from `start` on, if they are a text.
+#[inline(always)]
+pub(crate) fn text_len(store: &Bytes, start: usize) -> Result<u32, LineError>
+    requires { start ≤ length store.now.items }
+    ensures same { IfOk result (λ len. len ≡ length store.now.items - start) }
+    ensures text { IfOk result (λ _. IsUtf8 (drop start store.now.items)) }
+    ensures bad { result ≡ Err LineError.Bad → ¬ (IsUtf8 (drop start store.now.items)) }
+{
+    if is_text(&store.as_slice()[start..]) {
+        kept_len(store.len() - start)
+    } else {
+        Err(LineError::Bad)
+    }
 }
 
 /// Puts the text that a field spells behind what the store has, and answers how many bytes it has.
@@ -225,11 +240,7 @@ pub(crate) fn store_text(store: &mut Bytes, field: &[u8]) -> Result<u32, LineErr
     };
     let start = store.len();
     store.decode(digits)?;
-    if is_text(&store.as_slice()[start..]) {
-        kept_len(store.len() - start)
-    } else {
-        Err(LineError::Bad)
-    }
+    text_len(store, start)
 }
 
 /// Puts the bytes that a field spells behind what the store has, and answers how many they are.

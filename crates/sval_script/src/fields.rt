@@ -1,6 +1,7 @@
 //! The fields of a line.
 
 ghost use Rattle.std.specs.Prelude.{◌≡◌, None, IfOk, IfSome, MatchOption, get_or, ◌∷◌, []};
+ghost use Rattle.std.specs.Bool.{MatchBool};
 ghost use Rattle.sval_label.specs.Calls as call;
 ghost use Rattle.sval_label.specs.Grouped.{int_number, int_type};
 ghost use Rattle.sval_script.specs.Lines as script;
@@ -9,17 +10,18 @@ ghost use Rattle.sval_script.specs.Words.{type_of};
 ghost use Rattle.sval_script.specs.Fields.{line_ahead};
 ghost use Rattle.sval_script.specs.FieldValues.{index_of, index_field_of};
 ghost use Rattle.sval_script.specs.NextFields.{NoField, with_field, HasNoFieldsLeft, call_before};
+ghost use Rattle.sval_script.specs.NextFields.{DecodesNext, LeavesNext};
 ghost use Rattle.sval_script.specs.NextFields.{ReadsWord, ReadsNext, ReadsAs, NoNext};
 ghost use Rattle.sval_script.specs.NextFields.{StoresNextText, StoresNextBytes, StoresNextLabel, StoresNextLabelField, ReadsName};
 ghost use Rattle.sval_script.specs.NameNumbers.{label_count, name_count};
 
 use crate::bytes::Bytes;
 use crate::field::{
-    IndexField, IndexRead, LabelField, LabelRead, LineError, index, index_or_dash, size,
-    store_bytes, store_label, store_label_or_dash, store_text, truth,
+    IndexField, IndexRead, LabelField, LabelRead, LineError, index, index_or_dash, kept_len, size,
+    store_bytes, store_label, store_label_or_dash, store_text, text_len, truth,
 };
 use crate::number::number;
-use crate::short::field_end;
+use crate::short::{field_end, is_end_far};
 use crate::tag::TagField;
 use crate::word::{NumberType, Word};
 use std::marker::Model;
@@ -222,6 +224,30 @@ impl<'a> Fields<'a> {
         index_or_dash(self.next()?)
     }
 
+    /// Decodes the next field into the store, if it ends the line and has `=` and as many hex digits as the store
+    /// expects. No search is needed for its end, since nothing but hex digits is decoded. Answers whether it was
+    /// decoded.
+    #[inline(always)]
+    fn decode_expected(&mut self, store: &mut Bytes) -> bool
+        ensures { MatchBool result
+            (DecodesNext self.old self.new store.old.items store.new.items)
+            (LeavesNext self.old self.new store.old.items store.new.items) }
+    {
+        let [b'=', behind @ ..] = self.rest else {
+            return false;
+        };
+        let len = store.expected_digits();
+        if self.is_over || len >= behind.len() || behind[len] != b'\n' {
+            return false;
+        }
+        if store.decode(&behind[..len]).is_err() {
+            return false;
+        }
+        self.rest = &behind[len + 1..];
+        self.is_over = true;
+        true
+    }
+
     /// The next field, a text, which goes behind what the store has. Answers how many bytes it has.
     #[inline(always)]
     pub(crate) fn text(&mut self, store: &mut Bytes) -> Result<u32, LineError>
@@ -229,7 +255,27 @@ impl<'a> Fields<'a> {
             StoresNextText self.old self.new store.old.items store.new.items len) }
         ensures bad { result ≡ Err LineError.Bad → NoNext script.text self.old }
     {
-        store_text(store, self.next().ok_or(LineError::Bad)?)
+        if is_end_far(self.rest) {
+            self.long_text(store)
+        } else {
+            store_text(store, self.next().ok_or(LineError::Bad)?)
+        }
+    }
+
+    /// Reads as `text` does, and first tries whether the field has as many digits as the last one that was read here.
+    #[inline(never)]
+    fn long_text(&mut self, store: &mut Bytes) -> Result<u32, LineError>
+        ensures stored { IfOk result (λ len.
+            StoresNextText self.old self.new store.old.items store.new.items len) }
+        ensures bad { result ≡ Err LineError.Bad → NoNext script.text self.old }
+    {
+        let start = store.len();
+        if self.decode_expected(store) {
+            return text_len(store, start);
+        }
+        let field = self.next().ok_or(LineError::Bad)?;
+        store.expect_digits(field.len().saturating_sub(1));
+        store_text(store, field)
     }
 
     /// The next field, bytes, which go behind what the store has. Answers how many they are.
@@ -239,7 +285,27 @@ impl<'a> Fields<'a> {
             StoresNextBytes self.old self.new store.old.items store.new.items len) }
         ensures bad { result ≡ Err LineError.Bad → NoNext script.bytes self.old }
     {
-        store_bytes(store, self.next().ok_or(LineError::Bad)?)
+        if is_end_far(self.rest) {
+            self.long_bytes(store)
+        } else {
+            store_bytes(store, self.next().ok_or(LineError::Bad)?)
+        }
+    }
+
+    /// Reads as `bytes` does, and first tries whether the field has as many digits as the last one that was read here.
+    #[inline(never)]
+    fn long_bytes(&mut self, store: &mut Bytes) -> Result<u32, LineError>
+        ensures stored { IfOk result (λ len.
+            StoresNextBytes self.old self.new store.old.items store.new.items len) }
+        ensures bad { result ≡ Err LineError.Bad → NoNext script.bytes self.old }
+    {
+        let start = store.len();
+        if self.decode_expected(store) {
+            return kept_len(store.len() - start);
+        }
+        let field = self.next().ok_or(LineError::Bad)?;
+        store.expect_digits(field.len().saturating_sub(1));
+        store_bytes(store, field)
     }
 
     /// The next field, a label, whose text goes behind what the store has.

@@ -38,6 +38,12 @@ fn far_end(bytes: &[u8]) -> Option<usize>
     Some(16 + end)
 }
 
+/// Whether none of the first 16 bytes is a space or a line feed.
+#[inline(always)]
+pub(crate) fn is_end_far(bytes: &[u8]) -> bool {
+    bytes.len() >= 16 && near_ends(bytes) == 0
+}
+
 /// The first `:`.
 pub(crate) fn colon(bytes: &[u8]) -> Option<usize>
     ensures { IsFirstByte (is_byte 58) bytes.now result }
