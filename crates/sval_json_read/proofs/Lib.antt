@@ -67,3 +67,4 @@ mod WholeDocuments
 pub mod TokenScripts
 pub mod Waits
 pub mod Continued
+pub mod UnchangedNodes

@@ -43,3 +43,4 @@ pub mod TokenTexts
 pub mod DueEscapes
 pub mod TextParts
 pub mod TokenScripts
+pub mod UnchangedNodes

@@ -118,7 +118,7 @@ impl Joined {
 /// The place behind this byte, if it is at `at`.
 #[tactic(auto, using(crate::proofs::TextParts::piece_byte))]
 #[inline(always)]
-fn behind_byte(bytes: &[u8], at: usize, due: u8) -> Option<usize>
+pub(crate) fn behind_byte(bytes: &[u8], at: usize, due: u8) -> Option<usize>
     ensures { IfSome result (λ upto. IsTextPiece bytes.now at upto (due ∷ [])) }
 {
     if at < bytes.len() && bytes[at] == due {
@@ -161,7 +161,7 @@ impl Place {
 
     /// The place behind the string from `from` up to `to` and its colon, if its quote is at `at` and the ready part has it.
     #[inline(always)]
-    fn behind_text(
+    pub(crate) fn behind_text(
         self,
         bytes: &[u8],
         ready: TextPart,

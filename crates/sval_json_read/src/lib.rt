@@ -41,6 +41,7 @@ pub mod status;
 mod string;
 mod string_calls;
 mod text_part;
+mod unchanged;
 mod word;
 
 pub use document::{JsonDoc, LimitedError, ReadError};

@@ -18,8 +18,16 @@ use crate::joined::Joined;
 use crate::node::{Node, Place};
 use crate::piece::{Piece, first_escape};
 use crate::text_part::{TextPart, ready_part};
+use crate::unchanged::Unchanged;
 use sval_io::{Sink, SinkError, write_all, write_in_place};
 use sval_json::escape::write_escaped;
+
+/// How many nodes are joined before the next ones are looked at as one piece. A prime, so that a look comes at another
+/// node of each record, where all records have as many nodes.
+const STEP: usize = 61;
+
+/// How many nodes are one piece at least.
+const FEW: usize = 8;
 
 /// Writes the text of a run or of an escape, with the escapes that it needs.
 fn write_piece<K: Sink>(piece: Piece<'_>, out: &mut K) -> Result<(), SinkError>
@@ -322,8 +330,8 @@ impl Node {
     }
 }
 
-/// Writes nodes, one after another, from the text of the document. Short ones are joined, so that the sink takes many of
-/// them at once.
+/// Writes nodes, one after another, from the text of the document. Nodes that follow each other in the text as they are
+/// written are one piece. Other short ones are joined, so that the sink takes many of them at once.
 pub(crate) fn write_nodes<K: Sink>(text: &str, nodes: &[Node], out: &mut K) -> Result<(), SinkError>
     requires { AreKeptOf text.now nodes.now }
     ensures { WritesAll result (K.told out.old) (tokens_text true (tokens_in text.now (map seen_node nodes.now)))
@@ -332,10 +340,25 @@ pub(crate) fn write_nodes<K: Sink>(text: &str, nodes: &[Node], out: &mut K) -> R
     let mut ready = TextPart { from: 0, to: 0 };
     let mut joined = Joined::new();
     let mut is_first = true;
-    for node in nodes {
+    let mut index = 0;
+    let mut due = 0;
+    while index < nodes.len() {
+        if index >= due {
+            due = index.saturating_add(STEP);
+            let found = Unchanged::first_of(text, &nodes[index..], is_first, ready);
+            if found.count >= FEW {
+                found.write(text, &mut joined, out)?;
+                ready = found.ready;
+                is_first = found.is_first;
+                index += found.count;
+                continue;
+            }
+        }
+        let node = &nodes[index];
         ready = node.ready_around(text, ready);
         node.write_next(text, ready, is_first, &mut joined, out)?;
         is_first = node.is_begin();
+        index += 1;
     }
     joined.pass_on(out)
 }
