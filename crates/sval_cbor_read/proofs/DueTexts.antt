@@ -13,7 +13,8 @@ use Rattle.sval_json.specs.Laws.{IsWrittenAs}
 use Rattle.sval_json.specs.Number.{Refusal, InvalidKey, InvalidNumber}
 use Rattle.sval_json.specs.Shape.{json_of}
 use Rattle.sval_json.specs.Steps.{written_in}
-use Rattle.sval_json.specs.Written.{IsWrittenIn, IsBegunIn, IsRefusedIn, WritesSpelledValue}
+use Rattle.sval_json.specs.Written.{IsWrittenIn, IsBegunIn, IsRefusedIn}
+use Rattle.sval_json.proofs.Streamed.{writes_spelled}
 use Rattle.sval_json.proofs.WritingPlain.{spelling_written}
 use Rattle.sval_script.specs.Canon.{canon}
 use Rattle.sval_script.proofs.CanonicalScripts.{canon-reads_back}
@@ -107,13 +108,12 @@ module _ (input : List ℕ) (calls : List Call) (r : IsReadItem input calls) whe
   no_number_refusal refused = let never = refused_by_key input r.tree InvalidNumber r.item refused in cc never
 
   module _ {K : Type 0} (told : K → Told) (old new : K) where
-    pub writes_json : IsInMemory input → IsWrittenIn Inside calls (told old) (told new) → WritesSpelledValue Inside calls (told old) (told new) → IsSteady (told old) (told new)
-        → ServesBytes cbor_read_terms told form.Json input (Ok tt) old new
-    writes_json m w spelled steady =
-        let value = spelled r.tree r.spells (item_promises m r.item) in
+    pub writes_json : IsInMemory input → IsWrittenIn Inside calls (told old) (told new) → IsSteady (told old) (told new) → ServesBytes cbor_read_terms told form.Json input (Ok tt) old new
+    writes_json m w steady =
+        let tree = writes_spelled w r.tree r.spells in
         record {
           bytes = most_of form.Json r.item;
-          due = json_due m r.item value.json value.shape;
+          due = json_due m r.item tree.json tree.shape;
           writes = record { appends = subst (λ bytes. Appends (told old) bytes (told new)) is_most w.appends; steady = steady };
         }
 

@@ -35,6 +35,8 @@ pub mod Loop
 pub mod UnreadCauses
 pub mod LimitedHeads
 pub mod ItemTrees
+pub mod JoinedNodes
+pub mod JoinedItems
 pub mod ItemScripts
 pub mod PlainCalls
 pub mod NodeScripts

@@ -15,6 +15,8 @@ pub mod SeenHeads
 pub mod SeenStrings
 pub mod SeenBignums
 pub mod SeenNodes
+pub mod JoinedNodes
+pub mod WrittenItems
 pub mod NodeSpans
 pub mod SeenFound
 pub mod SeenEntries

@@ -13,6 +13,7 @@ ghost use Rattle.sval_cbor_read.specs.CborValues.{cbor_value_in};
 ghost use Rattle.sval_cbor_read.specs.SeenNodes.{streamed_items};
 ghost use Rattle.sval_cbor_read.specs.SeenFound.{AreOfItem};
 ghost use Rattle.sval_cbor_read.specs.SeenUnread.{IsUnread};
+ghost use Rattle.sval_cbor_read.specs.WrittenItems.{WritesSteps};
 
 mod limited;
 mod unread;
@@ -20,6 +21,7 @@ mod unread;
 use crate::cbor_ref::CborRef;
 use crate::node::Node;
 use crate::node_calls::stream_nodes;
+use crate::node_json::write_nodes;
 use crate::node_script::print_nodes;
 use crate::reader::Reader;
 pub use limited::CborLimitedError;
@@ -29,6 +31,7 @@ use std::fmt;
 use std::marker::Model;
 use sval_core::{Lent, NoMemory, Result as StreamResult, Stream, Value};
 use sval_io::{Sink, SinkError};
+use sval_json::Error as JsonError;
 use sval_ref::ValueRef;
 use unread::{Unread, front_error, whole_error};
 
@@ -190,6 +193,30 @@ impl<'a> CborDoc<'a> {
         ensures { result ≡ cbor_value_in self.now }
     {
         CborRef::new(self.bytes, self.nodes.as_slice())
+    }
+
+    /// Writes the JSON of the item, without white space (RFC 8259). It is what
+    /// [`stream_to_io_write`](sval_json::stream_to_io_write) writes of the document, in less time. Byte strings are arrays
+    /// of numbers there, and keys that are numbers, truth values or null are texts. It takes no memory but what the sink
+    /// takes, and doesn't flush the sink.
+    ///
+    /// ```
+    /// let doc = CborDoc::read(alloc, b"\xa1\x61a\x82\x01\x20".as_slice())?;
+    /// let mut out = VecSink::new(alloc);
+    /// doc.write_json(&mut out)?;
+    /// assert_eq!(rt; out.as_slice(), b"{\"a\":[1,-1]}".as_slice());
+    /// ```
+    ///
+    /// # Errors
+    ///
+    /// [`ErrorKind::InvalidKey`](sval_json::ErrorKind::InvalidKey) where a key is a byte string, an array or a map: the
+    /// sink took exactly what is written before it. [`ErrorKind::IO`](sval_json::ErrorKind::IO) and
+    /// [`ErrorKind::NoMemory`](sval_json::ErrorKind::NoMemory) only where the sink declined: it took a first part of the
+    /// JSON then, and not all. No other error comes.
+    pub fn write_json<K: Sink>(&self, out: &mut K) -> Result<(), JsonError>
+        ensures { WritesSteps self.now result (K.told out.old) (K.told out.new) }
+    {
+        write_nodes(self.bytes, self.nodes.as_slice(), out)
     }
 
     /// Writes the canonical script of the calls that the document makes: `-` for the size of each array and map, and

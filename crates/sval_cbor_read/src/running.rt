@@ -10,7 +10,7 @@ use crate::document::CborDoc;
 use crate::program::ReadCbor;
 use std::alloc::Global;
 use sval_io::{Sink, SinkError, Source, read_input};
-use sval_json::{ErrorKind, stream_to_io_write};
+use sval_json::ErrorKind;
 use sval_program::job::run;
 use sval_program::{Failure, Fault, ReadForm};
 
@@ -20,7 +20,7 @@ fn write_json<K: Sink>(doc: &CborDoc<'_>, out: &mut K) -> Result<(), Failure>
     ensures { (input : List ℕ) → IsReadItem input doc.now → IsInMemory input
         → ServesBytes cbor_read_terms K.told ReadForm.Json input result out.old out.new }
 {
-    match stream_to_io_write(out, doc) {
+    match doc.write_json(out) {
         Ok(()) => Ok(()),
         Err(error) => match error.kind() {
             ErrorKind::IO => Err(Failure::Write(SinkError::Failed)),

@@ -9,7 +9,7 @@ use Rattle.sval_json.specs.Steps.{writer_step, writer_steps, written_in}
 use Rattle.sval_json.specs.Laws.{WritesOn}
 use Rattle.sval_json.proofs.WrittenOnce.{then_assoc}
 
-steps_append : (style : Variants) (calls more : List Call) → writer_steps style (calls ++ more) ≡ (writer_steps style calls then writer_steps style more)
+pub steps_append : (style : Variants) (calls more : List Call) → writer_steps style (calls ++ more) ≡ (writer_steps style calls then writer_steps style more)
 steps_append style [] more = refl
 steps_append style (call ∷ calls) more =
     ap (λ f. writer_step style call then f) (steps_append style calls more) ∙ sym (then_assoc (writer_step style call) (writer_steps style calls) (writer_steps style more))

@@ -162,7 +162,7 @@ module _ (style : Variants) (e : Emission) (held holds : ℕ) (old new : Told) (
   }
 
 module _ {K : Type 0} (told : K → Told) (e : Emission) (old new : JsonWriter K) (is_start : writer_state old ≡ writer_start) where
-  after_done : HasDone (writer_steps old.variants e.calls) (writer_view told old) (writer_view told new) → IsAfter old.variants e.calls old.sink.ghost_name new.sink.ghost_name (told old.sink.now) (told new.sink.now)
+  pub after_done : HasDone (writer_steps old.variants e.calls) (writer_view told old) (writer_view told new) → IsAfter old.variants e.calls old.sink.ghost_name new.sink.ghost_name (told old.sink.now) (told new.sink.now)
   after_done d = record {
     name = ap (λ v. v.target.name) d.view;
     written = record {
@@ -187,7 +187,7 @@ module _ {K : Type 0} (told : K → Told) (e : Emission) (old new : JsonWriter K
       subst (λ found. IsAfterStop old.variants e found old.sink.ghost_name new.sink.ghost_name (told old.sink.now) (told new.sink.now)) (sym is)
       (after_itself old.variants e old.sink.ghost_name new.sink.ghost_name (told old.sink.now) (told new.sink.now) after.name (record { refuses = r; written = after.written; steady = after.steady }))
 
-  after_failure : IsStopped (writer_steps old.variants e.calls) (writer_view told old) (writer_view told new)
+  pub after_failure : IsStopped (writer_steps old.variants e.calls) (writer_view told old) (writer_view told new)
       → IsAfterStop old.variants e (error_kind new.why) old.sink.ghost_name new.sink.ghost_name (told old.sink.now) (told new.sink.now)
   after_failure stop =
       after_left old.variants e old.sink.ghost_name new.sink.ghost_name (told old.sink.now) (told new.sink.now) stop.name new.why

@@ -59,6 +59,22 @@ fn plain_ahead<const N: usize>(bytes: &[u8]) -> usize
     escapes.trailing_zeros() as usize
 }
 
+/// How many of the first 32 bytes come before one to escape between quotes. All are looked at together, which is for
+/// short texts with other bytes behind them.
+///
+/// ```
+/// assert_eq!(rt; plain_front(b"a short text\x00 and what is behind it"), 12);
+/// ```
+#[inline(always)]
+pub fn plain_front(bytes: &[u8]) -> usize
+    requires { 32 ≤ length bytes.now }
+    ensures within { result ≤ 32 }
+    ensures plain { AllPass is_plain (take result bytes.now) }
+    ensures found { result < 32 → is_escaped (slice_index bytes.now result) ≡ true }
+{
+    plain_ahead::<32>(bytes)
+}
+
 /// How many bytes come before the first that is escaped, looked at N at a time. The last of them may be looked at
 /// twice.
 #[inline(always)]

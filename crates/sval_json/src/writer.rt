@@ -16,10 +16,10 @@ ghost use Rattle.sval_core.specs.Values.{makes, whole_text_calls, whole_key_call
 ghost use Rattle.sval_io.specs.Sinks.{IsFull};
 ghost use Rattle.sval_json.specs.ErrorKinds.{seen_refusal, error_kind};
 ghost use Rattle.sval_json.specs.Escape.{escaped};
-ghost use Rattle.sval_json.specs.Actions.{write, refuse, escapes};
+ghost use Rattle.sval_json.specs.Actions.{write, refuse, escapes, ◌sets◌, set_empty, is_first_at};
 ghost use Rattle.sval_json.specs.SeenWriter.{quoted_text, seen_handler};
 ghost use Rattle.sval_json.specs.Steps.{value_written, refuse_in_key, opens, closes};
-ghost use Rattle.sval_json.specs.WriterLaw.{WriterView, Does, step_law, writer_law, writer_view, writer_standing};
+ghost use Rattle.sval_json.specs.WriterLaw.{WriterView, Does, step_law, writer_law, writer_state, writer_view, writer_standing};
 ghost use Rattle.sval_json.specs.WriterLaw.{fresh_writer, sink_of, stop_of};
 
 use crate::error::{Error as JsonError, Refusal, Stop};
@@ -110,6 +110,30 @@ impl<'k, K: Sink> JsonWriter<'k, K> {
         ensures { result ≡ error_kind (stop_of self.now) }
     {
         JsonError::of(self.why)
+    }
+
+    /// Whether the next item or key is the first one, which has no comma before it. It is `None` within a key, a number
+    /// or raw text, and where the name of a variant may be due.
+    pub fn is_first(&self) -> Option<bool>
+        ensures { result ≡ is_first_at (writer_state self.now) }
+    {
+        match self.handler {
+            Handler::Escapes if self.quoted && !self.named => Some(self.empty),
+            _ => None,
+        }
+    }
+
+    /// Writes the JSON of some calls that a caller has put together, as `CborDoc::write_json` of `sval_cbor_read` does
+    /// for short items. `is_first` says whether the next item or key is the first one behind it.
+    ///
+    /// It trusts that the text is what the writer would write for these calls.
+    pub fn write_joined(&mut self, text: &[u8], is_first: bool) -> Result
+        ensures { Does (write text.now sets set_empty is_first) result
+            (writer_view K.told self.old) (writer_view K.told self.new) }
+    {
+        self.write(text)?;
+        self.empty = is_first;
+        Ok(())
     }
 
     /// The sink, with what was written.

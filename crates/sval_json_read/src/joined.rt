@@ -1,4 +1,4 @@
-//! Tokens that are joined on the stack, so that the sink takes many of them at once.
+//! Short parts of an output that are joined on the stack, so that a sink takes many of them at once.
 
 ghost use Rattle.std.specs.Prelude.{◌≡◌, ◌+◌, ◌-◌, ◌<◌, ◌≤◌, ◌∷◌, ◌++◌, true, [], IfOk, IfErr, IfSome, OnOk, IsCharBoundary, codes, if◌then◌else◌, get_or, length};
 ghost use Rattle.std.specs.List.{between};
@@ -24,9 +24,9 @@ const ROOM: usize = 256;
 /// How many bytes of a short token are copied at once.
 const SHORT: usize = 32;
 
-/// Bytes that are due, and that the sink didn't take yet, seen as a list of them.
+/// Bytes that are due, and that the sink didn't take yet: 256 at most, seen as a list of them.
 #[derive(Drop)]
-pub(crate) struct Joined {
+pub struct Joined {
     room: [u8; ROOM],
     length: usize,
 }
@@ -44,7 +44,7 @@ impl Model for Joined {
 impl Joined {
     /// No bytes.
     #[inline(always)]
-    pub(crate) fn new() -> Self
+    pub fn new() -> Self
         ensures { result ≡ [] }
     {
         Joined {
@@ -85,9 +85,33 @@ impl Joined {
         ROOM - self.length
     }
 
+    /// The bytes.
+    #[inline(always)]
+    pub fn as_slice(&self) -> &[u8]
+        ensures { result.now ≡ self.now }
+    {
+        &self.room[..self.length]
+    }
+
+    /// How many bytes there are, 256 at most.
+    #[inline(always)]
+    pub fn len(&self) -> usize
+        ensures { result ≡ length self.now }
+    {
+        self.length
+    }
+
+    /// Forgets the bytes.
+    #[inline(always)]
+    pub fn clear(&mut self)
+        ensures { self.new ≡ [] }
+    {
+        self.length = 0;
+    }
+
     /// Adds a piece.
     #[inline(always)]
-    fn add(&mut self, piece: &[u8])
+    pub fn add(&mut self, piece: &[u8])
         requires { length self.old + length piece.now ≤ 256 }
         ensures { self.new ≡ self.old ++ piece.now }
     {
@@ -99,7 +123,7 @@ impl Joined {
     /// Adds the bytes from `from` up to `to`. Where these are few, what is behind them is copied too, so that all short
     /// tokens take one copy of the same size.
     #[inline(always)]
-    fn add_part(&mut self, bytes: &[u8], from: usize, to: usize)
+    pub fn add_part(&mut self, bytes: &[u8], from: usize, to: usize)
         requires order { from ≤ to }
         requires within { to ≤ length bytes.now }
         requires room { length self.old + (to - from) ≤ 256 }

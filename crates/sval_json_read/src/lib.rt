@@ -4,7 +4,7 @@
 //! that makes the calls of what they denote.
 //!
 //! The text is read by a machine, byte by byte, but that what no escape cuts of a string is passed over at once, in one
-//! loop and with a stack of its own (`specs/Reader.antt`). What is kept of it is one flat list of nodes, each of 16
+//! loop and with a stack of its own (`specs/Reader.antt`). What is kept of it is one flat list of nodes, each of 12
 //! bytes; numbers and strings are places in the text. Streaming goes over that list, takes no memory and doesn't
 //! recurse.
 //!
@@ -14,7 +14,7 @@
 mod document;
 mod escape;
 mod following;
-mod joined;
+pub mod joined;
 mod json_part;
 mod json_parts;
 mod json_ref;
