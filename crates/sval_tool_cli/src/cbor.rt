@@ -1,11 +1,11 @@
 //! Conversions from CBOR.
 
-use crate::trouble::{Trouble, of_item, of_left_over};
+use crate::trouble::{Trouble, Unwritten, of_item, of_left_over};
 use crate::values::write_asked;
-use crate::words::Options;
+use crate::words::{Options, Output};
 use std::alloc::Global;
 use sval_cbor_read::{CborDoc, CborReadError};
-use sval_io::Sink;
+use sval_io::{Sink, write_all};
 
 /// What is said of bytes that are not well-formed.
 const MALFORMED: &'static str = "no CBOR that is read goes on with these bytes";
@@ -38,6 +38,29 @@ fn unread(alloc: Global, name: &str, bytes: &[u8], from: usize, error: CborReadE
     }
 }
 
+/// Whether an item is written as it is, as JSON that isn't laid out.
+fn is_plain(options: &Options) -> bool {
+    options.rule.is_none()
+        && options.pointer.is_none()
+        && matches!(options.to, None | Some(Output::Json))
+}
+
+/// Writes what is due of an item.
+fn write_item<K: Sink>(
+    alloc: Global,
+    options: &Options,
+    doc: &CborDoc<'_>,
+    out: &mut K,
+) -> Result<(), Unwritten> {
+    if !is_plain(options) {
+        return write_asked(alloc, options, doc, out);
+    }
+    match doc.write_json(out) {
+        Ok(()) => Ok(write_all(out, b"\n".as_slice())?),
+        Err(error) => Err(Unwritten::from(error.kind())),
+    }
+}
+
 /// Reads the items of a sequence (RFC 8742), and writes what is due of each.
 pub(crate) fn convert_items<K: Sink>(
     alloc: Global,
@@ -54,7 +77,7 @@ pub(crate) fn convert_items<K: Sink>(
         }
         match CborDoc::read_front(alloc, rest) {
             Ok((doc, used)) => {
-                write_asked(alloc, options, &doc, out).map_err(|why| why.of(
+                write_item(alloc, options, &doc, out).map_err(|why| why.of(
                     alloc,
                     name,
                     Some(number),
@@ -88,7 +111,7 @@ pub(crate) fn convert_item<K: Sink>(
     out: &mut K,
 ) -> Result<(), Trouble> {
     match read_one(alloc, name, bytes) {
-        Ok(doc) => write_asked(alloc, options, &doc, out).map_err(|why| why.of(alloc, name, None)),
+        Ok(doc) => write_item(alloc, options, &doc, out).map_err(|why| why.of(alloc, name, None)),
         Err(trouble) => Err(trouble),
     }
 }
