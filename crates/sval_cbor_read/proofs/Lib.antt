@@ -47,4 +47,3 @@ pub mod PartStreams
 pub mod DueTexts
 pub mod OneDue
 mod examples
-mod AsciiLanes

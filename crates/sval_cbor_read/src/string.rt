@@ -1,13 +1,11 @@
 //! Definite strings.
 
-ghost use Rattle.std.specs.Prelude.{◌≡◌, true, ◌<◌, ◌≤◌, ◌+◌, List, ℕ, length, take, drop, IfSome, IsUtf8};
-ghost use Rattle.std.specs.Str.{IsAscii};
+ghost use Rattle.std.specs.Prelude.{◌≡◌, ◌<◌, ◌≤◌, ◌+◌, List, ℕ, length, take, drop, IfSome, IsUtf8};
 ghost use Rattle.sval_cbor_read.specs.SeenStrings.{IsBehind, IsStringAt, HasNoString};
 
 use crate::head::{Head, read_head};
-use simdutf8::compat::from_utf8;
-use std::simd::prelude::*;
 use std::str::from_utf8_unchecked;
+use sval_script::is_text;
 
 /// A string, and the place behind it.
 #[derive(Clone, Copy)]
@@ -33,74 +31,16 @@ pub(crate) fn binary_behind(bytes: &[u8], head: Head) -> Option<Piece<&[u8]>>
     })
 }
 
-/// Whether the first N bytes are ASCII, looked at together.
-#[inline(always)]
-fn is_ascii_ahead<const N: usize>(bytes: &[u8]) -> bool
-    requires long { N ≤ length bytes.now }
-    requires few { N ≤ 64 }
-    ensures { result ≡ true → IsAscii (take N bytes.now) }
-{
-    let high = Simd::<u8, N>::from_slice(bytes).simd_ge(Simd::splat(128));
-    high.to_bitmask() == 0
-}
-
-/// Whether all bytes are ASCII, looked at N at a time. The last of them may be looked at twice.
-#[inline(always)]
-fn are_ascii_by_lanes<const N: usize>(bytes: &[u8]) -> bool
-    requires long { N ≤ length bytes.now }
-    requires some { 0 < N }
-    requires few { N ≤ 64 }
-    ensures { result ≡ true → IsAscii bytes.now }
-{
-    let last = bytes.len() - N;
-    let mut start = 0;
-    while start < last {
-        if !is_ascii_ahead::<N>(&bytes[start..]) {
-            return false;
-        }
-        start += N;
-    }
-    is_ascii_ahead::<N>(&bytes[last..])
-}
-
-/// Whether all bytes are ASCII, looked at one by one.
-#[inline(always)]
-fn are_ascii_each(bytes: &[u8]) -> bool
-    ensures { result ≡ true → IsAscii bytes.now }
-{
-    for byte in bytes {
-        if *byte >= 128 {
-            return false;
-        }
-    }
-    true
-}
-
-/// Whether all bytes are ASCII.
-#[inline(always)]
-fn are_ascii(bytes: &[u8]) -> bool
-    ensures { result ≡ true → IsAscii bytes.now }
-{
-    match bytes.len() {
-        0..=3 => are_ascii_each(bytes),
-        4..=7 => are_ascii_by_lanes::<4>(bytes),
-        8..=15 => are_ascii_by_lanes::<8>(bytes),
-        _ => are_ascii_by_lanes::<16>(bytes),
-    }
-}
-
-/// The bytes as a text, where they are UTF-8. Most texts are short and ASCII.
+/// The bytes as a text, where they are UTF-8.
 #[inline(always)]
 fn as_text(bytes: &[u8]) -> Option<&str>
     ensures found { IfSome result (λ text. (text.now ≡ bytes.now) × IsUtf8 bytes.now) }
     ensures nothing { result ≡ None → IsUtf8 bytes.now → ⊥ }
 {
-    if bytes.len() < 64 && are_ascii(bytes) {
-        return Some(unsafe { from_utf8_unchecked(bytes) });
-    }
-    match from_utf8(bytes) {
-        Ok(text) => Some(text),
-        Err(_) => None,
+    if is_text(bytes) {
+        Some(unsafe { from_utf8_unchecked(bytes) })
+    } else {
+        None
     }
 }
 

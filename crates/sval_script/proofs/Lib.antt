@@ -34,3 +34,4 @@ pub mod ScriptTexts
 pub mod WholeLines
 mod NumbersRead
 mod examples
+mod AsciiLanes

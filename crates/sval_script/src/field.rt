@@ -1,7 +1,6 @@
 //! What the fields of a line say.
 
 ghost use Rattle.std.specs.Prelude.{◌≡◌, ◌≤◌, ◌-◌, ◌^◌, None, option_map, option_and_then, IfOk, drop, length};
-ghost use Rattle.std.specs.Bool.{MatchBool};
 ghost use Rattle.std.specs.Str.{IsUtf8};
 ghost use Rattle.sval_label.specs.Ranges.{is_index};
 ghost use Rattle.sval_script.specs.Lines as script;
@@ -14,6 +13,7 @@ use crate::bytes::Bytes;
 use crate::number::{integer, natural};
 use crate::short::colon;
 use crate::tag::TagField;
+use crate::text::is_text;
 use std::alloc::{AllocError, AllocFailed};
 
 /// Why a line wasn't read.
@@ -188,21 +188,6 @@ pub(crate) fn index_or_dash(field: &[u8]) -> Option<(IndexField, u64)>
             Some((IndexField::Present(index.sign, index.tag), index.number))
         }
     }
-}
-
-/// Bytes are UTF-8. Most texts of scripts are short and ASCII, which is told sooner.
-fn is_text(bytes: &[u8]) -> bool
-    ensures { MatchBool result (IsUtf8 bytes.now) (¬ (IsUtf8 bytes.now)) }
-{
-    bytes.is_ascii() || is_utf8(bytes)
-}
-
-/// Bytes are UTF-8.
-#[inline(never)]
-fn is_utf8(bytes: &[u8]) -> bool
-    ensures { MatchBool result (IsUtf8 bytes.now) (¬ (IsUtf8 bytes.now)) }
-{
-    simdutf8::basic::from_utf8(bytes).is_ok()
 }
 
 /// The length as lines keep it, in 32 bits.

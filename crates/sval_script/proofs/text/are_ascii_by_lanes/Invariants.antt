@@ -1,6 +1,6 @@
 use Rattle.std.proofs.Common.{◌-◌, ◌≡◌, ◌≤◌, ◌+◌, length, take}
 use Rattle.std.specs.Str.{IsAscii}
-use Rattle.sval_cbor_read.proofs.string.are_ascii_by_lanes.Given as goal
+use Rattle.sval_script.proofs.text.are_ascii_by_lanes.Given as goal
 
 abbrev pub invariant-loop-start : goal.invariant-loop-start
 invariant-loop-start g l = record {

@@ -1,7 +1,7 @@
 use Rattle.std.proofs.Common.{arith, ◌-◌, length}
 use Rattle.std.proofs.lemmas.List.{take_rest}
-use Rattle.sval_cbor_read.proofs.AsciiLanes.{ascii_on, ascii_whole}
-use Rattle.sval_cbor_read.proofs.string.are_ascii_by_lanes.Goals as goal
+use Rattle.sval_script.proofs.AsciiLanes.{ascii_on, ascii_whole}
+use Rattle.sval_script.proofs.text.are_ascii_by_lanes.Goals as goal
 
 pub loop-start-preserved : goal.loop-start-preserved
 loop-start-preserved g c = record {
