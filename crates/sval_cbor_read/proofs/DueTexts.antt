@@ -28,8 +28,9 @@ use Rattle.sval_program.specs.declared.form.ReadForm.{ReadForm}
 use Rattle.sval_program.specs.declared.form.ReadForm.TheVariants as form
 use Rattle.sval_cbor_read.specs.Document.{cbor_document_calls}
 use Rattle.sval_cbor_read.specs.Items.{IsItemOf}
+use Rattle.sval_cbor_read.specs.JsonFronts.{IsJsonOfItem}
 use Rattle.sval_cbor_read.specs.ReadErrors.{IsReadItem}
-use Rattle.sval_cbor_read.specs.Serves.{IsInMemory, IsItemTextDue, IsMeantByItem, IsWrittenUpToKey, CborReadDue, a_text, up_to_key, cbor_read_terms, most_of}
+use Rattle.sval_cbor_read.specs.Serves.{IsInMemory, IsItemTextDue, IsJsonOfTree, TellsTreeValue, IsMeantByItem, IsWrittenUpToKey, CborReadDue, a_text, up_to_key, cbor_read_terms, most_of}
 use Rattle.sval_cbor_read.proofs.Complete.{item_is_read}
 use Rattle.sval_cbor_read.proofs.ItemTrees.{item_printable, item_promises}
 use Rattle.sval_cbor_read.proofs.OneReading.{one_document}
@@ -80,6 +81,12 @@ module _ {input : List ℕ} {tree : Tree} (m : IsInMemory input) (item : IsItemO
   pub json_due : (json : Json) → json_of tree ≡ Ok json → CborReadDue form.Json input None (most_of form.Json item)
   json_due json shape = a_text (record { tree = tree; item = item; is = record { json = json; shape = shape; is_text = json_written item json shape } }) (means_json json shape)
 
+  pub tells_json : {text : List ℕ} → IsJsonOfTree tree text → TellsTreeValue tree text
+  tells_json is = subst (TellsTreeValue tree) (json_written item is.json is.shape ∙ sym is.is_text) (means_json is.json is.shape)
+
+  json_text_due : {text : List ℕ} → IsJsonOfTree tree text → CborReadDue form.Json input None text
+  json_text_due is = a_text (record { tree = tree; item = item; is = is }) (tells_json is)
+
   pub script_due : CborReadDue form.Calls input None (most_of form.Calls item)
   script_due = a_text (record { tree = tree; item = item; is = refl }) (canon-reads_back tree (item_printable m item))
 
@@ -97,6 +104,20 @@ module _ {input : List ℕ} {tree : Tree} (m : IsInMemory input) (item : IsItemO
       by_shape : (shape : Result Json Refusal) → json_of tree ≡ shape → DueOf form.Json input (most_of form.Json item)
       by_shape (Ok json) shape = record { found = None; due = json_due json shape; may = refl }
       by_shape (Err why) refused = by_refusal why refused
+
+-- ---- a text that is due
+
+-- a first part of it was written
+stops_for : {K : Type 0} (told : K → Told) (old new : K) (text : List ℕ) (why : SinkError) → WritesFront why (told old) text (told new) → StopsWithin why told text old new
+stops_for told old new text Failed w = record { cause = w.cause; begins = w.front; counts = w.counts }
+stops_for told old new text NoMemory w = record { cause = inr w.cause; begins = w.front; counts = w.counts }
+
+module _ {input text : List ℕ} (m : IsInMemory input) (is : IsJsonOfItem input text) {K : Type 0} (told : K → Told) (old new : K) where
+  pub writes_text : WritesWhole (told old) text (told new) → ServesBytes cbor_read_terms told form.Json input (Ok tt) old new
+  writes_text w = record { bytes = text; due = json_text_due m is.item is.is; writes = w }
+
+  pub text_stops : (why : SinkError) → WritesFront why (told old) text (told new) → ServesBytes cbor_read_terms told form.Json input (Err (failure.Write why)) old new
+  text_stops why w = record { found = None; bytes = text; due = json_text_due m is.item is.is; may = refl; stops = stops_for told old new text why w }
 
 -- ---- a document in JSON
 
@@ -150,9 +171,5 @@ module _ (input : List ℕ) (calls : List Call) (r : IsReadItem input calls) whe
     pub writes_script : IsInMemory input → WritesWhole (told old) (canon r.tree) (told new) → ServesBytes cbor_read_terms told form.Calls input (Ok tt) old new
     writes_script m w = record { bytes = canon r.tree; due = script_due m r.item; writes = w }
 
-    script_stops_for : (why : SinkError) → WritesFront why (told old) (canon r.tree) (told new) → StopsWithin why told (canon r.tree) old new
-    script_stops_for Failed w = record { cause = w.cause; begins = w.front; counts = w.counts }
-    script_stops_for NoMemory w = record { cause = inr w.cause; begins = w.front; counts = w.counts }
-
     pub script_stops : IsInMemory input → (why : SinkError) → WritesFront why (told old) (canon r.tree) (told new) → ServesBytes cbor_read_terms told form.Calls input (Err (failure.Write why)) old new
-    script_stops m why w = record { found = None; bytes = canon r.tree; due = script_due m r.item; may = refl; stops = script_stops_for why w }
+    script_stops m why w = record { found = None; bytes = canon r.tree; due = script_due m r.item; may = refl; stops = stops_for told old new (canon r.tree) why w }

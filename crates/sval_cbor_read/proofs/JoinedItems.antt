@@ -1,13 +1,13 @@
 -- Calls of nodes that the writer has, and those that are joined behind them.
 use Rattle.std.specs.Borrow.{MutBor}
-use Rattle.std.specs.Prelude.{◌≡◌, ◌≢◌, ℕ, ◌+◌, ◌<◌, Bool, true, false, List, [], ◌∷◌, ◌++◌, length, drop, get_or, Option, Some, None, Result, Ok, Err, IsErr, OnOk, refl}
+use Rattle.std.specs.Prelude.{◌≡◌, ℕ, ◌+◌, ◌<◌, Bool, true, false, List, [], ◌∷◌, ◌++◌, length, drop, get_or, Option, Some, None, Result, Ok, Err, IsErr, OnOk, refl}
 use Rattle.std.proofs.Common.{sym, ap, ◌∙◌, subst, append_assoc, append-nil}
 use Rattle.sval_label.specs.Calls.{Call}
 use Rattle.sval_label.specs.declared.error.Error.{Error}
-use Rattle.sval_core.specs.Law.{Standing, Streams, Stops, Emits}
+use Rattle.sval_core.specs.Law.{Standing, Streams, Stops}
 use Rattle.sval_core.specs.Values.{makes}
 use Rattle.sval_json.specs.declared.style.Variants.TheVariants.{Inside}
-use Rattle.sval_json.specs.Actions.{Handler, escapes, copies, reads, WriterState, Outcome, Action, nothing, continue, write, ◌then◌, ◌sets◌, set_empty, between, first_outside, is_first_at}
+use Rattle.sval_json.specs.Actions.{Handler, escapes, copies, reads, WriterState, Outcome, Action, continue, write, ◌sets◌, set_empty, between, first_outside, is_first_at}
 use Rattle.sval_json.specs.Steps.{writer_steps}
 use Rattle.sval_json.specs.WriterLaw.{WriterView, HasDone, IsLeftBy, IsStopped, Does, fresh_writer, sink_of, stop_of, writer_law, writer_view}
 use Rattle.sval_json.proofs.Combined.{does_alike}
@@ -147,11 +147,6 @@ stops_on {start} {now} {new} calls more style has s =
     by_ending : IsStopped (writer_steps Inside more) now.view new.view → IsStopped (writer_steps Inside (calls ++ more)) start new.view
     by_ending stop = stopped_behind calls more has stop
 
--- the writer has all calls where no item or key may come
-pub has_all : {start now : WriterView} {calls : List Call} {is_first : Option Bool} {joined : List ℕ} → is_first ≡ None → AreMade start calls now is_first joined → HasDone (writer_steps Inside calls) start now × (joined ≡ [])
-has_all {start} {now} {calls} {is_first = None} e m = (subst (λ made. HasDone (writer_steps Inside made) start now) (sym (m.same ∙ ap (λ ahead. m.done ++ ahead) m.stands.0 ∙ append-nil m.done)) m.has, m.stands.1)
-has_all {is_first = Some first} e m = cc e
-
 -- ---- node by node
 
 -- of all nodes these are left, and the calls of those before them were made
@@ -193,10 +188,7 @@ module _ {start now : WriterView} {bytes : List ℕ} {nodes left : List Node} {j
   all_calls : {is_first : Option Bool} (s : AreWrittenTo start bytes nodes left now is_first joined) → streamed_items bytes nodes ≡ s.calls
   all_calls s = s.all_is ∙ ap (λ left. s.calls ++ streamed_items bytes left) none ∙ append-nil s.calls
 
-  -- at the end nothing is joined, or the writer takes it
-  pub nodes_done : {is_first : Option Bool} → is_first ≡ None → AreWrittenTo start bytes nodes left now is_first joined → HasDone (writer_steps Inside (streamed_items bytes nodes)) start now
-  nodes_done e s = subst (λ made. HasDone (writer_steps Inside made) start now) (sym (all_calls s)) (has_all e s.made).0
-
+  -- at the end the writer takes what is joined
   pub nodes_end : {is_first : Option Bool} {first : Bool} (new : WriterView) (r : Result (Unit {0}) Error) → is_first ≡ Some first → AreWrittenTo start bytes nodes left now is_first joined → Does (write joined sets set_empty first) r now new
       → Does (writer_steps Inside (streamed_items bytes nodes)) r start new
   nodes_end {first = first} new (Ok done) e s d =

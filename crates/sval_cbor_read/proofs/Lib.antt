@@ -47,3 +47,6 @@ pub mod PartStreams
 pub mod DueTexts
 pub mod OneDue
 mod examples
+pub mod AsciiFront
+pub mod ItemJson
+pub mod ContainerJson

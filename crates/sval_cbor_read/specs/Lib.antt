@@ -37,3 +37,5 @@ pub mod ErrorTexts
 pub mod LimitedCborTexts
 pub mod ItemScripts
 pub mod Serves
+pub mod JsonFronts
+pub mod ItemJson

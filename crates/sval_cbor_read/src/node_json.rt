@@ -77,7 +77,8 @@ impl Place {
         requires within { head.next + head.number ≤ length bytes.now }
         requires room { length joined.old + 64 ≤ 256 }
         ensures { IsJoined result joined.old
-            (comma_in is_first self ++ quoted_in self (escaped (take head.number (drop head.next bytes.now)))) joined.new }
+            (comma_in is_first self ++ quoted_in self (escaped (take head.number (drop head.next bytes.now))))
+            joined.new }
     {
         if head.number > SHORT as u64 || bytes.len() - head.next < SHORT {
             return false;

@@ -7,9 +7,10 @@ ghost use Rattle.sval_cbor_read.specs.ReadErrors.{IsReadItem};
 ghost use Rattle.sval_cbor_read.specs.Serves.{cbor_read_terms, IsInMemory};
 
 use crate::document::CborDoc;
+use crate::item_json::json_at_once;
 use crate::program::ReadCbor;
 use std::alloc::Global;
-use sval_io::{Sink, SinkError, Source, read_input};
+use sval_io::{Sink, SinkError, Source, read_input, write_all};
 use sval_json::ErrorKind;
 use sval_program::job::run;
 use sval_program::{Failure, Fault, ReadForm};
@@ -53,8 +54,8 @@ fn write_document<K: Sink>(form: ReadForm, doc: &CborDoc<'_>, out: &mut K) -> Re
     }
 }
 
-/// Reads the bytes as an item, and writes what is asked for of it.
-fn serve_bytes<K: Sink>(
+/// Reads the bytes as a document, and writes what is asked for of it.
+fn serve_document<K: Sink>(
     alloc: Global,
     form: ReadForm,
     bytes: &[u8],
@@ -65,6 +66,33 @@ fn serve_bytes<K: Sink>(
 {
     let doc = CborDoc::read(alloc, bytes)?;
     write_document(form, &doc, out)
+}
+
+/// Reads the bytes as an item, and writes its JSON.
+fn serve_json<K: Sink>(alloc: Global, bytes: &[u8], out: &mut K) -> Result<(), Failure>
+    requires { length bytes.now < 2 ^ 64 }
+    ensures { ServesBytes cbor_read_terms K.told ReadForm.Json bytes.now result out.old out.new }
+{
+    match json_at_once(alloc, bytes) {
+        Some(json) => Ok(write_all(out, json.as_slice())?),
+        None => serve_document(alloc, ReadForm::Json, bytes, out),
+    }
+}
+
+/// Reads the bytes as an item, and writes what is asked for of it.
+fn serve_bytes<K: Sink>(
+    alloc: Global,
+    form: ReadForm,
+    bytes: &[u8],
+    out: &mut K,
+) -> Result<(), Failure>
+    requires { length bytes.now < 2 ^ 64 }
+    ensures { ServesBytes cbor_read_terms K.told form bytes.now result out.old out.new }
+{
+    match form {
+        ReadForm::Json => serve_json(alloc, bytes, out),
+        ReadForm::Calls => serve_document(alloc, form, bytes, out),
+    }
 }
 
 /// Reads the input whole, and serves its bytes.

@@ -1,9 +1,11 @@
 //! Definite strings.
 
 ghost use Rattle.std.specs.Prelude.{◌≡◌, ◌<◌, ◌≤◌, ◌+◌, List, ℕ, length, take, drop, IfSome, IsUtf8};
+ghost use Rattle.std.specs.Str.{IsAscii};
 ghost use Rattle.sval_cbor_read.specs.SeenStrings.{IsBehind, IsStringAt, HasNoString};
 
 use crate::head::{Head, read_head};
+use std::simd::prelude::*;
 use std::str::from_utf8_unchecked;
 use sval_script::is_text;
 
@@ -29,6 +31,22 @@ pub(crate) fn binary_behind(bytes: &[u8], head: Head) -> Option<Piece<&[u8]>>
         content: &bytes[head.next..next],
         next,
     })
+}
+
+/// How many of the first 32 bytes come before one that isn't ASCII. All are looked at together.
+#[inline(always)]
+pub(crate) fn ascii_front(bytes: &[u8]) -> usize
+    requires { 32 ≤ length bytes.now }
+    ensures within { result ≤ 32 }
+    ensures ascii { IsAscii (take result bytes.now) }
+{
+    let high = Simd::<u8, 32>::from_slice(bytes)
+        .simd_ge(Simd::splat(128))
+        .to_bitmask();
+    if high == 0 {
+        return 32;
+    }
+    high.trailing_zeros() as usize
 }
 
 /// The bytes as a text, where they are UTF-8.

@@ -8,7 +8,7 @@ use Rattle.sval_cbor_read.specs.declared.document.CborReadError.TheVariants as r
 use Rattle.sval_program.specs.declared.form.ReadForm.{ReadForm}
 use Rattle.sval_cbor_read.specs.ReadErrors.{IsCborReadError}
 use Rattle.sval_cbor_read.specs.Serves.{no_item, cbor_read_terms, failure_of_cbor_read}
-use Rattle.sval_cbor_read.proofs.running.serve_bytes.Goals as goal
+use Rattle.sval_cbor_read.proofs.running.serve_document.Goals as goal
 
 -- nothing is written of bytes that weren't read
 unread : {K : Type 0} (told : K → Told) (input : List ℕ) (asked : ReadForm) (old : K) (why : CborReadError) → IsCborReadError input why → ServesBytes cbor_read_terms told asked input (Err (failure_of_cbor_read why)) old old
