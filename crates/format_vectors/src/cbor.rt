@@ -1,5 +1,6 @@
 //! The reader and the writer of CBOR.
 
+mod at_once;
 mod depth;
 mod items;
 mod limits;

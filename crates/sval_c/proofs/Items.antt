@@ -12,8 +12,9 @@ use Rattle.sval_c.specs.declared.fault.Fault.TheVariants as fault
 use Rattle.sval_cbor_read.specs.declared.document.CborReadError.{CborReadError}
 use Rattle.sval_cbor_read.specs.declared.document.CborReadError.TheVariants as reading
 use Rattle.sval_cbor_read.specs.ReadErrors.{IsReadItem, IsCborReadError}
+use Rattle.sval_cbor_read.specs.JsonFronts.{IsJsonOfItem}
 use Rattle.sval_cbor_read.specs.Serves.{IsInMemory}
-use Rattle.sval_cbor_read.proofs.DueTexts.{no_number_refusal}
+use Rattle.sval_cbor_read.proofs.DueTexts.{no_number_refusal, tells_json}
 use Rattle.sval_cbor_read.proofs.ItemTrees.{item_promises}
 use Rattle.sval_c.specs.declared.lack.Lack.{Lack}
 use Rattle.sval_c.specs.declared.lack.Lack.TheVariants as lack
@@ -24,6 +25,9 @@ pub unread : (input : List ℕ) (why : CborReadError) → IsCborReadError input 
 unread input (reading.Malformed at) cause = ([], no_item cause.0.no_item)
 unread input (reading.Unsupported at) cause = ([], no_item cause.0.no_item)
 unread input reading.NoMemory cause = tt
+
+pub at_once : (input text : List ℕ) → IsInMemory input → IsJsonOfItem input text → JsonOfCborDue input None text
+at_once input text m is = has_json is.tree is.item (let t = tells_json m is.item is.is in record { json = t.json; shape = t.shape; is_text = t.is_text; value = t.value; is = t.is })
 
 module _ (input : List ℕ) (calls : List Call) (r : IsReadItem input calls) where
   pub written : IsInMemory input → (bytes : List ℕ) → GivesJson Inside (makes calls) (Ok bytes) → JsonOfCborDue input None bytes

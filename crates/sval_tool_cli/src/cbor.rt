@@ -4,7 +4,7 @@ use crate::trouble::{Trouble, Unwritten, of_item, of_left_over};
 use crate::values::write_asked;
 use crate::words::{Options, Output};
 use std::alloc::Global;
-use sval_cbor_read::{CborDoc, CborReadError};
+use sval_cbor_read::{CborDoc, CborReadError, json_front_at_once};
 use sval_io::{Sink, write_all};
 
 /// What is said of bytes that are not well-formed.
@@ -45,6 +45,21 @@ fn is_plain(options: &Options) -> bool {
         && matches!(options.to, None | Some(Output::Json))
 }
 
+/// The JSON of the first item of bytes, and how many bytes it takes, where it is written as it is and is of the
+/// commonest kinds.
+fn at_once(alloc: Global, options: &Options, bytes: &[u8]) -> Option<(Vec<u8>, usize)> {
+    if !is_plain(options) {
+        return None;
+    }
+    json_front_at_once(alloc, bytes)
+}
+
+/// Writes JSON, and ends its line.
+fn write_line<K: Sink>(json: &[u8], out: &mut K) -> Result<(), Unwritten> {
+    write_all(out, json)?;
+    Ok(write_all(out, b"\n".as_slice())?)
+}
+
 /// Writes what is due of an item.
 fn write_item<K: Sink>(
     alloc: Global,
@@ -75,17 +90,15 @@ pub(crate) fn convert_items<K: Sink>(
         if rest.is_empty() {
             return Ok(());
         }
-        match CborDoc::read_front(alloc, rest) {
-            Ok((doc, used)) => {
-                write_item(alloc, options, &doc, out).map_err(|why| why.of(
-                    alloc,
-                    name,
-                    Some(number),
-                ))?;
-                from = from.saturating_add(used);
-            }
-            Err(error) => return Err(unread(alloc, name, bytes, from, error)),
-        }
+        let written = match at_once(alloc, options, rest) {
+            Some((json, used)) => write_line(json.as_slice(), out).map(|()| used),
+            None => match CborDoc::read_front(alloc, rest) {
+                Ok((doc, used)) => write_item(alloc, options, &doc, out).map(|()| used),
+                Err(error) => return Err(unread(alloc, name, bytes, from, error)),
+            },
+        };
+        let used = written.map_err(|why| why.of(alloc, name, Some(number)))?;
+        from = from.saturating_add(used);
     }
     Ok(())
 }
@@ -110,10 +123,14 @@ pub(crate) fn convert_item<K: Sink>(
     bytes: &[u8],
     out: &mut K,
 ) -> Result<(), Trouble> {
-    match read_one(alloc, name, bytes) {
-        Ok(doc) => write_item(alloc, options, &doc, out).map_err(|why| why.of(alloc, name, None)),
-        Err(trouble) => Err(trouble),
-    }
+    let written = match at_once(alloc, options, bytes) {
+        Some((json, used)) if used == bytes.len() => write_line(json.as_slice(), out),
+        _ => match read_one(alloc, name, bytes) {
+            Ok(doc) => write_item(alloc, options, &doc, out),
+            Err(trouble) => return Err(trouble),
+        },
+    };
+    written.map_err(|why| why.of(alloc, name, None))
 }
 
 /// Reads one item, or those of a sequence, and writes nothing.

@@ -1,10 +1,10 @@
 //! Bytes, and what is written of them as JSON or why they aren't read.
 
 use crate::cases::{Case, try_cases};
-use crate::shown::must;
+use crate::shown::{holds, must};
 use std::alloc::Global;
 use std::process::Abort;
-use sval_cbor_read::CborDoc;
+use sval_cbor_read::{CborDoc, json_at_once};
 use sval_check::TokenBuf;
 use sval_json::stream_to_string;
 use sval_ref::stream_ref;
@@ -14,15 +14,25 @@ pub(crate) fn bytes_of(rt: &impl Abort, alloc: Global, line: &str) -> Vec<u8> {
     must(rt, hex::decode(alloc, line.trim_end()))
 }
 
-/// Bytes in hex, and behind `json` what is written of them, or behind `error` why they aren't read.
+/// Bytes in hex, and behind `json` what is written of them, or behind `error` why they aren't read. What is written of
+/// them at once is the same, or nothing.
 pub(crate) struct Read;
 
 impl Case for Read {
     fn seen(rt: &impl Abort, alloc: Global, input: &str, _due: &str) -> String {
         let bytes = bytes_of(rt, alloc, input);
+        let at_once = json_at_once(alloc, &bytes);
         let seen = match CborDoc::read(alloc, &bytes) {
-            Ok(doc) => format!(in alloc; "json {}", must(rt, stream_to_string(alloc, &doc))),
-            Err(error) => format!(in alloc; "error {error:?}"),
+            Ok(doc) => {
+                let json = must(rt, stream_to_string(alloc, &doc));
+                let same = at_once.is_none_or(|found| found.as_slice() == json.as_bytes());
+                holds(rt, same, input);
+                format!(in alloc; "json {json}")
+            },
+            Err(error) => {
+                holds(rt, at_once.is_none(), input);
+                format!(in alloc; "error {error:?}")
+            },
         };
         must(rt, seen)
     }
