@@ -57,7 +57,7 @@ length-dropped xs zero = omega arith
 length-dropped [] (suc a) = omega arith
 length-dropped (x ∷ xs) (suc a) = let n = length-dropped xs a in omega arith
 
-range_more : (xs more : List ℕ) (a b : ℕ) → a ≤ b → b ≤ length xs → slice_range (xs ++ more) a b ≡ slice_range xs a b
+pub range_more : (xs more : List ℕ) (a b : ℕ) → a ≤ b → b ≤ length xs → slice_range (xs ++ more) a b ≡ slice_range xs a b
 range_more xs more a b h k =
     let n = length-dropped xs a in
     ap (take (b - a)) (drop-front xs more a (omega arith)) ∙ take-front (drop a xs) more (b - a) (omega arith)

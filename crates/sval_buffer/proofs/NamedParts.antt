@@ -1,28 +1,24 @@
 -- A part with a name that is put after the others.
-use Rattle.std.specs.Prelude.{◌≡◌, ℕ, ◌-◌, Bool, List, [], ◌∷◌, ◌++◌, length, Option, refl, slice_get}
+use Rattle.std.specs.Prelude.{◌≡◌, ℕ, ◌-◌, Bool, List, [], ◌∷◌, ◌++◌, length, refl, slice_get}
 use Rattle.std.proofs.Common.{sym, ap}
 use Rattle.sval_label.specs.Calls.{Call}
 use Rattle.sval_buffer.specs.Forest.{Single, Forest, add, begun}
 use Rattle.sval_buffer.specs.Flat as flat
 use Rattle.sval_buffer.specs.Flat.{flat_part}
+use Rattle.sval_buffer.specs.SeenHolder.{held_place}
 use Rattle.sval_buffer.specs.SeenNames.{Extends, KeepsNamedCall}
-use Rattle.sval_buffer.specs.declared.part.Part.{Part}
-use Rattle.sval_buffer.specs.declared.part.PartKind.TheVariants as kind
-use Rattle.sval_buffer.proofs.KeptParts.{Holds, holds_extended, holds_added, holds_begun}
+use Rattle.sval_buffer.specs.SeenStores.{SeenStores}
+use Rattle.sval_buffer.specs.declared.holder.Holder.{Holder}
+use Rattle.sval_buffer.specs.declared.part.Part.TheVariants as part
+use Rattle.sval_buffer.proofs.KeptParts.{Holds, grows_calls, holds_grown, holds_added, holds_begun}
 
--- the part of a tag or a hint, and that of a container
-abbrev pub named_part : ℕ → Option ℕ → Part
-named_part at holder = record { kind = kind.Named at; holder = holder }
-
-abbrev pub named_container : ℕ → Option ℕ → Part
-named_container at holder = record { kind = kind.NamedContainer at 0; holder = holder }
-
-module _ {calls now : List Call} {parts : List Part} {places : List ℕ} {within : Bool} {f : Forest} (h : Holds calls parts places within f)
-    {call : Call} {at : ℕ} {o : Option ℕ} (extends : Extends calls now) (keeps : KeepsNamedCall now at call) (held : o ≡ slice_get places (length places - 1)) where
-  pub holds_single : Holds now (parts ++ (named_part at o ∷ [])) places within (add (Single call) f)
+module _ {s t : SeenStores} {parts : List _} {places : List ℕ} {within : Bool} {f : Forest} (h : Holds s parts places within f)
+    {call : Call} {at : ℕ} (holder : Holder) (extends : Extends s.calls t.calls) (bytes : t.bytes ≡ s.bytes) (keeps : KeepsNamedCall t.calls at call)
+    (held : held_place holder ≡ slice_get places (length places - 1)) where
+  pub holds_single : Holds t (parts ++ (part.Named holder at ∷ [])) places within (add (Single call) f)
   holds_single =
-      holds_added (holds_extended h extends) (named_part at o) (Single call) (ap (λ x. flat_part (flat.One x) 0 ∷ []) (sym keeps.is)) (λ place k. refl) held keeps.within
+      holds_added (holds_grown h (grows_calls extends bytes)) (part.Named holder at) (Single call) (ap (λ x. flat_part (flat.One x) 0 ∷ []) (sym keeps.is)) (λ place k. refl) held keeps.within
 
-  pub holds_container : {place : ℕ} → place ≡ length parts → Holds now (parts ++ (named_container at o ∷ [])) (places ++ (place ∷ [])) within (begun call f)
+  pub holds_container : {place : ℕ} → place ≡ length parts → Holds t (parts ++ (part.NamedContainer holder at 0 ∷ [])) (places ++ (place ∷ [])) within (begun call f)
   holds_container e =
-      holds_begun (holds_extended h extends) (named_container at o) call _ (ap (λ x. flat_part (flat.Holder x) 0) keeps.is) held e keeps.within
+      holds_begun (holds_grown h (grows_calls extends bytes)) (part.NamedContainer holder at 0) call _ (ap (λ x. flat_part (flat.Holder x) 0) keeps.is) held e keeps.within

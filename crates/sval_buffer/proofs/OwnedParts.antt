@@ -1,7 +1,6 @@
 -- The parts of the program with owned texts and binaries tell the owned forest.
-use Rattle.std.specs.Prelude.{◌≡◌, ℕ, Bool, List, [], ◌∷◌, length, map, refl, zero, suc}
+use Rattle.std.specs.Prelude.{◌≡◌, ℕ, Bool, List, [], ◌∷◌, map, refl, zero, suc}
 use Rattle.std.proofs.Common.{sym, ap, ◌∙◌}
-use Rattle.sval_label.specs.Calls as call
 use Rattle.sval_label.specs.Calls.{Call}
 use Rattle.sval_label.specs.Grouped.{int_call}
 use Rattle.sval_label.specs.declared.grouped.Int.{Int}
@@ -10,17 +9,20 @@ use Rattle.sval_core.specs.Law.{computed}
 use Rattle.sval_buffer.specs.Forest.{Forest}
 use Rattle.sval_buffer.specs.Flat as flat
 use Rattle.sval_buffer.specs.Flat.{FlatPart}
-use Rattle.sval_buffer.specs.SeenInts.{kept_int}
+use Rattle.sval_buffer.specs.Pushes.{HeldBytes}
+use Rattle.sval_buffer.specs.SeenInts.{wide_int}
 use Rattle.sval_buffer.specs.SeenNames.{call_at}
+use Rattle.sval_buffer.specs.SeenStores.{SeenStores}
 use Rattle.sval_buffer.specs.declared.part.Single.{Single}
 use Rattle.sval_buffer.specs.declared.part.Single.TheVariants as single
 use Rattle.sval_buffer.specs.declared.part.Begin.{Begin}
 use Rattle.sval_buffer.specs.declared.part.Begin.TheVariants as begin
-use Rattle.sval_buffer.specs.declared.part.PartKind.{PartKind}
-use Rattle.sval_buffer.specs.declared.part.PartKind.TheVariants as kind
+use Rattle.sval_buffer.specs.declared.part.Medium.{Medium}
+use Rattle.sval_buffer.specs.declared.part.Medium.TheVariants as media
 use Rattle.sval_buffer.specs.declared.part.Part.{Part}
-use Rattle.sval_buffer.specs.SeenParts.{SeenPart, flat_part_of, holder, single_call, begin_call, flat_kind, holds_of, seen_part, seen_parts, IsKeptCall, AllKept, TellsForest}
-use Rattle.sval_buffer.specs.Owned.{owned_kind, owned_part, owned}
+use Rattle.sval_buffer.specs.declared.part.Part.TheVariants as part
+use Rattle.sval_buffer.specs.SeenParts.{SeenPart, flat_part_of, holder, single_call, begin_call, of_medium, borrowed_bytes, copied_bytes, flat_kind, seen_parts, owned_part, AllKept}
+use Rattle.sval_buffer.specs.Owned.{owned_kind, owned}
 use Rattle.sval_buffer.proofs.Steps.{is_told, tells_it, within_it}
 use Rattle.sval_buffer.proofs.KeptParts.{Holds}
 use Rattle.sval_buffer.proofs.OwnedForest.{owned_flat, owned_flat_kind, flat_owned, places_owned, holders_owned}
@@ -42,68 +44,63 @@ int_stays (int.I128 n) = refl
 single_stays : (s : Single) → single_call s ≡ computed (single_call s)
 single_stays single.Null = refl
 single_stays (single.Bool b) = refl
-single_stays (single.Int n) = int_stays (kept_int n)
+single_stays (single.U8 n) = refl
+single_stays (single.U16 n) = refl
+single_stays (single.U32 n) = refl
+single_stays (single.U64 n) = refl
+single_stays (single.I8 n) = refl
+single_stays (single.I16 n) = refl
+single_stays (single.I32 n) = refl
+single_stays (single.I64 n) = refl
 
-begin_stays : (b : Begin) → begin_call b ≡ computed (begin_call b)
-begin_stays (begin.Seq size) = refl
-begin_stays (begin.Map size) = refl
-begin_stays begin.Item = refl
-begin_stays begin.Key = refl
-begin_stays begin.Value = refl
+begin_stays : (b : Begin) (size : ℕ) → begin_call b size ≡ computed (begin_call b size)
+begin_stays begin.Seq size = refl
+begin_stays begin.SizedSeq size = refl
+begin_stays begin.Map size = refl
+begin_stays begin.SizedMap size = refl
+begin_stays begin.Item size = refl
+begin_stays begin.Key size = refl
+begin_stays begin.Value size = refl
 
 call_stays : (calls : List Call) (at : ℕ) → call_at (map computed calls) at ≡ computed (call_at calls at)
 call_stays [] at = refl
 call_stays (call ∷ calls) zero = refl
 call_stays (call ∷ calls) (suc at) = call_stays calls at
 
-module _ (calls : List Call) (names : map computed calls ≡ calls) where
-  kind_owned : (k : PartKind) → flat_kind calls (owned_kind k) ≡ owned_flat_kind (flat_kind calls k)
-  kind_owned (kind.Single s) = ap flat.One (single_stays s)
-  kind_owned (kind.Named at) = ap flat.One (ap (λ cs. call_at cs at) (sym names) ∙ call_stays calls at)
-  kind_owned (kind.Text held) = refl
-  kind_owned (kind.Binary held) = refl
-  kind_owned (kind.Container b holds) = ap flat.Holder (begin_stays b)
-  kind_owned (kind.NamedContainer at holds) = ap flat.Holder (ap (λ cs. call_at cs at) (sym names) ∙ call_stays calls at)
+held_owned : (medium : Medium) (held : HeldBytes) → owned_kind (of_medium medium held) ≡ owned_flat_kind (of_medium medium held)
+held_owned media.Text held = refl
+held_owned media.Binary held = refl
 
-  holds_again : (k : PartKind) → holds_of (owned_kind k) ≡ holds_of k
-  holds_again (kind.Single s) = refl
-  holds_again (kind.Named at) = refl
-  holds_again (kind.Text held) = refl
-  holds_again (kind.Binary held) = refl
-  holds_again (kind.Container b holds) = refl
-  holds_again (kind.NamedContainer at holds) = refl
+module _ (s : SeenStores) (names : map computed s.calls ≡ s.calls) where
+  kind_owned : (p : Part) → owned_kind (flat_kind s p) ≡ owned_flat_kind (flat_kind s p)
+  kind_owned (part.Single holder single) = ap flat.One (single_stays single)
+  kind_owned (part.Wide signed holder number) = ap flat.One (int_stays (wide_int signed number))
+  kind_owned (part.Named holder at) = ap flat.One (ap (λ cs. call_at cs at) (sym names) ∙ call_stays s.calls at)
+  kind_owned (part.Borrowed medium holder bytes) = held_owned medium (borrowed_bytes bytes.now)
+  kind_owned (part.Stored medium holder start end) = held_owned medium (copied_bytes _)
+  kind_owned (part.Container b holder size holds) = ap flat.Holder (begin_stays b size)
+  kind_owned (part.NamedContainer holder at holds) = ap flat.Holder (ap (λ cs. call_at cs at) (sym names) ∙ call_stays s.calls at)
 
-  stored_owned : (parts : List Part) → map flat_part_of (seen_parts calls (map owned_part parts)) ≡ map owned_flat (map flat_part_of (seen_parts calls parts))
+  stored_owned : (parts : List Part) → map flat_part_of (map owned_part (seen_parts s parts)) ≡ map owned_flat (map flat_part_of (seen_parts s parts))
   stored_owned [] = refl
-  stored_owned (p ∷ parts) = rw (kind_owned p.kind, holds_again p.kind, stored_owned parts) refl
+  stored_owned (p ∷ parts) = rw (kind_owned p, stored_owned parts) refl
 
-  held_again : (parts : List Part) → map holder (seen_parts calls (map owned_part parts)) ≡ map holder (seen_parts calls parts)
-  held_again [] = refl
-  held_again (p ∷ parts) = ap (λ hs. p.holder ∷ hs) (held_again parts)
+held_again : (seen : List SeenPart) → map holder (map owned_part seen) ≡ map holder seen
+held_again [] = refl
+held_again (p ∷ seen) = ap (λ hs. p.holder ∷ hs) (held_again seen)
 
-  kept_again : (n : ℕ) (parts : List Part) → AllKept n parts → AllKept n (map owned_part parts)
-  kept_again n [] kept = tt
-  kept_again n (p ∷ parts) (first, rest) = (go p.kind first, kept_again n parts rest)
-    where
-      go : (k : PartKind) → IsKeptCall n k → IsKeptCall n (owned_kind k)
-      go (kind.Single s) h = tt
-      go (kind.Named at) h = h
-      go (kind.Text held) h = tt
-      go (kind.Binary held) h = tt
-      go (kind.Container b holds) h = tt
-      go (kind.NamedContainer at holds) h = h
-
-  -- copies of all parts, with owned texts and binaries
-  pub holds_owned : {parts : List Part} {places : List ℕ} {within : Bool} {f : Forest} → Holds calls parts places within f → Holds calls (map owned_part parts) places within (owned f)
-  holds_owned {parts} {places} {within} {f} h =
-      let t = tells_it h.is in
-      record {
-        is = is_told (seen_parts calls (map owned_part parts)) places within (owned f)
-            (record {
-              parts_are = stored_owned parts ∙ ap (map owned_flat) t.parts_are ∙ sym (flat_owned f.nodes f.spine);
-              places_are = t.places_are ∙ sym (places_owned f.nodes f.spine);
-              holders_are = held_again parts ∙ t.holders_are ∙ sym (holders_owned f);
-            })
-            (within_it h.is);
-        kept = kept_again (length calls) parts h.kept;
-      }
+-- copies of all parts, with owned texts and binaries
+pub holds_owned : {s t : SeenStores} {parts copies : List Part} {places : List ℕ} {within : Bool} {f : Forest} → map computed s.calls ≡ s.calls → Holds s parts places within f
+    → seen_parts t copies ≡ map owned_part (seen_parts s parts) → AllKept t copies → Holds t copies places within (owned f)
+holds_owned {s} {t} {parts} {copies} {places} {within} {f} names h same kept =
+    let told = tells_it h.is in
+    record {
+      is = is_told (seen_parts t copies) places within (owned f)
+          (record {
+            parts_are = ap (map flat_part_of) same ∙ stored_owned s names parts ∙ ap (map owned_flat) told.parts_are ∙ sym (flat_owned f.nodes f.spine);
+            places_are = told.places_are ∙ sym (places_owned f.nodes f.spine);
+            holders_are = ap (map holder) same ∙ held_again (seen_parts s parts) ∙ told.holders_are ∙ sym (holders_owned f);
+          })
+          (within_it h.is);
+      kept = kept;
+    }

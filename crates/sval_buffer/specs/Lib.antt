@@ -11,6 +11,7 @@ pub mod SeenFragments
 pub mod SeenHolder
 pub mod SeenInts
 pub mod SeenNames
+pub mod SeenStores
 pub mod SeenParts
 pub mod SeenBuffers
 pub mod CapturedValues

@@ -1,13 +1,11 @@
 -- A forest whose texts and binaries are copies of its own, which borrow nothing.
-use Rattle.std.specs.Prelude.{true, false, List, map}
+use Rattle.std.specs.Prelude.{true, false, map}
 use Rattle.sval_label.specs.Calls.{Call, TextBegin, BinaryBegin}
 use Rattle.sval_core.specs.Law.{Law, computed}
 use Rattle.sval_buffer.specs.Pushes.{HeldBytes}
 use Rattle.sval_buffer.specs.Forest.{Node, Single, Text, Binary, Container, Nodes, none, ◌and◌, Open, Forest, CaptureAnswer, Becomes, Rejects, add, with_flag, no_bytes, take, may_grow}
+use Rattle.sval_buffer.specs.Flat.{FlatKind, Words, Bytes}
 use Rattle.sval_buffer.specs.Capture.{Capture, capture_law_by}
-use Rattle.sval_buffer.specs.declared.part.PartKind.{PartKind}
-use Rattle.sval_buffer.specs.declared.part.PartKind.TheVariants as kind
-use Rattle.sval_buffer.specs.declared.part.Part.{Part}
 
 -- the same bytes, not borrowed
 abbrev pub owned_bytes : HeldBytes → HeldBytes
@@ -49,12 +47,8 @@ take_owned f call = take f (computed call)
 abbrev pub owning_law : Law Capture
 owning_law = capture_law_by (λ f call. may_grow f (computed call)) take_owned
 
--- what a part of the program is, with its text or binary owned
-abbrev pub owned_kind : PartKind → PartKind
-owned_kind (kind.Text held) = kind.Text (owned_bytes held)
-owned_kind (kind.Binary held) = kind.Binary (owned_bytes held)
+-- what a part is, where its text or binary is owned
+abbrev pub owned_kind : FlatKind → FlatKind
+owned_kind (Words held) = Words (owned_bytes held)
+owned_kind (Bytes held) = Bytes (owned_bytes held)
 owned_kind other = other
-
--- the same part of the program, with its text or binary owned
-abbrev pub owned_part : Part → Part
-owned_part p = record p { kind = owned_kind p.kind }

@@ -1,33 +1,36 @@
 -- What the parts of the program are.
-use Rattle.std.specs.Prelude.{◌≡◌, ℕ, ◌<◌, Bool, true, false, List, [], ◌∷◌, length, map, Option, Some, None, Result, Ok, Err, ⊤}
+use Rattle.std.specs.Prelude.{◌≡◌, ℕ, ◌<◌, ◌≤◌, Bool, true, false, List, [], ◌∷◌, length, map, Option, Some, None, Result, Ok, Err, slice_range, IsUtf8, ⊤}
 use Rattle.std.specs.Borrow.{Bor}
 use Rattle.sval_label.specs.Calls as call
 use Rattle.sval_label.specs.Calls.{Call}
 use Rattle.sval_label.specs.Grouped.{int_call}
 use Rattle.sval_label.specs.declared.grouped.Fragment as grouped
 use Rattle.sval_label.specs.declared.grouped.Fragment.TheVariants.{Borrowed, Computed}
+use Rattle.sval_label.specs.declared.grouped.Int.TheVariants as int
 use Rattle.sval_buffer.specs.Pushes.{HeldBytes}
 use Rattle.sval_buffer.specs.Forest.{Forest, Node, Text, Binary, no_bytes, outside, push_may_grow}
 use Rattle.sval_buffer.specs.Flat as flat
 use Rattle.sval_buffer.specs.Flat.{FlatKind, FlatPart, flat_part}
 use Rattle.sval_buffer.specs.FlatForest.{open_places, forest_of}
 use Rattle.sval_buffer.specs.Holders.{holders}
-use Rattle.sval_buffer.specs.SeenInts.{kept_int}
+use Rattle.sval_buffer.specs.SeenHolder.{held_place}
+use Rattle.sval_buffer.specs.SeenInts.{wide_int}
 use Rattle.sval_buffer.specs.SeenNames.{call_at}
+use Rattle.sval_buffer.specs.SeenStores.{SeenStores}
+use Rattle.sval_buffer.specs.declared.holder.Holder.{Holder}
 use Rattle.sval_buffer.specs.declared.part.Single.{Single}
-use Rattle.sval_buffer.specs.declared.part.Single.TheVariants.{Null, Bool as Truth, Int}
+use Rattle.sval_buffer.specs.declared.part.Single.TheVariants as single
 use Rattle.sval_buffer.specs.declared.part.Begin.{Begin}
 use Rattle.sval_buffer.specs.declared.part.Begin.TheVariants as begin
 use Rattle.sval_buffer.specs.declared.part.Keeping.{Keeping}
 use Rattle.sval_buffer.specs.declared.part.Keeping.TheVariants as keeping
 use Rattle.sval_buffer.specs.declared.part.Medium.{Medium}
 use Rattle.sval_buffer.specs.declared.part.Medium.TheVariants as media
-use Rattle.sval_buffer.specs.declared.part.PartKind.{PartKind}
-use Rattle.sval_buffer.specs.declared.part.PartKind.TheVariants as kind
 use Rattle.sval_buffer.specs.declared.part.Part.{Part}
+use Rattle.sval_buffer.specs.declared.part.Part.TheVariants as part
 use Rattle.sval_buffer.specs.declared.error.ErrorKind.{ErrorKind}
 use Rattle.sval_buffer.specs.Capture.{WantsMemory, error_of}
-use Rattle.sval_buffer.specs.Owned.{owned_bytes}
+use Rattle.sval_buffer.specs.Owned.{owned_bytes, owned_kind}
 
 -- ---- a part as replay sees it
 
@@ -68,72 +71,123 @@ with_length p parts = record p { holds = closed_kind p.kind parts p.holds }
 
 -- the call that this is
 abbrev pub single_call : Single → Call
-single_call Null = call.Null
-single_call (Truth b) = call.Truth b
-single_call (Int n) = int_call (kept_int n)
+single_call single.Null = call.Null
+single_call (single.Bool b) = call.Truth b
+single_call (single.U8 n) = int_call (int.U8 n)
+single_call (single.U16 n) = int_call (int.U16 n)
+single_call (single.U32 n) = int_call (int.U32 n)
+single_call (single.U64 n) = int_call (int.U64 n)
+single_call (single.I8 n) = int_call (int.I8 n)
+single_call (single.I16 n) = int_call (int.I16 n)
+single_call (single.I32 n) = int_call (int.I32 n)
+single_call (single.I64 n) = int_call (int.I64 n)
 
--- the begin that this is
-abbrev pub begin_call : Begin → Call
-begin_call (begin.Seq size) = call.Begin call.Seq size
-begin_call (begin.Map size) = call.Begin call.Map size
-begin_call begin.Item = call.PartBegin call.Item
-begin_call begin.Key = call.PartBegin call.Key
-begin_call begin.Value = call.PartBegin call.Value
+-- the begin that this is, with this size where it gives one
+abbrev pub begin_call : Begin → ℕ → Call
+begin_call begin.Seq size = call.Begin call.Seq None
+begin_call begin.SizedSeq size = call.Begin call.Seq (Some size)
+begin_call begin.Map size = call.Begin call.Map None
+begin_call begin.SizedMap size = call.Begin call.Map (Some size)
+begin_call begin.Item size = call.PartBegin call.Item
+begin_call begin.Key size = call.PartBegin call.Key
+begin_call begin.Value size = call.PartBegin call.Value
 
--- what a part is, with the calls that have names
-abbrev pub flat_kind : List Call → PartKind → FlatKind
-flat_kind calls (kind.Single single) = flat.One (single_call single)
-flat_kind calls (kind.Named at) = flat.One (call_at calls at)
-flat_kind calls (kind.Text held) = flat.Words held
-flat_kind calls (kind.Binary held) = flat.Bytes held
-flat_kind calls (kind.Container begin holds) = flat.Holder (begin_call begin)
-flat_kind calls (kind.NamedContainer at holds) = flat.Holder (call_at calls at)
+-- a text or a binary of these bytes
+abbrev pub of_medium : Medium → HeldBytes → FlatKind
+of_medium media.Text held = flat.Words held
+of_medium media.Binary held = flat.Bytes held
+
+-- bytes that are borrowed, and bytes that are copied
+abbrev pub borrowed_bytes : List ℕ → HeldBytes
+borrowed_bytes bytes = record { borrowed = true; bytes = bytes }
+
+abbrev pub copied_bytes : List ℕ → HeldBytes
+copied_bytes bytes = record { borrowed = false; bytes = bytes }
+
+-- what a part is, by what it speaks of
+abbrev pub flat_kind : SeenStores → Part → FlatKind
+flat_kind s (part.Single holder single) = flat.One (single_call single)
+flat_kind s (part.Wide signed holder number) = flat.One (int_call (wide_int signed number))
+flat_kind s (part.Named holder at) = flat.One (call_at s.calls at)
+flat_kind s (part.Borrowed medium holder bytes) = of_medium medium (borrowed_bytes bytes.now)
+flat_kind s (part.Stored medium holder start end) = of_medium medium (copied_bytes (slice_range s.bytes start end))
+flat_kind s (part.Container begin holder size holds) = flat.Holder (begin_call begin size)
+flat_kind s (part.NamedContainer holder at holds) = flat.Holder (call_at s.calls at)
 
 -- the number of parts after it that a part holds
-abbrev pub holds_of : PartKind → ℕ
-holds_of (kind.Container begin holds) = holds
-holds_of (kind.NamedContainer at holds) = holds
+abbrev pub holds_of : Part → ℕ
+holds_of (part.Container begin holder size holds) = holds
+holds_of (part.NamedContainer holder at holds) = holds
 holds_of _ = 0
 
--- a part of the program, with the calls that have names
-abbrev pub seen_part : List Call → Part → SeenPart
-seen_part calls p = record { kind = flat_kind calls p.kind; holds = holds_of p.kind; holder = p.holder }
+-- the place of what holds it
+abbrev pub holder_of : Part → Option ℕ
+holder_of (part.Single holder single) = held_place holder
+holder_of (part.Wide signed holder number) = held_place holder
+holder_of (part.Named holder at) = held_place holder
+holder_of (part.Borrowed medium holder bytes) = held_place holder
+holder_of (part.Stored medium holder start end) = held_place holder
+holder_of (part.Container begin holder size holds) = held_place holder
+holder_of (part.NamedContainer holder at holds) = held_place holder
+
+-- a part of the program, by what it speaks of
+abbrev pub seen_part : SeenStores → Part → SeenPart
+seen_part s p = record { kind = flat_kind s p; holds = holds_of p; holder = holder_of p }
 
 -- as the flat list has it
-abbrev pub stored_part : List Call → Part → FlatPart
-stored_part calls p = flat_part_of (seen_part calls p)
+abbrev pub stored_part : SeenStores → Part → FlatPart
+stored_part s p = flat_part_of (seen_part s p)
 
 -- the same of all parts
-abbrev pub seen_parts : List Call → List Part → List SeenPart
-seen_parts calls parts = map (seen_part calls) parts
+abbrev pub seen_parts : SeenStores → List Part → List SeenPart
+seen_parts s parts = map (seen_part s) parts
 
--- the call that it speaks of is one of this many
-abbrev pub IsKeptCall : ℕ → PartKind → Type 0
-IsKeptCall calls (kind.Named at) = at < calls
-IsKeptCall calls (kind.NamedContainer at holds) = at < calls
-IsKeptCall calls _ = ⊤
+-- the same part, where its text or binary is owned
+abbrev pub owned_part : SeenPart → SeenPart
+owned_part p = record p { kind = owned_kind p.kind }
+
+-- a text is UTF-8
+abbrev pub Suits : Medium → List ℕ → Type 0
+Suits media.Text bytes = IsUtf8 bytes
+Suits media.Binary bytes = ⊤
+
+-- bytes between two places of the store
+pub record IsStored (bytes : List ℕ) (medium : Medium) (start end : ℕ) : Type 0 where
+  pub order : start ≤ end
+  pub within : end ≤ length bytes
+  pub suits : Suits medium (slice_range bytes start end)
+
+-- what it speaks of is there
+abbrev pub IsKept : SeenStores → Part → Type 0
+IsKept s (part.Named holder at) = at < length s.calls
+IsKept s (part.NamedContainer holder at holds) = at < length s.calls
+IsKept s (part.Borrowed medium holder bytes) = Suits medium bytes.now
+IsKept s (part.Stored medium holder start end) = IsStored s.bytes medium start end
+IsKept s _ = ⊤
+
+-- a text or a binary of this medium and these bytes, held by what stands at this place
+pub record HoldsBytes (s : SeenStores) (medium : Medium) (around : Holder) (held : HeldBytes) (p : Part) : Type 0 where
+  pub kind : flat_kind s p ≡ of_medium medium held
+  pub holds : holds_of p ≡ 0
+  pub holder : holder_of p ≡ held_place around
+  pub kept : IsKept s p
 
 -- the same of all parts
-abbrev pub AllKept : ℕ → List Part → Type 0
-AllKept calls [] = ⊤
-AllKept calls (p ∷ parts) = IsKeptCall calls p.kind × AllKept calls parts
+abbrev pub AllKept : SeenStores → List Part → Type 0
+AllKept s [] = ⊤
+AllKept s (p ∷ parts) = IsKept s p × AllKept s parts
 
--- the parts tell a forest, and the calls that they speak of are there
-pub record PartsTell (calls : List Call) (parts : List Part) (places : List ℕ) (within : Bool) : Type 0 where
-  pub tells : TellsForest (seen_parts calls parts) places (told (seen_parts calls parts) places within)
-  pub kept : AllKept (length calls) parts
+-- the parts tell a forest, and what they speak of is there
+pub record PartsTell (s : SeenStores) (parts : List Part) (places : List ℕ) (within : Bool) : Type 0 where
+  pub tells : TellsForest (seen_parts s parts) places (told (seen_parts s parts) places within)
+  pub kept : AllKept s parts
 
 -- what a text or a binary holds before its first fragment, which counts as borrowed where fragments are kept by reference
 abbrev pub first_bytes : Keeping → HeldBytes
 first_bytes keeping.ByReference = no_bytes
 first_bytes keeping.ByCopy = owned_bytes no_bytes
 
--- a part without fragments
-abbrev pub no_fragments_yet : Medium → Keeping → PartKind
-no_fragments_yet media.Text keeps = kind.Text (first_bytes keeps)
-no_fragments_yet media.Binary keeps = kind.Binary (first_bytes keeps)
-
--- the same part as the forest has it
+-- a part without fragments, as the forest has it
 abbrev pub no_fragments : Medium → Keeping → Node
 no_fragments media.Text keeps = Text (first_bytes keeps)
 no_fragments media.Binary keeps = Binary (first_bytes keeps)
@@ -144,9 +198,9 @@ fragment_bytes (Borrowed text) = record { borrowed = true; bytes = text.now }
 fragment_bytes (Computed text) = record { borrowed = false; bytes = text.now }
 
 -- a container that holds this many parts
-abbrev pub with_holds : PartKind → ℕ → PartKind
-with_holds (kind.Container begin holds) parts = kind.Container begin parts
-with_holds (kind.NamedContainer at holds) parts = kind.NamedContainer at parts
+abbrev pub with_holds : Part → ℕ → Part
+with_holds (part.Container begin holder size holds) parts = part.Container begin holder size parts
+with_holds (part.NamedContainer holder at holds) parts = part.NamedContainer holder at parts
 with_holds other parts = other
 
 -- ---- a fragment that is pushed

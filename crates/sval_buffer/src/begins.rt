@@ -57,7 +57,10 @@ impl<'sval, N: CallStore> Parts<'sval, N> {
         ensures { let begin = calls.Begin calls.Seq size in
             CapturesBy (λ _. true) (λ f. Becomes (begun begin f)) self.old result self.new }
     {
-        self.begin(Begin::Seq(size))
+        match size {
+            Some(size) => self.begin(Begin::SizedSeq, size),
+            None => self.begin(Begin::Seq, 0),
+        }
     }
 
     /// Begins a map.
@@ -65,7 +68,10 @@ impl<'sval, N: CallStore> Parts<'sval, N> {
         ensures { let begin = calls.Begin calls.Map size in
             CapturesBy (λ _. true) (λ f. Becomes (begun begin f)) self.old result self.new }
     {
-        self.begin(Begin::Map(size))
+        match size {
+            Some(size) => self.begin(Begin::SizedMap, size),
+            None => self.begin(Begin::Map, 0),
+        }
     }
 
     /// Begins a container with a size that has a name, or may have one.
@@ -103,7 +109,7 @@ impl<'sval, N: CallStore> Parts<'sval, N> {
         ensures { let begin = calls.PartBegin calls.Item in
             CapturesBy (λ _. true) (λ f. Becomes (begun begin f)) self.old result self.new }
     {
-        self.begin(Begin::Item)
+        self.begin(Begin::Item, 0)
     }
 
     /// Begins a key of a map.
@@ -111,7 +117,7 @@ impl<'sval, N: CallStore> Parts<'sval, N> {
         ensures { let begin = calls.PartBegin calls.Key in
             CapturesBy (λ _. true) (λ f. Becomes (begun begin f)) self.old result self.new }
     {
-        self.begin(Begin::Key)
+        self.begin(Begin::Key, 0)
     }
 
     /// Begins a value of a map.
@@ -119,7 +125,7 @@ impl<'sval, N: CallStore> Parts<'sval, N> {
         ensures { let begin = calls.PartBegin calls.Value in
             CapturesBy (λ _. true) (λ f. Becomes (begun begin f)) self.old result self.new }
     {
-        self.begin(Begin::Value)
+        self.begin(Begin::Value, 0)
     }
 
     /// Begins a part whose place has a name, by the three parts of the name, each where it is given.

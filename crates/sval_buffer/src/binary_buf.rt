@@ -5,6 +5,7 @@ ghost use Rattle.std.specs.Bool.{OnTrue};
 ghost use Rattle.sval_buffer.specs.Pushes.{BorrowsNothing, pushed};
 ghost use Rattle.sval_buffer.specs.Forest.{no_bytes, held_binary_calls};
 ghost use Rattle.sval_buffer.specs.Capture.{IsNoAlloc};
+ghost use Rattle.sval_core.specs.Law.{Emits};
 ghost use Rattle.sval_core.specs.Values.{makes};
 
 use crate::error::{Error, ErrorKind, Word, no_alloc};
@@ -12,7 +13,7 @@ use crate::fragment_buf::FragmentBuf;
 use std::alloc::Global;
 use std::fmt;
 use std::marker::Model;
-use sval_core::{Fragment, Lent, NoMemory, Result, Stream, Value};
+use sval_core::{Fragment, Lending, Lent, NoMemory, Result, Stream, Value};
 use sval_ref::ValueRef;
 
 /// A binary that comes in fragments.
@@ -47,15 +48,6 @@ impl<'sval> BinaryBuf<'sval> {
     {
         BinaryBuf {
             fragments: FragmentBuf::new(alloc),
-        }
-    }
-
-    /// An empty binary that borrows nothing. It takes no memory yet.
-    pub(crate) fn owned(alloc: Global) -> Self
-        ensures { result ≡ record { borrowed = false; bytes = [] } }
-    {
-        BinaryBuf {
-            fragments: FragmentBuf::owned(alloc),
         }
     }
 
@@ -175,6 +167,32 @@ impl<'sval> BinaryBuf<'sval> {
     }
 }
 
+/// Makes the calls of a binary that is lent for longer.
+pub(crate) fn stream_borrowed_bytes<'sval, S: Stream<Lent<'sval>>>(
+    bytes: &'sval [u8],
+    stream: &mut S,
+) -> Result
+    ensures { Emits S.law result (S.standing stream.old)
+        (makes (held_binary_calls (record { borrowed = true; bytes = bytes.now }))) (S.standing stream.new) }
+{
+    stream.binary_begin(Some(bytes.len()))?;
+    stream.binary_fragment(bytes)?;
+    stream.binary_end()
+}
+
+/// Makes the calls of a binary of one computed fragment.
+pub(crate) fn stream_computed_bytes<L: Lending, S: Stream<L>>(
+    bytes: &[u8],
+    stream: &mut S,
+) -> Result
+    ensures { Emits S.law result (S.standing stream.old)
+        (makes (held_binary_calls (record { borrowed = false; bytes = bytes.now }))) (S.standing stream.new) }
+{
+    stream.binary_begin(Some(bytes.len()))?;
+    stream.binary_fragment_computed(bytes)?;
+    stream.binary_end()
+}
+
 impl<'v, 'sval> Value<'v, Lent<'v>> for BinaryBuf<'sval> {
     ghost emission = { λ binary. makes (held_binary_calls (record { borrowed = true; bytes = binary.bytes })) };
 
@@ -190,12 +208,10 @@ impl<'sval> ValueRef<Lent<'sval>> for BinaryBuf<'sval> {
     ghost ref_emission = { λ binary. makes (held_binary_calls binary) };
 
     fn stream_ref<S: Stream<Lent<'sval>>>(&self, stream: &mut S) -> Result {
-        stream.binary_begin(Some(self.as_slice().len()))?;
         match self.fragments.fragment() {
-            Fragment::Borrowed(bytes) => stream.binary_fragment(bytes)?,
-            Fragment::Computed(bytes) => stream.binary_fragment_computed(bytes)?,
+            Fragment::Borrowed(bytes) => stream_borrowed_bytes(bytes, stream),
+            Fragment::Computed(bytes) => stream_computed_bytes(bytes, stream),
         }
-        stream.binary_end()
     }
 }
 

@@ -52,16 +52,6 @@ impl<'sval> FragmentBuf<'sval> {
         }
     }
 
-    /// No bytes that are copies, which take no memory yet.
-    pub(crate) fn owned(alloc: Global) -> Self
-        ensures { result ≡ record { borrowed = false; bytes = [] } }
-    {
-        FragmentBuf {
-            held: Held::Owned(Vec::new(alloc)),
-            alloc,
-        }
-    }
-
     /// One borrowed fragment. It takes no memory.
     pub(crate) fn from_slice(alloc: Global, bytes: &'sval [u8]) -> Self
         ensures { result ≡ record { borrowed = true; bytes = bytes.now } }

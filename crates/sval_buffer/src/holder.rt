@@ -1,49 +1,36 @@
 //! The place of what holds a part.
 
-ghost use Rattle.std.specs.Prelude.{◌≡◌, ◌+◌, ◌<◌, ◌^◌, IfSome};
+ghost use Rattle.std.specs.Prelude.{◌≡◌, ◌≤◌, ◌-◌, ◌^◌, None, IfSome};
+ghost use Rattle.sval_buffer.specs.SeenHolder.{held_place};
 
-use std::marker::Model;
-
-/// The place of the container that holds a part, if one does. It takes no more memory than a place.
-#[derive(Drop)]
+/// The place of the container that holds a part, if one does. It takes 32 bits.
+#[derive(Clone, Copy)]
 pub(crate) struct Holder {
     /// One more than the place, or 0.
-    after: usize,
-}
-
-impl Model for Holder {
-    ghost use Rattle.std.specs.Prelude.{ℕ, Option};
-
-    ghost Value = { Option ℕ };
-
-    ghost use Rattle.sval_buffer.specs.SeenHolder.{place_before};
-
-    ghost view = { λ h. place_before h.after };
+    after: u32,
 }
 
 impl Holder {
-    /// Keeps a place.
-    pub(crate) fn new(place: Option<usize>) -> Holder
-        requires { IfSome place (λ at. at + 1 < 2 ^ 64) }
-        ensures { result ≡ place }
+    /// Keeps a place, if it is below 2^32 - 1.
+    pub(crate) fn new(place: Option<usize>) -> Option<Holder>
+        ensures same { IfSome result (λ holder. held_place holder ≡ place) }
+        ensures too_far { result ≡ None → IfSome place (λ at. 2 ^ 32 - 1 ≤ at) }
     {
         match place {
-            Some(at) => Holder { after: at + 1 },
-            None => Holder { after: 0 },
+            Some(at) => Some(Holder {
+                after: u32::try_from(at).ok()?.checked_add(1)?,
+            }),
+            None => Some(Holder { after: 0 }),
         }
     }
 
-    /// A copy of the place.
-    pub(crate) fn again(&self) -> Holder
-        ensures { result ≡ self.now }
-    {
-        Holder { after: self.after }
-    }
-
     /// The place.
-    pub(crate) fn get(&self) -> Option<usize>
-        ensures { result ≡ self.now }
+    pub(crate) fn get(self) -> Option<usize>
+        ensures { result ≡ held_place self }
     {
-        self.after.checked_sub(1)
+        match self.after.checked_sub(1) {
+            Some(place) => Some(place as usize),
+            None => None,
+        }
     }
 }

@@ -1,15 +1,16 @@
 //! Replay of a flat list of parts, in one pass without memory.
 
-ghost use Rattle.std.specs.Prelude.{◌≡◌, List, [], length, map};
-ghost use Rattle.sval_label.specs.Calls.{Call};
+ghost use Rattle.std.specs.Prelude.{◌≡◌, List, [], map};
 ghost use Rattle.sval_core.specs.Law.{Emits};
 ghost use Rattle.sval_buffer.specs.Replay.{pass};
 ghost use Rattle.sval_core.specs.Values.{makes};
+ghost use Rattle.sval_buffer.specs.SeenStores.{SeenStores};
 ghost use Rattle.sval_buffer.specs.SeenParts.{flat_part_of, stored_part, seen_parts, AllKept};
 ghost use Rattle.sval_buffer.specs.Nested.{Going, outer_of, Linked, IsLinked, IsNested, EndsAreMade};
 
 use crate::named::CallStore;
 use crate::part::Part;
+use crate::stores::Stores;
 use sval_core::{Lent, Result, Stream};
 
 /// Makes the calls of all parts.
@@ -17,23 +18,23 @@ use sval_core::{Lent, Result, Stream};
 /// It keeps the place of the newest container that goes on. Those around it follow from the holders of the parts.
 pub(crate) fn replay_parts<'sval, N: CallStore, S: Stream<Lent<'sval>>>(
     parts: &[Part<'sval>],
-    named: &N,
+    stores: &Stores<N>,
     stream: &mut S,
 ) -> Result
-    requires nested { IsNested (seen_parts (N.calls named.now) parts.now) }
-    requires kept { AllKept (length (N.calls named.now)) parts.now }
-    ensures { let calls = pass 0 [] (map flat_part_of (seen_parts (N.calls named.now) parts.now)) in
+    requires nested { IsNested (seen_parts stores.now parts.now) }
+    requires kept { AllKept stores.now parts.now }
+    ensures { let calls = pass 0 [] (map flat_part_of (seen_parts stores.now parts.now)) in
         Emits S.law result (S.standing stream.old) (makes calls) (S.standing stream.new) }
 {
     let mut going = None;
     for (place, part) in parts.iter().enumerate() {
-        going = end_before(parts, named, going, place, stream)?;
-        part.stream_head(named, stream)?;
+        going = end_before(parts, stores, going, place, stream)?;
+        part.stream_head(stores, stream)?;
         if part.is_container() {
             going = Some(place);
         }
     }
-    end_before(parts, named, going, parts.len(), stream)?;
+    end_before(parts, stores, going, parts.len(), stream)?;
     Ok(())
 }
 
@@ -42,14 +43,14 @@ pub(crate) fn replay_parts<'sval, N: CallStore, S: Stream<Lent<'sval>>>(
 #[inline(always)]
 fn end_before<'sval, N: CallStore, S: Stream<Lent<'sval>>>(
     parts: &[Part<'sval>],
-    named: &N,
+    stores: &Stores<N>,
     going: Option<usize>,
     place: usize,
     stream: &mut S,
 ) -> Result<Option<usize>>
-    requires linked { IsLinked (seen_parts (N.calls named.now) parts.now) going }
-    requires kept { AllKept (length (N.calls named.now)) parts.now }
-    ensures { let seen = seen_parts (N.calls named.now) parts.now in (gs : List Going) → Linked seen going gs
+    requires linked { IsLinked (seen_parts stores.now parts.now) going }
+    requires kept { AllKept stores.now parts.now }
+    ensures { let seen = seen_parts stores.now parts.now in (gs : List Going) → Linked seen going gs
         → EndsAreMade S.law seen place gs (S.standing stream.old) result (S.standing stream.new) }
 {
     let mut newest = going;
@@ -58,15 +59,15 @@ fn end_before<'sval, N: CallStore, S: Stream<Lent<'sval>>>(
         if part.holds() >= place.saturating_sub(at) {
             return Ok(newest);
         }
-        part.stream_end(named, stream)?;
-        newest = outer(parts, part.holder.get());
+        part.stream_end(stores, stream)?;
+        newest = outer(parts, part.holder());
     }
     Ok(newest)
 }
 
 /// The place of the container that holds a part in replay: none where that one has no end, since then it holds no part.
 fn outer(parts: &[Part<'_>], holder: Option<usize>) -> Option<usize>
-    ensures { (calls : List Call) → result ≡ outer_of (map (stored_part calls) parts.now) holder }
+    ensures { (s : SeenStores) → result ≡ outer_of (map (stored_part s) parts.now) holder }
 {
     match parts.get(holder?) {
         Some(part) if part.holds() != 0 => holder,

@@ -10,17 +10,12 @@ use crate::error::ErrorKind;
 use crate::named::CallStore;
 use crate::part::{Keeping, Medium};
 use crate::parts::Parts;
-use std::alloc::Global;
 use sval_core::{Call, Fragment, GroupedCall};
 
 impl<'sval, N: CallStore> Parts<'sval, N> {
     /// Takes a call that is lent for any lifetime, since it keeps a copy of each fragment.
     #[tactic(auto, unfolding(crate::specs::Owned::take_owned, crate::specs::Forest::take, crate::specs::Forest::may_grow))]
-    pub(crate) fn capture_owned(
-        &mut self,
-        alloc: Global,
-        call: Call<'_, '_>,
-    ) -> Result<(), ErrorKind>
+    pub(crate) fn capture_owned(&mut self, call: Call<'_, '_>) -> Result<(), ErrorKind>
         ensures { let taken = lent_call call.entry in
             CapturesBy (λ f. may_grow f (computed taken)) (λ f. take_owned f taken) self.old result self.new }
     {
@@ -30,12 +25,8 @@ impl<'sval, N: CallStore> Parts<'sval, N> {
             GroupedCall::Int(value) => self.int(value),
             GroupedCall::Tag(name) => self.tag(name),
             GroupedCall::TagHint(tag) => self.hint(tag),
-            GroupedCall::TextBegin(_) => {
-                self.begin_fragments(alloc, Medium::Text, Keeping::ByCopy)
-            }
-            GroupedCall::BinaryBegin(_) => {
-                self.begin_fragments(alloc, Medium::Binary, Keeping::ByCopy)
-            }
+            GroupedCall::TextBegin(_) => { self.begin_fragments(Medium::Text, Keeping::ByCopy) }
+            GroupedCall::BinaryBegin(_) => { self.begin_fragments(Medium::Binary, Keeping::ByCopy) }
             GroupedCall::TextFragment(Fragment::Borrowed(text) | Fragment::Computed(text)) => {
                 self.push_text(Fragment::Computed(text))
             }

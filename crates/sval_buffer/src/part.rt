@@ -1,34 +1,42 @@
 //! The parts of a captured value.
 
-ghost use Rattle.std.specs.Prelude.{◌≡◌, ℕ, List, [], ◌∷◌, length, true, Some, OnErr, IsTrue, is_ok, if◌then◌else◌};
-ghost use Rattle.sval_label.specs.Calls.{Call};
-ghost use Rattle.sval_buffer.specs.Pushes.{pushed};
+ghost use Rattle.std.specs.Prelude.{◌≡◌, ◌≤◌, ◌++◌, ℕ, List, Some, length, drop, slice_range, IfOk, IfErr};
 ghost use Rattle.sval_label.specs.Grouped.{grouped_call};
 ghost use Rattle.sval_core.specs.Law.{Emits};
 ghost use Rattle.sval_core.specs.Values.{makes};
+ghost use Rattle.sval_buffer.specs.Capture.{IsNoAlloc, WantsMemory, error_of};
+ghost use Rattle.sval_buffer.specs.Flat.{held_part, push_part};
+ghost use Rattle.sval_buffer.specs.Pushes.{pushed};
 ghost use Rattle.sval_buffer.specs.Replay.{head_calls};
 ghost use Rattle.sval_buffer.specs.Nested.{ends_of_part, is_holder};
+ghost use Rattle.sval_buffer.specs.Forest as forest;
 ghost use Rattle.sval_buffer.specs.Forest.{end_of, push_may_grow};
-ghost use Rattle.sval_buffer.specs.declared.part.Medium.TheVariants as media;
-ghost use Rattle.sval_buffer.specs.SeenParts.{seen_part, FragmentPushes, fragment_bytes, with_holds, flat_kind, holds_of, single_call, begin_call, no_fragments_yet, IsKeptCall};
+ghost use Rattle.sval_buffer.specs.SeenStores.{SeenStores, Appends, Grows};
+ghost use Rattle.sval_buffer.specs.SeenParts.{seen_part, FragmentPushes, fragment_bytes, with_holds, flat_kind, holds_of, holder_of, single_call, begin_call, of_medium, borrowed_bytes, copied_bytes, first_bytes, HoldsBytes, IsStored, IsKept, IsPushCause, Pushed, Suits};
 
-use crate::binary_buf::BinaryBuf;
+use crate::binary_buf::{stream_borrowed_bytes, stream_computed_bytes};
 use crate::error::{ErrorKind, Word, no_alloc};
 use crate::holder::Holder;
-use crate::kept_int::KeptInt;
 use crate::named::{CallStore, make};
-use crate::text_buf::TextBuf;
-use std::alloc::Global;
+use crate::stores::Stores;
+use crate::text_buf::{stream_borrowed_text, stream_computed_text, text};
+use crate::wide::Wide;
 use std::mem::size_of;
-use sval_core::{Fragment, GroupedCall, Head, Lent, NoMemory, Slot, Stream};
-use sval_ref::ValueRef;
+use sval_core::{Fragment, GroupedCall, Head, Int, Lent, NoMemory, Slot, Stream};
 
-/// A call that is complete by itself and has no name.
+/// A call that is complete by itself, has no name, and is no number of 128 bits.
 #[derive(Clone, Copy)]
 pub(crate) enum Single {
     Null,
     Bool(bool),
-    Int(KeptInt),
+    U8(u8),
+    U16(u16),
+    U32(u32),
+    U64(u64),
+    I8(i8),
+    I16(i16),
+    I32(i32),
+    I64(i64),
 }
 
 impl Single {
@@ -37,7 +45,7 @@ impl Single {
         match self {
             Single::Null => Word::Null,
             Single::Bool(_) => Word::Boolean,
-            Single::Int(_) => Word::Integer,
+            _ => Word::Integer,
         }
     }
 
@@ -49,7 +57,14 @@ impl Single {
         match self {
             Single::Null => GroupedCall::Null,
             Single::Bool(value) => GroupedCall::Bool(value),
-            Single::Int(number) => GroupedCall::Int(number.get()),
+            Single::U8(number) => GroupedCall::Int(Int::U8(number)),
+            Single::U16(number) => GroupedCall::Int(Int::U16(number)),
+            Single::U32(number) => GroupedCall::Int(Int::U32(number)),
+            Single::U64(number) => GroupedCall::Int(Int::U64(number)),
+            Single::I8(number) => GroupedCall::Int(Int::I8(number)),
+            Single::I16(number) => GroupedCall::Int(Int::I16(number)),
+            Single::I32(number) => GroupedCall::Int(Int::I32(number)),
+            Single::I64(number) => GroupedCall::Int(Int::I64(number)),
         }
     }
 }
@@ -57,22 +72,28 @@ impl Single {
 /// The begin of a container that has no name. A container is all that has a begin and an end but a text and a binary.
 #[derive(Clone, Copy)]
 pub(crate) enum Begin {
-    Seq(Option<usize>),
-    Map(Option<usize>),
+    Seq,
+    /// A sequence of a given size.
+    SizedSeq,
+    Map,
+    /// A map of a given size.
+    SizedMap,
     Item,
     Key,
     Value,
 }
 
 impl Begin {
-    /// The begin.
-    fn call<'c, T, B>(self) -> GroupedCall<'c, T, B>
+    /// The begin, where a size is given that of this size.
+    fn call<'c, T, B>(self, size: usize) -> GroupedCall<'c, T, B>
         ensures { (text : T → List ℕ) (bytes : B → List ℕ)
-            → grouped_call text bytes result ≡ begin_call self }
+            → grouped_call text bytes result ≡ begin_call self size }
     {
         match self {
-            Begin::Seq(size) => GroupedCall::Begin(Head::Seq, size),
-            Begin::Map(size) => GroupedCall::Begin(Head::Map, size),
+            Begin::Seq => GroupedCall::Begin(Head::Seq, None),
+            Begin::SizedSeq => GroupedCall::Begin(Head::Seq, Some(size)),
+            Begin::Map => GroupedCall::Begin(Head::Map, None),
+            Begin::SizedMap => GroupedCall::Begin(Head::Map, Some(size)),
             Begin::Item => GroupedCall::PartBegin(Slot::Item),
             Begin::Key => GroupedCall::PartBegin(Slot::Key),
             Begin::Value => GroupedCall::PartBegin(Slot::Value),
@@ -81,12 +102,12 @@ impl Begin {
 
     /// The end that belongs to the begin.
     fn end<'c, T, B>(self) -> GroupedCall<'c, T, B>
-        ensures { (text : T → List ℕ) (bytes : B → List ℕ)
-            → grouped_call text bytes result ≡ end_of (begin_call self) }
+        ensures { (text : T → List ℕ) (bytes : B → List ℕ) (size : ℕ)
+            → grouped_call text bytes result ≡ end_of (begin_call self size) }
     {
         match self {
-            Begin::Seq(_) => GroupedCall::End(Head::Seq),
-            Begin::Map(_) => GroupedCall::End(Head::Map),
+            Begin::Seq | Begin::SizedSeq => GroupedCall::End(Head::Seq),
+            Begin::Map | Begin::SizedMap => GroupedCall::End(Head::Map),
             Begin::Item => GroupedCall::PartEnd(Slot::Item),
             Begin::Key => GroupedCall::PartEnd(Slot::Key),
             Begin::Value => GroupedCall::PartEnd(Slot::Value),
@@ -104,7 +125,7 @@ pub(crate) enum Keeping {
 }
 
 /// What fragments are of.
-#[derive(Clone, Copy)]
+#[derive(Clone, Copy, PartialEq, Eq)]
 pub(crate) enum Medium {
     Text,
     Binary,
@@ -118,124 +139,197 @@ impl Medium {
             Medium::Binary => Word::Binary,
         }
     }
-
-    /// A part without fragments.
-    pub(crate) fn empty<'sval>(self, keeping: Keeping, alloc: Global) -> PartKind<'sval>
-        ensures { result ≡ no_fragments_yet self keeping }
-    {
-        match (self, keeping) {
-            (Medium::Text, Keeping::ByReference) => PartKind::Text(TextBuf::new(alloc)),
-            (Medium::Text, Keeping::ByCopy) => PartKind::Text(TextBuf::owned(alloc)),
-            (Medium::Binary, Keeping::ByReference) => PartKind::Binary(BinaryBuf::new(alloc)),
-            (Medium::Binary, Keeping::ByCopy) => PartKind::Binary(BinaryBuf::owned(alloc)),
-        }
-    }
 }
 
-/// What a part is.
-#[derive(Drop)]
-pub(crate) enum PartKind<'sval> {
-    Single(Single),
+/// A part of a captured value, with the place of the container that holds it, if one does.
+#[derive(Clone, Copy)]
+pub(crate) enum Part<'sval> {
+    /// A call that is complete by itself and has no name.
+    Single {
+        holder: Holder,
+        call: Single,
+    },
+    /// A whole number of 128 bits, with its sign or without one.
+    Wide {
+        signed: bool,
+        holder: Holder,
+        number: Wide,
+    },
     /// A tag or a hint, by its place in the calls with names.
-    Named(usize),
-    Text(TextBuf<'sval>),
-    Binary(BinaryBuf<'sval>),
-    /// A container, and the number of parts after it that it holds: none, as long as it has no end.
-    Container { begin: Begin, holds: usize },
+    Named {
+        holder: Holder,
+        at: usize,
+    },
+    /// A text or a binary of one borrowed fragment, or of none.
+    Borrowed {
+        medium: Medium,
+        holder: Holder,
+        bytes: &'sval [u8],
+    },
+    /// A text or a binary that is copied: the bytes between two places of the store.
+    Stored {
+        medium: Medium,
+        holder: Holder,
+        start: usize,
+        end: usize,
+    },
+    /// A container, the size that its begin gives, if it gives one, and the number of parts after it that it holds:
+    /// none, as long as it has no end.
+    Container {
+        begin: Begin,
+        holder: Holder,
+        size: usize,
+        holds: usize,
+    },
     /// A container with a name, by the place of its begin in the calls with names, and the number of parts after it
     /// that it holds, as for a container without a name.
-    NamedContainer { at: usize, holds: usize },
-}
-
-/// A part of a captured value.
-#[derive(Drop)]
-pub(crate) struct Part<'sval> {
-    pub(crate) kind: PartKind<'sval>,
-    /// The place of the container that holds this part, if one does.
-    pub(crate) holder: Holder,
+    NamedContainer {
+        holder: Holder,
+        at: usize,
+        holds: usize,
+    },
 }
 
 /// Capturing is bound by the memory that it is the first to touch, and most of that are parts.
-const _: () = prove!(size_of::<Part<'static>>() == 48);
+const _: () = prove!(size_of::<Part<'static>>() == 24);
 
 impl<'sval> Part<'sval> {
-    /// Pushes a fragment into a text.
-    pub(crate) fn push_text(
-        &mut self,
-        fragment: Fragment<&'sval str, &str>,
-    ) -> Result<(), ErrorKind>
-        ensures pushes { let pushed = fragment_bytes fragment.entry in (calls : List Call)
-            → FragmentPushes media.Text (seen_part calls self.old) pushed result (seen_part calls self.new) }
-        ensures kept { (calls : ℕ) → IsKeptCall calls self.old.kind → IsKeptCall calls self.new.kind }
+    /// The place of the container that holds it, if one does.
+    pub(crate) fn holder(&self) -> Option<usize>
+        ensures { result ≡ holder_of self.now }
     {
-        match &mut self.kind {
-            PartKind::Text(text) => match push_into_text(text, fragment) {
-                Ok(()) => Ok(()),
-                Err(cause) => Err(no_alloc(cause, Word::Text)),
-            },
-            _ => Err(ErrorKind::OutsideContainer { method: Word::Text }),
+        match self {
+            Part::Single { holder, .. }
+            | Part::Wide { holder, .. }
+            | Part::Named { holder, .. }
+            | Part::Borrowed { holder, .. }
+            | Part::Stored { holder, .. }
+            | Part::Container { holder, .. }
+            | Part::NamedContainer { holder, .. } => holder.get(),
         }
     }
 
-    /// Pushes a fragment into a binary.
-    pub(crate) fn push_binary(
+    /// A text or a binary without fragments.
+    pub(crate) fn empty<N: CallStore>(
+        medium: Medium,
+        keeping: Keeping,
+        holder: Holder,
+        stores: &Stores<N>,
+    ) -> Part<'sval>
+        ensures { HoldsBytes stores.now medium holder (first_bytes keeping) result }
+    {
+        match keeping {
+            Keeping::ByReference => Part::Borrowed {
+                medium,
+                holder,
+                bytes: &[],
+            },
+            Keeping::ByCopy => Part::Stored {
+                medium,
+                holder,
+                start: stores.len(),
+                end: stores.len(),
+            },
+        }
+    }
+
+    /// Pushes a fragment, if this is a text or a binary of this medium. What is copied goes behind what the stores have.
+    pub(crate) fn push<N: CallStore>(
         &mut self,
+        stores: &mut Stores<N>,
+        medium: Medium,
         fragment: Fragment<&'sval [u8], &[u8]>,
     ) -> Result<(), ErrorKind>
-        ensures pushes { let pushed = fragment_bytes fragment.entry in (calls : List Call)
-            → FragmentPushes media.Binary (seen_part calls self.old) pushed result (seen_part calls self.new) }
-        ensures kept { (calls : ℕ) → IsKeptCall calls self.old.kind → IsKeptCall calls self.new.kind }
+        requires kept { IsKept stores.old self.old }
+        requires suits { Suits medium (fragment_bytes fragment).bytes }
+        ensures pushes { FragmentPushes medium (seen_part stores.old self.old) (fragment_bytes fragment.entry)
+            result (seen_part stores.new self.new) }
+        ensures still { IsKept stores.new self.new }
+        ensures grows { Grows stores.old stores.new }
     {
-        match &mut self.kind {
-            PartKind::Binary(bytes) => match push_into_binary(bytes, fragment) {
-                Ok(()) => Ok(()),
-                Err(cause) => Err(no_alloc(cause, Word::Binary)),
-            },
-            _ => Err(ErrorKind::OutsideContainer {
-                method: Word::Binary,
-            }),
+        *self = self.pushed(stores, medium, fragment)?;
+        Ok(())
+    }
+
+    /// The part with a fragment more, if this is a text or a binary of this medium.
+    fn pushed<N: CallStore>(
+        self,
+        stores: &mut Stores<N>,
+        medium: Medium,
+        fragment: Fragment<&'sval [u8], &[u8]>,
+    ) -> Result<Part<'sval>, ErrorKind>
+        requires kept { IsKept stores.old self }
+        requires suits { Suits medium (fragment_bytes fragment).bytes }
+        ensures pushes { IfOk result (λ next. Pushed
+            (push_part medium (fragment_bytes fragment.entry) (flat_kind stores.old self.entry))
+            (seen_part stores.old self.entry) (seen_part stores.new next)) }
+        ensures kept { IfOk result (IsKept stores.new) }
+        ensures refused { let held = held_part medium (flat_kind stores.old self.entry) in
+            IfErr result (IsPushCause medium (fragment_bytes fragment.entry) held) }
+        ensures grows { Grows stores.old stores.new }
+    {
+        match self {
+            Part::Borrowed {
+                medium: own,
+                holder,
+                bytes,
+            } if own == medium => join_borrowed(medium, holder, bytes, fragment, stores),
+            Part::Stored {
+                medium: own,
+                holder,
+                start,
+                end,
+            } if own == medium => join_stored(medium, holder, start, end, fragment, stores),
+            _ => Err(outside(medium)),
         }
     }
 
     /// The number of parts after it that it holds.
     pub(crate) fn holds(&self) -> usize
-        ensures { result ≡ holds_of self.now.kind }
+        ensures { result ≡ holds_of self.now }
     {
-        match &self.kind {
-            PartKind::Container { holds, .. } | PartKind::NamedContainer { holds, .. } => *holds,
-            PartKind::Single(_) | PartKind::Named(_) | PartKind::Text(_) | PartKind::Binary(_) => 0,
+        match self {
+            Part::Container { holds, .. } | Part::NamedContainer { holds, .. } => *holds,
+            _ => 0,
         }
     }
 
     /// This is a container.
     pub(crate) fn is_container(&self) -> bool
-        ensures { (calls : List Call) → result ≡ is_holder (flat_kind calls self.now.kind) }
+        ensures { (s : SeenStores) → result ≡ is_holder (flat_kind s self.now) }
     {
-        match &self.kind {
-            PartKind::Container { .. } | PartKind::NamedContainer { .. } => true,
-            PartKind::Single(_) | PartKind::Named(_) | PartKind::Text(_) | PartKind::Binary(_) => {
-                false
-            }
+        match self {
+            Part::Container { .. } | Part::NamedContainer { .. } => true,
+            _ => false,
         }
     }
 
     /// Makes the calls of this part, of a container its begin.
     pub(crate) fn stream_head<N: CallStore, S: Stream<Lent<'sval>>>(
         &self,
-        named: &N,
+        stores: &Stores<N>,
         stream: &mut S,
     ) -> sval_core::Result
-        requires { IsKeptCall (length (N.calls named.now)) self.now.kind }
-        ensures { let calls = head_calls (flat_kind (N.calls named.now) self.now.kind) in
+        requires { IsKept stores.now self.now }
+        ensures { let calls = head_calls (flat_kind stores.now self.now) in
             Emits S.law result (S.standing stream.old) (makes calls) (S.standing stream.new) }
     {
-        match &self.kind {
-            PartKind::Single(single) => make(single.call(), stream),
-            PartKind::Named(at) => named.stream_call(*at, stream),
-            PartKind::Text(text) => text.stream_ref(stream),
-            PartKind::Binary(bytes) => bytes.stream_ref(stream),
-            PartKind::Container { begin, .. } => make(begin.call(), stream),
-            PartKind::NamedContainer { at, .. } => named.stream_call(*at, stream),
+        match *self {
+            Part::Single { call, .. } => make(call.call(), stream),
+            Part::Wide { signed, number, .. } => {
+                make(GroupedCall::Int(number.int(signed)), stream)
+            }
+            Part::Named { at, .. } | Part::NamedContainer { at, .. } => {
+                stores.stream_call(at, stream)
+            }
+            Part::Borrowed { medium, bytes, .. } => stream_borrowed(medium, bytes, stream),
+            Part::Stored {
+                medium,
+                start,
+                end,
+                ..
+            } => stream_computed(medium, stores.range(start, end), stream),
+            Part::Container { begin, size, .. } => make(begin.call(size), stream),
         }
     }
 
@@ -243,60 +337,198 @@ impl<'sval> Part<'sval> {
     #[inline(always)]
     pub(crate) fn stream_end<N: CallStore, S: Stream<Lent<'sval>>>(
         &self,
-        named: &N,
+        stores: &Stores<N>,
         stream: &mut S,
     ) -> sval_core::Result
-        requires { IsKeptCall (length (N.calls named.now)) self.now.kind }
-        ensures { let calls = ends_of_part (flat_kind (N.calls named.now) self.now.kind) in
+        requires { IsKept stores.now self.now }
+        ensures { let calls = ends_of_part (flat_kind stores.now self.now) in
             Emits S.law result (S.standing stream.old) (makes calls) (S.standing stream.new) }
     {
-        match &self.kind {
-            PartKind::Container { begin, .. } => make(begin.end(), stream),
-            PartKind::NamedContainer { at, .. } => named.stream_end(*at, stream),
-            PartKind::Single(_) | PartKind::Named(_) | PartKind::Text(_) | PartKind::Binary(_) => {
-                Ok(())
-            }
+        match self {
+            Part::Container { begin, .. } => make(begin.end(), stream),
+            Part::NamedContainer { at, .. } => stores.stream_end(*at, stream),
+            _ => Ok(()),
         }
     }
 
     /// Sets the number of parts after this container that it holds.
     pub(crate) fn close(&mut self, parts: usize)
-        ensures { self.new ≡ record self.old { kind = with_holds self.old.kind parts } }
+        ensures { self.new ≡ with_holds self.old parts }
     {
-        match &mut self.kind {
-            PartKind::Container { holds, .. } => *holds = parts,
-            PartKind::NamedContainer { holds, .. } => *holds = parts,
-            PartKind::Single(_) | PartKind::Named(_) | PartKind::Text(_) | PartKind::Binary(_) => {}
+        match self {
+            Part::Container { holds, .. } => *holds = parts,
+            Part::NamedContainer { holds, .. } => *holds = parts,
+            _ => {}
         }
     }
 }
 
-/// Pushes a fragment into a text.
-fn push_into_text<'sval>(
-    text: &mut TextBuf<'sval>,
-    fragment: Fragment<&'sval str, &str>,
-) -> Result<(), NoMemory>
-    ensures text { let after = pushed text.old (fragment_bytes fragment.entry) in
-        text.new ≡ (if is_ok result then after else text.old) }
-    ensures may_fail { OnErr result (IsTrue (push_may_grow (fragment_bytes fragment.entry).borrowed (Some text.old))) }
+/// Puts bytes behind what the stores have.
+fn append<N: CallStore>(
+    stores: &mut Stores<N>,
+    medium: Medium,
+    bytes: &[u8],
+) -> Result<(), ErrorKind>
+    ensures appends { Appends stores.old bytes.now result stores.new }
+    ensures err { IfErr result IsNoAlloc }
 {
-    match fragment {
-        Fragment::Borrowed(fragment) => text.push(fragment),
-        Fragment::Computed(fragment) => text.push_computed(fragment),
+    match stores.append(bytes) {
+        Ok(()) => Ok(()),
+        Err(cause) => Err(no_alloc(NoMemory::from(cause), medium.word())),
     }
 }
 
-/// Pushes a fragment into a binary.
-fn push_into_binary<'sval>(
-    bytes: &mut BinaryBuf<'sval>,
+/// Answers where a range begins that ends with the bytes of the stores: where this one does, or else where its copy
+/// does, which is put behind them.
+fn last_range<N: CallStore>(
+    stores: &mut Stores<N>,
+    medium: Medium,
+    start: usize,
+    end: usize,
+) -> Result<usize, ErrorKind>
+    requires order { start ≤ end }
+    requires within { end ≤ length stores.old.bytes }
+    ensures grows { Grows stores.old stores.new }
+    ensures last { IfOk result (λ from. drop from stores.new.bytes ≡ slice_range stores.old.bytes start end) }
+    ensures within { IfOk result (λ from. from ≤ length stores.new.bytes) }
+    ensures err { IfErr result IsNoAlloc }
+{
+    let len = stores.len();
+    if end == len {
+        return Ok(start);
+    }
+    match stores.repeat(start, end) {
+        Ok(()) => Ok(len),
+        Err(cause) => Err(no_alloc(NoMemory::from(cause), medium.word())),
+    }
+}
+
+/// A text or a binary of the last bytes of the stores, from a place on, and these behind them.
+fn join_last<'sval, N: CallStore>(
+    medium: Medium,
+    holder: Holder,
+    start: usize,
+    next: &[u8],
+    stores: &mut Stores<N>,
+) -> Result<Part<'sval>, ErrorKind>
+    requires within { start ≤ length stores.old.bytes }
+    requires suits { Suits medium (drop start stores.old.bytes) }
+    requires next_suits { Suits medium next.now }
+    ensures holds { let joined = drop start stores.old.bytes ++ next.now in
+        IfOk result (HoldsBytes stores.new medium holder (copied_bytes joined)) }
+    ensures err { IfErr result IsNoAlloc }
+    ensures grows { Grows stores.old stores.new }
+{
+    append(stores, medium, next)?;
+    Ok(Part::Stored {
+        medium,
+        holder,
+        start,
+        end: stores.len(),
+    })
+}
+
+/// A text or a binary of borrowed bytes, with a fragment more. The first fragment stays borrowed.
+fn join_borrowed<'sval, N: CallStore>(
+    medium: Medium,
+    holder: Holder,
+    bytes: &'sval [u8],
     fragment: Fragment<&'sval [u8], &[u8]>,
-) -> Result<(), NoMemory>
-    ensures bytes { let after = pushed bytes.old (fragment_bytes fragment.entry) in
-        bytes.new ≡ (if is_ok result then after else bytes.old) }
-    ensures may_fail { OnErr result (IsTrue (push_may_grow (fragment_bytes fragment.entry).borrowed (Some bytes.old))) }
+    stores: &mut Stores<N>,
+) -> Result<Part<'sval>, ErrorKind>
+    requires suits { Suits medium bytes.now }
+    requires next_suits { Suits medium (fragment_bytes fragment).bytes }
+    ensures joined { let held = borrowed_bytes bytes.now in
+        IfOk result (HoldsBytes stores.new medium holder (pushed held (fragment_bytes fragment.entry))) }
+    ensures err { let held = borrowed_bytes bytes.now in
+        IfErr result (WantsMemory (push_may_grow (fragment_bytes fragment.entry).borrowed (Some held))) }
+    ensures grows { Grows stores.old stores.new }
 {
     match fragment {
-        Fragment::Borrowed(fragment) => bytes.push(fragment),
-        Fragment::Computed(fragment) => bytes.push_computed(fragment),
+        Fragment::Borrowed(first) if bytes.is_empty() => Ok(Part::Borrowed {
+            medium,
+            holder,
+            bytes: first,
+        }),
+        Fragment::Borrowed(next) | Fragment::Computed(next) => {
+            let start = stores.len();
+            append(stores, medium, bytes)?;
+            join_last(medium, holder, start, next, stores)
+        }
+    }
+}
+
+/// A text or a binary of copied bytes, from a place to another one, with a fragment more. A borrowed fragment onto none
+/// stays borrowed.
+fn join_stored<'sval, N: CallStore>(
+    medium: Medium,
+    holder: Holder,
+    start: usize,
+    end: usize,
+    fragment: Fragment<&'sval [u8], &[u8]>,
+    stores: &mut Stores<N>,
+) -> Result<Part<'sval>, ErrorKind>
+    requires stored { IsStored stores.old.bytes medium start end }
+    requires next_suits { Suits medium (fragment_bytes fragment).bytes }
+    ensures joined { let held = copied_bytes (slice_range stores.old.bytes start end) in
+        IfOk result (HoldsBytes stores.new medium holder (pushed held (fragment_bytes fragment.entry))) }
+    ensures err { let held = copied_bytes (slice_range stores.old.bytes start end) in
+        IfErr result (WantsMemory (push_may_grow (fragment_bytes fragment.entry).borrowed (Some held))) }
+    ensures grows { Grows stores.old stores.new }
+{
+    match fragment {
+        Fragment::Borrowed(first) if start == end => Ok(Part::Borrowed {
+            medium,
+            holder,
+            bytes: first,
+        }),
+        Fragment::Borrowed(next) | Fragment::Computed(next) => {
+            let from = last_range(stores, medium, start, end)?;
+            join_last(medium, holder, from, next, stores)
+        }
+    }
+}
+
+/// What answers a fragment where the last part isn't of its medium.
+pub(crate) fn outside(medium: Medium) -> ErrorKind
+    ensures { result ≡ error_of (forest.outside medium) }
+{
+    match medium {
+        Medium::Text => ErrorKind::OutsideContainer { method: Word::Text },
+        Medium::Binary => ErrorKind::OutsideContainer {
+            method: Word::Binary,
+        },
+    }
+}
+
+/// Makes the calls of one borrowed fragment.
+fn stream_borrowed<'sval, S: Stream<Lent<'sval>>>(
+    medium: Medium,
+    bytes: &'sval [u8],
+    stream: &mut S,
+) -> sval_core::Result
+    requires { Suits medium bytes.now }
+    ensures { let calls = head_calls (of_medium medium (borrowed_bytes bytes.now)) in
+        Emits S.law result (S.standing stream.old) (makes calls) (S.standing stream.new) }
+{
+    match medium {
+        Medium::Text => stream_borrowed_text(text(bytes), stream),
+        Medium::Binary => stream_borrowed_bytes(bytes, stream),
+    }
+}
+
+/// Makes the calls of one computed fragment.
+fn stream_computed<'sval, S: Stream<Lent<'sval>>>(
+    medium: Medium,
+    bytes: &[u8],
+    stream: &mut S,
+) -> sval_core::Result
+    requires { Suits medium bytes.now }
+    ensures { let calls = head_calls (of_medium medium (copied_bytes bytes.now)) in
+        Emits S.law result (S.standing stream.old) (makes calls) (S.standing stream.new) }
+{
+    match medium {
+        Medium::Text => stream_computed_text(text(bytes), stream),
+        Medium::Binary => stream_computed_bytes(bytes, stream),
     }
 }

@@ -1,29 +1,32 @@
 //! The parts of a captured value, in a flat list.
 
-ghost use Rattle.std.specs.Prelude.{◌≡◌, ◌-◌, true, false, [], not, length, slice_get, IsOk, IfOk, IfErr, if◌then◌else◌};
+ghost use Rattle.std.specs.Prelude.{◌≡◌, ◌≤◌, ◌-◌, ◌^◌, true, false, [], not, length, slice_get, IsOk, IfOk, IfErr, IfSome, OnErr, if◌then◌else◌};
 ghost use Rattle.sval_label.specs.Calls as calls;
 ghost use Rattle.sval_label.specs.Made.{lent_call};
 ghost use Rattle.sval_label.specs.SeenTags.{seen_ref_tag};
 ghost use Rattle.sval_label.specs.SeenName.{seen_name};
+ghost use Rattle.sval_label.specs.Grouped.{int_call};
 ghost use Rattle.sval_core.specs.Law.{Emits};
 ghost use Rattle.sval_core.specs.Values.{makes};
 ghost use Rattle.sval_buffer.specs.Forest as forest;
-ghost use Rattle.sval_buffer.specs.Forest.{Becomes, HoldsNoPart, add, with_flag, begun, push_into_text, push_into_binary, close_newest, text_may_grow, binary_may_grow, may_grow, empty_forest};
+ghost use Rattle.sval_buffer.specs.Forest.{Becomes, HoldsNoPart, add, with_flag, begun, push_into, push_into_text, push_into_binary, close_newest, fragment_may_grow, text_may_grow, binary_may_grow, may_grow, empty_forest};
 ghost use Rattle.sval_buffer.specs.FlatForest.{forest_in};
 ghost use Rattle.sval_buffer.specs.Capture.{CapturesBy, IsNoAlloc};
 ghost use Rattle.sval_buffer.specs.Owned.{owned};
 ghost use Rattle.sval_buffer.specs.SeenNames.{named_call, IsBegin, HasName};
-ghost use Rattle.sval_buffer.specs.SeenParts.{single_call, begin_call, no_fragments, fragment_bytes};
+ghost use Rattle.sval_buffer.specs.SeenHolder.{held_place};
+ghost use Rattle.sval_buffer.specs.SeenInts.{wide_int};
+ghost use Rattle.sval_buffer.specs.SeenParts.{single_call, begin_call, no_fragments, fragment_bytes, Suits};
 
-use crate::binary_buf::BinaryBuf;
-use crate::copies::{copied_parts, owned_parts};
+use crate::copies::owned_parts;
 use crate::error::{ErrorKind, Word, no_alloc};
 use crate::holder::Holder;
 use crate::named::{CallStore, NamedKind};
 use crate::one_pass::replay_parts;
-use crate::part::{Begin, Keeping, Medium, Part, PartKind, Single};
+use crate::part::{Begin, Keeping, Medium, Part, Single, outside};
 use crate::refused::{Refused, no_memory};
-use crate::text_buf::TextBuf;
+use crate::stores::Stores;
+use crate::wide::Wide;
 use std::alloc::Global;
 use std::marker::Model;
 use sval_core::{Call, Fragment, GroupedCall, Lent, Name, NoMemory, Stream, Tag};
@@ -32,8 +35,8 @@ use sval_core::{Call, Fragment, GroupedCall, Lent, Name, NoMemory, Stream, Tag};
 #[derive(Drop)]
 pub(crate) struct Parts<'sval, N: CallStore> {
     parts: Vec<Part<'sval>>,
-    /// The calls with names that the parts speak of.
-    named: N,
+    /// What the parts speak of.
+    stores: Stores<N>,
     /// The places of the containers without an end, the oldest first.
     places: Vec<usize>,
     /// A text or a binary has begun, and none has ended since.
@@ -48,10 +51,10 @@ impl<'sval, N: CallStore> Model for Parts<'sval, N> {
     ghost Value = { FlatForest };
 
     ghost view = { λ p.
-        let seen = seen_parts (N.calls p.named) p.parts.items in
+        let seen = seen_parts p.stores p.parts.items in
         record { parts = map flat_part_of seen; places = p.places.items; in_fragments = p.in_fragments } };
 
-    ghost invariant = { λ p. PartsTell (N.calls p.named) p.parts.items p.places.items p.in_fragments };
+    ghost invariant = { λ p. PartsTell p.stores p.parts.items p.places.items p.in_fragments };
 }
 
 impl<'sval, N: CallStore> Parts<'sval, N> {
@@ -61,7 +64,7 @@ impl<'sval, N: CallStore> Parts<'sval, N> {
     {
         Parts {
             parts: Vec::new(alloc),
-            named: N::empty(alloc),
+            stores: Stores::new(alloc),
             places: Vec::new(alloc),
             in_fragments: false,
         }
@@ -79,7 +82,7 @@ impl<'sval, N: CallStore> Parts<'sval, N> {
         ensures { forest_in self.new ≡ empty_forest }
     {
         self.parts.clear();
-        self.named.clear();
+        self.stores.clear();
         self.places.clear();
         self.in_fragments = false;
     }
@@ -94,26 +97,49 @@ impl<'sval, N: CallStore> Parts<'sval, N> {
         !self.in_fragments
     }
 
-    /// The place of the newest container without an end.
-    fn newest(&self) -> Holder
-        ensures { let places = self.now.places in result ≡ slice_get places (length places - 1) }
+    /// The place of the newest container without an end, which holds the next part. Where 2^32 - 1 parts or more stand
+    /// before that container, want of memory is answered for what `word` names.
+    fn newest(&self, word: Word) -> Result<Holder, ErrorKind>
+        ensures newest { let places = self.now.places in
+            IfOk result (λ holder. held_place holder ≡ slice_get places (length places - 1)) }
+        ensures no_alloc { IfErr result IsNoAlloc }
+        ensures too_far { let places = self.now.places in OnErr result
+            (IfSome (slice_get places (length places - 1)) (λ at. 2 ^ 32 - 1 ≤ at)) }
     {
-        Holder::new(self.places.last().copied())
+        match Holder::new(self.places.last().copied()) {
+            Some(holder) => Ok(holder),
+            None => Err(ErrorKind::NoAlloc { method: word }),
+        }
     }
 
     /// Adds a call that is complete by itself and has no name.
     #[inline(always)]
-    pub(crate) fn single(&mut self, single: Single) -> Result<(), ErrorKind>
-        ensures { let node = forest.Single (single_call single) in
+    pub(crate) fn single(&mut self, call: Single) -> Result<(), ErrorKind>
+        ensures { let node = forest.Single (single_call call) in
             CapturesBy (λ _. true) (λ f. Becomes (add node f)) self.old result self.new }
     {
-        let part = Part {
-            kind: PartKind::Single(single),
-            holder: self.newest(),
+        let holder = self.newest(call.word())?;
+        match self.parts.push(Part::Single { holder, call }) {
+            Ok(()) => {}
+            Err(failed) => return Err(no_alloc(NoMemory::from(failed), call.word())),
+        }
+        Ok(())
+    }
+
+    /// Adds a whole number of 128 bits.
+    pub(crate) fn wide(&mut self, signed: bool, number: Wide) -> Result<(), ErrorKind>
+        ensures { let node = forest.Single (int_call (wide_int signed number)) in
+            CapturesBy (λ _. true) (λ f. Becomes (add node f)) self.old result self.new }
+    {
+        let holder = self.newest(Word::Integer)?;
+        let part = Part::Wide {
+            signed,
+            holder,
+            number,
         };
         match self.parts.push(part) {
             Ok(()) => {}
-            Err(failed) => return Err(no_alloc(NoMemory::from(failed), single.word())),
+            Err(failed) => return Err(no_alloc(NoMemory::from(failed), Word::Integer)),
         }
         Ok(())
     }
@@ -141,16 +167,13 @@ impl<'sval, N: CallStore> Parts<'sval, N> {
         ensures { let node = forest.Single (named_call kind (seen_name name.entry)) in
             CapturesBy (λ _. true) (λ f. Becomes (add node f)) self.old result self.new }
     {
-        let holder = self.newest();
+        let holder = self.newest(Word::Text)?;
         if let Err(cause) = self.parts.reserve(1) {
             return Err(no_alloc(NoMemory::from(cause), Word::Text));
         }
-        match self.named.push(kind, name) {
+        match self.stores.push_call(kind, name) {
             Ok(at) => {
-                self.parts.push_reserved(Part {
-                    kind: PartKind::Named(at),
-                    holder,
-                });
+                self.parts.push_reserved(Part::Named { holder, at });
                 Ok(())
             }
             Err(cause) => Err(no_alloc(cause, Word::Text)),
@@ -161,17 +184,14 @@ impl<'sval, N: CallStore> Parts<'sval, N> {
     #[inline(always)]
     pub(crate) fn begin_fragments(
         &mut self,
-        alloc: Global,
         medium: Medium,
         keeping: Keeping,
     ) -> Result<(), ErrorKind>
         ensures { let node = no_fragments medium keeping in
             CapturesBy (λ _. true) (λ f. Becomes (with_flag true (add node f))) self.old result self.new }
     {
-        let part = Part {
-            kind: medium.empty(keeping, alloc),
-            holder: self.newest(),
-        };
+        let holder = self.newest(medium.word())?;
+        let part = Part::empty(medium, keeping, holder, &self.stores);
         match self.parts.push(part) {
             Ok(()) => {
                 self.in_fragments = true;
@@ -196,10 +216,11 @@ impl<'sval, N: CallStore> Parts<'sval, N> {
         ensures { let pushed = fragment_bytes fragment.entry in
             CapturesBy (text_may_grow pushed.borrowed) (push_into_text pushed) self.old result self.new }
     {
-        match self.parts.last_mut() {
-            Some(part) => part.push_text(fragment),
-            None => Err(ErrorKind::OutsideContainer { method: Word::Text }),
-        }
+        let bytes = match fragment {
+            Fragment::Borrowed(text) => Fragment::Borrowed(text.as_bytes()),
+            Fragment::Computed(text) => Fragment::Computed(text.as_bytes()),
+        };
+        self.push(Medium::Text, bytes)
     }
 
     /// Pushes a fragment into the last part, if that is a binary.
@@ -210,21 +231,35 @@ impl<'sval, N: CallStore> Parts<'sval, N> {
         ensures { let pushed = fragment_bytes fragment.entry in
             CapturesBy (binary_may_grow pushed.borrowed) (push_into_binary pushed) self.old result self.new }
     {
+        self.push(Medium::Binary, fragment)
+    }
+
+    /// Pushes a fragment into the last part, if that is of this medium.
+    fn push(
+        &mut self,
+        medium: Medium,
+        fragment: Fragment<&'sval [u8], &[u8]>,
+    ) -> Result<(), ErrorKind>
+        requires { Suits medium (fragment_bytes fragment).bytes }
+        ensures { let pushed = fragment_bytes fragment.entry in
+            CapturesBy (fragment_may_grow medium pushed.borrowed) (push_into medium pushed) self.old result self.new }
+    {
         match self.parts.last_mut() {
-            Some(part) => part.push_binary(fragment),
-            None => Err(ErrorKind::OutsideContainer {
-                method: Word::Binary,
-            }),
+            Some(part) => part.push(&mut self.stores, medium, fragment),
+            None => Err(outside(medium)),
         }
     }
 
     /// Begins a container without a name. There is memory for its place before its part is kept.
-    pub(crate) fn begin(&mut self, begin: Begin) -> Result<(), ErrorKind>
-        ensures { CapturesBy (λ _. true) (λ f. Becomes (begun (begin_call begin) f)) self.old result self.new }
+    pub(crate) fn begin(&mut self, begin: Begin, size: usize) -> Result<(), ErrorKind>
+        ensures { CapturesBy (λ _. true) (λ f. Becomes (begun (begin_call begin size) f)) self.old result self.new }
     {
-        let part = Part {
-            kind: PartKind::Container { begin, holds: 0 },
-            holder: self.newest(),
+        let holder = self.newest(Word::Sequence)?;
+        let part = Part::Container {
+            begin,
+            holder,
+            size,
+            holds: 0,
         };
         let place = self.parts.len();
         if let Err(cause) = self.places.reserve(1) {
@@ -247,18 +282,19 @@ impl<'sval, N: CallStore> Parts<'sval, N> {
             CapturesBy (λ _. true) (λ f. Becomes (begun begin f)) self.old result self.new }
     {
         let place = self.parts.len();
-        let holder = self.newest();
+        let holder = self.newest(Word::Sequence)?;
         if let Err(cause) = self.places.reserve(1) {
             return Err(no_alloc(NoMemory::from(cause), Word::Sequence));
         }
         if let Err(cause) = self.parts.reserve(1) {
             return Err(no_alloc(NoMemory::from(cause), Word::Sequence));
         }
-        match self.named.push(kind, name) {
+        match self.stores.push_call(kind, name) {
             Ok(at) => {
-                self.parts.push_reserved(Part {
-                    kind: PartKind::NamedContainer { at, holds: 0 },
+                self.parts.push_reserved(Part::NamedContainer {
                     holder,
+                    at,
+                    holds: 0,
                 });
                 self.places.push_reserved(place);
                 Ok(())
@@ -275,7 +311,7 @@ impl<'sval, N: CallStore> Parts<'sval, N> {
         if self.parts.is_empty() {
             return stream.null();
         }
-        replay_parts(self.parts.as_slice(), &self.named, stream)
+        replay_parts(&self.parts, &self.stores, stream)
     }
 
     /// A copy, which borrows what these parts borrow.
@@ -287,17 +323,17 @@ impl<'sval, N: CallStore> Parts<'sval, N> {
         if self.parts.is_empty() && self.places.is_empty() {
             return Ok(Parts {
                 parts: Vec::new(alloc),
-                named: N::empty(alloc),
+                stores: Stores::new(alloc),
                 places: Vec::new(alloc),
                 in_fragments: self.in_fragments,
             });
         }
-        let parts = copied_parts(alloc, self.parts.as_slice())?;
-        let named = self.named.try_clone(alloc)?;
+        let parts = Vec::from_slice(alloc, &self.parts)?;
+        let stores = self.stores.try_clone(alloc)?;
         let places = Vec::from_slice(alloc, self.places.as_slice())?;
         Ok(Parts {
             parts,
-            named,
+            stores,
             places,
             in_fragments: self.in_fragments,
         })
@@ -309,16 +345,27 @@ impl<'sval, N: CallStore> Parts<'sval, N> {
         ensures err { IfErr result (λ refused. (refused.value ≡ self.entry) × IsNoAlloc refused.error) }
         ensures no_part_needs_none { HoldsNoPart (forest_in self.entry) → IsOk result }
     {
-        self.named.show_names_alone();
-        match owned_parts(*self.parts.allocator(), self.parts.as_slice()) {
+        self.stores.show_names_alone();
+        let Parts {
+            parts,
+            mut stores,
+            places,
+            in_fragments,
+        } = self;
+        match owned_parts(*parts.allocator(), &parts, &mut stores) {
             Ok(parts) => Ok(Parts {
                 parts,
-                named: self.named,
-                places: self.places,
-                in_fragments: self.in_fragments,
+                stores,
+                places,
+                in_fragments,
             }),
             Err(cause) => Err(Refused {
-                value: self,
+                value: Parts {
+                    parts,
+                    stores,
+                    places,
+                    in_fragments,
+                },
                 error: no_memory(cause),
             }),
         }
@@ -327,7 +374,7 @@ impl<'sval, N: CallStore> Parts<'sval, N> {
     /// Takes a call.
     #[tactic(auto, unfolding(crate::specs::Forest::take, crate::specs::Forest::may_grow))]
     #[inline(always)]
-    pub(crate) fn capture(&mut self, alloc: Global, call: Call<'sval, '_>) -> Result<(), ErrorKind>
+    pub(crate) fn capture(&mut self, call: Call<'sval, '_>) -> Result<(), ErrorKind>
         ensures { let taken = lent_call call.entry in
             CapturesBy (λ f. may_grow f taken) (λ f. forest.take f taken) self.old result self.new }
     {
@@ -337,13 +384,11 @@ impl<'sval, N: CallStore> Parts<'sval, N> {
             GroupedCall::Int(value) => self.int(value),
             GroupedCall::Tag(name) => self.tag(name),
             GroupedCall::TagHint(tag) => self.hint(tag),
-            GroupedCall::TextBegin(_) => self.begin_fragments(
-                alloc,
-                Medium::Text,
-                Keeping::ByReference,
-            ),
+            GroupedCall::TextBegin(_) => {
+                self.begin_fragments(Medium::Text, Keeping::ByReference)
+            }
             GroupedCall::BinaryBegin(_) => {
-                self.begin_fragments(alloc, Medium::Binary, Keeping::ByReference)
+                self.begin_fragments(Medium::Binary, Keeping::ByReference)
             }
             GroupedCall::TextFragment(fragment) => self.push_text(fragment),
             GroupedCall::BinaryFragment(fragment) => self.push_binary(fragment),

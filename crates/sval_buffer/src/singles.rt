@@ -9,10 +9,10 @@ ghost use Rattle.sval_buffer.specs.Forest.{Becomes, add};
 ghost use Rattle.sval_buffer.specs.Capture.{CapturesBy};
 
 use crate::error::ErrorKind;
-use crate::kept_int::KeptInt;
 use crate::named::{CallStore, NamedKind};
 use crate::part::Single;
 use crate::parts::Parts;
+use crate::wide::Wide;
 use sval_core::{Int, Name};
 
 impl<'sval, N: CallStore> Parts<'sval, N> {
@@ -37,7 +37,18 @@ impl<'sval, N: CallStore> Parts<'sval, N> {
         ensures { let node = forest.Single (int_call value) in
             CapturesBy (λ _. true) (λ f. Becomes (add node f)) self.old result self.new }
     {
-        self.single(Single::Int(KeptInt::new(value)))
+        match value {
+            Int::U8(number) => self.single(Single::U8(number)),
+            Int::U16(number) => self.single(Single::U16(number)),
+            Int::U32(number) => self.single(Single::U32(number)),
+            Int::U64(number) => self.single(Single::U64(number)),
+            Int::U128(number) => self.wide(false, Wide::new(number)),
+            Int::I8(number) => self.single(Single::I8(number)),
+            Int::I16(number) => self.single(Single::I16(number)),
+            Int::I32(number) => self.single(Single::I32(number)),
+            Int::I64(number) => self.single(Single::I64(number)),
+            Int::I128(number) => self.wide(true, Wide::new(number.cast_unsigned())),
+        }
     }
 
     /// Adds a tag.

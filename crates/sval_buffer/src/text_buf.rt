@@ -61,15 +61,6 @@ impl<'sval> TextBuf<'sval> {
         }
     }
 
-    /// An empty text that borrows nothing. It takes no memory yet.
-    pub(crate) fn owned(alloc: Global) -> Self
-        ensures { result ≡ record { borrowed = false; bytes = [] } }
-    {
-        TextBuf {
-            fragments: FragmentBuf::owned(alloc),
-        }
-    }
-
     /// A text that is borrowed. It takes no memory.
     ///
     /// ```
@@ -235,13 +226,24 @@ impl<'sval> TextBuf<'sval> {
 }
 
 /// Makes the calls of a text in one computed fragment.
-fn stream_computed<L: Lending, S: Stream<L>>(text: &str, stream: &mut S) -> Result
+pub(crate) fn stream_computed_text<L: Lending, S: Stream<L>>(text: &str, stream: &mut S) -> Result
     ensures { Emits S.law result (S.standing stream.old)
         (makes (held_text_calls (record { borrowed = false; bytes = text.now }))) (S.standing stream.new) }
 {
     stream.text_begin(Some(text.len()))?;
     stream.text_fragment_computed(text)?;
     stream.text_end()
+}
+
+/// Makes the calls of a text that is lent for longer.
+pub(crate) fn stream_borrowed_text<'sval, S: Stream<Lent<'sval>>>(
+    text: &'sval str,
+    stream: &mut S,
+) -> Result
+    ensures { Emits S.law result (S.standing stream.old)
+        (makes (held_text_calls (record { borrowed = true; bytes = text.now }))) (S.standing stream.new) }
+{
+    stream.whole_text(text, Some(text.len()))
 }
 
 impl<'v, 'sval> Value<'v, Lent<'v>> for TextBuf<'sval> {
@@ -258,8 +260,8 @@ impl<'sval> ValueRef<Lent<'sval>> for TextBuf<'sval> {
 
     fn stream_ref<S: Stream<Lent<'sval>>>(&self, stream: &mut S) -> Result {
         match self.fragments.fragment() {
-            Fragment::Borrowed(bytes) => stream.whole_text(text(bytes), Some(bytes.len())),
-            Fragment::Computed(bytes) => stream_computed(text(bytes), stream),
+            Fragment::Borrowed(bytes) => stream_borrowed_text(text(bytes), stream),
+            Fragment::Computed(bytes) => stream_computed_text(text(bytes), stream),
         }
     }
 }
@@ -292,7 +294,7 @@ impl<'sval> fmt::Debug for TextBuf<'sval> {
 }
 
 /// The text that bytes are.
-fn text(bytes: &[u8]) -> &str
+pub(crate) fn text(bytes: &[u8]) -> &str
     requires { IsUtf8 bytes.now }
     ensures { result.now ≡ bytes.now }
 {

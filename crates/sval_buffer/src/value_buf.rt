@@ -281,7 +281,7 @@ impl<'sval, N: CallStore> Stream<Lent<'sval>> for AnyValueBuf<'sval, N> {
         ensures { let taken = lent_call call.entry in
             Answers capture_law result (buffer_standing self.old) taken (buffer_standing self.new) }
     {
-        match self.parts.capture(self.alloc, call) {
+        match self.parts.capture(call) {
             Ok(()) => Ok(()),
             Err(why) => {
                 self.keep(why);
@@ -327,8 +327,7 @@ impl<'b, 'o, N: CallStore> Stream<Lent<'b>> for Owning<'o, N> {
         ensures { let taken = lent_call call.entry in
             Answers owning_law result (buffer_standing self.old.buffer) taken (buffer_standing self.new.buffer) }
     {
-        let alloc = self.buffer.alloc;
-        match self.buffer.parts.capture_owned(alloc, call) {
+        match self.buffer.parts.capture_owned(call) {
             Ok(()) => Ok(()),
             Err(why) => {
                 self.buffer.keep(why);

@@ -6,7 +6,7 @@ use Rattle.sval_buffer.proofs.one_pass.end_before.Given as goal
 
 abbrev pub invariant-loop-newest : goal.invariant-loop-newest
 invariant-loop-newest g l =
-    let seen = seen_parts (g.N.CallStore.calls l.named) l.parts in
+    let seen = seen_parts l.stores l.parts in
     (gs : List Going) → Linked seen l.fn.going gs → IsWalked g.S.Stream.law (g.S.Stream.standing l.initial.stream) (g.S.Stream.standing l.stream) seen l.place l.newest gs
 
 abbrev pub decreases-loop-newest : goal.decreases-loop-newest

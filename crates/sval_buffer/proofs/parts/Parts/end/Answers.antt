@@ -32,19 +32,19 @@ pub invariant_of-self : goal.invariant_of-self
 invariant_of-self g c =
     let h = holds_it (forest_in c.args.self.now) c.self.invariant (ap forest_in c.self.view_is) in
     let d = c.index_mut.result.now in
-    let same : c.close.new.self ≡ (let x : Part = slice_index_or c.self.inside.parts.items c.in-Some.place d in record x { kind = with_holds x.kind (length c.self.inside.parts.items - c.in-Some.place - 1) }) =
+    let same : c.close.new.self ≡ with_holds (slice_index_or c.self.inside.parts.items c.in-Some.place d) (length c.self.inside.parts.items - c.in-Some.place - 1) =
     c.close.ensures
-    ∙ ap (λ (n : ℕ). let w : Part = record { kind = with_holds d.kind (n - c.in-Some.place - 1); holder = d.holder } in w) (c.len.ensures ∙ c.self.inside.parts.ok.0)
-    ∙ ap (λ (x : Part). let w : Part = record x { kind = with_holds x.kind (length c.self.inside.parts.items - c.in-Some.place - 1) } in w) c.index_mut.ensures.value in
+    ∙ ap (λ (n : ℕ). with_holds d (n - c.in-Some.place - 1)) (c.len.ensures ∙ c.self.inside.parts.ok.0)
+    ∙ ap (λ (x : Part). with_holds x (length c.self.inside.parts.items - c.in-Some.place - 1)) c.index_mut.ensures.value in
     tell (holds_closed h c.pop.new.self.items c.in-Some.place d c.close.new.self c.in-Some.ensures.items same).holds
 
 pub returns-in-Some : goal.returns-in-Some
 returns-in-Some g c =
     let h = holds_it (forest_in c.args.self.now) c.self.invariant (ap forest_in c.self.view_is) in
     let d = c.index_mut.result.now in
-    let same : c.close.new.self ≡ (let x : Part = slice_index_or c.self.inside.parts.items c.in-Some.place d in record x { kind = with_holds x.kind (length c.self.inside.parts.items - c.in-Some.place - 1) }) =
+    let same : c.close.new.self ≡ with_holds (slice_index_or c.self.inside.parts.items c.in-Some.place d) (length c.self.inside.parts.items - c.in-Some.place - 1) =
     c.close.ensures
-    ∙ ap (λ (n : ℕ). let w : Part = record { kind = with_holds d.kind (n - c.in-Some.place - 1); holder = d.holder } in w) (c.len.ensures ∙ c.self.inside.parts.ok.0)
-    ∙ ap (λ (x : Part). let w : Part = record x { kind = with_holds x.kind (length c.self.inside.parts.items - c.in-Some.place - 1) } in w) c.index_mut.ensures.value in
+    ∙ ap (λ (n : ℕ). with_holds d (n - c.in-Some.place - 1)) (c.len.ensures ∙ c.self.inside.parts.ok.0)
+    ∙ ap (λ (x : Part). with_holds x (length c.self.inside.parts.items - c.in-Some.place - 1)) c.index_mut.ensures.value in
     let k = holds_closed h c.pop.new.self.items c.in-Some.place d c.close.new.self c.in-Some.ensures.items same in
     k.answers ∙ ap Becomes (sym k.holds.is.view)

@@ -23,7 +23,7 @@ returns g c =
     let h = holds_it (forest_in c.args.self.now) c.self.invariant (ap forest_in c.self.view_is) in
     let n : length c.self.inside.parts.items ≡ vec_len c.self.inside.parts = sym c.self.inside.parts.ok.0 in
     let m : length c.self.inside.places.items ≡ vec_len c.self.inside.places = sym c.self.inside.places.ok.0 in
-    let size = length-map c.self.inside.parts.items (seen_part (g.N.CallStore.calls c.self.inside.named)) in
+    let size = length-map c.self.inside.parts.items (seen_part c.self.inside.stores) in
     let some : 0 < length c.self.inside.parts.items = grind (arith, nat_tests, c.if-is_empty.ensures) in
     let z : length c.self.inside.places.items ≡ 0 = grind (arith, nat_tests, c.if-not-is_empty.ensures) in
     complete_is h.is (omega arith) z

@@ -16,7 +16,7 @@ use Rattle.sval_buffer.proofs.parts.Parts.replay.Goals as goal
 pub returns-then-is_empty : goal.returns-then-is_empty
 returns-then-is_empty g c =
     let h = holds_it (forest_in c.args.self.now) c.self.invariant (ap forest_in c.self.view_is) in
-    let seen = seen_parts (g.N.CallStore.calls c.self.inside.named) c.self.inside.parts.items in
+    let seen = seen_parts c.self.inside.stores c.self.inside.parts.items in
     let n : length c.self.inside.parts.items ≡ vec_len c.self.inside.parts = sym c.self.inside.parts.ok.0 in
     let z : length c.self.inside.parts.items ≡ 0 = grind (arith, nat_tests, c.if-is_empty.true) in
     null_emitted g.S.Stream.law (g.S.Stream.standing c.args.stream.now) (g.S.Stream.standing c.null.new.self) c.null.result (forest_in c.args.self.now)
@@ -25,17 +25,17 @@ returns-then-is_empty g c =
 pub replay_parts-requires : goal.replay_parts-requires
 replay_parts-requires g c κs =
     let h = holds_it (forest_in c.args.self.now) c.self.invariant (ap forest_in c.self.view_is) in
-    let calls = g.N.CallStore.calls c.self.inside.named in
-    ((refl, tt), (subst (λ (ps : List Part). IsNested (seen_parts calls ps)) (sym c.as_slice.ensures.value) (tells_nested (seen_parts calls c.self.inside.parts.items) c.self.inside.places.items (forest_in c.args.self.now) (tells_it h.is)), subst (AllKept (length calls)) (sym c.as_slice.ensures.value) h.kept))
+    let s = c.self.inside.stores in
+    ((refl, tt), (subst (λ (ps : List Part). IsNested (seen_parts s ps)) (sym c.deref.ensures.value) (tells_nested (seen_parts s c.self.inside.parts.items) c.self.inside.places.items (forest_in c.args.self.now) (tells_it h.is)), subst (AllKept s) (sym c.deref.ensures.value) h.kept))
 
 pub returns : goal.returns
 returns g c =
     let h = holds_it (forest_in c.args.self.now) c.self.invariant (ap forest_in c.self.view_is) in
-    let calls = g.N.CallStore.calls c.self.inside.named in
-    let seen = seen_parts calls c.self.inside.parts.items in
+    let s = c.self.inside.stores in
+    let seen = seen_parts s c.self.inside.parts.items in
     let n : length c.self.inside.parts.items ≡ vec_len c.self.inside.parts = sym c.self.inside.parts.ok.0 in
     let some : 0 < length c.self.inside.parts.items = grind (arith, nat_tests, c.if-is_empty.ensures) in
-    let size = seen_length calls c.self.inside.parts.items in
+    let size = seen_length s c.self.inside.parts.items in
     let some_seen : 0 < length seen = omega arith in
-    let e = ap (λ (ps : List Part). pass 0 [] (map flat_part_of (seen_parts calls ps))) c.as_slice.ensures.value ∙ replay_some seen c.self.inside.places.items (forest_in c.args.self.now) (tells_it h.is) some_seen in
+    let e = ap (λ (ps : List Part). pass 0 [] (map flat_part_of (seen_parts s ps))) c.deref.ensures.value ∙ replay_some seen c.self.inside.places.items (forest_in c.args.self.now) (tells_it h.is) some_seen in
     subst (λ calls. Emits g.S.Stream.law c.replay_parts.result (g.S.Stream.standing c.args.stream.now) (makes calls) (g.S.Stream.standing c.replay_parts.new.stream)) e c.replay_parts.ensures
