@@ -76,8 +76,11 @@ impl<'sval, N: CallStore> AnyValueBuf<'sval, N> {
         }
     }
 
-    /// A buffer that has taken no call, with room for this many parts where there is memory for them.
-    fn with_room(alloc: Global, parts: usize) -> Self
+    /// A buffer that has taken no call, with room for `parts` parts where there is memory for them.
+    ///
+    /// A value has a part for each call but fragments and ends. `parts` changes no answer: where it is too small, or
+    /// there is no memory for that room, the buffer grows as the parts come.
+    pub fn with_capacity(alloc: Global, parts: usize) -> Self
         ensures { capture_of result ≡ no_calls 0 }
     {
         let mut buffer = AnyValueBuf::new(alloc);
@@ -128,7 +131,7 @@ impl<'sval, N: CallStore> AnyValueBuf<'sval, N> {
         ensures complete { let e = V.emission v.now in
             (tree : Tree) → e.refuses ≡ false → Spells e.calls tree → IsOkOrNoAlloc result }
     {
-        let mut buffer: AnyValueBuf<'sval, N> = AnyValueBuf::with_room(alloc, parts);
+        let mut buffer: AnyValueBuf<'sval, N> = AnyValueBuf::with_capacity(alloc, parts);
         match v.stream(&mut buffer) {
             Ok(()) => Ok(buffer),
             Err(_) => Err(buffer.cause()),
