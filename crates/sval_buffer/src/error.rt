@@ -81,7 +81,8 @@ pub enum ErrorKind {
     },
 }
 
-/// Says that the allocator refused memory for what was buffered. No other function makes this kind of error.
+/// Says that the allocator refused memory for what was buffered. Without the allocator only `Parts::newest` makes this
+/// kind of error, at its limit.
 pub(crate) fn no_alloc(_cause: NoMemory, method: Word) -> ErrorKind
     ensures { result ≡ kinds.NoAlloc method }
 {

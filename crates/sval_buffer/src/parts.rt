@@ -97,8 +97,8 @@ impl<'sval, N: CallStore> Parts<'sval, N> {
         !self.in_fragments
     }
 
-    /// The place of the newest container without an end, which holds the next part. Where 2^32 - 1 parts or more stand
-    /// before that container, want of memory is answered for what `word` names.
+    /// The place of the newest container without an end, which holds the next part. Where that container follows
+    /// 2^32 - 1 parts or more, want of memory is answered for what `word` names.
     fn newest(&self, word: Word) -> Result<Holder, ErrorKind>
         ensures newest { let places = self.now.places in
             IfOk result (λ holder. held_place holder ≡ slice_get places (length places - 1)) }

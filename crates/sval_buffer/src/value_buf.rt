@@ -27,16 +27,18 @@ use sval_ref::ValueRef;
 /// A captured value: the calls that were taken, from which they can be made again.
 ///
 /// As a stream it takes the calls of any value. A text or a binary of one fragment that is lent for `'sval` is kept by
-/// reference, and so are the texts of static labels. The texts of all other labels are in one store. So no call takes
-/// memory for a label but that by which this store and that of the parts grow. An end ends the newest container that
-/// has none, whichever it is, and its name isn't looked at. The end of a text or a binary is taken anywhere. A hint
-/// within a text or a binary is taken and not kept. What holds no call is made again as `null`.
+/// reference, and so are the texts of static labels. All other texts and binaries are copied into one store, and the
+/// texts of all other labels into another. So no call takes memory but that by which the parts and these stores grow. An
+/// end ends the newest container that has none, whichever it is, and its name isn't looked at. The end of a text or a
+/// binary is taken anywhere. A hint within a text or a binary is taken and not kept. What holds no call is made again as
+/// `null`.
 ///
 /// - [`ErrorKind::OutsideContainer`] answers a fragment of a text where the last part isn't a text, and one of a binary
 ///   where it isn't a binary.
 /// - [`ErrorKind::InvalidValue`] with [`Word::Unbalanced`] answers an end where no container is without its end.
 /// - [`ErrorKind::NoAlloc`] answers a call for which there was no memory. An end takes none, and neither does a
-///   borrowed fragment onto an empty text or binary.
+///   borrowed fragment onto an empty text or binary. It also answers what is put into a container that follows 2^32 - 1
+///   parts or more.
 ///
 /// After any refusal the buffer holds what it held before.
 ///
